@@ -1,0 +1,6 @@
+-- Automata, their texts, and the listing of states that are reached.
+pub mod ListingLaws
+pub mod ListingReach
+pub mod ListedStates
+pub mod CountsLaws
+pub mod LimitLaws

@@ -1,0 +1,278 @@
+-- The propositions of an automaton's cubes are those of the formula from which it was made.
+use Rattle.std.proofs.Common.{◌≡◌, ℕ, suc, ◌<◌, Bool, true, false, cond, inl, inr, List, [], ◌∷◌, ◌++◌, map, length, refl, sym, ◌∙◌, subst, arith, ◌||◌, ◌&&◌, Some, None}
+use Rattle.std.specs.Prelude.{fold, slice_index, slice_index_or, slice_get, ◌==◌}
+use Rattle.std.specs.Ordering.{nat_cmp}
+use Rattle.std.proofs.lemmas.Bool.{cases_lt}
+use Rattle.std.proofs.lemmas.List.{get_or_past, get_or-map}
+use Rattle.std.proofs.lemmas.Option.{slice_get_past}
+use Rattle.ltl_spec.specs.Collections.Sets.{Has, set_of}
+use Rattle.ltl_spec.specs.Collections.Lists.{place_of}
+use Rattle.ltl_spec.specs.Automata.Listing.{listing}
+use Rattle.ltl_spec.specs.Semantics.Word.{Name}
+use Rattle.ltl_spec.specs.Transitions.Cubes.{Literal, Cube}
+use Rattle.ltl_spec.specs.Formulas.Formula.{Formula, Constant, Proposition, Unary, Binary, Not, Next, Always, Eventually, And, Or, Implies, Iff, Until, Release}
+use Rattle.ltl_spec.specs.NormalForms.Normal.{Normal, Top, Bottom, Leaf, Next, And, Or, Until, Release, same}
+use Rattle.ltl_spec.specs.NormalForms.NormalForm.{normal_form, is_eventually, is_always, simple_and, simple_or, simple_until, simple_release, simple_form, core, postorder, rows, is_elementary, elementary_rows}
+use Rattle.ltl_spec.specs.Transitions.Pairs.{RowSet, Pair, join, empty_pair, later_pair, conj, pairs}
+use Rattle.ltl_spec.specs.Transitions.RowTransitions.{Table, table_of, place, pairs_at, Transition, transitions}
+use Rattle.ltl_spec.specs.Automata.Automaton.{Automaton, State, Edge, state_at}
+use Rattle.ltl_spec.specs.Automata.Generalized.{same_row_set, target_sets, root_set, edge_to, state_of, automaton_over, IsGeneralized}
+use Rattle.ltl_spec.specs.Construction.Merging.{retargeted_state, without_implied, class_names, quotient, merged_automaton}
+use Rattle.ltl_spec.specs.Construction.Levels.{Copy, same_copy, CopyEdge, copy_edge, copy_edges, copies, edge_to_copy, copy_state, level_automaton}
+use Rattle.ltl_spec.specs.Construction.Renumbered.{reached_states, renumbered_automaton}
+use Rattle.ltl_spec.specs.Formulas.Grammar.{Parses, of_constant, of_name, of_brackets, of_unary, of_tighter, of_left, of_right}
+use Rattle.ltl_spec.specs.Formulas.Tokens.{Token}
+use Rattle.ltl_spec.specs.Construction.Translation.{Options, buchi_automaton, IsTranslation}
+use Rattle.ltl_spec.specs.Checking.Bounds.{HasPropositionsBelow, HasNamesBelow, IsBuchi}
+use Rattle.ltl_spec.proofs.Collections.SetLaws.{append_cases, set_of_cases, union_cases, filter_cases}
+use Rattle.ltl_spec.proofs.Collections.ListLaws.{Has-at, first_occurrences_cases}
+use Rattle.ltl_spec.proofs.NormalForms.NormalLaws.{same_Decides}
+use Rattle.ltl_spec.proofs.Collections.MemberLaws.{map_cases, map_length}
+use Rattle.ltl_spec.proofs.Transitions.JoinLaws.{join_cases}
+use Rattle.ltl_spec.proofs.Collections.Orders.{literal_linear, pair_linear, copy_edge_linear, edge_linear}
+use Rattle.ltl_spec.proofs.Transitions.TransitionLaws.{transition_cases}
+use Rattle.ltl_spec.proofs.Construction.ImpliedEdges.{thin_cases}
+use Rattle.ltl_spec.proofs.Construction.QuotientRuns.{retarget_cases}
+use Rattle.ltl_spec.proofs.Automata.ListedStates.{no_state}
+use Rattle.ltl_spec.proofs.Construction.MergingRuns.{merged_closed}
+use Rattle.ltl_spec.proofs.Construction.LevelRuns.{levels_closed}
+use Rattle.ltl_spec.proofs.Construction.RenumberedRuns.{renumbered_closed}
+use Rattle.ltl_spec.proofs.Semantics.GeneralizedLaws.{generalized_closed}
+
+module _ (n : ℕ) where
+  -- formulas
+
+  -- the propositions of the normal form are below n
+  abbrev pub HasLeavesBelow : Normal → Type 0
+  HasLeavesBelow Top = Unit {0}
+  HasLeavesBelow Bottom = Unit {0}
+  HasLeavesBelow (Leaf l) = l.proposition < n
+  HasLeavesBelow (Next a) = HasLeavesBelow a
+  HasLeavesBelow (And a b) = HasLeavesBelow a × HasLeavesBelow b
+  HasLeavesBelow (Or a b) = HasLeavesBelow a × HasLeavesBelow b
+  HasLeavesBelow (Until a b) = HasLeavesBelow a × HasLeavesBelow b
+  HasLeavesBelow (Release a b) = HasLeavesBelow a × HasLeavesBelow b
+
+  normal_below : (F : Formula) → HasPropositionsBelow n F → HasLeavesBelow (normal_form true F) × HasLeavesBelow (normal_form false F)
+  normal_below (Constant true) h = (tt, tt)
+  normal_below (Constant false) h = (tt, tt)
+  normal_below (Proposition p) h = (h, h)
+  normal_below (Unary Not a) h = let w = normal_below a h in (w.1, w.0)
+  normal_below (Unary Next a) h = normal_below a h
+  normal_below (Unary Always a) h = let w = normal_below a h in ((tt, w.0), (tt, w.1))
+  normal_below (Unary Eventually a) h = let w = normal_below a h in ((tt, w.0), (tt, w.1))
+  normal_below (Binary And a b) h = let v = normal_below a h.0 in let w = normal_below b h.1 in ((v.0, w.0), (v.1, w.1))
+  normal_below (Binary Or a b) h = let v = normal_below a h.0 in let w = normal_below b h.1 in ((v.0, w.0), (v.1, w.1))
+  normal_below (Binary Implies a b) h = let v = normal_below a h.0 in let w = normal_below b h.1 in ((v.1, w.0), (v.0, w.1))
+  normal_below (Binary Iff a b) h = let v = normal_below a h.0 in let w = normal_below b h.1 in (((v.0, w.0), (v.1, w.1)), ((v.1, w.1), (v.0, w.0)))
+  normal_below (Binary Until a b) h = let v = normal_below a h.0 in let w = normal_below b h.1 in ((v.0, w.0), (v.1, w.1))
+  normal_below (Binary Release a b) h = let v = normal_below a h.0 in let w = normal_below b h.1 in ((v.0, w.0), (v.1, w.1))
+
+  -- what holds of two outcomes holds of the choice
+  chosen_below : (t : Bool) (a b : Normal) → HasLeavesBelow a → HasLeavesBelow b → HasLeavesBelow (cond t a b)
+  chosen_below true a b h k = h
+  chosen_below false a b h k = k
+
+  simple_and_below : (a b : Normal) → HasLeavesBelow a → HasLeavesBelow b → HasLeavesBelow (simple_and a b)
+  simple_and_below a b h k =
+      chosen_below (same a Top) b _ k (chosen_below (same b Top) a _ h (chosen_below (same a Bottom || same b Bottom) Bottom _ tt (chosen_below (same a b) a (And a b) h (h, k))))
+
+  simple_or_below : (a b : Normal) → HasLeavesBelow a → HasLeavesBelow b → HasLeavesBelow (simple_or a b)
+  simple_or_below a b h k =
+      chosen_below (same a Bottom) b _ k (chosen_below (same b Bottom) a _ h (chosen_below (same a Top || same b Top) Top _ tt (chosen_below (same a b) a (Or a b) h (h, k))))
+
+  simple_until_below : (a b : Normal) → HasLeavesBelow a → HasLeavesBelow b → HasLeavesBelow (simple_until a b)
+  simple_until_below a b h k =
+      chosen_below (same b Top || same b Bottom) b _ k (chosen_below (same a Bottom || same a b) b _ k (chosen_below (same a Top && is_eventually b) b (Until a b) k (h, k)))
+
+  simple_release_below : (a b : Normal) → HasLeavesBelow a → HasLeavesBelow b → HasLeavesBelow (simple_release a b)
+  simple_release_below a b h k =
+      chosen_below (same b Top || same b Bottom) b _ k (chosen_below (same a Top || same a b) b _ k (chosen_below (same a Bottom && is_always b) b (Release a b) k (h, k)))
+
+  simple_below : (F : Normal) → HasLeavesBelow F → HasLeavesBelow (simple_form F)
+  simple_below Top h = tt
+  simple_below Bottom h = tt
+  simple_below (Leaf l) h = h
+  simple_below (Next a) h = let k = simple_below a h in chosen_below (same (simple_form a) Top || same (simple_form a) Bottom) (simple_form a) (Next (simple_form a)) k k
+  simple_below (And a b) h = simple_and_below (simple_form a) (simple_form b) (simple_below a h.0) (simple_below b h.1)
+  simple_below (Or a b) h = simple_or_below (simple_form a) (simple_form b) (simple_below a h.0) (simple_below b h.1)
+  simple_below (Until a b) h = simple_until_below (simple_form a) (simple_form b) (simple_below a h.0) (simple_below b h.1)
+  simple_below (Release a b) h = simple_release_below (simple_form a) (simple_form b) (simple_below a h.0) (simple_below b h.1)
+
+  -- what is translated has the formula's propositions
+  pub core_below : (F : Formula) (negate rewrite : Bool) → HasPropositionsBelow n F → HasLeavesBelow (core F negate rewrite)
+  core_below F true true h = simple_below (normal_form false F) (normal_below F h).1
+  core_below F true false h = (normal_below F h).1
+  core_below F false true h = simple_below (normal_form true F) (normal_below F h).0
+  core_below F false false h = (normal_below F h).0
+
+  -- a part of one of two operands, or the whole
+  of_two : (ys zs : List Normal) (F x : Normal) → Has (ys ++ zs ++ F ∷ []) x → HasLeavesBelow F → (Has ys x → HasLeavesBelow x) → (Has zs x → HasLeavesBelow x) → HasLeavesBelow x
+  of_two ys zs F x m h f g = elim (append_cases (ys ++ zs) (F ∷ []) x m) [
+    | inl k ↦ elim (append_cases ys zs x k) [ inl o ↦ f o | inr o ↦ g o ]
+    | inr k ↦ elim k [ inl e ↦ subst HasLeavesBelow (sym e) h | inr z ↦ absurd z ]
+  ]
+
+  -- so do the parts
+  part_below : (F x : Normal) → HasLeavesBelow F → Has (postorder F) x → HasLeavesBelow x
+  part_below Top x h m = elim m [ inl e ↦ subst HasLeavesBelow (sym e) h | inr z ↦ absurd z ]
+  part_below Bottom x h m = elim m [ inl e ↦ subst HasLeavesBelow (sym e) h | inr z ↦ absurd z ]
+  part_below (Leaf l) x h m = elim m [ inl e ↦ subst HasLeavesBelow (sym e) h | inr z ↦ absurd z ]
+  part_below (Next a) x h m = elim (append_cases (postorder a) (Next a ∷ []) x m) [ inl k ↦ part_below a x h k | inr k ↦ elim k [ inl e ↦ subst HasLeavesBelow (sym e) h | inr z ↦ absurd z ] ]
+  part_below (And a b) x h m = of_two (postorder a) (postorder b) (And a b) x m h (part_below a x h.0) (part_below b x h.1)
+  part_below (Or a b) x h m = of_two (postorder a) (postorder b) (Or a b) x m h (part_below a x h.0) (part_below b x h.1)
+  part_below (Until a b) x h m = of_two (postorder a) (postorder b) (Until a b) x m h (part_below a x h.0) (part_below b x h.1)
+  part_below (Release a b) x h m = of_two (postorder a) (postorder b) (Release a b) x m h (part_below a x h.0) (part_below b x h.1)
+
+  row_below : (F : Normal) → HasLeavesBelow F → (i : ℕ) → HasLeavesBelow (slice_index_or (elementary_rows F) i Bottom)
+  row_below F h i = elim (cases_lt i (length (elementary_rows F))) [
+    | inl l ↦
+        let x = slice_index_or (elementary_rows F) i Bottom in
+        let m = (filter_cases (λ a. is_elementary a || same a F) (rows F) x (Has-at (elementary_rows F) i Bottom l)).0 in
+        part_below F x h (first_occurrences_cases same same_Decides (postorder F) x m)
+    | inr l ↦ subst HasLeavesBelow (sym (get_or_past (elementary_rows F) i Bottom l)) tt
+  ]
+
+  -- pairs and transitions
+
+  -- the propositions of the cube are below n
+  abbrev IsBelow : Cube → Type 0
+  IsBelow c = (l : Literal) → Has c l → l.proposition < n
+
+  abbrev AreBelow : List Pair → Type 0
+  AreBelow ps = (p : Pair) → Has ps p → IsBelow p.cube
+
+  nothing_below : IsBelow []
+  nothing_below l h = absurd h
+
+  one_below : (p : Pair) → IsBelow p.cube → AreBelow (p ∷ [])
+  one_below p h q (inl e) = subst (λ (x : Pair). IsBelow x.cube) (sym e) h
+  one_below p h q (inr z) = absurd z
+
+  both_below : (ps qs : List Pair) → AreBelow ps → AreBelow qs → AreBelow (ps ++ qs)
+  both_below ps qs h k r m = elim (append_cases ps qs r m) [ inl o ↦ h r o | inr o ↦ k r o ]
+
+  join_below : (ps qs : List Pair) → AreBelow ps → AreBelow qs → AreBelow (join ps qs)
+  join_below ps qs h k r m l o =
+      let (p, q, a, b, e) = join_cases ps qs r m in
+      elim (union_cases literal_linear p.cube q.cube l (subst (λ (x : Pair). Has x.cube l) e o)) [ inl c ↦ h p a l c | inr c ↦ k q b l c ]
+
+  pairs_below : (place : Normal → ℕ) (F : Normal) → HasLeavesBelow F → AreBelow (pairs place F)
+  pairs_below place Top h = one_below empty_pair nothing_below
+  pairs_below place Bottom h = λ p z. absurd z
+  pairs_below place (Leaf l) h = one_below (record { cube = l ∷ []; targets = [] }) (λ m k. elim k [ inl e ↦ subst (λ (x : Literal). x.proposition < n) (sym e) h | inr z ↦ absurd z ])
+  pairs_below place (Next a) h = λ p k. let (e, m, d) = map_cases (λ (x : RowSet). record { cube = []; targets = x }) (conj place a) p k in subst (λ (x : Pair). IsBelow x.cube) (sym d) nothing_below
+  pairs_below place (And a b) h = join_below (pairs place a) (pairs place b) (pairs_below place a h.0) (pairs_below place b h.1)
+  pairs_below place (Or a b) h = both_below (pairs place a) (pairs place b) (pairs_below place a h.0) (pairs_below place b h.1)
+  pairs_below place (Until a b) h =
+      both_below (pairs place b) (join (pairs place a) (later_pair (place (Until a b)) ∷ [])) (pairs_below place b h.1)
+      (join_below (pairs place a) (later_pair (place (Until a b)) ∷ []) (pairs_below place a h.0) (one_below (later_pair (place (Until a b))) nothing_below))
+  pairs_below place (Release a b) h =
+      join_below (pairs place b) (pairs place a ++ later_pair (place (Release a b)) ∷ []) (pairs_below place b h.1)
+      (both_below (pairs place a) (later_pair (place (Release a b)) ∷ []) (pairs_below place a h.0) (one_below (later_pair (place (Release a b))) nothing_below))
+
+  module _ (core : Normal) (low : HasLeavesBelow core) where
+    abbrev t : Table
+    t = table_of core
+
+    folded_below : (e : RowSet) (ps : List Pair) → AreBelow ps → AreBelow (fold (λ qs i. join qs (pairs_at t i)) ps e)
+    folded_below [] ps h = h
+    folded_below (i ∷ e) ps h = folded_below e (join ps (pairs_at t i)) (join_below ps (pairs_at t i) h (pairs_below (place t) (slice_index_or (elementary_rows core) i Bottom) (row_below core low i)))
+
+    transition_below : (keep : Bool) (e : RowSet) (u : Transition) → Has (transitions t keep e) u → IsBelow u.cube
+    transition_below keep e u h =
+        let (p, k, d) = transition_cases t keep e u h in
+        let m = set_of_cases pair_linear (fold (λ qs i. join qs (pairs_at t i)) (empty_pair ∷ []) e) p k in
+        subst (λ (x : Transition). IsBelow x.cube) (sym d) (folded_below e (empty_pair ∷ []) (one_below empty_pair nothing_below) p m)
+
+  -- automata
+
+  -- what holds of the edges of each state that is made holds of all
+  made_below : {K : Type 0} (f : K → State) (list : List K) (d : K) → ((k : K) (x : Edge) → Has (f k).edges x → IsBelow x.cube) → (s : ℕ) (x : Edge) → Has (slice_index_or (map f list) s no_state).edges x → IsBelow x.cube
+  made_below f list d each s x h = elim (cases_lt s (length list)) [
+    | inl l ↦ each (slice_index_or list s d) x (subst (λ (v : State). Has v.edges x) (get_or-map f list s d no_state l) h)
+    | inr l ↦
+        let e = map_length f list in
+        absurd (subst (λ (v : State). Has v.edges x) (get_or_past (map f list) s no_state (omega (arith, e, l))) h)
+  ]
+
+  over_below : (core : Normal) → HasLeavesBelow core → (keep : Bool) (list : List RowSet) → HasNamesBelow n (automaton_over core keep list)
+  over_below core low keep list s x h = made_below (state_of core keep list) list [] each s x h
+    where
+      each : (e : RowSet) (y : Edge) → Has (state_of core keep list e).edges y → IsBelow y.cube
+      each e y m =
+          let (u, k, d) = map_cases (edge_to core keep list) (transitions (table_of core) keep e) y m in
+          subst (λ (v : Edge). IsBelow v.cube) (sym d) (transition_below core low keep e u k)
+
+  generalized_below : (core : Normal) → HasLeavesBelow core → (keep : Bool) (A : Automaton) → IsGeneralized core keep A → HasNamesBelow n A
+  generalized_below core low keep A (m, c, e) = subst (HasNamesBelow n) (sym e) (over_below core low keep (listing same_row_set (target_sets core keep) (root_set core keep) m))
+
+  module _ (A : Automaton) (low : HasNamesBelow n A) where
+    retargeted_below : (f : ℕ → ℕ) (s : ℕ) (x : Edge) → Has (retargeted_state f (state_at A s)).edges x → IsBelow x.cube
+    retargeted_below f s x h = let (y, k, e) = retarget_cases f (state_at A s) x h in subst (λ (v : Edge). IsBelow v.cube) (sym e) (low s y k)
+
+    quotient_below : (keep : Bool) (names : List ℕ) → HasNamesBelow n (quotient keep names A)
+    quotient_below keep names s x h =
+        made_below (λ c. without_implied keep (retargeted_state (λ t'. place_of ◌==◌ (slice_index names t') (set_of nat_cmp names)) (state_at A c))) (set_of nat_cmp names) 0
+        (λ c y m. retargeted_below (λ t'. place_of ◌==◌ (slice_index names t') (set_of nat_cmp names)) c y
+        (thin_cases keep (retargeted_state (λ t'. place_of ◌==◌ (slice_index names t') (set_of nat_cmp names)) (state_at A c)) y m)) s x h
+
+    pub merged_below : (keep_implied keep_equal : Bool) → HasNamesBelow n (merged_automaton keep_implied keep_equal A)
+    merged_below keep_implied keep_equal = quotient_below keep_implied (class_names A (cond keep_equal 0 (length A.states)))
+
+    pub levels_below : HasNamesBelow n (level_automaton A)
+    levels_below s x h = made_below (copy_state A (copies A)) (copies A) (record { state = 0; level = 0 }) each s x h
+      where
+        each : (c : Copy) (y : Edge) → Has (copy_state A (copies A) c).edges y → IsBelow y.cube
+        each c y m =
+            let (e, k, d) = map_cases (edge_to_copy A (copies A)) (copy_edges A c) y (set_of_cases edge_linear (map (edge_to_copy A (copies A)) (copy_edges A c)) y m) in
+            let (z, o, q) = map_cases (copy_edge A c.level) (state_at A c.state).edges e (set_of_cases copy_edge_linear (map (copy_edge A c.level) (state_at A c.state).edges) e k) in
+            subst (λ (v : Edge). IsBelow v.cube) (sym d) (subst (λ (v : CopyEdge). IsBelow v.cube) (sym q) (low c.state z o))
+
+    pub renumbered_below : HasNamesBelow n (renumbered_automaton A)
+    renumbered_below s x h =
+        made_below (λ u. retargeted_state (λ t'. place_of ◌==◌ t' (reached_states A)) (state_at A u)) (reached_states A) 0 (λ u. retargeted_below (λ t'. place_of ◌==◌ t' (reached_states A)) u) s x h
+
+  -- the automaton of a normal form is one to search with
+  pub translation_is_buchi : (N : Normal) (o : Options) (B : Automaton) → IsTranslation N o B → HasLeavesBelow N → IsBuchi n B
+  translation_is_buchi N o B (A, g, e) low = subst (IsBuchi n) (sym e) made
+    where
+      small : Automaton
+      small = merged_automaton o.keep_implied o.keep_equal A
+
+      made : IsBuchi n (buchi_automaton o A)
+      made =
+          let closed = generalized_closed N o.keep_implied A g in
+          let small_closed = merged_closed A o.keep_implied o.keep_equal closed in
+          let leveled_closed = levels_closed (merged_automaton o.keep_implied o.keep_equal A) small_closed in
+          let smaller_closed = merged_closed (level_automaton (merged_automaton o.keep_implied o.keep_equal A)) o.keep_implied o.keep_equal leveled_closed in
+          let last = renumbered_closed (merged_automaton o.keep_implied o.keep_equal (level_automaton (merged_automaton o.keep_implied o.keep_equal A))) smaller_closed in
+          let below = generalized_below N low o.keep_implied A g in
+          let small_below = merged_below A below o.keep_implied o.keep_equal in
+          let leveled_below = levels_below (merged_automaton o.keep_implied o.keep_equal A) small_below in
+          let smaller_below = merged_below (level_automaton (merged_automaton o.keep_implied o.keep_equal A)) leveled_below o.keep_implied o.keep_equal in
+          record {
+            sets = refl;
+            begins = last.begins;
+            inside = last.inside;
+            propositions = renumbered_below (merged_automaton o.keep_implied o.keep_equal (level_automaton (merged_automaton o.keep_implied o.keep_equal A))) smaller_below;
+          }
+
+-- the propositions of a formula as it was read have names
+within_names : (names : List Name) (p : ℕ) (m : Name) → slice_get names p ≡ Some m → p < length names
+within_names names p m e = elim (cases_lt p (length names)) [
+  | inl l ↦ l
+  | inr l ↦ absurd (never (sym (slice_get_past names p l) ∙ e))
+]
+  where
+    never : None ≡ Some m → ⊥
+    never d = cc
+
+pub parsed_below : {names : List Name} (r : ℕ) (ts : List Token) (F : Formula) → Parses names r ts F → HasPropositionsBelow (length names) F
+parsed_below r ts F (of_constant b) = tt
+parsed_below {names} r ts F (of_name m p e) = within_names names p m e
+parsed_below r us F (of_brackets ts us' F' e d) = parsed_below 5 ts F' d
+parsed_below r us F (of_unary op ts F' d) = parsed_below 0 ts F' d
+parsed_below r us F (of_tighter r' ts F' d) = parsed_below r' ts F' d
+parsed_below r us F (of_left op r' xs ys us' a b i g e d f) = (parsed_below (suc r') xs a d, parsed_below r' ys b f)
+parsed_below r us F (of_right op r' xs ys us' a b i g e d f) = (parsed_below r' xs a d, parsed_below (suc r') ys b f)

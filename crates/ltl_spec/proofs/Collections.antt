@@ -1,0 +1,6 @@
+-- Sets and lists.
+pub mod CaseLaws
+pub mod SetLaws
+pub mod ListLaws
+pub mod MemberLaws
+pub mod Orders

@@ -1,0 +1,11 @@
+-- From the generalized automaton to the Büchi automaton: merging, levels, numbering.
+pub mod RoundLaws
+pub mod LevelLaws
+pub mod ClimbLaws
+pub mod LevelRuns
+pub mod RenumberedRuns
+pub mod ImpliedEdges
+pub mod SetEdges
+pub mod QuotientRuns
+pub mod MergingRuns
+pub mod MergingUnique

@@ -1,0 +1,9 @@
+-- Worked examples: whole texts and answers by computation.
+pub mod Claims
+pub mod Texts
+pub mod ReaderTexts
+pub mod PruningExamples
+pub mod CheckTexts
+pub mod CheckExamples
+pub mod InputTexts
+pub mod ProgramTexts

@@ -1,0 +1,62 @@
+-- Worked examples of the reader's verdicts.
+use Rattle.std.proofs.Common.{◌≡◌, ℕ, [], ◌∷◌, length, List, Ok, Err, codes, refl}
+use Rattle.ltl_spec.specs.Formulas.Formula.{Constant, Proposition, Unary, Binary, Not, Next, Always, Eventually, And, Or, Implies, Iff, Until, Release}
+use Rattle.ltl_spec.specs.Formulas.Tokens.{items}
+use Rattle.ltl_spec.specs.Formulas.Fault.{UnexpectedByte, ExpectedOperand, ExpectedOperatorOrEnd, ExpectedCloseOrOperator}
+use Rattle.ltl_spec.proofs.Formulas.GrammarMachine.{Wanting}
+use Rattle.ltl_spec.proofs.Formulas.ReaderLaws.{Verdict, verdict}
+
+-- the verdict on a text
+abbrev verdict_of : List ℕ → Verdict
+verdict_of text = verdict (length text) [] (Wanting []) (items text)
+
+-- `->` groups to the right
+right : verdict_of (codes "p -> q -> p")
+    ≡ Ok (record { formula = Binary Implies (Proposition 0) (Binary Implies (Proposition 1) (Proposition 0)); names = codes "p" ∷ codes "q" ∷ [] })
+right = refl
+
+-- `U` groups to the left, and unary operators bind tightest
+left : verdict_of (codes "!p U []q V r")
+    ≡ Ok (record { formula = Binary Release (Binary Until (Unary Not (Proposition 0)) (Unary Always (Proposition 1))) (Proposition 2); names = codes "p" ∷ codes "q" ∷ codes "r" ∷ [] })
+left = refl
+
+-- each rank in its place
+ranks : verdict_of (codes "a <-> b -> c || d && e U f")
+    ≡ Ok (record {
+      formula = Binary Iff (Proposition 0) (Binary Implies (Proposition 1) (Binary Or (Proposition 2) (Binary And (Proposition 3) (Binary Until (Proposition 4) (Proposition 5)))));
+      names = codes "a" ∷ codes "b" ∷ codes "c" ∷ codes "d" ∷ codes "e" ∷ codes "f" ∷ [];
+    })
+ranks = refl
+
+-- a unary operator closes before the binary one
+brackets : verdict_of (codes "X(true \\/ <>q)&&q")
+    ≡ Ok (record { formula = Binary And (Unary Next (Binary Or (Constant Rattle.std.proofs.Common.true) (Unary Eventually (Proposition 0)))) (Proposition 0); names = codes "q" ∷ [] })
+brackets = refl
+
+-- faults
+byte : verdict_of (codes "p & q") ≡ Err (2, UnexpectedByte)
+byte = refl
+
+-- an operand too many before a byte at fault
+byte_first : verdict_of (codes "p q #") ≡ Err (2, ExpectedOperatorOrEnd)
+byte_first = refl
+
+-- a bracket closes too early
+operand : verdict_of (codes "(p U )") ≡ Err (5, ExpectedOperand)
+operand = refl
+
+-- a bracket stays open
+at_end : verdict_of (codes "[](p -> q ") ≡ Err (10, ExpectedCloseOrOperator)
+at_end = refl
+
+-- no text is a formula of no token
+empty : verdict_of [] ≡ Err (0, ExpectedOperand)
+empty = refl
+
+-- a bracket that was not open
+closed : verdict_of (codes "p)") ≡ Err (1, ExpectedOperatorOrEnd)
+closed = refl
+
+-- an operand too many in a bracket
+in_bracket : verdict_of (codes "(p q") ≡ Err (3, ExpectedCloseOrOperator)
+in_bracket = refl

@@ -1,0 +1,290 @@
+-- The canonical text of a formula is a text of it.
+use Rattle.std.proofs.Common.{◌≡◌, ℕ, zero, suc, ◌+◌, ◌<◌, Bool, true, false, cond, inl, inr, List, [], ◌∷◌, ◌++◌, length, map, filter_map, slice_index_or, codes, refl, sym, ◌∙◌, ap, subst, arith, append_assoc, append-nil, fold, nat_eq, ◌||◌}
+use Rattle.std.specs.Prelude.{⊤}
+use Rattle.std.specs.List.{AllByRecursion, list_any}
+use Rattle.std.proofs.lemmas.List.Elements.{filter_map-append}
+use Rattle.std.proofs.lemmas.Option.{slice_get-get_or, get_or_from_slice_get}
+use Rattle.std.proofs.lemmas.List.{map-append, length_push}
+use Rattle.std.proofs.lemmas.Bool.Decides.{same_from_decides, Decides-eqb}
+use Rattle.std.proofs.lemmas.Slice.Eq.{bytes_eq-Decides}
+use Rattle.ltl_spec.specs.Collections.Sets.{Has}
+use Rattle.ltl_spec.specs.Collections.Lists.{HasNoRepeats, with_new, first_occurrences}
+use Rattle.ltl_spec.specs.Semantics.Word.{Name}
+use Rattle.ltl_spec.specs.Formulas.Formula.{Formula, Constant, Proposition, Unary, Binary, UnaryOperator, Not, Next, Always, Eventually, BinaryOperator, And, Or, Implies, Iff, Until, Release, Reading}
+use Rattle.ltl_spec.specs.Formulas.Tokens.{Token, ConstantWord, NameWord, UnarySign, BinarySign, Open, Close, same_name, tokens}
+use Rattle.ltl_spec.specs.Formulas.Grammar.{Parses, of_constant, of_name, of_brackets, of_unary, of_tighter, of_left, of_right, rank_of, name_in, Reads, IsTextOf}
+use Rattle.ltl_spec.specs.Formulas.Canonical.{constant_text, unary_text, binary_text, formula_text, canonical_text}
+use Rattle.ltl_spec.proofs.Collections.SetLaws.{all_at, all_from, append_left, append_right}
+use Rattle.ltl_spec.proofs.Collections.ListLaws.{Has-first_occurrences, HasNoRepeats-first_occurrences, first_occurrences_cases, with_new_cases, Has-at, index_done}
+use Rattle.ltl_spec.proofs.Formulas.GrammarMachine.{of_higher, of_binary, rank_bounds, left_rank, right_rank}
+use Rattle.ltl_spec.proofs.Formulas.BeginningLaws.{reads_once}
+use Rattle.ltl_spec.proofs.Formulas.TokenLaws.{tokens_from, tokens_are, IsNameWord, EndsWord, word_tokens, name_token, text_names}
+use Rattle.ltl_spec.proofs.Formulas.NameLaws.{same_place}
+
+-- the tokens of the canonical text
+abbrev pub formula_tokens : List Name → Formula → List Token
+formula_tokens names (Constant b) = ConstantWord b ∷ []
+formula_tokens names (Proposition p) = NameWord (slice_index_or names p []) ∷ []
+formula_tokens names (Unary op a) = UnarySign op ∷ formula_tokens names a
+formula_tokens names (Binary op a b) = Open ∷ (formula_tokens names a ++ BinarySign op ∷ formula_tokens names b) ++ Close ∷ []
+
+-- the names of the propositions, each as often as it stands
+abbrev pub names_in : List Name → Formula → List Name
+names_in names (Constant b) = []
+names_in names (Proposition p) = slice_index_or names p [] ∷ []
+names_in names (Unary op a) = names_in names a
+names_in names (Binary op a b) = names_in names a ++ names_in names b
+
+-- each proposition has a name
+abbrev pub HasNames : List Name → Formula → Type 0
+HasNames names (Constant b) = ⊤
+HasNames names (Proposition p) = p < length names
+HasNames names (Unary op a) = HasNames names a
+HasNames names (Binary op a b) = HasNames names a × HasNames names b
+
+-- the tokens of the text
+
+-- the token of a unary operator
+unary_tokens : (op : UnaryOperator) (bs : List ℕ) → tokens_from 0 (unary_text op ++ bs) ≡ UnarySign op ∷ tokens_from 0 bs
+unary_tokens Not bs = refl
+unary_tokens Next bs = refl
+unary_tokens Always bs = refl
+unary_tokens Eventually bs = refl
+
+-- of a binary one
+binary_tokens : (op : BinaryOperator) (bs : List ℕ) → tokens_from 0 (binary_text op ++ bs) ≡ BinarySign op ∷ tokens_from 0 bs
+binary_tokens And bs = refl
+binary_tokens Or bs = refl
+binary_tokens Implies bs = refl
+binary_tokens Iff bs = refl
+binary_tokens Until bs = refl
+binary_tokens Release bs = refl
+
+-- a word ends before an operator
+binary_ends : (op : BinaryOperator) (bs : List ℕ) → EndsWord (binary_text op ++ bs)
+binary_ends And bs = refl
+binary_ends _ bs = refl
+
+-- of a constant
+constant_tokens : (b : Bool) (rest : List ℕ) → EndsWord rest → tokens_from 0 (constant_text b ++ rest) ≡ ConstantWord b ∷ tokens_from 0 rest
+constant_tokens true rest e = word_tokens 116 (codes "rue") rest refl (refl, (refl, (refl, tt))) e
+constant_tokens false rest e = word_tokens 102 (codes "alse") rest refl (refl, (refl, (refl, (refl, tt)))) e
+
+-- of a name
+name_tokens : (n : Name) (rest : List ℕ) → IsNameWord n → EndsWord rest → tokens_from 0 (n ++ rest) ≡ NameWord n ∷ tokens_from 0 rest
+name_tokens [] rest w e = absurd w
+name_tokens (b ∷ bs) rest w e = word_tokens b bs rest w.0 w.1 e ∙ ap (λ t. t ∷ tokens_from 0 rest) (name_token b bs w)
+
+-- five pieces and the rest
+five : (a b c d e r : List ℕ) → (a ++ b ++ c ++ d ++ e) ++ r ≡ a ++ (b ++ (c ++ (d ++ (e ++ r))))
+five a b c d e r = simp append_assoc
+
+-- and of a whole formula
+text_tokens : (names : List Name) → ((p : ℕ) → p < length names → IsNameWord (slice_index_or names p [])) → (F : Formula) → HasNames names F
+    → (rest : List ℕ) → EndsWord rest → tokens_from 0 (formula_text names F ++ rest) ≡ formula_tokens names F ++ tokens_from 0 rest
+text_tokens names w (Constant b) h rest e = constant_tokens b rest e
+text_tokens names w (Proposition p) h rest e = name_tokens (slice_index_or names p []) rest (w p h) e
+text_tokens names w (Unary op a) h rest e =
+    ap (tokens_from 0) (append_assoc (unary_text op) (formula_text names a) rest) ∙ unary_tokens op (formula_text names a ++ rest)
+    ∙ ap (λ l. UnarySign op ∷ l) (text_tokens names w a h rest e)
+text_tokens names w (Binary op a b) h rest e =
+    let last = formula_text names b ++ (codes ")" ++ rest) in
+    let sign = BinarySign op in
+    ap (tokens_from 0) (five (codes "(") (formula_text names a) (binary_text op) (formula_text names b) (codes ")") rest)
+    ∙ ap (λ l. Open ∷ l) (text_tokens names w a h.0 (binary_text op ++ last) (binary_ends op last)
+    ∙ ap (λ l. formula_tokens names a ++ l) (binary_tokens op last ∙ ap (λ l. sign ∷ l) (text_tokens names w b h.1 (41 ∷ rest) refl)))
+    ∙ regroup (formula_tokens names a) (formula_tokens names b) sign (tokens_from 0 rest)
+  where
+    regroup : (xs ys : List Token) (t : Token) (zs : List Token) → Open ∷ (xs ++ (t ∷ (ys ++ Close ∷ zs))) ≡ (Open ∷ (xs ++ t ∷ ys) ++ Close ∷ []) ++ zs
+    regroup xs ys t zs = ap (λ l. Open ∷ l) (simp append_assoc)
+
+-- the formula of these tokens
+
+-- they parse as the formula
+formula_parses : (names : List Name) (F : Formula) → HasNames names F → Parses names 0 (formula_tokens names F) F
+formula_parses names (Constant b) h = of_constant b
+formula_parses names (Proposition p) h = of_name (slice_index_or names p []) p (slice_get-get_or names p [] h)
+formula_parses names (Unary op a) h = of_unary op (formula_tokens names a) a (formula_parses names a h)
+formula_parses names (Binary op a b) h =
+    let l = rank_bounds op in
+    of_brackets (formula_tokens names a ++ BinarySign op ∷ formula_tokens names b) _ (Binary op a b) refl
+    (of_higher 5 (rank_of op) _ (Binary op a b) l.1
+    (of_binary op (formula_tokens names a) (formula_tokens names b) _ a b refl
+    (of_higher (left_rank op) 0 _ a (omega arith) (formula_parses names a h.0)) (of_higher (right_rank op) 0 _ b (omega arith) (formula_parses names b h.1))))
+
+-- and have the formula's names
+formula_names : (names : List Name) (F : Formula) → filter_map name_in (formula_tokens names F) ≡ names_in names F
+formula_names names (Constant b) = refl
+formula_names names (Proposition p) = refl
+formula_names names (Unary op a) = formula_names names a
+formula_names names (Binary op a b) =
+    filter_map-append name_in (formula_tokens names a ++ BinarySign op ∷ formula_tokens names b) (Close ∷ [])
+    ∙ append-nil _ ∙ filter_map-append name_in (formula_tokens names a) (BinarySign op ∷ formula_tokens names b)
+    ∙ (λ i. formula_names names a i ++ formula_names names b i)
+
+-- The names are proper, and they are those of the formula's propositions in the order in which they first stand
+pub record IsNamed (R : Reading) : Type 0 where
+  pub words : AllByRecursion IsNameWord R.names
+  pub numbered : R.names ≡ first_occurrences same_name (names_in R.names R.formula)
+
+-- each proposition then has a name
+proper_below : (names : List Name) (p : ℕ) → IsNameWord (slice_index_or names p []) → p < length names
+proper_below [] zero w = absurd w
+proper_below [] (suc p) w = absurd w
+proper_below (n ∷ names) zero w = omega arith
+proper_below (n ∷ names) (suc p) w = let l = proper_below names p w in omega arith
+
+-- where the names are proper, each proposition is below their count
+names_within : (names : List Name) (F : Formula) → ((n : Name) → Has (names_in names F) n → IsNameWord n) → HasNames names F
+names_within names (Constant b) h = tt
+names_within names (Proposition p) h = proper_below names p (h (slice_index_or names p []) (inl refl))
+names_within names (Unary op a) h = names_within names a h
+names_within names (Binary op a b) h = (
+  names_within names a (λ n k. h n (append_left (names_in names a) (names_in names b) n k)),
+  names_within names b (λ n k. h n (append_right (names_in names a) (names_in names b) n k)),
+)
+
+-- so it is in a named reading
+named_within : (R : Reading) → IsNamed R → HasNames R.names R.formula
+named_within R d =
+    names_within R.names R.formula
+    (λ n h. all_at IsNameWord R.names n d.words (subst (λ l. Has l n) (sym d.numbered) (Has-first_occurrences same_name bytes_eq-Decides (names_in R.names R.formula) n h)))
+
+-- The tokens of a canonical text
+pub canonical_tokens : (R : Reading) → IsNamed R → tokens (canonical_text R) ≡ formula_tokens R.names R.formula
+canonical_tokens R d =
+    tokens_are (canonical_text R) ∙ ap (tokens_from 0) (sym (append-nil (canonical_text R)))
+    ∙ text_tokens R.names (λ p l. all_at IsNameWord R.names _ d.words (Has-at R.names p [] l)) R.formula (named_within R d) [] tt ∙ append-nil _
+
+-- The canonical text of a reading is a text of it
+pub canonical_is_text : (R : Reading) → IsNamed R → IsTextOf (canonical_text R) R
+canonical_is_text R d =
+    subst (λ ts. Reads ts R) (sym (canonical_tokens R d)) (
+      d.numbered ∙ ap (first_occurrences same_name) (sym (formula_names R.names R.formula)),
+      of_higher 5 0 _ R.formula (omega arith) (formula_parses R.names R.formula (named_within R d)),
+    )
+
+-- which readings have it
+
+-- what parses has the formula's names
+parsed_names : {names : List Name} (r : ℕ) (ts : List Token) (F : Formula) → Parses names r ts F → filter_map name_in ts ≡ names_in names F
+parsed_names r ts F (of_constant b) = refl
+parsed_names {names} r ts F (of_name n p e) = ap (λ m. m ∷ []) (sym (get_or_from_slice_get names p n [] e))
+parsed_names r us F (of_brackets ts us' F' e d) =
+    ap (filter_map name_in) e ∙ filter_map-append name_in ts (Close ∷ []) ∙ append-nil _ ∙ parsed_names 5 ts F' d
+parsed_names r us F (of_unary op ts F' d) = parsed_names 0 ts F' d
+parsed_names r ts F (of_tighter r' ts' F' d) = parsed_names r' ts' F' d
+parsed_names {names} r us F (of_left op r' xs ys us' a b i g e d f) =
+    ap (filter_map name_in) e ∙ filter_map-append name_in xs (BinarySign op ∷ ys) ∙ (λ j. parsed_names (suc r') xs a d j ++ parsed_names r' ys b f j)
+parsed_names {names} r us F (of_right op r' xs ys us' a b i g e d f) =
+    ap (filter_map name_in) e ∙ filter_map-append name_in xs (BinarySign op ∷ ys) ∙ (λ j. parsed_names r' xs a d j ++ parsed_names (suc r') ys b f j)
+
+-- a name of the tokens is one of them
+has_name : (ts : List Token) (n : Name) → Has (filter_map name_in ts) n → Has ts (NameWord n)
+has_name [] n h = absurd h
+has_name (NameWord m ∷ ts) n (inl e) = inl (ap NameWord e)
+has_name (NameWord m ∷ ts) n (inr h) = inr (has_name ts n h)
+has_name (ConstantWord b ∷ ts) n h = inr (has_name ts n h)
+has_name (_ ∷ ts) n h = inr (has_name ts n h)
+
+-- Each reading of a text is named so
+pub named_by_text : (text : List ℕ) (R : Reading) → IsTextOf text R → IsNamed R
+named_by_text text R w = record {
+  words = all_from IsNameWord R.names (λ n h.
+      text_names text n (has_name (tokens text) n
+      (first_occurrences_cases same_name bytes_eq-Decides (filter_map name_in (tokens text)) n (subst (λ l. Has l n) w.0 h))));
+  numbered = w.0 ∙ ap (first_occurrences same_name) (parsed_names 5 (tokens text) R.formula w.1);
+}
+
+-- The canonical text of a text's reading reads as the same
+pub canonical_again : (text : List ℕ) (R : Reading) → IsTextOf text R → IsTextOf (canonical_text R) R
+canonical_again text R w = canonical_is_text R (named_by_text text R w)
+
+-- named readings with one canonical text are equal
+pub canonical_once : (R S : Reading) → IsNamed R → IsNamed S → canonical_text R ≡ canonical_text S → R ≡ S
+canonical_once R S d f e =
+    reads_once (tokens (canonical_text R)) R S (canonical_is_text R d) (subst (λ t. IsTextOf t S) (sym e) (canonical_is_text S f))
+
+-- no name stands twice
+pub named_differ : (R : Reading) → IsNamed R → HasNoRepeats R.names
+named_differ R d = subst HasNoRepeats (sym d.numbered) (HasNoRepeats-first_occurrences same_name bytes_eq-Decides (names_in R.names R.formula))
+
+-- the same by the propositions' numbers
+
+-- the propositions, each as often as it stands
+abbrev pub propositions : Formula → List ℕ
+propositions (Constant b) = []
+propositions (Proposition p) = p ∷ []
+propositions (Unary op a) = propositions a
+propositions (Binary op a b) = propositions a ++ propositions b
+
+-- n numbers from i on
+abbrev pub numbers : ℕ → ℕ → List ℕ
+numbers i zero = []
+numbers i (suc n) = i ∷ numbers (suc i) n
+
+-- the names of the propositions are the names at their numbers
+names_by_number : (names : List Name) (F : Formula) → names_in names F ≡ map (λ p. slice_index_or names p []) (propositions F)
+names_by_number names (Constant b) = refl
+names_by_number names (Proposition p) = refl
+names_by_number names (Unary op a) = names_by_number names a
+names_by_number names (Binary op a b) =
+    (λ i. names_by_number names a i ++ names_by_number names b i) ∙ sym (map-append (λ p. slice_index_or names p []) (propositions a) (propositions b))
+
+-- the names at all numbers are the names
+all_numbers : (xs names : List Name) → map (λ p. slice_index_or (xs ++ names) p []) (numbers (length xs) (length names)) ≡ names
+all_numbers xs [] = refl
+all_numbers xs (n ∷ names) =
+    let rest = subst (λ l. map (λ p. slice_index_or l p []) (numbers (length (xs ++ n ∷ [])) (length names)) ≡ names) (append_assoc xs (n ∷ []) names) (all_numbers (xs ++ n ∷ []) names) in
+    let one : length (xs ++ n ∷ []) ≡ suc (length xs) = let e = length_push xs n in omega (arith, e) in
+    let there = subst (λ k. map (λ p. slice_index_or (xs ++ n ∷ names) p []) (numbers k (length names)) ≡ names) one rest in
+    λ i. index_done xs names n [] i ∷ there i
+
+-- the numbers end
+number_below : (i n k : ℕ) → Has (numbers i n) k → k < i + n
+number_below i zero k h = absurd h
+number_below i (suc n) k (inl e) = omega arith
+number_below i (suc n) k (inr h) = let l = number_below (suc i) n k h in omega arith
+
+module _ (f : ℕ → Name) (Q : ℕ → Type 0) (differ : (p q : ℕ) → Q p → Q q → f p ≡ f q → p ≡ q) where
+  -- names are the same where numbers are
+  same_test : (p q : ℕ) → Q p → Q q → same_name (f p) (f q) ≡ nat_eq p q
+  same_test p q g h =
+      same_from_decides {P = p ≡ q} (same_name (f p) (f q)) (nat_eq p q)
+      ((λ e. differ p q g h ((bytes_eq-Decides (f p) (f q)).0 e)), λ e. (bytes_eq-Decides (f p) (f q)).1 (ap f e)) (Decides-eqb p q)
+
+  -- a name is among names where its number is among numbers
+  any_mapped : (p : ℕ) (xs : List ℕ) → Q p → AllByRecursion Q xs → list_any (same_name (f p)) (map f xs) ≡ list_any (nat_eq p) xs
+  any_mapped p [] g a = refl
+  any_mapped p (x ∷ xs) g a = λ i. same_test p x g a.0 i || any_mapped p xs g a.1 i
+
+  -- a new name is a new number
+  with_new_mapped : (p : ℕ) (xs : List ℕ) → Q p → AllByRecursion Q xs → with_new same_name (map f xs) (f p) ≡ map f (with_new nat_eq xs p)
+  with_new_mapped p xs g a =
+      ap (λ b. cond b (map f xs) (map f xs ++ f p ∷ [])) (any_mapped p xs g a)
+      ∙ elim (list_any (nat_eq p) xs) as (λ b. cond b (map f xs) (map f xs ++ f p ∷ []) ≡ map f (cond b xs (xs ++ p ∷ []))) [ true ↦ refl | false ↦ sym (map-append f xs (p ∷ [])) ]
+
+  -- a new number keeps what holds of all
+  all_with_new : (p : ℕ) (xs : List ℕ) → Q p → AllByRecursion Q xs → AllByRecursion Q (with_new nat_eq xs p)
+  all_with_new p xs g a =
+      all_from Q (with_new nat_eq xs p) (λ z h. elim (with_new_cases nat_eq Decides-eqb xs p z h) [ inl k ↦ all_at Q xs z a k | inr e ↦ subst Q (sym e) g ])
+
+  -- the different names are those of the different numbers
+  fold_mapped : (ps xs : List ℕ) → AllByRecursion Q ps → AllByRecursion Q xs → fold (with_new same_name) (map f xs) (map f ps) ≡ map f (fold (with_new nat_eq) xs ps)
+  fold_mapped [] xs g a = refl
+  fold_mapped (p ∷ ps) xs g a =
+      ap (λ l. fold (with_new same_name) l (map f ps)) (with_new_mapped p xs g.0 a) ∙ fold_mapped ps (with_new nat_eq xs p) g.1 (all_with_new p xs g.0 a)
+
+-- Different proper names, numbered in the order in which their propositions first stand: the reading is named so
+pub named_by_numbers : (R : Reading) → AllByRecursion IsNameWord R.names → HasNoRepeats R.names
+    → first_occurrences nat_eq (propositions R.formula) ≡ numbers 0 (length R.names) → IsNamed R
+named_by_numbers R w d e =
+    let at : ℕ → Name = λ p. slice_index_or R.names p [] in
+    let below : (z : ℕ) → Has (propositions R.formula) z → z < length R.names =
+    λ z h. let l = number_below 0 (length R.names) z (subst (λ l. Has l z) e (Has-first_occurrences nat_eq Decides-eqb (propositions R.formula) z h)) in omega arith in
+    record {
+      words = w;
+      numbered = sym (all_numbers [] R.names) ∙ ap (map at) (sym e)
+          ∙ sym (fold_mapped at (λ p. p < length R.names) (same_place R.names d) (propositions R.formula) [] (all_from (λ p. p < length R.names) (propositions R.formula) below) tt)
+          ∙ ap (first_occurrences same_name) (sym (names_by_number R.names R.formula));
+    }

@@ -1,0 +1,11 @@
+-- Automata as they are read.
+pub mod BlockLaws
+pub mod HoaLabelLaws
+pub mod HoaHeaderLaws
+pub mod HoaBodyLaws
+pub mod HoaLaws
+pub mod HoaUniqueLaws
+pub mod HoaLabelBack
+pub mod HoaHeaderBack
+pub mod HoaBodyBack
+pub mod HoaBackLaws

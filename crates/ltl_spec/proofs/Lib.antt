@@ -1,0 +1,11 @@
+pub mod Collections
+pub mod Formulas
+pub mod NormalForms
+pub mod Transitions
+pub mod Automata
+pub mod Semantics
+pub mod Construction
+pub mod Words
+pub mod Hoa
+pub mod Checking
+pub mod Examples

@@ -1,0 +1,432 @@
+-- The normal forms of a formula and of its negation, built together from those of its operands, rewritten at each node or not.
+use Rattle.std.proofs.Common.{◌≡◌, ℕ, zero, suc, ◌+◌, Bool, true, false, cond, List, [], ◌∷◌, ◌++◌, map, length, refl, sym, ◌∙◌, ap, arith, length-append, ◌<◌, inl, inr}
+use Rattle.std.specs.Prelude.{not, if◌then◌else◌, fold, slice_index_or}
+use Rattle.std.proofs.lemmas.List.Sums.{fold-append}
+use Rattle.std.proofs.lemmas.List.{map_push}
+use Rattle.ltl_spec.specs.Collections.Sets.{Has}
+use Rattle.ltl_spec.specs.Formulas.Formula.{Formula, UnaryOperator, BinaryOperator, Constant, Proposition, Unary, Binary, Not, Next, Always, Eventually, And, Or, Implies, Iff, Until, Release}
+use Rattle.ltl_spec.specs.NormalForms.Normal.{Normal, Top, Bottom, Leaf, Next, And, Or, Until, Release}
+use Rattle.ltl_spec.specs.NormalForms.NormalForm.{constant, normal_form, simple_and, simple_or, simple_next, simple_until, simple_release, simple_form, core}
+
+-- one operator above operands that are made
+
+-- the node, or what rewriting makes of it
+abbrev pub made_next : Bool → Normal → Normal
+made_next rewrite a = if rewrite then simple_next a else Next a
+
+abbrev pub made_and : Bool → Normal → Normal → Normal
+made_and rewrite a b = if rewrite then simple_and a b else And a b
+
+abbrev pub made_or : Bool → Normal → Normal → Normal
+made_or rewrite a b = if rewrite then simple_or a b else Or a b
+
+abbrev pub made_until : Bool → Normal → Normal → Normal
+made_until rewrite a b = if rewrite then simple_until a b else Until a b
+
+abbrev pub made_release : Bool → Normal → Normal → Normal
+made_release rewrite a b = if rewrite then simple_release a b else Release a b
+
+-- the normal form of the formula, or at `false` of its negation, rewritten or not
+abbrev pub made_form : Bool → Bool → Formula → Normal
+made_form rewrite sign F = if rewrite then simple_form (normal_form sign F) else normal_form sign F
+
+-- what is translated is one of the two
+pub core_is : (F : Formula) (negate rewrite : Bool) → core F negate rewrite ≡ made_form rewrite (not negate) F
+core_is F true true = refl
+core_is F true false = refl
+core_is F false true = refl
+core_is F false false = refl
+
+-- the equations at each operator, for each sign
+
+-- a constant
+pub form_constant : (r : Bool) (b : Bool) → made_form r true (Constant b) ≡ constant b
+form_constant true true = refl
+form_constant true false = refl
+form_constant false true = refl
+form_constant false false = refl
+
+-- its negation
+pub negated_constant : (r : Bool) (b : Bool) → made_form r false (Constant b) ≡ constant (not b)
+negated_constant true true = refl
+negated_constant true false = refl
+negated_constant false true = refl
+negated_constant false false = refl
+
+-- a proposition, for either sign
+pub form_proposition : (r sign : Bool) (p : ℕ) → made_form r sign (Proposition p) ≡ Leaf (record { proposition = p; positive = sign })
+form_proposition true true p = refl
+form_proposition true false p = refl
+form_proposition false true p = refl
+form_proposition false false p = refl
+
+-- a negation changes the sign
+pub form_not : (r sign : Bool) (a : Formula) → made_form r sign (Unary Not a) ≡ made_form r (not sign) a
+form_not true true a = refl
+form_not true false a = refl
+form_not false true a = refl
+form_not false false a = refl
+
+-- `X`, for either sign
+pub form_next : (r sign : Bool) (a : Formula) → made_form r sign (Unary Next a) ≡ made_next r (made_form r sign a)
+form_next true true a = refl
+form_next true false a = refl
+form_next false true a = refl
+form_next false false a = refl
+
+-- `[]`
+pub form_always : (r : Bool) (a : Formula) → made_form r true (Unary Always a) ≡ made_release r Bottom (made_form r true a)
+form_always true a = refl
+form_always false a = refl
+
+-- its negation
+pub negated_always : (r : Bool) (a : Formula) → made_form r false (Unary Always a) ≡ made_until r Top (made_form r false a)
+negated_always true a = refl
+negated_always false a = refl
+
+-- `<>`
+pub form_eventually : (r : Bool) (a : Formula) → made_form r true (Unary Eventually a) ≡ made_until r Top (made_form r true a)
+form_eventually true a = refl
+form_eventually false a = refl
+
+-- its negation
+pub negated_eventually : (r : Bool) (a : Formula) → made_form r false (Unary Eventually a) ≡ made_release r Bottom (made_form r false a)
+negated_eventually true a = refl
+negated_eventually false a = refl
+
+-- and
+pub form_and : (r : Bool) (a b : Formula) → made_form r true (Binary And a b) ≡ made_and r (made_form r true a) (made_form r true b)
+form_and true a b = refl
+form_and false a b = refl
+
+-- its negation
+pub negated_and : (r : Bool) (a b : Formula) → made_form r false (Binary And a b) ≡ made_or r (made_form r false a) (made_form r false b)
+negated_and true a b = refl
+negated_and false a b = refl
+
+-- or
+pub form_or : (r : Bool) (a b : Formula) → made_form r true (Binary Or a b) ≡ made_or r (made_form r true a) (made_form r true b)
+form_or true a b = refl
+form_or false a b = refl
+
+-- its negation
+pub negated_or : (r : Bool) (a b : Formula) → made_form r false (Binary Or a b) ≡ made_and r (made_form r false a) (made_form r false b)
+negated_or true a b = refl
+negated_or false a b = refl
+
+-- implies
+pub form_implies : (r : Bool) (a b : Formula) → made_form r true (Binary Implies a b) ≡ made_or r (made_form r false a) (made_form r true b)
+form_implies true a b = refl
+form_implies false a b = refl
+
+-- its negation
+pub negated_implies : (r : Bool) (a b : Formula) → made_form r false (Binary Implies a b) ≡ made_and r (made_form r true a) (made_form r false b)
+negated_implies true a b = refl
+negated_implies false a b = refl
+
+-- if and only if
+pub form_iff : (r : Bool) (a b : Formula) → made_form r true (Binary Iff a b) ≡ made_or r (made_and r (made_form r true a) (made_form r true b)) (made_and r (made_form r false a) (made_form r false b))
+form_iff true a b = refl
+form_iff false a b = refl
+
+-- its negation
+pub negated_iff : (r : Bool) (a b : Formula) → made_form r false (Binary Iff a b) ≡ made_and r (made_or r (made_form r false a) (made_form r false b)) (made_or r (made_form r true a) (made_form r true b))
+negated_iff true a b = refl
+negated_iff false a b = refl
+
+-- `U`
+pub form_until : (r : Bool) (a b : Formula) → made_form r true (Binary Until a b) ≡ made_until r (made_form r true a) (made_form r true b)
+form_until true a b = refl
+form_until false a b = refl
+
+-- its negation
+pub negated_until : (r : Bool) (a b : Formula) → made_form r false (Binary Until a b) ≡ made_release r (made_form r false a) (made_form r false b)
+negated_until true a b = refl
+negated_until false a b = refl
+
+-- `V`
+pub form_release : (r : Bool) (a b : Formula) → made_form r true (Binary Release a b) ≡ made_release r (made_form r true a) (made_form r true b)
+form_release true a b = refl
+form_release false a b = refl
+
+-- its negation
+pub negated_release : (r : Bool) (a b : Formula) → made_form r false (Binary Release a b) ≡ made_until r (made_form r false a) (made_form r false b)
+negated_release true a b = refl
+negated_release false a b = refl
+
+-- both forms of a formula
+
+-- the two normal forms of a formula
+pub record Both : Type 0 where
+  pub yes : Normal
+  pub no : Normal
+
+-- these two are the forms of the formula and of its negation
+pub record IsBoth (rewrite : Bool) (F : Formula) (yes no : Normal) : Type 0 where
+  pub for : yes ≡ made_form rewrite true F
+  pub against : no ≡ made_form rewrite false F
+
+-- what is translated
+pub both_core : (r : Bool) (F : Formula) (p q : Normal) (negate : Bool) → IsBoth r F p q → core F negate r ≡ (if negate then q else p)
+both_core r F p q true x = core_is F true r ∙ sym x.against
+both_core r F p q false x = core_is F false r ∙ sym x.for
+
+-- both forms at each operator, from those of the operands
+pub both_constant : (r b : Bool) → IsBoth r (Constant b) (constant b) (constant (not b))
+both_constant r b = record { for = sym (form_constant r b); against = sym (negated_constant r b) }
+
+-- of a proposition
+pub both_proposition : (r : Bool) (p : ℕ) → IsBoth r (Proposition p) (Leaf (record { proposition = p; positive = true })) (Leaf (record { proposition = p; positive = false }))
+both_proposition r p = record { for = sym (form_proposition r true p); against = sym (form_proposition r false p) }
+
+module _ (r : Bool) (a : Formula) (p q : Normal) (x : IsBoth r a p q) where
+  -- of a negation
+  pub both_not : IsBoth r (Unary Not a) q p
+  both_not = record { for = x.against ∙ sym (form_not r true a); against = x.for ∙ sym (form_not r false a) }
+
+  -- of `X`
+  pub both_next : IsBoth r (Unary Next a) (made_next r p) (made_next r q)
+  both_next = record { for = ap (made_next r) x.for ∙ sym (form_next r true a); against = ap (made_next r) x.against ∙ sym (form_next r false a) }
+
+  -- of `[]`
+  pub both_always : IsBoth r (Unary Always a) (made_release r Bottom p) (made_until r Top q)
+  both_always = record { for = ap (made_release r Bottom) x.for ∙ sym (form_always r a); against = ap (made_until r Top) x.against ∙ sym (negated_always r a) }
+
+  -- of `<>`
+  pub both_eventually : IsBoth r (Unary Eventually a) (made_until r Top p) (made_release r Bottom q)
+  both_eventually = record { for = ap (made_until r Top) x.for ∙ sym (form_eventually r a); against = ap (made_release r Bottom) x.against ∙ sym (negated_eventually r a) }
+
+  module _ (b : Formula) (s t : Normal) (y : IsBoth r b s t) where
+    -- of and
+    pub both_and : IsBoth r (Binary And a b) (made_and r p s) (made_or r q t)
+    both_and = record {
+      for = let u = x.for in let v = y.for in let e = form_and r a b in cc;
+      against = let u = x.against in let v = y.against in let e = negated_and r a b in cc;
+    }
+
+    -- of or
+    pub both_or : IsBoth r (Binary Or a b) (made_or r p s) (made_and r q t)
+    both_or = record {
+      for = let u = x.for in let v = y.for in let e = form_or r a b in cc;
+      against = let u = x.against in let v = y.against in let e = negated_or r a b in cc;
+    }
+
+    -- of implies
+    pub both_implies : IsBoth r (Binary Implies a b) (made_or r q s) (made_and r p t)
+    both_implies = record {
+      for = let u = x.against in let v = y.for in let e = form_implies r a b in cc;
+      against = let u = x.for in let v = y.against in let e = negated_implies r a b in cc;
+    }
+
+    -- of if and only if
+    pub both_iff : IsBoth r (Binary Iff a b) (made_or r (made_and r p s) (made_and r q t)) (made_and r (made_or r q t) (made_or r p s))
+    both_iff = record {
+      for = let u = x.for in let v = y.for in let w = x.against in let z = y.against in let e = form_iff r a b in cc;
+      against = let u = x.for in let v = y.for in let w = x.against in let z = y.against in let e = negated_iff r a b in cc;
+    }
+
+    -- of `U`
+    pub both_until : IsBoth r (Binary Until a b) (made_until r p s) (made_release r q t)
+    both_until = record {
+      for = let u = x.for in let v = y.for in let e = form_until r a b in cc;
+      against = let u = x.against in let v = y.against in let e = negated_until r a b in cc;
+    }
+
+    -- of `V`
+    pub both_release : IsBoth r (Binary Release a b) (made_release r p s) (made_until r q t)
+    both_release = record {
+      for = let u = x.for in let v = y.for in let e = form_release r a b in cc;
+      against = let u = x.against in let v = y.against in let e = negated_release r a b in cc;
+    }
+
+-- flat formulas
+
+-- a node of a formula with the numbers of its operands, which stand before it
+pub data FlatNode : Type 0 where
+  FlatConstant : Bool → FlatNode
+  FlatProposition : ℕ → FlatNode
+  FlatUnary : UnaryOperator → ℕ → FlatNode
+  FlatBinary : BinaryOperator → ℕ → ℕ → FlatNode
+
+-- the numbers of its operands
+abbrev pub flat_parts : FlatNode → List ℕ
+flat_parts (FlatConstant b) = []
+flat_parts (FlatProposition p) = []
+flat_parts (FlatUnary op i) = i ∷ []
+flat_parts (FlatBinary op i j) = i ∷ j ∷ []
+
+-- the formula of that number
+abbrev pub formula_in : List Formula → ℕ → Formula
+formula_in Fs k = slice_index_or Fs k (Constant false)
+
+-- the formula that a node stands for, given those of the numbers
+abbrev pub formula_of : (ℕ → Formula) → FlatNode → Formula
+formula_of f (FlatConstant b) = Constant b
+formula_of f (FlatProposition p) = Proposition p
+formula_of f (FlatUnary op i) = Unary op (f i)
+formula_of f (FlatBinary op i j) = Binary op (f i) (f j)
+
+-- the formulas with that of one more node
+abbrev pub with_formula : List Formula → FlatNode → List Formula
+with_formula Fs v = Fs ++ formula_of (formula_in Fs) v ∷ []
+
+-- the formulas of a list of nodes
+abbrev pub formulas : List FlatNode → List Formula
+formulas flat = fold with_formula [] flat
+
+-- both forms of a formula
+abbrev pub both_forms : Bool → Formula → Both
+both_forms rewrite F = record { yes = made_form rewrite true F; no = made_form rewrite false F }
+
+-- the forms of that number
+abbrev pub both_in : List Both → ℕ → Both
+both_in xs k = slice_index_or xs k (record { yes = Bottom; no = Top })
+
+-- both forms at an operator with one operand
+abbrev pub both_unary : Bool → UnaryOperator → Both → Both
+both_unary r Not x = record { yes = x.no; no = x.yes }
+both_unary r Next x = record { yes = made_next r x.yes; no = made_next r x.no }
+both_unary r Always x = record { yes = made_release r Bottom x.yes; no = made_until r Top x.no }
+both_unary r Eventually x = record { yes = made_until r Top x.yes; no = made_release r Bottom x.no }
+
+-- and at one with two
+abbrev pub both_binary : Bool → BinaryOperator → Both → Both → Both
+both_binary r And x y = record { yes = made_and r x.yes y.yes; no = made_or r x.no y.no }
+both_binary r Or x y = record { yes = made_or r x.yes y.yes; no = made_and r x.no y.no }
+both_binary r Implies x y = record { yes = made_or r x.no y.yes; no = made_and r x.yes y.no }
+both_binary r Iff x y = record { yes = made_or r (made_and r x.yes y.yes) (made_and r x.no y.no); no = made_and r (made_or r x.no y.no) (made_or r x.yes y.yes) }
+both_binary r Until x y = record { yes = made_until r x.yes y.yes; no = made_release r x.no y.no }
+both_binary r Release x y = record { yes = made_release r x.yes y.yes; no = made_until r x.no y.no }
+
+-- both forms of a node, given those of the numbers
+abbrev pub both_of : Bool → (ℕ → Both) → FlatNode → Both
+both_of r f (FlatConstant b) = record { yes = constant b; no = constant (not b) }
+both_of r f (FlatProposition p) = record { yes = Leaf (record { proposition = p; positive = true }); no = Leaf (record { proposition = p; positive = false }) }
+both_of r f (FlatUnary op i) = both_unary r op (f i)
+both_of r f (FlatBinary op i j) = both_binary r op (f i) (f j)
+
+-- the forms with those of one more node
+abbrev pub with_both : Bool → List Both → FlatNode → List Both
+with_both r xs v = xs ++ both_of r (both_in xs) v ∷ []
+
+-- both forms of each node, made from the first node to the last
+abbrev pub built : Bool → List FlatNode → List Both
+built r flat = fold (with_both r) [] flat
+
+-- equal parts
+same_both : (x y : Both) → x.yes ≡ y.yes → x.no ≡ y.no → x ≡ y
+same_both x y p q = λ i. record { yes = p i; no = q i }
+
+-- the forms at an operator are those of the formula with that operator
+pub unary_forms : (r : Bool) (op : UnaryOperator) (a : Formula) → both_unary r op (both_forms r a) ≡ both_forms r (Unary op a)
+unary_forms r Not a = same_both _ _ (sym (form_not r true a)) (sym (form_not r false a))
+unary_forms r Next a = same_both _ _ (sym (form_next r true a)) (sym (form_next r false a))
+unary_forms r Always a = same_both _ _ (sym (form_always r a)) (sym (negated_always r a))
+unary_forms r Eventually a = same_both _ _ (sym (form_eventually r a)) (sym (negated_eventually r a))
+
+-- and so with two operands
+pub binary_forms : (r : Bool) (op : BinaryOperator) (a b : Formula) → both_binary r op (both_forms r a) (both_forms r b) ≡ both_forms r (Binary op a b)
+binary_forms r And a b = same_both _ _ (sym (form_and r a b)) (sym (negated_and r a b))
+binary_forms r Or a b = same_both _ _ (sym (form_or r a b)) (sym (negated_or r a b))
+binary_forms r Implies a b = same_both _ _ (sym (form_implies r a b)) (sym (negated_implies r a b))
+binary_forms r Iff a b = same_both _ _ (sym (form_iff r a b)) (sym (negated_iff r a b))
+binary_forms r Until a b = same_both _ _ (sym (form_until r a b)) (sym (negated_until r a b))
+binary_forms r Release a b = same_both _ _ (sym (form_release r a b)) (sym (negated_release r a b))
+
+module _ (r : Bool) where
+  -- past the last node stands a constant, of which both forms are known
+  past_forms : both_forms r (Constant false) ≡ record { yes = Bottom; no = Top }
+  past_forms = same_both (both_forms r (Constant false)) (record { yes = Bottom; no = Top }) (form_constant r false) (negated_constant r false)
+
+  -- the forms of a number are those of its formula
+  pub both_at : (Fs : List Formula) (k : ℕ) → both_in (map (both_forms r) Fs) k ≡ both_forms r (formula_in Fs k)
+  both_at [] zero = sym past_forms
+  both_at [] (suc k) = sym past_forms
+  both_at (F ∷ Fs) zero = refl
+  both_at (F ∷ Fs) (suc k) = both_at Fs k
+
+  -- the forms of a node are those of its formula, where they are for its operands
+  pub forms_of_node : (f : ℕ → Formula) (g : ℕ → Both) (v : FlatNode) → ((j : ℕ) → Has (flat_parts v) j → g j ≡ both_forms r (f j)) → both_of r g v ≡ both_forms r (formula_of f v)
+  forms_of_node f g (FlatConstant b) same = same_both _ _ (sym (form_constant r b)) (sym (negated_constant r b))
+  forms_of_node f g (FlatProposition p) same = same_both _ _ (sym (form_proposition r true p)) (sym (form_proposition r false p))
+  forms_of_node f g (FlatUnary op i) same = ap (both_unary r op) (same i (inl refl)) ∙ unary_forms r op (f i)
+  forms_of_node f g (FlatBinary op i j) same =
+      let p = same i (inl refl) in
+      let q = same j (inr (inl refl)) in
+      (λ t. both_binary r op (p t) (q t)) ∙ binary_forms r op (f i) (f j)
+
+  -- whatever gives each node its forms by those of its operands, which stand before it, gives both forms of its formula
+  pub forms_unique : (n : ℕ) (node : ℕ → FlatNode) (f : ℕ → Formula) (g : ℕ → Both) → ((k : ℕ) → k < n → (j : ℕ) → Has (flat_parts (node k)) j → j < k) → ((k : ℕ) → k < n → f k ≡ formula_of f (node k))
+      → ((k : ℕ) → k < n → g k ≡ both_of r g (node k)) → (k : ℕ) → k < n → g k ≡ both_forms r (f k)
+  forms_unique n node f g before formula both k l = below (suc k) k (omega arith) l
+    where
+      below : (deep : ℕ) (j : ℕ) → j < deep → j < n → g j ≡ both_forms r (f j)
+      below zero j d m = absurd (omega arith)
+      below (suc deep) j d m =
+          both j m
+          ∙ forms_of_node f g (node j) (λ i h. let o = before j m i h in below deep i (omega arith) (omega arith))
+          ∙ ap (both_forms r) (sym (formula j m))
+
+  -- so the loop over the nodes makes both forms of each formula
+  built_on : (flat : List FlatNode) (Fs : List Formula) → fold (with_both r) (map (both_forms r) Fs) flat ≡ map (both_forms r) (fold with_formula Fs flat)
+  built_on [] Fs = refl
+  built_on (v ∷ flat) Fs =
+      ap (λ l. fold (with_both r) l flat) (ap (λ x. map (both_forms r) Fs ++ x ∷ []) (forms_of_node (formula_in Fs) (both_in (map (both_forms r) Fs)) v (λ j h. both_at Fs j)) ∙ sym (map_push (both_forms r) Fs (formula_of (formula_in Fs) v)))
+      ∙ built_on flat (with_formula Fs v)
+
+  -- from the first node on
+  pub built_is : (flat : List FlatNode) → built r flat ≡ map (both_forms r) (formulas flat)
+  built_is flat = built_on flat []
+
+  -- one more node
+  pub built_push : (flat : List FlatNode) (v : FlatNode) → built r (flat ++ v ∷ []) ≡ built r flat ++ both_of r (both_in (built r flat)) v ∷ []
+  built_push flat v = fold-append (with_both r) [] flat (v ∷ [])
+
+  -- what is translated stands at the formula's number
+  pub built_core : (flat : List FlatNode) (k : ℕ) (negate : Bool) → core (formula_in (formulas flat) k) negate r ≡ (let x = both_in (built r flat) k in if negate then x.no else x.yes)
+  built_core flat k negate = at negate (ap (λ xs. both_in xs k) (built_is flat) ∙ both_at (formulas flat) k)
+    where
+      at : (b : Bool) → both_in (built r flat) k ≡ both_forms r (formula_in (formulas flat) k) → core (formula_in (formulas flat) k) b r ≡ cond b (both_in (built r flat) k).no (both_in (built r flat) k).yes
+      at true e = core_is (formula_in (formulas flat) k) true r ∙ sym (ap (λ (x : Both). x.no) e)
+      at false e = core_is (formula_in (formulas flat) k) false r ∙ sym (ap (λ (x : Both). x.yes) e)
+
+-- one more node brings its formula
+pub formulas_push : (flat : List FlatNode) (v : FlatNode) → formulas (flat ++ v ∷ []) ≡ formulas flat ++ formula_of (formula_in (formulas flat)) v ∷ []
+formulas_push flat v = fold-append with_formula [] flat (v ∷ [])
+
+-- one formula for each node
+formulas_on : (flat : List FlatNode) (Fs : List Formula) → length (fold with_formula Fs flat) ≡ length Fs + length flat
+formulas_on [] Fs = omega arith
+formulas_on (v ∷ flat) Fs =
+    let e = formulas_on flat (with_formula Fs v) in
+    let d : length (with_formula Fs v) ≡ length Fs + 1 = length-append Fs (formula_of (formula_in Fs) v ∷ []) in
+    omega arith
+
+-- there are as many formulas as nodes
+pub formulas_length : (flat : List FlatNode) → length (formulas flat) ≡ length flat
+formulas_length flat = let e = formulas_on flat [] in omega arith
+
+-- the equations at each operator, for rewriting from left to right
+pub ruleset form_rules = (
+  form_constant,
+  negated_constant,
+  form_proposition,
+  form_not,
+  form_next,
+  form_always,
+  negated_always,
+  form_eventually,
+  negated_eventually,
+  form_and,
+  negated_and,
+  form_or,
+  negated_or,
+  form_implies,
+  negated_implies,
+  form_iff,
+  negated_iff,
+  form_until,
+  negated_until,
+  form_release,
+  negated_release,
+)

@@ -1,0 +1,427 @@
+-- Rewriting over shared nodes: which number or node stands for the rewritten tree, decided by numbers alone.
+use Rattle.std.proofs.Common.{◌≡◌, ℕ, suc, ◌<◌, ◌≤◌, Bool, true, false, cond, eqb, ◌⊎◌, inl, inr, List, [], ◌∷◌, ◌++◌, map, length, refl, sym, ◌∙◌, ap, subst, arith, length-append}
+use Rattle.std.specs.Prelude.{◌==◌, ◌||◌, ◌&&◌, if◌then◌else◌, slice_index_or}
+use Rattle.std.proofs.lemmas.List.{get_or-map, get_or_append_left, map_push}
+use Rattle.ltl_spec.specs.Collections.Sets.{Has}
+use Rattle.ltl_spec.specs.Formulas.Formula.{UnaryOperator, BinaryOperator}
+use Rattle.ltl_spec.specs.NormalForms.Normal.{Normal, Top, Bottom, Leaf, Next, And, Or, Until, Release, same}
+use Rattle.ltl_spec.specs.NormalForms.NormalForm.{is_eventually, is_always, simple_and, simple_or, simple_next, simple_until, simple_release}
+use Rattle.ltl_spec.proofs.NormalForms.RowsCollected.{same_number}
+use Rattle.ltl_spec.proofs.NormalForms.SharedNodes.{Node, TopNode, BottomNode, LeafNode, NextNode, AndNode, OrNode, UntilNode, ReleaseNode, parts_of, tree_of, tree_at, node_at, AllBefore, IsShared, index_last, tree_old, tree_new, shared_found, shared_push, shared_graph, nodes_before}
+use Rattle.ltl_spec.specs.NormalForms.NormalForm.{core}
+use Rattle.ltl_spec.proofs.NormalForms.BothPolarities.{Both, FlatNode, made_next, made_and, made_or, made_until, made_release, both_in, both_of, both_forms, formula_in, formulas, formulas_length, built, built_is, built_push, built_core, both_unary, both_binary, FlatUnary, FlatBinary}
+use Rattle.ltl_spec.proofs.Collections.MemberLaws.{map_length}
+use Rattle.ltl_spec.proofs.Collections.CaseLaws.{last_or_below}
+
+-- more nodes
+
+-- the second list has all nodes of the first, under their numbers
+pub record IsMore (nodes more : List Node) : Type 0 where
+  pub longer : length nodes ≤ length more
+  pub old : (k : ℕ) → k < length nodes → tree_at more k ≡ tree_at nodes k
+
+-- the nodes themselves
+pub more_same : (nodes : List Node) → IsMore nodes nodes
+more_same nodes = record { longer = omega arith; old = λ k l. refl }
+
+-- more than more
+pub more_on : (nodes more most : List Node) → IsMore nodes more → IsMore more most → IsMore nodes most
+more_on nodes more most m n = record {
+  longer = let a = m.longer in let b = n.longer in omega arith;
+  old = λ k l. let a = m.longer in n.old k (omega arith) ∙ m.old k l;
+}
+
+-- one more
+pub more_push : (nodes : List Node) (v : Node) → IsMore nodes (nodes ++ v ∷ [])
+more_push nodes v = record { longer = let e = length-append nodes (v ∷ []) in omega arith; old = tree_old nodes v }
+
+-- the nodes are shared, have those that were there, and the number stands for this tree
+pub record IsMade (nodes more : List Node) (k : ℕ) (F : Normal) : Type 0 where
+  pub shared : IsShared more
+  pub keeps : IsMore nodes more
+  pub inside : k < length more
+  pub tree : tree_at more k ≡ F
+
+-- the number is there, and stands for this tree
+pub record StandsFor (nodes : List Node) (k : ℕ) (F : Normal) : Type 0 where
+  pub inside : k < length nodes
+  pub tree : tree_at nodes k ≡ F
+
+-- among more nodes it still does
+pub stands_more : (nodes more : List Node) (k : ℕ) (F : Normal) → IsMore nodes more → StandsFor nodes k F → StandsFor more k F
+stands_more nodes more k F m x = let l = m.longer in let i = x.inside in record { inside = omega arith; tree = m.old k i ∙ x.tree }
+
+-- so does what was made
+pub made_stands : (nodes more : List Node) (k : ℕ) (F : Normal) → IsMade nodes more k F → StandsFor more k F
+made_stands nodes more k F x = record { inside = x.inside; tree = x.tree }
+
+-- what is made after something else was made
+pub made_then : (nodes more most : List Node) (k : ℕ) (F : Normal) → IsMore nodes more → IsMade more most k F → IsMade nodes most k F
+made_then nodes more most k F m x = record { shared = x.shared; keeps = more_on nodes more most m x.keeps; inside = x.inside; tree = x.tree }
+
+-- the same by another name of the tree
+pub made_as : (nodes more : List Node) (k : ℕ) (F G : Normal) → IsMade nodes more k F → F ≡ G → IsMade nodes more k G
+made_as nodes more k F G x e = record { shared = x.shared; keeps = x.keeps; inside = x.inside; tree = x.tree ∙ e }
+
+module _ (nodes : List Node) (s : IsShared nodes) where
+  -- a number that is taken as it is
+  pub made_old : (k : ℕ) → k < length nodes → IsMade nodes nodes k (tree_at nodes k)
+  made_old k l = record { shared = s; keeps = more_same nodes; inside = l; tree = refl }
+
+  -- a node that was found
+  pub made_found : (k : ℕ) (v : Node) → k < length nodes → node_at nodes k ≡ v → IsMade nodes nodes k (tree_of (tree_at nodes) v)
+  made_found k v l e = record { shared = s; keeps = more_same nodes; inside = l; tree = shared_found nodes s k l v e }
+
+  -- a node that was not there and is put behind the others
+  pub made_pushed : (v : Node) → AllBefore (length nodes) v → ¬ (Has nodes v) → IsMade nodes (nodes ++ v ∷ []) (length nodes) (tree_of (tree_at nodes) v)
+  made_pushed v before new = record {
+    shared = shared_push nodes s v before new;
+    keeps = more_push nodes v;
+    inside = let e = length-append nodes (v ∷ []) in omega arith;
+    tree = tree_new nodes v;
+  }
+
+-- choices
+
+-- what stands for a tree: a number that is there, or a node, which may be there or not
+pub data Choice : Type 0 where
+  Old : ℕ → Choice
+  New : Node → Choice
+
+-- the tree that is chosen
+abbrev pub choice_tree : List Node → Choice → Normal
+choice_tree nodes (Old k) = tree_at nodes k
+choice_tree nodes (New v) = tree_of (tree_at nodes) v
+
+-- `true U ..` and `false V ..`, by the number of the constant
+abbrev pub is_eventually_node : ℕ → Node → Bool
+is_eventually_node top (UntilNode i j) = i == top
+is_eventually_node top _ = false
+
+-- the other one
+abbrev pub is_always_node : ℕ → Node → Bool
+is_always_node bottom (ReleaseNode i j) = i == bottom
+is_always_node bottom _ = false
+
+-- the table of rewriting over numbers; v is the node of number j
+abbrev pub choose_next : ℕ → ℕ → ℕ → Choice
+choose_next top bottom i = if i == top || i == bottom then Old i else New (NextNode i)
+
+-- and
+abbrev pub choose_and : ℕ → ℕ → ℕ → ℕ → Choice
+choose_and top bottom i j =
+    if i == top then Old j else
+    if j == top then Old i else
+    if i == bottom || j == bottom then Old bottom else
+    if i == j then Old i else New (AndNode i j)
+
+-- or
+abbrev pub choose_or : ℕ → ℕ → ℕ → ℕ → Choice
+choose_or top bottom i j =
+    if i == bottom then Old j else
+    if j == bottom then Old i else
+    if i == top || j == top then Old top else
+    if i == j then Old i else New (OrNode i j)
+
+-- `U`
+abbrev pub choose_until : ℕ → ℕ → ℕ → ℕ → Node → Choice
+choose_until top bottom i j v =
+    if j == top || j == bottom then Old j else
+    if i == bottom || i == j then Old j else
+    if i == top && is_eventually_node top v then Old j else New (UntilNode i j)
+
+-- `V`
+abbrev pub choose_release : ℕ → ℕ → ℕ → ℕ → Node → Choice
+choose_release top bottom i j v =
+    if j == top || j == bottom then Old j else
+    if i == top || i == j then Old j else
+    if i == bottom && is_always_node bottom v then Old j else New (ReleaseNode i j)
+
+-- the nodes are shared, and these numbers stand for the constants
+pub record HasConstants (nodes : List Node) (top bottom : ℕ) : Type 0 where
+  pub shared : IsShared nodes
+  pub top_inside : top < length nodes
+  pub bottom_inside : bottom < length nodes
+  pub top_is : tree_at nodes top ≡ Top
+  pub bottom_is : tree_at nodes bottom ≡ Bottom
+
+-- more nodes have the constants too
+pub constants_more : (nodes more : List Node) (top bottom : ℕ) → HasConstants nodes top bottom → IsMore nodes more → IsShared more → HasConstants more top bottom
+constants_more nodes more top bottom c m s =
+    let l = m.longer in
+    let a = c.top_inside in
+    let b = c.bottom_inside in
+    record {
+      shared = s;
+      top_inside = omega arith;
+      bottom_inside = omega arith;
+      top_is = m.old top a ∙ c.top_is;
+      bottom_is = m.old bottom b ∙ c.bottom_is;
+    }
+
+-- the test looks at the left operand
+until_top : (a b : Normal) → is_eventually (Until a b) ≡ same a Top
+until_top Top b = refl
+until_top Bottom b = refl
+until_top (Leaf l) b = refl
+until_top (Next a) b = refl
+until_top (And a c) b = refl
+until_top (Or a c) b = refl
+until_top (Until a c) b = refl
+until_top (Release a c) b = refl
+
+-- and so does the other
+release_bottom : (a b : Normal) → is_always (Release a b) ≡ same a Bottom
+release_bottom Top b = refl
+release_bottom Bottom b = refl
+release_bottom (Leaf l) b = refl
+release_bottom (Next a) b = refl
+release_bottom (And a c) b = refl
+release_bottom (Or a c) b = refl
+release_bottom (Until a c) b = refl
+release_bottom (Release a c) b = refl
+
+module _ (nodes : List Node) (top bottom : ℕ) (c : HasConstants nodes top bottom) where
+  -- the tree of a number
+  abbrev tree : ℕ → Normal
+  tree k = tree_at nodes k
+
+  -- the tests of the table, by numbers
+  pub same_test : (i j : ℕ) → i < length nodes → j < length nodes → eqb i j ≡ same (tree i) (tree j)
+  same_test i j l m = sym (same_number tree (λ k. parts_of (node_at nodes k)) (length nodes) (shared_graph nodes c.shared) i j l m)
+
+  -- a number is that of the constant exactly where its tree is it
+  pub top_test : (i : ℕ) → i < length nodes → eqb i top ≡ same (tree i) Top
+  top_test i l = same_test i top l c.top_inside ∙ ap (same (tree i)) c.top_is
+
+  -- the same for the other constant
+  pub bottom_test : (i : ℕ) → i < length nodes → eqb i bottom ≡ same (tree i) Bottom
+  bottom_test i l = same_test i bottom l c.bottom_inside ∙ ap (same (tree i)) c.bottom_is
+
+  -- the test on a node is that on its tree
+  eventually_of : (v : Node) → AllBefore (length nodes) v → is_eventually_node top v ≡ is_eventually (tree_of (tree_at nodes) v)
+  eventually_of TopNode b = refl
+  eventually_of BottomNode b = refl
+  eventually_of (LeafNode l) b = refl
+  eventually_of (NextNode i) b = refl
+  eventually_of (AndNode i j) b = refl
+  eventually_of (OrNode i j) b = refl
+  eventually_of (UntilNode i j) b = top_test i (b i (inl refl)) ∙ sym (until_top (tree i) (tree j))
+  eventually_of (ReleaseNode i j) b = refl
+
+  -- the same for the other
+  always_of : (v : Node) → AllBefore (length nodes) v → is_always_node bottom v ≡ is_always (tree_of (tree_at nodes) v)
+  always_of TopNode b = refl
+  always_of BottomNode b = refl
+  always_of (LeafNode l) b = refl
+  always_of (NextNode i) b = refl
+  always_of (AndNode i j) b = refl
+  always_of (OrNode i j) b = refl
+  always_of (UntilNode i j) b = refl
+  always_of (ReleaseNode i j) b = bottom_test i (b i (inl refl)) ∙ sym (release_bottom (tree i) (tree j))
+
+  -- the test on the node of a number is that on its tree
+  pub eventually_test : (j : ℕ) → j < length nodes → is_eventually_node top (node_at nodes j) ≡ is_eventually (tree j)
+  eventually_test j l = eventually_of (node_at nodes j) (nodes_before nodes c.shared j l) ∙ ap is_eventually (sym (c.shared.stands j l))
+
+  -- the same for the other
+  pub always_test : (j : ℕ) → j < length nodes → is_always_node bottom (node_at nodes j) ≡ is_always (tree j)
+  always_test j l = always_of (node_at nodes j) (nodes_before nodes c.shared j l) ∙ ap is_always (sym (c.shared.stands j l))
+
+  -- choosing by a test
+  either_tree : (b : Bool) (x y : Choice) → choice_tree nodes (cond b x y) ≡ cond b (choice_tree nodes x) (choice_tree nodes y)
+  either_tree true x y = refl
+  either_tree false x y = refl
+
+  -- choosing by three tests
+  by_tests : (s t u : Bool) (x y z w : Choice) → choice_tree nodes (cond s x (cond t y (cond u z w))) ≡ cond s (choice_tree nodes x) (cond t (choice_tree nodes y) (cond u (choice_tree nodes z) (choice_tree nodes w)))
+  by_tests s t u x y z w =
+      either_tree s x (cond t y (cond u z w))
+      ∙ ap (cond s (choice_tree nodes x)) (either_tree t y (cond u z w) ∙ ap (cond t (choice_tree nodes y)) (either_tree u z w))
+
+  -- what is chosen stands for the rewritten tree
+  pub next_choice : (i : ℕ) → i < length nodes → choice_tree nodes (choose_next top bottom i) ≡ simple_next (tree i)
+  next_choice i l =
+      let t = top_test i l in
+      let b = bottom_test i l in
+      either_tree (i == top || i == bottom) (Old i) (New (NextNode i)) ∙ (λ k. cond (t k || b k) (tree i) (Next (tree i)))
+
+  module _ (i j : ℕ) (l : i < length nodes) (m : j < length nodes) where
+    -- and
+    pub and_choice : choice_tree nodes (choose_and top bottom i j) ≡ simple_and (tree i) (tree j)
+    and_choice =
+        let ti = top_test i l in
+        let tj = top_test j m in
+        let bi = bottom_test i l in
+        let bj = bottom_test j m in
+        let e = same_test i j l m in
+        let b = c.bottom_is in
+        by_tests (i == top) (j == top) (i == bottom || j == bottom) (Old j) (Old i) (Old bottom) (if i == j then Old i else New (AndNode i j))
+        ∙ ap (λ F. cond (i == top) (tree j) (cond (j == top) (tree i) (cond (i == bottom || j == bottom) (tree bottom) F))) (either_tree (i == j) (Old i) (New (AndNode i j)))
+        ∙ (λ k. cond (ti k) (tree j) (cond (tj k) (tree i) (cond (bi k || bj k) (b k) (cond (e k) (tree i) (And (tree i) (tree j))))))
+
+    -- or
+    pub or_choice : choice_tree nodes (choose_or top bottom i j) ≡ simple_or (tree i) (tree j)
+    or_choice =
+        let ti = top_test i l in
+        let tj = top_test j m in
+        let bi = bottom_test i l in
+        let bj = bottom_test j m in
+        let e = same_test i j l m in
+        let t = c.top_is in
+        by_tests (i == bottom) (j == bottom) (i == top || j == top) (Old j) (Old i) (Old top) (if i == j then Old i else New (OrNode i j))
+        ∙ ap (λ F. cond (i == bottom) (tree j) (cond (j == bottom) (tree i) (cond (i == top || j == top) (tree top) F))) (either_tree (i == j) (Old i) (New (OrNode i j)))
+        ∙ (λ k. cond (bi k) (tree j) (cond (bj k) (tree i) (cond (ti k || tj k) (t k) (cond (e k) (tree i) (Or (tree i) (tree j))))))
+
+    -- `U`
+    pub until_choice : choice_tree nodes (choose_until top bottom i j (node_at nodes j)) ≡ simple_until (tree i) (tree j)
+    until_choice =
+        let ti = top_test i l in
+        let tj = top_test j m in
+        let bi = bottom_test i l in
+        let bj = bottom_test j m in
+        let e = same_test i j l m in
+        let v = eventually_test j m in
+        by_tests (j == top || j == bottom) (i == bottom || i == j) (i == top && is_eventually_node top (node_at nodes j)) (Old j) (Old j) (Old j) (New (UntilNode i j))
+        ∙ (λ k. cond (tj k || bj k) (tree j) (cond (bi k || e k) (tree j) (cond (ti k && v k) (tree j) (Until (tree i) (tree j)))))
+
+    -- `V`
+    pub release_choice : choice_tree nodes (choose_release top bottom i j (node_at nodes j)) ≡ simple_release (tree i) (tree j)
+    release_choice =
+        let ti = top_test i l in
+        let tj = top_test j m in
+        let bi = bottom_test i l in
+        let bj = bottom_test j m in
+        let e = same_test i j l m in
+        let v = always_test j m in
+        by_tests (j == top || j == bottom) (i == top || i == j) (i == bottom && is_always_node bottom (node_at nodes j)) (Old j) (Old j) (Old j) (New (ReleaseNode i j))
+        ∙ (λ k. cond (tj k || bj k) (tree j) (cond (ti k || e k) (tree j) (cond (bi k && v k) (tree j) (Release (tree i) (tree j)))))
+
+-- with rewriting or without it
+module _ (nodes : List Node) (top bottom : ℕ) (c : HasConstants nodes top bottom) (rewrite : Bool) where
+  -- one of two choices
+  either_made : (x y : Choice) (F : Normal) → choice_tree nodes x ≡ F → choice_tree nodes (if rewrite then x else y) ≡ (if rewrite then F else choice_tree nodes y)
+  either_made x y F e = either_tree nodes top bottom c rewrite x y ∙ ap (λ G. cond rewrite G (choice_tree nodes y)) e
+
+  -- `X`
+  pub made_next_choice : (i : ℕ) → i < length nodes → choice_tree nodes (if rewrite then choose_next top bottom i else New (NextNode i)) ≡ made_next rewrite (tree_at nodes i)
+  made_next_choice i l = either_made (choose_next top bottom i) (New (NextNode i)) (simple_next (tree_at nodes i)) (next_choice nodes top bottom c i l)
+
+  module _ (i j : ℕ) (l : i < length nodes) (m : j < length nodes) where
+    -- and
+    pub made_and_choice : choice_tree nodes (if rewrite then choose_and top bottom i j else New (AndNode i j)) ≡ made_and rewrite (tree_at nodes i) (tree_at nodes j)
+    made_and_choice = either_made (choose_and top bottom i j) (New (AndNode i j)) (simple_and (tree_at nodes i) (tree_at nodes j)) (and_choice nodes top bottom c i j l m)
+
+    -- or
+    pub made_or_choice : choice_tree nodes (if rewrite then choose_or top bottom i j else New (OrNode i j)) ≡ made_or rewrite (tree_at nodes i) (tree_at nodes j)
+    made_or_choice = either_made (choose_or top bottom i j) (New (OrNode i j)) (simple_or (tree_at nodes i) (tree_at nodes j)) (or_choice nodes top bottom c i j l m)
+
+    -- `U`
+    pub made_until_choice : choice_tree nodes (if rewrite then choose_until top bottom i j (node_at nodes j) else New (UntilNode i j)) ≡ made_until rewrite (tree_at nodes i) (tree_at nodes j)
+    made_until_choice =
+        either_made (choose_until top bottom i j (node_at nodes j)) (New (UntilNode i j)) (simple_until (tree_at nodes i) (tree_at nodes j)) (until_choice nodes top bottom c i j l m)
+
+    -- `V`
+    pub made_release_choice : choice_tree nodes (if rewrite then choose_release top bottom i j (node_at nodes j) else New (ReleaseNode i j)) ≡ made_release rewrite (tree_at nodes i) (tree_at nodes j)
+    made_release_choice =
+        either_made (choose_release top bottom i j (node_at nodes j)) (New (ReleaseNode i j)) (simple_release (tree_at nodes i) (tree_at nodes j)) (release_choice nodes top bottom c i j l m)
+
+-- the loop over the nodes of a formula
+
+-- the numbers of both forms of a formula
+pub record Numbers : Type 0 where
+  pub yes : ℕ
+  pub no : ℕ
+
+-- what they stand for
+abbrev pub stand_for : List Node → Numbers → Both
+stand_for nodes p = record { yes = tree_at nodes p.yes; no = tree_at nodes p.no }
+
+-- what the pairs stand for, where both numbers of each are there
+pub record IsBuilt (rewrite : Bool) (nodes : List Node) (pairs : List Numbers) (flat : List FlatNode) : Type 0 where
+  pub yes_inside : (k : ℕ) (d : Numbers) → k < length pairs → (slice_index_or pairs k d).yes < length nodes
+  pub no_inside : (k : ℕ) (d : Numbers) → k < length pairs → (slice_index_or pairs k d).no < length nodes
+  pub forms : map (stand_for nodes) pairs ≡ built rewrite flat
+
+-- at first there is none
+pub built_begins : (rewrite : Bool) (nodes : List Node) → IsBuilt rewrite nodes [] []
+built_begins rewrite nodes = record { yes_inside = λ k d l. absurd (omega arith); no_inside = λ k d l. absurd (omega arith); forms = refl }
+
+module _ (rewrite : Bool) (nodes : List Node) (pairs : List Numbers) (flat : List FlatNode) (b : IsBuilt rewrite nodes pairs flat) where
+  -- as many pairs as nodes of the formula
+  pub built_length : length pairs ≡ length flat
+  built_length =
+      let e : length (map (stand_for nodes) pairs) ≡ length pairs = map_length (stand_for nodes) pairs in
+      let d : length (built rewrite flat) ≡ length (formulas flat) = ap length (built_is rewrite flat) ∙ map_length (both_forms rewrite) (formulas flat) in
+      let f : length (map (stand_for nodes) pairs) ≡ length (built rewrite flat) = ap length b.forms in
+      let g = formulas_length flat in
+      omega arith
+
+  -- the pair of a node stands for both forms of its formula
+  pub built_at : (k : ℕ) (d : Numbers) → k < length pairs → both_in (built rewrite flat) k ≡ stand_for nodes (slice_index_or pairs k d)
+  built_at k d l = ap (λ xs. both_in xs k) (sym b.forms) ∙ get_or-map (stand_for nodes) pairs k d (record { yes = Bottom; no = Top }) l
+
+  -- one of its two numbers stands for what is translated
+  pub built_translated : (k : ℕ) (d : Numbers) (negate : Bool) → k < length pairs
+      → core (formula_in (formulas flat) k) negate rewrite ≡ tree_at nodes (let p = slice_index_or pairs k d in if negate then p.no else p.yes)
+  built_translated k d negate l = built_core rewrite flat k negate ∙ at negate (built_at k d l)
+    where
+      at : (t : Bool) → both_in (built rewrite flat) k ≡ stand_for nodes (slice_index_or pairs k d)
+          → cond t (both_in (built rewrite flat) k).no (both_in (built rewrite flat) k).yes ≡ tree_at nodes (cond t (slice_index_or pairs k d).no (slice_index_or pairs k d).yes)
+      at true e = ap (λ (x : Both). x.no) e
+      at false e = ap (λ (x : Both). x.yes) e
+
+  -- more nodes change nothing
+  pub built_more : (more : List Node) → IsMore nodes more → IsBuilt rewrite more pairs flat
+  built_more more m = record {
+    yes_inside = λ k d l. let a = b.yes_inside k d l in let n = m.longer in omega arith;
+    no_inside = λ k d l. let a = b.no_inside k d l in let n = m.longer in omega arith;
+    forms = same_forms pairs b.yes_inside b.no_inside ∙ b.forms;
+  }
+    where
+      same_forms : (ps : List Numbers) → ((k : ℕ) (d : Numbers) → k < length ps → (slice_index_or ps k d).yes < length nodes) → ((k : ℕ) (d : Numbers) → k < length ps → (slice_index_or ps k d).no < length nodes)
+          → map (stand_for more) ps ≡ map (stand_for nodes) ps
+      same_forms [] y n = refl
+      same_forms (p ∷ ps) y n =
+          let first_yes = m.old p.yes (y 0 p (omega arith)) in
+          let first_no = m.old p.no (n 0 p (omega arith)) in
+          let rest = same_forms ps (λ k d l. y (suc k) d (omega arith)) (λ k d l. n (suc k) d (omega arith)) in
+          λ i. record { yes = first_yes i; no = first_no i } ∷ rest i
+
+  -- one more pair that stands for both forms of the next node
+  pub built_next : (v : FlatNode) (p : Numbers) → p.yes < length nodes → p.no < length nodes → stand_for nodes p ≡ both_of rewrite (both_in (built rewrite flat)) v → IsBuilt rewrite nodes (pairs ++ p ∷ []) (flat ++ v ∷ [])
+  built_next v p y n e = record {
+    yes_inside = λ k d l. elim (at k l) [
+      | inl m ↦ subst (λ (q : Numbers). q.yes < length nodes) (sym (get_or_append_left pairs (p ∷ []) d k m)) (b.yes_inside k d m)
+      | inr i ↦ subst (λ j. (slice_index_or (pairs ++ p ∷ []) j d).yes < length nodes) (sym i) (subst (λ (q : Numbers). q.yes < length nodes) (sym (index_last pairs p d)) y)
+    ];
+    no_inside = λ k d l. elim (at k l) [
+      | inl m ↦ subst (λ (q : Numbers). q.no < length nodes) (sym (get_or_append_left pairs (p ∷ []) d k m)) (b.no_inside k d m)
+      | inr i ↦ subst (λ j. (slice_index_or (pairs ++ p ∷ []) j d).no < length nodes) (sym i) (subst (λ (q : Numbers). q.no < length nodes) (sym (index_last pairs p d)) n)
+    ];
+    forms = map_push (stand_for nodes) pairs p ∙ (λ i. b.forms i ++ e i ∷ []) ∙ sym (built_push rewrite flat v);
+  }
+    where
+      at : (k : ℕ) → k < length (pairs ++ p ∷ []) → (k < length pairs) ⊎ (k ≡ length pairs)
+      at k l = let o = length-append pairs (p ∷ []) in last_or_below k (length pairs) (omega arith)
+
+  -- what stands for both forms of the operand of a node
+  pub built_unary : (op : UnaryOperator) (i : ℕ) (d : Numbers) → i < length pairs → both_of rewrite (both_in (built rewrite flat)) (FlatUnary op i) ≡ both_unary rewrite op (stand_for nodes (slice_index_or pairs i d))
+  built_unary op i d l = ap (both_unary rewrite op) (built_at i d l)
+
+  -- and of two operands
+  pub built_binary : (op : BinaryOperator) (i j : ℕ) (d e : Numbers) → i < length pairs → j < length pairs
+      → both_of rewrite (both_in (built rewrite flat)) (FlatBinary op i j) ≡ both_binary rewrite op (stand_for nodes (slice_index_or pairs i d)) (stand_for nodes (slice_index_or pairs j e))
+  built_binary op i j d e l m =
+      let p = built_at i d l in
+      let q = built_at j e m in
+      λ t. both_binary rewrite op (p t) (q t)
+
+-- a step of the loop: among more nodes two numbers stand for both forms of the next node
+pub built_step : (rewrite : Bool) (nodes more : List Node) (pairs : List Numbers) (flat : List FlatNode) (v : FlatNode) (p : Numbers) (F G : Normal) → IsBuilt rewrite nodes pairs flat → IsMore nodes more
+    → StandsFor more p.yes F → StandsFor more p.no G → both_of rewrite (both_in (built rewrite flat)) v ≡ record { yes = F; no = G } → IsBuilt rewrite more (pairs ++ p ∷ []) (flat ++ v ∷ [])
+built_step rewrite nodes more pairs flat v p F G b m y n e =
+    let yes_tree = y.tree in
+    let no_tree = n.tree in
+    let both : stand_for more p ≡ record { yes = F; no = G } = λ i. record { yes = yes_tree i; no = no_tree i } in
+    built_next rewrite more pairs flat (built_more rewrite nodes pairs flat b more m) v p y.inside n.inside (both ∙ sym e)

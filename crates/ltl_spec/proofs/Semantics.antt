@@ -1,0 +1,19 @@
+-- When a formula holds, which words an automaton accepts.
+pub mod UntilLaws
+pub mod LassoLaws
+pub mod NormalFormLaws
+pub mod SimplifiedLaws
+pub mod CoreLaws
+pub mod Pigeonhole
+pub mod StepLaws
+pub mod Runs
+pub mod RunLaws
+pub mod SupportLaws
+pub mod TargetLaws
+pub mod PickLaws
+pub mod RowRuns
+pub mod RunHolds
+pub mod HoldsRun
+pub mod GeneralizedLaws
+pub mod GeneralizedLasso
+pub mod LanguageLaws

@@ -1,0 +1,53 @@
+-- What is searched: closed walks of a graph that have an edge of every set, and the words along them.
+use Rattle.std.specs.Prelude.{◌≡◌, ◌≢◌, ℕ, ◌<◌, List, [], ◌∷◌, map, filter, slice_index_or}
+use Rattle.ltl_spec.specs.Collections.Sets.{Has, set_of}
+use Rattle.ltl_spec.specs.Transitions.Cubes.{Cube}
+use Rattle.ltl_spec.specs.Semantics.Word.{Name, name_cmp, Letter, Lasso}
+use Rattle.ltl_spec.specs.Automata.Automaton.{Automaton, Edge, state_at}
+use Rattle.ltl_spec.specs.Construction.Levels.{next_level, Copy}
+
+module _ (P : Automaton) where
+  -- the edges lead from one state to the other, whatever the word
+  abbrev pub IsPath : ℕ → List Edge → ℕ → Type 0
+  IsPath s [] t = s ≡ t
+  IsPath s (e ∷ es) t = Has (state_at P s).edges e × IsPath e.target es t
+
+  -- a closed path that isn't empty and has an edge of every set
+  pub record IsFullTurn (s : ℕ) (turn : List Edge) : Type 0 where
+    pub closes : IsPath s turn s
+    pub moves : turn ≢ []
+    pub marks : (k : ℕ) → k < P.sets → (e : Edge) × Has turn e × Has e.marks k
+
+  -- a path from the start leads to such a turn
+  pub record HasAcceptingWalk (start : ℕ) : Type 0 where
+    pub state : ℕ
+    pub way : List Edge
+    pub turn : List Edge
+    pub arrives : IsPath start way state
+    pub turns : IsFullTurn state turn
+
+  -- the copy to which an edge leads
+  abbrev pub copy_after : Copy → Edge → Copy
+  copy_after p e = record { state = e.target; level = next_level P.sets e.marks p.level }
+
+  -- the edges lead from one copy to the other
+  abbrev pub IsLevelPath : Copy → List Edge → Copy → Type 0
+  IsLevelPath p [] q = p ≡ q
+  IsLevelPath p (e ∷ es) q = Has (state_at P p.state).edges e × IsLevelPath (copy_after p e) es q
+
+  -- a path from the start leads to a copy on the last level, and a path that isn't empty back to it
+  pub record HasLevelWalk (start : ℕ) : Type 0 where
+    pub state : ℕ
+    pub way : List Edge
+    pub turn : List Edge
+    pub arrives : IsLevelPath (record { state = start; level = 0 }) way (record { state = state; level = P.sets })
+    pub closes : IsLevelPath (record { state = state; level = P.sets }) turn (record { state = state; level = P.sets })
+    pub moves : turn ≢ []
+
+-- the letter in which the names of the positive literals are true, and nothing else
+abbrev pub letter_of : List Name → Cube → Letter
+letter_of names c = set_of name_cmp (map (λ l. slice_index_or names l.proposition []) (filter (λ l. l.positive) c))
+
+-- the letters along a way and a turn
+abbrev pub lasso_along : List Name → List Edge → List Edge → Lasso
+lasso_along names way turn = record { stem = map (λ e. letter_of names e.cube) way; cycle = map (λ e. letter_of names e.cube) turn }

@@ -1,0 +1,3 @@
+-- Sets and lists.
+pub mod Sets
+pub mod Lists

@@ -1,0 +1,71 @@
+-- From acceptance sets on edges to accepting states: copies of each state, one for each number of sets met in turn.
+use Rattle.std.specs.Prelude.{ℕ, zero, suc, ◌+◌, ◌-◌, ◌*◌, Bool, ◌&&◌, ◌==◌, if◌then◌else◌, List, [], map, length}
+use Rattle.std.specs.declared.cmp.Ordering.{Ordering}
+use Rattle.std.specs.Ordering.{nat_cmp, on, then_cmp}
+use Rattle.ltl_spec.specs.Collections.Sets.{set_of, has}
+use Rattle.ltl_spec.specs.Collections.Lists.{place_of}
+use Rattle.ltl_spec.specs.Transitions.Cubes.{Cube, cube_cmp}
+use Rattle.ltl_spec.specs.Automata.Listing.{listing, PassesLimits}
+use Rattle.ltl_spec.specs.Automata.Automaton.{Automaton, State, Edge, edge_cmp, state_at}
+
+-- up from a level, at most n levels, as long as the marks hold the set that comes next
+abbrev pub climb : ℕ → List ℕ → ℕ → ℕ
+climb zero marks level = level
+climb (suc n) marks level = if has nat_cmp level marks then climb n marks (level + 1) else level
+
+-- the level to which an edge leads: of so many sets, from the last level as from the first
+abbrev pub next_level : ℕ → List ℕ → ℕ → ℕ
+next_level sets marks level = let from = if level == sets then 0 else level in climb (sets - from) marks from
+
+-- a state on a level
+pub record Copy : Type 0 where
+  pub state : ℕ
+  pub level : ℕ
+
+-- where the copies begin
+abbrev pub start_copy : Copy
+start_copy = record { state = 0; level = 0 }
+
+abbrev pub same_copy : Copy → Copy → Bool
+same_copy p q = p.state == q.state && p.level == q.level
+
+-- an edge to a copy
+pub record CopyEdge : Type 0 where
+  pub cube : Cube
+  pub copy : Copy
+
+-- by the literals, then by the state, then by the level
+abbrev pub copy_edge_cmp : CopyEdge → CopyEdge → Ordering
+copy_edge_cmp = then_cmp (on (λ e. e.cube) cube_cmp) (then_cmp (on (λ e. e.copy.state) nat_cmp) (on (λ e. e.copy.level) nat_cmp))
+
+module _ (A : Automaton) where
+  -- the edge of a copy on this level
+  abbrev pub copy_edge : ℕ → Edge → CopyEdge
+  copy_edge level e = record { cube = e.cube; copy = record { state = e.target; level = next_level A.sets e.marks level } }
+
+  -- the edges of a copy, as a set
+  abbrev pub copy_edges : Copy → List CopyEdge
+  copy_edges p = set_of copy_edge_cmp (map (copy_edge p.level) (state_at A p.state).edges)
+
+  abbrev pub copy_targets : Copy → List Copy
+  copy_targets p = map (λ e. e.copy) (copy_edges p)
+
+  -- the copies that are reached
+  abbrev pub copies : List Copy
+  copies = listing same_copy copy_targets start_copy (length A.states * (A.sets + 1))
+
+  -- the edge to the place of a copy in this list
+  abbrev pub edge_to_copy : List Copy → CopyEdge → Edge
+  edge_to_copy list e = record { cube = e.cube; target = place_of same_copy e.copy list; marks = [] }
+
+  -- the state of a copy, where the copies stand in this list; its edges are a set
+  abbrev pub copy_state : List Copy → Copy → State
+  copy_state list p = record { accepting = p.level == A.sets; edges = set_of edge_cmp (map (edge_to_copy list) (copy_edges p)) }
+
+  -- the Büchi automaton of the copies; those on the last level are accepting
+  abbrev pub level_automaton : Automaton
+  level_automaton = let list = copies in record { sets = 0; states = map (copy_state list) list }
+
+  -- it has too many states or edges
+  abbrev pub HasTooManyCopies : ℕ → ℕ → Type 0
+  HasTooManyCopies = PassesLimits same_copy copy_targets start_copy

@@ -1,0 +1,6 @@
+-- Automata as they are read.
+pub mod HoaToken
+pub mod HoaLabel
+pub mod HoaReading
+pub mod HoaFaultKind
+pub mod HoaFault

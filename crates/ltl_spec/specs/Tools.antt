@@ -1,0 +1,5 @@
+-- The three programs: limits, refusals, answers.
+pub mod Limits
+pub mod Refusal
+pub mod Outcome
+pub mod Programs

@@ -1,0 +1,3 @@
+-- Texts of ultimately periodic words, and their least form.
+pub mod LassoText
+pub mod LeastForm
