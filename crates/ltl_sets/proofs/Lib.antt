@@ -1,0 +1,5 @@
+pub mod CubeLaws
+pub mod CubeOrderLaws
+pub mod LaneLaws
+pub mod LiteralsLaws
+pub mod RowSetLaws

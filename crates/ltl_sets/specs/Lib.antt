@@ -1,0 +1,7 @@
+pub mod CubeEq
+pub mod Inverses
+pub mod Literals
+pub mod PlaceLaws
+pub mod SubsetLaws
+pub mod WordLaws
+pub mod Words

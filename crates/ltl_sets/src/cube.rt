@@ -1,0 +1,253 @@
+//! Sets of literals without contradiction.
+
+ghost use Rattle.std.specs.Prelude.{◌≡◌, ◌<◌, ◌≤◌, false, [], ◌∷◌, length};
+ghost use Rattle.std.specs.List.{AllByRecursion};
+ghost use Rattle.std.specs.Ordering.{nat_cmp};
+ghost use Rattle.std.specs.Iterator.{YieldsFirst, item_count};
+ghost use Rattle.std.specs.Iterator.Runs.{YieldsInOrder};
+ghost use Rattle.ltl_sets.specs.declared.literal.Literal as made;
+ghost use Rattle.ltl_spec.specs.Collections.Sets as sets;
+ghost use Rattle.ltl_spec.specs.Transitions.Cubes as cubes;
+ghost use Rattle.ltl_sets.specs.Literals.{cube_of};
+ghost use Rattle.ltl_sets.specs.Words.{letter_of};
+
+use crate::lanes;
+use crate::literal::Literal;
+use crate::row_set::{RowSet, Rows};
+use std::alloc::AllocError;
+use std::cmp::Ordering;
+use std::fmt;
+use std::hash::{Hash, Hasher};
+use std::marker::Model;
+use std::simd::prelude::*;
+use std::simd::u64x4;
+
+/// A set of literals, of propositions below [`RowSet::LIMIT`], none of which has both signs. It is
+/// seen as the list of the literals by proposition, the positive one first.
+pub struct Cube {
+    positive: u64x4,
+    negative: u64x4,
+}
+
+impl Model for Cube {
+    ghost use Rattle.std.specs.Prelude.{List, true, false};
+    ghost use Rattle.ltl_spec.specs.Transitions.Cubes as cubes;
+    ghost use Rattle.ltl_sets.specs.Words.{IsCubeWords, literals, words_with_literals};
+
+    ghost Value = { List cubes.Literal };
+
+    ghost view = { λ a. literals a.positive a.negative };
+
+    ghost invariant = { λ a. IsCubeWords a.positive a.negative };
+
+    ghost inverse = { λ ls. record { positive = words_with_literals true ls; negative = words_with_literals false ls } };
+
+    ghost use Rattle.ltl_sets.specs.Inverses.{cube_again};
+
+    ghost inverse_ok = { cube_again };
+}
+
+impl Cube {
+    pub fn empty() -> Cube
+        ensures { result ≡ [] }
+    {
+        Cube {
+            positive: u64x4::splat(0),
+            negative: u64x4::splat(0),
+        }
+    }
+
+    pub fn literal(p: usize, sign: bool) -> Cube
+        requires { p < RowSet.LIMIT }
+        ensures { result ≡ record { proposition = p; positive = sign } ∷ [] }
+    {
+        let place = lanes::single(p);
+        let none = u64x4::splat(0);
+        if sign {
+            Cube {
+                positive: place,
+                negative: none,
+            }
+        } else {
+            Cube {
+                positive: none,
+                negative: place,
+            }
+        }
+    }
+
+    /// The literals of both, or `None` where they contradict each other.
+    pub fn join(&self, other: &Cube) -> Option<Cube>
+        ensures { result ≡ cubes.join_cubes self.now other.now }
+    {
+        let positive = self.positive | other.positive;
+        let negative = self.negative | other.negative;
+        if lanes::is_zero(positive & negative) {
+            Some(Cube { positive, negative })
+        } else {
+            None
+        }
+    }
+
+    /// Whether the literals are among those of the other cube, so that the other one implies this.
+    pub fn implies_of(&self, other: &Cube) -> bool
+        ensures { result ≡ sets.is_subset cubes.literal_cmp self.now other.now }
+    {
+        let lacking = (self.positive & !other.positive) | (self.negative & !other.negative);
+        lanes::is_zero(lacking)
+    }
+
+    /// Whether each literal holds where exactly the propositions of the letter are true.
+    pub fn allows(&self, letter: &RowSet) -> bool
+        ensures { result ≡ cubes.allows (λ i. sets.has nat_cmp i letter.now) self.now }
+    {
+        let failing = (self.positive & !letter.lanes) | (self.negative & letter.lanes);
+        lanes::is_zero(failing)
+    }
+
+    /// The least letter that the cube allows.
+    pub fn letter(&self) -> RowSet
+        ensures { result ≡ letter_of self.now }
+    {
+        RowSet {
+            lanes: self.positive,
+        }
+    }
+
+    /// Compares the two as the rising lists of their literals.
+    pub fn cmp_list(&self, other: &Cube) -> Ordering
+        ensures { result ≡ cubes.cube_cmp self.now other.now }
+    {
+        let positive = self.positive ^ other.positive;
+        let negative = self.negative ^ other.negative;
+        let Some(p) = lanes::lowest(positive | negative) else {
+            return Ordering::Equal;
+        };
+        let own = if lanes::has(&positive, p) {
+            self.positive
+        } else {
+            self.negative
+        };
+        let is_mine = lanes::has(&own, p);
+        let lacking = if is_mine {
+            other.positive | other.negative
+        } else {
+            self.positive | self.negative
+        };
+        lanes::list_order(is_mine, lanes::reaches(lacking, p))
+    }
+
+    /// The literals by proposition, the positive one first.
+    pub fn iter(&self) -> Literals
+        ensures literals { cube_of result ≡ self.now }
+        ensures few { length result ≤ RowSet.LIMIT }
+        ensures runs { YieldsInOrder (YieldsFirst {A = made.Literal} (λ rest. rest)) (λ rest. rest) }
+    {
+        let places = RowSet {
+            lanes: self.positive | self.negative,
+        };
+        Literals {
+            places: places.iter(),
+            positive: self.letter(),
+        }
+    }
+
+    /// What each cube is, for proofs: a rising list of literals of propositions below
+    /// [`RowSet::LIMIT`], without contradiction.
+    pub fn literals_rise(&self)
+        ensures rising { sets.IsRising cubes.literal_cmp self.now }
+        ensures below { AllByRecursion (λ l. l.proposition < RowSet.LIMIT) self.now }
+        ensures few { length self.now ≤ RowSet.LIMIT }
+        ensures consistent { cubes.is_contradictory self.now ≡ false }
+    {
+        let _ = &self.positive;
+    }
+}
+
+impl Clone for Cube {
+    ghost use Rattle.std.specs.Prelude.{◌≡◌, ⊤};
+
+    ghost is_clone = { λ s r. r ≡ s };
+
+    ghost is_infallible = { λ _. ⊤ };
+
+    fn clone(&self) -> Result<Cube, AllocError> {
+        Ok(*self)
+    }
+}
+
+impl Copy for Cube {}
+
+impl PartialEq for Cube {
+    ghost use Rattle.ltl_sets.specs.CubeEq.{same_cube, same_partial};
+
+    ghost eq = { same_cube };
+
+    ghost laws = { same_partial };
+
+    fn eq(&self, other: &Cube) -> bool {
+        lanes::is_zero((self.positive ^ other.positive) | (self.negative ^ other.negative))
+    }
+}
+
+impl Eq for Cube {
+    ghost use Rattle.ltl_sets.specs.CubeEq.{same_equiv};
+
+    ghost laws = { same_equiv };
+}
+
+impl Hash for Cube {
+    ghost use Rattle.ltl_sets.specs.CubeEq.{hash_of_cube, hash_of_same};
+
+    ghost hash_input = { hash_of_cube };
+
+    ghost respects_eq = { hash_of_same };
+
+    fn hash<H: Hasher>(&self, state: &mut H) {
+        lanes::hash(&self.positive, state);
+        lanes::hash(&self.negative, state);
+    }
+}
+
+impl fmt::Debug for Cube {
+    fn fmt<W: fmt::Write>(&self, f: &mut fmt::Formatter<W>) -> fmt::Result {
+        f.debug_set().entries(self.iter()).finish()
+    }
+}
+
+/// The literals of a cube that are left, rising, seen as the list of them.
+#[derive(Clone, Debug, Drop)]
+pub struct Literals {
+    places: Rows,
+    positive: RowSet,
+}
+
+impl Model for Literals {
+    ghost use Rattle.std.specs.Prelude.{◌<◌, List, map};
+    ghost use Rattle.std.specs.List.{AllByRecursion};
+    ghost use Rattle.ltl_sets.specs.declared.literal.Literal as made;
+    ghost use Rattle.ltl_sets.specs.Literals.{signed_by};
+
+    ghost Value = { List made.Literal };
+
+    ghost view = { λ a. map (signed_by a.positive) a.places };
+
+    ghost invariant = { λ a. AllByRecursion (λ p. p < 256) a.places };
+}
+
+impl Iterator for Literals {
+    type Item = Literal;
+
+    ghost next_gives = { YieldsFirst (λ rest. rest) };
+
+    ghost remaining = { item_count (λ rest. rest) };
+
+    fn next(&mut self) -> Option<Literal> {
+        let proposition = self.places.next()?;
+        let positive = self.positive.contains(proposition);
+        Some(Literal {
+            proposition,
+            positive,
+        })
+    }
+}

@@ -1,0 +1,115 @@
+// Bits numbered from 0 to 255, in four words: bit i stands in word i / 64.
+
+ghost use Rattle.std.specs.Prelude.{◌≡◌, ℕ, ◌<◌, cond, nat_eq, MatchOption, fold};
+ghost use Rattle.std.specs.Bool.{Decides, beq};
+ghost use Rattle.std.specs.declared.cmp.Ordering.TheVariants.{Less, Greater};
+ghost use Rattle.ltl_sets.specs.Words.{IsWords, bit_in, HasNone, Reaches, HasLater, FindsLowest, LosesBit, word_alone, hash_of};
+
+use std::cmp::Ordering;
+use std::hash::{Hash, Hasher};
+use std::simd::prelude::*;
+use std::simd::u64x4;
+
+// Whether bit i is a one.
+pub(crate) fn has(lanes: &u64x4, i: usize) -> bool
+    requires { i < 256 }
+    ensures { result ≡ bit_in lanes.now i }
+{
+    (lanes.to_array()[i / 64] >> (i % 64)) & 1 == 1
+}
+
+// Word k of the words in which bit i alone is a one.
+fn word_alone(i: usize, k: usize) -> u64
+    requires { i < 256 }
+    ensures { result ≡ word_alone i k }
+{
+    if i / 64 == k { 1 << (i % 64) } else { 0 }
+}
+
+// Bit i alone.
+pub(crate) fn single(i: usize) -> u64x4
+    requires { i < 256 }
+    ensures words { IsWords result }
+    ensures alone { (j : ℕ) → j < 256 → bit_in result j ≡ nat_eq j i }
+{
+    u64x4::from_array([
+        word_alone(i, 0),
+        word_alone(i, 1),
+        word_alone(i, 2),
+        word_alone(i, 3),
+    ])
+}
+
+// Whether there is no one.
+pub(crate) fn is_zero(lanes: u64x4) -> bool
+    requires { IsWords lanes }
+    ensures { Decides result (HasNone lanes) }
+{
+    lanes.reduce_or() == 0
+}
+
+// Whether there is a one at i or above it.
+pub(crate) fn reaches(lanes: u64x4, i: usize) -> bool
+    requires words { IsWords lanes }
+    requires below { i < 256 }
+    ensures { Decides result (Reaches lanes i) }
+{
+    let words = lanes.to_array();
+    let at = i / 64;
+    (words[at] >> (i % 64) != 0) | has_later(&words, at)
+}
+
+// Whether a word after the given one is not zero.
+fn has_later(words: &[u64; 4], at: usize) -> bool
+    ensures { Decides result (HasLater words.now at) }
+{
+    ((at < 1) & (words[1] != 0)) | ((at < 2) & (words[2] != 0)) | ((at < 3) & (words[3] != 0))
+}
+
+// Takes the lowest one away.
+pub(crate) fn take_lowest(words: &mut [u64; 4]) -> Option<usize>
+    ensures words { IsWords words.new }
+    ensures found { FindsLowest words.old result }
+    ensures rest { MatchOption result (words.new ≡ words.old) (λ i. LosesBit words.old i words.new) }
+{
+    'lanes: for at in 0..4 {
+        let word = words[at];
+        if word != 0 {
+            let place = word.trailing_zeros();
+            words[at] = word & !(1 << place);
+            return Some(64 * at + place as usize);
+        }
+    }
+    None
+}
+
+// The lowest one.
+pub(crate) fn lowest(lanes: u64x4) -> Option<usize>
+    requires { IsWords lanes }
+    ensures { FindsLowest lanes result }
+{
+    take_lowest(&mut lanes.to_array())
+}
+
+// How two rising lists compare, where one has the first member in which they differ: whether it is
+// the first list, and whether the other one goes on above it.
+pub(crate) fn list_order(is_first: bool, goes_on: bool) -> Ordering
+    ensures { result ≡ cond (beq is_first goes_on) Less Greater }
+{
+    if is_first == goes_on {
+        Ordering::Less
+    } else {
+        Ordering::Greater
+    }
+}
+
+// Feeds the four words to a hasher.
+pub(crate) fn hash<H: Hasher>(lanes: &u64x4, state: &mut H)
+    ensures { state.new ≡ fold H.write state.old (hash_of lanes.now) }
+{
+    let words = lanes.to_array();
+    words[0].hash(state);
+    words[1].hash(state);
+    words[2].hash(state);
+    words[3].hash(state);
+}

@@ -1,0 +1,10 @@
+//! Literals.
+
+/// A proposition, or its negation.
+#[derive(Clone, Copy, Debug, PartialEq, Eq, Hash)]
+pub struct Literal {
+    /// The number of the proposition.
+    pub proposition: usize,
+    /// Whether it stands without a negation.
+    pub positive: bool,
+}

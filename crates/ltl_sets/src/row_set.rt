@@ -1,0 +1,212 @@
+//! Sets of numbers below `RowSet::LIMIT`.
+
+ghost use Rattle.std.specs.Prelude.{◌≡◌, ℕ, ◌<◌, ◌≤◌, List, [], ◌∷◌, length};
+ghost use Rattle.std.specs.List.{AllByRecursion};
+ghost use Rattle.std.specs.Ordering.{nat_cmp};
+ghost use Rattle.std.specs.Cmp.Lexicographic.{slice_cmp};
+ghost use Rattle.std.specs.Iterator.{YieldsFirst, item_count};
+ghost use Rattle.std.specs.Iterator.Runs.{YieldsInOrder};
+ghost use Rattle.ltl_spec.specs.Collections.Sets as sets;
+
+use crate::lanes;
+use std::alloc::AllocError;
+use std::cmp::Ordering;
+use std::fmt;
+use std::hash::{Hash, Hasher};
+use std::marker::Model;
+use std::simd::prelude::*;
+use std::simd::u64x4;
+
+/// A set of numbers below [`RowSet::LIMIT`], seen as the rising list of its members.
+pub struct RowSet {
+    pub(crate) lanes: u64x4,
+}
+
+impl Model for RowSet {
+    ghost use Rattle.std.specs.Prelude.{ℕ, List};
+    ghost use Rattle.std.specs.Coded.{coded_ℕ, coded_list};
+
+    ghost Value = { List ℕ };
+
+    ghost coded = { coded_list coded_ℕ };
+
+    ghost use Rattle.ltl_sets.specs.Words.{IsWords, members, words_with};
+
+    ghost view = { λ a. members a.lanes };
+
+    ghost invariant = { λ a. IsWords a.lanes };
+
+    ghost inverse = { λ is. record { lanes = words_with is } };
+
+    ghost use Rattle.ltl_sets.specs.Inverses.{row_set_again};
+
+    ghost inverse_ok = { row_set_again };
+}
+
+impl RowSet {
+    /// Every member is below this.
+    pub const LIMIT: usize = 256;
+
+    pub fn empty() -> RowSet
+        ensures { result ≡ [] }
+    {
+        RowSet {
+            lanes: u64x4::splat(0),
+        }
+    }
+
+    pub fn single(i: usize) -> RowSet
+        requires { i < RowSet.LIMIT }
+        ensures { result ≡ i ∷ [] }
+    {
+        RowSet {
+            lanes: lanes::single(i),
+        }
+    }
+
+    pub fn insert(&mut self, i: usize)
+        requires { i < RowSet.LIMIT }
+        ensures { self.new ≡ sets.put nat_cmp i self.old }
+    {
+        self.lanes = self.lanes | lanes::single(i);
+    }
+
+    pub fn contains(&self, i: usize) -> bool
+        requires { i < RowSet.LIMIT }
+        ensures { result ≡ sets.has nat_cmp i self.now }
+    {
+        lanes::has(&self.lanes, i)
+    }
+
+    pub fn union(&self, other: &RowSet) -> RowSet
+        ensures { result ≡ sets.union nat_cmp self.now other.now }
+    {
+        RowSet {
+            lanes: self.lanes | other.lanes,
+        }
+    }
+
+    pub fn is_subset(&self, other: &RowSet) -> bool
+        ensures { result ≡ sets.is_subset nat_cmp self.now other.now }
+    {
+        lanes::is_zero(self.lanes & !other.lanes)
+    }
+
+    /// Compares the two as the rising lists of their members.
+    pub fn cmp_list(&self, other: &RowSet) -> Ordering
+        ensures { result ≡ slice_cmp nat_cmp self.now other.now }
+    {
+        let Some(i) = lanes::lowest(self.lanes ^ other.lanes) else {
+            return Ordering::Equal;
+        };
+        let is_mine = lanes::has(&self.lanes, i);
+        let lacking = if is_mine { other.lanes } else { self.lanes };
+        lanes::list_order(is_mine, lanes::reaches(lacking, i))
+    }
+
+    /// The members, rising.
+    pub fn iter(&self) -> Rows
+        ensures members { result ≡ self.now }
+        ensures few { length result ≤ RowSet.LIMIT }
+        ensures runs { YieldsInOrder (YieldsFirst {A = ℕ} (λ rest. rest)) (λ rest. rest) }
+    {
+        Rows {
+            words: self.lanes.to_array(),
+        }
+    }
+
+    /// What each set is, for proofs: a rising list of numbers below [`RowSet::LIMIT`].
+    pub fn members_rise(&self)
+        ensures rising { sets.IsRising nat_cmp self.now }
+        ensures below { AllByRecursion (λ i. i < RowSet.LIMIT) self.now }
+        ensures few { length self.now ≤ RowSet.LIMIT }
+    {
+        let _ = &self.lanes;
+    }
+}
+
+impl Clone for RowSet {
+    ghost use Rattle.std.specs.Prelude.{◌≡◌, ⊤};
+
+    ghost is_clone = { λ s r. r ≡ s };
+
+    ghost is_infallible = { λ _. ⊤ };
+
+    fn clone(&self) -> Result<RowSet, AllocError> {
+        Ok(*self)
+    }
+}
+
+impl Copy for RowSet {}
+
+impl PartialEq for RowSet {
+    ghost use Rattle.std.specs.Prelude.{nat_eq};
+    ghost use Rattle.std.specs.Cmp.Lexicographic.{pointwise};
+    ghost use Rattle.std.proofs.Common.{rules};
+
+    ghost eq = { pointwise nat_eq };
+
+    ghost laws = { Prim.search rules };
+
+    fn eq(&self, other: &RowSet) -> bool {
+        lanes::is_zero(self.lanes ^ other.lanes)
+    }
+}
+
+impl Eq for RowSet {
+    ghost use Rattle.std.proofs.Common.{rules};
+
+    ghost laws = { Prim.search rules };
+}
+
+impl Hash for RowSet {
+    ghost use Rattle.std.proofs.Common.{ap};
+    ghost use Rattle.std.specs.Cmp.Lexicographic.{bytes_decides};
+    ghost use Rattle.ltl_sets.specs.Words.{hash_of, words_with};
+
+    ghost hash_input = { λ s. hash_of (words_with s) };
+
+    ghost respects_eq = { λ s t e. ap (λ is. hash_of (words_with is)) ((bytes_decides s t).0 e) };
+
+    fn hash<H: Hasher>(&self, state: &mut H) {
+        lanes::hash(&self.lanes, state);
+    }
+}
+
+impl fmt::Debug for RowSet {
+    fn fmt<W: fmt::Write>(&self, f: &mut fmt::Formatter<W>) -> fmt::Result {
+        f.debug_set().entries(self.iter()).finish()
+    }
+}
+
+/// The members of a set that are left, rising, seen as the list of them.
+#[derive(Clone, Debug, Drop)]
+pub struct Rows {
+    words: [u64; 4],
+}
+
+impl Model for Rows {
+    ghost use Rattle.std.specs.Prelude.{ℕ, List};
+    ghost use Rattle.std.specs.Coded.{coded_ℕ, coded_list};
+    ghost use Rattle.ltl_sets.specs.Words.{IsWords, members};
+
+    ghost Value = { List ℕ };
+
+    ghost coded = { coded_list coded_ℕ };
+
+    ghost view = { λ a. members a.words };
+
+    ghost invariant = { λ a. IsWords a.words };
+}
+
+impl Iterator for Rows {
+    type Item = usize;
+
+    ghost next_gives = { YieldsFirst (λ rest. rest) };
+
+    ghost remaining = { item_count (λ rest. rest) };
+
+    fn next(&mut self) -> Option<usize> {
+        lanes::take_lowest(&mut self.words)
+    }
+}
