@@ -1,0 +1,16 @@
+pub mod FormsLemmas
+pub mod GraphLemmas
+mod LexerLemmas
+pub mod MadeLemmas
+mod NameLemmas
+pub mod OrderLemmas
+pub mod ParserLemmas
+pub mod PlacesLemmas
+mod PrintLemmas
+mod ReadLemmas
+mod StateLemmas
+pub mod StreamLemmas
+pub mod TableLaws
+pub mod TableLemmas
+pub mod TreeLemmas
+pub mod WalkLemmas

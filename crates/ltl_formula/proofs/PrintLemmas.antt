@@ -1,0 +1,66 @@
+-- The text of what is still to be written, at a node.
+use Rattle.std.proofs.Common.{◌≡◌, ◌∙◌, ap, sym, subst, ℕ, ◌<◌, List, [], ◌∷◌, ◌++◌, length, append_assoc, slice_index_or, false}
+use Rattle.std.proofs.lemmas.List.{append-nil}
+use Rattle.ltl_spec.specs.Semantics.Word.{Name}
+use Rattle.ltl_spec.specs.Formulas.Formula.{Formula}
+use Rattle.ltl_spec.specs.Formulas.Canonical.{formula_text, unary_text}
+use Rattle.ltl_formula.specs.declared.operators.Node.{Node}
+use Rattle.ltl_formula.specs.declared.operators.Node.TheVariants.{Constant, Proposition, Unary, Binary}
+use Rattle.ltl_formula.specs.declared.operators.UnaryOperator.{UnaryOperator}
+use Rattle.ltl_formula.specs.declared.operators.BinaryOperator.{BinaryOperator}
+use Rattle.ltl_formula.specs.declared.canonical.Work.{Work}
+use Rattle.ltl_formula.specs.declared.canonical.Work.TheVariants.{Visit, Middle, Close}
+use Rattle.ltl_formula.specs.FormulaView.{StandsAt, tree_of, trees, unary_of}
+use Rattle.ltl_formula.specs.CanonicalWork.{HasOperands, Points, size, stack_text, weight, work_text}
+use Rattle.ltl_formula.proofs.TreeLemmas.{tree_at}
+
+module _ (names : List Name) (ts : List Formula) where
+  -- what is pushed is written first
+  pub stack_text_push : (ws : List Work) (w : Work) → stack_text names ts (ws ++ w ∷ []) ≡ work_text names ts w ++ stack_text names ts ws
+  stack_text_push [] w = sym (append-nil (work_text names ts w))
+  stack_text_push (x ∷ xs) w = ap (λ t. t ++ work_text names ts x) (stack_text_push xs w) ∙ append_assoc (work_text names ts w) (stack_text names ts xs) (work_text names ts x)
+
+module _ (names : List Name) (count : ℕ) (ns : List Node) (o : HasOperands count ns) (w : Work) (i : ℕ) (is : w ≡ Visit i) (points : Points (length ns) w) where
+  within : i < length ns
+  within = subst (Points (length ns)) is points
+
+  same_text : (n : Node) → slice_index_or ns i (Constant false) ≡ n → work_text names (trees ns) w ≡ formula_text names (tree_of (trees ns) n)
+  same_text n e = ap (work_text names (trees ns)) is ∙ ap (formula_text names) (tree_at count ns o i within ∙ ap (tree_of (trees ns)) e)
+
+  pub same_weight : (n : Node) → slice_index_or ns i (Constant false) ≡ n → weight (trees ns) w ≡ size (tree_of (trees ns) n)
+  same_weight n e = ap (weight (trees ns)) is ∙ ap size (tree_at count ns o i within ∙ ap (tree_of (trees ns)) e)
+
+  -- a node with no operand
+  pub leaf_text : (t t' bs : List ℕ) (s : List Work) (n : Node) → slice_index_or ns i (Constant false) ≡ n → bs ≡ formula_text names (tree_of (trees ns) n) → t' ≡ t ++ bs
+      → t' ++ stack_text names (trees ns) s ≡ t ++ (work_text names (trees ns) w ++ stack_text names (trees ns) s)
+  leaf_text t t' bs s n e b et =
+      ap (λ z. z ++ stack_text names (trees ns) s) et ∙ append_assoc t bs (stack_text names (trees ns) s)
+      ∙ ap (λ z. t ++ (z ++ stack_text names (trees ns) s)) (b ∙ sym (same_text n e))
+
+  pub unary_node_text : (t t' bs : List ℕ) (s s' : List Work) (op : UnaryOperator) (a : ℕ) → slice_index_or ns i (Constant false) ≡ Unary op a
+      → bs ≡ unary_text (unary_of op) → t' ≡ t ++ bs → s' ≡ s ++ Visit a ∷ []
+      → t' ++ stack_text names (trees ns) s' ≡ t ++ (work_text names (trees ns) w ++ stack_text names (trees ns) s)
+  unary_node_text t t' bs s s' op a e b et es =
+      rw (et, es, same_text (Unary op a) e, stack_text_push names (trees ns) s (Visit a), b) (simp append_assoc)
+
+  pub binary_node_text : (t t' : List ℕ) (s s1 s2 s3 s4 : List Work) (op : BinaryOperator) (a b : ℕ) → slice_index_or ns i (Constant false) ≡ Binary op a b → t' ≡ t ++ 40 ∷ []
+      → s1 ≡ s ++ Close ∷ [] → s2 ≡ s1 ++ Visit b ∷ [] → s3 ≡ s2 ++ Middle op ∷ [] → s4 ≡ s3 ++ Visit a ∷ []
+      → t' ++ stack_text names (trees ns) s4 ≡ t ++ (work_text names (trees ns) w ++ stack_text names (trees ns) s)
+  binary_node_text t t' s s1 s2 s3 s4 op a b e et e1 e2 e3 e4 =
+      rw (
+        et,
+        same_text (Binary op a b) e,
+        e4,
+        stack_text_push names (trees ns) s3 (Visit a),
+        e3,
+        stack_text_push names (trees ns) s2 (Middle op),
+        e2,
+        stack_text_push names (trees ns) s1 (Visit b),
+        e1,
+        stack_text_push names (trees ns) s Close,
+      )
+      (simp append_assoc)
+
+  -- the proposition has a name
+  pub proposition_within : (p : ℕ) → slice_index_or ns i (Constant false) ≡ Proposition p → p < count
+  proposition_within p e = subst (StandsAt count i) e (o i within)

@@ -1,0 +1,5 @@
+use Rattle.ltl_formula.proofs.GraphLemmas.{node_below}
+use Rattle.ltl_formula.proofs.graph.Graph.node.Goals as goal
+
+pub returns-clause-operands : goal.returns-clause-operands
+returns-clause-operands g c = node_below c.self.inside.nodes.keys c.self.inside.rewrite c.args.self.now c.self.view_is c.self.invariant c.as_slice.result.now c.as_slice.ensures.keys c.args.k _ c.requires

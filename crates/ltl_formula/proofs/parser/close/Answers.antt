@@ -1,0 +1,28 @@
+use Rattle.std.proofs.Common.{◌≡◌, ◌∙◌, ap, sym, ◌-◌, arith, length, vec_len, subst}
+use Rattle.ltl_formula.specs.CanonicalWork.{HasOperands}
+use Rattle.ltl_formula.specs.ParserView.{closed_node}
+use Rattle.ltl_formula.proofs.ParserLemmas.{close_turn, popped_below}
+use Rattle.ltl_formula.proofs.parser.close.Goals as goal
+
+pub closing-preserved : goal.closing-preserved
+closing-preserved g c =
+    let i = c.closing.invariant in
+    let counted : vec_len c.closing.nodes ≡ length c.closing.nodes.items = omega (arith, c.closing.nodes.ok.0) in
+    let turn = close_turn c.args.most c.closing.nodes.items c.push.new.self.items c.closing.frames.items c.pop.new.self.items c.in-Some.frame c.in-Some-closed.node c.in-Some.ensures.items
+    c.in_ok-push-in-Some-closed.ensures.items (ap (λ k. closed_node c.in-Some.frame (k - 1) c.args.most) (sym (c.len.ensures ∙ counted)) ∙ sym c.in-Some-closed.ensures) i.some i.pending in
+    let longer = turn.longer in
+    record {
+      some = turn.some;
+      pending = turn.pending;
+      same = turn.same ∙ i.same;
+      operands = λ count o. turn.operands count (i.operands count o);
+      longer = omega arith;
+    }
+
+pub returns-in_err-push-in-Some-closed-clause-operands : goal.returns-in_err-push-in-Some-closed-clause-operands
+returns-in_err-push-in-Some-closed-clause-operands g c =
+    λ count o. subst (HasOperands count) (sym c.in_err-push-in-Some-closed.ensures.items) (c.closing.invariant.operands count o)
+
+pub returns-in_err-push-in-Some-closed-clause-pending : goal.returns-in_err-push-in-Some-closed-clause-pending
+returns-in_err-push-in-Some-closed-clause-pending g c =
+    popped_below _ _ _ _ c.in-Some.frame c.in-Some.ensures.items (ap length (sym c.in_err-push-in-Some-closed.ensures.items)) c.closing.invariant.pending

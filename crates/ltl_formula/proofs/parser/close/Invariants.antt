@@ -1,0 +1,19 @@
+use Rattle.std.proofs.Common.{◌≡◌, ℕ, ◌<◌, ◌≤◌, length}
+use Rattle.ltl_spec.proofs.Formulas.GrammarMachine as machine
+use Rattle.ltl_formula.specs.FormulaView.{trees, whole_tree}
+use Rattle.ltl_formula.specs.CanonicalWork.{HasOperands}
+use Rattle.ltl_formula.specs.ParserView.{AreBelow, frames_of}
+use Rattle.ltl_formula.proofs.parser.close.Given as goal
+
+abbrev pub invariant-closing : goal.invariant-closing
+invariant-closing g l = record {
+  some : 0 < length l.nodes.items;
+  pending : AreBelow (length l.nodes.items) l.frames.items;
+  same : machine.close l.most (whole_tree l.nodes.items) (frames_of (trees l.nodes.items) l.frames.items)
+      ≡ machine.close l.most (whole_tree l.fn.nodes.items) (frames_of (trees l.fn.nodes.items) l.fn.frames.items);
+  operands : (count : ℕ) → HasOperands count l.fn.nodes.items → HasOperands count l.nodes.items;
+  longer : length l.fn.nodes.items ≤ length l.nodes.items;
+}
+
+abbrev pub decreases-closing : goal.decreases-closing
+decreases-closing g l = length l.frames.items

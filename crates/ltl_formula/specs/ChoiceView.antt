@@ -1,0 +1,16 @@
+-- What is chosen to stand for a rewritten node.
+use Rattle.std.specs.Prelude.{ℕ, ◌<◌}
+use Rattle.ltl_spec.proofs.NormalForms.SharedNodes.{AllBefore}
+use Rattle.ltl_spec.proofs.NormalForms.SharedRewriting as law
+use Rattle.ltl_formula.specs.GraphView.{node_of}
+use Rattle.ltl_formula.specs.declared.rewriting.Choice.{Choice}
+use Rattle.ltl_formula.specs.declared.rewriting.Choice.TheVariants.{Old, New}
+
+abbrev pub choice_of : Choice → law.Choice
+choice_of (Old k) = law.Old k
+choice_of (New v) = law.New (node_of v)
+
+-- the number is one of the first n, or all operands of the node are
+abbrev pub IsInside : ℕ → Choice → Type 0
+IsInside n (Old k) = k < n
+IsInside n (New v) = AllBefore n (node_of v)

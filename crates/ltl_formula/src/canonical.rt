@@ -1,0 +1,106 @@
+//! The canonical text of a formula: brackets around each binary operator.
+
+ghost use Rattle.std.specs.Prelude.{◌≡◌, ◌+◌, ◌++◌, ◌<◌, All, IfOk, OnOk, length, map, string_bytes, sum_by};
+ghost use Rattle.ltl_spec.specs.Formulas.Canonical as spec;
+ghost use Rattle.ltl_formula.specs.FormulaView.{binary_of, trees, unary_of, whole_tree};
+ghost use Rattle.ltl_formula.specs.CanonicalWork.{HasOperands, Points, stack_text, weight, work_text};
+
+use crate::operators::{BinaryOperator, Node, UnaryOperator};
+use std::alloc::{AllocError, Allocator};
+
+/// What is still to be written.
+#[derive(Clone, Copy)]
+enum Work {
+    Visit(usize),
+    Middle(BinaryOperator),
+    Close,
+}
+
+fn constant_text(value: bool) -> &'static [u8]
+    ensures { result.now ≡ spec.constant_text value }
+{
+    if value { b"true" } else { b"false" }
+}
+
+fn unary_text(operator: UnaryOperator) -> &'static [u8]
+    ensures { result.now ≡ spec.unary_text (unary_of operator) }
+{
+    match operator {
+        UnaryOperator::Not => b"!",
+        UnaryOperator::Next => b"X ",
+        UnaryOperator::Always => b"[]",
+        UnaryOperator::Eventually => b"<>",
+    }
+}
+
+fn binary_text(operator: BinaryOperator) -> &'static [u8]
+    ensures { result.now ≡ spec.binary_text (binary_of operator) }
+{
+    match operator {
+        BinaryOperator::And => b" && ",
+        BinaryOperator::Or => b" || ",
+        BinaryOperator::Implies => b" -> ",
+        BinaryOperator::Iff => b" <-> ",
+        BinaryOperator::Until => b" U ",
+        BinaryOperator::Release => b" V ",
+    }
+}
+
+/// Writes what stands on top, and puts what is left of it on the stack.
+fn step<A: Allocator>(
+    nodes: &[Node],
+    names: &[String<&A>],
+    work: Work,
+    text: &mut Vec<u8, &A>,
+    stack: &mut Vec<Work, &A>,
+) -> Result<(), AllocError>
+    requires ordered { HasOperands (length names.now) nodes.now }
+    requires points { Points (length nodes.now) work }
+    requires all_point { All (Points (length nodes.now)) stack.old.items }
+    ensures points { OnOk result (All (Points (length nodes.now)) stack.new.items) }
+    ensures text { OnOk result (let names = map string_bytes names.now in
+        text.new.items ++ stack_text names (trees nodes.now) stack.new.items
+        ≡ text.old.items ++ (work_text names (trees nodes.now) work ++ stack_text names (trees nodes.now) stack.old.items)) }
+    ensures falls { OnOk result (sum_by (weight (trees nodes.now)) stack.new.items
+        < weight (trees nodes.now) work + sum_by (weight (trees nodes.now)) stack.old.items) }
+{
+    match work {
+        Work::Middle(operator) => text.extend_from_slice(binary_text(operator))?,
+        Work::Close => text.push(b')')?,
+        Work::Visit(i) => match nodes[i] {
+            Node::Constant(value) => text.extend_from_slice(constant_text(value))?,
+            Node::Proposition(number) => text.extend_from_slice(names[number].as_bytes())?,
+            Node::Unary(operator, operand) => {
+                text.extend_from_slice(unary_text(operator))?;
+                stack.push(Work::Visit(operand))?;
+            }
+            Node::Binary(operator, left, right) => {
+                text.push(b'(')?;
+                stack.push(Work::Close)?;
+                stack.push(Work::Visit(right))?;
+                stack.push(Work::Middle(operator))?;
+                stack.push(Work::Visit(left))?;
+            }
+        },
+    }
+    Ok(())
+}
+
+/// The canonical text of the last node.
+pub(crate) fn canonical<'a, A: Allocator>(
+    alloc: &'a A,
+    nodes: &[Node],
+    names: &[String<&'a A>],
+) -> Result<Vec<u8, &'a A>, AllocError>
+    requires some { 0 < length nodes.now }
+    requires ordered { HasOperands (length names.now) nodes.now }
+    ensures { IfOk result (λ text. text.items ≡ spec.formula_text (map string_bytes names.now) (whole_tree nodes.now)) }
+{
+    let mut text = Vec::new(alloc);
+    let mut stack = Vec::new(alloc);
+    stack.push(Work::Visit(nodes.len() - 1))?;
+    'work: while let Some(work) = stack.pop() {
+        step(nodes, names, work, &mut text, &mut stack)?;
+    }
+    Ok(text)
+}

@@ -1,0 +1,273 @@
+//! The normal forms of a formula and of its negation, built together from those of its operands.
+
+ghost use Rattle.std.specs.Prelude.{◌≡◌, ◌<◌, ◌≤◌, ℕ, [], if◌then◌else◌, length, not, All, IfOk};
+ghost use Rattle.ltl_spec.specs.NormalForms.NormalForm.{core};
+ghost use Rattle.ltl_spec.proofs.Checking.BelowLaws.{HasLeavesBelow};
+ghost use Rattle.ltl_formula.specs.FormulaView.{reading_of};
+ghost use Rattle.ltl_formula.specs.GraphView.{Makes};
+
+use crate::formula::Formula;
+use crate::graph::Graph;
+use crate::operators::{BinaryOperator, Node, UnaryOperator};
+use crate::rewriting::{Choice, choose_and, choose_next, choose_or, choose_release, choose_until};
+use crate::row::Row;
+use ltl_sets::Literal;
+use std::alloc::{AllocError, Allocator};
+
+/// The numbers of the normal forms of a formula and of its negation.
+#[derive(Clone, Copy, Debug, PartialEq, Eq)]
+pub struct Forms {
+    pub positive: usize,
+    pub negative: usize,
+}
+
+impl Forms {
+    /// The forms of the negation.
+    fn negated(self) -> Forms
+        ensures positive { result.positive ≡ self.negative }
+        ensures negative { result.negative ≡ self.positive }
+    {
+        Forms {
+            positive: self.negative,
+            negative: self.positive,
+        }
+    }
+
+    /// The number of one of the forms.
+    fn chosen(self, negate: bool) -> usize
+        ensures { result ≡ (if negate then self.negative else self.positive) }
+    {
+        if negate { self.negative } else { self.positive }
+    }
+}
+
+impl<'a, A: Allocator> Graph<'a, A> {
+    ghost use Rattle.ltl_spec.specs.Formulas.Formula as spec;
+    ghost use Rattle.ltl_spec.specs.NormalForms.NormalForm.{constant};
+    ghost use Rattle.ltl_spec.proofs.NormalForms.SharedNodes.{tree_at};
+    ghost use Rattle.ltl_spec.proofs.NormalForms.SharedRewriting.{StandsFor, choice_tree};
+    ghost use Rattle.ltl_spec.proofs.NormalForms.BothPolarities.{FlatProposition, made_next, made_and, made_or, made_until, made_release, both_unary, both_binary, both_of};
+    ghost use Rattle.ltl_formula.specs.ChoiceView.{choice_of, IsInside};
+    ghost use Rattle.ltl_formula.specs.FormsView.{MakesBoth, AreInside, forms_at, forms_in, flat_of};
+    ghost use Rattle.ltl_formula.specs.FormulaView.{unary_of, binary_of, StandsAt};
+    ghost use Rattle.ltl_formula.specs.GraphView.{Makes};
+
+    /// The number of what was chosen.
+    fn take(&mut self, choice: Choice) -> Result<usize, AllocError>
+        requires { IsInside (length self.old.nodes) choice }
+        ensures { IfOk result (λ k. Makes self.old self.new k (choice_tree self.old.nodes (choice_of choice))) }
+    {
+        match choice {
+            Choice::Old(k) => Ok(k),
+            Choice::New(node) => self.intern(node),
+        }
+    }
+
+    /// The number of `X` above node i.
+    fn make_next(&mut self, i: usize) -> Result<usize, AllocError>
+        requires { i < length self.old.nodes }
+        ensures { IfOk result (λ k. Makes self.old self.new k (made_next self.old.rewrite (tree_at self.old.nodes i))) }
+    {
+        let rewrite = self.rewrites();
+        self.take(choose_next(rewrite, i))
+    }
+
+    /// The number of the conjunction of nodes i and j.
+    fn make_and(&mut self, i: usize, j: usize) -> Result<usize, AllocError>
+        requires left { i < length self.old.nodes }
+        requires right { j < length self.old.nodes }
+        ensures { IfOk result (λ k. Makes self.old self.new k (made_and self.old.rewrite (tree_at self.old.nodes i) (tree_at self.old.nodes j))) }
+    {
+        let rewrite = self.rewrites();
+        self.take(choose_and(rewrite, i, j))
+    }
+
+    /// The number of the disjunction of nodes i and j.
+    fn make_or(&mut self, i: usize, j: usize) -> Result<usize, AllocError>
+        requires left { i < length self.old.nodes }
+        requires right { j < length self.old.nodes }
+        ensures { IfOk result (λ k. Makes self.old self.new k (made_or self.old.rewrite (tree_at self.old.nodes i) (tree_at self.old.nodes j))) }
+    {
+        let rewrite = self.rewrites();
+        self.take(choose_or(rewrite, i, j))
+    }
+
+    /// The number of `U` above nodes i and j.
+    fn make_until(&mut self, i: usize, j: usize) -> Result<usize, AllocError>
+        requires left { i < length self.old.nodes }
+        requires right { j < length self.old.nodes }
+        ensures { IfOk result (λ k. Makes self.old self.new k (made_until self.old.rewrite (tree_at self.old.nodes i) (tree_at self.old.nodes j))) }
+    {
+        let rewrite = self.rewrites();
+        let right = self.node(j);
+        self.take(choose_until(rewrite, i, j, right))
+    }
+
+    /// The number of `V` above nodes i and j.
+    fn make_release(&mut self, i: usize, j: usize) -> Result<usize, AllocError>
+        requires left { i < length self.old.nodes }
+        requires right { j < length self.old.nodes }
+        ensures { IfOk result (λ k. Makes self.old self.new k (made_release self.old.rewrite (tree_at self.old.nodes i) (tree_at self.old.nodes j))) }
+    {
+        let rewrite = self.rewrites();
+        let right = self.node(j);
+        self.take(choose_release(rewrite, i, j, right))
+    }
+
+    /// The forms of a constant.
+    fn constant_forms(&self, value: bool) -> Forms
+        ensures positive { StandsFor self.now.nodes result.positive (constant value) }
+        ensures negative { StandsFor self.now.nodes result.negative (constant (not value)) }
+    {
+        let forms = Forms {
+            positive: self.top(),
+            negative: self.bottom(),
+        };
+        if value { forms } else { forms.negated() }
+    }
+
+    /// The forms of a proposition.
+    fn proposition_forms(&mut self, proposition: usize) -> Result<Forms, AllocError>
+        ensures { IfOk result (λ p. MakesBoth self.old self.new p (both_of self.old.rewrite (forms_in self.old []) (FlatProposition proposition))) }
+    {
+        let literal = |positive| Literal {
+            proposition,
+            positive,
+        };
+        let positive = self.intern(Row::Literal(literal(true)))?;
+        let negative = self.intern(Row::Literal(literal(false)))?;
+        Ok(Forms { positive, negative })
+    }
+
+    /// The forms of `X`.
+    fn next_forms(&mut self, a: Forms) -> Result<Forms, AllocError>
+        requires { AreInside self.old a }
+        ensures { IfOk result (λ p. MakesBoth self.old self.new p (both_unary self.old.rewrite spec.Next (forms_at self.old a))) }
+    {
+        let positive = self.make_next(a.positive)?;
+        let negative = self.make_next(a.negative)?;
+        Ok(Forms { positive, negative })
+    }
+
+    /// The forms of the conjunction.
+    fn and_forms(&mut self, a: Forms, b: Forms) -> Result<Forms, AllocError>
+        requires left { AreInside self.old a }
+        requires right { AreInside self.old b }
+        ensures { IfOk result (λ p. MakesBoth self.old self.new p (both_binary self.old.rewrite spec.And (forms_at self.old a) (forms_at self.old b))) }
+    {
+        let positive = self.make_and(a.positive, b.positive)?;
+        let negative = self.make_or(a.negative, b.negative)?;
+        Ok(Forms { positive, negative })
+    }
+
+    /// The forms of the disjunction.
+    fn or_forms(&mut self, a: Forms, b: Forms) -> Result<Forms, AllocError>
+        requires left { AreInside self.old a }
+        requires right { AreInside self.old b }
+        ensures { IfOk result (λ p. MakesBoth self.old self.new p (both_binary self.old.rewrite spec.Or (forms_at self.old a) (forms_at self.old b))) }
+    {
+        let neither = self.and_forms(a.negated(), b.negated())?;
+        Ok(neither.negated())
+    }
+
+    /// The forms of `<->`: both operands hold or neither does.
+    fn iff_forms(&mut self, a: Forms, b: Forms) -> Result<Forms, AllocError>
+        requires left { AreInside self.old a }
+        requires right { AreInside self.old b }
+        ensures { IfOk result (λ p. MakesBoth self.old self.new p (both_binary self.old.rewrite spec.Iff (forms_at self.old a) (forms_at self.old b))) }
+    {
+        let both = self.and_forms(a, b)?;
+        let neither = self.and_forms(a.negated(), b.negated())?;
+        self.or_forms(both, neither)
+    }
+
+    /// The forms of `U`.
+    fn until_forms(&mut self, a: Forms, b: Forms) -> Result<Forms, AllocError>
+        requires left { AreInside self.old a }
+        requires right { AreInside self.old b }
+        ensures { IfOk result (λ p. MakesBoth self.old self.new p (both_binary self.old.rewrite spec.Until (forms_at self.old a) (forms_at self.old b))) }
+    {
+        let positive = self.make_until(a.positive, b.positive)?;
+        let negative = self.make_release(a.negative, b.negative)?;
+        Ok(Forms { positive, negative })
+    }
+
+    /// The forms of `V`.
+    fn release_forms(&mut self, a: Forms, b: Forms) -> Result<Forms, AllocError>
+        requires left { AreInside self.old a }
+        requires right { AreInside self.old b }
+        ensures { IfOk result (λ p. MakesBoth self.old self.new p (both_binary self.old.rewrite spec.Release (forms_at self.old a) (forms_at self.old b))) }
+    {
+        let negated = self.until_forms(a.negated(), b.negated())?;
+        Ok(negated.negated())
+    }
+
+    /// The forms of an operator before its operand.
+    fn unary_forms(&mut self, operator: UnaryOperator, a: Forms) -> Result<Forms, AllocError>
+        requires { AreInside self.old a }
+        ensures { IfOk result (λ p. MakesBoth self.old self.new p (both_unary self.old.rewrite (unary_of operator) (forms_at self.old a))) }
+    {
+        match operator {
+            UnaryOperator::Not => Ok(a.negated()),
+            UnaryOperator::Next => self.next_forms(a),
+            UnaryOperator::Always => self.release_forms(self.constant_forms(false), a),
+            UnaryOperator::Eventually => self.until_forms(self.constant_forms(true), a),
+        }
+    }
+
+    /// The forms of an operator between its operands.
+    fn binary_forms(
+        &mut self,
+        operator: BinaryOperator,
+        a: Forms,
+        b: Forms,
+    ) -> Result<Forms, AllocError>
+        requires left { AreInside self.old a }
+        requires right { AreInside self.old b }
+        ensures { IfOk result (λ p. MakesBoth self.old self.new p (both_binary self.old.rewrite (binary_of operator) (forms_at self.old a) (forms_at self.old b))) }
+    {
+        match operator {
+            BinaryOperator::And => self.and_forms(a, b),
+            BinaryOperator::Or => self.or_forms(a, b),
+            BinaryOperator::Implies => self.or_forms(a.negated(), b),
+            BinaryOperator::Iff => self.iff_forms(a, b),
+            BinaryOperator::Until => self.until_forms(a, b),
+            BinaryOperator::Release => self.release_forms(a, b),
+        }
+    }
+
+    /// The forms of a node, given those of the nodes before it.
+    fn node_forms(&mut self, node: Node, done: &[Forms]) -> Result<Forms, AllocError>
+        requires before { (count : ℕ) × StandsAt count (length done.now) node }
+        requires inside { All (AreInside self.old) done.now }
+        ensures { IfOk result (λ p. MakesBoth self.old self.new p (both_of self.old.rewrite (forms_in self.old done.now) (flat_of node))) }
+    {
+        match node {
+            Node::Constant(value) => Ok(self.constant_forms(value)),
+            Node::Proposition(proposition) => self.proposition_forms(proposition),
+            Node::Unary(operator, i) => self.unary_forms(operator, done[i]),
+            Node::Binary(operator, i, j) => self.binary_forms(operator, done[i], done[j]),
+        }
+    }
+}
+
+/// The number of the node that stands for the core of the formula: for its normal form, or that of its negation.
+pub fn core_number<A: Allocator, B: Allocator>(
+    alloc: &A,
+    graph: &mut Graph<'_, A>,
+    formula: &Formula<'_, B>,
+    negate: bool,
+) -> Result<usize, AllocError>
+    ensures made { IfOk result (λ k. Makes graph.old graph.new k (core (reading_of formula.now).formula negate graph.old.rewrite)) }
+    ensures few { IfOk result (λ _. length formula.now.names ≤ 64) }
+    ensures literals { IfOk result (λ _. HasLeavesBelow (length formula.now.names) (core (reading_of formula.now).formula negate graph.old.rewrite)) }
+{
+    let count = formula.len();
+    let mut done = Vec::with_capacity(alloc, count)?;
+    'nodes: for i in 0..count {
+        let forms = graph.node_forms(formula.node(i), &done)?;
+        done.push(forms)?;
+    }
+    let whole = done[count - 1];
+    Ok(whole.chosen(negate))
+}

@@ -1,0 +1,130 @@
+//! The table of a formula: its rows in normal form.
+
+ghost use Rattle.std.specs.Prelude.{◌≡◌, ◌<◌, ◌≤◌, ◌-◌, All, length, slice_get, Some, IfOk, IsErrOf};
+ghost use Rattle.ltl_formula.specs.declared.limits.TheConstants.{ROW_LIMIT};
+
+#[cfg(test)]
+mod tests;
+
+use crate::build_fault::BuildFault;
+use crate::formula::Formula;
+use crate::graph::Graph;
+use crate::limits::ELEMENTARY_ROW_LIMIT;
+use crate::places::{elementary_places, numbered_rows, until_places};
+use crate::polarity::core_number;
+use crate::row::Row;
+use crate::walk::row_numbers;
+use std::alloc::Allocator;
+use std::marker::Model;
+
+/// The rows of a formula or of its negation: the different subformulas of the normal form, by first occurrence in postorder.
+#[derive(Drop)]
+pub struct Table<'a, A: Allocator> {
+    rows: Vec<Row, &'a A>,
+    untils: Vec<usize, &'a A>,
+    elementary: Vec<usize, &'a A>,
+}
+
+impl<'a, A: Allocator> Model for Table<'a, A> {
+    ghost use Rattle.ltl_formula.specs.TableView.{TableView, IsTable};
+
+    ghost Value = { TableView };
+
+    ghost view = { λ t. record { rows = t.rows.items; untils = t.untils.items; elementary = t.elementary.items } };
+
+    ghost invariant = { λ t. IsTable (record { rows = t.rows.items; untils = t.untils.items; elementary = t.elementary.items }) };
+}
+
+impl<'a, A: Allocator> Table<'a, A> {
+    ghost use Rattle.ltl_spec.specs.NormalForms.NormalForm.{core, elementary_rows, rows};
+    ghost use Rattle.ltl_spec.proofs.Checking.BelowLaws.{HasLeavesBelow};
+    ghost use Rattle.ltl_spec.proofs.NormalForms.SharedNodes.{tree_at};
+    ghost use Rattle.ltl_formula.specs.FormulaView.{reading_of};
+    ghost use Rattle.ltl_formula.specs.GraphView.{IsBelow};
+    ghost use Rattle.ltl_formula.specs.TableView.{IsNamedBelow, IsTable, core_of};
+
+    /// The table of a formula or, with `negate`, of its negation, rewritten with `rewrite`.
+    pub fn build<B: Allocator>(
+        alloc: &'a A,
+        formula: &Formula<'_, B>,
+        negate: bool,
+        rewrite: bool,
+    ) -> Result<Table<'a, A>, BuildFault>
+        ensures table { IfOk result IsTable }
+        ensures core { IfOk result (λ t. core_of t ≡ core (reading_of formula.now).formula negate rewrite) }
+        ensures literals { IfOk result (λ t. All (IsNamedBelow (length formula.now.names)) t.rows) }
+
+        // The faults come where a limit is passed. Memory may be refused at any time.
+        ensures rows { IsErrOf result BuildFault.TooManyRows → ROW_LIMIT < length (rows (core (reading_of formula.now).formula negate rewrite)) }
+        ensures few { IsErrOf result BuildFault.TooManyElementaryRows → length (rows (core (reading_of formula.now).formula negate rewrite)) ≤ ROW_LIMIT }
+        ensures elementary { IsErrOf result BuildFault.TooManyElementaryRows → ELEMENTARY_ROW_LIMIT < length (elementary_rows (core (reading_of formula.now).formula negate rewrite)) }
+    {
+        let mut graph = Graph::new(alloc, rewrite)?;
+        let root = core_number(alloc, &mut graph, formula, negate)?;
+        Table::of_node(alloc, &graph, root)
+    }
+
+    /// The table of a node of a graph.
+    fn of_node(alloc: &'a A, graph: &Graph<'_, A>, root: usize) -> Result<Table<'a, A>, BuildFault>
+        requires inside { root < length graph.now.nodes }
+        requires literals { HasLeavesBelow 64 (tree_at graph.now.nodes root) }
+        ensures table { IfOk result IsTable }
+        ensures core { IfOk result (λ t. core_of t ≡ tree_at graph.now.nodes root) }
+        ensures rows { IsErrOf result BuildFault.TooManyRows → ROW_LIMIT < length (rows (tree_at graph.now.nodes root)) }
+        ensures few { IsErrOf result BuildFault.TooManyElementaryRows → length (rows (tree_at graph.now.nodes root)) ≤ ROW_LIMIT }
+        ensures elementary { IsErrOf result BuildFault.TooManyElementaryRows → ELEMENTARY_ROW_LIMIT < length (elementary_rows (tree_at graph.now.nodes root)) }
+    {
+        let numbers = row_numbers(alloc, graph, root)?;
+        let rows = numbered_rows(alloc, graph, &numbers)?;
+        let untils = until_places(alloc, &rows)?;
+        let elementary = elementary_places(alloc, &rows)?;
+        if elementary.len() > ELEMENTARY_ROW_LIMIT {
+            return Err(BuildFault::TooManyElementaryRows);
+        }
+        Ok(Table {
+            rows,
+            untils,
+            elementary,
+        })
+    }
+
+    /// How many rows there are.
+    pub fn len(&self) -> usize
+        ensures count { result ≡ length self.now.rows }
+        ensures table { IsTable self.now }
+    {
+        self.rows.len()
+    }
+
+    /// A row by its number.
+    pub fn row(&self, i: usize) -> Row
+        requires { i < length self.now.rows }
+        ensures found { slice_get self.now.rows i ≡ Some result }
+        ensures operands { IsBelow i result }
+        ensures literal { IsNamedBelow 64 result }
+    {
+        self.rows[i]
+    }
+
+    /// The number of the row of the whole formula, the last one.
+    pub fn root(&self) -> usize
+        ensures last { result ≡ length self.now.rows - 1 }
+        ensures table { IsTable self.now }
+    {
+        self.rows.len() - 1
+    }
+
+    /// The numbers of the rows whose operator is `U`, rising.
+    pub fn untils(&self) -> &[usize]
+        ensures { result.now ≡ self.now.untils }
+    {
+        &self.untils
+    }
+
+    /// The numbers of the elementary rows, rising: of the literals, of the rows whose operator is `X`, `U` or `V`, and of the root.
+    pub fn elementary(&self) -> &[usize]
+        ensures { result.now ≡ self.now.elementary }
+    {
+        &self.elementary
+    }
+}

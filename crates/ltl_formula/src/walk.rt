@@ -1,0 +1,94 @@
+//! The rows below a node: the numbers of its different subformulas, operands first.
+
+ghost use Rattle.std.specs.Prelude.{◌≡◌, ◌<◌, ◌≤◌, ℕ, All, IfOk, IsErrOf, OnOk, length, map};
+ghost use Rattle.ltl_spec.specs.NormalForms.NormalForm.{rows};
+ghost use Rattle.ltl_spec.proofs.NormalForms.SharedNodes.{IsShared, tree_at};
+ghost use Rattle.ltl_spec.proofs.NormalForms.RowsCollected.{IsTaskDone, AreFlags, task_number};
+ghost use Rattle.ltl_formula.specs.WalkView.{AreInOrder, task_of};
+
+use crate::build_fault::BuildFault;
+use crate::graph::Graph;
+use crate::limits::ROW_LIMIT;
+use crate::row::Row;
+use std::alloc::{AllocError, Allocator};
+
+/// What is left to do for a node: to look at its operands, or to list it.
+#[derive(Clone, Copy, Debug, PartialEq, Eq)]
+pub enum Task {
+    Enter(usize),
+    Leave(usize),
+}
+
+/// Does one task.
+fn step<A: Allocator>(
+    graph: &Graph<'_, A>,
+    task: Task,
+    flags: &mut Vec<bool, &A>,
+    listed: &mut Vec<usize, &A>,
+    stack: &mut Vec<Task, &A>,
+) -> Result<(), AllocError>
+    requires shared { IsShared graph.now.nodes }
+    requires long { length flags.old.items ≡ length graph.now.nodes }
+    requires flags { AreFlags flags.old.items listed.old.items }
+    requires task { task_number (task_of task) < length graph.now.nodes }
+    requires tasks { All (λ t. task_number t < length graph.now.nodes) (map task_of stack.old.items) }
+    requires numbers { All (λ k. k < length graph.now.nodes) listed.old.items }
+    ensures long { OnOk result (length flags.new.items ≡ length graph.now.nodes) }
+    ensures flags { OnOk result (AreFlags flags.new.items listed.new.items) }
+    ensures done { OnOk result (IsTaskDone (tree_at graph.now.nodes) (length graph.now.nodes) (map task_of stack.old.items) (task_of task) listed.old.items (map task_of stack.new.items) listed.new.items) }
+{
+    match task {
+        Task::Leave(k) => {
+            listed.push(k)?;
+            flags[k] = true;
+        }
+        Task::Enter(k) => {
+            if !flags[k] {
+                let node = graph.node(k);
+                match node {
+                    Row::True | Row::False | Row::Literal(_) => {
+                        listed.push(k)?;
+                        flags[k] = true;
+                    }
+                    Row::Next(i) => {
+                        stack.push(Task::Leave(k))?;
+                        stack.push(Task::Enter(i))?;
+                    }
+                    Row::And(i, j) | Row::Or(i, j) | Row::Until(i, j) | Row::Release(i, j) => {
+                        stack.push(Task::Leave(k))?;
+                        stack.push(Task::Enter(j))?;
+                        stack.push(Task::Enter(i))?;
+                    }
+                }
+            }
+        }
+    }
+    Ok(())
+}
+
+/// The numbers of the rows of node `root`, by first occurrence in postorder.
+pub fn row_numbers<'a, A: Allocator>(
+    alloc: &'a A,
+    graph: &Graph<'_, A>,
+    root: usize,
+) -> Result<Vec<usize, &'a A>, BuildFault>
+    requires { root < length graph.now.nodes }
+    ensures rows { IfOk result (λ v. map (tree_at graph.now.nodes) v.items ≡ rows (tree_at graph.now.nodes root)) }
+    ensures order { IfOk result (λ v. AreInOrder graph.now.nodes v.items) }
+    ensures few { IfOk result (λ v. length v.items ≤ ROW_LIMIT) }
+    ensures too_many { IsErrOf result BuildFault.TooManyRows → ROW_LIMIT < length (rows (tree_at graph.now.nodes root)) }
+    ensures other { ¬ (IsErrOf result BuildFault.TooManyElementaryRows) }
+{
+    let mut listed = Vec::new(alloc);
+    let mut flags: Vec<bool, &'a A> = Vec::new(alloc);
+    flags.resize(graph.len(), false)?;
+    let mut stack: Vec<Task, &'a A> = Vec::new(alloc);
+    stack.push(Task::Enter(root))?;
+    'work: while let Some(task) = stack.pop() {
+        step(graph, task, &mut flags, &mut listed, &mut stack)?;
+        if listed.len() > ROW_LIMIT {
+            return Err(BuildFault::TooManyRows);
+        }
+    }
+    Ok(listed)
+}
