@@ -1,0 +1,11 @@
+pub mod AlikeLaws
+pub mod GbaLaws
+pub mod ListsLaws
+pub mod NeedsLaws
+pub mod PlaceLaws
+pub mod ReachLaws
+pub mod RowLaws
+pub mod RowListLaws
+pub mod SortedSets
+pub mod TransitionLaws
+pub mod TreeLaws

@@ -1,0 +1,84 @@
+use Rattle.std.proofs.Common.{◌≡◌, ◌<◌, ◌≤◌, ◌+◌, ◌∙◌, ◌∷◌, [], ap, sym, subst, arith, length, map, Some, length-append}
+use Rattle.std.specs.Prelude.{slice_get}
+use Rattle.ltl_spec.specs.Automata.Generalized.{IsGeneralized}
+use Rattle.ltl_formula.specs.TableView.{core_of}
+use Rattle.ltl_alt.specs.GbaView.{edge_of, state_of}
+use Rattle.ltl_alt.specs.ReachView.{IsUnderWay}
+use Rattle.ltl_alt.proofs.TransitionLaws.{untils_count}
+use Rattle.ltl_alt.proofs.ReachLaws.{map_push}
+use Rattle.ltl_alt.proofs.GbaLaws.{too_many_edges, too_many_states, under_way_next, is_generalized, is_gba, is_within_limits}
+use Rattle.ltl_alt.proofs.reach.reach.Goals as goal
+
+pub returns-then-len-count-clause-large : goal.returns-then-len-count-clause-large
+returns-then-len-count-clause-large g c =
+    let F = core_of c.args.table.now in
+    let keep = c.args.keep_implied in
+    let n = length c.states.made.items in
+    let ks = c.states.states.keys in
+    let e = c.index.result.now in
+    let ts = c.in_ok-kept.kept.items in
+    let at : c.len-in-states-3.result ≡ n = omega arith in
+    let found : slice_get ks n ≡ Some e = ap (slice_get ks) (sym at) ∙ c.index.ensures in
+    let few = c.states.invariant.way.few_edges in
+    let many : 1_048_576 < c.states.count + length ts = omega arith in
+    λ _. too_many_edges F keep n ks c.states.count _ c.states.invariant.way e found ts c.in_ok-kept.ensures.transitions many
+
+pub returns-then-len-gt-MOST_STATES-clause-large : goal.returns-then-len-gt-MOST_STATES-clause-large
+returns-then-len-gt-MOST_STATES-clause-large g c =
+    let F = core_of c.args.table.now in
+    let keep = c.args.keep_implied in
+    let n = length c.states.made.items in
+    let ks = c.states.states.keys in
+    let e = c.index.result.now in
+    let ts = c.as_slice.result.now in
+    let ms = c.edges_of.new.states.keys in
+    let at : c.len-in-states-3.result ≡ n = omega arith in
+    let found : slice_get ks n ≡ Some e = ap (slice_get ks) (sym at) ∙ c.index.ensures in
+    let many : 65_536 < length ms = omega arith in
+    λ _. too_many_states F keep n ks c.states.count _ c.states.invariant.way e found ts (c.as_slice.ensures.value ∙ c.in_ok-kept.ensures.transitions) ms c.in_ok-edges.ensures.keys many
+
+pub states-preserved : goal.states-preserved
+states-preserved g c =
+    let F = core_of c.args.table.now in
+    let keep = c.args.keep_implied in
+    let n = length c.states.made.items in
+    let ks = c.states.states.keys in
+    let e = c.index.result.now in
+    let ts = c.as_slice.result.now in
+    let ms = c.edges_of.new.states.keys in
+    let at : c.len-in-states-3.result ≡ n = omega arith in
+    let found : slice_get ks n ≡ Some e = ap (slice_get ks) (sym at) ∙ c.index.ensures in
+    let total : c.len-count.result ≡ length ts = omega (arith, ap length c.as_slice.ensures.value) in
+    let before = c.states.invariant.way.few_edges in
+    let few : c.states.count + length ts ≤ 1_048_576 = omega arith in
+    let small : length ms ≤ 65_536 = omega arith in
+    let pushed = c.in_ok-push.ensures.items in
+    let long : length c.push.new.self.items ≡ n + 1 = ap length pushed ∙ length-append c.states.made.items (c.in_ok-edges.edges ∷ []) in
+    let next = ap (map (λ s. state_of s.items)) pushed ∙ map_push (λ s. state_of s.items) c.states.made.items c.in_ok-edges.edges in
+    let way = under_way_next F keep n ks c.states.count _ c.states.invariant.way e found ts (c.as_slice.ensures.value ∙ c.in_ok-kept.ensures.transitions) ms (map (λ s. state_of s.items) c.push.new.self.items)
+    (map edge_of c.in_ok-edges.edges.items) c.in_ok-edges.ensures.keys c.in_ok-edges.ensures.edges next few small in
+    record {
+      lists = c.in_ok-kept.ensures.lists;
+      way =
+          subst (λ k. IsUnderWay F keep k ms (c.states.count + c.len-count.result) (map (λ s. state_of s.items) c.push.new.self.items)) (sym long)
+          (subst (λ k. IsUnderWay F keep (n + 1) ms (c.states.count + k) (map (λ s. state_of s.items) c.push.new.self.items)) (sym total) way);
+    }
+
+pub new-requires-2 : goal.new-requires-2
+new-requires-2 g c =
+    let done : length c.states.states.keys ≤ length c.states.made.items = omega arith in
+    is_gba (core_of c.args.table.now) c.args.keep_implied (length c.states.made.items) c.states.states.keys c.states.count _ c.states.invariant.way done c.until_count.result
+    (c.until_count.ensures.count ∙ sym (untils_count c.args.table.now c.len.ensures.table)) c.until_count.ensures.few
+
+pub returns-clause-generalized : goal.returns-clause-generalized
+returns-clause-generalized g c =
+    let done : length c.states.states.keys ≤ length c.states.made.items = omega arith in
+    subst (IsGeneralized (core_of c.args.table.now) c.args.keep_implied) (sym c.new-2.ensures)
+    (is_generalized (core_of c.args.table.now) c.args.keep_implied (length c.states.made.items) c.states.states.keys c.states.count _ c.states.invariant.way done c.until_count.result
+    (c.until_count.ensures.count ∙ sym (untils_count c.args.table.now c.len.ensures.table)))
+
+pub returns-clause-fits : goal.returns-clause-fits
+returns-clause-fits g c =
+    let done : length c.states.states.keys ≤ length c.states.made.items = omega arith in
+    is_within_limits (core_of c.args.table.now) c.args.keep_implied (length c.states.made.items) c.states.states.keys c.states.count _ c.states.invariant.way done c.until_count.result
+    (c.until_count.ensures.count ∙ sym (untils_count c.args.table.now c.len.ensures.table))

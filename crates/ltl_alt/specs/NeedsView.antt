@@ -1,0 +1,55 @@
+-- Which lists are needed of the rows of a table.
+use Rattle.std.specs.Prelude.{◌≡◌, ℕ, ◌<◌, ◌≤◌, true, false, ◌||◌, List, length, slice_get, slice_set, slice_index_or, Some}
+use Rattle.ltl_formula.specs.TableView.{TableView}
+use Rattle.ltl_formula.specs.declared.row.Row.{Row}
+use Rattle.ltl_formula.specs.declared.row.Row.TheVariants as row
+use Rattle.ltl_alt.specs.declared.needs.Need.{Need}
+
+-- what either needs
+abbrev pub join_needs : Need → Need → Need
+join_needs m n = record { pairs = m.pairs || n.pairs; sets = m.sets || n.sets }
+
+-- what is needed of a row
+abbrev pub need_at : List Need → ℕ → Need
+need_at ns k = slice_index_or ns k (record { pairs = false; sets = false })
+
+-- this is needed of a row besides
+abbrev pub asked_one : List Need → ℕ → Need → List Need
+asked_one ns i n = slice_set ns i (join_needs (need_at ns i) n)
+
+abbrev pub asked_both : List Need → ℕ → ℕ → Need → List Need
+asked_both ns i j n = asked_one (asked_one ns i n) j n
+
+-- what a need of a row takes is needed of its operands besides
+abbrev pub asked_of : List Need → Row → Need → List Need
+asked_of ns row.True n = ns
+asked_of ns row.False n = ns
+asked_of ns (row.Literal l) n = ns
+asked_of ns (row.Next i) n = asked_one ns i (record { pairs = false; sets = n.pairs })
+asked_of ns (row.And i j) n = asked_both ns i j n
+asked_of ns (row.Or i j) n = asked_both ns i j n
+asked_of ns (row.Until i j) n = asked_both ns i j (record { pairs = n.pairs; sets = false })
+asked_of ns (row.Release i j) n = asked_both ns i j (record { pairs = n.pairs; sets = false })
+
+-- what one need asks for, another one asks for
+pub record IsWithin (m n : Need) : Type 0 where
+  pub pairs : m.pairs ≡ true → n.pairs ≡ true
+  pub sets : m.sets ≡ true → n.sets ≡ true
+
+-- what a need of a row takes is needed of its operands
+abbrev pub IsAsked : List Need → Row → Need → Type 0
+IsAsked ns row.True n = Unit {0}
+IsAsked ns row.False n = Unit {0}
+IsAsked ns (row.Literal l) n = Unit {0}
+IsAsked ns (row.Next i) n = n.pairs ≡ true → (need_at ns i).sets ≡ true
+IsAsked ns (row.And i j) n = IsWithin n (need_at ns i) × IsWithin n (need_at ns j)
+IsAsked ns (row.Or i j) n = IsWithin n (need_at ns i) × IsWithin n (need_at ns j)
+IsAsked ns (row.Until i j) n = (n.pairs ≡ true → (need_at ns i).pairs ≡ true) × (n.pairs ≡ true → (need_at ns j).pairs ≡ true)
+IsAsked ns (row.Release i j) n = (n.pairs ≡ true → (need_at ns i).pairs ≡ true) × (n.pairs ≡ true → (need_at ns j).pairs ≡ true)
+
+-- from row `low` on, what is needed of a row is needed of its operands
+abbrev pub AskedFrom : TableView → ℕ → List Need → Type 0
+AskedFrom t low ns = (k : ℕ) (r : Row) → low ≤ k → k < length ns → slice_get t.rows k ≡ Some r → IsAsked ns r (need_at ns k)
+
+abbrev pub AllAsked : TableView → List Need → Type 0
+AllAsked t ns = AskedFrom t 0 ns

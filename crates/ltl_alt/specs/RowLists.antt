@@ -1,0 +1,104 @@
+-- Lists that rows of a table have.
+use Rattle.std.specs.Prelude.{◌≡◌, ℕ, ◌<◌, Bool, true, false, List, [], ◌∷◌, ◌++◌, length, map, slice_get, Option, Some, None}
+use Rattle.ltl_spec.specs.Collections.Sets.{set_of}
+use Rattle.ltl_spec.specs.NormalForms.Normal.{Normal}
+use Rattle.ltl_spec.specs.Transitions.Pairs as spec
+use Rattle.ltl_spec.specs.Transitions.RowTransitions.{table_of, place}
+use Rattle.ltl_sets.specs.Literals.{literal_of}
+use Rattle.ltl_alt.specs.declared.needs.Need.{Need}
+use Rattle.ltl_alt.specs.NeedsView.{need_at}
+use Rattle.ltl_formula.specs.TableView.{TableView, row_tree, core_of}
+use Rattle.ltl_formula.specs.declared.row.Row.{Row}
+use Rattle.ltl_formula.specs.declared.row.Row.TheVariants as row
+
+-- the pair that asks for these rows next
+abbrev pub next_pair : spec.RowSet → spec.Pair
+next_pair e = record { cube = []; targets = e }
+
+-- the place of a normal form among the elementary rows
+abbrev pub row_place : TableView → Normal → ℕ
+row_place t = place (table_of (core_of t))
+
+-- the pairs of a row, and the sets of rows of which one has to hold
+abbrev pub row_pairs : TableView → ℕ → List spec.Pair
+row_pairs t k = set_of spec.pair_cmp (spec.pairs (row_place t) (row_tree t k))
+
+abbrev pub row_sets : TableView → ℕ → List spec.RowSet
+row_sets t k = set_of spec.row_set_cmp (spec.conj (row_place t) (row_tree t k))
+
+-- the pairs of a row at a place, by the lists of its operands
+abbrev pub pairs_from : (ℕ → List spec.Pair) → (ℕ → List spec.RowSet) → ℕ → Row → List spec.Pair
+pairs_from ps es at row.True = spec.empty_pair ∷ []
+pairs_from ps es at row.False = []
+pairs_from ps es at (row.Literal l) = record { cube = literal_of l ∷ []; targets = [] } ∷ []
+pairs_from ps es at (row.Next i) = map next_pair (es i)
+pairs_from ps es at (row.And i j) = spec.join (ps i) (ps j)
+pairs_from ps es at (row.Or i j) = ps i ++ ps j
+pairs_from ps es at (row.Until i j) = ps j ++ spec.join (ps i) (spec.later_pair at ∷ [])
+pairs_from ps es at (row.Release i j) = spec.join (ps j) (ps i ++ spec.later_pair at ∷ [])
+
+-- the sets of a row at a place
+abbrev pub sets_from : (ℕ → List spec.RowSet) → ℕ → Row → List spec.RowSet
+sets_from es at row.True = [] ∷ []
+sets_from es at row.False = []
+sets_from es at (row.And i j) = spec.unions (es i) (es j)
+sets_from es at (row.Or i j) = es i ++ es j
+sets_from es at (row.Literal l) = (at ∷ []) ∷ []
+sets_from es at (row.Next i) = (at ∷ []) ∷ []
+sets_from es at (row.Until i j) = (at ∷ []) ∷ []
+sets_from es at (row.Release i j) = (at ∷ []) ∷ []
+
+-- the list that was made, or none
+abbrev pub list_or_none : {X : Type 0} → Option (Option (List X)) → List X
+list_or_none None = []
+list_or_none (Some None) = []
+list_or_none (Some (Some xs)) = xs
+
+abbrev pub was_made : {X : Type 0} → Option (Option (List X)) → Bool
+was_made None = false
+was_made (Some None) = false
+was_made (Some (Some xs)) = true
+
+-- the list of that number, and whether it was made
+abbrev pub list_at : {X : Type 0} → List (Option (List X)) → ℕ → List X
+list_at lists k = list_or_none (slice_get lists k)
+
+abbrev pub is_made : {X : Type 0} → List (Option (List X)) → ℕ → Bool
+is_made lists k = was_made (slice_get lists k)
+
+-- the lists of the operands are as they should be, as far as the pairs of a row take them
+abbrev pub HavePairs : TableView → (ℕ → List spec.Pair) → (ℕ → List spec.RowSet) → Row → Type 0
+HavePairs t ps es row.True = Unit {0}
+HavePairs t ps es row.False = Unit {0}
+HavePairs t ps es (row.Literal l) = Unit {0}
+HavePairs t ps es (row.Next i) = es i ≡ row_sets t i
+HavePairs t ps es (row.And i j) = (ps i ≡ row_pairs t i) × (ps j ≡ row_pairs t j)
+HavePairs t ps es (row.Or i j) = (ps i ≡ row_pairs t i) × (ps j ≡ row_pairs t j)
+HavePairs t ps es (row.Until i j) = (ps i ≡ row_pairs t i) × (ps j ≡ row_pairs t j)
+HavePairs t ps es (row.Release i j) = (ps i ≡ row_pairs t i) × (ps j ≡ row_pairs t j)
+
+-- and as far as its sets do
+abbrev pub HaveSets : TableView → (ℕ → List spec.RowSet) → Row → Type 0
+HaveSets t es row.True = Unit {0}
+HaveSets t es row.False = Unit {0}
+HaveSets t es (row.And i j) = (es i ≡ row_sets t i) × (es j ≡ row_sets t j)
+HaveSets t es (row.Or i j) = (es i ≡ row_sets t i) × (es j ≡ row_sets t j)
+HaveSets t es (row.Literal l) = Unit {0}
+HaveSets t es (row.Next i) = Unit {0}
+HaveSets t es (row.Until i j) = Unit {0}
+HaveSets t es (row.Release i j) = Unit {0}
+
+-- what was listed stands as it should
+pub record AreLists (t : TableView) (ps : List (Option (List spec.Pair))) (es : List (Option (List spec.RowSet))) : Type 0 where
+  pub pair_count : length ps ≡ length t.rows
+  pub set_count : length es ≡ length t.rows
+  pub pairs : (k : ℕ) → is_made ps k ≡ true → list_at ps k ≡ row_pairs t k
+  pub sets : (k : ℕ) → is_made es k ≡ true → list_at es k ≡ row_sets t k
+
+-- what is needed of the first rows was listed
+abbrev pub MadeBelow : List Need → ℕ → List (Option (List spec.Pair)) → List (Option (List spec.RowSet)) → Type 0
+MadeBelow ns n ps es = (k : ℕ) → k < n → ((need_at ns k).pairs ≡ true → is_made ps k ≡ true) × ((need_at ns k).sets ≡ true → is_made es k ≡ true)
+
+-- what was listed before still is
+abbrev pub IsMore : {X : Type 0} → List (Option (List X)) → List (Option (List X)) → Type 0
+IsMore old new = (k : ℕ) → is_made old k ≡ true → is_made new k ≡ true

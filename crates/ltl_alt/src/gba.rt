@@ -1,0 +1,94 @@
+//! Generalized Büchi automata.
+
+ghost use Rattle.std.specs.Prelude.{◌≡◌, ◌<◌, ◌≤◌, length, map, IfOk, IsErrOf};
+ghost use Rattle.ltl_spec.specs.Automata.Automaton.{state_at};
+ghost use Rattle.ltl_spec.specs.Automata.Generalized.{IsGeneralized, IsTooLarge};
+ghost use Rattle.ltl_formula.specs.TableView.{core_of};
+ghost use Rattle.ltl_alt.specs.GbaView.{IsGba, edge_of, state_of};
+
+use crate::edge::GbaEdge;
+use crate::fault::AltFault;
+use crate::reach::reach;
+use ltl_formula::Table;
+use std::alloc::Allocator;
+use std::marker::Model;
+
+/// The most states that an automaton may have.
+pub const MOST_STATES: usize = 65_536;
+
+/// The most edges that an automaton may have.
+pub const MOST_EDGES: usize = 1_048_576;
+
+/// A generalized Büchi automaton with acceptance on edges. State 0 is the start.
+#[derive(Drop)]
+pub struct Gba<'a, A: Allocator> {
+    sets: usize,
+    states: Vec<Vec<GbaEdge, &'a A>, &'a A>,
+}
+
+impl<'a, A: Allocator> Model for Gba<'a, A> {
+    ghost use Rattle.std.specs.Prelude.{map, List};
+    ghost use Rattle.ltl_spec.specs.Automata.Automaton.{Automaton};
+    ghost use Rattle.ltl_alt.specs.GbaView.{IsGba, state_of, automaton_code};
+
+    ghost Value = { Automaton };
+
+    ghost coded = { automaton_code };
+
+    ghost view = { λ g. record { sets = g.sets; states = map (λ s. state_of s.items) g.states.items } };
+
+    ghost invariant = { λ g. IsGba (record { sets = g.sets; states = map (λ s. state_of s.items) g.states.items }) };
+}
+
+impl<'a, A: Allocator> Gba<'a, A> {
+    /// The automaton of a table's formula. Its states are the sets of rows that are reached from the root alone; with `keep_implied` the
+    /// transitions that another one implies stay.
+    pub fn reach(
+        alloc: &'a A,
+        table: &Table<'_, A>,
+        keep_implied: bool,
+    ) -> Result<Gba<'a, A>, AltFault>
+        ensures generalized { IfOk result (IsGeneralized (core_of table.now) keep_implied) }
+        ensures fits { IfOk result (λ _. ¬ (IsTooLarge (core_of table.now) keep_implied MOST_STATES MOST_EDGES)) }
+        ensures large { IsErrOf result AltFault.TooLarge → IsTooLarge (core_of table.now) keep_implied MOST_STATES MOST_EDGES }
+    {
+        reach(alloc, table, keep_implied)
+    }
+
+    /// The automaton of these states, by their edges.
+    pub fn new(sets: usize, states: Vec<Vec<GbaEdge, &'a A>, &'a A>) -> Gba<'a, A>
+        requires { IsGba (record { sets = sets; states = map (λ s. state_of s.items) states.items }) }
+        ensures { result ≡ record { sets = sets; states = map (λ s. state_of s.items) states.entry.items } }
+    {
+        Gba { sets, states }
+    }
+
+    /// How many states there are, at least one.
+    pub fn len(&self) -> usize
+        ensures count { result ≡ length self.now.states }
+    {
+        self.states.len()
+    }
+
+    /// How many acceptance sets there are.
+    pub fn sets(&self) -> usize
+        ensures count { result ≡ self.now.sets }
+    {
+        self.sets
+    }
+
+    /// The edges of a state, by literals and then by the target as a set of rows.
+    pub fn edges(&self, i: usize) -> &[GbaEdge]
+        requires { i < length self.now.states }
+        ensures { map edge_of result.now ≡ (state_at self.now i).edges }
+    {
+        self.states[i].as_slice()
+    }
+
+    /// Hands what the type holds to callers.
+    pub fn stays_within(&self)
+        ensures { IsGba self.now }
+    {
+        let _ = &self.states;
+    }
+}

@@ -1,0 +1,114 @@
+//! Pairs: what has to be true now, and what has to hold next.
+
+ghost use Rattle.std.specs.Prelude.{◌≡◌, ◌<◌, [], ◌∷◌};
+ghost use Rattle.ltl_sets.specs.Literals.{literal_of};
+ghost use Rattle.ltl_spec.specs.Transitions.Pairs.{pair_cmp, join_pair, empty_pair};
+
+use ltl_sets::{Cube, Literal, RowSet};
+use std::alloc::AllocError;
+use std::cmp::Ordering;
+use std::marker::Model;
+
+/// Literals that have to be true now, and the rows that have to hold next, by their places among the elementary rows.
+#[derive(Debug)]
+pub struct Pair {
+    pub cube: Cube,
+    pub targets: RowSet,
+}
+
+impl Model for Pair {
+    ghost use Rattle.ltl_spec.specs.Transitions.Pairs as spec;
+    ghost use Rattle.ltl_alt.specs.Codes.{pair_code};
+
+    ghost Value = { spec.Pair };
+
+    ghost coded = { pair_code };
+
+    ghost view = { λ p. record { cube = p.cube; targets = p.targets } };
+
+    ghost inverse = { λ p. record { cube = p.cube; targets = p.targets } };
+}
+
+impl Pair {
+    /// The pair that asks for nothing.
+    pub fn empty() -> Pair
+        ensures { result ≡ empty_pair }
+    {
+        Pair {
+            cube: Cube::empty(),
+            targets: RowSet::empty(),
+        }
+    }
+
+    /// The pair that asks for a literal now.
+    pub fn now(literal: Literal) -> Pair
+        requires { literal.proposition < RowSet.LIMIT }
+        ensures { result ≡ record { cube = literal_of literal ∷ []; targets = [] } }
+    {
+        Pair {
+            cube: Cube::literal(literal.proposition, literal.positive),
+            targets: RowSet::empty(),
+        }
+    }
+
+    /// The pair that asks for these rows next.
+    pub fn later(targets: RowSet) -> Pair
+        ensures { result ≡ record { cube = []; targets = targets } }
+    {
+        Pair {
+            cube: Cube::empty(),
+            targets,
+        }
+    }
+
+    /// Both at once, unless their literals contradict each other.
+    pub fn join(&self, other: &Pair) -> Option<Pair>
+        ensures { result ≡ join_pair self.now other.now }
+    {
+        let cube = self.cube.join(&other.cube)?;
+        Some(Pair {
+            cube,
+            targets: self.targets.union(&other.targets),
+        })
+    }
+
+    /// By the literals, then by the targets, each compared as a sorted list.
+    pub fn cmp_list(&self, other: &Pair) -> Ordering
+        ensures { result ≡ pair_cmp self.now other.now }
+    {
+        match self.cube.cmp_list(&other.cube) {
+            Ordering::Equal => self.targets.cmp_list(&other.targets),
+            unequal => unequal,
+        }
+    }
+}
+
+impl Clone for Pair {
+    fn clone(&self) -> Result<Pair, AllocError> {
+        Ok(*self)
+    }
+}
+
+impl Copy for Pair {}
+
+impl PartialEq for Pair {
+    ghost use Rattle.std.specs.Cmp.{partial_equiv_from_equiv, eq_by_cmp_equiv};
+    ghost use Rattle.std.specs.Ordering.{eq_by_cmp};
+    ghost use Rattle.ltl_spec.specs.Transitions.Pairs.{pair_cmp};
+    ghost use Rattle.ltl_spec.proofs.Collections.Orders.{pair_linear};
+
+    ghost eq = { eq_by_cmp pair_cmp };
+
+    ghost laws = { partial_equiv_from_equiv (eq_by_cmp_equiv pair_linear.total) };
+
+    fn eq(&self, other: &Pair) -> bool {
+        self.cmp_list(other).is_eq()
+    }
+}
+
+impl Eq for Pair {
+    ghost use Rattle.std.specs.Cmp.{eq_by_cmp_equiv};
+    ghost use Rattle.ltl_spec.proofs.Collections.Orders.{pair_linear};
+
+    ghost laws = { eq_by_cmp_equiv pair_linear.total };
+}

@@ -1,0 +1,64 @@
+//! Rows of a table, and their places among the elementary rows.
+
+ghost use Rattle.ltl_alt.specs.RowLists.{row_place};
+ghost use Rattle.ltl_formula.specs.TableView.{row_tree};
+ghost use Rattle.std.specs.Prelude.{position, ◌==◌, ◌≡◌, ◌≤◌, ◌<◌, length, slice_get, Some, IfSome};
+
+use ltl_formula::Table;
+use std::alloc::Allocator;
+
+/// Where a number first stands in a list.
+fn index_of(numbers: &[usize], number: usize) -> Option<usize>
+    ensures { result ≡ position (λ k. k == number) numbers.now }
+{
+    numbers.iter().position(|k| *k == number)
+}
+
+/// The place of a row among the elementary rows, or their number where it is none of them.
+pub(crate) fn place<A: Allocator>(table: &Table<'_, A>, row: usize) -> usize
+    requires { row < length table.now.rows }
+    ensures place { result ≡ row_place table.now (row_tree table.now row) }
+    ensures small { result ≤ 64 }
+{
+    let _ = table.len();
+    let elementary = table.elementary();
+    index_of(elementary, row).unwrap_or(elementary.len())
+}
+
+/// How many until rows there are.
+#[tactic(auto, using(crate::proofs::RowLaws::untils_few))]
+pub(crate) fn until_count<A: Allocator>(table: &Table<'_, A>) -> usize
+    ensures count { result ≡ length table.now.untils }
+    ensures few { result ≤ 64 }
+{
+    let _ = table.len();
+    table.untils().len()
+}
+
+/// The until row of that number among the until rows.
+#[tactic(auto, using(crate::proofs::RowLaws::until_below))]
+pub(crate) fn until_row<A: Allocator>(table: &Table<'_, A>, number: usize) -> usize
+    requires { number < length table.now.untils }
+    ensures found { slice_get table.now.untils number ≡ Some result }
+    ensures within { result < length table.now.rows }
+{
+    let _ = table.len();
+    table.untils()[number]
+}
+
+/// What stands at a place among the elementary rows.
+fn elementary_at<A: Allocator>(table: &Table<'_, A>, place: usize) -> Option<usize>
+    ensures { result ≡ slice_get table.now.elementary place }
+{
+    table.elementary().get(place).copied()
+}
+
+/// The elementary row at a place.
+#[tactic(auto, using(crate::proofs::RowLaws::elementary_below))]
+pub(crate) fn elementary_row<A: Allocator>(table: &Table<'_, A>, place: usize) -> Option<usize>
+    ensures found { result ≡ slice_get table.now.elementary place }
+    ensures within { IfSome result (λ k. k < length table.now.rows) }
+{
+    let _ = table.len();
+    elementary_at(table, place)
+}
