@@ -1,0 +1,9 @@
+pub mod CopyLaws
+pub mod EdgeLaws
+pub mod NumberedLaws
+pub mod PlacedLaws
+pub mod ReachedLaws
+pub mod RenumberLaws
+pub mod SortedSets
+pub mod Sums
+pub mod Within

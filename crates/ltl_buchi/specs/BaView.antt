@@ -1,0 +1,41 @@
+-- A Büchi automaton as one of the definitions, and what its type holds.
+use Rattle.std.specs.Prelude.{◌≡◌, ℕ, ◌<◌, ◌≤◌, List, [], length, sum_by, slice_index_or, All}
+use Rattle.std.specs.declared.cmp.Ordering.{Ordering}
+use Rattle.std.specs.Ordering.{nat_cmp, on, then_cmp}
+use Rattle.ltl_spec.specs.Collections.Sets.{Has, IsRising}
+use Rattle.ltl_spec.specs.Automata.Automaton.{Automaton, Edge, edge_cmp, state_at}
+use Rattle.ltl_buchi.specs.declared.automaton.Edge as made
+
+-- the edges of the code as those of the definitions
+abbrev pub edge_of : made.Edge → Edge
+edge_of e = record { cube = e.cube; target = e.target; marks = [] }
+
+-- the target of the edge at a place
+abbrev pub target_at : List Edge → ℕ → ℕ
+target_at edges k = (slice_index_or edges k (record { cube = []; target = 0; marks = [] })).target
+
+-- by the target of the edge there, then by the place
+abbrev pub place_cmp : List Edge → ℕ → ℕ → Ordering
+place_cmp edges = then_cmp (on (target_at edges) nat_cmp) nat_cmp
+
+-- the places of all edges, by target and then by place
+pub record IsTargetOrder (edges : List Edge) (places : List ℕ) : Type 0 where
+  pub within : All (λ k. k < length edges) places
+  pub rising : IsRising (place_cmp edges) places
+  pub whole : (k : ℕ) → k < length edges → Has places k
+
+-- a state is the start, or an edge leads to it from one that is reached
+pub data IsReached (B : Automaton) : ℕ → Type 0 where
+  start : IsReached B 0
+  along : (s : ℕ) (e : Edge) → IsReached B s → Has (state_at B s).edges e → IsReached B e.target
+
+-- There is no acceptance set. There are 1 to 65,536 states and at most 1,048,576 edges, which stay within the automaton; the edges of a
+-- state rise, and each state is reached
+pub record IsBa (B : Automaton) : Type 0 where
+  pub no_sets : B.sets ≡ 0
+  pub some : 0 < length B.states
+  pub few_states : length B.states ≤ 65_536
+  pub few_edges : sum_by (λ s. length s.edges) B.states ≤ 1_048_576
+  pub within : All (λ s. All (λ e. e.target < length B.states) s.edges) B.states
+  pub rising : All (λ s. IsRising edge_cmp s.edges) B.states
+  pub reached : (s : ℕ) → s < length B.states → IsReached B s

@@ -1,0 +1,4 @@
+pub mod BaView
+pub mod Copies
+pub mod FaultOf
+pub mod Numbered
