@@ -1,0 +1,9 @@
+pub mod BlockLaws
+pub mod DigitLemmas
+pub mod EdgeLaws
+pub mod HoaLaws
+pub mod LabelLaws
+pub mod NameLaws
+pub mod OptionLaws
+pub mod SendLaws
+pub mod TextLaws

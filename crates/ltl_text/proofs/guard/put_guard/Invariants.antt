@@ -1,0 +1,15 @@
+use Rattle.std.proofs.Common.{◌++◌, length}
+use Rattle.std.specs.Prelude.{codes}
+use Rattle.ltl_spec.specs.Automata.ClaimText.{cube_text}
+use Rattle.ltl_sets.specs.Literals.{cube_of}
+use Rattle.ltl_text.specs.Names.{HasNames}
+use Rattle.ltl_text.proofs.SendLaws.{Leaves}
+use Rattle.ltl_text.proofs.TextLaws.{led, texts_of}
+use Rattle.ltl_text.proofs.guard.put_guard.Given as goal
+
+abbrev pub invariant-loop-literal : goal.invariant-loop-literal
+invariant-loop-literal g l = record {
+  named : HasNames (length l.formula.names) (cube_of l.literal-iterator);
+  text : Leaves (g.W.Write.contents l.fn.writer) l.fn.piece (g.W.Write.contents l.writer) l.piece
+      (led (codes " && ") (texts_of l.formula.names l.literal-iterator) ++ codes ")") (cube_text l.formula.names l.cube);
+}

@@ -1,0 +1,8 @@
+use Rattle.ltl_text.specs.HoaPieces.{states_text}
+use Rattle.ltl_text.proofs.SendLaws.{Leaves}
+use Rattle.ltl_text.proofs.HoaLaws.{states_from}
+use Rattle.ltl_text.proofs.hoa.put_states.Given as goal
+
+abbrev pub invariant-loop-k : goal.invariant-loop-k
+invariant-loop-k g l =
+    Leaves (g.W.Write.contents l.fn.writer) l.fn.piece (g.W.Write.contents l.writer) l.piece (states_from l.automaton l.k) (states_text l.automaton)

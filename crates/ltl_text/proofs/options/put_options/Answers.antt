@@ -1,0 +1,98 @@
+use Rattle.std.proofs.Common.{◌<◌, ℕ, length, map, refl, subst, sym}
+use Rattle.ltl_spec.specs.Collections.Sets.{IsRising}
+use Rattle.ltl_spec.specs.Automata.Automaton.{state_at}
+use Rattle.ltl_buchi.specs.BaView.{edge_of, target_at}
+use Rattle.ltl_text.proofs.EdgeLaws.{places_within, target_there}
+use Rattle.ltl_text.proofs.NameLaws.{all_have_names}
+use Rattle.ltl_text.proofs.OptionLaws.{entries_whole, options_fall, options_rise, options_step, options_within, place_cmp}
+use Rattle.ltl_text.proofs.SendLaws.{leaves_all, leaves_fails, leaves_step, sends_nothing}
+use Rattle.ltl_text.proofs.TextLaws.{first_all}
+use Rattle.ltl_text.proofs.options.put_options.Goals as goal
+
+pub options-init : goal.options-init
+options-init g c =
+    let e = c.edges-edges.ensures.edges in
+    let s = state_at c.args.automaton.now c.args.k in
+    let rising = c.by_target-rest.ensures.order.rising in
+    let ps = c.by_target-rest.result.now in
+    record {
+      within = places_within c.edges-edges.result.now _ _ e c.by_target-rest.ensures.order.within;
+      rising = subst (λ l. IsRising (place_cmp (target_at l)) ps) (sym e) rising;
+      text = leaves_step (leaves_all _ _ _) _ (sym (entries_whole c.args.automaton.now c.args.formula.now.names s (map edge_of c.edges-edges.result.now) ps e c.by_target-rest.ensures.order)) (sends_nothing _ _);
+    }
+
+pub put_guards-requires-clause-named : goal.put_guards-requires-clause-named
+put_guards-requires-clause-named g c = all_have_names _ c.args.automaton.now c.args.k _ c.requires.named c.edges-edges.ensures.edges
+
+pub returns-in_err-put : goal.returns-in_err-put
+returns-in_err-put g c =
+    let P : ℕ → Type 0 = λ p. p < length c.edges-edges.result.now in
+    let within = first_all P _ _ _ c.in-Some.ensures.cases.0 c.options.invariant.within in
+    let f = target_there c.edges-edges.result.now _ c.index-edges-place.result within in
+    let e = options_step c.args.automaton.now c.args.formula.now.names (map edge_of c.edges-edges.result.now) _ _ _ _ _ _ _ c.in-Some.ensures.cases.0 f c.group_len.ensures.group c.options.invariant.rising c.split_at.ensures.front c.split_at.ensures.back in
+    leaves_fails c.options.invariant.text _ _ _ c.from_residual.ensures.0 e c.in_err-put.ensures
+
+pub returns-in_err-put_guards : goal.returns-in_err-put_guards
+returns-in_err-put_guards g c =
+    let P : ℕ → Type 0 = λ p. p < length c.edges-edges.result.now in
+    let within = first_all P _ _ _ c.in-Some.ensures.cases.0 c.options.invariant.within in
+    let f = target_there c.edges-edges.result.now _ c.index-edges-place.result within in
+    let e = options_step c.args.automaton.now c.args.formula.now.names (map edge_of c.edges-edges.result.now) _ _ _ _ _ _ _ c.in-Some.ensures.cases.0 f c.group_len.ensures.group c.options.invariant.rising c.split_at.ensures.front c.split_at.ensures.back in
+    let first = leaves_step c.options.invariant.text _ e c.in_ok-put.ensures in
+    leaves_fails first _ _ _ c.from_residual-in_err-put_guards.ensures.0 refl c.in_err-put_guards.ensures
+
+pub returns-in_err-put-2 : goal.returns-in_err-put-2
+returns-in_err-put-2 g c =
+    let P : ℕ → Type 0 = λ p. p < length c.edges-edges.result.now in
+    let within = first_all P _ _ _ c.in-Some.ensures.cases.0 c.options.invariant.within in
+    let f = target_there c.edges-edges.result.now _ c.index-edges-place.result within in
+    let e = options_step c.args.automaton.now c.args.formula.now.names (map edge_of c.edges-edges.result.now) _ _ _ _ _ _ _ c.in-Some.ensures.cases.0 f c.group_len.ensures.group c.options.invariant.rising c.split_at.ensures.front c.split_at.ensures.back in
+    let first = leaves_step c.options.invariant.text _ e c.in_ok-put.ensures in
+    let second = leaves_step first _ refl c.in_ok-put_guards.ensures in
+    leaves_fails second _ _ _ c.from_residual-in_err-put-2.ensures.0 refl c.in_err-put-2.ensures
+
+pub returns-in_err-put_label : goal.returns-in_err-put_label
+returns-in_err-put_label g c =
+    let P : ℕ → Type 0 = λ p. p < length c.edges-edges.result.now in
+    let within = first_all P _ _ _ c.in-Some.ensures.cases.0 c.options.invariant.within in
+    let f = target_there c.edges-edges.result.now _ c.index-edges-place.result within in
+    let e = options_step c.args.automaton.now c.args.formula.now.names (map edge_of c.edges-edges.result.now) _ _ _ _ _ _ _ c.in-Some.ensures.cases.0 f c.group_len.ensures.group c.options.invariant.rising c.split_at.ensures.front c.split_at.ensures.back in
+    let first = leaves_step c.options.invariant.text _ e c.in_ok-put.ensures in
+    let second = leaves_step first _ refl c.in_ok-put_guards.ensures in
+    let third = leaves_step second _ refl c.in_ok-put-2.ensures in
+    leaves_fails third _ _ _ c.from_residual-in_err-put_label.ensures.0 refl c.in_err-put_label.ensures
+
+pub returns-in_err-put-3 : goal.returns-in_err-put-3
+returns-in_err-put-3 g c =
+    let P : ℕ → Type 0 = λ p. p < length c.edges-edges.result.now in
+    let within = first_all P _ _ _ c.in-Some.ensures.cases.0 c.options.invariant.within in
+    let f = target_there c.edges-edges.result.now _ c.index-edges-place.result within in
+    let e = options_step c.args.automaton.now c.args.formula.now.names (map edge_of c.edges-edges.result.now) _ _ _ _ _ _ _ c.in-Some.ensures.cases.0 f c.group_len.ensures.group c.options.invariant.rising c.split_at.ensures.front c.split_at.ensures.back in
+    let first = leaves_step c.options.invariant.text _ e c.in_ok-put.ensures in
+    let second = leaves_step first _ refl c.in_ok-put_guards.ensures in
+    let third = leaves_step second _ refl c.in_ok-put-2.ensures in
+    let fourth = leaves_step third _ refl c.in_ok-put_label.ensures in
+    leaves_fails fourth _ _ _ c.from_residual-in_err-put-3.ensures.0 refl c.in_err-put-3.ensures
+
+pub options-smaller : goal.options-smaller
+options-smaller g c =
+    let P : ℕ → Type 0 = λ p. p < length c.edges-edges.result.now in
+    let within = first_all P _ _ _ c.in-Some.ensures.cases.0 c.options.invariant.within in
+    let f = target_there c.edges-edges.result.now _ c.index-edges-place.result within in
+    options_fall c.args.automaton.now c.args.formula.now.names (map edge_of c.edges-edges.result.now) _ _ _ _ _ _ _ c.in-Some.ensures.cases.0 f c.group_len.ensures.group c.options.invariant.rising c.split_at.ensures.front c.split_at.ensures.back c.group_len.ensures.within
+
+pub options-preserved : goal.options-preserved
+options-preserved g c =
+    let P : ℕ → Type 0 = λ p. p < length c.edges-edges.result.now in
+    let within = first_all P _ _ _ c.in-Some.ensures.cases.0 c.options.invariant.within in
+    let f = target_there c.edges-edges.result.now _ c.index-edges-place.result within in
+    let e = options_step c.args.automaton.now c.args.formula.now.names (map edge_of c.edges-edges.result.now) _ _ _ _ _ _ _ c.in-Some.ensures.cases.0 f c.group_len.ensures.group c.options.invariant.rising c.split_at.ensures.front c.split_at.ensures.back in
+    let first = leaves_step c.options.invariant.text _ e c.in_ok-put.ensures in
+    let second = leaves_step first _ refl c.in_ok-put_guards.ensures in
+    let third = leaves_step second _ refl c.in_ok-put-2.ensures in
+    let fourth = leaves_step third _ refl c.in_ok-put_label.ensures in
+    record {
+      within = options_within c.args.automaton.now c.args.formula.now.names (map edge_of c.edges-edges.result.now) _ _ _ _ _ _ _ c.in-Some.ensures.cases.0 f c.group_len.ensures.group c.options.invariant.rising c.split_at.ensures.front c.split_at.ensures.back P c.options.invariant.within;
+      rising = options_rise c.args.automaton.now c.args.formula.now.names (map edge_of c.edges-edges.result.now) _ _ _ _ _ _ _ c.in-Some.ensures.cases.0 f c.group_len.ensures.group c.options.invariant.rising c.split_at.ensures.front c.split_at.ensures.back;
+      text = leaves_step fourth _ refl c.in_ok-put-3.ensures;
+    }

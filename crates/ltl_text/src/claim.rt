@@ -1,0 +1,122 @@
+//! A Büchi automaton as a never claim of Spin.
+
+ghost use Rattle.std.specs.Prelude.{◌≡◌, ◌<◌, length, OnOk, OnErr};
+ghost use Rattle.std.specs.Io.KnownBytes.{Appends};
+ghost use Rattle.ltl_spec.specs.Automata.ClaimText as claim;
+ghost use Rattle.ltl_spec.specs.Checking.Bounds.{HasNamesBelow};
+ghost use Rattle.ltl_formula.specs.FormulaView.{reading_of};
+ghost use Rattle.ltl_formula.specs.Streams.{AppendsBeginning};
+ghost use Rattle.ltl_text.specs.Blocks.{blocks_text, others_text};
+ghost use Rattle.ltl_text.specs.Sending.{Puts};
+
+use crate::label::{put_label, skip_state};
+use crate::options::put_options;
+use crate::piece::Piece;
+use ltl_buchi::Ba;
+use ltl_formula::{Formula, WriteFault, text_to, write_whole};
+use std::alloc::Allocator;
+use std::io::Write;
+
+/// Puts what stands below a state's label.
+fn put_body<A: Allocator, B: Allocator, W: Write>(
+    automaton: &Ba<'_, A>,
+    formula: &Formula<'_, B>,
+    skip: usize,
+    k: usize,
+    piece: &mut Piece,
+    writer: &mut W,
+) -> Result<(), WriteFault>
+    requires within { k < length automaton.now.states }
+    requires named { HasNamesBelow (length formula.now.names) automaton.now }
+    requires least { skip ≡ claim.skip_state automaton.now }
+    ensures { Puts result (W.contents writer.old) piece.old (W.contents writer.new) piece.new (claim.body automaton.now formula.now.names k) }
+{
+    if k == skip {
+        return piece.put(b"\tskip\n", writer);
+    }
+    if automaton.edges(k).is_empty() {
+        return piece.put(b"\tfalse;\n", writer);
+    }
+    piece.put(b"\tif\n", writer)?;
+    put_options(automaton, formula, skip, k, piece, writer)?;
+    piece.put(b"\tfi;\n", writer)
+}
+
+/// Puts the block of a state.
+fn put_block<A: Allocator, B: Allocator, W: Write>(
+    automaton: &Ba<'_, A>,
+    formula: &Formula<'_, B>,
+    skip: usize,
+    k: usize,
+    piece: &mut Piece,
+    writer: &mut W,
+) -> Result<(), WriteFault>
+    requires within { k < length automaton.now.states }
+    requires named { HasNamesBelow (length formula.now.names) automaton.now }
+    requires least { skip ≡ claim.skip_state automaton.now }
+    ensures { Puts result (W.contents writer.old) piece.old (W.contents writer.new) piece.new (claim.block automaton.now formula.now.names k) }
+{
+    put_label(automaton, skip, k, piece, writer)?;
+    piece.put(b":\n", writer)?;
+    put_body(automaton, formula, skip, k, piece, writer)
+}
+
+/// Puts the blocks of all states but the skipping one.
+fn put_others<A: Allocator, B: Allocator, W: Write>(
+    automaton: &Ba<'_, A>,
+    formula: &Formula<'_, B>,
+    skip: usize,
+    piece: &mut Piece,
+    writer: &mut W,
+) -> Result<(), WriteFault>
+    requires named { HasNamesBelow (length formula.now.names) automaton.now }
+    requires least { skip ≡ claim.skip_state automaton.now }
+    ensures { Puts result (W.contents writer.old) piece.old (W.contents writer.new) piece.new (others_text automaton.now formula.now.names) }
+{
+    for k in 0..automaton.len() {
+        if k == skip {
+            continue;
+        }
+        put_block(automaton, formula, skip, k, piece, writer)?;
+    }
+    Ok(())
+}
+
+/// Puts the blocks of all states, the skipping one last.
+fn put_blocks<A: Allocator, B: Allocator, W: Write>(
+    automaton: &Ba<'_, A>,
+    formula: &Formula<'_, B>,
+    piece: &mut Piece,
+    writer: &mut W,
+) -> Result<(), WriteFault>
+    requires { HasNamesBelow (length formula.now.names) automaton.now }
+    ensures { Puts result (W.contents writer.old) piece.old (W.contents writer.new) piece.new (blocks_text automaton.now formula.now.names) }
+{
+    let skip = skip_state(automaton);
+    put_others(automaton, formula, skip, piece, writer)?;
+    if skip >= automaton.len() {
+        return Ok(());
+    }
+    put_block(automaton, formula, skip, skip, piece, writer)
+}
+
+/// Writes the automaton as a never claim of Spin, with the formula's text in a comment. State 0 is `accept_init` or `T0_init`, `accept_all`
+/// is the least accepting state other than 0 whose only edge has no literal and leads to itself, and its block stands last. The options of a
+/// state stand in the order of their targets. No memory is taken, and after a fault nothing more is written.
+pub fn never_to<A: Allocator, B: Allocator, W: Write>(
+    automaton: &Ba<'_, A>,
+    formula: &Formula<'_, B>,
+    writer: &mut W,
+) -> Result<(), WriteFault>
+    requires { HasNamesBelow (length formula.now.names) automaton.now }
+    ensures ok { OnOk result (Appends (W.contents writer.old) (W.contents writer.new) (claim.never_text automaton.now (reading_of formula.now))) }
+    ensures err { OnErr result (AppendsBeginning (W.contents writer.old) (W.contents writer.new) (claim.never_text automaton.now (reading_of formula.now))) }
+{
+    write_whole(writer, b"never { /* ")?;
+    text_to(formula, writer)?;
+    let mut piece = Piece::new();
+    piece.put(b" */\n", writer)?;
+    put_blocks(automaton, formula, &mut piece, writer)?;
+    piece.put(b"}\n", writer)?;
+    piece.send(writer)
+}

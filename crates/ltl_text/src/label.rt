@@ -1,0 +1,95 @@
+//! The names of the states of a never claim.
+
+ghost use Rattle.std.specs.Prelude.{◌≡◌, ◌<◌, ◌++◌, [], ◌∷◌, length, map};
+ghost use Rattle.std.specs.Fmt.{decimal};
+ghost use Rattle.std.specs.Cmp.Lexicographic.{pointwise};
+ghost use Rattle.ltl_spec.specs.Automata.ClaimText as claim;
+ghost use Rattle.ltl_spec.specs.Construction.Merging.{same_edge};
+ghost use Rattle.ltl_buchi.specs.BaView.{edge_of};
+ghost use Rattle.ltl_text.specs.Options.{is_empty};
+ghost use Rattle.ltl_text.specs.Sending.{Puts};
+
+use crate::digits::Digits;
+use crate::piece::Piece;
+use ltl_buchi::{Ba, Edge};
+use ltl_formula::WriteFault;
+use ltl_sets::Cube;
+use std::alloc::Allocator;
+use std::io::Write;
+
+fn has_no_literals(cube: &Cube) -> bool
+    ensures { result ≡ is_empty cube.now }
+{
+    let mut literals = cube.iter();
+    literals.next().is_none()
+}
+
+/// Whether the edges are a single one without literals that leads to this state.
+fn is_free_loop(edges: &[Edge], k: usize) -> bool
+    ensures { result ≡ pointwise same_edge (map edge_of edges.now) (record { cube = []; target = k; marks = [] } ∷ []) }
+{
+    match edges {
+        [edge] => edge.target == k && has_no_literals(&edge.cube),
+        _ => false,
+    }
+}
+
+/// Whether a state other than the start is accepting, and its one edge has no literal and leads to itself.
+fn is_skip_state<A: Allocator>(automaton: &Ba<'_, A>, k: usize) -> bool
+    requires { k < length automaton.now.states }
+    ensures { result ≡ claim.is_skip_state automaton.now k }
+{
+    k != 0 && automaton.accepting(k) && is_free_loop(automaton.edges(k), k)
+}
+
+/// The least such state, or the number of states where there is none.
+pub fn skip_state<A: Allocator>(automaton: &Ba<'_, A>) -> usize
+    ensures { result ≡ claim.skip_state automaton.now }
+{
+    for k in 0..automaton.len() {
+        if is_skip_state(automaton, k) {
+            return k;
+        }
+    }
+    automaton.len()
+}
+
+fn put_numbered<W: Write>(
+    beginning: &[u8],
+    k: usize,
+    piece: &mut Piece,
+    writer: &mut W,
+) -> Result<(), WriteFault>
+    ensures { Puts result (W.contents writer.old) piece.old (W.contents writer.new) piece.new (beginning.now ++ decimal k) }
+{
+    piece.put(beginning, writer)?;
+    piece.put(Digits::of(k as u64).as_slice(), writer)
+}
+
+/// Puts the label of a state, where `skip` is the one that is called `accept_all`.
+pub fn put_label<A: Allocator, W: Write>(
+    automaton: &Ba<'_, A>,
+    skip: usize,
+    k: usize,
+    piece: &mut Piece,
+    writer: &mut W,
+) -> Result<(), WriteFault>
+    requires within { k < length automaton.now.states }
+    requires least { skip ≡ claim.skip_state automaton.now }
+    ensures { Puts result (W.contents writer.old) piece.old (W.contents writer.new) piece.new (claim.label_of automaton.now k) }
+{
+    let accepting = automaton.accepting(k);
+    if k == 0 {
+        if accepting {
+            return piece.put(b"accept_init", writer);
+        }
+        return piece.put(b"T0_init", writer);
+    }
+    if k == skip {
+        return piece.put(b"accept_all", writer);
+    }
+    if accepting {
+        return put_numbered(b"accept_S", k, piece, writer);
+    }
+    put_numbered(b"T0_S", k, piece, writer)
+}

@@ -1,0 +1,13 @@
+//! Automata as texts: never claims, and the Hanoi Omega-Automata format.
+#![tactic(auto)]
+
+mod claim;
+mod digits;
+mod guard;
+mod hoa;
+mod label;
+mod options;
+mod piece;
+
+pub use claim::never_to;
+pub use hoa::hoa_to;

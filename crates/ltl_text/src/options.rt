@@ -1,0 +1,84 @@
+//! The options of a state, one for each target.
+
+ghost use Rattle.std.specs.Prelude.{◌≡◌, ◌<◌, ◌≤◌, ◌==◌, length, map, All};
+ghost use Rattle.std.specs.List.{prefix_len};
+ghost use Rattle.ltl_spec.specs.Automata.Automaton.{state_at};
+ghost use Rattle.ltl_spec.specs.Automata.ClaimText.{skip_state};
+ghost use Rattle.ltl_spec.specs.Checking.Bounds.{HasNamesBelow};
+ghost use Rattle.ltl_buchi.specs.BaView.{edge_of, target_at};
+ghost use Rattle.ltl_text.specs.Names.{AllHaveNames};
+ghost use Rattle.ltl_text.specs.Options.{guards_text, options_text};
+ghost use Rattle.ltl_text.specs.Sending.{Puts};
+
+use crate::guard::put_guard;
+use crate::label::put_label;
+use crate::piece::Piece;
+use ltl_buchi::{Ba, Edge};
+use ltl_formula::{Formula, WriteFault};
+use std::alloc::Allocator;
+use std::io::Write;
+
+/// How many places at the beginning have edges to this target.
+fn group_len(edges: &[Edge], places: &[usize], target: usize) -> usize
+    requires { All (λ p. p < length edges.now) places.now }
+    ensures within { result ≤ length places.now }
+    ensures group { result ≡ prefix_len (λ p. target_at (map edge_of edges.now) p == target) places.now }
+{
+    let mut len = 0;
+    'group: while len < places.len() && edges[places[len]].target == target {
+        len += 1;
+    }
+    len
+}
+
+/// Puts the guards of the edges at these places with `||` between them.
+fn put_guards<A: Allocator, W: Write>(
+    edges: &[Edge],
+    places: &[usize],
+    formula: &Formula<'_, A>,
+    piece: &mut Piece,
+    writer: &mut W,
+) -> Result<(), WriteFault>
+    requires within { All (λ p. p < length edges.now) places.now }
+    requires named { AllHaveNames (length formula.now.names) edges.now }
+    ensures { Puts result (W.contents writer.old) piece.old (W.contents writer.new) piece.new (guards_text formula.now.names (map edge_of edges.now) places.now) }
+{
+    let Some((first, others)) = places.split_first() else {
+        return Ok(());
+    };
+    put_guard(&edges[*first].cube, formula, piece, writer)?;
+    for place in others {
+        piece.put(b" || ", writer)?;
+        put_guard(&edges[*place].cube, formula, piece, writer)?;
+    }
+    Ok(())
+}
+
+/// Puts the options of a state in the order of their targets, where `skip` is the state that is called `accept_all`.
+pub fn put_options<A: Allocator, B: Allocator, W: Write>(
+    automaton: &Ba<'_, A>,
+    formula: &Formula<'_, B>,
+    skip: usize,
+    k: usize,
+    piece: &mut Piece,
+    writer: &mut W,
+) -> Result<(), WriteFault>
+    requires within { k < length automaton.now.states }
+    requires named { HasNamesBelow (length formula.now.names) automaton.now }
+    requires least { skip ≡ skip_state automaton.now }
+    ensures { Puts result (W.contents writer.old) piece.old (W.contents writer.new) piece.new (options_text automaton.now formula.now.names (state_at automaton.now k)) }
+{
+    let edges = automaton.edges(k);
+    let mut rest = automaton.by_target(k);
+    'options: while let Some((place, _)) = rest.split_first() {
+        let target = edges[*place].target;
+        let (group, others) = rest.split_at(group_len(edges, rest, target));
+        piece.put(b"\t:: ", writer)?;
+        put_guards(edges, group, formula, piece, writer)?;
+        piece.put(b" -> goto ", writer)?;
+        put_label(automaton, skip, target, piece, writer)?;
+        piece.put(b"\n", writer)?;
+        rest = others;
+    }
+    Ok(())
+}
