@@ -1,0 +1,32 @@
+//! How a program ends.
+
+/// The exit status of a program.
+#[derive(Clone, Copy, Debug, PartialEq, Eq)]
+pub enum Status {
+    /// Printed, contained, true.
+    Done,
+    /// Violated, false.
+    Violated,
+    /// The words of the command line have no meaning.
+    Usage,
+    /// The input was refused.
+    Refused,
+    /// A growth was refused.
+    OutOfMemory,
+    /// Opening, reading or writing failed.
+    Failed,
+}
+
+impl Status {
+    /// The number that the system sees.
+    pub fn number(self) -> u8 {
+        match self {
+            Status::Done => 0,
+            Status::Violated => 1,
+            Status::Usage => 2,
+            Status::Refused => 3,
+            Status::OutOfMemory => 4,
+            Status::Failed => 5,
+        }
+    }
+}
