@@ -34,6 +34,3 @@ pub use reader::read;
 pub use row::Row;
 pub use table::Table;
 pub use token::{Token, TokenKind};
-
-#[cfg(test)]
-mod tests;

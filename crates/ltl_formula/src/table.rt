@@ -3,9 +3,6 @@
 ghost use Rattle.std.specs.Prelude.{◌≡◌, ◌<◌, ◌≤◌, ◌-◌, All, length, slice_get, Some, IfOk, IsErrOf};
 ghost use Rattle.ltl_formula.specs.declared.limits.TheConstants.{ROW_LIMIT};
 
-#[cfg(test)]
-mod tests;
-
 use crate::build_fault::BuildFault;
 use crate::formula::Formula;
 use crate::graph::Graph;

@@ -9,6 +9,3 @@ pub mod row_set;
 pub use cube::{Cube, Literals};
 pub use literal::Literal;
 pub use row_set::{RowSet, Rows};
-
-#[cfg(test)]
-mod tests;

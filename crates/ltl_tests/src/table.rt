@@ -1,7 +1,6 @@
-use crate::build_fault::BuildFault;
-use crate::reader::read;
-use crate::row::Row;
-use crate::table::Table;
+//! The table of rows.
+
+use ltl_formula::{BuildFault, Row, Table, read};
 use refusing::Refusing;
 use std::alloc::{AllocError, Allocator, Global};
 use std::process::Abort;

@@ -1,6 +1,8 @@
 //! Texts that are read, and what is written.
 
-use super::*;
+use ltl_formula::{
+    BinaryOperator, FaultKind, Node, ReadFault, Token, TokenKind, WriteFault, lex, read, text_to,
+};
 use refusing::Refusing;
 use std::alloc::Global;
 use std::io::{self, Write};

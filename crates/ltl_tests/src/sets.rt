@@ -1,4 +1,6 @@
-use crate::{Cube, Literal, RowSet};
+//! Sets of rows and of literals.
+
+use ltl_sets::{Cube, Literal, RowSet};
 use std::alloc::{AllocError, Global};
 use std::cmp::Ordering;
 
