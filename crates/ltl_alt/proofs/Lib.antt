@@ -1,11 +1,16 @@
 pub mod AlikeLaws
 pub mod GbaLaws
+pub mod ImpliedLaws
 pub mod ListsLaws
+pub mod NearLaws
 pub mod NeedsLaws
+pub mod OwnLaws
 pub mod PlaceLaws
 pub mod ReachLaws
 pub mod RowLaws
 pub mod RowListLaws
+pub mod PruneLaws
 pub mod SortedSets
+pub mod StandInLaws
 pub mod TransitionLaws
 pub mod TreeLaws

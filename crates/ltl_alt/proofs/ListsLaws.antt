@@ -8,7 +8,8 @@ use Rattle.ltl_formula.specs.declared.row.Row.{Row}
 use Rattle.ltl_formula.specs.declared.row.Row.TheVariants as row
 use Rattle.ltl_alt.specs.declared.needs.Need.{Need}
 use Rattle.ltl_alt.specs.NeedsView.{need_at, IsAsked, AllAsked}
-use Rattle.ltl_alt.specs.RowLists.{row_pairs, row_sets, list_at, is_made, was_made, list_or_none, HavePairs, HaveSets, AreLists, MadeBelow, IsMore}
+use Rattle.ltl_alt.specs.RowLists.{list_at, is_made, was_made, list_or_none, IsListedRow, IsListedSet, HavePairs, HaveSets, HasAdded, AreLists, MadeBelow, IsMore}
+use Rattle.ltl_alt.specs.declared.rule.Rule.{Rule}
 use Rattle.ltl_alt.proofs.NeedsLaws.{same_or_other, same_row}
 
 pub below_more : (m n : ℕ) (r : Row) → m ≤ n → IsBelow m r → IsBelow n r
@@ -49,50 +50,50 @@ module _ {X : Type 0} (ls : List (Option (List X))) (i : ℕ) (xs : List X) (l :
   ]
 
   -- each list is right where the new one is
-  pub right_more : (f : ℕ → List X) → xs ≡ f i → ((k : ℕ) → is_made ls k ≡ true → list_at ls k ≡ f k) → (k : ℕ) → is_made (slice_set ls i (Some xs)) k ≡ true → list_at (slice_set ls i (Some xs)) k ≡ f k
-  right_more f e h k m = elim (same_or_other k i) [
-    | inl d ↦ subst (λ j. list_at (slice_set ls i (Some xs)) j ≡ f j) (sym d) (listed_now ∙ e)
+  pub right_more : (P : ℕ → List X → Type 0) → P i xs → ((k : ℕ) → is_made ls k ≡ true → P k (list_at ls k)) → (k : ℕ) → is_made (slice_set ls i (Some xs)) k ≡ true → P k (list_at (slice_set ls i (Some xs)) k)
+  right_more P e h k m = elim (same_or_other k i) [
+    | inl d ↦ subst (λ j. P j (list_at (slice_set ls i (Some xs)) j)) (sym d) (subst (P i) (sym listed_now) e)
     | inr n ↦
         let same = get_set_other ls i k (Some xs) n in
-        ap (λ o. list_or_none o) same ∙ h k (sym (ap (λ o. was_made o) same) ∙ m)
+        subst (P k) (sym (ap (λ o. list_or_none o) same)) (h k (sym (ap (λ o. was_made o) same) ∙ m))
   ]
 
-pub more_after : {X : Type 0} (ls ms : List (Option (List X))) (i : ℕ) (xs : List X) → i < length ls → ms ≡ slice_set ls i (Some xs) → IsMore ls ms
-more_after ls ms i xs l e = subst (IsMore ls) (sym e) (made_more ls i xs l)
+pub more_added : (P : List spec.Pair → Type 0) (ls ms : List (Option (List spec.Pair))) (i : ℕ) → i < length ls → HasAdded P i ls ms → IsMore ls ms
+more_added P ls ms i l (xs, p, e) = subst (IsMore ls) (sym e) (made_more ls i xs l)
 
-pub made_after : {X : Type 0} (ls ms : List (Option (List X))) (i : ℕ) (xs : List X) → i < length ls → ms ≡ slice_set ls i (Some xs) → is_made ms i ≡ true
-made_after ls ms i xs l e = subst (λ ns. is_made ns i ≡ true) (sym e) (made_now ls i xs l)
+pub made_added : (P : List spec.Pair → Type 0) (ls ms : List (Option (List spec.Pair))) (i : ℕ) → i < length ls → HasAdded P i ls ms → is_made ms i ≡ true
+made_added P ls ms i l (xs, p, e) = subst (λ ns. is_made ns i ≡ true) (sym e) (made_now ls i xs l)
 
-pub pairs_added : (t : TableView) (ps qs : List (Option (List spec.Pair))) (es fs : List (Option (List spec.RowSet))) (k : ℕ) → AreLists t ps es → k < length t.rows → qs ≡ slice_set ps k (Some (row_pairs t k)) → fs ≡ es → AreLists t qs fs
-pairs_added t ps qs es fs k a l e d =
+pub pairs_added : (t : TableView) (q : Rule) (ps qs es fs : List (Option (List spec.Pair))) (k : ℕ) → AreLists t q ps es → k < length t.rows → HasAdded (IsListedRow t q k) k ps qs → fs ≡ es → AreLists t q qs fs
+pairs_added t q ps qs es fs k a l (xs, p, e) d =
     let c = a.pair_count in
-    subst (λ xs. AreLists t xs fs) (sym e) (subst (AreLists t (slice_set ps k (Some (row_pairs t k)))) (sym d) (record {
+    subst (λ ys. AreLists t q ys fs) (sym e) (subst (AreLists t q (slice_set ps k (Some xs))) (sym d) (record {
       pair_count = length-set _ _ _ ∙ a.pair_count;
       set_count = a.set_count;
-      pairs = right_more ps k (row_pairs t k) (omega arith) (row_pairs t) refl a.pairs;
+      pairs = right_more ps k xs (omega arith) (IsListedRow t q) p a.pairs;
       sets = a.sets;
     }))
 
-pub sets_added : (t : TableView) (ps qs : List (Option (List spec.Pair))) (es fs : List (Option (List spec.RowSet))) (k : ℕ) → AreLists t ps es → k < length t.rows → qs ≡ ps → fs ≡ slice_set es k (Some (row_sets t k)) → AreLists t qs fs
-sets_added t ps qs es fs k a l e d =
+pub sets_added : (t : TableView) (q : Rule) (ps qs es fs : List (Option (List spec.Pair))) (k : ℕ) → AreLists t q ps es → k < length t.rows → qs ≡ ps → HasAdded (IsListedSet t q k) k es fs → AreLists t q qs fs
+sets_added t q ps qs es fs k a l d (xs, p, e) =
     let c = a.set_count in
-    subst (λ xs. AreLists t xs fs) (sym e) (subst (AreLists t ps) (sym d) (record {
+    subst (λ ys. AreLists t q qs ys) (sym e) (subst (λ ys. AreLists t q ys (slice_set es k (Some xs))) (sym d) (record {
       pair_count = a.pair_count;
       set_count = length-set _ _ _ ∙ a.set_count;
       pairs = a.pairs;
-      sets = right_more es k (row_sets t k) (omega arith) (row_sets t) refl a.sets;
+      sets = right_more es k xs (omega arith) (IsListedSet t q) p a.sets;
     }))
 
 -- ---- what operands have
 
-module _ (t : TableView) (ns : List Need) (ps : List (Option (List spec.Pair))) (es : List (Option (List spec.RowSet))) (k : ℕ) (a : AreLists t ps es) (made : MadeBelow ns k ps es) where
-  pair_there : (i : ℕ) → i < k → (need_at ns i).pairs ≡ true → list_at ps i ≡ row_pairs t i
+module _ (t : TableView) (q : Rule) (ns : List Need) (ps es : List (Option (List spec.Pair))) (k : ℕ) (a : AreLists t q ps es) (made : MadeBelow ns k ps es) where
+  pair_there : (i : ℕ) → i < k → (need_at ns i).pairs ≡ true → IsListedRow t q i (list_at ps i)
   pair_there i l e = a.pairs i ((made i l).0 e)
 
-  set_there : (i : ℕ) → i < k → (need_at ns i).sets ≡ true → list_at es i ≡ row_sets t i
+  set_there : (i : ℕ) → i < k → (need_at ns i).sets ≡ true → IsListedSet t q i (list_at es i)
   set_there i l e = a.sets i ((made i l).1 e)
 
-  pub have_pairs : (r : Row) (n : Need) → IsBelow k r → IsAsked ns r n → n.pairs ≡ true → HavePairs t (list_at ps) (list_at es) r
+  pub have_pairs : (r : Row) (n : Need) → IsBelow k r → IsAsked ns r n → n.pairs ≡ true → HavePairs t q (list_at ps) (list_at es) r
   have_pairs row.True n b h e = tt
   have_pairs row.False n b h e = tt
   have_pairs (row.Literal x) n b h e = tt
@@ -102,7 +103,7 @@ module _ (t : TableView) (ns : List Need) (ps : List (Option (List spec.Pair))) 
   have_pairs (row.Until i j) n b h e = (pair_there i b.0 (h.0 e), pair_there j b.1 (h.1 e))
   have_pairs (row.Release i j) n b h e = (pair_there i b.0 (h.0 e), pair_there j b.1 (h.1 e))
 
-  pub have_sets : (r : Row) (n : Need) → IsBelow k r → IsAsked ns r n → n.sets ≡ true → HaveSets t (list_at es) r
+  pub have_sets : (r : Row) (n : Need) → IsBelow k r → IsAsked ns r n → n.sets ≡ true → HaveSets t q (list_at es) r
   have_sets row.True n b h e = tt
   have_sets row.False n b h e = tt
   have_sets (row.Literal x) n b h e = tt
@@ -113,7 +114,7 @@ module _ (t : TableView) (ns : List Need) (ps : List (Option (List spec.Pair))) 
   have_sets (row.Release i j) n b h e = tt
 
 -- one more row was looked at
-pub made_step : (ns : List Need) (k : ℕ) (ps qs : List (Option (List spec.Pair))) (es fs : List (Option (List spec.RowSet))) → MadeBelow ns k ps es → IsMore ps qs → IsMore es fs
+pub made_step : (ns : List Need) (k : ℕ) (ps qs es fs : List (Option (List spec.Pair))) → MadeBelow ns k ps es → IsMore ps qs → IsMore es fs
     → ((need_at ns k).pairs ≡ true → is_made qs k ≡ true) → ((need_at ns k).sets ≡ true → is_made fs k ≡ true) → MadeBelow ns (k + 1) qs fs
 made_step ns k ps qs es fs made more also pair set j l = elim (same_or_other j k) [
   | inl d ↦ subst (λ i. ((need_at ns i).pairs ≡ true → is_made qs i ≡ true) × ((need_at ns i).sets ≡ true → is_made fs i ≡ true)) (sym d) (pair, set)
@@ -121,7 +122,7 @@ made_step ns k ps qs es fs made more also pair set j l = elim (same_or_other j k
 ]
 
 -- what the operands of the next row have
-module _ (t : TableView) (ns : List Need) (ps : List (Option (List spec.Pair))) (es : List (Option (List spec.RowSet))) (k : ℕ) (a : AreLists t ps es) (asked : AllAsked t ns) (made : MadeBelow ns k ps es) (l : k < length ns)
+module _ (t : TableView) (rule : Rule) (ns : List Need) (ps es : List (Option (List spec.Pair))) (k : ℕ) (a : AreLists t rule ps es) (asked : AllAsked t ns) (made : MadeBelow ns k ps es) (l : k < length ns)
     (q : Row) (f : slice_get t.rows k ≡ Some q) (b : IsBelow k q) (n : Need) (i : n ≡ need_at ns k) where
   asked_here : (r : Row) → slice_get t.rows k ≡ Some r → IsAsked ns r n
   asked_here r e = subst (IsAsked ns r) (sym i) (asked k r (omega arith) l e)
@@ -129,8 +130,8 @@ module _ (t : TableView) (ns : List Need) (ps : List (Option (List spec.Pair))) 
   below_here : (r : Row) → slice_get t.rows k ≡ Some r → IsBelow k r
   below_here r e = subst (IsBelow k) (same_row t.rows k q r f e) b
 
-  pub have_pairs_at : n.pairs ≡ true → (r : Row) → slice_get t.rows k ≡ Some r → HavePairs t (list_at ps) (list_at es) r
-  have_pairs_at e r d = have_pairs t ns ps es k a made r n (below_here r d) (asked_here r d) e
+  pub have_pairs_at : n.pairs ≡ true → (r : Row) → slice_get t.rows k ≡ Some r → HavePairs t rule (list_at ps) (list_at es) r
+  have_pairs_at e r d = have_pairs t rule ns ps es k a made r n (below_here r d) (asked_here r d) e
 
-  pub have_sets_at : n.sets ≡ true → (r : Row) → slice_get t.rows k ≡ Some r → HaveSets t (list_at es) r
-  have_sets_at e r d = have_sets t ns ps es k a made r n (below_here r d) (asked_here r d) e
+  pub have_sets_at : n.sets ≡ true → (r : Row) → slice_get t.rows k ≡ Some r → HaveSets t rule (list_at es) r
+  have_sets_at e r d = have_sets t rule ns ps es k a made r n (below_here r d) (asked_here r d) e

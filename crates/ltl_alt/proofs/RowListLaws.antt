@@ -1,17 +1,21 @@
 -- The pairs and the sets of a row by those of its operands.
-use Rattle.std.proofs.Common.{◌≡◌, ℕ, zero, suc, ◌<◌, inl, inr, List, [], ◌∷◌, ◌++◌, map, sym, ◌∙◌, ap, subst, Some}
-use Rattle.std.specs.Prelude.{slice_get}
-use Rattle.ltl_spec.specs.Collections.Sets.{Has, set_of}
+use Rattle.std.proofs.Common.{◌≡◌, ℕ, zero, suc, ◌<◌, inl, inr, List, [], ◌∷◌, ◌++◌, map, refl, sym, ◌∙◌, ap, subst, Some}
+use Rattle.std.specs.Prelude.{slice_get, filter_map}
+use Rattle.std.specs.Ordering.{nat_cmp}
+use Rattle.ltl_spec.specs.Collections.Sets.{Has, union}
 use Rattle.ltl_spec.specs.NormalForms.Normal.{Until, Release}
 use Rattle.ltl_spec.specs.Transitions.Pairs as spec
-use Rattle.ltl_spec.proofs.Collections.Orders.{pair_linear, row_set_linear}
+use Rattle.ltl_spec.specs.Transitions.RowTransitions.{table_of}
 use Rattle.ltl_spec.proofs.NormalForms.SharedNodes.{AllBefore, tree_of}
 use Rattle.ltl_formula.specs.GraphView.{node_of, IsBelow}
-use Rattle.ltl_formula.specs.TableView.{TableView, row_tree}
+use Rattle.ltl_formula.specs.TableView.{TableView, row_tree, core_of}
 use Rattle.ltl_formula.specs.declared.row.Row.{Row}
 use Rattle.ltl_formula.specs.declared.row.Row.TheVariants as row
-use Rattle.ltl_alt.specs.RowLists.{row_place, row_pairs, row_sets, pairs_from, sets_from, next_pair, HavePairs, HaveSets}
-use Rattle.ltl_alt.proofs.AlikeLaws.{AreAlike, alike_refl, alike_append, alike_map, alike_join, alike_unions, alike_set, one_set}
+use Rattle.ltl_sets.specs.Literals.{literal_of}
+use Rattle.ltl_alt.specs.RowLists.{row_place, pairs_from, sets_from, next_pair, IsListedRow, IsListedSet, HavePairs, HaveSets}
+use Rattle.ltl_alt.specs.StandIns.{IsKeptBy, StandsFor, IsFit, IsPruned}
+use Rattle.ltl_alt.specs.declared.rule.Rule.{Rule}
+use Rattle.ltl_alt.proofs.StandInLaws.{IsStandIn, stands_in, kept_all, kept_join, kept_append, pruned_of}
 use Rattle.ltl_alt.proofs.TreeLaws.{tree_is}
 
 -- ---- the tree of a row
@@ -43,67 +47,85 @@ all_before k (row.Release a b) l j h = two_before k a b j l.0 l.1 h
 pub row_tree_is : (t : TableView) (k : ℕ) (r : Row) → slice_get t.rows k ≡ Some r → IsBelow k r → row_tree t k ≡ tree_of (row_tree t) (node_of r)
 row_tree_is t k r e l = tree_is (map node_of t.rows) k (node_of r) (node_found t.rows k r e) (all_before k r l)
 
+-- ---- sets as pairs that ask for them next
+
+next_append : (ds es : List spec.RowSet) → map next_pair (ds ++ es) ≡ map next_pair ds ++ map next_pair es
+next_append [] es = refl
+next_append (d ∷ ds) es = ap (λ l. next_pair d ∷ l) (next_append ds es)
+
+next_each : (d : spec.RowSet) (es : List spec.RowSet) → map next_pair (map (union nat_cmp d) es) ≡ filter_map (spec.join_pair (next_pair d)) (map next_pair es)
+next_each d [] = refl
+next_each d (e ∷ es) = ap (λ l. next_pair (union nat_cmp d e) ∷ l) (next_each d es)
+
+next_unions : (ds es : List spec.RowSet) → map next_pair (spec.unions ds es) ≡ spec.join (map next_pair ds) (map next_pair es)
+next_unions [] es = refl
+next_unions (d ∷ ds) es =
+    next_append (map (union nat_cmp d) es) (spec.unions ds es)
+    ∙ ap (λ l. l ++ map next_pair (spec.unions ds es)) (next_each d es)
+    ∙ ap (λ l. filter_map (spec.join_pair (next_pair d)) (map next_pair es) ++ l) (next_unions ds es)
+
 -- ---- lists by those of the operands
 
-like_pairs : (xs ys : List spec.Pair) → xs ≡ set_of spec.pair_cmp ys → AreAlike xs ys
-like_pairs xs ys e = subst (λ l. AreAlike l ys) (sym e) (alike_set pair_linear ys)
+module _ (t : TableView) (q : Rule) (ps es : ℕ → List spec.Pair) (at : ℕ) where
+  stands : IsStandIn (StandsFor (table_of (core_of t)) q)
+  stands = stands_in (table_of (core_of t)) q
 
-like_sets : (xs ys : List spec.RowSet) → xs ≡ set_of spec.row_set_cmp ys → AreAlike xs ys
-like_sets xs ys e = subst (λ l. AreAlike l ys) (sym e) (alike_set row_set_linear ys)
+  all : (xs : List spec.Pair) → IsKeptBy (StandsFor (table_of (core_of t)) q) xs xs
+  all xs = kept_all stands xs
 
-like_later : (i j : ℕ) → i ≡ j → AreAlike (spec.later_pair i ∷ []) (spec.later_pair j ∷ [])
-like_later i j e = subst (λ k. AreAlike (spec.later_pair i ∷ []) (spec.later_pair k ∷ [])) e (alike_refl (spec.later_pair i ∷ []))
+  later : (k : ℕ) → at ≡ k → IsKeptBy (StandsFor (table_of (core_of t)) q) (spec.later_pair k ∷ []) (spec.later_pair at ∷ [])
+  later k e = subst (λ j. IsKeptBy (StandsFor (table_of (core_of t)) q) (spec.later_pair j ∷ []) (spec.later_pair at ∷ [])) e (all (spec.later_pair at ∷ []))
 
-module _ (t : TableView) (ps : ℕ → List spec.Pair) (es : ℕ → List spec.RowSet) (at : ℕ) where
-  pairs_alike : (r : Row) → at ≡ row_place t (tree_of (row_tree t) (node_of r)) → HavePairs t ps es r → AreAlike (pairs_from ps es at r) (spec.pairs (row_place t) (tree_of (row_tree t) (node_of r)))
-  pairs_alike row.True e h = alike_refl (spec.empty_pair ∷ [])
-  pairs_alike row.False e h = record { there = λ z x. x; back = λ z x. x }
-  pairs_alike (row.Literal l) e h = record { there = λ z x. x; back = λ z x. x }
-  pairs_alike (row.Next i) e h = alike_map next_pair (es i) (spec.conj (row_place t) (row_tree t i)) (like_sets (es i) (spec.conj (row_place t) (row_tree t i)) h)
-  pairs_alike (row.And i j) e h =
-      alike_join (ps i) (ps j) (spec.pairs (row_place t) (row_tree t i)) (spec.pairs (row_place t) (row_tree t j))
-      (like_pairs (ps i) (spec.pairs (row_place t) (row_tree t i)) h.0) (like_pairs (ps j) (spec.pairs (row_place t) (row_tree t j)) h.1)
-  pairs_alike (row.Or i j) e h =
-      alike_append (ps i) (ps j) (spec.pairs (row_place t) (row_tree t i)) (spec.pairs (row_place t) (row_tree t j))
-      (like_pairs (ps i) (spec.pairs (row_place t) (row_tree t i)) h.0) (like_pairs (ps j) (spec.pairs (row_place t) (row_tree t j)) h.1)
-  pairs_alike (row.Until i j) e h =
-      let a = like_pairs (ps i) (spec.pairs (row_place t) (row_tree t i)) h.0 in
-      let b = like_pairs (ps j) (spec.pairs (row_place t) (row_tree t j)) h.1 in
+  abbrev of : ℕ → List spec.Pair
+  of i = spec.pairs (row_place t) (row_tree t i)
+
+  pairs_kept : (r : Row) → at ≡ row_place t (tree_of (row_tree t) (node_of r)) → HavePairs t q ps es r
+      → IsKeptBy (StandsFor (table_of (core_of t)) q) (spec.pairs (row_place t) (tree_of (row_tree t) (node_of r))) (pairs_from ps es at r)
+  pairs_kept row.True e h = all (spec.empty_pair ∷ [])
+  pairs_kept row.False e h = all []
+  pairs_kept (row.Literal l) e h = all (record { cube = literal_of l ∷ []; targets = [] } ∷ [])
+  pairs_kept (row.Next i) e h = h.kept
+  pairs_kept (row.And i j) e h = kept_join stands (of i) (ps i) (of j) (ps j) h.0.kept h.1.kept
+  pairs_kept (row.Or i j) e h = kept_append stands (of i) (ps i) (of j) (ps j) h.0.kept h.1.kept
+  pairs_kept (row.Until i j) e h =
       let k = row_place t (Until (row_tree t i) (row_tree t j)) in
-      alike_append (ps j) (spec.join (ps i) (spec.later_pair at ∷ [])) (spec.pairs (row_place t) (row_tree t j)) (spec.join (spec.pairs (row_place t) (row_tree t i)) (spec.later_pair k ∷ []))
-      b (alike_join (ps i) (spec.later_pair at ∷ []) (spec.pairs (row_place t) (row_tree t i)) (spec.later_pair k ∷ []) a (like_later at k e))
-  pairs_alike (row.Release i j) e h =
-      let a = like_pairs (ps i) (spec.pairs (row_place t) (row_tree t i)) h.0 in
-      let b = like_pairs (ps j) (spec.pairs (row_place t) (row_tree t j)) h.1 in
+      kept_append stands (of j) (ps j) (spec.join (of i) (spec.later_pair k ∷ [])) (spec.join (ps i) (spec.later_pair at ∷ []))
+      h.1.kept (kept_join stands (of i) (ps i) (spec.later_pair k ∷ []) (spec.later_pair at ∷ []) h.0.kept (later k e))
+  pairs_kept (row.Release i j) e h =
       let k = row_place t (Release (row_tree t i) (row_tree t j)) in
-      alike_join (ps j) (ps i ++ spec.later_pair at ∷ []) (spec.pairs (row_place t) (row_tree t j)) (spec.pairs (row_place t) (row_tree t i) ++ spec.later_pair k ∷ [])
-      b (alike_append (ps i) (spec.later_pair at ∷ []) (spec.pairs (row_place t) (row_tree t i)) (spec.later_pair k ∷ []) a (like_later at k e))
+      kept_join stands (of j) (ps j) (of i ++ spec.later_pair k ∷ []) (ps i ++ spec.later_pair at ∷ [])
+      h.1.kept (kept_append stands (of i) (ps i) (spec.later_pair k ∷ []) (spec.later_pair at ∷ []) h.0.kept (later k e))
 
-  one_set_alike : (i j : ℕ) → i ≡ j → AreAlike ((i ∷ []) ∷ []) ((j ∷ []) ∷ [])
-  one_set_alike i j e = subst (λ k. AreAlike ((i ∷ []) ∷ []) ((k ∷ []) ∷ [])) e (alike_refl ((i ∷ []) ∷ []))
+  abbrev next_of : ℕ → List spec.Pair
+  next_of i = map next_pair (spec.conj (row_place t) (row_tree t i))
 
-  sets_alike : (r : Row) → at ≡ row_place t (tree_of (row_tree t) (node_of r)) → HaveSets t es r → AreAlike (sets_from es at r) (spec.conj (row_place t) (tree_of (row_tree t) (node_of r)))
-  sets_alike row.True e h = alike_refl ([] ∷ [])
-  sets_alike row.False e h = record { there = λ z x. x; back = λ z x. x }
-  sets_alike (row.And i j) e h =
-      alike_unions (es i) (es j) (spec.conj (row_place t) (row_tree t i)) (spec.conj (row_place t) (row_tree t j))
-      (like_sets (es i) (spec.conj (row_place t) (row_tree t i)) h.0) (like_sets (es j) (spec.conj (row_place t) (row_tree t j)) h.1)
-  sets_alike (row.Or i j) e h =
-      alike_append (es i) (es j) (spec.conj (row_place t) (row_tree t i)) (spec.conj (row_place t) (row_tree t j))
-      (like_sets (es i) (spec.conj (row_place t) (row_tree t i)) h.0) (like_sets (es j) (spec.conj (row_place t) (row_tree t j)) h.1)
-  sets_alike (row.Literal l) e h = one_set_alike at _ e
-  sets_alike (row.Next i) e h = one_set_alike at _ e
-  sets_alike (row.Until i j) e h = one_set_alike at _ e
-  sets_alike (row.Release i j) e h = one_set_alike at _ e
+  sets_kept : (r : Row) → at ≡ row_place t (tree_of (row_tree t) (node_of r)) → HaveSets t q es r
+      → IsKeptBy (StandsFor (table_of (core_of t)) q) (map next_pair (spec.conj (row_place t) (tree_of (row_tree t) (node_of r)))) (sets_from es at r)
+  sets_kept row.True e h = all (spec.empty_pair ∷ [])
+  sets_kept row.False e h = all []
+  sets_kept (row.And i j) e h =
+      subst (λ xs. IsKeptBy (StandsFor (table_of (core_of t)) q) xs (spec.join (es i) (es j))) (sym (next_unions (spec.conj (row_place t) (row_tree t i)) (spec.conj (row_place t) (row_tree t j))))
+      (kept_join stands (next_of i) (es i) (next_of j) (es j) h.0.kept h.1.kept)
+  sets_kept (row.Or i j) e h =
+      subst (λ xs. IsKeptBy (StandsFor (table_of (core_of t)) q) xs (es i ++ es j)) (sym (next_append (spec.conj (row_place t) (row_tree t i)) (spec.conj (row_place t) (row_tree t j))))
+      (kept_append stands (next_of i) (es i) (next_of j) (es j) h.0.kept h.1.kept)
+  sets_kept (row.Literal l) e h = later _ e
+  sets_kept (row.Next i) e h = later _ e
+  sets_kept (row.Until i j) e h = later _ e
+  sets_kept (row.Release i j) e h = later _ e
 
-  pub pairs_right : (k : ℕ) (r : Row) → slice_get t.rows k ≡ Some r → IsBelow k r → at ≡ row_place t (row_tree t k) → HavePairs t ps es r → set_of spec.pair_cmp (pairs_from ps es at r) ≡ row_pairs t k
-  pairs_right k r e l p h =
-      let d = row_tree_is t k r e l in
-      one_set pair_linear (pairs_from ps es at r) (spec.pairs (row_place t) (tree_of (row_tree t) (node_of r))) (pairs_alike r (p ∙ ap (row_place t) d) h)
-      ∙ ap (λ F. set_of spec.pair_cmp (spec.pairs (row_place t) F)) (sym d)
+  module _ (own : List (List spec.Pair)) (fit : IsFit (table_of (core_of t)) q own) (k : ℕ) (r : Row) (f : slice_get t.rows k ≡ Some r) (l : IsBelow k r) (p : at ≡ row_place t (row_tree t k)) (xs ys : List spec.Pair) where
+    tree : row_tree t k ≡ tree_of (row_tree t) (node_of r)
+    tree = row_tree_is t k r f l
 
-  pub sets_right : (k : ℕ) (r : Row) → slice_get t.rows k ≡ Some r → IsBelow k r → at ≡ row_place t (row_tree t k) → HaveSets t es r → set_of spec.row_set_cmp (sets_from es at r) ≡ row_sets t k
-  sets_right k r e l p h =
-      let d = row_tree_is t k r e l in
-      one_set row_set_linear (sets_from es at r) (spec.conj (row_place t) (tree_of (row_tree t) (node_of r))) (sets_alike r (p ∙ ap (row_place t) d) h)
-      ∙ ap (λ F. set_of spec.row_set_cmp (spec.conj (row_place t) F)) (sym d)
+    pub pairs_listed : HavePairs t q ps es r → xs ≡ pairs_from ps es at r → IsPruned q own xs ys → IsListedRow t q k ys
+    pairs_listed h e w =
+        pruned_of (table_of (core_of t)) q own (of k) xs ys fit
+        (subst (λ F. IsKeptBy (StandsFor (table_of (core_of t)) q) (spec.pairs (row_place t) F) xs) (sym tree)
+        (subst (IsKeptBy (StandsFor (table_of (core_of t)) q) (spec.pairs (row_place t) (tree_of (row_tree t) (node_of r)))) (sym e) (pairs_kept r (p ∙ ap (row_place t) tree) h))) w
+
+    pub sets_listed : HaveSets t q es r → xs ≡ sets_from es at r → IsPruned q own xs ys → IsListedSet t q k ys
+    sets_listed h e w =
+        pruned_of (table_of (core_of t)) q own (next_of k) xs ys fit
+        (subst (λ F. IsKeptBy (StandsFor (table_of (core_of t)) q) (map next_pair (spec.conj (row_place t) F)) xs) (sym tree)
+        (subst (IsKeptBy (StandsFor (table_of (core_of t)) q) (map next_pair (spec.conj (row_place t) (tree_of (row_tree t) (node_of r))))) (sym e) (sets_kept r (p ∙ ap (row_place t) tree) h))) w

@@ -12,15 +12,9 @@ use Rattle.std.proofs.lemmas.Fn.{always_returns_same}
 use Rattle.std.proofs.lemmas.List.Sorted.{ranks_by, Contains-permutation, IsPermutation-sym}
 use Rattle.std.proofs.lemmas.List.Filters.{dedup_is}
 use Rattle.std.proofs.lemmas.List.Kept.{Contains-dedup, Contains-from_dedup, IsStrictlySortedBy-dedup}
-use Rattle.std.proofs.lemmas.Bool.Decides.{same_from_decides}
-use Rattle.std.proofs.lemmas.Cmp.{tied_itself}
-use Rattle.std.specs.Prelude.{nat_eq}
-use Rattle.std.specs.Cmp.Lexicographic.{pointwise, bytes_decides}
 use denote.Param.Members.{Mut}
 use denote.Ref.{Bor}
 use Rattle.ltl_spec.specs.Collections.Sets.{Has, IsRising, set_of, IsLinearOrder}
-use Rattle.ltl_spec.specs.Transitions.Pairs.{RowSet, row_set_cmp}
-use Rattle.ltl_spec.proofs.Collections.Orders.{row_set_linear}
 use Rattle.ltl_spec.proofs.Collections.SetLaws.{same_members, set_of_cases, Has-set_of, IsRising-set_of}
 use Rattle.ltl_spec.proofs.Collections.ListLaws.{Has-from_contains, Contains-from_has}
 
@@ -60,10 +54,3 @@ module _ {K : Type 0} {cmp : K → K → Ordering} (o : IsLinearOrder cmp) {E : 
       (Contains-from_dedup E ys z (Contains-from_has (dedup E ys) z (subst (λ l. Has l z) e k))))))
       (λ z k. subst (λ l. Has l z) (sym d) (Has-from_contains (dedup (eq_by_cmp cmp) ys) z
       (Contains-dedup (eq_by_cmp_equiv o.total) exact ys z (Contains-permutation xs ys z p (Contains-from_has xs z (set_of_cases o xs z k))))))
-
--- the test of sets of rows and their comparison agree
-pub same_sets : (x y : RowSet) → pointwise nat_eq x y ≡ eq_by_cmp row_set_cmp x y
-same_sets x y = same_from_decides (pointwise nat_eq x y) (eq_by_cmp row_set_cmp x y) (bytes_decides x y) (
-  (λ e. row_set_linear.exact x y (equal_from (row_set_cmp x y) e)),
-  λ e. subst (λ z. is_eq (row_set_cmp x z) ≡ true) e (ap is_eq (tied_itself row_set_linear.total x)),
-)

@@ -1,11 +1,13 @@
 -- Lists that rows of a table have.
-use Rattle.std.specs.Prelude.{◌≡◌, ℕ, ◌<◌, Bool, true, false, List, [], ◌∷◌, ◌++◌, length, map, slice_get, Option, Some, None}
+use Rattle.std.specs.Prelude.{◌≡◌, ℕ, ◌<◌, Bool, true, false, List, [], ◌∷◌, ◌++◌, length, map, slice_get, slice_set, Option, Some, None}
 use Rattle.ltl_spec.specs.Collections.Sets.{set_of}
 use Rattle.ltl_spec.specs.NormalForms.Normal.{Normal}
 use Rattle.ltl_spec.specs.Transitions.Pairs as spec
 use Rattle.ltl_spec.specs.Transitions.RowTransitions.{table_of, place}
 use Rattle.ltl_sets.specs.Literals.{literal_of}
 use Rattle.ltl_alt.specs.declared.needs.Need.{Need}
+use Rattle.ltl_alt.specs.declared.rule.Rule.{Rule}
+use Rattle.ltl_alt.specs.StandIns.{StandsFor, IsListed}
 use Rattle.ltl_alt.specs.NeedsView.{need_at}
 use Rattle.ltl_formula.specs.TableView.{TableView, row_tree, core_of}
 use Rattle.ltl_formula.specs.declared.row.Row.{Row}
@@ -19,34 +21,31 @@ next_pair e = record { cube = []; targets = e }
 abbrev pub row_place : TableView → Normal → ℕ
 row_place t = place (table_of (core_of t))
 
--- the pairs of a row, and the sets of rows of which one has to hold
+-- the pairs of a row
 abbrev pub row_pairs : TableView → ℕ → List spec.Pair
 row_pairs t k = set_of spec.pair_cmp (spec.pairs (row_place t) (row_tree t k))
 
-abbrev pub row_sets : TableView → ℕ → List spec.RowSet
-row_sets t k = set_of spec.row_set_cmp (spec.conj (row_place t) (row_tree t k))
-
 -- the pairs of a row at a place, by the lists of its operands
-abbrev pub pairs_from : (ℕ → List spec.Pair) → (ℕ → List spec.RowSet) → ℕ → Row → List spec.Pair
+abbrev pub pairs_from : (ℕ → List spec.Pair) → (ℕ → List spec.Pair) → ℕ → Row → List spec.Pair
 pairs_from ps es at row.True = spec.empty_pair ∷ []
 pairs_from ps es at row.False = []
 pairs_from ps es at (row.Literal l) = record { cube = literal_of l ∷ []; targets = [] } ∷ []
-pairs_from ps es at (row.Next i) = map next_pair (es i)
+pairs_from ps es at (row.Next i) = es i
 pairs_from ps es at (row.And i j) = spec.join (ps i) (ps j)
 pairs_from ps es at (row.Or i j) = ps i ++ ps j
 pairs_from ps es at (row.Until i j) = ps j ++ spec.join (ps i) (spec.later_pair at ∷ [])
 pairs_from ps es at (row.Release i j) = spec.join (ps j) (ps i ++ spec.later_pair at ∷ [])
 
--- the sets of a row at a place
-abbrev pub sets_from : (ℕ → List spec.RowSet) → ℕ → Row → List spec.RowSet
-sets_from es at row.True = [] ∷ []
+-- the sets of a row at a place, as pairs that ask for them next
+abbrev pub sets_from : (ℕ → List spec.Pair) → ℕ → Row → List spec.Pair
+sets_from es at row.True = spec.empty_pair ∷ []
 sets_from es at row.False = []
-sets_from es at (row.And i j) = spec.unions (es i) (es j)
+sets_from es at (row.And i j) = spec.join (es i) (es j)
 sets_from es at (row.Or i j) = es i ++ es j
-sets_from es at (row.Literal l) = (at ∷ []) ∷ []
-sets_from es at (row.Next i) = (at ∷ []) ∷ []
-sets_from es at (row.Until i j) = (at ∷ []) ∷ []
-sets_from es at (row.Release i j) = (at ∷ []) ∷ []
+sets_from es at (row.Literal l) = spec.later_pair at ∷ []
+sets_from es at (row.Next i) = spec.later_pair at ∷ []
+sets_from es at (row.Until i j) = spec.later_pair at ∷ []
+sets_from es at (row.Release i j) = spec.later_pair at ∷ []
 
 -- the list that was made, or none
 abbrev pub list_or_none : {X : Type 0} → Option (Option (List X)) → List X
@@ -66,37 +65,48 @@ list_at lists k = list_or_none (slice_get lists k)
 abbrev pub is_made : {X : Type 0} → List (Option (List X)) → ℕ → Bool
 is_made lists k = was_made (slice_get lists k)
 
+-- by a rule this was listed of the pairs of a row, and of its sets
+abbrev pub IsListedRow : TableView → Rule → ℕ → List spec.Pair → Type 0
+IsListedRow t r k qs = IsListed (StandsFor (table_of (core_of t)) r) (spec.pairs (row_place t) (row_tree t k)) qs
+
+abbrev pub IsListedSet : TableView → Rule → ℕ → List spec.Pair → Type 0
+IsListedSet t r k qs = IsListed (StandsFor (table_of (core_of t)) r) (map next_pair (spec.conj (row_place t) (row_tree t k))) qs
+
 -- the lists of the operands are as they should be, as far as the pairs of a row take them
-abbrev pub HavePairs : TableView → (ℕ → List spec.Pair) → (ℕ → List spec.RowSet) → Row → Type 0
-HavePairs t ps es row.True = Unit {0}
-HavePairs t ps es row.False = Unit {0}
-HavePairs t ps es (row.Literal l) = Unit {0}
-HavePairs t ps es (row.Next i) = es i ≡ row_sets t i
-HavePairs t ps es (row.And i j) = (ps i ≡ row_pairs t i) × (ps j ≡ row_pairs t j)
-HavePairs t ps es (row.Or i j) = (ps i ≡ row_pairs t i) × (ps j ≡ row_pairs t j)
-HavePairs t ps es (row.Until i j) = (ps i ≡ row_pairs t i) × (ps j ≡ row_pairs t j)
-HavePairs t ps es (row.Release i j) = (ps i ≡ row_pairs t i) × (ps j ≡ row_pairs t j)
+abbrev pub HavePairs : TableView → Rule → (ℕ → List spec.Pair) → (ℕ → List spec.Pair) → Row → Type 0
+HavePairs t q ps es row.True = Unit {0}
+HavePairs t q ps es row.False = Unit {0}
+HavePairs t q ps es (row.Literal l) = Unit {0}
+HavePairs t q ps es (row.Next i) = IsListedSet t q i (es i)
+HavePairs t q ps es (row.And i j) = IsListedRow t q i (ps i) × IsListedRow t q j (ps j)
+HavePairs t q ps es (row.Or i j) = IsListedRow t q i (ps i) × IsListedRow t q j (ps j)
+HavePairs t q ps es (row.Until i j) = IsListedRow t q i (ps i) × IsListedRow t q j (ps j)
+HavePairs t q ps es (row.Release i j) = IsListedRow t q i (ps i) × IsListedRow t q j (ps j)
 
 -- and as far as its sets do
-abbrev pub HaveSets : TableView → (ℕ → List spec.RowSet) → Row → Type 0
-HaveSets t es row.True = Unit {0}
-HaveSets t es row.False = Unit {0}
-HaveSets t es (row.And i j) = (es i ≡ row_sets t i) × (es j ≡ row_sets t j)
-HaveSets t es (row.Or i j) = (es i ≡ row_sets t i) × (es j ≡ row_sets t j)
-HaveSets t es (row.Literal l) = Unit {0}
-HaveSets t es (row.Next i) = Unit {0}
-HaveSets t es (row.Until i j) = Unit {0}
-HaveSets t es (row.Release i j) = Unit {0}
+abbrev pub HaveSets : TableView → Rule → (ℕ → List spec.Pair) → Row → Type 0
+HaveSets t q es row.True = Unit {0}
+HaveSets t q es row.False = Unit {0}
+HaveSets t q es (row.And i j) = IsListedSet t q i (es i) × IsListedSet t q j (es j)
+HaveSets t q es (row.Or i j) = IsListedSet t q i (es i) × IsListedSet t q j (es j)
+HaveSets t q es (row.Literal l) = Unit {0}
+HaveSets t q es (row.Next i) = Unit {0}
+HaveSets t q es (row.Until i j) = Unit {0}
+HaveSets t q es (row.Release i j) = Unit {0}
 
 -- what was listed stands as it should
-pub record AreLists (t : TableView) (ps : List (Option (List spec.Pair))) (es : List (Option (List spec.RowSet))) : Type 0 where
+pub record AreLists (t : TableView) (q : Rule) (ps es : List (Option (List spec.Pair))) : Type 0 where
   pub pair_count : length ps ≡ length t.rows
   pub set_count : length es ≡ length t.rows
-  pub pairs : (k : ℕ) → is_made ps k ≡ true → list_at ps k ≡ row_pairs t k
-  pub sets : (k : ℕ) → is_made es k ≡ true → list_at es k ≡ row_sets t k
+  pub pairs : (k : ℕ) → is_made ps k ≡ true → IsListedRow t q k (list_at ps k)
+  pub sets : (k : ℕ) → is_made es k ≡ true → IsListedSet t q k (list_at es k)
+
+-- one more list was made, which is as it should be
+abbrev pub HasAdded : (List spec.Pair → Type 0) → ℕ → List (Option (List spec.Pair)) → List (Option (List spec.Pair)) → Type 0
+HasAdded P k old new = (xs : List spec.Pair) × P xs × (new ≡ slice_set old k (Some xs))
 
 -- what is needed of the first rows was listed
-abbrev pub MadeBelow : List Need → ℕ → List (Option (List spec.Pair)) → List (Option (List spec.RowSet)) → Type 0
+abbrev pub MadeBelow : List Need → ℕ → List (Option (List spec.Pair)) → List (Option (List spec.Pair)) → Type 0
 MadeBelow ns n ps es = (k : ℕ) → k < n → ((need_at ns k).pairs ≡ true → is_made ps k ≡ true) × ((need_at ns k).sets ≡ true → is_made es k ≡ true)
 
 -- what was listed before still is

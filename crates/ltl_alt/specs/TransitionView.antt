@@ -1,11 +1,9 @@
 -- Steps towards the transitions of a set of rows.
-use Rattle.std.specs.Prelude.{ℕ, Bool, not, ◌&&◌, List, slice_index_or}
+use Rattle.std.specs.Prelude.{ℕ, Bool, not, ◌&&◌, List, [], ◌∷◌, fold, slice_index_or}
 use Rattle.std.specs.List.{list_any, filter}
-use Rattle.std.specs.Ordering.{nat_cmp, is_ne}
-use Rattle.ltl_spec.specs.Collections.Sets.{set_of, has, is_subset}
-use Rattle.ltl_spec.specs.Transitions.Cubes.{literal_cmp}
+use Rattle.std.specs.Ordering.{is_ne}
 use Rattle.ltl_spec.specs.NormalForms.Normal.{Bottom}
-use Rattle.ltl_spec.specs.Transitions.Pairs.{Pair, pair_cmp, join}
+use Rattle.ltl_spec.specs.Transitions.Pairs.{RowSet, Pair, join, empty_pair}
 use Rattle.ltl_spec.specs.Transitions.RowTransitions.{Table, table_of, pairs_at, Transition, implies, transition_cmp, is_marked}
 use Rattle.ltl_formula.specs.TableView.{TableView, core_of}
 
@@ -13,13 +11,9 @@ use Rattle.ltl_formula.specs.TableView.{TableView, core_of}
 abbrev pub table_at : TableView → Table
 table_at t = table_of (core_of t)
 
--- the pairs with those of a member at once
-abbrev pub with_member : Table → List Pair → ℕ → List Pair
-with_member t ps i = set_of pair_cmp (join ps (pairs_at t i))
-
--- a pair q of the until row at a place fulfils it
-abbrev pub is_fulfilled_by : ℕ → Pair → Pair → Bool
-is_fulfilled_by at p q = is_subset literal_cmp q.cube p.cube && not (has nat_cmp at q.targets) && is_subset nat_cmp q.targets p.targets
+-- all rows of a set at once, with repetitions
+abbrev pub all_joined : Table → RowSet → List Pair
+all_joined t e = fold (λ ps i. join ps (pairs_at t i)) (empty_pair ∷ []) e
 
 -- the transition doesn't put the until row of that number off
 abbrev pub is_marked_at : TableView → Pair → ℕ → Bool

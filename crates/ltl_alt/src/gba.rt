@@ -1,6 +1,6 @@
 //! Generalized Büchi automata.
 
-ghost use Rattle.std.specs.Prelude.{◌≡◌, ◌<◌, ◌≤◌, length, map, IfOk, IsErrOf};
+ghost use Rattle.std.specs.Prelude.{◌≡◌, ◌<◌, ◌≤◌, true, length, map, All, IfOk, IsErrOf};
 ghost use Rattle.ltl_spec.specs.Automata.Automaton.{state_at};
 ghost use Rattle.ltl_spec.specs.Automata.Generalized.{IsGeneralized, IsTooLarge};
 ghost use Rattle.ltl_formula.specs.TableView.{core_of};
@@ -88,6 +88,13 @@ impl<'a, A: Allocator> Gba<'a, A> {
     /// Hands what the type holds to callers.
     pub fn stays_within(&self)
         ensures { IsGba self.now }
+    {
+        let _ = &self.states;
+    }
+
+    /// Hands to callers that every state is accepting, so that only the acceptance sets count.
+    pub fn accepts_everywhere(&self)
+        ensures { All (λ s. s.accepting ≡ true) self.now.states }
     {
         let _ = &self.states;
     }

@@ -3,6 +3,7 @@
 ghost use Rattle.std.specs.Prelude.{◌≡◌, ◌<◌, [], ◌∷◌};
 ghost use Rattle.ltl_sets.specs.Literals.{literal_of};
 ghost use Rattle.ltl_spec.specs.Transitions.Pairs.{pair_cmp, join_pair, empty_pair};
+ghost use Rattle.ltl_spec.proofs.Transitions.Pruning.{is_within};
 
 use ltl_sets::{Cube, Literal, RowSet};
 use std::alloc::AllocError;
@@ -70,6 +71,18 @@ impl Pair {
             cube,
             targets: self.targets.union(&other.targets),
         })
+    }
+
+    /// Whether this pair asks for no more than the other one.
+    pub(crate) fn is_within(&self, other: &Pair) -> bool
+        ensures { result ≡ is_within self.now other.now }
+    {
+        self.cube.implies_of(&other.cube) && self.targets.is_subset(&other.targets)
+    }
+
+    /// How many literals and rows it asks for.
+    pub(crate) fn size(&self) -> usize {
+        self.cube.iter().count() + self.targets.iter().count()
     }
 
     /// By the literals, then by the targets, each compared as a sorted list.

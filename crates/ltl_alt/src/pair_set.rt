@@ -5,6 +5,7 @@ ghost use Rattle.ltl_alt.specs.RowLists.{row_pairs};
 
 use crate::pair::Pair;
 use crate::row_lists::RowLists;
+use crate::rule::{Pruning, Rule};
 use ltl_formula::Table;
 use std::alloc::{AllocError, Allocator};
 use std::marker::Model;
@@ -46,8 +47,12 @@ pub fn pairs<'a, A: Allocator>(
     requires { row < length table.now.rows }
     ensures { IfOk result (λ s. s ≡ row_pairs table.now row) }
 {
+    let pruning = Pruning {
+        rule: Rule::Equal,
+        own: &[],
+    };
     let mut lists = RowLists::new(alloc, table)?;
-    lists.prepare(alloc, table, row)?;
+    lists.prepare(alloc, table, &pruning, row)?;
     let pairs = Vec::from_slice(alloc, lists.pairs(row))?;
     Ok(PairSet { pairs })
 }

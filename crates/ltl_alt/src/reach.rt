@@ -10,6 +10,7 @@ ghost use Rattle.ltl_alt.specs.ReachView.{edge_in, with_targets};
 use crate::edge::GbaEdge;
 use crate::fault::AltFault;
 use crate::gba::{Gba, MOST_EDGES, MOST_STATES};
+use crate::own::all_own;
 use crate::place::{place, until_count};
 use crate::row_lists::RowLists;
 use crate::transition::Transition;
@@ -87,6 +88,7 @@ pub(crate) fn reach<'a, A: Allocator>(
     ensures large { IsErrOf result AltFault.TooLarge → IsTooLarge (core_of table.now) keep_implied MOST_STATES MOST_EDGES }
 {
     let _ = table.len();
+    let own = all_own(alloc, table)?;
     let mut lists = RowLists::new(alloc, table)?;
     let mut states: States<'a, A> = IndexSet::new(alloc);
     number_of(&mut states, RowSet::single(place(table, table.root())))?;
@@ -94,7 +96,14 @@ pub(crate) fn reach<'a, A: Allocator>(
     let mut count = 0usize;
     'states: while made.len() < states.len() {
         let state = states[made.len()];
-        let kept = transitions(alloc, table, &mut lists, keep_implied, &state)?;
+        let kept = transitions(
+            alloc,
+            table,
+            &mut lists,
+            own.as_slice(),
+            keep_implied,
+            &state,
+        )?;
         if kept.len() > MOST_EDGES - count {
             return Err(AltFault::TooLarge);
         }

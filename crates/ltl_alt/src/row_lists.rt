@@ -4,56 +4,35 @@ ghost use Rattle.std.specs.Prelude.{◌≡◌, ◌<◌, ◌≤◌, length, IfOk,
 ghost use Rattle.ltl_formula.specs.GraphView.{IsBelow};
 ghost use Rattle.ltl_formula.specs.TableView.{IsNamedBelow};
 ghost use Rattle.ltl_formula.specs.declared.row.Row as made;
-ghost use Rattle.ltl_alt.specs.RowLists.{row_pairs, row_sets, list_at, is_made, pairs_from, sets_from, HavePairs, HaveSets, AreLists, IsMore};
+ghost use Rattle.ltl_alt.specs.declared.rule.Rule as made_rule;
+ghost use Rattle.ltl_alt.specs.RowLists.{list_at, is_made, pairs_from, sets_from, IsListedRow, IsListedSet, HavePairs, HaveSets, HasAdded, AreLists, IsMore};
+ghost use Rattle.ltl_alt.specs.StandIns.{IsFit};
+ghost use Rattle.ltl_alt.specs.TransitionView.{table_at};
 
-use crate::lists::{both, both_sets, join, later_pairs, make_distinct, make_sets_distinct, unions};
+use crate::lists::{both, join};
 use crate::needs::needs;
 use crate::pair::Pair;
 use crate::pair_set::PairSet;
 use crate::place::place;
+use crate::prune::prune;
+use crate::rule::Pruning;
 use ltl_formula::{Row, Table};
 use ltl_sets::RowSet;
 use std::alloc::{AllocError, Allocator};
-use std::marker::Model;
-
-/// Sets of rows, of which one has to hold.
-#[derive(Drop)]
-pub(crate) struct SetList<'a, A: Allocator> {
-    sets: Vec<RowSet, &'a A>,
-}
-
-impl<'a, A: Allocator> Model for SetList<'a, A> {
-    ghost use Rattle.std.specs.Prelude.{ℕ, List};
-    ghost use Rattle.std.specs.Coded.{coded_ℕ, coded_list};
-
-    ghost Value = { List (List ℕ) };
-
-    ghost coded = { coded_list (coded_list coded_ℕ) };
-
-    ghost view = { λ s. s.sets.items };
-}
-
-impl<'a, A: Allocator> SetList<'a, A> {
-    fn as_slice(&self) -> &[RowSet]
-        ensures { result.now ≡ self.now }
-    {
-        self.sets.as_slice()
-    }
-}
 
 /// What has been listed of the rows of a table so far.
 #[derive(Drop)]
 pub(crate) struct RowLists<'a, A: Allocator> {
     /// The pairs of each row.
     pairs: Vec<Option<PairSet<'a, A>>, &'a A>,
-    /// The sets of rows of which one has to hold for the row to hold.
-    sets: Vec<Option<SetList<'a, A>>, &'a A>,
+    /// Pairs that ask for nothing now: the sets of rows of which one has to hold next for the row to hold next.
+    sets: Vec<Option<PairSet<'a, A>>, &'a A>,
 }
 
 impl<'a, A: Allocator> RowLists<'a, A> {
     /// Nothing is listed yet.
     pub(crate) fn new(alloc: &'a A, table: &Table<'_, A>) -> Result<RowLists<'a, A>, AllocError>
-        ensures { IfOk result (λ l. AreLists table.now l.pairs.items l.sets.items) }
+        ensures { IfOk result (λ l. (r : made_rule.Rule) → AreLists table.now r l.pairs.items l.sets.items) }
     {
         let mut pairs = Vec::new(alloc);
         let mut sets = Vec::new(alloc);
@@ -76,7 +55,7 @@ impl<'a, A: Allocator> RowLists<'a, A> {
     }
 
     /// The sets that were listed of a row.
-    fn sets(&self, row: usize) -> &[RowSet]
+    fn sets(&self, row: usize) -> &[Pair]
         requires { row < length self.now.sets.items }
         ensures { result.now ≡ list_at self.now.sets.items row }
     {
@@ -107,12 +86,14 @@ impl<'a, A: Allocator> RowLists<'a, A> {
         &mut self,
         alloc: &'a A,
         table: &Table<'_, A>,
+        pruning: &Pruning<'_, 'a, A>,
         row: usize,
     ) -> Result<(), AllocError>
-        requires lists { AreLists table.now self.old.pairs.items self.old.sets.items }
+        requires lists { AreLists table.now pruning.now.rule self.old.pairs.items self.old.sets.items }
+        requires fit { IsFit (table_at table.now) pruning.now.rule pruning.now.own.now }
         requires within { row < length table.now.rows }
-        ensures lists { OnOk result (AreLists table.now self.new.pairs.items self.new.sets.items) }
-        ensures pairs { OnOk result (list_at self.new.pairs.items row ≡ row_pairs table.now row) }
+        ensures lists { OnOk result (AreLists table.now pruning.now.rule self.new.pairs.items self.new.sets.items) }
+        ensures pairs { OnOk result (IsListedRow table.now pruning.now.rule row (list_at self.new.pairs.items row)) }
     {
         if self.has_pairs(row) {
             return Ok(());
@@ -121,25 +102,26 @@ impl<'a, A: Allocator> RowLists<'a, A> {
         'rows: for k in 0..row + 1 {
             let _ = table.row(k);
             let need = needs[k];
-            self.list_needed_pairs(alloc, table, k, need.pairs)?;
-            self.list_needed_sets(alloc, table, k, need.sets)?;
+            self.list_needed_pairs(alloc, table, pruning, k, need.pairs)?;
+            self.list_needed_sets(alloc, table, pruning, k, need.sets)?;
         }
         Ok(())
     }
 
     /// Lists the pairs of a row, if they are needed and were not listed before.
-    #[tactic(auto, using(crate::proofs::ListsLaws::pairs_added, crate::proofs::ListsLaws::more_after, crate::proofs::ListsLaws::made_after))]
     fn list_needed_pairs(
         &mut self,
         alloc: &'a A,
         table: &Table<'_, A>,
+        pruning: &Pruning<'_, 'a, A>,
         row: usize,
         is_needed: bool,
     ) -> Result<(), AllocError>
-        requires lists { AreLists table.now self.old.pairs.items self.old.sets.items }
+        requires lists { AreLists table.now pruning.now.rule self.old.pairs.items self.old.sets.items }
+        requires fit { IsFit (table_at table.now) pruning.now.rule pruning.now.own.now }
         requires within { row < length table.now.rows }
-        requires have { is_needed ≡ true → (r : made.Row) → slice_get table.now.rows row ≡ Some r → HavePairs table.now (list_at self.old.pairs.items) (list_at self.old.sets.items) r }
-        ensures lists { OnOk result (AreLists table.now self.new.pairs.items self.new.sets.items) }
+        requires have { is_needed ≡ true → (r : made.Row) → slice_get table.now.rows row ≡ Some r → HavePairs table.now pruning.now.rule (list_at self.old.pairs.items) (list_at self.old.sets.items) r }
+        ensures lists { OnOk result (AreLists table.now pruning.now.rule self.new.pairs.items self.new.sets.items) }
         ensures more { OnOk result (IsMore self.old.pairs.items self.new.pairs.items) }
         ensures made { OnOk result (is_needed ≡ true → is_made self.new.pairs.items row ≡ true) }
         ensures sets { self.new.sets.items ≡ self.old.sets.items }
@@ -150,23 +132,24 @@ impl<'a, A: Allocator> RowLists<'a, A> {
         if self.has_pairs(row) {
             return Ok(());
         }
-        self.add_pairs(alloc, table, row)?;
+        self.add_pairs(alloc, table, pruning, row)?;
         Ok(())
     }
 
     /// Lists the sets of a row, if they are needed and were not listed before.
-    #[tactic(auto, using(crate::proofs::ListsLaws::sets_added, crate::proofs::ListsLaws::more_after, crate::proofs::ListsLaws::made_after))]
     fn list_needed_sets(
         &mut self,
         alloc: &'a A,
         table: &Table<'_, A>,
+        pruning: &Pruning<'_, 'a, A>,
         row: usize,
         is_needed: bool,
     ) -> Result<(), AllocError>
-        requires lists { AreLists table.now self.old.pairs.items self.old.sets.items }
+        requires lists { AreLists table.now pruning.now.rule self.old.pairs.items self.old.sets.items }
+        requires fit { IsFit (table_at table.now) pruning.now.rule pruning.now.own.now }
         requires within { row < length table.now.rows }
-        requires have { is_needed ≡ true → (r : made.Row) → slice_get table.now.rows row ≡ Some r → HaveSets table.now (list_at self.old.sets.items) r }
-        ensures lists { OnOk result (AreLists table.now self.new.pairs.items self.new.sets.items) }
+        requires have { is_needed ≡ true → (r : made.Row) → slice_get table.now.rows row ≡ Some r → HaveSets table.now pruning.now.rule (list_at self.old.sets.items) r }
+        ensures lists { OnOk result (AreLists table.now pruning.now.rule self.new.pairs.items self.new.sets.items) }
         ensures more { OnOk result (IsMore self.old.sets.items self.new.sets.items) }
         ensures made { OnOk result (is_needed ≡ true → is_made self.new.sets.items row ≡ true) }
         ensures pairs { self.new.pairs.items ≡ self.old.pairs.items }
@@ -177,7 +160,7 @@ impl<'a, A: Allocator> RowLists<'a, A> {
         if self.has_sets(row) {
             return Ok(());
         }
-        self.add_sets(alloc, table, row)?;
+        self.add_sets(alloc, table, pruning, row)?;
         Ok(())
     }
 
@@ -186,28 +169,37 @@ impl<'a, A: Allocator> RowLists<'a, A> {
         &mut self,
         alloc: &'a A,
         table: &Table<'_, A>,
+        pruning: &Pruning<'_, 'a, A>,
         row: usize,
     ) -> Result<(), AllocError>
-        requires lists { AreLists table.now self.old.pairs.items self.old.sets.items }
+        requires lists { AreLists table.now pruning.now.rule self.old.pairs.items self.old.sets.items }
+        requires fit { IsFit (table_at table.now) pruning.now.rule pruning.now.own.now }
         requires within { row < length table.now.rows }
-        requires have { (r : made.Row) → slice_get table.now.rows row ≡ Some r → HavePairs table.now (list_at self.old.pairs.items) (list_at self.old.sets.items) r }
-        ensures pairs { OnOk result (self.new.pairs.items ≡ slice_set self.old.pairs.items row (Some (row_pairs table.now row))) }
+        requires have { (r : made.Row) → slice_get table.now.rows row ≡ Some r → HavePairs table.now pruning.now.rule (list_at self.old.pairs.items) (list_at self.old.sets.items) r }
+        ensures pairs { OnOk result (HasAdded (IsListedRow table.now pruning.now.rule row) row self.old.pairs.items self.new.pairs.items) }
         ensures sets { self.new.sets.items ≡ self.old.sets.items }
     {
-        let pairs = self.list_pairs(alloc, table, row)?;
+        let pairs = self.list_pairs(alloc, table, pruning, row)?;
         self.pairs[row] = Some(pairs);
         Ok(())
     }
 
     /// Lists the sets of a row.
-    fn add_sets(&mut self, alloc: &'a A, table: &Table<'_, A>, row: usize) -> Result<(), AllocError>
-        requires lists { AreLists table.now self.old.pairs.items self.old.sets.items }
+    fn add_sets(
+        &mut self,
+        alloc: &'a A,
+        table: &Table<'_, A>,
+        pruning: &Pruning<'_, 'a, A>,
+        row: usize,
+    ) -> Result<(), AllocError>
+        requires lists { AreLists table.now pruning.now.rule self.old.pairs.items self.old.sets.items }
+        requires fit { IsFit (table_at table.now) pruning.now.rule pruning.now.own.now }
         requires within { row < length table.now.rows }
-        requires have { (r : made.Row) → slice_get table.now.rows row ≡ Some r → HaveSets table.now (list_at self.old.sets.items) r }
-        ensures sets { OnOk result (self.new.sets.items ≡ slice_set self.old.sets.items row (Some (row_sets table.now row))) }
+        requires have { (r : made.Row) → slice_get table.now.rows row ≡ Some r → HaveSets table.now pruning.now.rule (list_at self.old.sets.items) r }
+        ensures sets { OnOk result (HasAdded (IsListedSet table.now pruning.now.rule row) row self.old.sets.items self.new.sets.items) }
         ensures pairs { self.new.pairs.items ≡ self.old.pairs.items }
     {
-        let sets = self.list_sets(alloc, table, row)?;
+        let sets = self.list_sets(alloc, table, pruning, row)?;
         self.sets[row] = Some(sets);
         Ok(())
     }
@@ -217,15 +209,17 @@ impl<'a, A: Allocator> RowLists<'a, A> {
         &self,
         alloc: &'a A,
         table: &Table<'_, A>,
+        pruning: &Pruning<'_, 'a, A>,
         row: usize,
     ) -> Result<PairSet<'a, A>, AllocError>
-        requires lists { AreLists table.now self.now.pairs.items self.now.sets.items }
+        requires lists { AreLists table.now pruning.now.rule self.now.pairs.items self.now.sets.items }
+        requires fit { IsFit (table_at table.now) pruning.now.rule pruning.now.own.now }
         requires within { row < length table.now.rows }
-        requires have { (r : made.Row) → slice_get table.now.rows row ≡ Some r → HavePairs table.now (list_at self.now.pairs.items) (list_at self.now.sets.items) r }
-        ensures { IfOk result (λ s. s ≡ row_pairs table.now row) }
+        requires have { (r : made.Row) → slice_get table.now.rows row ≡ Some r → HavePairs table.now pruning.now.rule (list_at self.now.pairs.items) (list_at self.now.sets.items) r }
+        ensures { IfOk result (IsListedRow table.now pruning.now.rule row) }
     {
-        let mut pairs = self.pairs_from(alloc, table.row(row), place(table, row))?;
-        make_distinct(&mut pairs);
+        let all = self.pairs_from(alloc, table.row(row), place(table, row))?;
+        let pairs = prune(alloc, pruning, all)?;
         Ok(PairSet { pairs })
     }
 
@@ -246,7 +240,7 @@ impl<'a, A: Allocator> RowLists<'a, A> {
             Row::True => Vec::from_slice(alloc, &[Pair::empty()]),
             Row::False => Ok(Vec::new(alloc)),
             Row::Literal(literal) => Vec::from_slice(alloc, &[Pair::now(literal)]),
-            Row::Next(i) => later_pairs(alloc, self.sets(i)),
+            Row::Next(i) => Vec::from_slice(alloc, self.sets(i)),
             Row::And(i, j) => join(alloc, self.pairs(i), self.pairs(j)),
             Row::Or(i, j) => both(alloc, self.pairs(i), self.pairs(j)),
             Row::Until(i, j) => {
@@ -267,16 +261,18 @@ impl<'a, A: Allocator> RowLists<'a, A> {
         &self,
         alloc: &'a A,
         table: &Table<'_, A>,
+        pruning: &Pruning<'_, 'a, A>,
         row: usize,
-    ) -> Result<SetList<'a, A>, AllocError>
-        requires lists { AreLists table.now self.now.pairs.items self.now.sets.items }
+    ) -> Result<PairSet<'a, A>, AllocError>
+        requires lists { AreLists table.now pruning.now.rule self.now.pairs.items self.now.sets.items }
+        requires fit { IsFit (table_at table.now) pruning.now.rule pruning.now.own.now }
         requires within { row < length table.now.rows }
-        requires have { (r : made.Row) → slice_get table.now.rows row ≡ Some r → HaveSets table.now (list_at self.now.sets.items) r }
-        ensures { IfOk result (λ s. s ≡ row_sets table.now row) }
+        requires have { (r : made.Row) → slice_get table.now.rows row ≡ Some r → HaveSets table.now pruning.now.rule (list_at self.now.sets.items) r }
+        ensures { IfOk result (IsListedSet table.now pruning.now.rule row) }
     {
-        let mut sets = self.sets_from(alloc, table.row(row), place(table, row))?;
-        make_sets_distinct(&mut sets);
-        Ok(SetList { sets })
+        let all = self.sets_from(alloc, table.row(row), place(table, row))?;
+        let pairs = prune(alloc, pruning, all)?;
+        Ok(PairSet { pairs })
     }
 
     /// The sets of a row at a place, with repetitions.
@@ -285,18 +281,18 @@ impl<'a, A: Allocator> RowLists<'a, A> {
         alloc: &'a A,
         row: Row,
         place: usize,
-    ) -> Result<Vec<RowSet, &'a A>, AllocError>
+    ) -> Result<Vec<Pair, &'a A>, AllocError>
         requires sets { IsBelow (length self.now.sets.items) row }
         requires place { place < RowSet.LIMIT }
         ensures { IfOk result (λ v. v.items ≡ sets_from (list_at self.now.sets.items) place row) }
     {
         match row {
-            Row::True => Vec::from_slice(alloc, &[RowSet::empty()]),
+            Row::True => Vec::from_slice(alloc, &[Pair::empty()]),
             Row::False => Ok(Vec::new(alloc)),
-            Row::And(i, j) => unions(alloc, self.sets(i), self.sets(j)),
-            Row::Or(i, j) => both_sets(alloc, self.sets(i), self.sets(j)),
+            Row::And(i, j) => join(alloc, self.sets(i), self.sets(j)),
+            Row::Or(i, j) => both(alloc, self.sets(i), self.sets(j)),
             Row::Literal(_) | Row::Next(_) | Row::Until(_, _) | Row::Release(_, _) => {
-                Vec::from_slice(alloc, &[RowSet::single(place)])
+                Vec::from_slice(alloc, &[Pair::later(RowSet::single(place))])
             }
         }
     }

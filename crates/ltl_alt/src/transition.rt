@@ -1,6 +1,6 @@
 //! Transitions of sets of rows.
 
-ghost use Rattle.std.specs.Prelude.{◌≡◌};
+ghost use Rattle.std.specs.Prelude.{◌≡◌, ◌+◌, ◌&&◌, length};
 ghost use Rattle.std.specs.Ordering.{is_ne};
 ghost use Rattle.ltl_spec.specs.Transitions.RowTransitions.{implies, transition_cmp};
 
@@ -39,7 +39,7 @@ impl Transition {
     }
 
     /// Whether this transition asks for no more than the other, and is in each acceptance set that the other is in.
-    pub(crate) fn implies(&self, other: &Transition) -> bool
+    fn implies(&self, other: &Transition) -> bool
         ensures { result ≡ implies self.now other.now }
     {
         self.cube.implies_of(&other.cube)
@@ -57,8 +57,22 @@ impl Transition {
         }
     }
 
+    /// How many literals and rows it asks for.
+    pub(crate) fn weight(&self) -> usize
+        ensures { result ≡ length self.now.cube + length self.now.targets }
+    {
+        self.cube.iter().count() + self.targets.iter().count()
+    }
+
+    /// Whether this is another transition and implies the other one.
+    pub(crate) fn replaces(&self, other: &Transition) -> bool
+        ensures { result ≡ (implies self.now other.now && is_ne (transition_cmp self.now other.now)) }
+    {
+        self.implies(other) && self.differs(other)
+    }
+
     /// Whether the two differ in their literals or in their target.
-    pub(crate) fn differs(&self, other: &Transition) -> bool
+    fn differs(&self, other: &Transition) -> bool
         ensures { result ≡ is_ne (transition_cmp self.now other.now) }
     {
         self.cmp_list(other).is_ne()

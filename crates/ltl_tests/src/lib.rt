@@ -1,6 +1,8 @@
-//! Tests over the public calls of the crates.
+//! Tests of the libraries, over their public calls alone.
 #![tactic(auto)]
 
+#[cfg(test)]
+mod alt;
 #[cfg(test)]
 mod formula;
 #[cfg(test)]

@@ -1,21 +1,15 @@
-use Rattle.std.proofs.Common.{◌≡◌, ◌∙◌, ap, sym, true, false}
+use Rattle.std.proofs.Common.{◌||◌, ◌∙◌, ap, not}
+use Rattle.std.specs.List.{list_any}
 use Rattle.std.specs.Ordering.{nat_cmp}
 use Rattle.ltl_spec.specs.Collections.Sets.{has}
-use Rattle.ltl_spec.specs.Transitions.Pairs.{Pair}
-use Rattle.ltl_alt.proofs.TransitionLaws.{marked_without, marked_with}
+use Rattle.ltl_spec.proofs.Transitions.Pruning.{is_within}
+use Rattle.ltl_alt.proofs.TransitionLaws.{marked_by_own}
 use Rattle.ltl_alt.proofs.transitions.is_marked.Goals as goal
 
-pub returns-then-not-contains-clause-marked : goal.returns-then-not-contains-clause-marked
-returns-then-not-contains-clause-marked g c =
-    let at = c.place-place.result in
+pub returns : goal.returns
+returns g c =
     let p = c.args.pair.now in
-    let lacks : has nat_cmp at p.targets ≡ false = sym (c.if-not-contains.ensures ∙ ap (λ (q : Pair). has nat_cmp at q.targets) c.pair.view_is) in
-    marked_without c.args.table.now p c.args.number c.until_row-row.result at c.len.ensures.table c.until_row-row.ensures.found c.place-place.ensures.place lacks
-
-pub returns-clause-marked : goal.returns-clause-marked
-returns-clause-marked g c =
-    let at = c.place-place.result in
-    let p = c.args.pair.now in
-    let holds : has nat_cmp at p.targets ≡ true = sym (c.if-not-contains.ensures ∙ ap (λ (q : Pair). has nat_cmp at q.targets) c.pair.view_is) in
-    c.is_fulfilled.ensures
-    ∙ marked_with c.args.table.now p c.args.number c.until_row-row.result at c.pairs.result.now c.len.ensures.table c.until_row-row.ensures.found c.place-place.ensures.place holds (c.pairs.ensures ∙ c.in_ok-prepare.ensures.pairs)
+    let at = c.place.result in
+    c.is_kept_up.ensures ∙ ap (λ xs. not (has nat_cmp at p.targets) || list_any (λ m. is_within m p) xs) c.as_slice.ensures
+    ∙ marked_by_own c.args.table.now c.args.own.now p c.args.number c.until_row-row.result at c.index-own-number.result c.requires.own c.requires.listed c.index-own-number.is c.len.ensures.table c.until_row-row.ensures.found
+    c.place.ensures.place

@@ -1,6 +1,6 @@
-//! Automata as a plain translation in another language gives them.
+//! Generalized automata as a plain translation in another language gives them.
 
-use super::*;
+use ltl_alt::{AltFault, Gba, GbaEdge, pairs};
 use ltl_formula::{Table, read};
 use refusing::Refusing;
 use std::alloc::{AllocError, Allocator, Global};
@@ -197,6 +197,71 @@ fn fairness(rt: HostRuntime) -> Result<(), Fail> {
             ">1{1};>2{0};!0>3{0 1};1>4{0 1};|>1{1};!0>3{0 1};|>2{0};1>4{0 1};|!0>3{0 1};|>2{0};1>4{0 1};"
         )?
     );
+    Ok(())
+}
+
+/// Forty brackets `(an || q)` with `&&` between them.
+fn forty_brackets(alloc: Global) -> Result<String, AllocError> {
+    let mut text = String::new(alloc);
+    for n in 0..40 {
+        text.push_str(if n == 0 { "(a" } else { " && (a" })?;
+        push_number(alloc, &mut text, n)?;
+        text.push_str(" || q)")?;
+    }
+    Ok(text)
+}
+
+/// The edge on which all forty `an` are true. Proposition 1 is `q`.
+fn all_forty(alloc: Global) -> Result<String, AllocError> {
+    let mut text = String::new(alloc);
+    text.push_str("0")?;
+    for n in 2..41 {
+        text.push_str("&")?;
+        push_number(alloc, &mut text, n)?;
+    }
+    Ok(text)
+}
+
+#[test]
+fn forty_brackets_at_once(rt: HostRuntime) -> Result<(), Fail> {
+    let alloc = rt.alloc();
+    let brackets = forty_brackets(alloc)?;
+    let all = all_forty(alloc)?;
+    let wanted = format!(in alloc; "{all}>1{{}};1>1{{}};|>1{{}};")?;
+    assert!(rt; gives(alloc, brackets.as_bytes(), false, wanted.as_str())?);
+    let sometime = format!(in alloc; "<>({brackets})")?;
+    let wanted = format!(in alloc; ">0{{}};{all}>1{{0}};1>1{{0}};|>1{{0}};")?;
+    assert!(rt; gives(alloc, sometime.as_bytes(), false, wanted.as_str())?);
+    let next = format!(in alloc; "X({brackets})")?;
+    let wanted = format!(in alloc; ">1{{}};>2{{}};|{all}>3{{}};|1>3{{}};|>3{{}};")?;
+    assert!(rt; gives(alloc, next.as_bytes(), false, wanted.as_str())?);
+    Ok(())
+}
+
+#[test]
+fn inclusion_alone_is_not_enough(rt: HostRuntime) -> Result<(), Fail> {
+    let alloc = rt.alloc();
+    assert!(rt;
+        gives(
+            alloc,
+            b"(p || (p && q)) && X <>q",
+            false,
+            "0>1{};0&1>1{0};|>1{};1>2{0};|>2{0};"
+        )?
+    );
+    assert!(rt; gives(alloc, b"[]X<>p", false, ">1{};|>1{};0>1{0};")?);
+    Ok(())
+}
+
+#[test]
+fn thirteen_untils_are_too_large(rt: HostRuntime) -> Result<(), Fail> {
+    let alloc = rt.alloc();
+    let text =
+        b"<>a && <>b && <>c && <>d && <>e && <>f && <>g && <>h && <>i && <>j && <>k && <>l && <>m";
+    let formula = read(&alloc, text)?;
+    let table = Table::build(&alloc, &formula, false, true)?;
+    let made = Gba::reach(&alloc, &table, false);
+    assert!(rt; matches!(&made, Err(AltFault::TooLarge)));
     Ok(())
 }
 
