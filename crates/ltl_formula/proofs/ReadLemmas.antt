@@ -1,15 +1,20 @@
 -- Names as text, and the verdict on a text.
-use Rattle.std.proofs.Common.{◌≡◌, ◌∙◌, ap, sym, refl, subst, ℕ, zero, suc, ◌<◌, ◌≤◌, true, ◌||◌, ◌&&◌, List, [], ◌∷◌, ◌++◌, length, map, arith, append-nil, slice_index, nat_le, ◌==◌, Option, Some, None, Err}
+use Rattle.std.proofs.Common.{◌≡◌, ◌∙◌, ap, sym, refl, subst, ℕ, zero, suc, ◌<◌, ◌≤◌, Bool, true, false, not, ◌||◌, ◌&&◌, List, [], ◌∷◌, ◌++◌, length, map, arith, append-nil, slice_index, nat_le, ◌==◌, Option, Some, None, Err}
 use Rattle.std.proofs.lemmas.Bool.Decides.{nat_tests}
-use Rattle.std.specs.List.{AllByRecursion}
+use Rattle.std.specs.List.{AllByRecursion, list_all}
+use Rattle.std.specs.Prelude.{IsTrue, codes}
+use Rattle.std.proofs.lemmas.Bool.{false_from_ne_true}
 use Rattle.std.specs.Str.{IsAscii, IsUtf8}
 use Rattle.std.proofs.lemmas.Str.{IsUtf8-from_ascii}
-use Rattle.ltl_spec.specs.Formulas.Tokens.{Item, items, tokens, is_name_byte}
+use Rattle.ltl_spec.specs.Formulas.Tokens.{Item, items, tokens, is_name_byte, same_name}
+use Rattle.ltl_spec.specs.Formulas.Names.{is_constant, is_proposition}
 use Rattle.ltl_spec.specs.Formulas.Formula.{Formula}
 use Rattle.ltl_spec.specs.Formulas.Canonical.{canonical_text}
 use Rattle.ltl_spec.specs.Formulas.Grammar.{IsTextOf}
 use Rattle.ltl_spec.specs.Formulas.Fault.{FaultKind, IsFault}
-use Rattle.ltl_spec.proofs.Collections.MemberLaws.{map_length}
+use Rattle.ltl_spec.proofs.Collections.MemberLaws.{map_length, all_Decides}
+use Rattle.ltl_spec.proofs.Collections.SetLaws.{all_at}
+use Rattle.ltl_spec.proofs.Formulas.NameLaws.{same_name_Decides}
 use Rattle.ltl_spec.proofs.Formulas.GrammarMachine as machine
 use Rattle.ltl_spec.proofs.Formulas.BeginningLaws.{outline, reads_once}
 use Rattle.ltl_spec.proofs.Formulas.FaultLaws.{kind_at, kind_before, never_both}
@@ -65,6 +70,21 @@ all_over {L = L} show name ks it ls e f = twice ls ∙ ap (map name) (sym (appen
 
 -- ---- the formula
 
+-- what the lexer takes as a name is a proposition
+word_proposition : (n : Name) → IsNameWord n → is_proposition n ≡ true
+word_proposition [] w = absurd w
+word_proposition (b ∷ bs) w =
+    let first : same_name (b ∷ bs) (codes "true") ≡ false = false_from_ne_true _ (λ e. w.2 ((same_name_Decides (b ∷ bs) (codes "true")).0 e)) in
+    let second : same_name (b ∷ bs) (codes "false") ≡ false = false_from_ne_true _ (λ e. w.3 ((same_name_Decides (b ∷ bs) (codes "false")).0 e)) in
+    let bytes : list_all is_name_byte bs ≡ true = (all_Decides is_name_byte bs).1 (λ c h. all_at (λ d. is_name_byte d ≡ true) bs c w.1 h) in
+    ap (λ t. t && list_all is_name_byte bs && not (is_constant (b ∷ bs))) w.0
+    ∙ ap (λ t. t && not (is_constant (b ∷ bs))) bytes
+    ∙ ap (λ t. not (t || same_name (b ∷ bs) (codes "false"))) first
+    ∙ ap not second
+
+words_propositions : (names : List Name) → AllByRecursion IsNameWord names → IsTrue (list_all is_proposition names)
+words_propositions names a = (all_Decides is_proposition names).1 (λ n h. word_proposition n (all_at IsNameWord names n a h))
+
 -- nodes and names that were read are a formula
 pub is_formula : (ns : List Node) (names ms : List Name) (count : ℕ) → ms ≡ names → count ≡ length names → 0 < length ns → HasOperands count ns
     → IsNamed (record { formula = whole_tree ns; names = names }) → count ≤ 64 → IsFormula ns ms
@@ -72,6 +92,7 @@ is_formula ns names ms count e n l o d few =
     subst (IsFormula ns) (sym e) (record {
       some = l;
       operands = subst (λ k. HasOperands k ns) n o;
+      propositions = words_propositions names d.words;
       distinct = named_differ (record { formula = whole_tree ns; names = names }) d;
       few = subst (λ k. k ≤ 64) n few;
     })
