@@ -1,30 +1,67 @@
-//! Prints the never claim of a formula: `ltl2ba -f FORMULA`.
+//! `ltl2ba`: opens the formula's file and hands the streams in.
 #![tactic(auto)]
 
-use ltl_cli::{Status, run_translate};
-use std::alloc::AllocError;
-use std::io::BufWriter;
+use ltl_cli::{FormulaWord, Plan, PlanFault, Source, Tool, plan, run_translate};
+use std::alloc::{AllocError, Global};
+use std::fs::File;
 use std::process::ExitCode;
 use std::{env, io};
 
 /// The words of the command line, the program's name first.
-fn words_of(rt: &HostRuntime) -> Result<Vec<String>, AllocError> {
+fn words_of(rt: &HostRuntime) -> Result<Vec<String>, PlanFault> {
+    let mut words = Vec::new(rt.alloc());
     match env::args(rt) {
-        Ok(words) => words.collect(rt.alloc()),
-        Err(_) => Err(AllocError),
+        Ok(given) => {
+            for word in given {
+                if words.push(word).is_err() {
+                    return Err(PlanFault::OutOfMemory);
+                }
+            }
+            Ok(words)
+        }
+        Err(error) => match error.kind() {
+            io::ErrorKind::OutOfMemory => Err(PlanFault::OutOfMemory),
+            _ => Err(PlanFault::Usage),
+        },
     }
 }
 
-fn main(rt: HostRuntime) -> ExitCode {
-    let Ok(words) = words_of(&rt) else {
-        return ExitCode::from(Status::OutOfMemory.number());
-    };
-    if words.len() != 3 || words[1].as_str() != "-f" {
-        return ExitCode::from(Status::Usage.number());
+fn texts<'a>(alloc: Global, words: &'a [String]) -> Result<Vec<&'a str>, AllocError> {
+    let mut texts = Vec::new(alloc);
+    for word in words {
+        texts.push(word.as_str())?;
     }
-    let alloc = rt.alloc();
-    let Ok(mut output) = BufWriter::new(alloc, io::writer(&rt)) else {
-        return ExitCode::from(Status::OutOfMemory.number());
+    Ok(texts)
+}
+
+/// The formula's file, where the plan names one.
+fn source_of(rt: &HostRuntime, plan: &Result<Plan<'_>, PlanFault>) -> Source<File> {
+    let Ok(plan) = plan else {
+        return Source::Text;
     };
-    ExitCode::from(run_translate(&alloc, words[2].as_bytes(), &mut output))
+    match plan.formula() {
+        FormulaWord::Given(_) => Source::Text,
+        FormulaWord::File(name) => match File::open(rt, name) {
+            Ok(file) => Source::Input(file),
+            Err(_) => Source::NotOpened,
+        },
+    }
+}
+
+fn run(rt: &HostRuntime, plan: &Result<Plan<'_>, PlanFault>) -> ExitCode {
+    let source = source_of(rt, plan);
+    let mut output = io::writer(rt);
+    let mut message = rt.stderr();
+    ExitCode::from(run_translate(&rt.alloc(), plan, source, &mut output, &mut message))
+}
+
+fn main(rt: HostRuntime) -> ExitCode {
+    let words = match words_of(&rt) {
+        Ok(words) => words,
+        Err(fault) => return run(&rt, &Err(fault)),
+    };
+    let Ok(texts) = texts(rt.alloc(), words.as_slice()) else {
+        return run(&rt, &Err(PlanFault::OutOfMemory));
+    };
+    run(&rt, &plan(rt.alloc(), Tool::Translator, texts.as_slice()))
 }

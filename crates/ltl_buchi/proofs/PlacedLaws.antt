@@ -1,6 +1,6 @@
 -- The places of the edges by target.
 use Rattle.std.proofs.Common.{◌≡◌, ℕ, ◌+◌, ◌<◌, ◌≤◌, Bool, true, false, cond, ◌&&◌, ◌⊎◌, inl, inr, List, [], ◌∷◌, ◌++◌, length, map, refl, sym, ◌∙◌, ap, subst, arith, IsPermutation}
-use Rattle.std.specs.Prelude.{All, nat_eq, slice_index_or}
+use Rattle.std.specs.Prelude.{All, nat_eq, slice_index_or, take}
 use Rattle.std.specs.declared.cmp.Ordering.{Ordering}
 use Rattle.std.specs.declared.cmp.Ordering.TheVariants.{Less}
 use Rattle.std.specs.Bool.{Decides}
@@ -10,7 +10,7 @@ use Rattle.std.specs.List.Sorted.{IsSorted, IsStrictlySortedBy}
 use Rattle.std.specs.Ordering.{nat_cmp, on, then_cmp, is_eq}
 use Rattle.std.proofs.lemmas.Bool.Decides.{Decides-eqb, same_from_decides}
 use Rattle.std.proofs.lemmas.Cmp.{nat_cmp_total, on_total, then_total}
-use Rattle.std.proofs.lemmas.List.{get_or-map, length-map}
+use Rattle.std.proofs.lemmas.List.{get_or-map, length-map, map_push, take_more}
 use Rattle.std.proofs.lemmas.List.Elements.{All-map, All-contains_itself}
 use Rattle.std.proofs.lemmas.List.Kept.{IsStrictlySortedBy-dedup}
 use Rattle.std.proofs.lemmas.List.Sorted.{Contains-permutation, IsPermutation-sym}
@@ -145,3 +145,9 @@ pub placed_here : (edges : List code.Edge) (k : ℕ) (e : code.Edge) → k < len
 placed_here edges k e l h =
     ap (λ t. let p : Placed = record { target = t; place = k } in p)
     (ap (λ (f : code.Edge). f.target) h ∙ sym (ap (λ (f : Edge). f.target) (get_or-map edge_of edges k e (record { cube = []; target = 0; marks = [] }) l)))
+
+-- the places of one element more
+pub places_more : (xs : List Placed) (i : ℕ) (ps : List ℕ) (d : Placed) → i < length xs → ps ≡ map (λ (p : Placed). p.place) (take i xs)
+    → ps ++ (slice_index_or xs i d).place ∷ [] ≡ map (λ (p : Placed). p.place) (take (i + 1) xs)
+places_more xs i ps d l e =
+    ap (λ (w : List ℕ). w ++ (slice_index_or xs i d).place ∷ []) e ∙ sym (map_push (λ (p : Placed). p.place) (take i xs) (slice_index_or xs i d)) ∙ ap (map (λ (p : Placed). p.place)) (sym (take_more xs i d l))

@@ -112,14 +112,17 @@ fn places_by_target<'a, A: Allocator>(
 }
 
 /// The places alone.
-
 fn places<'a, A: Allocator>(
     alloc: &'a A,
     placed: &[Placed],
 ) -> Result<Vec<usize, &'a A>, AllocError>
     ensures { IfOk result (λ ps. ps.items ≡ map (λ p. p.place) placed.now) }
 {
-    placed.iter().map(|p| p.place).collect(alloc)
+    let mut places = Vec::new(alloc);
+    for one in placed {
+        places.push(one.place)?;
+    }
+    Ok(places)
 }
 
 /// A Büchi automaton. State 0 is the start.

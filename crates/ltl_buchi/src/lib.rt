@@ -1,14 +1,21 @@
-//! From generalized to Büchi automata: levels, numbering, translation.
+//! From generalized to Büchi automata: merging, levels, numbering, translation.
 #![tactic(auto)]
 
 pub mod automaton;
+mod classes;
 pub mod copies;
 pub mod fault;
+pub mod merging;
 pub mod numbering;
+pub mod options;
+mod quotient;
+mod row;
 pub mod translation;
 
 pub use automaton::{Ba, Edge};
 pub use copies::levels;
 pub use fault::BaFault;
+pub use merging::{merge, merge_ba};
 pub use numbering::renumber;
-pub use translation::{Options, translate};
+pub use options::Options;
+pub use translation::translate;

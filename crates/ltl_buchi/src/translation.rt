@@ -1,34 +1,47 @@
-//! The translation: the generalized automaton, its levels, and their numbering.
+//! The translation of a formula: its generalized automaton is merged, its levels are merged again, and what is left is numbered.
 
-ghost use Rattle.std.specs.Prelude.{◌≡◌, true};
+ghost use Rattle.std.specs.Prelude.{◌≡◌, Bool, true, false, IfOk, IsErrOf};
+ghost use Rattle.ltl_spec.specs.Formulas.Formula.{Formula};
+ghost use Rattle.ltl_spec.specs.NormalForms.NormalForm.{core};
+ghost use Rattle.ltl_spec.specs.Construction.Translation.{IsTranslation, IsTranslationTooLarge};
+ghost use Rattle.ltl_spec.specs.Semantics.Language.{HasLanguageOf, AcceptsModels, AcceptsViolations};
+ghost use Rattle.ltl_formula.specs.TableView.{core_of};
 
 use crate::automaton::Ba;
 use crate::copies::levels;
 use crate::fault::BaFault;
+use crate::merging::{merge, merge_ba};
 use crate::numbering::renumber;
-use ltl_alt::Gba;
+use crate::options::Options;
+use ltl_alt::{Gba, MOST_EDGES, MOST_STATES};
 use ltl_formula::Table;
 use std::alloc::Allocator;
 
-/// What is left out of simplification.
-#[derive(Clone, Copy, Debug, PartialEq, Eq)]
-pub struct Options {
-    /// Transitions that another one implies stay.
-    pub keep_implied: bool,
-    /// States that are equal to another one stay.
-    pub keep_equal: bool,
-}
-
-/// The Büchi automaton of a table's formula.
+/// The Büchi automaton of a table's formula: the words that it accepts are those that satisfy the formula, whatever the options. Each
+/// automaton on the way is let go as soon as the next one stands.
 pub fn translate<'a, A: Allocator>(
     alloc: &'a A,
     table: &Table<'_, A>,
     options: &Options,
 ) -> Result<Ba<'a, A>, BaFault>
-    requires keeps_implied { options.now.keep_implied ≡ true }
-    requires keeps_equal { options.now.keep_equal ≡ true }
+    ensures definition { IfOk result (IsTranslation (core_of table.now) options.now) }
+
+    // It accepts exactly the ultimately periodic words on which the table's normal form holds. So that of a formula accepts exactly the
+    // words that satisfy it, and that of the negation exactly those that violate it, rewritten or not.
+    ensures language { IfOk result (λ b. HasLanguageOf b (core_of table.now)) }
+    ensures models { IfOk result (λ b. (F : Formula) (rewrite : Bool) → core_of table.now ≡ core F false rewrite → AcceptsModels b F) }
+    ensures violations { IfOk result (λ b. (F : Formula) (rewrite : Bool) → core_of table.now ≡ core F true rewrite → AcceptsViolations b F) }
+
+    // The fault comes exactly where a limit is passed. Memory may be refused at any time.
+    ensures fits { IfOk result (λ _. ¬ (IsTranslationTooLarge (core_of table.now) options.now MOST_STATES MOST_EDGES)) }
+    ensures large { IsErrOf result BaFault.TooLarge → IsTranslationTooLarge (core_of table.now) options.now MOST_STATES MOST_EDGES }
 {
     let generalized = Gba::reach(alloc, table, options.keep_implied)?;
-    let copies = levels(alloc, &generalized)?;
-    renumber(alloc, &copies)
+    let small = merge(alloc, &generalized, options)?;
+    drop(generalized);
+    let copies = levels(alloc, &small)?;
+    drop(small);
+    let smaller = merge_ba(alloc, &copies, options)?;
+    drop(copies);
+    renumber(alloc, &smaller)
 }

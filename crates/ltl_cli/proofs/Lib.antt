@@ -1,1 +1,6 @@
-pub mod NamedLaws
+pub mod AutomatonLaws
+pub mod InputLaws
+pub mod MessageLaws
+pub mod RunLaws
+pub mod StreamLaws
+pub mod WordLaws

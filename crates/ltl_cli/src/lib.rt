@@ -1,12 +1,23 @@
 //! The programs, over readers and writers.
 #![tactic(auto)]
 
-mod named;
+mod automaton;
+mod command;
+mod finish;
+mod input;
+mod message;
+pub mod refusal;
+pub mod request;
+pub mod source;
 pub mod status;
+pub mod tool;
 pub mod translate;
+mod words;
 
+pub use refusal::Refusal;
+pub use request::{FormulaWord, Plan, PlanFault};
+pub use source::Source;
 pub use status::Status;
+pub use tool::Tool;
 pub use translate::run_translate;
-
-#[cfg(test)]
-mod tests;
+pub use words::plan;

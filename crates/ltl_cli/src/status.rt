@@ -1,5 +1,8 @@
 //! How a program ends.
 
+ghost use Rattle.std.specs.Prelude.{◌≡◌};
+ghost use Rattle.ltl_cli.specs.Refusals.{status_number};
+
 /// The exit status of a program.
 #[derive(Clone, Copy, Debug, PartialEq, Eq)]
 pub enum Status {
@@ -19,7 +22,9 @@ pub enum Status {
 
 impl Status {
     /// The number that the system sees.
-    pub fn number(self) -> u8 {
+    pub fn number(self) -> u8
+        ensures { result ≡ status_number self }
+    {
         match self {
             Status::Done => 0,
             Status::Violated => 1,

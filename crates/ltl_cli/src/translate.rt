@@ -1,70 +1,128 @@
 //! The translator: from a formula's text to the text of its automaton.
 
-use crate::named::has_names_below;
+ghost use Rattle.std.specs.Prelude.{◌≡◌, ◌<◌, length, OnOk, OnErr, IfOk, Some};
+ghost use Rattle.std.specs.Io.KnownBytes.{Appends};
+ghost use Rattle.ltl_spec.specs.Checking.Bounds.{HasNamesBelow};
+ghost use Rattle.ltl_spec.specs.Semantics.Language.{AcceptsModels};
+ghost use Rattle.ltl_spec.specs.Tools.Limits.{stated_limits};
+ghost use Rattle.ltl_spec.specs.Tools.Outcome as spec;
+ghost use Rattle.ltl_spec.specs.Tools.Refusal.{Translator};
+ghost use Rattle.ltl_formula.specs.FormulaView.{reading_of};
+ghost use Rattle.ltl_formula.specs.Streams.{AppendsBeginning};
+ghost use Rattle.ltl_cli.specs.Inputs.{IsInputOf};
+ghost use Rattle.ltl_cli.specs.Runs.{IsOutcome, Shows, TranslatorPromises, IsTranslated, PlanOutcome, WordsOutcome, laid_out};
+
+use crate::automaton::automaton_of;
+use crate::finish::{finish, flush};
+use crate::input::read_formula;
+use crate::refusal::Refusal;
+use crate::request::{Plan, PlanFault};
+use crate::source::Source;
 use crate::status::Status;
-use ltl_buchi::{BaFault, Options, translate};
-use ltl_formula::{BuildFault, ReadFault, Table, read};
-use ltl_text::never_to;
+use crate::tool::Tool;
+use ltl_buchi::Ba;
+use ltl_formula::{Formula, WriteFault};
+use ltl_text::{hoa_to, never_to};
 use std::alloc::Allocator;
-use std::io::Write;
+use std::io::{Read, Write};
 
-impl From<ReadFault> for Status {
-    fn from(fault: ReadFault) -> Status {
-        match fault {
-            ReadFault::OutOfMemory => Status::OutOfMemory,
-            _ => Status::Refused,
-        }
-    }
+/// A formula and its automaton.
+#[derive(Drop)]
+struct Translation<'a, A: Allocator> {
+    formula: Formula<'a, A>,
+    automaton: Ba<'a, A>,
 }
 
-impl From<BuildFault> for Status {
-    fn from(fault: BuildFault) -> Status {
-        match fault {
-            BuildFault::OutOfMemory => Status::OutOfMemory,
-            _ => Status::Refused,
-        }
-    }
-}
-
-impl From<BaFault> for Status {
-    fn from(fault: BaFault) -> Status {
-        match fault {
-            BaFault::OutOfMemory => Status::OutOfMemory,
-            BaFault::TooLarge => Status::Refused,
-        }
-    }
-}
-
-/// Writes the never claim of a formula's text, or says why there is none.
-fn translated<A: Allocator, W: Write>(
-    alloc: &A,
-    text: &[u8],
+/// Writes the automaton in the layout that is asked for.
+fn put<A: Allocator, W: Write>(
+    translated: &Translation<'_, A>,
+    hoa: bool,
     output: &mut W,
-) -> Result<(), Status> {
-    let formula = read(alloc, text)?;
-    let table = Table::build(alloc, &formula, false, false)?;
-    let options = Options {
-        keep_implied: true,
-        keep_equal: true,
-    };
-    let automaton = translate(alloc, &table, &options)?;
-    if !has_names_below(&automaton, formula.name_count()) {
-        return Err(Status::Refused);
-    }
-    match never_to(&automaton, &formula, output) {
-        Ok(()) => {}
-        Err(_) => return Err(Status::Failed),
-    }
-    match output.flush() {
-        Ok(()) => Ok(()),
-        Err(_) => Err(Status::Failed),
+) -> Result<(), WriteFault>
+    requires { HasNamesBelow (length translated.now.formula.names) translated.now.automaton }
+    ensures ok { OnOk result (Appends (W.contents output.old) (W.contents output.new) (laid_out hoa translated.now.automaton (reading_of translated.now.formula))) }
+    ensures err { OnErr result (AppendsBeginning (W.contents output.old) (W.contents output.new) (laid_out hoa translated.now.automaton (reading_of translated.now.formula))) }
+{
+    if hoa {
+        hoa_to(&translated.automaton, &translated.formula, output)
+    } else {
+        never_to(&translated.automaton, &translated.formula, output)
     }
 }
 
-/// Writes the never claim of a formula's text to the output, and answers the exit status.
-pub fn run_translate<A: Allocator, W: Write>(alloc: &A, text: &[u8], output: &mut W) -> u8 {
-    match translated(alloc, text, output) {
-        Ok(()) => Status::Done.number(),
-        Err(status) => status.number(),
+/// Writes the automaton and flushes.
+fn print<A: Allocator, W: Write>(
+    translated: &Translation<'_, A>,
+    hoa: bool,
+    output: &mut W,
+) -> Result<(), WriteFault>
+    requires { HasNamesBelow (length translated.now.formula.names) translated.now.automaton }
+    ensures ok { OnOk result (Appends (W.contents output.old) (W.contents output.new) (laid_out hoa translated.now.automaton (reading_of translated.now.formula))) }
+    ensures err { OnErr result (AppendsBeginning (W.contents output.old) (W.contents output.new) (laid_out hoa translated.now.automaton (reading_of translated.now.formula))) }
+{
+    put(translated, hoa, output)?;
+    flush(output)
+}
+
+/// The formula that the plan asks for, and its automaton. The automaton accepts exactly the ultimately periodic words that satisfy the formula.
+fn translated<'a, A: Allocator, R: Read>(
+    alloc: &'a A,
+    plan: &Plan<'_>,
+    source: &mut Source<R>,
+) -> Result<Translation<'a, A>, Refusal>
+    ensures found { (input : spec.Input) × IsInputOf R.remaining source.old input × IsTranslated plan.now input (λ t. t.formula) (λ t. t.automaton) result }
+    ensures language { IfOk result (λ t. AcceptsModels t.automaton (reading_of t.formula).formula) }
+    ensures named { IfOk result (λ t. HasNamesBelow (length t.formula.names) t.automaton) }
+{
+    let formula = read_formula(alloc, plan.formula(), source)?;
+    let automaton = automaton_of(alloc, &formula, false, plan.rewrite(), &plan.options())?;
+    Ok(Translation { formula, automaton })
+}
+
+/// Prints what the plan asks for.
+fn printed<A: Allocator, R: Read, W: Write>(
+    alloc: &A,
+    plan: &Plan<'_>,
+    source: &mut Source<R>,
+    output: &mut W,
+) -> Result<Status, Refusal>
+    ensures { (input : spec.Input) × IsInputOf R.remaining source.old input × PlanOutcome plan.now input (W.contents output.old) (W.contents output.new) result }
+{
+    let translated = translated(alloc, plan, source)?;
+    print(&translated, plan.hoa(), output)?;
+    Ok(Status::Done)
+}
+
+/// Prints what the plan asks for, where there is one.
+fn answered<A: Allocator, R: Read, W: Write>(
+    alloc: &A,
+    plan: &Result<Plan<'_>, PlanFault>,
+    source: &mut Source<R>,
+    output: &mut W,
+) -> Result<Status, Refusal>
+    ensures { (input : spec.Input) × IsInputOf R.remaining source.old input × WordsOutcome plan.now input (W.contents output.old) (W.contents output.new) result }
+{
+    match plan {
+        Ok(plan) => printed(alloc, plan, source, output),
+        Err(fault) => Err(Refusal::of_words(*fault)),
     }
+}
+
+/// Translates what the plan asks for: writes the text of the automaton and the message of a refusal, and answers the exit status. The source
+/// is that of the formula's file, and is looked at only where the plan names one; a text is then no source. Nothing is written to the output
+/// before a refusal. After a write or a flush that failed nothing more is written to the output, and the message, where it can be written, is
+/// all that follows.
+pub fn run_translate<A: Allocator, R: Read + Drop, W: Write, E: Write>(
+    alloc: &A,
+    plan: &Result<Plan<'_>, PlanFault>,
+    source: Source<R>,
+    output: &mut W,
+    message: &mut E,
+) -> u8
+    ensures { (input : spec.Input) × IsInputOf R.remaining source input
+        × Shows (TranslatorPromises plan.now input) (W.contents output.old) (W.contents output.new) (E.contents message.old) (E.contents message.new) result }
+{
+    let mut source = source;
+    let outcome = answered(alloc, plan, &mut source, output);
+    finish(Tool::Translator, outcome, message)
 }

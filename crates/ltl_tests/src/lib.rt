@@ -4,8 +4,12 @@
 #[cfg(test)]
 mod alt;
 #[cfg(test)]
+mod buchi;
+#[cfg(test)]
 mod formula;
 #[cfg(test)]
 mod sets;
 #[cfg(test)]
 mod table;
+#[cfg(test)]
+mod translate;

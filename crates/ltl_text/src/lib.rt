@@ -2,7 +2,7 @@
 #![tactic(auto)]
 
 mod claim;
-mod digits;
+pub mod digits;
 mod guard;
 mod hoa;
 mod label;
@@ -10,4 +10,5 @@ mod options;
 mod piece;
 
 pub use claim::never_to;
+pub use digits::Digits;
 pub use hoa::hoa_to;

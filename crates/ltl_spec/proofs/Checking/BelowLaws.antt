@@ -10,7 +10,7 @@ use Rattle.ltl_spec.specs.Collections.Lists.{place_of}
 use Rattle.ltl_spec.specs.Automata.Listing.{listing}
 use Rattle.ltl_spec.specs.Semantics.Word.{Name}
 use Rattle.ltl_spec.specs.Transitions.Cubes.{Literal, Cube}
-use Rattle.ltl_spec.specs.Formulas.Formula.{Formula, Constant, Proposition, Unary, Binary, Not, Next, Always, Eventually, And, Or, Implies, Iff, Until, Release}
+use Rattle.ltl_spec.specs.Formulas.Formula.{Formula, Reading, Constant, Proposition, Unary, Binary, Not, Next, Always, Eventually, And, Or, Implies, Iff, Until, Release}
 use Rattle.ltl_spec.specs.NormalForms.Normal.{Normal, Top, Bottom, Leaf, Next, And, Or, Until, Release, same}
 use Rattle.ltl_spec.specs.NormalForms.NormalForm.{normal_form, is_eventually, is_always, simple_and, simple_or, simple_until, simple_release, simple_form, core, postorder, rows, is_elementary, elementary_rows}
 use Rattle.ltl_spec.specs.Transitions.Pairs.{RowSet, Pair, join, empty_pair, later_pair, conj, pairs}
@@ -20,7 +20,7 @@ use Rattle.ltl_spec.specs.Automata.Generalized.{same_row_set, target_sets, root_
 use Rattle.ltl_spec.specs.Construction.Merging.{retargeted_state, without_implied, class_names, quotient, merged_automaton}
 use Rattle.ltl_spec.specs.Construction.Levels.{Copy, same_copy, CopyEdge, copy_edge, copy_edges, copies, edge_to_copy, copy_state, level_automaton}
 use Rattle.ltl_spec.specs.Construction.Renumbered.{reached_states, renumbered_automaton}
-use Rattle.ltl_spec.specs.Formulas.Grammar.{Parses, of_constant, of_name, of_brackets, of_unary, of_tighter, of_left, of_right}
+use Rattle.ltl_spec.specs.Formulas.Grammar.{Parses, Reads, of_constant, of_name, of_brackets, of_unary, of_tighter, of_left, of_right}
 use Rattle.ltl_spec.specs.Formulas.Tokens.{Token}
 use Rattle.ltl_spec.specs.Construction.Translation.{Options, buchi_automaton, IsTranslation}
 use Rattle.ltl_spec.specs.Checking.Bounds.{HasPropositionsBelow, HasNamesBelow, IsBuchi}
@@ -276,3 +276,9 @@ parsed_below r us F (of_unary op ts F' d) = parsed_below 0 ts F' d
 parsed_below r us F (of_tighter r' ts F' d) = parsed_below r' ts F' d
 parsed_below r us F (of_left op r' xs ys us' a b i g e d f) = (parsed_below (suc r') xs a d, parsed_below r' ys b f)
 parsed_below r us F (of_right op r' xs ys us' a b i g e d f) = (parsed_below r' xs a d, parsed_below (suc r') ys b f)
+
+-- so the automaton of a formula that was read, or of its negation, has no propositions but those that the formula names
+pub translation_named : (tokens : List Token) (R : Reading) → Reads tokens R → (negate rewrite : Bool) (N : Normal) → N ≡ core R.formula negate rewrite → (o : Options) (B : Automaton) → IsTranslation N o B → HasNamesBelow (length R.names) B
+translation_named tokens R reads negate rewrite N e o B t =
+    let low = core_below (length R.names) R.formula negate rewrite (parsed_below 5 tokens R.formula reads.1) in
+    (translation_is_buchi (length R.names) N o B t (subst (HasLeavesBelow (length R.names)) (sym e) low)).propositions

@@ -1,0 +1,97 @@
+-- The merged automaton has what its type holds.
+use Rattle.std.proofs.Common.{◌≡◌, ℕ, ◌<◌, ◌≤◌, Bool, true, false, cond, List, [], map, length, refl, sym, ◌∙◌, ap, subst, arith}
+use Rattle.std.specs.Prelude.{All, slice_index}
+use Rattle.std.proofs.lemmas.List.Elements.{All-weaker, All-map}
+use Rattle.ltl_spec.specs.Collections.Sets.{Has, IsRising, set_of}
+use Rattle.ltl_spec.specs.Automata.Automaton.{Automaton, State, Edge, edge_cmp, state_at}
+use Rattle.ltl_spec.specs.Construction.Merging.{retargeted_edge, retargeted_state, without_implied, class_names, merged_automaton}
+use Rattle.ltl_spec.proofs.Collections.ListLaws.{All-at_has, All-from_has}
+use Rattle.ltl_spec.proofs.Collections.MemberLaws.{map_cases}
+use Rattle.ltl_spec.proofs.Semantics.Runs.{IsClosed}
+use Rattle.ltl_spec.proofs.Construction.ImpliedEdges.{IsSetEdge, thin_accepting}
+use Rattle.ltl_spec.proofs.Construction.RoundLaws.{names_length, name_low, name_twice}
+use Rattle.ltl_spec.proofs.Construction.MergingUnique.{way_begins, last_alike}
+use Rattle.ltl_spec.proofs.Construction.QuotientRuns.{IsNaming, HasSetEdges, number_inside}
+use Rattle.ltl_alt.specs.GbaView as gba
+use Rattle.ltl_buchi.specs.BaView.{IsBa, IsReached, edge_of}
+use Rattle.ltl_buchi.specs.declared.automaton.Edge as code
+use Rattle.ltl_buchi.specs.Classes.{IsWithinStates, of_states}
+use Rattle.ltl_buchi.proofs.MergeLaws.{merged_states}
+use Rattle.ltl_buchi.proofs.Within.{edges_within, states_at}
+use Rattle.ltl_buchi.proofs.QuotientLaws.{quotient_some, quotient_few, quotient_few_edges, quotient_all, quotient_rising, quotient_reached, class_at, listed}
+
+module _ (A : Automaton) where
+  -- what all edges have, an edge has
+  pub of_all : (P : Edge → Type 0) → All (λ s. All P s.edges) A.states → (s : ℕ) (e : Edge) → Has (state_at A s).edges e → P e
+  of_all P a s e h = All-at_has P (state_at A s).edges (edges_within A P s a) e h
+
+  pub gba_within : gba.IsGba A → IsWithinStates A.states
+  gba_within w =
+      All-weaker (λ (s : State). All (gba.IsEdgeWithin (length A.states) A.sets) s.edges) (λ (s : State). All (λ (e : Edge). e.target < length A.states) s.edges)
+      (λ s h. All-weaker (gba.IsEdgeWithin (length A.states) A.sets) (λ (e : Edge). e.target < length A.states) (λ e k. k.target) s.edges h) A.states w.within
+
+  module _ (keep_implied keep_equal : Bool) where
+    abbrev rounds : ℕ
+    rounds = cond keep_equal 0 (length A.states)
+
+    abbrev names : List ℕ
+    names = class_names A rounds
+
+    naming_of : (b : Bool) → IsNaming A (class_names A (cond b 0 (length A.states)))
+    naming_of true = (way_begins A).naming
+    naming_of false = record { long = names_length A (length A.states); low = name_low A (length A.states); alike = last_alike A }
+
+    abbrev naming : IsNaming A names
+    naming = naming_of keep_equal
+
+    abbrev M : Automaton
+    M = merged_automaton keep_implied keep_equal A
+
+    pub merged_accepting : All (λ s. s.accepting ≡ true) A.states → All (λ s. s.accepting ≡ true) M.states
+    merged_accepting a = All-from_has (λ (s : State). s.accepting ≡ true) M.states (λ s h.
+        let w = map_cases (class_at keep_implied A names naming) (listed keep_implied A names naming) s h in
+        ap (λ (t : State). t.accepting) w.2 ∙ thin_accepting keep_implied _ ∙ states_at A (λ (t : State). t.accepting ≡ true) w.0 refl a)
+
+    pub merged_unmarked : All (λ s. All (λ e. e.marks ≡ []) s.edges) A.states → All (λ s. All (λ e. e.marks ≡ []) s.edges) M.states
+    merged_unmarked a = quotient_all keep_implied A names naming (λ (e : Edge). e.marks ≡ []) (λ s e h. of_all (λ (x : Edge). x.marks ≡ []) a s e h)
+
+    pub merged_rising : All (λ s. IsRising edge_cmp s.edges) M.states
+    merged_rising = quotient_rising keep_implied A names naming
+
+    pub merged_gba : gba.IsGba A → gba.IsGba M
+    merged_gba w = record {
+      some = quotient_some keep_implied A names naming w.some;
+      few_states = let a = quotient_few keep_implied A names naming in let b = w.few_states in omega arith;
+      few_edges = let a = quotient_few_edges keep_implied A names naming in let b = w.few_edges in omega arith;
+      few_sets = w.few_sets;
+      within = quotient_all keep_implied A names naming (gba.IsEdgeWithin (length M.states) A.sets) (λ s e h.
+          let k = of_all (gba.IsEdgeWithin (length A.states) A.sets) w.within s e h in
+          record { target = number_inside keep_implied names A naming e.target k.target; marks = k.marks });
+    }
+
+    pub merged_ba : IsBa A → All (λ s. All IsSetEdge s.edges) A.states → IsBa M
+    merged_ba w sets = record {
+      no_sets = w.no_sets;
+      some = quotient_some keep_implied A names naming w.some;
+      few_states = let a = quotient_few keep_implied A names naming in let b = w.few_states in omega arith;
+      few_edges = let a = quotient_few_edges keep_implied A names naming in let b = w.few_edges in omega arith;
+      within = quotient_all keep_implied A names naming (λ (e : Edge). e.target < length M.states) (λ s e h. number_inside keep_implied names A naming e.target (of_all (λ (x : Edge). x.target < length A.states) w.within s e h));
+      rising = merged_rising;
+      reached = quotient_reached keep_implied A names naming (name_twice A rounds) closed (of_all IsSetEdge sets) w.reached;
+    }
+      where
+        closed : IsClosed A
+        closed = record { begins = w.some; inside = of_all (λ (e : Edge). e.target < length A.states) w.within }
+
+-- edges of the code have no marks
+pub plain : (xs : List code.Edge) (es : List Edge) → map edge_of xs ≡ es → All (λ e. e.marks ≡ []) es
+plain xs es e = subst (All (λ (x : Edge). x.marks ≡ [])) e (All-map (λ (x : Edge). x.marks ≡ []) edge_of xs (λ k d l. refl))
+
+-- automata with the same parts are the same
+pub automaton_is : (A B : Automaton) → A.sets ≡ B.sets → A.states ≡ B.states → A ≡ B
+automaton_is A B n e = λ i. let C : Automaton = record { sets = n i; states = e i } in C
+
+-- the states that were merged are those of the merged automaton
+pub merged_of : (A : Automaton) (keep_implied keep_equal : Bool) (states merged : List State) → states ≡ A.states → merged ≡ (merged_automaton keep_implied keep_equal (of_states states)).states
+    → merged ≡ (merged_automaton keep_implied keep_equal A).states
+merged_of A keep_implied keep_equal states merged e m = m ∙ ap (λ ss. (merged_automaton keep_implied keep_equal (of_states ss)).states) e ∙ merged_states A keep_implied keep_equal

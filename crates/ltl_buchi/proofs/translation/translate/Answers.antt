@@ -1,0 +1,28 @@
+use Rattle.std.proofs.Common.{rules, ap}
+use Rattle.ltl_formula.specs.TableView.{core_of}
+use Rattle.ltl_buchi.proofs.TranslationLaws.{translated, fitting, copies_too_large, language, models, violations}
+use Rattle.ltl_buchi.proofs.translation.translate.Goals as goal
+
+pub returns-in_err-copies-clause-large : goal.returns-in_err-copies-clause-large
+returns-in_err-copies-clause-large g c = λ e.
+    copies_too_large (core_of c.args.table.now) c.args.options.now c.options.inside.keep_implied (ap (λ o. o.keep_implied) c.options.view_is) _ _ c.in_ok-generalized.ensures.generalized c.in_ok-small.ensures.merged 65_536 1_048_576
+    (c.in_err-copies.ensures.many (search rules))
+
+pub returns-clause-definition : goal.returns-clause-definition
+returns-clause-definition g c =
+    translated (core_of c.args.table.now) c.args.options.now c.options.inside.keep_implied (ap (λ o. o.keep_implied) c.options.view_is) _ _ c.in_ok-generalized.ensures.generalized c.in_ok-small.ensures.merged _ _ c.renumber.result
+    c.in_ok-copies.ensures.copies c.in_ok-smaller.ensures.merged c.renumber.ensures.renumbered
+
+pub returns-clause-fits : goal.returns-clause-fits
+returns-clause-fits g c =
+    fitting (core_of c.args.table.now) c.args.options.now c.options.inside.keep_implied (ap (λ o. o.keep_implied) c.options.view_is) _ _ c.in_ok-generalized.ensures.generalized c.in_ok-small.ensures.merged 65_536 1_048_576 c.renumber.result
+    c.in_ok-generalized.ensures.fits c.in_ok-copies.ensures.few
+
+pub returns-clause-language : goal.returns-clause-language
+returns-clause-language g c = language (core_of c.args.table.now) c.args.options.now c.renumber.result (returns-clause-definition g c)
+
+pub returns-clause-models : goal.returns-clause-models
+returns-clause-models g c = models (core_of c.args.table.now) c.args.options.now c.renumber.result (returns-clause-definition g c)
+
+pub returns-clause-violations : goal.returns-clause-violations
+returns-clause-violations g c = violations (core_of c.args.table.now) c.args.options.now c.renumber.result (returns-clause-definition g c)

@@ -1,0 +1,147 @@
+-- What was read, as an input of the definitions.
+use Rattle.std.proofs.Common.{◌≡◌, ◌∙◌, ap, sym, subst, refl, ℕ, ◌+◌, ◌≤◌, ◌<◌, nat_lt, true, false, inl, inr, ◌⊎◌, List, [], ◌∷◌, ◌++◌, length, take, Option, Some, None, arith, length-take}
+use Rattle.std.proofs.Math.Seq.{take-append_seam}
+use Rattle.std.proofs.lemmas.Bool.{cases_lt}
+use Rattle.std.proofs.lemmas.List.{take_all}
+use Rattle.std.specs.Prelude.{IfSome, Result, Ok, Err}
+use Rattle.std.specs.Io.KnownBytes.{Consumes}
+use Rattle.ltl_spec.specs.Formulas.Formula.{Reading}
+use Rattle.ltl_spec.specs.Formulas.Grammar.{IsTextOf}
+use Rattle.ltl_spec.specs.Tools.Limits.{stated_limits}
+use Rattle.ltl_spec.specs.Tools.Refusal as spec
+use Rattle.ltl_spec.specs.Tools.Outcome as outcome
+use Rattle.ltl_spec.specs.Tools.Programs.{InputReads, ReadsFormula}
+use Rattle.ltl_formula.specs.FormulaView.{FormulaView, reading_of}
+use Rattle.ltl_formula.specs.ReadText.{IsRefusedFor}
+use Rattle.ltl_formula.specs.declared.fault.ReadFault.{ReadFault}
+use Rattle.ltl_formula.specs.declared.fault.ReadFault.TheVariants as fault
+use Rattle.ltl_cli.specs.declared.source.Source.{Source}
+use Rattle.ltl_cli.specs.declared.source.Source.TheVariants as source
+use Rattle.ltl_cli.specs.declared.refusal.Refusal.{Refusal}
+use Rattle.ltl_cli.specs.declared.refusal.Refusal.TheVariants.{OutOfMemory, CannotRead}
+use Rattle.ltl_cli.specs.Refusals.{of_read, refusal_of}
+use Rattle.ltl_cli.specs.Inputs.{IsInputOf, IsReadFrom, IsStream, RefusesInput, TakesFewer}
+
+-- a text is refused as the definitions say
+pub given_refused : (text : List ℕ) (e : ReadFault) → IsRefusedFor text e → RefusesInput (outcome.Given text) outcome.NotOpened (of_read e)
+given_refused text fault.TooLong h = inr (inr (text, refl, h))
+given_refused text (fault.AtByte place kind) h = inr (inr (text, refl, h))
+given_refused text fault.TooManyPropositions h = inr (inr (text, refl, h))
+given_refused text fault.OutOfMemory h = inl (refl, λ m. absurd (omega (arith, h, m)))
+
+never : {A B : Type 0} (a : A) (b : B) → Err b ≡ Ok a → ⊥
+never a b e = cc
+
+ok_is : {A B : Type 0} (a b : A) → ◌≡◌ {A = Result A B} (Ok a) (Ok b) → a ≡ b
+ok_is a b e = cc
+
+not_opened : (xs : List ℕ) → outcome.Ended xs ≡ outcome.NotOpened → ⊥
+not_opened xs e = cc
+
+-- the first 65,537 bytes are all of them, or both are too long
+same_or_long : (v xs : List ℕ) → v ≡ take 65_537 xs → (v ≡ xs) ⊎ (65_536 < length v) × (65_536 < length xs)
+same_or_long v xs e = elim (cases_lt 65_536 (length xs)) [
+  | inl l ↦ inr (subst (λ (w : List ℕ). 65_536 < length w) (sym e) (rw (length-take 65_537 xs) (omega arith)), l)
+  | inr l ↦ inl (e ∙ take_all 65_537 xs (omega arith))
+]
+
+-- a text that is too long is refused for that, whatever it is
+long_reads : (v xs : List ℕ) → 65_536 < length v → 65_536 < length xs → (r : Result Reading spec.Refusal) → ReadsFormula stated_limits v r → ReadsFormula stated_limits xs r
+long_reads v xs l m (Ok R) h = absurd (omega (arith, l, h.0))
+long_reads v xs l m (Err spec.LongFormula) h = m
+long_reads v xs l m (Err (spec.BadFormula place kind)) h = absurd (omega (arith, l, h.0))
+long_reads v xs l m (Err spec.TooManyPropositions) h = absurd (omega (arith, l, h.0))
+long_reads v xs l m (Err spec.Usage) h = absurd h
+long_reads v xs l m (Err spec.CannotOpen) h = absurd h
+long_reads v xs l m (Err spec.CannotRead) h = absurd h
+long_reads v xs l m (Err spec.CannotWrite) h = absurd h
+long_reads v xs l m (Err spec.OutOfMemory) h = absurd h
+long_reads v xs l m (Err spec.TooManyRows) h = absurd h
+long_reads v xs l m (Err spec.TooManyElementaryRows) h = absurd h
+long_reads v xs l m (Err spec.LargeAutomaton) h = absurd h
+long_reads v xs l m (Err spec.LongWord) h = absurd h
+long_reads v xs l m (Err spec.LargeProduct) h = absurd h
+long_reads v xs l m (Err (spec.BadWord place)) h = absurd h
+long_reads v xs l m (Err (spec.BadAutomaton number kind)) h = absurd h
+
+-- the formula of a text that is known
+pub text_reads : (v : List ℕ) (r : Result Reading spec.Refusal) → InputReads stated_limits (outcome.Text v) r → ReadsFormula stated_limits v r
+text_reads v r (inl (e, p, q)) = absurd (never v e p)
+text_reads v r (inr (a, p, h)) = subst (λ (w : List ℕ). ReadsFormula stated_limits w r) (ok_is a v p) h
+
+reads_from : (v xs : List ℕ) → v ≡ take 65_537 xs → (r : Result Reading spec.Refusal) → InputReads stated_limits (outcome.Text v) r → InputReads stated_limits (outcome.Ended xs) r
+reads_from v xs e r h = inr (
+  xs,
+  refl,
+  elim (same_or_long v xs e) [
+    | inl s ↦ subst (λ (w : List ℕ). ReadsFormula stated_limits w r) s (text_reads v r h)
+    | inr l ↦ long_reads v xs l.0 l.1 r (text_reads v r h)
+  ],
+)
+
+file_read : (v xs : List ℕ) → v ≡ take 65_537 xs → (r : Result FormulaView Refusal) → IsReadFrom (outcome.Given v) outcome.NotOpened r → IsReadFrom (outcome.File []) (outcome.Ended xs) r
+file_read v xs e (Ok f) h = reads_from v xs e (Ok (reading_of f)) h
+file_read v xs e (Err x) (inl p) = inl (p.0, not_opened xs)
+file_read v xs e (Err x) (inr h) = inr (reads_from v xs e (Err (refusal_of x)) h)
+
+file_same : (v : List ℕ) (r : Result FormulaView Refusal) → IsReadFrom (outcome.Given v) outcome.NotOpened r → IsReadFrom (outcome.File []) (outcome.Ended v) r
+file_same v (Ok f) h = h
+file_same v (Err x) (inl p) = inl (p.0, not_opened v)
+file_same v (Err x) (inr h) = inr h
+
+-- what was read from a file's bytes
+pub file_from : (known : Option (List ℕ)) (v : List ℕ) (r : Result FormulaView Refusal) → IfSome known (λ xs. v ≡ take 65_537 xs)
+    → IsReadFrom (outcome.Given v) outcome.NotOpened r → (input : outcome.Input) × IsStream known input × IsReadFrom (outcome.File []) input r
+file_from None v r e h = (outcome.Ended v, tt, file_same v r h)
+file_from (Some xs) v r e h = (outcome.Ended xs, refl, file_read v xs e r h)
+
+-- memory was refused while it was read
+short_file : (known : Option (List ℕ)) → (input : outcome.Input) × IsStream known input × RefusesInput (outcome.File []) input OutOfMemory
+short_file None = (outcome.Ended [], tt, inl (refl, not_opened []))
+short_file (Some xs) = (outcome.Ended xs, refl, inl (refl, not_opened xs))
+
+few_failed : (bs : List ℕ) → length bs < 65_537 → RefusesInput (outcome.File []) (outcome.Failed bs) CannotRead
+few_failed bs l = inr (inl (spec.CannotRead, rw (not_long bs l) refl, refl))
+  where
+    not_long : (bs : List ℕ) → length bs < 65_537 → nat_lt 65_536 (length bs) ≡ false
+    not_long bs l = grind (arith, l)
+
+failed_stream : (old new : Option (List ℕ)) (bs : List ℕ) → Consumes old new bs → IsStream old (outcome.Failed bs)
+failed_stream None new bs p = tt
+failed_stream (Some xs) (Some ys) bs p = (length bs, sym (ap (take (length bs)) p ∙ take-append_seam bs ys))
+failed_stream (Some xs) None bs p = absurd p
+
+-- a read failed
+pub file_refused : (old new : Option (List ℕ)) (e : Refusal) → (e ≡ CannotRead) ⊎ (e ≡ OutOfMemory) → (e ≡ CannotRead → TakesFewer old new 65_537)
+    → (input : outcome.Input) × IsStream old input × RefusesInput (outcome.File []) input e
+file_refused old new e (inl c) few =
+    let (bs, p, l) = few c in
+    (outcome.Failed bs, failed_stream old new bs p, subst (RefusesInput (outcome.File []) (outcome.Failed bs)) (sym c) (few_failed bs l))
+file_refused old new e (inr c) few =
+    let (input, s, h) = short_file old in
+    (input, s, subst (RefusesInput (outcome.File []) input) (sym c) h)
+
+-- any source is some input
+stream_of : (known : Option (List ℕ)) → (input : outcome.Input) × IsStream known input
+stream_of None = (outcome.Ended [], tt)
+stream_of (Some xs) = (outcome.Ended xs, refl)
+
+pub some_input : {R : Type 0} (remaining : R → Option (List ℕ)) (s : Source R) → (input : outcome.Input) × IsInputOf remaining s input
+some_input remaining source.Text = (outcome.NotOpened, refl)
+some_input remaining source.NotOpened = (outcome.NotOpened, refl)
+some_input remaining (source.Input r) = stream_of (remaining r)
+
+-- where a formula was read, memory may have been taken
+pub reads_takes : (word : outcome.FormulaWord) (input : outcome.Input) (R : Reading) → InputReads stated_limits (outcome.input_of word input) (Ok R)
+    → ¬ (outcome.TakesNoMemory stated_limits.formula_bytes (Some word) input)
+reads_takes (outcome.Given text) input R h = λ m. absurd (omega (arith, m, (text_reads text (Ok R) h).0))
+reads_takes (outcome.File name) input R h = λ m. closed (subst (λ (i : outcome.Input). InputReads stated_limits i (Ok R)) m h)
+  where
+    closed : InputReads stated_limits outcome.NotOpened (Ok R) → ⊥
+    closed (inl (e, p, q)) = never R e (sym q)
+    closed (inr (a, p, q)) = never a spec.CannotOpen (sym p)
+
+-- a formula that was read has a text
+pub has_text : (input : outcome.Input) (R : Reading) → InputReads stated_limits input (Ok R) → (text : List ℕ) × IsTextOf text R
+has_text input R (inl (e, p, q)) = absurd (never R e (sym q))
+has_text input R (inr (text, p, (l, t, n))) = (text, t)

@@ -1,0 +1,10 @@
+use Rattle.std.proofs.Common.{rules, ap, ap₂, ◌≡◌, ◌∙◌, codes}
+use Rattle.std.proofs.lemmas.Result.{IfOk-weaker}
+use Rattle.clap.specs.Words.{App, app_of, new_app, with_rule}
+use Rattle.ltl_cli.proofs.command.checker_command.Goals as goal
+
+pub returns : goal.returns
+returns c =
+    let one = c.in_ok-arg.ensures.shape c.value.ensures.local ∙ ap₂ with_rule c.new.ensures.app c.value.ensures.rule in
+    let two = c.in_ok-arg-2.ensures.shape c.value-2.ensures.local ∙ ap₂ with_rule one c.value-2.ensures.rule in
+    IfOk-weaker c.arg-3.result _ _ (λ m added. added.shape c.value-3.ensures.local ∙ ap₂ with_rule two c.value-3.ensures.rule) c.arg-3.ensures

@@ -1,0 +1,35 @@
+use Rattle.std.proofs.Common.{◌≡◌, ◌∙◌, ap, sym, codes, Option, Bool, cond, Some, None}
+use Rattle.std.specs.Prelude.{option_map}
+use Rattle.clap.specs.Words.{found_of, rows_of, first_of}
+use Rattle.clap.proofs.WalkLemmas.{first_value-rows}
+use Rattle.ltl_cli.specs.Words.{Request, lacks_word, request_for, request_with}
+use Rattle.ltl_cli.specs.Plans.{formula_word, request_in}
+use Rattle.ltl_cli.specs.Refusals.{tool_of}
+use Rattle.ltl_cli.specs.declared.request.FormulaWord.{FormulaWord}
+use Rattle.ltl_cli.proofs.WordLaws.{request_is, request_lacks, request_stands}
+use Rattle.ltl_cli.proofs.words.planned.Goals as goal
+
+pub returns-in_err-formula : goal.returns-in_err-formula
+returns-in_err-formula c =
+    let f = found_of c.args.matches.now in
+    let meaning = request_is (tool_of c.args.tool) (rows_of f) _ _ _ (c.get_str.ensures ∙ first_value-rows f (codes "f")) (c.get_str-2.ensures ∙ first_value-rows f (codes "F")) c.one_formula.ensures in
+    ap (option_map request_in) c.from_residual.ensures
+    ∙ sym (meaning ∙ ap (λ (o : Option FormulaWord). request_for (tool_of c.args.tool) (rows_of f) (option_map formula_word o)) c.in_err-formula.was)
+
+pub returns-then-lacks : goal.returns-then-lacks
+returns-then-lacks c =
+    let f = found_of c.args.matches.now in
+    let meaning = request_is (tool_of c.args.tool) (rows_of f) _ _ _ (c.get_str.ensures ∙ first_value-rows f (codes "f")) (c.get_str-2.ensures ∙ first_value-rows f (codes "F")) c.one_formula.ensures in
+    let word = c.get_str-word.ensures ∙ first_value-rows f (codes "w") in
+    sym (meaning ∙ ap (λ (o : Option FormulaWord). request_for (tool_of c.args.tool) (rows_of f) (option_map formula_word o)) c.in_ok-formula.was
+    ∙ request_lacks (tool_of c.args.tool) (rows_of f) (formula_word c.in_ok-formula.formula) (ap (lacks_word (tool_of c.args.tool)) (sym word) ∙ sym c.lacks.ensures ∙ c.if-lacks.true))
+
+pub returns : goal.returns
+returns c =
+    let f = found_of c.args.matches.now in
+    let meaning = request_is (tool_of c.args.tool) (rows_of f) _ _ _ (c.get_str.ensures ∙ first_value-rows f (codes "f")) (c.get_str-2.ensures ∙ first_value-rows f (codes "F")) c.one_formula.ensures in
+    let word = c.get_str-word.ensures ∙ first_value-rows f (codes "w") in
+    let automaton = c.get_str-3.ensures ∙ first_value-rows f (codes "A") in
+    rw (c.is_set.ensures, c.is_set-2.ensures, c.is_set-3.ensures, c.is_set-4.ensures, word, automaton)
+    (sym (meaning ∙ ap (λ (o : Option FormulaWord). request_for (tool_of c.args.tool) (rows_of f) (option_map formula_word o)) c.in_ok-formula.was
+    ∙ request_stands (tool_of c.args.tool) (rows_of f) (formula_word c.in_ok-formula.formula) (ap (lacks_word (tool_of c.args.tool)) (sym word) ∙ sym c.lacks.ensures ∙ c.if-lacks.false)))

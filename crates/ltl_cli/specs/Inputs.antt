@@ -1,0 +1,44 @@
+-- What the code reads, as the inputs of the definitions.
+use Rattle.std.specs.Prelude.{◌≡◌, ◌<◌, ◌≤◌, ◌⊎◌, ℕ, List, length, Option, Some, None, Result, Ok, Err, MatchResult, ⊤}
+use Rattle.std.specs.Io.KnownBytes.{Consumes}
+use Rattle.ltl_spec.specs.Formulas.Formula.{Reading}
+use Rattle.ltl_spec.specs.Tools.Limits.{stated_limits}
+use Rattle.ltl_spec.specs.Tools.Outcome as spec
+use Rattle.ltl_spec.specs.Tools.Programs.{InputReads}
+use Rattle.ltl_formula.specs.FormulaView.{FormulaView, reading_of}
+use Rattle.ltl_cli.specs.declared.source.Source.{Source}
+use Rattle.ltl_cli.specs.declared.source.Source.TheVariants.{Text, Input, NotOpened}
+use Rattle.ltl_cli.specs.declared.refusal.Refusal.{Refusal}
+use Rattle.ltl_cli.specs.declared.refusal.Refusal.TheVariants.{OutOfMemory}
+use Rattle.ltl_cli.specs.Refusals.{refusal_of}
+
+-- at most n bytes were taken, and they are a beginning of what was left
+abbrev pub TakesUpTo : Option (List ℕ) → Option (List ℕ) → ℕ → Type 0
+TakesUpTo old new n = (bs : List ℕ) × Consumes old new bs × (length bs ≤ n)
+
+-- fewer were
+abbrev pub TakesFewer : Option (List ℕ) → Option (List ℕ) → ℕ → Type 0
+TakesFewer old new n = (bs : List ℕ) × Consumes old new bs × (length bs < n)
+
+-- A reader of these bytes, where they are known, is this input: it gives all of them, or a read fails behind some of the first
+abbrev pub IsStream : Option (List ℕ) → spec.Input → Type 0
+IsStream (Some xs) (spec.Ended bs) = bs ≡ xs
+IsStream (Some xs) (spec.Failed bs) = spec.IsBeginningOf bs xs
+IsStream None (spec.Ended bs) = ⊤
+IsStream None (spec.Failed bs) = ⊤
+IsStream known _ = ⊥
+
+-- The source of a file's bytes is this input. Where the words name a file there is no text in their place
+abbrev pub IsInputOf : {R : Type 0} → (R → Option (List ℕ)) → Source R → spec.Input → Type 0
+IsInputOf remaining Text input = input ≡ spec.NotOpened
+IsInputOf remaining (Input r) input = IsStream (remaining r) input
+IsInputOf remaining NotOpened input = input ≡ spec.NotOpened
+
+-- The input reads as this formula, or is refused so. Memory may be refused where some is taken
+abbrev pub RefusesInput : spec.FormulaWord → spec.Input → Refusal → Type 0
+RefusesInput word input e =
+    (e ≡ OutOfMemory) × ¬ (spec.TakesNoMemory stated_limits.formula_bytes (Some word) input)
+    ⊎ InputReads stated_limits (spec.input_of word input) (Err (refusal_of e))
+
+abbrev pub IsReadFrom : spec.FormulaWord → spec.Input → Result FormulaView Refusal → Type 0
+IsReadFrom word input r = MatchResult r (λ f. InputReads stated_limits (spec.input_of word input) (Ok (reading_of f))) (RefusesInput word input)

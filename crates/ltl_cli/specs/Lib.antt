@@ -1,0 +1,6 @@
+pub mod Inputs
+pub mod Messages
+pub mod Plans
+pub mod Refusals
+pub mod Runs
+pub mod Words

@@ -1,0 +1,27 @@
+-- The text of a refusal in three parts: up to its number, the number, and what stands behind it. All of it stands in the first where there is none.
+use Rattle.std.specs.Prelude.{ℕ, List, [], ◌++◌, Option, Some, None, codes, decimal}
+use Rattle.ltl_spec.specs.Hoa.HoaFaultKind.{hoa_fault_text}
+use Rattle.ltl_spec.specs.Tools.Limits.{stated_limits}
+use Rattle.ltl_spec.specs.Tools.Refusal.{Tool, Refusal, BadFormula, BadWord, BadAutomaton, fault_text, refusal_text}
+
+abbrev pub front_text : Tool → Refusal → List ℕ
+front_text tool (BadFormula place kind) = codes "formula: byte "
+front_text tool (BadWord place) = codes "word: byte "
+front_text tool (BadAutomaton number kind) = codes "automaton: line "
+front_text tool r = refusal_text stated_limits tool r
+
+abbrev pub number_in : Refusal → Option ℕ
+number_in (BadFormula place kind) = Some place
+number_in (BadWord place) = Some place
+number_in (BadAutomaton number kind) = Some number
+number_in _ = None
+
+abbrev pub number_text : Option ℕ → List ℕ
+number_text (Some n) = decimal n
+number_text None = []
+
+abbrev pub back_text : Refusal → List ℕ
+back_text (BadFormula place kind) = codes ": " ++ fault_text kind
+back_text (BadWord place) = codes ": bad word"
+back_text (BadAutomaton number kind) = codes ": " ++ hoa_fault_text kind
+back_text _ = []

@@ -1,0 +1,66 @@
+-- The refusals and statuses of the code as those of the definitions.
+use Rattle.std.specs.Prelude.{◌≡◌, ℕ, Result, MatchResult, Ok, Err, ◌⊎◌}
+use Rattle.ltl_spec.specs.Tools.Refusal as spec
+use Rattle.ltl_formula.specs.ParserView.{kind_of}
+use Rattle.ltl_formula.specs.declared.fault.ReadFault as read
+use Rattle.ltl_formula.specs.declared.build_fault.BuildFault as build
+use Rattle.ltl_buchi.specs.declared.fault.BaFault as translation
+use Rattle.ltl_cli.specs.declared.request.PlanFault as plan
+use Rattle.ltl_cli.specs.declared.tool.Tool as tool
+use Rattle.ltl_cli.specs.declared.refusal.Refusal.{Refusal}
+use Rattle.ltl_cli.specs.declared.refusal.Refusal.TheVariants.{Usage, CannotOpen, CannotRead, CannotWrite, OutOfMemory, LongFormula, BadFormula, TooManyPropositions, TooManyRows, TooManyElementaryRows, LargeAutomaton, LongWord, BadWord, LargeProduct}
+use Rattle.ltl_cli.specs.declared.status.Status as status
+
+abbrev pub tool_of : tool.Tool → spec.Tool
+tool_of tool.TheVariants.Translator = spec.Translator
+tool_of tool.TheVariants.Checker = spec.Checker
+tool_of tool.TheVariants.Evaluator = spec.Evaluator
+
+abbrev pub refusal_of : Refusal → spec.Refusal
+refusal_of Usage = spec.Usage
+refusal_of CannotOpen = spec.CannotOpen
+refusal_of CannotRead = spec.CannotRead
+refusal_of CannotWrite = spec.CannotWrite
+refusal_of OutOfMemory = spec.OutOfMemory
+refusal_of LongFormula = spec.LongFormula
+refusal_of (BadFormula place kind) = spec.BadFormula place (kind_of kind)
+refusal_of TooManyPropositions = spec.TooManyPropositions
+refusal_of TooManyRows = spec.TooManyRows
+refusal_of TooManyElementaryRows = spec.TooManyElementaryRows
+refusal_of LargeAutomaton = spec.LargeAutomaton
+refusal_of LongWord = spec.LongWord
+refusal_of (BadWord place) = spec.BadWord place
+refusal_of LargeProduct = spec.LargeProduct
+
+abbrev pub status_number : status.Status → ℕ
+status_number status.TheVariants.Done = 0
+status_number status.TheVariants.Violated = 1
+status_number status.TheVariants.Usage = 2
+status_number status.TheVariants.Refused = 3
+status_number status.TheVariants.OutOfMemory = 4
+status_number status.TheVariants.Failed = 5
+
+-- the refusals for the faults of the layers
+
+abbrev pub of_plan : plan.PlanFault → Refusal
+of_plan plan.TheVariants.Usage = Usage
+of_plan plan.TheVariants.OutOfMemory = OutOfMemory
+
+abbrev pub of_read : read.ReadFault → Refusal
+of_read read.TheVariants.TooLong = LongFormula
+of_read (read.TheVariants.AtByte place kind) = BadFormula place kind
+of_read read.TheVariants.TooManyPropositions = TooManyPropositions
+of_read read.TheVariants.OutOfMemory = OutOfMemory
+
+abbrev pub of_build : build.BuildFault → Refusal
+of_build build.TheVariants.TooManyRows = TooManyRows
+of_build build.TheVariants.TooManyElementaryRows = TooManyElementaryRows
+of_build build.TheVariants.OutOfMemory = OutOfMemory
+
+abbrev pub of_translation : translation.BaFault → Refusal
+of_translation translation.TheVariants.TooLarge = LargeAutomaton
+of_translation translation.TheVariants.OutOfMemory = OutOfMemory
+
+-- A step of the definitions taken by code: the code has its value, or answers its refusal. Memory may be refused at any step
+abbrev pub Takes : {A F : Type 0} → (Result A spec.Refusal → Type 0) → (F → A) → Result F Refusal → Type 0
+Takes Step view r = MatchResult r (λ f. Step (Ok (view f))) (λ e. (e ≡ OutOfMemory) ⊎ Step (Err (refusal_of e)))

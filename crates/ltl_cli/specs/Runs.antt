@@ -1,0 +1,119 @@
+-- What a run of a program shows.
+use Rattle.std.specs.Prelude.{◌≡◌, ◌≤◌, ℕ, Bool, true, false, List, [], ◌⊎◌, Option, Some, None, Result, Ok, Err, MatchResult, ⊤, if◌then◌else◌, option_map}
+use Rattle.std.specs.Io.KnownBytes.{Appends, Keeps}
+use Rattle.ltl_formula.specs.FormulaView.{FormulaView, reading_of}
+use Rattle.ltl_formula.specs.Streams.{AppendsBeginning}
+use Rattle.ltl_spec.specs.Formulas.Formula.{Reading}
+use Rattle.ltl_spec.specs.Formulas.Grammar.{IsTextOf}
+use Rattle.ltl_spec.specs.Semantics.Language.{AcceptsModels}
+use Rattle.ltl_spec.specs.Automata.Automaton.{Automaton}
+use Rattle.ltl_spec.specs.Automata.ClaimText.{never_text}
+use Rattle.ltl_spec.specs.Automata.HoaText.{hoa_text}
+use Rattle.ltl_spec.specs.Tools.Limits.{stated_limits}
+use Rattle.ltl_spec.specs.Tools.Refusal as spec
+use Rattle.ltl_spec.specs.Tools.Outcome.{Answer, FormulaWord, Input, IsGiven, IsPromised, IsShortOfMemory, TakesNoMemory, refused}
+use Rattle.ltl_spec.specs.Tools.Programs.{TranslatorPlan, TranslatorAnswers, TranslatorPrints}
+use Rattle.ltl_cli.specs.declared.refusal.Refusal.{Refusal}
+use Rattle.ltl_cli.specs.declared.refusal.Refusal.TheVariants.{OutOfMemory, CannotWrite}
+use Rattle.ltl_cli.specs.declared.status.Status.{Status}
+use Rattle.ltl_cli.specs.declared.request.Plan.{Plan}
+use Rattle.ltl_cli.specs.declared.request.PlanFault.{PlanFault}
+use Rattle.ltl_cli.specs.declared.request.PlanFault.TheVariants as fault
+use Rattle.ltl_cli.specs.Refusals.{refusal_of, status_number}
+use Rattle.ltl_cli.specs.Words.{translator_plan}
+use Rattle.ltl_cli.specs.Plans.{request_in}
+
+-- ---- before the message
+
+-- Answers with no message, whose output was written
+pub record IsDone (Answers : Answer → Type 0) (old new : Option (List ℕ)) (status : ℕ) : Type 0 where
+  pub answer : Answer
+  pub right : Answers answer
+  pub silent : answer.message ≡ []
+  pub ends : answer.status ≡ status
+  -- no refusal has this status
+  pub low : status ≤ 1
+  pub written : Appends old new answer.output
+
+-- Answers with no message, of whose output a beginning was written
+pub record IsBroken (Answers : Answer → Type 0) (old new : Option (List ℕ)) : Type 0 where
+  pub answer : Answer
+  pub right : Answers answer
+  pub silent : answer.message ≡ []
+  pub written : AppendsBeginning old new answer.output
+
+-- Why there is no result: a write failed and a beginning went out; or nothing was written, and memory was refused, which takes none where
+-- this says so, or the refusal is an answer
+abbrev pub IsRefused : spec.Tool → (Answer → Type 0) → Type 0 → Option (List ℕ) → Option (List ℕ) → Refusal → Type 0
+IsRefused tool Answers TakesNone old new e =
+    (e ≡ CannotWrite) × IsBroken Answers old new
+    ⊎ Keeps old new × ((e ≡ OutOfMemory) × (¬ TakesNone) ⊎ (¬ (e ≡ OutOfMemory)) × Answers (refused stated_limits tool (refusal_of e)))
+
+abbrev pub IsOutcome : spec.Tool → (Answer → Type 0) → Type 0 → Option (List ℕ) → Option (List ℕ) → Result Status Refusal → Type 0
+IsOutcome tool Answers TakesNone old new r = MatchResult r (λ s. IsDone Answers old new (status_number s)) (IsRefused tool Answers TakesNone old new)
+
+-- the status and the message that an outcome ends with
+
+abbrev pub status_with : Result Status Refusal → ℕ
+status_with (Ok s) = status_number s
+status_with (Err e) = spec.status_of (refusal_of e)
+
+abbrev pub message_with : spec.Tool → Result Status Refusal → List ℕ
+message_with tool (Ok s) = []
+message_with tool (Err e) = spec.message stated_limits tool (refusal_of e)
+
+-- ---- a whole run
+
+-- a run with this status, and writers of which one took the output and one the message
+pub record Shows (Promise : Answer → Type 0) (output_old output_new message_old message_new : Option (List ℕ)) (status : ℕ) : Type 0 where
+  pub output : List ℕ
+  pub message : List ℕ
+  pub written : Appends output_old output_new output
+  pub told : Appends message_old message_new message
+  pub promised : Promise (record { output = output; message = message; status = status })
+
+-- The promise, with no want of memory where none is taken
+abbrev pub IsKept : spec.Tool → (Answer → Type 0) → Type 0 → Answer → Type 0
+IsKept tool Answers TakesNone seen = IsPromised stated_limits tool Answers seen × (TakesNone → ¬ (seen.status ≡ spec.status_of spec.OutOfMemory))
+
+-- what a plan asks of the translator, in the words of the definitions
+abbrev pub translator_word : Plan → FormulaWord
+translator_word p = (translator_plan (request_in p)).formula
+
+-- What a run of the translator promises for what its words gave and for its formula's input
+abbrev pub TranslatorPromises : Result Plan PlanFault → Input → Answer → Type 0
+TranslatorPromises (Ok p) input =
+    IsKept spec.Translator (TranslatorAnswers stated_limits (Some (translator_plan (request_in p))) input) (TakesNoMemory stated_limits.formula_bytes (Some (translator_word p)) input)
+TranslatorPromises (Err fault.Usage) input = IsKept spec.Translator (TranslatorAnswers stated_limits None input) ⊤
+TranslatorPromises (Err fault.OutOfMemory) input = IsShortOfMemory stated_limits spec.Translator
+
+-- the text of an automaton, in one of the two layouts
+abbrev pub laid_out : Bool → Automaton → Reading → List ℕ
+laid_out hoa B R = if hoa then hoa_text B R else never_text B R
+
+-- ---- the translator before the message
+
+-- what the definitions say of the plan and the input
+abbrev pub PlanPrints : Plan → Input → Result (List ℕ) spec.Refusal → Type 0
+PlanPrints p = TranslatorPrints stated_limits (translator_plan (request_in p))
+
+-- why there is no automaton: memory was refused where some is taken, or the definitions say so
+abbrev pub RefusesPlan : Plan → Input → Refusal → Type 0
+RefusesPlan p input e =
+    (e ≡ OutOfMemory) × (¬ (TakesNoMemory stated_limits.formula_bytes (Some (translator_word p)) input)) ⊎ PlanPrints p input (Err (refusal_of e))
+
+-- a formula and its automaton, whose text the definitions say is printed, or a refusal
+abbrev pub IsTranslated : {T : Type 0} → Plan → Input → (T → FormulaView) → (T → Automaton) → Result T Refusal → Type 0
+IsTranslated p input formula automaton r =
+    MatchResult r (λ t. PlanPrints p input (Ok (laid_out p.hoa (automaton t) (reading_of (formula t))))) (RefusesPlan p input)
+
+-- the outcome of a plan
+abbrev pub PlanOutcome : Plan → Input → Option (List ℕ) → Option (List ℕ) → Result Status Refusal → Type 0
+PlanOutcome p input =
+    IsOutcome spec.Translator (TranslatorAnswers stated_limits (Some (translator_plan (request_in p))) input) (TakesNoMemory stated_limits.formula_bytes (Some (translator_word p)) input)
+
+-- the outcome of what the words gave
+abbrev pub WordsOutcome : Result Plan PlanFault → Input → Option (List ℕ) → Option (List ℕ) → Result Status Refusal → Type 0
+WordsOutcome (Ok p) input old new r = PlanOutcome p input old new r
+WordsOutcome (Err fault.Usage) input old new r = IsOutcome spec.Translator (TranslatorAnswers stated_limits None input) ⊤ old new r
+WordsOutcome (Err fault.OutOfMemory) input old new r = (r ≡ Err OutOfMemory) × Keeps old new

@@ -1,0 +1,34 @@
+//! From a formula to its automaton.
+
+ghost use Rattle.std.specs.Prelude.{◌≡◌, List, ℕ, length, IfOk};
+ghost use Rattle.ltl_spec.specs.Formulas.Grammar.{IsTextOf};
+ghost use Rattle.ltl_spec.specs.NormalForms.NormalForm.{core};
+ghost use Rattle.ltl_spec.specs.Checking.Bounds.{HasNamesBelow};
+ghost use Rattle.ltl_spec.specs.Tools.Limits.{stated_limits};
+ghost use Rattle.ltl_spec.specs.Tools.Outcome.{Then};
+ghost use Rattle.ltl_spec.specs.Tools.Programs.{KeepsRows, Translates};
+ghost use Rattle.ltl_formula.specs.FormulaView.{reading_of};
+ghost use Rattle.ltl_cli.specs.Refusals.{Takes};
+
+use crate::refusal::Refusal;
+use ltl_buchi::{Ba, Options, translate};
+use ltl_formula::{Formula, Table};
+use std::alloc::Allocator;
+
+/// The automaton of a formula or, with `negate`, of its negation, whose normal form is rewritten with `rewrite`.
+pub fn automaton_of<'a, A: Allocator>(
+    alloc: &'a A,
+    formula: &Formula<'_, A>,
+    negate: bool,
+    rewrite: bool,
+    options: &Options,
+) -> Result<Ba<'a, A>, Refusal>
+    ensures step { Takes (Then (KeepsRows stated_limits (core (reading_of formula.now).formula negate rewrite)) (λ N. Translates stated_limits N options.now)) (λ B. B) result }
+
+    // Each proposition in it has a name, as a formula that was read from a text has.
+    ensures named { IfOk result (λ B. (text : List ℕ) → IsTextOf text (reading_of formula.now) → HasNamesBelow (length formula.now.names) B) }
+{
+    let table = Table::build(alloc, formula, negate, rewrite)?;
+    let automaton = translate(alloc, &table, options)?;
+    Ok(automaton)
+}

@@ -1,0 +1,99 @@
+//! The command lines, by the library for them.
+
+ghost use Rattle.std.specs.Prelude.{◌≡◌, map, IfOk, false};
+ghost use Rattle.clap.specs.Words.{app_of, found_of, rows_of, rule_of};
+ghost use Rattle.ltl_cli.specs.Words.{app_for, checker_app, evaluator_app, flag_rule, has_flag, translator_app, value_rule};
+ghost use Rattle.ltl_cli.specs.Plans.{Matches};
+ghost use Rattle.ltl_cli.specs.Refusals.{tool_of};
+
+use crate::request::PlanFault;
+use crate::tool::Tool;
+use clap::error::ErrorKind;
+use clap::{Arg, ArgAction, ArgMatches, Command};
+use std::alloc::{AllocError, Global};
+
+/// A word that stands alone.
+fn flag<'a>(alloc: Global, id: &'a str, short: char) -> Arg<'a>
+    ensures rule { rule_of result ≡ flag_rule id.entry.now short }
+    ensures local { result.global ≡ false }
+{
+    Arg::new(alloc, id).short(short).action(ArgAction::SetTrue)
+}
+
+/// A word with a value behind it.
+fn value<'a>(alloc: Global, id: &'a str, short: char) -> Arg<'a>
+    ensures rule { rule_of result ≡ value_rule id.entry.now short }
+    ensures local { result.global ≡ false }
+{
+    Arg::new(alloc, id).short(short).action(ArgAction::Set)
+}
+
+fn translator_command<'a>(alloc: Global) -> Result<Command<'a>, AllocError>
+    ensures { IfOk result (λ c. app_of c ≡ translator_app) }
+{
+    Command::new(alloc, "ltl2ba")
+        .arg(flag(alloc, "l", 'l'))?
+        .arg(flag(alloc, "o", 'o'))?
+        .arg(flag(alloc, "p", 'p'))?
+        .arg(flag(alloc, "H", 'H'))?
+        .arg(value(alloc, "f", 'f'))?
+        .arg(value(alloc, "F", 'F'))
+}
+
+fn checker_command<'a>(alloc: Global) -> Result<Command<'a>, AllocError>
+    ensures { IfOk result (λ c. app_of c ≡ checker_app) }
+{
+    Command::new(alloc, "ltlcheck")
+        .arg(value(alloc, "f", 'f'))?
+        .arg(value(alloc, "F", 'F'))?
+        .arg(value(alloc, "A", 'A'))
+}
+
+fn evaluator_command<'a>(alloc: Global) -> Result<Command<'a>, AllocError>
+    ensures { IfOk result (λ c. app_of c ≡ evaluator_app) }
+{
+    Command::new(alloc, "ltleval")
+        .arg(value(alloc, "f", 'f'))?
+        .arg(value(alloc, "F", 'F'))?
+        .arg(value(alloc, "w", 'w'))
+}
+
+fn command<'a>(alloc: Global, tool: Tool) -> Result<Command<'a>, AllocError>
+    ensures { IfOk result (λ c. app_of c ≡ app_for (tool_of tool)) }
+{
+    match tool {
+        Tool::Translator => translator_command(alloc),
+        Tool::Checker => checker_command(alloc),
+        Tool::Evaluator => evaluator_command(alloc),
+    }
+}
+
+/// Whether the flag was given.
+pub fn is_set(matches: &ArgMatches<'_>, id: &str) -> bool
+    ensures { result ≡ has_flag id.now (rows_of (found_of matches.now)) }
+{
+    match matches.get_str(id) {
+        Some(text) => text == "true",
+        None => false,
+    }
+}
+
+/// What was given of each argument.
+pub fn matched<'a>(
+    alloc: Global,
+    tool: Tool,
+    words: &'a [&'a str],
+) -> Result<ArgMatches<'a>, PlanFault>
+    ensures { Matches (tool_of tool) (map (λ w. w.now) words.entry.now) result }
+{
+    let Ok(command) = command(alloc, tool) else {
+        return Err(PlanFault::OutOfMemory);
+    };
+    match command.try_get_matches_from(words) {
+        Ok(matches) => Ok(matches),
+        Err(error) => match error.kind() {
+            ErrorKind::OutOfMemory => Err(PlanFault::OutOfMemory),
+            _ => Err(PlanFault::Usage),
+        },
+    }
+}

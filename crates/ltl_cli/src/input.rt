@@ -1,0 +1,84 @@
+//! Reading the inputs of a program.
+
+ghost use Rattle.std.specs.Prelude.{◌≡◌, ◌⊎◌, [], take, IfOk, IfErr, IfSome, IsErrOf, OnErr};
+ghost use Rattle.std.specs.Io.KnownBytes.{Consumes};
+ghost use Rattle.ltl_spec.specs.Tools.Outcome as spec;
+ghost use Rattle.ltl_cli.specs.Plans.{formula_word};
+ghost use Rattle.ltl_cli.specs.Inputs.{IsInputOf, IsReadFrom, IsStream, TakesFewer, TakesUpTo};
+
+use crate::refusal::Refusal;
+use crate::request::FormulaWord;
+use crate::source::Source;
+use ltl_formula::{Formula, TEXT_LIMIT, read};
+use std::alloc::{AllocError, AllocFailed, Allocator};
+use std::io::Read;
+
+/// How many bytes of a formula's file are taken: one more than its text may have.
+const MOST: usize = TEXT_LIMIT + 1;
+
+const PIECE: usize = 4096;
+
+/// The bytes of a formula's file to their end, or 65,537 of them, and no read is made behind those.
+fn read_text<'a, A: Allocator, R: Read>(
+    alloc: &'a A,
+    reader: &mut R,
+) -> Result<Vec<u8, &'a A>, Refusal>
+    ensures taken { IfOk result (λ v. Consumes (R.remaining reader.old) (R.remaining reader.new) v.items) }
+    ensures text { IfOk result (λ v. IfSome (R.remaining reader.old) (λ xs. v.items ≡ take 65_537 xs)) }
+    ensures failed { IsErrOf result Refusal.CannotRead → TakesFewer (R.remaining reader.old) (R.remaining reader.new) 65_537 }
+    ensures few { OnErr result (TakesUpTo (R.remaining reader.old) (R.remaining reader.new) 65_537) }
+    ensures kinds { IfErr result (λ e. (e ≡ Refusal.CannotRead) ⊎ (e ≡ Refusal.OutOfMemory)) }
+{
+    let mut text = Vec::new(alloc);
+    let mut piece = [0u8; PIECE];
+    'pieces: while text.len() < MOST {
+        let room = PIECE.min(MOST - text.len());
+        match reader.read(&mut piece[..room]) {
+            Ok(0) => return Ok(text),
+            Ok(n) => match text.extend_from_slice(&piece[..n]) {
+                Ok(()) => {}
+                Err(_) => return Err(Refusal::OutOfMemory),
+            },
+            Err(_) => return Err(Refusal::CannotRead),
+        }
+    }
+    Ok(text)
+}
+
+/// The formula of a text.
+fn read_given<'a, A: Allocator>(alloc: &'a A, text: &[u8]) -> Result<Formula<'a, A>, Refusal>
+    ensures { IsReadFrom (spec.Given text.now) spec.NotOpened result }
+{
+    let formula = read(alloc, text)?;
+    Ok(formula)
+}
+
+/// The formula of a file.
+fn read_file<'a, A: Allocator, R: Read>(
+    alloc: &'a A,
+    reader: &mut R,
+) -> Result<Formula<'a, A>, Refusal>
+    ensures { (input : spec.Input) × IsStream (R.remaining reader.old) input × IsReadFrom (spec.File []) input result }
+{
+    let text = read_text(alloc, reader)?;
+    read_given(alloc, text.as_slice())
+}
+
+/// Reads the formula that the words ask for: their text, or what the source of the file gives. Nothing is asked of the source where the words
+/// hold the text, nor behind the first 65,537 bytes of a file. A source that is a text where the words name a file counts as a file that
+/// could not be opened.
+pub fn read_formula<'a, A: Allocator, R: Read>(
+    alloc: &'a A,
+    word: FormulaWord<'_>,
+    source: &mut Source<R>,
+) -> Result<Formula<'a, A>, Refusal>
+    ensures { (input : spec.Input) × IsInputOf R.remaining source.old input × IsReadFrom (formula_word word.entry) input result }
+{
+    match word {
+        FormulaWord::Given(text) => read_given(alloc, text.as_bytes()),
+        FormulaWord::File(_) => match source {
+            Source::Input(reader) => read_file(alloc, reader),
+            Source::Text | Source::NotOpened => Err(Refusal::CannotOpen),
+        },
+    }
+}

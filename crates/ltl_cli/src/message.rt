@@ -1,0 +1,151 @@
+//! The lines for refusals.
+
+ghost use Rattle.std.specs.Prelude.{◌≡◌, ◌++◌, List, ℕ, codes, OnOk, OnErr};
+ghost use Rattle.std.specs.Io.KnownBytes.{Appends};
+ghost use Rattle.ltl_formula.specs.Streams.{AppendsBeginning};
+ghost use Rattle.ltl_formula.specs.ParserView.{kind_of};
+ghost use Rattle.ltl_spec.specs.Tools.Limits.{stated_limits};
+ghost use Rattle.ltl_spec.specs.Tools.Refusal as spec;
+ghost use Rattle.ltl_cli.specs.Messages.{back_text, front_text, number_in, number_text};
+ghost use Rattle.ltl_cli.specs.Refusals.{refusal_of, tool_of};
+
+use crate::refusal::Refusal;
+use crate::tool::Tool;
+use ltl_formula::{FaultKind, WriteFault, write_whole};
+use ltl_text::Digits;
+use std::io::Write;
+
+/// What a line for the tool begins with.
+fn name(tool: Tool) -> &'static [u8]
+    ensures { result.now ≡ spec.tool_name (tool_of tool) ++ codes ": " }
+{
+    match tool {
+        Tool::Translator => b"ltl2ba: ",
+        Tool::Checker => b"ltlcheck: ",
+        Tool::Evaluator => b"ltleval: ",
+    }
+}
+
+/// The tool's usage.
+fn usage(tool: Tool) -> &'static [u8]
+    ensures { result.now ≡ codes "usage: " ++ spec.usage_text (tool_of tool) }
+{
+    match tool {
+        Tool::Translator => b"usage: ltl2ba [-l] [-o] [-p] [-H] (-f formula | -F file)",
+        Tool::Checker => b"usage: ltlcheck (-f formula | -F file) [-A file]",
+        Tool::Evaluator => b"usage: ltleval (-f formula | -F file) -w lasso",
+    }
+}
+
+/// What stands behind the place of a fault in a formula.
+fn part(kind: FaultKind) -> &'static [u8]
+    ensures { result.now ≡ codes ": " ++ spec.fault_text (kind_of kind) }
+{
+    match kind {
+        FaultKind::UnexpectedByte => b": unexpected byte",
+        FaultKind::ExpectedOperand => b": expected operand",
+        FaultKind::ExpectedOperatorOrEnd => b": expected operator or end",
+        FaultKind::ExpectedCloseOrOperator => b": expected ) or operator",
+    }
+}
+
+/// The text of a refusal up to its number, and all of it where it has none.
+fn front(tool: Tool, refusal: Refusal) -> &'static [u8]
+    ensures { result.now ≡ front_text (tool_of tool) (refusal_of refusal) }
+{
+    match refusal {
+        Refusal::Usage => usage(tool),
+        Refusal::CannotOpen => b"cannot open",
+        Refusal::CannotRead => b"cannot read",
+        Refusal::CannotWrite => b"cannot write",
+        Refusal::OutOfMemory => b"out of memory",
+        Refusal::LongFormula => b"limit: formula longer than 65536 bytes",
+        Refusal::BadFormula(_, _) => b"formula: byte ",
+        Refusal::TooManyPropositions => b"limit: more than 64 propositions",
+        Refusal::TooManyRows => b"limit: more than 4096 rows",
+        Refusal::TooManyElementaryRows => b"limit: more than 64 elementary rows",
+        Refusal::LargeAutomaton => b"limit: automaton too large",
+        Refusal::LongWord => b"limit: word longer than 65536 bytes",
+        Refusal::BadWord(_) => b"word: byte ",
+        Refusal::LargeProduct => b"limit: product too large",
+    }
+}
+
+/// The number in the text of a refusal.
+fn number(refusal: Refusal) -> Option<usize>
+    ensures { result ≡ number_in (refusal_of refusal) }
+{
+    match refusal {
+        Refusal::BadFormula(place, _) => Some(place),
+        Refusal::BadWord(place) => Some(place),
+        _ => None,
+    }
+}
+
+/// What stands behind the number.
+fn back(refusal: Refusal) -> &'static [u8]
+    ensures { result.now ≡ back_text (refusal_of refusal) }
+{
+    match refusal {
+        Refusal::BadFormula(_, kind) => part(kind),
+        Refusal::BadWord(_) => b": bad word",
+        _ => b"",
+    }
+}
+
+/// Puts a number, where there is one.
+fn put_number<E: Write>(number: Option<usize>, message: &mut E) -> Result<(), WriteFault>
+    ensures ok { OnOk result (Appends (E.contents message.old) (E.contents message.new) (number_text number)) }
+    ensures err { OnErr result (AppendsBeginning (E.contents message.old) (E.contents message.new) (number_text number)) }
+{
+    match number {
+        Some(number) => write_whole(message, Digits::of(number as u64).as_slice()),
+        None => Ok(()),
+    }
+}
+
+/// Puts three texts, of which the middle one is a number's, and may be none.
+fn put_parts<E: Write>(
+    front: &[u8],
+    number: Option<usize>,
+    back: &[u8],
+    message: &mut E,
+) -> Result<(), WriteFault>
+    ensures ok { OnOk result (Appends (E.contents message.old) (E.contents message.new) (front.now ++ number_text number ++ back.now)) }
+    ensures err { OnErr result (AppendsBeginning (E.contents message.old) (E.contents message.new) (front.now ++ number_text number ++ back.now)) }
+{
+    write_whole(message, front)?;
+    put_number(number, message)?;
+    write_whole(message, back)
+}
+
+/// Puts the text of a refusal.
+fn put_text<E: Write>(tool: Tool, refusal: Refusal, message: &mut E) -> Result<(), WriteFault>
+    ensures ok { OnOk result (Appends (E.contents message.old) (E.contents message.new) (spec.refusal_text stated_limits (tool_of tool) (refusal_of refusal))) }
+    ensures err { OnErr result (AppendsBeginning (E.contents message.old) (E.contents message.new) (spec.refusal_text stated_limits (tool_of tool) (refusal_of refusal))) }
+{
+    put_parts(
+        front(tool, refusal),
+        number(refusal),
+        back(refusal),
+        message,
+    )
+}
+
+/// Puts the whole line.
+fn put_line<E: Write>(tool: Tool, refusal: Refusal, message: &mut E) -> Result<(), WriteFault>
+    ensures ok { OnOk result (Appends (E.contents message.old) (E.contents message.new) (spec.message stated_limits (tool_of tool) (refusal_of refusal))) }
+    ensures err { OnErr result (AppendsBeginning (E.contents message.old) (E.contents message.new) (spec.message stated_limits (tool_of tool) (refusal_of refusal))) }
+{
+    let name = name(tool);
+    write_whole(message, name)?;
+    put_text(tool, refusal, message)?;
+    write_whole(message, b"\n")
+}
+
+/// Writes the line for a refusal, or as much of it as the writer takes. No memory is taken.
+pub fn write<E: Write>(tool: Tool, refusal: Refusal, message: &mut E)
+    ensures { AppendsBeginning (E.contents message.old) (E.contents message.new) (spec.message stated_limits (tool_of tool) (refusal_of refusal)) }
+{
+    let _ = put_line(tool, refusal, message);
+}

@@ -1,0 +1,123 @@
+//! Why a program prints no result.
+
+ghost use Rattle.std.specs.Prelude.{◌≡◌};
+ghost use Rattle.ltl_spec.specs.Tools.Refusal.{status_of};
+ghost use Rattle.ltl_cli.specs.Refusals.{of_plan, refusal_of, status_number};
+
+use crate::request::PlanFault;
+use crate::status::Status;
+use ltl_buchi::BaFault;
+use ltl_formula::{BuildFault, FaultKind, ReadFault, WriteFault};
+
+/// Why a program prints no result. Each has one message and one exit status.
+#[derive(Clone, Copy, Debug, PartialEq, Eq)]
+pub enum Refusal {
+    /// The words of the command line mean nothing.
+    Usage,
+    /// A file could not be opened.
+    CannotOpen,
+    /// A read failed.
+    CannotRead,
+    /// A write or a flush of the output failed.
+    CannotWrite,
+    /// A growth was refused.
+    OutOfMemory,
+    /// The formula's text is too long.
+    LongFormula,
+    /// No formula's text goes on as this one does at the byte of that number.
+    BadFormula(usize, FaultKind),
+    /// The formula, or both inputs together, have too many propositions.
+    TooManyPropositions,
+    /// The formula has too many rows.
+    TooManyRows,
+    /// The formula has too many elementary rows.
+    TooManyElementaryRows,
+    /// The formula's automaton, or one on the way to it, is too large.
+    LargeAutomaton,
+    /// The word's text is too long.
+    LongWord,
+    /// No word's text goes on as this one does at the byte of that number.
+    BadWord(usize),
+    /// The search for a word would be too large.
+    LargeProduct,
+}
+
+impl Refusal {
+    /// The refusal of words that have no plan.
+    pub fn of_words(fault: PlanFault) -> Refusal
+        ensures { result ≡ of_plan fault }
+    {
+        match fault {
+            PlanFault::Usage => Refusal::Usage,
+            PlanFault::OutOfMemory => Refusal::OutOfMemory,
+        }
+    }
+
+    /// How the program ends.
+    pub fn status(self) -> Status
+        ensures { status_number result ≡ status_of (refusal_of self) }
+    {
+        match self {
+            Refusal::Usage => Status::Usage,
+            Refusal::OutOfMemory => Status::OutOfMemory,
+            Refusal::CannotOpen | Refusal::CannotRead | Refusal::CannotWrite => Status::Failed,
+            _ => Status::Refused,
+        }
+    }
+}
+
+impl From<ReadFault> for Refusal {
+    ghost use Rattle.std.specs.Prelude.{◌≡◌};
+    ghost use Rattle.ltl_cli.specs.Refusals.{of_read};
+
+    ghost from_gives = { λ fault refusal. refusal ≡ of_read fault };
+
+    fn from(fault: ReadFault) -> Refusal {
+        match fault {
+            ReadFault::TooLong => Refusal::LongFormula,
+            ReadFault::AtByte(place, kind) => Refusal::BadFormula(place, kind),
+            ReadFault::TooManyPropositions => Refusal::TooManyPropositions,
+            ReadFault::OutOfMemory => Refusal::OutOfMemory,
+        }
+    }
+}
+
+impl From<BuildFault> for Refusal {
+    ghost use Rattle.std.specs.Prelude.{◌≡◌};
+    ghost use Rattle.ltl_cli.specs.Refusals.{of_build};
+
+    ghost from_gives = { λ fault refusal. refusal ≡ of_build fault };
+
+    fn from(fault: BuildFault) -> Refusal {
+        match fault {
+            BuildFault::TooManyRows => Refusal::TooManyRows,
+            BuildFault::TooManyElementaryRows => Refusal::TooManyElementaryRows,
+            BuildFault::OutOfMemory => Refusal::OutOfMemory,
+        }
+    }
+}
+
+impl From<BaFault> for Refusal {
+    ghost use Rattle.std.specs.Prelude.{◌≡◌};
+    ghost use Rattle.ltl_cli.specs.Refusals.{of_translation};
+
+    ghost from_gives = { λ fault refusal. refusal ≡ of_translation fault };
+
+    fn from(fault: BaFault) -> Refusal {
+        match fault {
+            BaFault::TooLarge => Refusal::LargeAutomaton,
+            BaFault::OutOfMemory => Refusal::OutOfMemory,
+        }
+    }
+}
+
+impl From<WriteFault> for Refusal {
+    ghost use Rattle.std.specs.Prelude.{◌≡◌};
+    ghost use Rattle.ltl_cli.specs.declared.refusal.Refusal.TheVariants.{CannotWrite};
+
+    ghost from_gives = { λ _ refusal. refusal ≡ CannotWrite };
+
+    fn from(_: WriteFault) -> Refusal {
+        Refusal::CannotWrite
+    }
+}

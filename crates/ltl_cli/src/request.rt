@@ -1,0 +1,80 @@
+//! What the words of a command line ask for.
+
+ghost use Rattle.std.specs.Prelude.{◌≡◌, option_map};
+
+use ltl_buchi::Options;
+
+/// Where the formula's text comes from.
+#[derive(Clone, Copy, Debug)]
+pub enum FormulaWord<'a> {
+    /// The text itself.
+    Given(&'a str),
+    /// The name of the file that holds it.
+    File(&'a str),
+}
+
+/// What the words ask for. A look that a program has no word for answers what a command line without that word asks for.
+#[derive(Clone, Copy, Debug)]
+pub struct Plan<'a> {
+    pub(crate) formula: FormulaWord<'a>,
+    pub(crate) automaton: Option<&'a str>,
+    pub(crate) word: Option<&'a str>,
+    pub(crate) rewrite: bool,
+    pub(crate) options: Options,
+    pub(crate) hoa: bool,
+}
+
+impl<'a> Plan<'a> {
+    ghost use Rattle.ltl_cli.specs.Plans.{formula_word};
+
+    /// The formula, or its file.
+    pub fn formula(&self) -> FormulaWord<'a>
+        ensures { result ≡ self.now.formula }
+    {
+        self.formula
+    }
+
+    /// The name of the automaton's file, where one was given.
+    pub fn automaton(&self) -> Option<&'a str>
+        ensures { option_map (λ s. s.now) result ≡ option_map (λ s. s.now) self.now.automaton }
+    {
+        self.automaton
+    }
+
+    /// The text of the word, where one was given.
+    pub fn word(&self) -> Option<&'a str>
+        ensures { option_map (λ s. s.now) result ≡ option_map (λ s. s.now) self.now.word }
+    {
+        self.word
+    }
+
+    /// Whether the normal form is rewritten.
+    pub fn rewrite(&self) -> bool
+        ensures { result ≡ self.now.rewrite }
+    {
+        self.rewrite
+    }
+
+    /// What is left out of simplification.
+    pub fn options(&self) -> Options
+        ensures { result ≡ self.now.options }
+    {
+        self.options
+    }
+
+    /// Whether the Hanoi Omega-Automata format is asked for, and no never claim.
+    pub fn hoa(&self) -> bool
+        ensures { result ≡ self.now.hoa }
+    {
+        self.hoa
+    }
+}
+
+/// Why there is no plan.
+#[derive(Clone, Copy, Debug, PartialEq, Eq)]
+pub enum PlanFault {
+    /// The words mean nothing, or ask for help.
+    Usage,
+    /// A growth was refused.
+    OutOfMemory,
+}

@@ -1,0 +1,67 @@
+//! From the words of a command line to what they ask for.
+
+ghost use Rattle.std.specs.Prelude.{◌≡◌, map, option_map};
+ghost use Rattle.clap.specs.Words.{found_of, rows_of};
+ghost use Rattle.ltl_cli.specs.Words.{formula_among, lacks_word, request_of_rows};
+ghost use Rattle.ltl_cli.specs.Plans.{Plans, formula_word, request_in};
+ghost use Rattle.ltl_cli.specs.Refusals.{tool_of};
+
+use crate::command::{is_set, matched};
+use crate::request::{FormulaWord, Plan, PlanFault};
+use crate::tool::Tool;
+use clap::ArgMatches;
+use ltl_buchi::Options;
+use std::alloc::Global;
+
+/// The one of the two that was given.
+fn one_formula<'a>(text: Option<&'a str>, path: Option<&'a str>) -> Option<FormulaWord<'a>>
+    ensures { option_map formula_word result
+        ≡ formula_among (option_map (λ s. s.now) text.entry) (option_map (λ s. s.now) path.entry) }
+{
+    match (text, path) {
+        (Some(text), None) => Some(FormulaWord::Given(text)),
+        (None, Some(path)) => Some(FormulaWord::File(path)),
+        _ => None,
+    }
+}
+
+/// Whether the tool has to have a word and was given none.
+fn lacks(tool: Tool, word: &Option<&str>) -> bool
+    ensures { result ≡ lacks_word (tool_of tool) (option_map (λ s. s.now) word.now) }
+{
+    matches!(tool, Tool::Evaluator) && word.is_none()
+}
+
+fn planned<'a>(tool: Tool, matches: &ArgMatches<'a>) -> Option<Plan<'a>>
+    ensures { option_map request_in result ≡ request_of_rows (tool_of tool) (rows_of (found_of matches.now)) }
+{
+    let formula = one_formula(matches.get_str("f"), matches.get_str("F"))?;
+    let word = matches.get_str("w");
+    if lacks(tool, &word) {
+        return None;
+    }
+    Some(Plan {
+        formula,
+        automaton: matches.get_str("A"),
+        word,
+        rewrite: !is_set(matches, "l"),
+        options: Options {
+            keep_implied: is_set(matches, "o"),
+            keep_equal: is_set(matches, "p"),
+        },
+        hoa: is_set(matches, "H"),
+    })
+}
+
+/// What the words ask of the tool. The first of them is the program's name and plays no part.
+pub fn plan<'a>(alloc: Global, tool: Tool, words: &'a [&'a str]) -> Result<Plan<'a>, PlanFault>
+    ensures { Plans (tool_of tool) (map (λ w. w.now) words.entry.now) result }
+{
+    match matched(alloc, tool, words) {
+        Ok(matches) => match planned(tool, &matches) {
+            Some(plan) => Ok(plan),
+            None => Err(PlanFault::Usage),
+        },
+        Err(fault) => Err(fault),
+    }
+}
