@@ -11,5 +11,3 @@ mod formula;
 mod sets;
 #[cfg(test)]
 mod table;
-#[cfg(test)]
-mod translate;

@@ -1,0 +1,5 @@
+//! Tests of the programs, over readers and writers.
+#![tactic(auto)]
+
+#[cfg(test)]
+mod translate;
