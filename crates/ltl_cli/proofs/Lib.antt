@@ -1,6 +1,7 @@
 pub mod AutomatonLaws
 pub mod InputLaws
 pub mod MessageLaws
+pub mod PromiseLaws
 pub mod RunLaws
 pub mod StreamLaws
 pub mod WordLaws

@@ -1,6 +1,7 @@
 pub mod Inputs
 pub mod Messages
 pub mod Plans
+pub mod Promises
 pub mod Refusals
 pub mod Runs
 pub mod Words

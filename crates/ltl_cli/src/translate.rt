@@ -10,6 +10,7 @@ ghost use Rattle.ltl_spec.specs.Tools.Refusal.{Translator};
 ghost use Rattle.ltl_formula.specs.FormulaView.{reading_of};
 ghost use Rattle.ltl_formula.specs.Streams.{AppendsBeginning};
 ghost use Rattle.ltl_cli.specs.Inputs.{IsInputOf};
+ghost use Rattle.ltl_cli.specs.Promises.{PrintsModels, TakesNone};
 ghost use Rattle.ltl_cli.specs.Runs.{IsOutcome, Shows, TranslatorPromises, IsTranslated, PlanOutcome, WordsOutcome, laid_out};
 
 use crate::automaton::automaton_of;
@@ -119,8 +120,11 @@ pub fn run_translate<A: Allocator, R: Read + Drop, W: Write, E: Write>(
     output: &mut W,
     message: &mut E,
 ) -> u8
-    ensures { (input : spec.Input) × IsInputOf R.remaining source input
+    ensures promised { (input : spec.Input) × IsInputOf R.remaining source input
         × Shows (TranslatorPromises plan.now input) (W.contents output.old) (W.contents output.new) (E.contents message.old) (E.contents message.new) result }
+    ensures language { (input : spec.Input) × IsInputOf R.remaining source input
+        × Shows (PrintsModels plan.now input) (W.contents output.old) (W.contents output.new) (E.contents message.old) (E.contents message.new) result }
+    ensures memory { ((input : spec.Input) → IsInputOf R.remaining source input → TakesNone plan.now input) → ¬ (result ≡ 4) }
 {
     let mut source = source;
     let outcome = answered(alloc, plan, &mut source, output);

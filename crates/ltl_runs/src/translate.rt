@@ -97,35 +97,6 @@ fn check<'a, A: Allocator>(
     Ok(())
 }
 
-fn check_printed<'a>(
-    rt: &impl Abort,
-    alloc: Global,
-    words: &'a [&'a str],
-    output: &str,
-) -> Result<(), Fail> {
-    let wanted = Wanted {
-        output: output.as_bytes(),
-        message: b"",
-        status: 0,
-    };
-    check(rt, alloc, &alloc, words, Source::Text, wanted)
-}
-
-fn check_refused<'a>(
-    rt: &impl Abort,
-    alloc: Global,
-    words: &'a [&'a str],
-    message: &str,
-    status: u8,
-) -> Result<(), Fail> {
-    let wanted = Wanted {
-        output: b"",
-        message: message.as_bytes(),
-        status,
-    };
-    check(rt, alloc, &alloc, words, Source::Text, wanted)
-}
-
 /// A run on a file of these bytes, which ends or cannot be read on.
 fn check_file(
     rt: &impl Abort,
@@ -151,135 +122,6 @@ fn put_many(text: &mut Vec<u8>, byte: u8, count: usize) -> Result<(), Fail> {
     for _ in 0..count {
         text.push(byte)?;
     }
-    Ok(())
-}
-
-#[test]
-fn recurrence_is_merged(rt: HostRuntime) -> Result<(), Fail> {
-    let alloc = rt.alloc();
-    check_printed(
-        &rt,
-        alloc,
-        &["ltl2ba", "-f", "[]<>p"],
-        "never { /* []<>p */\nT0_init:\n\tif\n\t:: (1) -> goto T0_init\n\t:: (p) -> goto accept_S1\n\tfi;\naccept_S1:\n\tif\n\t:: (1) -> goto T0_init\n\t:: (p) -> goto accept_S1\n\tfi;\n}\n",
-    )?;
-    check_printed(
-        &rt,
-        alloc,
-        &["ltl2ba", "-f", "[]X<>p"],
-        "never { /* []X <>p */\nT0_init:\n\tif\n\t:: (1) -> goto T0_S1\n\tfi;\nT0_S1:\n\tif\n\t:: (1) -> goto T0_S1\n\t:: (p) -> goto accept_S2\n\tfi;\naccept_S2:\n\tif\n\t:: (1) -> goto T0_S1\n\t:: (p) -> goto accept_S2\n\tfi;\n}\n",
-    )?;
-    check_printed(
-        &rt,
-        alloc,
-        &["ltl2ba", "-p", "-f", "[]<>p"],
-        "never { /* []<>p */\nT0_init:\n\tif\n\t:: (1) -> goto T0_S1\n\t:: (p) -> goto accept_S2\n\tfi;\nT0_S1:\n\tif\n\t:: (1) -> goto T0_S1\n\t:: (p) -> goto accept_S2\n\tfi;\naccept_S2:\n\tif\n\t:: (1) -> goto T0_S1\n\t:: (p) -> goto accept_S2\n\tfi;\n}\n",
-    )?;
-    check_printed(
-        &rt,
-        alloc,
-        &["ltl2ba", "-o", "-f", "[]<>p"],
-        "never { /* []<>p */\nT0_init:\n\tif\n\t:: (1) -> goto T0_S1\n\t:: (p) -> goto accept_S2\n\tfi;\nT0_S1:\n\tif\n\t:: (1) -> goto T0_S1\n\t:: (p) -> goto accept_S2\n\t:: (p) -> goto accept_S3\n\tfi;\naccept_S2:\n\tif\n\t:: (1) -> goto T0_S1\n\t:: (p) -> goto accept_S2\n\tfi;\naccept_S3:\n\tif\n\t:: (1) -> goto T0_S1\n\t:: (p) -> goto accept_S2\n\t:: (p) -> goto accept_S3\n\tfi;\n}\n",
-    )?;
-    check_printed(
-        &rt,
-        alloc,
-        &["ltl2ba", "-l", "-o", "-p", "-f", "[]<>p"],
-        "never { /* []<>p */\nT0_init:\n\tif\n\t:: (1) -> goto T0_S1\n\t:: (p) -> goto accept_S2\n\tfi;\nT0_S1:\n\tif\n\t:: (1) -> goto T0_S1\n\t:: (p) -> goto accept_S2\n\t:: (p) -> goto accept_S3\n\tfi;\naccept_S2:\n\tif\n\t:: (1) -> goto T0_S1\n\t:: (p) -> goto accept_S2\n\tfi;\naccept_S3:\n\tif\n\t:: (1) -> goto T0_S1\n\t:: (p) -> goto accept_S2\n\t:: (p) -> goto accept_S3\n\tfi;\n}\n",
-    )?;
-    Ok(())
-}
-
-#[test]
-fn the_other_format(rt: HostRuntime) -> Result<(), Fail> {
-    let alloc = rt.alloc();
-    check_printed(
-        &rt,
-        alloc,
-        &["ltl2ba", "-H", "-f", "!(p U q)"],
-        "HOA: v1\nname: \"!(p U q)\"\nStates: 2\nStart: 0\nAP: 2 \"p\" \"q\"\nacc-name: Buchi\nAcceptance: 1 Inf(0)\nproperties: trans-labels explicit-labels state-acc\n--BODY--\nState: 0 {0}\n[!0&!1] 1\n[!1] 0\nState: 1 {0}\n[t] 1\n--END--\n",
-    )?;
-    check_printed(
-        &rt,
-        alloc,
-        &["ltl2ba", "-H", "-f", "<>p"],
-        "HOA: v1\nname: \"<>p\"\nStates: 2\nStart: 0\nAP: 1 \"p\"\nacc-name: Buchi\nAcceptance: 1 Inf(0)\nproperties: trans-labels explicit-labels state-acc\n--BODY--\nState: 0\n[t] 0\n[0] 1\nState: 1 {0}\n[t] 1\n--END--\n",
-    )?;
-    Ok(())
-}
-
-#[test]
-fn places_of_faults(rt: HostRuntime) -> Result<(), Fail> {
-    let alloc = rt.alloc();
-    check_refused(
-        &rt,
-        alloc,
-        &["ltl2ba", "-f", "p U"],
-        "ltl2ba: formula: byte 3: expected operand\n",
-        3,
-    )?;
-    check_refused(
-        &rt,
-        alloc,
-        &["ltl2ba", "-f", "(p"],
-        "ltl2ba: formula: byte 2: expected ) or operator\n",
-        3,
-    )?;
-    check_refused(
-        &rt,
-        alloc,
-        &["ltl2ba", "-f", "p q"],
-        "ltl2ba: formula: byte 2: expected operator or end\n",
-        3,
-    )?;
-    check_refused(
-        &rt,
-        alloc,
-        &["ltl2ba", "-f", "p)"],
-        "ltl2ba: formula: byte 1: expected operator or end\n",
-        3,
-    )?;
-    check_refused(
-        &rt,
-        alloc,
-        &["ltl2ba", "-f", "p & q"],
-        "ltl2ba: formula: byte 2: unexpected byte\n",
-        3,
-    )?;
-    check_refused(
-        &rt,
-        alloc,
-        &["ltl2ba", "-f", "(p && ) q"],
-        "ltl2ba: formula: byte 6: expected operand\n",
-        3,
-    )?;
-    check_refused(
-        &rt,
-        alloc,
-        &["ltl2ba", "-f", "p # ("],
-        "ltl2ba: formula: byte 2: unexpected byte\n",
-        3,
-    )?;
-    Ok(())
-}
-
-#[test]
-fn usage(rt: HostRuntime) -> Result<(), Fail> {
-    let alloc = rt.alloc();
-    check_refused(
-        &rt,
-        alloc,
-        &["ltl2ba", "-f", "p", "-F", "x"],
-        "ltl2ba: usage: ltl2ba [-l] [-o] [-p] [-H] (-f formula | -F file)\n",
-        2,
-    )?;
-    check_refused(
-        &rt,
-        alloc,
-        &["ltl2ba"],
-        "ltl2ba: usage: ltl2ba [-l] [-o] [-p] [-H] (-f formula | -F file)\n",
-        2,
-    )?;
     Ok(())
 }
 
@@ -317,13 +159,19 @@ fn reads_that_fail(rt: HostRuntime) -> Result<(), Fail> {
 const RECURRENCE: &str =
     "never { /* []<>p */\nT0_init:\n\tif\n\t:: (1) -> goto T0_init\n\t:: (p) -> goto accept_S1\n\tfi;\naccept_S1:\n\tif\n\t:: (1) -> goto T0_init\n\t:: (p) -> goto accept_S1\n\tfi;\n}\n";
 
-/// Writers that take so many bytes of the claim, and then fail, or take no byte.
-#[test]
-fn writes_that_fail(rt: HostRuntime) -> Result<(), Fail> {
-    let alloc = rt.alloc();
+const EVENTUALLY: &str =
+    "HOA: v1\nname: \"<>p\"\nStates: 2\nStart: 0\nAP: 1 \"p\"\nacc-name: Buchi\nAcceptance: 1 Inf(0)\nproperties: trans-labels explicit-labels state-acc\n--BODY--\nState: 0\n[t] 0\n[0] 1\nState: 1 {0}\n[t] 1\n--END--\n";
+
+/// Writers that take so many bytes of the text, and then fail, or take no byte.
+fn check_writers<'a>(
+    rt: &impl Abort,
+    alloc: Global,
+    words: &'a [&'a str],
+    text: &str,
+) -> Result<(), Fail> {
+    let plan = plan(alloc, Tool::Translator, words);
     for fails in [false, true] {
-        for room in 0..RECURRENCE.len() {
-            let plan = plan(alloc, Tool::Translator, &["ltl2ba", "-f", "[]<>p"]);
+        for room in 0..text.len() {
             let mut output = writer(alloc, room, fails);
             let mut message = writer(alloc, usize::MAX, true);
             let source: Source<Pieces<'_>> = Source::Text;
@@ -331,7 +179,7 @@ fn writes_that_fail(rt: HostRuntime) -> Result<(), Fail> {
                 run_translate(&alloc, &plan, source, &mut output, &mut message),
                 5
             );
-            assert_eq!(rt; output.held.as_slice(), &RECURRENCE.as_bytes()[..room]);
+            assert_eq!(rt; output.held.as_slice(), &text.as_bytes()[..room]);
             assert_eq!(rt;
                 message.held.as_slice(),
                 b"ltl2ba: cannot write\n".as_slice()
@@ -339,6 +187,13 @@ fn writes_that_fail(rt: HostRuntime) -> Result<(), Fail> {
         }
     }
     Ok(())
+}
+
+#[test]
+fn writes_that_fail(rt: HostRuntime) -> Result<(), Fail> {
+    let alloc = rt.alloc();
+    check_writers(&rt, alloc, &["ltl2ba", "-f", "[]<>p"], RECURRENCE)?;
+    check_writers(&rt, alloc, &["ltl2ba", "-H", "-f", "<>p"], EVENTUALLY)
 }
 
 /// A flush that fails behind the last byte is a failure to write.
@@ -408,12 +263,7 @@ fn check_growths<'a>(
 #[test]
 fn refused_growths(rt: HostRuntime) -> Result<(), Fail> {
     let alloc = rt.alloc();
-    check_growths(
-        &rt,
-        alloc,
-        &["ltl2ba", "-f", "[]<>p"],
-        "never { /* []<>p */\nT0_init:\n\tif\n\t:: (1) -> goto T0_init\n\t:: (p) -> goto accept_S1\n\tfi;\naccept_S1:\n\tif\n\t:: (1) -> goto T0_init\n\t:: (p) -> goto accept_S1\n\tfi;\n}\n",
-    )?;
+    check_growths(&rt, alloc, &["ltl2ba", "-f", "[]<>p"], RECURRENCE)?;
     check_growths(
         &rt,
         alloc,

@@ -1,4 +1,3 @@
-use Rattle.std.proofs.Common.{◌≡◌}
 use Rattle.std.proofs.lemmas.Result.{err_from_is_err_and}
 use Rattle.ltl_spec.specs.Formulas.Tokens.{tokens}
 use Rattle.ltl_spec.proofs.Checking.BelowLaws.{translation_named}

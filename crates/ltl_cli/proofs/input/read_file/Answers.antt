@@ -1,8 +1,7 @@
-use Rattle.std.proofs.Common.{◌≡◌, ap, subst, List, ℕ}
+use Rattle.std.proofs.Common.{ap, subst, List, ℕ}
 use Rattle.std.proofs.lemmas.Result.{err_from_is_err_and}
-use Rattle.std.specs.Prelude.{Result, Err}
+use Rattle.std.specs.Prelude.{Err}
 use Rattle.ltl_spec.specs.Tools.Outcome as spec
-use Rattle.ltl_formula.specs.FormulaView.{FormulaView}
 use Rattle.ltl_cli.specs.declared.refusal.Refusal.{Refusal}
 use Rattle.ltl_cli.specs.Inputs.{IsReadFrom}
 use Rattle.ltl_cli.proofs.InputLaws.{file_from, file_refused}

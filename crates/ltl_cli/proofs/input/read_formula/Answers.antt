@@ -1,8 +1,6 @@
-use Rattle.std.proofs.Common.{◌≡◌, subst, List, ℕ}
+use Rattle.std.proofs.Common.{subst, List, ℕ}
 use Rattle.ltl_spec.specs.Tools.Outcome as spec
 use Rattle.ltl_cli.specs.Inputs.{IsReadFrom}
-use Rattle.ltl_cli.specs.Plans.{formula_word}
-use Rattle.ltl_cli.specs.declared.request.FormulaWord.{FormulaWord}
 use Rattle.ltl_cli.proofs.InputLaws.{some_input}
 use Rattle.ltl_cli.proofs.input.read_formula.Goals as goal
 

@@ -1,4 +1,4 @@
-use Rattle.std.proofs.Common.{arith, vec_len, ◌<◌, length, length-take}
+use Rattle.std.proofs.Common.{arith, length-take}
 use Rattle.ltl_cli.proofs.StreamLaws.{taken_to_end, taken_to_limit, at_end_before, taken_more}
 use Rattle.ltl_cli.proofs.input.read_text.Goals as goal
 

@@ -1,9 +1,9 @@
-use Rattle.std.proofs.Common.{◌≡◌, ◌∙◌, ◌++◌, List, ℕ, ap, ap₂, subst}
+use Rattle.std.proofs.Common.{List, ℕ, subst}
 use Rattle.std.specs.Prelude.{OnOk, OnErr}
 use Rattle.std.specs.Io.KnownBytes.{Appends}
 use Rattle.ltl_formula.specs.Streams.{AppendsBeginning}
 use Rattle.ltl_cli.specs.Refusals.{refusal_of, tool_of}
-use Rattle.ltl_cli.proofs.MessageLaws.{parts_are, put_same}
+use Rattle.ltl_cli.proofs.MessageLaws.{put_same}
 use Rattle.ltl_cli.proofs.message.put_text.Goals as goal
 
 pub returns-clause-ok : goal.returns-clause-ok
