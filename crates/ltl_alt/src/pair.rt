@@ -97,6 +97,12 @@ impl Pair {
 }
 
 impl Clone for Pair {
+    ghost use Rattle.std.specs.Prelude.{◌≡◌, ⊤};
+
+    ghost is_clone = { λ s r. r ≡ s };
+
+    ghost is_infallible = { λ _. ⊤ };
+
     fn clone(&self) -> Result<Pair, AllocError> {
         Ok(*self)
     }

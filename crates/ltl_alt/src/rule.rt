@@ -10,7 +10,7 @@ use crate::pair_set::PairSet;
 use std::alloc::Allocator;
 
 /// A rule by which pairs may be dropped.
-#[derive(Clone, Copy, Debug, PartialEq, Eq)]
+#[derive(Clone, Copy, PartialEq, Eq)]
 pub(crate) enum Rule {
     /// None but repeated ones.
     Equal,

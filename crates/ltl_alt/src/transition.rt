@@ -10,7 +10,6 @@ use std::cmp::Ordering;
 use std::marker::Model;
 
 /// A transition: its literals, its target, and the places of the until rows that it does not put off.
-#[derive(Debug)]
 pub(crate) struct Transition {
     pub(crate) cube: Cube,
     pub(crate) targets: RowSet,
@@ -80,6 +79,12 @@ impl Transition {
 }
 
 impl Clone for Transition {
+    ghost use Rattle.std.specs.Prelude.{◌≡◌, ⊤};
+
+    ghost is_clone = { λ s r. r ≡ s };
+
+    ghost is_infallible = { λ _. ⊤ };
+
     fn clone(&self) -> Result<Transition, AllocError> {
         Ok(*self)
     }
