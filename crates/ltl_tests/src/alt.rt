@@ -1,8 +1,7 @@
 //! Generalized automata as a plain translation in another language gives them.
 
-use ltl_alt::{AltFault, Gba, GbaEdge, pairs};
+use ltl_alt::{Gba, GbaEdge, pairs};
 use ltl_formula::{Table, read};
-use refusing::Refusing;
 use std::alloc::{AllocError, Allocator, Global};
 use std::process::Abort;
 use std::test::Fail;
@@ -200,71 +199,6 @@ fn fairness(rt: HostRuntime) -> Result<(), Fail> {
     Ok(())
 }
 
-/// Forty brackets `(an || q)` with `&&` between them.
-fn forty_brackets(alloc: Global) -> Result<String, AllocError> {
-    let mut text = String::new(alloc);
-    for n in 0..40 {
-        text.push_str(if n == 0 { "(a" } else { " && (a" })?;
-        push_number(alloc, &mut text, n)?;
-        text.push_str(" || q)")?;
-    }
-    Ok(text)
-}
-
-/// The edge on which all forty `an` are true. Proposition 1 is `q`.
-fn all_forty(alloc: Global) -> Result<String, AllocError> {
-    let mut text = String::new(alloc);
-    text.push_str("0")?;
-    for n in 2..41 {
-        text.push_str("&")?;
-        push_number(alloc, &mut text, n)?;
-    }
-    Ok(text)
-}
-
-#[test]
-fn forty_brackets_at_once(rt: HostRuntime) -> Result<(), Fail> {
-    let alloc = rt.alloc();
-    let brackets = forty_brackets(alloc)?;
-    let all = all_forty(alloc)?;
-    let wanted = format!(in alloc; "{all}>1{{}};1>1{{}};|>1{{}};")?;
-    assert!(rt; gives(alloc, brackets.as_bytes(), false, wanted.as_str())?);
-    let sometime = format!(in alloc; "<>({brackets})")?;
-    let wanted = format!(in alloc; ">0{{}};{all}>1{{0}};1>1{{0}};|>1{{0}};")?;
-    assert!(rt; gives(alloc, sometime.as_bytes(), false, wanted.as_str())?);
-    let next = format!(in alloc; "X({brackets})")?;
-    let wanted = format!(in alloc; ">1{{}};>2{{}};|{all}>3{{}};|1>3{{}};|>3{{}};")?;
-    assert!(rt; gives(alloc, next.as_bytes(), false, wanted.as_str())?);
-    Ok(())
-}
-
-#[test]
-fn inclusion_alone_is_not_enough(rt: HostRuntime) -> Result<(), Fail> {
-    let alloc = rt.alloc();
-    assert!(rt;
-        gives(
-            alloc,
-            b"(p || (p && q)) && X <>q",
-            false,
-            "0>1{};0&1>1{0};|>1{};1>2{0};|>2{0};"
-        )?
-    );
-    assert!(rt; gives(alloc, b"[]X<>p", false, ">1{};|>1{};0>1{0};")?);
-    Ok(())
-}
-
-#[test]
-fn thirteen_untils_are_too_large(rt: HostRuntime) -> Result<(), Fail> {
-    let alloc = rt.alloc();
-    let text =
-        b"<>a && <>b && <>c && <>d && <>e && <>f && <>g && <>h && <>i && <>j && <>k && <>l && <>m";
-    let formula = read(&alloc, text)?;
-    let table = Table::build(&alloc, &formula, false, true)?;
-    let made = Gba::reach(&alloc, &table, false);
-    assert!(rt; matches!(&made, Err(AltFault::TooLarge)));
-    Ok(())
-}
-
 #[test]
 fn pairs_of_the_root(rt: HostRuntime) -> Result<(), Fail> {
     let alloc = rt.alloc();
@@ -272,21 +206,5 @@ fn pairs_of_the_root(rt: HostRuntime) -> Result<(), Fail> {
     let table = Table::build(&alloc, &formula, false, true)?;
     let listed = pairs(&alloc, &table, table.root())?;
     assert_eq!(rt; listed.as_slice().len(), 2);
-    Ok(())
-}
-
-#[test]
-fn each_growth_refused(rt: HostRuntime) -> Result<(), Fail> {
-    for n in 1..60 {
-        let alloc = Refusing::new(rt.alloc(), n);
-        let is_made = match read(&alloc, b"<>p && [](q -> X p)") {
-            Ok(formula) => match Table::build(&alloc, &formula, false, true) {
-                Ok(table) => Gba::reach(&alloc, &table, false).is_ok(),
-                Err(_) => false,
-            },
-            Err(_) => false,
-        };
-        assert_eq!(rt; is_made, !alloc.has_refused());
-    }
     Ok(())
 }

@@ -1,10 +1,9 @@
 //! Merging, as a plain translation in another language gives it.
 
 use ltl_alt::{Gba, GbaEdge};
-use ltl_buchi::{Ba, BaFault, Options, levels, merge, merge_ba, renumber};
+use ltl_buchi::{Ba, Options, levels, merge, merge_ba, renumber};
 use ltl_formula::{Table, read};
 use ltl_sets::Cube;
-use refusing::Refusing;
 use std::alloc::{AllocError, Allocator, Global};
 use std::process::Abort;
 use std::test::Fail;
@@ -218,30 +217,5 @@ fn what_is_left_out_of_merging(rt: HostRuntime) -> Result<(), Fail> {
             ">1;>2;0>3;|>1;0>3;|*>2;|*>3;"
         )?
     );
-    Ok(())
-}
-
-/// Merges before and after the levels, over any allocator. Each fault is taken for want of memory.
-fn merges_over<A: Allocator>(alloc: &A) -> Result<(), BaFault> {
-    let Ok(read) = read(alloc, b"[]<>p && <>q") else {
-        return Err(BaFault::OutOfMemory);
-    };
-    let Ok(table) = Table::build(alloc, &read, false, true) else {
-        return Err(BaFault::OutOfMemory);
-    };
-    let gba = Gba::reach(alloc, &table, false)?;
-    let merged = merge(alloc, &gba, &all())?;
-    let copies = levels(alloc, &merged)?;
-    merge_ba(alloc, &copies, &all())?;
-    Ok(())
-}
-
-#[test]
-fn each_growth_refused(rt: HostRuntime) -> Result<(), Fail> {
-    for n in 1..200 {
-        let alloc = Refusing::new(rt.alloc(), n);
-        let made = merges_over(&alloc);
-        assert_eq!(&rt; made.is_ok(), !alloc.has_refused());
-    }
     Ok(())
 }

@@ -3,7 +3,6 @@
 use ltl_formula::{
     BinaryOperator, FaultKind, Node, ReadFault, Token, TokenKind, WriteFault, lex, read, text_to,
 };
-use refusing::Refusing;
 use std::alloc::Global;
 use std::io::{self, Write};
 use std::process::Abort;

@@ -1,7 +1,6 @@
 //! The table of rows.
 
 use ltl_formula::{BuildFault, Row, Table, read};
-use refusing::Refusing;
 use std::alloc::{AllocError, Allocator, Global};
 use std::process::Abort;
 use std::test::Fail;
@@ -604,26 +603,5 @@ fn long_chains(rt: HostRuntime) -> Result<(), Fail> {
     }
     let alike = chain(alloc, "U", 21_000, 1)?;
     assert_eq!(rt; sizes(alloc, alike.as_str())?, Ok((1, 1)));
-    Ok(())
-}
-
-/// With one growth refused the table isn't built, and the fault says so.
-#[test]
-fn each_growth_refused(rt: HostRuntime) -> Result<(), Fail> {
-    let mut refused = 0;
-    let global = rt.alloc();
-    let formula = read(&global, b"!(p U q) || [](X r) && (s <-> t)")?;
-    for n in 1..200 {
-        let alloc = Refusing::new(global, n);
-        match Table::build(&alloc, &formula, true, true) {
-            Ok(_) => assert!(rt; !alloc.has_refused(), "at {n}"),
-            Err(fault) => {
-                assert_eq!(rt; fault, BuildFault::OutOfMemory);
-                assert!(rt; alloc.has_refused(), "at {n}");
-                refused = n;
-            }
-        }
-    }
-    assert!(rt; refused > 10);
     Ok(())
 }

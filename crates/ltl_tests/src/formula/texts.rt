@@ -87,44 +87,6 @@ fn tokens_have_their_places(rt: HostRuntime) {
 }
 
 /// So many times the byte.
-fn repeated(alloc: Global, byte: u8, count: usize) -> Result<Vec<u8>, Fail> {
-    let mut bytes = Vec::new(alloc);
-    for _ in 0..count {
-        bytes.push(byte)?;
-    }
-    Ok(bytes)
-}
-
-#[test]
-fn the_longest_chain_is_read(rt: HostRuntime) -> Result<(), Fail> {
-    let mut text = repeated(rt.alloc(), b'!', 65_535)?;
-    text.push(b'p')?;
-    reads_as(&rt, rt.alloc(), text.as_slice(), text.as_slice())
-}
-
-#[test]
-fn the_deepest_brackets_are_read(rt: HostRuntime) -> Result<(), Fail> {
-    let mut text = repeated(rt.alloc(), b'(', 32_767)?;
-    text.push(b'p')?;
-    text.extend_from_slice(repeated(rt.alloc(), b')', 32_767)?.as_slice())?;
-    reads_as(&rt, rt.alloc(), text.as_slice(), b"p")
-}
-
-#[test]
-fn a_long_text_is_refused(rt: HostRuntime) -> Result<(), Fail> {
-    let mut text = repeated(rt.alloc(), b'!', 65_536)?;
-    let fault = ReadFault::AtByte(65_536, FaultKind::ExpectedOperand);
-    assert_eq!(rt; read(&rt.alloc(), text.as_slice()).err(), Some(fault));
-    text.push(b'!')?;
-    let alloc = Refusing::new(rt.alloc(), 1);
-    assert_eq!(rt;
-        read(&alloc, text.as_slice()).err(),
-        Some(ReadFault::TooLong)
-    );
-    assert!(rt; !alloc.has_refused());
-    Ok(())
-}
-
 /// A conjunction of so many different propositions.
 fn conjunction(alloc: Global, count: u8) -> Result<Vec<u8>, Fail> {
     let mut text = vec![in alloc; b'a', b'0']?;
@@ -150,29 +112,5 @@ fn propositions_are_counted(rt: HostRuntime) -> Result<(), Fail> {
     let place = faulty.len() - 1;
     let fault = ReadFault::AtByte(place, FaultKind::ExpectedOperatorOrEnd);
     assert_eq!(rt; read(&rt.alloc(), faulty.as_slice()).err(), Some(fault));
-    Ok(())
-}
-
-#[test]
-fn each_growth_refused(rt: HostRuntime) -> Result<(), Fail> {
-    let mut refused = 0;
-    for n in 1..100 {
-        let alloc = Refusing::new(rt.alloc(), n);
-        let answer = read(
-            &alloc,
-            b"!(p && q) U (r <-> []s) -> <>(p V (q || a)) && (b -> c)",
-        )
-        .err();
-        let expected = if alloc.has_refused() {
-            Some(ReadFault::OutOfMemory)
-        } else {
-            None
-        };
-        assert_eq!(rt; answer, expected);
-        if alloc.has_refused() {
-            refused = n;
-        }
-    }
-    assert!(rt; refused > 5);
     Ok(())
 }
