@@ -5,12 +5,16 @@ ghost use Rattle.ltl_spec.specs.Collections.Lists.{with_new, place_of};
 ghost use Rattle.ltl_spec.specs.Automata.Generalized.{same_row_set, IsGeneralized, IsTooLarge};
 ghost use Rattle.ltl_formula.specs.TableView.{core_of};
 ghost use Rattle.ltl_alt.specs.GbaView.{edge_of};
+ghost use Rattle.ltl_alt.specs.RowLists.{AreLists};
+ghost use Rattle.ltl_alt.specs.StandIns.{AreOwn, rule_of};
+ghost use Rattle.ltl_alt.specs.TransitionView.{table_at};
 ghost use Rattle.ltl_alt.specs.ReachView.{edge_in, with_targets};
 
 use crate::edge::GbaEdge;
 use crate::fault::AltFault;
 use crate::gba::{Gba, MOST_EDGES, MOST_STATES};
 use crate::own::all_own;
+use crate::pair_set::PairSet;
 use crate::place::{place, until_count};
 use crate::row_lists::RowLists;
 use crate::transition::Transition;
@@ -77,33 +81,28 @@ fn edges_of<'a, A: Allocator>(
     Ok(edges)
 }
 
-/// The automaton of a table's formula.
-pub(crate) fn reach<'a, A: Allocator>(
+/// The automaton of a table's formula, with what was listed of its rows.
+fn explore<'a, A: Allocator>(
     alloc: &'a A,
     table: &Table<'_, A>,
+    lists: &mut RowLists<'a, A>,
+    own: &[PairSet<'a, A>],
     keep_implied: bool,
 ) -> Result<Gba<'a, A>, AltFault>
+    requires lists { AreLists table.now (rule_of keep_implied) lists.old.pairs.items lists.old.sets.items }
+    requires own { AreOwn (table_at table.now) own.now }
     ensures generalized { IfOk result (IsGeneralized (core_of table.now) keep_implied) }
     ensures fits { IfOk result (λ _. ¬ (IsTooLarge (core_of table.now) keep_implied MOST_STATES MOST_EDGES)) }
     ensures large { IsErrOf result AltFault.TooLarge → IsTooLarge (core_of table.now) keep_implied MOST_STATES MOST_EDGES }
 {
     let _ = table.len();
-    let own = all_own(alloc, table)?;
-    let mut lists = RowLists::new(alloc, table)?;
     let mut states: States<'a, A> = IndexSet::new(alloc);
     number_of(&mut states, RowSet::single(place(table, table.root())))?;
     let mut made = Vec::new(alloc);
     let mut count = 0usize;
     'states: while made.len() < states.len() {
         let state = states[made.len()];
-        let kept = transitions(
-            alloc,
-            table,
-            &mut lists,
-            own.as_slice(),
-            keep_implied,
-            &state,
-        )?;
+        let kept = transitions(alloc, table, lists, own, keep_implied, &state)?;
         if kept.len() > MOST_EDGES - count {
             return Err(AltFault::TooLarge);
         }
@@ -115,4 +114,19 @@ pub(crate) fn reach<'a, A: Allocator>(
         made.push(edges)?;
     }
     Ok(Gba::new(until_count(table), made))
+}
+
+/// The automaton of a table's formula.
+pub(crate) fn reach<'a, A: Allocator>(
+    alloc: &'a A,
+    table: &Table<'_, A>,
+    keep_implied: bool,
+) -> Result<Gba<'a, A>, AltFault>
+    ensures generalized { IfOk result (IsGeneralized (core_of table.now) keep_implied) }
+    ensures fits { IfOk result (λ _. ¬ (IsTooLarge (core_of table.now) keep_implied MOST_STATES MOST_EDGES)) }
+    ensures large { IsErrOf result AltFault.TooLarge → IsTooLarge (core_of table.now) keep_implied MOST_STATES MOST_EDGES }
+{
+    let own = all_own(alloc, table)?;
+    let mut lists = RowLists::new(alloc, table)?;
+    explore(alloc, table, &mut lists, own.as_slice(), keep_implied)
 }

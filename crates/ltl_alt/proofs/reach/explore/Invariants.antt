@@ -4,7 +4,7 @@ use Rattle.ltl_alt.specs.RowLists.{AreLists}
 use Rattle.ltl_alt.specs.GbaView.{state_of}
 use Rattle.ltl_alt.specs.ReachView.{IsUnderWay}
 use Rattle.ltl_alt.specs.StandIns.{rule_of}
-use Rattle.ltl_alt.proofs.reach.reach.Given as goal
+use Rattle.ltl_alt.proofs.reach.explore.Given as goal
 
 abbrev pub invariant-states : goal.invariant-states
 invariant-states g l = record {
