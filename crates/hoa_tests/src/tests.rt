@@ -1,0 +1,442 @@
+//! Reading automata.
+
+use ltl_hoa::{HoaFault, HoaFaultKind, Marked, MarkedEdge, hoa_read};
+use ltl_sets::{Cube, RowSet};
+use refusing::Refusing;
+use std::alloc::Allocator;
+use std::io::{self, Read};
+use std::test::Fail;
+
+/// Gives a text in pieces of a size, and fails once `left` calls were made.
+#[derive(Drop)]
+struct Pieces<'t> {
+    rest: &'t [u8],
+    size: usize,
+    left: usize,
+}
+
+impl Read for Pieces<'_> {
+    fn read(&mut self, buf: &mut [u8]) -> io::Result<usize> {
+        if self.left == 0 {
+            return Err(io::Error::from(io::ErrorKind::Other));
+        }
+        self.left -= 1;
+        let n = self.size.min(buf.len()).min(self.rest.len());
+        buf[..n].copy_from_slice(&self.rest[..n]);
+        self.rest = &self.rest[n..];
+        Ok(n)
+    }
+}
+
+/// Gives so many spaces.
+#[derive(Drop)]
+struct Spaces {
+    left: usize,
+}
+
+impl Read for Spaces {
+    fn read(&mut self, buf: &mut [u8]) -> io::Result<usize> {
+        let n = self.left.min(buf.len());
+        buf[..n].fill(b' ');
+        self.left -= n;
+        Ok(n)
+    }
+}
+
+/// Its only word never has p.
+const NEVER: &str =
+    "HOA: v1\nStates: 1\nStart: 0\nAP: 1 \"p\"\nAcceptance: 1 Inf(0)\n--BODY--\nState: 0 {0}\n[!0] 0\n--END--\n";
+
+/// Its only word alternates.
+const ALTERNATING: &str =
+    "HOA: v1\nStates: 2\nStart: 0\nAP: 1 \"p\"\nAcceptance: 1 Inf(0)\n--BODY--\nState: 0 {0}\n[0] 1\nState: 1\n[!0] 0\n--END--\n";
+
+/// Texts that are refused, with the fault's line and kind.
+const REFUSED: [(&str, usize, HoaFaultKind); 29] = [
+    (
+        "HOA: v2\nStates: 1\nStart: 0\nAP: 1 \"p\"\nAcceptance: 1 Inf(0)\n--BODY--\nState: 0 {0}\n[!0] 0\n--END--\n",
+        1,
+        HoaFaultKind::NotHoaVersion1,
+    ),
+    (
+        "HOA: v1\nStates: 1\nStates: 1\nAP: 1 \"p\"\nAcceptance: 1 Inf(0)\n--BODY--\nState: 0 {0}\n[!0] 0\n--END--\n",
+        3,
+        HoaFaultKind::ItemTwice,
+    ),
+    (
+        "HOA: v1\nStates: 1\nStart: 0\nAcceptance: 1 Inf(0)\n--BODY--\nState: 0 {0}\n[!0] 0\n--END--\n",
+        5,
+        HoaFaultKind::ItemMissing,
+    ),
+    (
+        "HOA: v1\nStates: 1\nStart: 0\nAP: 1 \"p\"\nAcceptance: 2 Inf(0)&Inf(1)\n--BODY--\nState: 0 {0}\n[!0] 0\n--END--\n",
+        5,
+        HoaFaultKind::Unsupported,
+    ),
+    (
+        "HOA: v1\nStates: 1\nStart: 0\nAP: 2 \"p\"\nAcceptance: 1 Inf(0)\n--BODY--\nState: 0 {0}\n[!0] 0\n--END--\n",
+        5,
+        HoaFaultKind::BadPropositionList,
+    ),
+    (
+        "HOA: v1\nStates: 1\nStart: 0\nAP: 1 \"true\"\nAcceptance: 1 Inf(0)\n--BODY--\nState: 0 {0}\n[!0] 0\n--END--\n",
+        4,
+        HoaFaultKind::BadPropositionList,
+    ),
+    (
+        "HOA: v1\nStates: 1\nStart: 1\nAP: 1 \"p\"\nAcceptance: 1 Inf(0)\n--BODY--\nState: 0 {0}\n[!0] 0\n--END--\n",
+        6,
+        HoaFaultKind::NumberOutOfRange,
+    ),
+    (
+        "HOA: v1\nStates: 1\nStart: 0\nAP: 1 \"p\"\nAcceptance: 1 Inf(0)\n--BODY--\nState: 0 {0}\n0\n--END--\n",
+        8,
+        HoaFaultKind::Unsupported,
+    ),
+    (
+        "HOA: v1\nStates: 1\nStart: 0\nAP: 1 \"p\"\nAcceptance: 1 Inf(0)\n--BODY--\nState: 0 {0}\n[!0] 0&0\n--END--\n",
+        8,
+        HoaFaultKind::Unsupported,
+    ),
+    (
+        "HOA: v1\nStates: 1\nStart: 0\nAP: 1 \"p\"\nAcceptance: 1 Inf(0)\n--BODY--\nState: 0 {0}\n[!0] 0\nState: 0\n--END--\n",
+        9,
+        HoaFaultKind::StateDefinedTwice,
+    ),
+    (
+        "HOA: v1\nStates: 1\nStart: 0\nAP: 1 \"p\"\nAcceptance: 1 Inf(0)\n--BODY--\nState: 0 {0}\n[!0] 0\n--END--\nx\n",
+        10,
+        HoaFaultKind::TextAfterEnd,
+    ),
+    ("", 1, HoaFaultKind::NotHoaVersion1),
+    (
+        "HOA: v1\nStates: 1\nStart: 0\nAP: 1 \"p\"\nAcceptance: 1 Inf(0)\n--BODY--\nState: 0 {0}\n",
+        8,
+        HoaFaultKind::BadToken,
+    ),
+    (
+        "HOA: v1\nStates: 4294967295\nStart: 0\nAP: 1 \"p\"\nAcceptance: 1 Inf(0)\n--BODY--\nState: 0 {0}\n[!0] 0\n--END--\n",
+        2,
+        HoaFaultKind::LimitPassed,
+    ),
+    (
+        "HOA: v1\nStates: 1\nStart: 0\nAP: 1 \"p\"\nAcceptance: 1 Inf(0)\n--BODY--\nState: 0 {0}\n[1] 0\n--END--\n",
+        8,
+        HoaFaultKind::NumberOutOfRange,
+    ),
+    (
+        "HOA: v1\nStates: 0\nStart: 0\nAP: 1 \"p\"\nAcceptance: 1 Inf(0)\n--BODY--\nState: 0 {0}\n[!0] 0\n--END--\n",
+        6,
+        HoaFaultKind::NumberOutOfRange,
+    ),
+    (
+        "HOA: v1\nStates: 1\nStart: 0\nAP: 65\nAcceptance: 1 Inf(0)\n--BODY--\nState: 0 {0}\n[!0] 0\n--END--\n",
+        4,
+        HoaFaultKind::LimitPassed,
+    ),
+    (
+        "HOA: v1\nStates: 1\nStart: 0\nAP: 1 \"p\"\nAcceptance: 1 Inf(0)\n--BODY--\n/*State: 0 {0}\n[!0] 0\n--END--\n",
+        10,
+        HoaFaultKind::BadToken,
+    ),
+    (
+        "HOA: v1\nAlias: @a 0\nStart: 0\nAP: 1 \"p\"\nAcceptance: 1 Inf(0)\n--BODY--\nState: 0 {0}\n[!0] 0\n--END--\n",
+        2,
+        HoaFaultKind::Unsupported,
+    ),
+    (
+        "HOA: v1\nFoo: 1\nStart: 0\nAP: 1 \"p\"\nAcceptance: 1 Inf(0)\n--BODY--\nState: 0 {0}\n[!0] 0\n--END--\n",
+        2,
+        HoaFaultKind::UnknownItem,
+    ),
+    (
+        "HOA: v1\nStates: 1\nStart: 0\nAP: 1 \"p\"\nAcceptance: 1 Inf(0)\n--BODY--\nState: 0 {0}\n[!0] 0\n--ABORT--\n",
+        9,
+        HoaFaultKind::Unsupported,
+    ),
+    (
+        "HOA: v1\nStates: 1\nStart: 0\nAP: 2 \"p\" \"p\"\nAcceptance: 1 Inf(0)\n--BODY--\nState: 0 {0}\n[!0] 0\n--END--\n",
+        4,
+        HoaFaultKind::BadPropositionList,
+    ),
+    (
+        "HOA: v1\nStates: 1\nStart: 0\nAP: 1 \"p\"\nAcceptance: 1 Inf(0)\n--BODY--\nState: 0 {0}\n[!0] 0 {1}\n--END--\n",
+        8,
+        HoaFaultKind::NumberOutOfRange,
+    ),
+    (
+        "HOA: v1\nStates: 1\nStart: 0\nAP: 1 \"p\"\nAcceptance: 1 Inf(0)\n--BODY--\nState: 0 {0}\n[0&] 0\n--END--\n",
+        8,
+        HoaFaultKind::BadToken,
+    ),
+    (
+        "HOA: v1\nStates: 1\nStart: 0\nAP: 1 \"p\"\nAcceptance: 1 Inf(0)\n--BODY--\nState: 0 {0}\n[!0] 0\n--END-- /*\n",
+        10,
+        HoaFaultKind::TextAfterEnd,
+    ),
+    (
+        "HOA: v1\nStates: 1\nStart: 0\nAP: 1 \"p\"\nAcceptance: 1 Inf(0)\n--BODY--\nState: 0 \"x\n[!0] 0\n--END--\n",
+        10,
+        HoaFaultKind::BadToken,
+    ),
+    (
+        "HOA: v1\nStates: 1\nStart: 0\nAP: 1 \"p\"\nAcceptance: 1 Inf(0)\n--BODY--\nState: [0] 0\n[!0] 0\n--END--\n",
+        7,
+        HoaFaultKind::Unsupported,
+    ),
+    (
+        "HOA: v1\nStates: 1\nStart: 0&0\nAP: 1 \"p\"\nAcceptance: 1 Inf(0)\n--BODY--\nState: 0 {0}\n[!0] 0\n--END--\n",
+        3,
+        HoaFaultKind::Unsupported,
+    ),
+    (
+        "HOA: v1\nStates: 1\nStart: 0\nAP: 26 \"p0\" \"p1\" \"p2\" \"p3\" \"p4\" \"p5\" \"p6\" \"p7\" \"p8\" \"p9\" \"p10\" \"p11\" \"p12\" \"p13\" \"p14\" \"p15\" \"p16\" \"p17\" \"p18\" \"p19\" \"p20\" \"p21\" \"p22\" \"p23\" \"p24\" \"p25\"\nAcceptance: 1 Inf(0)\n--BODY--\nState: 0 {0}\n[(0|1)&(2|3)&(4|5)&(6|7)&(8|9)&(10|11)&(12|13)&(14|15)&(16|17)&(18|19)&(20|21)&(22|23)&(24|25)] 0\n--END--\n",
+        8,
+        HoaFaultKind::LimitPassed,
+    ),
+];
+
+/// Texts with one label, and how many edges it makes.
+const LABELS: [(&str, usize); 5] = [
+    (
+        "HOA: v1\nStates: 1\nStart: 0\nAP: 4 \"p0\" \"p1\" \"p2\" \"p3\"\nAcceptance: 1 Inf(0)\n--BODY--\nState: 0 {0}\n[(0|1)&(2|3)] 0\n--END--\n",
+        4,
+    ),
+    (
+        "HOA: v1\nStates: 1\nStart: 0\nAP: 2 \"p0\" \"p1\"\nAcceptance: 1 Inf(0)\n--BODY--\nState: 0 {0}\n[!(0&1)] 0\n--END--\n",
+        2,
+    ),
+    (
+        "HOA: v1\nStates: 1\nStart: 0\nAP: 1 \"p0\"\nAcceptance: 1 Inf(0)\n--BODY--\nState: 0 {0}\n[0&!0] 0\n--END--\n",
+        0,
+    ),
+    (
+        "HOA: v1\nStates: 1\nStart: 0\nAP: 1 \"p0\"\nAcceptance: 1 Inf(0)\n--BODY--\nState: 0 {0}\n[!f] 0\n--END--\n",
+        1,
+    ),
+    (
+        "HOA: v1\nStates: 1\nStart: 0\nAP: 24 \"p0\" \"p1\" \"p2\" \"p3\" \"p4\" \"p5\" \"p6\" \"p7\" \"p8\" \"p9\" \"p10\" \"p11\" \"p12\" \"p13\" \"p14\" \"p15\" \"p16\" \"p17\" \"p18\" \"p19\" \"p20\" \"p21\" \"p22\" \"p23\"\nAcceptance: 1 Inf(0)\n--BODY--\nState: 0 {0}\n[(0|1)&(2|3)&(4|5)&(6|7)&(8|9)&(10|11)&(12|13)&(14|15)&(16|17)&(18|19)&(20|21)&(22|23)] 0\n--END--\n",
+        4096,
+    ),
+];
+
+/// Gives each part as many times as said, one a call.
+#[derive(Drop)]
+struct Repeated<'t> {
+    parts: &'t [(&'t str, usize)],
+    at: usize,
+    times: usize,
+}
+
+impl Read for Repeated<'_> {
+    fn read(&mut self, buf: &mut [u8]) -> io::Result<usize> {
+        if self.at < self.parts.len() && self.times >= self.parts[self.at].1 {
+            self.at += 1;
+            self.times = 0;
+        }
+        if self.at >= self.parts.len() {
+            return Ok(0);
+        }
+        self.times = self.times.saturating_add(1);
+        let text = self.parts[self.at].0.as_bytes();
+        let n = text.len().min(buf.len());
+        buf[..n].copy_from_slice(&text[..n]);
+        Ok(n)
+    }
+}
+
+fn given(text: &str, size: usize) -> Pieces<'_> {
+    Pieces {
+        rest: text.as_bytes(),
+        size,
+        left: usize::MAX,
+    }
+}
+
+fn parts_of<'t>(parts: &'t [(&'t str, usize)]) -> Repeated<'t> {
+    Repeated {
+        parts,
+        at: 0,
+        times: 0,
+    }
+}
+
+/// Whether the edge at that place leads there, in set 0 or in none.
+fn leads<A: Allocator>(
+    automaton: &Marked<'_, A>,
+    state: usize,
+    place: usize,
+    cube: Cube,
+    target: usize,
+    accepting: bool,
+) -> bool {
+    if state >= automaton.len() {
+        return false;
+    }
+    let sets = if accepting {
+        RowSet::single(0)
+    } else {
+        RowSet::empty()
+    };
+    match automaton.edges(state).get(place) {
+        Some(edge) => *edge == MarkedEdge { cube, target, sets },
+        None => false,
+    }
+}
+
+/// Whether it is the automaton whose only word never has p.
+fn is_never<A: Allocator>(read: Result<Marked<'_, A>, HoaFault>) -> bool {
+    match read {
+        Ok(automaton) => {
+            automaton.len() == 1
+                && automaton.edges(0).len() == 1
+                && leads(&automaton, 0, 0, Cube::literal(0, false), 0, true)
+        }
+        Err(_) => false,
+    }
+}
+
+/// Whether it is the automaton whose only word alternates.
+fn is_alternating<A: Allocator>(read: Result<Marked<'_, A>, HoaFault>) -> bool {
+    match read {
+        Ok(automaton) => {
+            automaton.len() == 2
+                && automaton.start() == 0
+                && automaton.sets() == 1
+                && automaton.names().len() == 1
+                && leads(&automaton, 0, 0, Cube::literal(0, true), 1, true)
+                && leads(&automaton, 1, 0, Cube::literal(0, false), 0, false)
+        }
+        Err(_) => false,
+    }
+}
+
+#[test]
+fn in_pieces(rt: HostRuntime) {
+    let alloc = rt.alloc();
+    let sizes: [usize; 5] = [1, 2, 3, 7, 4_096];
+    for i in 0..5 {
+        assert!(rt; is_never(hoa_read(&alloc, &mut given(NEVER, sizes[i]))));
+        assert!(rt; is_alternating(hoa_read(&alloc, &mut given(ALTERNATING, sizes[i]))));
+    }
+}
+
+#[test]
+fn refused(rt: HostRuntime) {
+    let alloc = rt.alloc();
+    for i in 0..REFUSED.len() {
+        let (text, line, kind) = REFUSED[i];
+        let mut reader = given(text, 4_096);
+        let read = hoa_read(&alloc, &mut reader);
+        assert_eq!(rt; read.err(), Some(HoaFault::AtLine(line, kind)), "{text}");
+        assert!(rt; reader.rest.is_empty());
+    }
+}
+
+#[test]
+fn labels(rt: HostRuntime) {
+    let alloc = rt.alloc();
+    for i in 0..LABELS.len() {
+        let (text, count) = LABELS[i];
+        let read = hoa_read(&alloc, &mut given(text, 4_096));
+        assert!(rt;
+            read.is_ok_and(|automaton| automaton.edges(automaton.start()).len() == count),
+            "{text}"
+        );
+    }
+}
+
+#[test]
+fn deep_and_long(rt: HostRuntime) {
+    let alloc = rt.alloc();
+    let comments: [(&str, usize); 3] = [("/*", 100_000), ("*/", 100_000), (NEVER, 1)];
+    assert!(rt; is_never(hoa_read(&alloc, &mut parts_of(&comments))));
+    let brackets: [(&str, usize); 5] = [
+        (
+            "HOA: v1\nStates: 1\nStart: 0\nAP: 1 \"p\"\nAcceptance: 1 Inf(0)\n--BODY--\nState: 0 {0}\n[",
+            1,
+        ),
+        ("(", 100_000),
+        ("!0", 1),
+        (")", 100_000),
+        ("] 0\n--END--\n", 1),
+    ];
+    assert!(rt; is_never(hoa_read(&alloc, &mut parts_of(&brackets))));
+    let number: [(&str, usize); 3] = [
+        ("HOA: v1\nStates: 1", 1),
+        ("0", 999),
+        (
+            "\nStart: 0\nAP: 1 \"p\"\nAcceptance: 1 Inf(0)\n--BODY--\nState: 0 {0}\n[!0] 0\n--END--\n",
+            1,
+        ),
+    ];
+    let read = hoa_read(&alloc, &mut parts_of(&number));
+    assert_eq!(rt;
+        read.err(),
+        Some(HoaFault::AtLine(2, HoaFaultKind::LimitPassed))
+    );
+}
+
+/// One byte past the limit is taken, and no more.
+#[test]
+fn spaces_to_the_limit(rt: HostRuntime) {
+    let alloc = rt.alloc();
+    let mut within = Spaces { left: 16_777_216 };
+    let read = hoa_read(&alloc, &mut within);
+    assert_eq!(rt;
+        read.err(),
+        Some(HoaFault::AtLine(1, HoaFaultKind::NotHoaVersion1))
+    );
+    let mut past = Spaces { left: 16_777_218 };
+    let read = hoa_read(&alloc, &mut past);
+    assert_eq!(rt;
+        read.err(),
+        Some(HoaFault::AtLine(1, HoaFaultKind::LimitPassed))
+    );
+    assert_eq!(rt; past.left, 1);
+}
+
+/// No growth is reached, so none is refused.
+#[test]
+fn spaces_without_memory(rt: HostRuntime) {
+    let alloc = Refusing::new(rt.alloc(), 1);
+    let read = hoa_read(&alloc, &mut Spaces { left: 10_000_000 });
+    assert_eq!(rt;
+        read.err(),
+        Some(HoaFault::AtLine(1, HoaFaultKind::NotHoaVersion1))
+    );
+    assert!(rt; !alloc.has_refused());
+}
+
+#[test]
+fn each_growth_refused(rt: HostRuntime) {
+    for n in 1..60 {
+        let alloc = Refusing::new(rt.alloc(), n);
+        let fault = hoa_read(&alloc, &mut given(ALTERNATING, 7)).err();
+        let wanted = if alloc.has_refused() {
+            Some(HoaFault::OutOfMemory)
+        } else {
+            None
+        };
+        assert_eq!(rt; fault, wanted);
+    }
+}
+
+/// A read that fails is told, whatever stood before it.
+#[test]
+fn each_read_fails(rt: HostRuntime) {
+    let alloc = rt.alloc();
+    for left in 0..3 {
+        for i in 0..REFUSED.len() {
+            let mut reader = Pieces {
+                rest: REFUSED[i].0.as_bytes(),
+                size: 40,
+                left,
+            };
+            let read = hoa_read(&alloc, &mut reader);
+            if left * 40 < REFUSED[i].0.len() {
+                assert_eq!(rt; read.err(), Some(HoaFault::CannotRead));
+            }
+        }
+    }
+}

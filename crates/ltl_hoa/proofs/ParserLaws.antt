@@ -1,0 +1,251 @@
+-- A token takes the parser where the definition goes.
+use Rattle.std.proofs.Common.{◌≡◌, ℕ, zero, suc, ◌<◌, ◌≤◌, Bool, true, false, not, ◌&&◌, List, [], ◌∷◌, ◌++◌, length, Option, Some, None, ◌==◌, refl, sym, ◌∙◌, ap, subst, arith}
+use Rattle.std.specs.Prelude.{nat_lt, if◌then◌else◌, option_map, unwrap_or, is_some, slice_index_or, replicate, Result, Ok, Err}
+use Rattle.std.specs.List.{list_any}
+use Rattle.std.proofs.lemmas.Bool.{ltb-true}
+use Rattle.std.proofs.lemmas.List.{length-replicate}
+use Rattle.std.specs.Ordering.{nat_cmp}
+use Rattle.ltl_spec.specs.Collections.Sets.{set_of}
+use Rattle.ltl_spec.specs.Semantics.Word.{Name}
+use Rattle.ltl_spec.specs.Tools.Limits.{stated_limits}
+use Rattle.ltl_spec.specs.Hoa.HoaToken as token
+use Rattle.ltl_spec.specs.Hoa.HoaToken.{HoaToken}
+use Rattle.ltl_spec.specs.Hoa.HoaLabel.{BracketLabel}
+use Rattle.ltl_spec.specs.Hoa.HoaReading.{OneSet}
+use Rattle.ltl_spec.specs.Hoa.HoaFaultKind.{ItemMissing, NumberOutOfRange}
+use Rattle.ltl_spec.specs.Hoa.HoaFault as spec
+use Rattle.ltl_spec.specs.Hoa.HoaFault.{Before, HoaHeader, Step, LabelPart, LabelParts, whole, with_operand}
+use Rattle.ltl_hoa.specs.declared.fault.Stop.{Stop}
+use Rattle.ltl_hoa.specs.declared.fault.Stop.TheVariants.{Fault, OutOfMemory}
+use Rattle.ltl_hoa.specs.declared.header.Counts.{Counts}
+use Rattle.ltl_hoa.specs.declared.place.Place.{Place}
+use Rattle.ltl_hoa.specs.declared.place.Place.TheVariants as place
+use Rattle.ltl_hoa.specs.declared.place.BodyPlace.{BodyPlace}
+use Rattle.ltl_hoa.specs.declared.place.BodyPlace.TheVariants as at
+use Rattle.ltl_hoa.specs.NumberView.{capped}
+use Rattle.ltl_hoa.specs.LabelView as label
+use Rattle.ltl_hoa.specs.HeaderView as header
+use Rattle.ltl_hoa.specs.HeaderView.{HeaderView, Refuses, Leads}
+use Rattle.ltl_hoa.specs.BodyView as body
+use Rattle.ltl_hoa.specs.BodyView.{BodyView, BodyLeads, new_body}
+use Rattle.ltl_hoa.specs.ParserView.{ParserView, at_place, Takes, TakesAt, TakesInHeader, TakesBody, BodyTakes, BeginsBody, Begins}
+use Rattle.ltl_hoa.specs.Shown.{Came, came_in, came_at, Shows, ShowsHeader, ShowsPlace, ShowsBody, ShowsBodyPlace, IsBegun, shown_label, shown_part, shown_around, sign_within, edges_of, first_or}
+use Rattle.ltl_hoa.proofs.StepLaws.{Agrees, capped_under, format, version, in_items, states, start, count, names, sets, acceptance}
+use Rattle.ltl_hoa.proofs.BodySteps.{IsAt, AgreesAt, at_state, after_number, after_name, state_sets, at_edge, number, operand, behind_operand, target, behind_target, edge_sets}
+use Rattle.ltl_hoa.proofs.LabelLaws.{shows_closed}
+
+-- the answer is that of the definition's step
+abbrev pub StepShown : Step → Came → Result (Unit {0}) Stop → ParserView → Type 0
+StepShown (Ok c) h (Ok u) w = Shows w c h
+StepShown (Ok c) h (Err stop) w = stop ≡ OutOfMemory
+StepShown (Err k) h (Ok u) w = ⊥
+StepShown (Err k) h (Err stop) w = Refuses k stop
+
+-- ---- in the header
+
+by_header : (L : header.Led) (S : Step) (g : Came) (v w : ParserView) (t : HoaToken) (r : Result (Unit {0}) Stop) (q : Place) → header.take q v.header t ≡ L → Agrees L S g → TakesInHeader q v t r w → StepShown S g r w
+by_header (Ok p) (Ok c) g v w t (Ok u) q e a k =
+    let l = subst (λ led. Leads led (Ok w.place) w.header) e k.0 in
+    subst (λ (x : ParserView). Shows x c g) (λ i. record { place = (sym l.0) i; header = (sym l.1) i; body = w.body }) (a w.body)
+by_header (Ok p) (Ok c) g v w t (Err stop) q e a k = subst (λ led. Leads led (Err stop) w.header) e k
+by_header (Ok p) (Err j) g v w t r q e a k = absurd a
+by_header (Err i) (Ok c) g v w t r q e a k = absurd a
+by_header (Err i) (Err j) g v w t (Ok u) q e a k = absurd (subst (λ led. Leads led (Ok w.place) w.header) e k.0)
+by_header (Err i) (Err j) g v w t (Err stop) q e a k = subst (λ m. Refuses m stop) a (subst (λ led. Leads led (Err stop) w.header) e k)
+
+-- ---- the beginning of the body
+
+replicate_get : {T : Type 0} (n k : ℕ) (d : T) → slice_index_or (replicate n d) k d ≡ d
+replicate_get zero k d = refl
+replicate_get (suc n) zero d = refl
+replicate_get (suc n) (suc k) d = replicate_get n k d
+
+replicate_length : {T : Type 0} (n : ℕ) (d : T) → length (replicate n d) ≡ n
+replicate_length n d = length-replicate n d
+
+new_shows : (c : Counts) (b : Before) (g : Came) (names : List Name) → IsBegun b g → b.header.states ≡ Some c.states → c.states ≤ 65_536 → b.header.sets ≡ Some c.sets → b.header.names ≡ Some names → c.names ≡ length names
+    → c.names ≤ 64 → c.sets ≤ 64 → 0 < c.states → ShowsBody (new_body c) spec.AtState (record b { place = spec.InBody spec.AtState }) g
+new_shows c b g names begun st few se na le fn fs some = record {
+  states = st;
+  few_states = few;
+  sets = se;
+  names = ap (option_map length) na ∙ ap Some (sym le);
+  well = (fn, fs);
+  defined = λ k l. replicate_get c.states k false ∙ ap (list_any (λ m. m == k)) (sym begun.0);
+  counted = (replicate_length c.states false, replicate_length c.states []);
+  at = (ap (λ ns. first_or 0 ns) begun.0, some);
+  made = begun.1;
+  marks = ap (λ (x : Came). set_of nat_cmp x.sets) begun.2;
+  cubes = ap (λ (x : Came). x.cubes) begun.2;
+  edges = λ k l. replicate_get c.states k [] ∙ ap (λ (x : Came). edges_of k x.edges) (sym begun.2);
+}
+
+begin_shown : (v w : ParserView) (b : Before) (g : Came) (r : Result (Unit {0}) Stop) → ShowsHeader v.header b.header → IsBegun b g → BeginsBody v r w → StepShown (spec.begin_body b b.header) g r w
+begin_shown v w b g r sh begun k =
+    go b.header.states b.header.start b.header.names b.header.sets refl refl refl refl
+    (subst (λ x. Begins x v r w) (λ i. header.counted (sh.states i) (sh.start i) (sh.names i) (sh.sets i)) k)
+  where
+    Missing : Type 0
+    Missing = Begins (Err ItemMissing) v r w → StepShown (Err ItemMissing) g r w
+
+    missing : (x : Result (Unit {0}) Stop) → Begins (Err ItemMissing) v x w → StepShown (Err ItemMissing) g x w
+    missing (Ok u) m = m
+    missing (Err stop) m = m
+
+    present : (states start : ℕ) (names : List Name) (sets : ℕ) → b.header.states ≡ Some states → b.header.names ≡ Some names → b.header.sets ≡ Some sets → states ≤ 65_536
+        → (c : Bool) → nat_lt start states ≡ c → (x : Result (Unit {0}) Stop)
+        → Begins (if c then Ok (record { states = states; names = length names; sets = sets }) else Err NumberOutOfRange) v x w
+        → StepShown (if c then spec.in_body b spec.AtState else Err NumberOutOfRange) g x w
+    present states start names sets st na se few true q (Ok u) m =
+        let some : 0 < states = let l = ltb-true start states q in omega (arith, l) in
+        let shown : Shows (record { place = place.Body at.State; header = v.header; body = Some (new_body (record { states = states; names = length names; sets = sets })) }) (record b { place = spec.InBody spec.AtState }) g = record {
+          header = sh;
+          place = (new_body (record { states = states; names = length names; sets = sets }), refl, tt, new_shows _ b g names begun st few se na refl m.1 m.2 some);
+        } in
+        subst (λ (x : ParserView). Shows x (record b { place = spec.InBody spec.AtState }) g) (sym m.0) shown
+    present states start names sets st na se few true q (Err stop) m = m
+    present states start names sets st na se few false q (Ok u) m = m
+    present states start names sets st na se few false q (Err stop) m = m
+
+    go : (s t : Option ℕ) (n : Option (List Name)) (e : Option ℕ) → b.header.states ≡ s → b.header.start ≡ t → b.header.names ≡ n → b.header.sets ≡ e
+        → Begins (header.counted s (option_map capped t) n e) v r w
+        → StepShown (if not (is_some s && is_some t && is_some n && is_some e) then Err ItemMissing else spec.if_below (unwrap_or t 0) s (spec.in_body b spec.AtState)) g r w
+    go (Some s) (Some t) (Some n) (Some e) p1 p2 p3 p4 m =
+        let few : s ≤ 65_536 = subst (λ o. unwrap_or o 0 ≤ 65_536) p1 sh.few_states in
+        let wide : s ≤ 1_048_576 = omega (arith, few) in
+        present s t n e p1 p3 p4 few (nat_lt t s) refl r (subst (λ c. Begins (if c then Ok (record { states = s; names = length n; sets = e }) else Err NumberOutOfRange) v r w) (capped_under t s wide) m)
+    go None t n e p1 p2 p3 p4 m = missing r m
+    go (Some s) None n e p1 p2 p3 p4 m = missing r m
+    go (Some s) (Some t) None e p1 p2 p3 p4 m = missing r m
+    go (Some s) (Some t) (Some n) None p1 p2 p3 p4 m = missing r m
+
+-- ---- in the body
+
+abbrev pub BodyShown : Step → Before → Came → Result Place Stop → BodyView → Type 0
+BodyShown (Ok c) b h (Ok q) w = IsAt q w c.place c h × (c.header ≡ b.header)
+BodyShown (Ok c) b h (Err stop) w = stop ≡ OutOfMemory
+BodyShown (Err k) b h (Ok q) w = ⊥
+BodyShown (Err k) b h (Err stop) w = Refuses k stop
+
+by_body : (L : body.Led) (S : Step) (b : Before) (h : Came) (r : Result Place Stop) (w : BodyView) → AgreesAt L S b h → BodyLeads L r w → BodyShown S b h r w
+by_body (Ok p) (Ok c) b h (Ok q) w a k = (subst (λ x. IsAt x w c.place c h) (sym k.0) (subst (λ (x : BodyView). IsAt p.0 x c.place c h) (sym k.1) a.0), a.1)
+by_body (Ok p) (Ok c) b h (Err stop) w a k = k
+by_body (Ok p) (Err j) b h r w a k = absurd a
+by_body (Err i) (Ok c) b h r w a k = absurd a
+by_body (Err i) (Err j) b h (Ok q) w a k = absurd k
+by_body (Err i) (Err j) b h (Err stop) w a k = subst (λ m. Refuses m stop) a k
+
+bracket_shown : (v : BodyView) (inner : LabelPart) (around : List LabelPart) (b : Before) (g : Came) (r : Result Place Stop) (w : BodyView) → v.label ≡ shown_label (record { inner = inner; around = around })
+    → ShowsBody v (spec.AfterOperand (record { inner = inner; around = around })) b g → body.ClosesBracket v r w → BodyShown (spec.close_bracket b inner around) b g r w
+bracket_shown v inner [] b g (Ok q) w l s (e, (x, (p, c, f), d)) = absurd (none x.around p (sym (ap (λ y. y.around) l) ∙ c))
+  where
+    none : (xs : List label.PartView) (y : label.PartView) → [] ≡ xs ++ y ∷ [] → ⊥
+    none [] y q = cc
+    none (z ∷ xs) y q = cc
+bracket_shown v inner [] b g (Err (Fault k)) w l s m = m.1
+bracket_shown v inner [] b g (Err OutOfMemory) w l s m = tt
+bracket_shown v inner (p ∷ ps) b g (Ok q) w l s (e, (x, c, d)) =
+    let same = shows_closed inner p ps x (subst (λ y. label.Closes y true x) l c) in (
+      subst (λ y. IsAt y w (spec.InBody (spec.AfterOperand after)) (record b { place = spec.InBody (spec.AfterOperand after) }) g) (sym e)
+          (subst (λ (y : BodyView). IsAt (place.Body at.AfterOperand) y (spec.InBody (spec.AfterOperand after)) (record b { place = spec.InBody (spec.AfterOperand after) }) g) (sym d) (
+            same,
+            record {
+              states = s.states;
+              few_states = s.few_states;
+              sets = s.sets;
+              names = s.names;
+              well = s.well;
+              defined = s.defined;
+              counted = s.counted;
+              at = s.at;
+              made = s.made;
+              marks = s.marks;
+              cubes = s.cubes;
+              edges = s.edges;
+            },
+          )),
+      refl,
+    )
+  where
+    after : LabelParts
+    after = record { inner = with_operand p (BracketLabel (whole inner)); around = ps }
+bracket_shown v inner (p ∷ ps) b g (Err (Fault k)) w l s m = absurd (some (shown_around ps) (sym (ap (λ y. y.around) l) ∙ m.0))
+  where
+    some : (xs : List label.PartView) → xs ++ shown_part (sign_within ps) p ∷ [] ≡ [] → ⊥
+    some [] q = cc
+    some (z ∷ xs) q = cc
+bracket_shown v inner (p ∷ ps) b g (Err OutOfMemory) w l s m = refl
+
+body_places : (p : BodyPlace) (q : spec.BodyPlace) (v : BodyView) (b : Before) (g : Came) (t : HoaToken) (r : Result Place Stop) (w : BodyView) → b.place ≡ spec.InBody q → ShowsBodyPlace p v q → ShowsBody v q b g
+    → body.TakesAt p v t r w → BodyShown (spec.step_in_body stated_limits q b t) b (came_in q b t g) r w
+body_places at.State spec.AtState v b g t r w e l s k = by_body _ _ b g r w (at_state v spec.AtState b g s refl t) k
+body_places at.Number spec.AtNumber v b g t r w e l s k = by_body _ _ b (came_in spec.AtNumber b t g) r w (number v b g s t) k
+body_places at.AfterNumber spec.AfterNumber v b g t r w e l s k = by_body _ _ b g r w (after_number v spec.AfterNumber b g s refl t) k
+body_places at.AfterName spec.AfterName v b g t r w e l s k = by_body _ _ b g r w (after_name v spec.AfterName b g s refl t) k
+body_places at.StateSets spec.InStateSets v b g t r w e l s k = by_body _ _ b (came_in spec.InStateSets b t g) r w (state_sets v b g e s t) k
+body_places at.Edge spec.AtEdge v b g t r w e l s k = by_body _ _ b g r w (at_edge v spec.AtEdge b g s refl t) k
+body_places at.Operand (spec.AtOperand q) v b g t r w e l s k = by_body _ _ b g r w (operand v q b g l s t) k
+body_places at.AfterOperand (spec.AfterOperand q) v b g token.CloseBracket r w e l s k = bracket_shown v q.inner q.around b g r w l s k
+body_places at.AfterOperand (spec.AfterOperand q) v b g t r w e l s k = by_body (body.after_operand v t) (spec.after_operand stated_limits b q t) b (came_in (spec.AfterOperand q) b t g) r w (behind_operand v q b g l s t (λ x. cc)) k
+body_places at.Target spec.AtTarget v b g t r w e l s k = by_body _ _ b (came_in spec.AtTarget b t g) r w (target v b g s t) k
+body_places at.AfterTarget spec.AfterTarget v b g t r w e l s k = by_body _ _ b g r w (behind_target v b g s t) k
+body_places at.EdgeSets spec.InEdgeSets v b g t r w e l s k = by_body _ _ b (came_in spec.InEdgeSets b t g) r w (edge_sets v b g e s t) k
+body_places p q v b g t r w e l s k = absurd l
+
+body_shown : (p : BodyPlace) (q : spec.BodyPlace) (v : BodyView) (b : Before) (g : Came) (t : HoaToken) (r : Result Place Stop) (w : BodyView) → b.place ≡ spec.InBody q → ShowsBodyPlace p v q → ShowsBody v q b g
+    → body.Takes p v t r w → BodyShown (spec.step_unless_abort stated_limits q b t) b (came_in q b t g) r w
+body_shown p q v b g token.Abort (Ok pl) w e l s k = k
+body_shown p q v b g token.Abort (Err stop) w e l s k = k
+body_shown p q v b g t r w e l s k = body_places p q v b g t r w e l s k
+
+-- ---- anywhere
+
+in_body_shown : (p : BodyPlace) (q : spec.BodyPlace) (v w : ParserView) (b : Before) (g : Came) (t : HoaToken) (r : Result (Unit {0}) Stop) (own : BodyView) → b.place ≡ spec.InBody q → ShowsHeader v.header b.header
+    → ShowsBodyPlace p own q → ShowsBody own q b g → TakesBody p v (Some own) t r w → StepShown (spec.step_unless_abort stated_limits q b t) (came_in q b t g) r w
+in_body_shown p q v w b g t r own e sh l s k = go w.body refl k.0 r refl
+  where
+    go : (o : Option BodyView) → w.body ≡ o → BodyTakes p own t (at_place r w.place) o → (x : Result (Unit {0}) Stop) → r ≡ x → StepShown (spec.step_unless_abort stated_limits q b t) (came_in q b t g) x w
+    go None f m x i = absurd m
+    go (Some c) f m (Ok u) i =
+        ended (spec.step_unless_abort stated_limits q b t) (body_shown p q own b g t (Ok w.place) c e l s (subst (λ y. body.Takes p own t (at_place y w.place) c) i m))
+      where
+        ended : (S : Step) → BodyShown S b (came_in q b t g) (Ok w.place) c → StepShown S (came_in q b t g) (Ok u) w
+        ended (Ok d) a = record {
+          header = subst (λ y. ShowsHeader y d.header) (sym k.1) (subst (λ y. ShowsHeader v.header y) (sym a.1) sh);
+          place = shown w.place d.place a.0;
+        }
+          where
+            shown : (pl : Place) (r' : spec.Place) → IsAt pl c r' d (came_in q b t g) → ShowsPlace pl w r' d (came_in q b t g)
+            shown (place.Body y) (spec.InBody z) h = (c, f, h.0, h.1)
+            shown place.End spec.AtEnd h = (c, f, h)
+            shown y z h = absurd h
+        ended (Err j) a = a
+    go (Some c) f m (Err stop) i =
+        ended (spec.step_unless_abort stated_limits q b t) (body_shown p q own b g t (Err stop) c e l s (subst (λ y. body.Takes p own t (at_place y w.place) c) i m))
+      where
+        ended : (S : Step) → BodyShown S b (came_in q b t g) (Err stop) c → StepShown S (came_in q b t g) (Err stop) w
+        ended (Ok d) a = a
+        ended (Err j) a = a
+
+places : (q : Place) (pl : spec.Place) (v w : ParserView) (b : Before) (g : Came) (t : HoaToken) (r : Result (Unit {0}) Stop) → b.place ≡ pl → ShowsHeader v.header b.header → ShowsPlace q v pl b g
+    → TakesAt q v t r w → StepShown (spec.step stated_limits OneSet pl b t) (came_at pl b t g) r w
+places place.Format spec.AtFormat v w b g t r e sh s k = by_header _ _ g v w t r place.Format refl (format v.header b g sh s t) k
+places place.Version spec.AtVersion v w b g t r e sh s k = by_header _ _ g v w t r place.Version refl (version v.header b g sh s t) k
+places (place.Item i) (spec.AtItem j) v w b g token.Body r e sh s k = begin_shown v w b g r sh s.0 k
+places (place.Item i) (spec.AtItem j) v w b g t r e sh s k = by_header (header.at_item i v.header t) (spec.at_item b j t) g v w t r (place.Item i) refl (in_items v.header b g sh s.0 i j t s.1 (λ x. cc)) k
+places place.States spec.AtStates v w b g t r e sh s k = by_header _ _ g v w t r place.States refl (states v.header b g sh s t) k
+places place.Start spec.AtStart v w b g t r e sh s k = by_header _ _ g v w t r place.Start refl (start v.header b g sh s t) k
+places place.Count spec.AtCount v w b g t r e sh s k = by_header _ _ g v w t r place.Count refl (count v.header b g sh s t) k
+places place.Names (spec.AtNames left) v w b g t r e sh s k = by_header _ _ g v w t r place.Names refl (names v.header b g sh s.0 left t s.1 s.2 s.3.0 s.3.1) k
+places place.Sets spec.AtSets v w b g t r e sh s k = by_header _ _ g v w t r place.Sets refl (sets v.header b g sh s t) k
+places (place.Acceptance p) (spec.InAcceptance ts) v w b g t r e sh s k =
+    subst (λ us. StepShown (spec.in_acceptance b us t) g r w) (sym s.1) (by_header _ _ g v w t r (place.Acceptance p) refl (acceptance v.header b g sh s.0 p t) k)
+places (place.Body p) (spec.InBody q) v w b g t r e sh (own, f, l, s) k = in_body_shown p q v w b g t r own e sh l s (subst (λ o. TakesBody p v o t r w) f k)
+places place.End spec.AtEnd v w b g t (Ok u) e sh s k = k.0
+places place.End spec.AtEnd v w b g t (Err stop) e sh s k = k
+places q pl v w b g t r e sh s k = absurd s
+
+-- the parser's answer is that of the definition's step
+pub parser_takes : (v w : ParserView) (b : Before) (g : Came) (t : HoaToken) (r : Result (Unit {0}) Stop) → Shows v b g → Takes v t r w
+    → StepShown (spec.step stated_limits OneSet b.place b t) (came_at b.place b t g) r w
+parser_takes v w b g t r s k = places v.place b.place v w b g t r refl s.header s.place k

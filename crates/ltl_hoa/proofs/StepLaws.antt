@@ -1,0 +1,218 @@
+-- A token of the header takes the parser where the definition goes.
+use Rattle.std.proofs.Common.{◌≡◌, ℕ, ◌-◌, ◌≤◌, Bool, true, false, not, ◌&&◌, ◌||◌, List, [], ◌∷◌, ◌++◌, Option, Some, None, nat_eq, ◌==◌, codes, refl, sym, ◌∙◌, ap, subst, arith}
+use Rattle.std.specs.Prelude.{nat_lt, drop, if◌then◌else◌, option_map, unwrap_or, is_some, Ok, Err}
+use Rattle.std.specs.List.{list_any}
+use Rattle.std.proofs.lemmas.Bool.Decides.{nat_tests}
+use Rattle.std.proofs.lemmas.Bool.{eqb-true}
+use Rattle.ltl_spec.specs.Semantics.Word.{Name}
+use Rattle.ltl_spec.specs.Formulas.Tokens.{same_name}
+use Rattle.ltl_spec.specs.Formulas.Names.{is_proposition}
+use Rattle.ltl_spec.specs.Tools.Limits.{stated_limits}
+use Rattle.ltl_spec.specs.Hoa.HoaToken as token
+use Rattle.ltl_spec.specs.Hoa.HoaToken.{HoaToken}
+use Rattle.ltl_spec.specs.Hoa.HoaReading.{OneSet, begins_upper, acceptance_tokens}
+use Rattle.ltl_spec.specs.Hoa.HoaFaultKind.{HoaFaultKind, UnknownItem, Unsupported, BadPropositionList, LimitPassed}
+use Rattle.ltl_spec.specs.Hoa.HoaFault as spec
+use Rattle.ltl_spec.specs.Hoa.HoaFault.{Before, HoaHeader, Step, go_to}
+use Rattle.ltl_hoa.specs.declared.place.Place.{Place}
+use Rattle.ltl_hoa.specs.declared.place.Place.TheVariants as place
+use Rattle.ltl_hoa.specs.declared.place.ItemBefore.{ItemBefore}
+use Rattle.ltl_hoa.specs.declared.place.ItemBefore.TheVariants as item
+use Rattle.ltl_hoa.specs.declared.place.AcceptancePart.{AcceptancePart}
+use Rattle.ltl_hoa.specs.declared.place.AcceptancePart.TheVariants as part
+use Rattle.ltl_hoa.specs.NumberView.{capped}
+use Rattle.ltl_hoa.specs.HeaderView as view
+use Rattle.ltl_hoa.specs.HeaderView.{HeaderView, Led}
+use Rattle.ltl_hoa.specs.BodyView.{BodyView}
+use Rattle.ltl_hoa.specs.Shown.{Came, Shows, ShowsHeader, ShowsItem, ShowsPlace, IsBegun, acceptance_left}
+
+-- both go on to places that show each other, or meet the same fault
+abbrev pub Agrees : Led → Step → Came → Type 0
+Agrees (Ok p) (Ok b) g = (body : Option BodyView) → Shows (record { place = p.0; header = p.1; body = body }) b g
+Agrees (Ok p) (Err k) g = ⊥
+Agrees (Err k) (Ok b) g = ⊥
+Agrees (Err k) (Err j) g = k ≡ j
+
+if_agrees : (c : Bool) (x x' : Led) (y y' : Step) (g : Came) → Agrees x y g → Agrees x' y' g → Agrees (if c then x else x') (if c then y else y') g
+if_agrees true x x' y y' g a n = a
+if_agrees false x x' y y' g a n = n
+
+-- ---- numbers
+
+pub capped_small : (n : ℕ) → n ≤ 4_294_967_295 → capped n ≡ n
+capped_small n l = omega (arith, l)
+
+pub capped_over : (m n : ℕ) → m ≤ 1_048_576 → nat_lt m (capped n) ≡ nat_lt m n
+capped_over m n l = grind (arith, nat_tests, l)
+
+pub capped_under : (n m : ℕ) → m ≤ 1_048_576 → nat_lt (capped n) m ≡ nat_lt n m
+capped_under n m l = grind (arith, nat_tests, l)
+
+pub capped_same : (n m : ℕ) → m ≤ 1_048_576 → (capped n == m) ≡ (n == m)
+capped_same n m l = grind (arith, nat_tests, l)
+
+pub small_of : (m n : ℕ) → m ≤ 1_048_576 → nat_lt m n ≡ false → capped n ≡ n
+small_of m n l e = grind (arith, nat_tests, l, e)
+
+pub below_small : (n m : ℕ) → m ≤ 1_048_576 → nat_lt n m ≡ true → capped n ≡ n
+below_small n m l e = grind (arith, nat_tests, l, e)
+
+same_turned : (s t : List ℕ) → same_name s t ≡ same_name t s
+same_turned [] [] = refl
+same_turned [] (y ∷ t) = refl
+same_turned (x ∷ s) [] = refl
+same_turned (x ∷ s) (y ∷ t) = ap (λ c. c && same_name s t) (turned x y) ∙ ap (λ c. nat_eq y x && c) (same_turned s t)
+  where
+    turned : (m n : ℕ) → nat_eq m n ≡ nat_eq n m
+    turned m n = grind (arith, nat_tests)
+
+broken : (t : HoaToken) (k : HoaFaultKind) (g : Came) → Agrees (Err (view.unless_broken t k)) (spec.unless_broken t k) g
+broken token.Unknown k g = refl
+broken token.UnclosedString k g = refl
+broken token.UnclosedComment k g = refl
+broken t k g = refl
+
+module _ (h : HeaderView) (b : Before) (g : Came) (sh : ShowsHeader h b.header) (begun : IsBegun b g) where
+  to : (q : Place) (p : spec.Place) → ((body : Option BodyView) → ShowsPlace q (record { place = q; header = h; body = body }) p (record b { place = p }) g) → Agrees (Ok (q, h)) (go_to b p) g
+  to q p s = λ body. record { header = sh; place = s body }
+
+  pub format : (t : HoaToken) → Agrees (view.at_format h t) (spec.at_format b t) g
+  format (token.Header name) = if_agrees (same_name name (codes "HOA")) _ _ _ _ g (to place.Version spec.AtVersion (λ body. begun)) refl
+  format t = refl
+
+  pub version : (t : HoaToken) → Agrees (view.at_version h t) (spec.at_version b t) g
+  version (token.Identifier name) = if_agrees (same_name name (codes "v1")) _ _ _ _ g (to (place.Item item.Plain) (spec.AtItem spec.PlainItem) (λ body. (begun, tt))) refl
+  version t = refl
+
+  once : (c d : Bool) (q : Place) (p : spec.Place) → c ≡ d → Agrees (Ok (q, h)) (go_to b p) g → Agrees (view.once h c q) (spec.begin_once b d p) g
+  once c d q p e a = subst (λ x. Agrees (view.once h c q) (spec.begin_once b x p) g) e (if_agrees c _ _ _ _ g refl a)
+
+  item_begins : (name : List ℕ) → Agrees (view.begin_item h name) (spec.begin_item b name) g
+  item_begins name =
+      if_agrees (same_name name (codes "HOA")) _ _ _ _ g refl (
+      if_agrees (same_name name (codes "States")) _ _ _ _ g (once _ _ place.States spec.AtStates (ap is_some sh.states) (to place.States spec.AtStates (λ body. begun))) (
+      if_agrees (same_name name (codes "Start")) _ _ _ _ g (once _ _ place.Start spec.AtStart (ap is_some sh.start ∙ stands b.header.start) (to place.Start spec.AtStart (λ body. begun))) (
+      if_agrees (same_name name (codes "AP")) _ _ _ _ g (once _ _ place.Count spec.AtCount (ap is_some sh.names) (to place.Count spec.AtCount (λ body. begun))) (
+      if_agrees (same_name name (codes "Acceptance")) _ _ _ _ g (once _ _ place.Sets spec.AtSets (ap is_some sh.sets) (to place.Sets spec.AtSets (λ body. begun))) (
+      if_agrees (same_name name (codes "Alias")) _ _ _ _ g refl (
+      upper name (if_agrees (spec_upper name) _ _ _ _ g refl (to (place.Item item.Other) (spec.AtItem spec.OtherItem) (λ body. (begun, tt))))))))))
+    where
+      stands : (o : Option ℕ) → is_some (option_map capped o) ≡ is_some o
+      stands None = refl
+      stands (Some n) = refl
+
+      spec_upper : List ℕ → Bool
+      spec_upper bs = view.begins_upper bs
+
+      upper : (bs : List ℕ) → Agrees (if view.begins_upper bs then Err UnknownItem else Ok (place.Item item.Other, h)) (if view.begins_upper bs then Err UnknownItem else go_to b (spec.AtItem spec.OtherItem)) g
+          → Agrees (if view.begins_upper bs then Err UnknownItem else Ok (place.Item item.Other, h)) (if begins_upper bs then Err UnknownItem else go_to b (spec.AtItem spec.OtherItem)) g
+      upper [] a = a
+      upper (x ∷ xs) a = a
+
+  goes_on : (i : ItemBefore) (j : spec.ItemBefore) (t : HoaToken) → ShowsItem i j → Agrees (view.go_on i h t) (spec.go_on b j t) g
+  goes_on item.Plain spec.PlainItem t s = refl
+  goes_on item.StartNumber spec.StartNumber token.AndSign s = refl
+  goes_on item.StartNumber spec.StartNumber t s = refl
+  goes_on item.ListedNames spec.ListedNames (token.StringToken x) s = refl
+  goes_on item.ListedNames spec.ListedNames t s = refl
+  goes_on item.Acceptance spec.Acceptance t s = broken t Unsupported g
+  goes_on item.Other spec.OtherItem (token.StringToken x) s = to (place.Item item.Other) (spec.AtItem spec.OtherItem) (λ body. (begun, tt))
+  goes_on item.Other spec.OtherItem (token.Int n) s = to (place.Item item.Other) (spec.AtItem spec.OtherItem) (λ body. (begun, tt))
+  goes_on item.Other spec.OtherItem (token.Identifier x) s = to (place.Item item.Other) (spec.AtItem spec.OtherItem) (λ body. (begun, tt))
+  goes_on item.Other spec.OtherItem t s = refl
+  goes_on i j t s = absurd s
+
+  pub in_items : (i : ItemBefore) (j : spec.ItemBefore) (t : HoaToken) → ShowsItem i j → (t ≡ token.Body → ⊥) → Agrees (view.at_item i h t) (spec.at_item b j t) g
+  in_items i j (token.Header name) s n = item_begins name
+  in_items i j token.Body s n = absurd (n refl)
+  in_items i j t s n = goes_on i j t s
+
+  pub states : (t : HoaToken) → Agrees (view.at_states h t) (spec.at_states stated_limits b t) g
+  states (token.Int n) = go (nat_lt 65_536 n) refl
+    where
+      go : (c : Bool) → nat_lt 65_536 n ≡ c
+          → Agrees (if nat_lt 65_536 (capped n) then Err LimitPassed else Ok (place.Item item.Plain, record h { states = Some (capped n) }))
+          (if c then Err LimitPassed else Ok (record b { place = spec.AtItem spec.PlainItem; header = record b.header { states = Some n } })) g
+      go true e = subst (λ x. Agrees (if x then Err LimitPassed else Ok (place.Item item.Plain, record h { states = Some (capped n) })) (Err LimitPassed) g) (sym (capped_over 65_536 n (omega arith) ∙ e)) refl
+      go false e =
+          subst (λ x. Agrees (if x then Err LimitPassed else Ok (place.Item item.Plain, record h { states = Some (capped n) }))
+          (Ok (record b { place = spec.AtItem spec.PlainItem; header = record b.header { states = Some n } })) g) (sym (capped_over 65_536 n (omega arith) ∙ e))
+          (λ body. record {
+            header = record { states = ap Some (small_of 65_536 n (omega arith) e); few_states = few n e; start = sh.start; names = sh.names; sets = sh.sets };
+            place = (begun, tt);
+          })
+        where
+          few : (m : ℕ) → nat_lt 65_536 m ≡ false → m ≤ 65_536
+          few m q = grind (arith, nat_tests, q)
+  states t = refl
+
+  pub start : (t : HoaToken) → Agrees (view.at_start h t) (spec.at_start b t) g
+  start (token.Int n) = λ body. record { header = record { states = sh.states; few_states = sh.few_states; start = refl; names = sh.names; sets = sh.sets }; place = (begun, tt) }
+  start t = refl
+
+  -- the names that were read, and how many have to come
+  listed : (names : List Name) (left n : ℕ) → left ≡ n
+      → Agrees (Ok (view.after_name left, record h { names = Some names; left = left })) (spec.with_names b names n) g
+  listed names left n e = subst (λ k. Agrees (Ok (view.after_name left, record h { names = Some names; left = left })) (spec.with_names b names k) g) e (go (left == 0) refl)
+    where
+      go : (c : Bool) → (left == 0) ≡ c
+          → Agrees (Ok ((if c then place.Item item.ListedNames else place.Names), record h { names = Some names; left = left }))
+          (Ok (record b { place = if c then spec.AtItem spec.ListedNames else spec.AtNames left; header = record b.header { names = Some names } })) g
+      go true q = λ body. record { header = record { states = sh.states; few_states = sh.few_states; start = sh.start; names = refl; sets = sh.sets }; place = (begun, tt) }
+      go false q = λ body. record { header = record { states = sh.states; few_states = sh.few_states; start = sh.start; names = refl; sets = sh.sets }; place = (begun, refl, q, (names, refl)) }
+
+  pub count : (t : HoaToken) → Agrees (view.at_count h t) (spec.at_count stated_limits b t) g
+  count (token.Int n) = go (nat_lt 64 n) refl
+    where
+      go : (c : Bool) → nat_lt 64 n ≡ c
+          → Agrees (if nat_lt 64 (capped n) then Err LimitPassed else Ok (view.after_name (capped n), record h { names = Some []; left = capped n })) (if c then Err LimitPassed else spec.with_names b [] n) g
+      go true e = subst (λ x. Agrees (if x then Err LimitPassed else Ok (view.after_name (capped n), record h { names = Some []; left = capped n })) (Err LimitPassed) g) (sym (capped_over 64 n (omega arith) ∙ e)) refl
+      go false e =
+          subst (λ x. Agrees (if x then Err LimitPassed else Ok (view.after_name (capped n), record h { names = Some []; left = capped n })) (spec.with_names b [] n) g)
+          (sym (capped_over 64 n (omega arith) ∙ e)) (listed [] (capped n) n (small_of 64 n (omega arith) e))
+  count t = refl
+
+  pub names : (left : ℕ) (t : HoaToken) → h.left ≡ left → (left == 0) ≡ false → (ns : List Name) → h.names ≡ Some ns → Agrees (view.at_names h t) (spec.at_names b left t) g
+  names left (token.StringToken name) e z ns q =
+      subst (λ o. Agrees (view.add_to h o name) (spec.add_name b left (unwrap_or b.header.names []) name) g) (sym q)
+      (subst (λ o. Agrees (view.add_to h (Some ns) name) (spec.add_name b left (unwrap_or o []) name) g) (sym q ∙ sh.names) (go (is_proposition name) (list_any (same_name name) ns)))
+    where
+      go : (p l : Bool)
+          → Agrees (if not p || l || h.left == 0 then Err BadPropositionList else Ok (view.after_name (h.left - 1), record h { names = Some (ns ++ name ∷ []); left = h.left - 1 }))
+          (if p && not l then spec.with_names b (ns ++ name ∷ []) (left - 1) else Err BadPropositionList) g
+      go false l = refl
+      go true true = refl
+      go true false =
+          subst (λ c. Agrees (if c then Err BadPropositionList else Ok (view.after_name (h.left - 1), record h { names = Some (ns ++ name ∷ []); left = h.left - 1 })) (spec.with_names b (ns ++ name ∷ []) (left - 1)) g)
+          (sym (ap (λ k. k == 0) e ∙ z)) (listed (ns ++ name ∷ []) (h.left - 1) (left - 1) (ap (λ k. k - 1) e))
+  names left t e z ns q = broken t BadPropositionList g
+
+  pub sets : (t : HoaToken) → Agrees (view.at_sets h t) (spec.at_sets OneSet b t) g
+  sets (token.Int n) = go (n == 1) refl
+    where
+      go : (c : Bool) → (n == 1) ≡ c
+          → Agrees (if capped n == 1 then Ok (place.Acceptance part.Inf, record h { sets = Some 1 }) else Err Unsupported)
+          (if c then spec.expect (record b { header = record b.header { sets = Some n } }) (drop 1 (acceptance_tokens n)) else Err Unsupported) g
+      go true e =
+          subst (λ m. Agrees (if capped m == 1 then Ok (place.Acceptance part.Inf, record h { sets = Some 1 }) else Err Unsupported)
+          (spec.expect (record b { header = record b.header { sets = Some m } }) (drop 1 (acceptance_tokens m))) g) (sym (eqb-true n 1 e))
+          (λ body. record { header = record { states = sh.states; few_states = sh.few_states; start = sh.start; names = sh.names; sets = refl }; place = (begun, refl) })
+      go false e = subst (λ c. Agrees (if c then Ok (place.Acceptance part.Inf, record h { sets = Some 1 }) else Err Unsupported) (Err Unsupported) g) (sym (capped_same n 1 (omega arith) ∙ e)) refl
+  sets t = broken t Unsupported g
+
+  pub acceptance : (p : AcceptancePart) (t : HoaToken) → Agrees (view.in_acceptance p h t) (spec.in_acceptance b (acceptance_left p) t) g
+  acceptance part.Inf (token.Identifier s) =
+      subst (λ c. Agrees (view.in_acceptance part.Inf h (token.Identifier s)) (if c then spec.expect b (acceptance_left part.Open) else Err Unsupported) g) (same_turned s (codes "Inf"))
+      (if_agrees (same_name s (codes "Inf")) _ _ _ _ g (to (place.Acceptance part.Open) (spec.InAcceptance (acceptance_left part.Open)) (λ body. (begun, refl))) refl)
+  acceptance part.Open token.OpenBracket = to (place.Acceptance part.Number) (spec.InAcceptance (acceptance_left part.Number)) (λ body. (begun, refl))
+  acceptance part.Number (token.Int n) =
+      subst (λ c. Agrees (if c then Ok (place.Acceptance part.Close, h) else Err Unsupported) (if 0 == n then spec.expect b (acceptance_left part.Close) else Err Unsupported) g) (turned n ∙ sym (capped_same n 0 (omega arith)))
+      (if_agrees (0 == n) _ _ _ _ g (to (place.Acceptance part.Close) (spec.InAcceptance (acceptance_left part.Close)) (λ body. (begun, refl))) refl)
+    where
+      turned : (m : ℕ) → (0 == m) ≡ (m == 0)
+      turned m = grind (arith, nat_tests)
+  acceptance part.Close token.CloseBracket = to (place.Item item.Acceptance) (spec.AtItem spec.Acceptance) (λ body. (begun, tt))
+  acceptance part.Inf t = broken t Unsupported g
+  acceptance part.Open t = broken t Unsupported g
+  acceptance part.Number t = broken t Unsupported g
+  acceptance part.Close t = broken t Unsupported g

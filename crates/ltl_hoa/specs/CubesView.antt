@@ -1,0 +1,23 @@
+-- Cubes of a label's parts, unless there are too many.
+use Rattle.std.specs.Prelude.{ℕ, Bool, nat_lt, if◌then◌else◌, List, [], ◌∷◌, ◌++◌, length, flat_map, filter_map, Option, Some, None}
+use Rattle.ltl_spec.specs.Collections.Sets.{set_of}
+use Rattle.ltl_spec.specs.Transitions.Cubes.{Cube, cube_cmp, join_cubes}
+
+abbrev pub few : List Cube → Option (List Cube)
+few cs = if nat_lt 4_096 (length cs) then None else Some cs
+
+abbrev pub constant_cubes : Bool → Option (List Cube)
+constant_cubes value = Some (if value then [] ∷ [] else [])
+
+abbrev pub literal_cubes : ℕ → Bool → Option (List Cube)
+literal_cubes p sign = Some ((record { proposition = p; positive = sign } ∷ []) ∷ [])
+
+-- one cube of each side joined, in every way
+abbrev pub joined_cubes : List Cube → List Cube → List Cube
+joined_cubes xs ys = set_of cube_cmp (flat_map (λ c. filter_map (join_cubes c) ys) xs)
+
+-- of a conjunction, or of a disjunction
+abbrev pub both_cubes : Bool → Option (List Cube) → Option (List Cube) → Option (List Cube)
+both_cubes meet (Some xs) (Some ys) = if meet then few (joined_cubes xs ys) else few (set_of cube_cmp (xs ++ ys))
+both_cubes meet (Some xs) None = None
+both_cubes meet None _ = None

@@ -1,0 +1,192 @@
+-- The header so far, and what a token makes of it.
+use Rattle.std.specs.Prelude.{◌≡◌, ℕ, ◌+◌, ◌-◌, ◌≤◌, Bool, false, not, ◌||◌, ◌==◌, nat_lt, if◌then◌else◌, List, [], ◌∷◌, ◌++◌, length, Option, Some, None, is_some, unwrap_or, Result, Ok, Err, codes, ⊤}
+use Rattle.std.specs.List.{list_any}
+use Rattle.ltl_spec.specs.Semantics.Word.{Name}
+use Rattle.ltl_spec.specs.Formulas.Tokens.{same_name}
+use Rattle.ltl_spec.specs.Formulas.Names.{is_proposition}
+use Rattle.ltl_spec.specs.Hoa.HoaToken.{HoaToken, StringToken, Identifier, Header, Int, AndSign, OpenBracket, CloseBracket, Unknown, UnclosedString, UnclosedComment, is_upper}
+use Rattle.ltl_spec.specs.Hoa.HoaFaultKind.{HoaFaultKind, NotHoaVersion1, BadToken, ItemTwice, ItemMissing, UnknownItem, Unsupported, NumberOutOfRange, BadPropositionList, TextAfterEnd, LimitPassed}
+use Rattle.ltl_hoa.specs.declared.fault.HoaFaultKind as made
+use Rattle.ltl_hoa.specs.declared.fault.Stop.{Stop}
+use Rattle.ltl_hoa.specs.declared.fault.Stop.TheVariants.{Fault, OutOfMemory}
+use Rattle.ltl_hoa.specs.declared.header.Counts.{Counts}
+use Rattle.ltl_hoa.specs.declared.place.Place.{Place}
+use Rattle.ltl_hoa.specs.declared.place.Place.TheVariants.{Format, Version, Item, States, Start, Count, Names, Sets, Acceptance, Body, End}
+use Rattle.ltl_hoa.specs.declared.place.ItemBefore.{ItemBefore}
+use Rattle.ltl_hoa.specs.declared.place.ItemBefore.TheVariants as before
+use Rattle.ltl_hoa.specs.declared.place.AcceptancePart.{AcceptancePart}
+use Rattle.ltl_hoa.specs.declared.place.AcceptancePart.TheVariants.{Inf, Open, Number, Close}
+use Rattle.ltl_spec.specs.Automata.Automaton.{Edge}
+use Rattle.ltl_spec.specs.Hoa.HoaReading.{MarkedAutomaton}
+use Rattle.ltl_hoa.specs.MarkedView.{IsMarked}
+use Rattle.ltl_hoa.specs.NumberView.{capped}
+use Rattle.ltl_hoa.specs.TokenView.{kind_of}
+
+pub record HeaderView : Type 0 where
+  pub states : Option ℕ
+  pub start : Option ℕ
+  pub names : Option (List Name)
+  -- how many names have still to come
+  pub left : ℕ
+  pub sets : Option ℕ
+
+-- the counts stay within their limits
+pub record IsHeader (h : HeaderView) : Type 0 where
+  pub names : length (unwrap_or h.names []) + h.left ≤ 64
+  pub sets : unwrap_or h.sets 0 ≤ 64
+
+abbrev pub no_header : HeaderView
+no_header = record { states = None; start = None; names = None; left = 0; sets = None }
+
+-- the next place and the header behind the token, or the kind of the fault
+abbrev pub Led : Type 0
+Led = Result (Place × HeaderView) HoaFaultKind
+
+-- the fault is of that kind, or memory was refused
+abbrev pub Refuses : HoaFaultKind → Stop → Type 0
+Refuses kind (Fault k) = kind_of k ≡ kind
+Refuses kind OutOfMemory = ⊤
+
+abbrev pub Leads : Led → Result Place Stop → HeaderView → Type 0
+Leads (Ok p) (Ok place) new = (place ≡ p.0) × (new ≡ p.1)
+Leads (Ok p) (Err stop) new = stop ≡ OutOfMemory
+Leads (Err kind) (Ok place) new = ⊥
+Leads (Err kind) (Err stop) new = Refuses kind stop
+
+-- the kind, but a bad token where none begins or one has no end
+abbrev pub unless_broken : HoaToken → HoaFaultKind → HoaFaultKind
+unless_broken Unknown kind = BadToken
+unless_broken UnclosedString kind = BadToken
+unless_broken UnclosedComment kind = BadToken
+unless_broken _ kind = kind
+
+abbrev pub begins_upper : List ℕ → Bool
+begins_upper [] = false
+begins_upper (b ∷ bs) = is_upper b
+
+abbrev pub at_format : HeaderView → HoaToken → Led
+at_format v (Header name) = if same_name name (codes "HOA") then Ok (Version, v) else Err NotHoaVersion1
+at_format v _ = Err NotHoaVersion1
+
+abbrev pub at_version : HeaderView → HoaToken → Led
+at_version v (Identifier name) = if same_name name (codes "v1") then Ok (Item before.Plain, v) else Err NotHoaVersion1
+at_version v _ = Err NotHoaVersion1
+
+abbrev pub once : HeaderView → Bool → Place → Led
+once v stood place = if stood then Err ItemTwice else Ok (place, v)
+
+abbrev pub begin_item : HeaderView → List ℕ → Led
+begin_item v name =
+    if same_name name (codes "HOA") then Err ItemTwice else
+    if same_name name (codes "States") then once v (is_some v.states) States else
+    if same_name name (codes "Start") then once v (is_some v.start) Start else
+    if same_name name (codes "AP") then once v (is_some v.names) Count else
+    if same_name name (codes "Acceptance") then once v (is_some v.sets) Sets else
+    if same_name name (codes "Alias") then Err Unsupported else
+    if begins_upper name then Err UnknownItem else Ok (Item before.Other, v)
+
+abbrev pub go_on : ItemBefore → HeaderView → HoaToken → Led
+go_on before.Plain v t = Err BadToken
+go_on before.StartNumber v AndSign = Err Unsupported
+go_on before.StartNumber v _ = Err BadToken
+go_on before.ListedNames v (StringToken s) = Err BadPropositionList
+go_on before.ListedNames v _ = Err BadToken
+go_on before.Acceptance v t = Err (unless_broken t Unsupported)
+go_on before.Other v (StringToken s) = Ok (Item before.Other, v)
+go_on before.Other v (Int n) = Ok (Item before.Other, v)
+go_on before.Other v (Identifier s) = Ok (Item before.Other, v)
+go_on before.Other v _ = Err BadToken
+
+abbrev pub at_item : ItemBefore → HeaderView → HoaToken → Led
+at_item item v (Header name) = begin_item v name
+at_item item v t = go_on item v t
+
+abbrev pub at_states : HeaderView → HoaToken → Led
+at_states v (Int n) = if nat_lt 65_536 (capped n) then Err LimitPassed else Ok (Item before.Plain, record v { states = Some (capped n) })
+at_states v _ = Err BadToken
+
+abbrev pub at_start : HeaderView → HoaToken → Led
+at_start v (Int n) = Ok (Item before.StartNumber, record v { start = Some (capped n) })
+at_start v _ = Err BadToken
+
+abbrev pub after_name : ℕ → Place
+after_name left = if left == 0 then Item before.ListedNames else Names
+
+abbrev pub at_count : HeaderView → HoaToken → Led
+at_count v (Int n) = if nat_lt 64 (capped n) then Err LimitPassed else Ok (after_name (capped n), record v { names = Some []; left = capped n })
+at_count v _ = Err BadToken
+
+abbrev pub add_to : HeaderView → Option (List Name) → Name → Led
+add_to v None name = Err BadPropositionList
+add_to v (Some names) name =
+    if not (is_proposition name) || list_any (same_name name) names || v.left == 0 then Err BadPropositionList else
+    Ok (after_name (v.left - 1), record v { names = Some (names ++ name ∷ []); left = v.left - 1 })
+
+abbrev pub add_name : HeaderView → Name → Led
+add_name v name = add_to v v.names name
+
+abbrev pub at_names : HeaderView → HoaToken → Led
+at_names v (StringToken name) = add_name v name
+at_names v t = Err (unless_broken t BadPropositionList)
+
+abbrev pub at_sets : HeaderView → HoaToken → Led
+at_sets v (Int n) = if capped n == 1 then Ok (Acceptance Inf, record v { sets = Some 1 }) else Err Unsupported
+at_sets v t = Err (unless_broken t Unsupported)
+
+abbrev pub in_acceptance : AcceptancePart → HeaderView → HoaToken → Led
+in_acceptance Inf v (Identifier s) = if same_name s (codes "Inf") then Ok (Acceptance Open, v) else Err Unsupported
+in_acceptance Open v OpenBracket = Ok (Acceptance Number, v)
+in_acceptance Number v (Int n) = if capped n == 0 then Ok (Acceptance Close, v) else Err Unsupported
+in_acceptance Close v CloseBracket = Ok (Item before.Acceptance, v)
+in_acceptance part v t = Err (unless_broken t Unsupported)
+
+-- a token at its place, but for `--BODY--` where an item may begin
+abbrev pub take : Place → HeaderView → HoaToken → Led
+take Format v t = at_format v t
+take Version v t = at_version v t
+take (Item item) v t = at_item item v t
+take States v t = at_states v t
+take Start v t = at_start v t
+take Count v t = at_count v t
+take Names v t = at_names v t
+take Sets v t = at_sets v t
+take (Acceptance part) v t = in_acceptance part v t
+take (Body place) v t = Err BadToken
+take End v t = Err TextAfterEnd
+
+-- what is counted, where nothing is missing and the start is a state
+abbrev pub counted : Option ℕ → Option ℕ → Option (List Name) → Option ℕ → Result Counts HoaFaultKind
+counted (Some states) (Some start) (Some names) (Some sets) =
+    if nat_lt start states then Ok (record { states = states; names = length names; sets = sets }) else Err NumberOutOfRange
+counted _ _ _ _ = Err ItemMissing
+
+abbrev pub counts_of : HeaderView → Result Counts HoaFaultKind
+counts_of v = counted v.states v.start v.names v.sets
+
+abbrev pub AreCounts : Result Counts HoaFaultKind → Result Counts made.HoaFaultKind → Type 0
+AreCounts (Ok c) (Ok d) = d ≡ c
+AreCounts (Ok c) (Err kind) = ⊥
+AreCounts (Err kind) (Ok d) = ⊥
+AreCounts (Err kind) (Err k) = kind_of k ≡ kind
+
+abbrev pub CountsAre : HeaderView → Result Counts made.HoaFaultKind → Type 0
+CountsAre v r = AreCounts (counts_of v) r
+
+-- the header and these edges, by state
+abbrev pub automaton_from : Option ℕ → Option ℕ → Option (List Name) → List (List Edge) → Option MarkedAutomaton
+automaton_from (Some start) (Some sets) (Some names) edges = Some (record { states = length edges; start = start; sets = sets; names = names; edges = edges })
+automaton_from _ _ _ edges = None
+
+abbrev pub IsSomeMarked : Option MarkedAutomaton → Type 0
+IsSomeMarked (Some A) = IsMarked A
+IsSomeMarked None = ⊥
+
+abbrev pub automaton_of : HeaderView → List (List Edge) → Option MarkedAutomaton
+automaton_of h edges = automaton_from h.start h.sets h.names edges
+
+-- they are an automaton
+abbrev pub IsWhole : HeaderView → List (List Edge) → Type 0
+IsWhole h edges = IsSomeMarked (automaton_of h edges)
+
+abbrev pub IsAutomaton : HeaderView → List (List Edge) → MarkedAutomaton → Type 0
+IsAutomaton h edges A = automaton_of h edges ≡ Some A

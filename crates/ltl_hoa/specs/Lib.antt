@@ -1,0 +1,14 @@
+pub mod BodyView
+pub mod CubesView
+pub mod HeaderView
+pub mod LabelView
+pub mod LexerView
+pub mod MachineView
+pub mod MarkedView
+pub mod NumberView
+pub mod ParserView
+pub mod Printed
+pub mod Reading
+pub mod Resuming
+pub mod Shown
+pub mod TokenView

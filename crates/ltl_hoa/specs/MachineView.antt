@@ -1,0 +1,72 @@
+-- What was read so far, and what a byte makes of it.
+use Rattle.std.specs.Prelude.{◌≡◌, true, ℕ, ◌+◌, ◌==◌, if◌then◌else◌, ◌≤◌, Option, Some, None, Result, Ok, Err, is_some}
+use Rattle.ltl_hoa.specs.declared.fault.Stop.{Stop}
+use Rattle.ltl_hoa.specs.declared.fault.Stop.TheVariants.{Fault, OutOfMemory}
+use Rattle.ltl_hoa.specs.declared.machine.Found.{Found}
+use Rattle.ltl_hoa.specs.declared.place.Place.{Place}
+use Rattle.ltl_hoa.specs.declared.place.Place.TheVariants.{End}
+use Rattle.ltl_hoa.specs.declared.token.TokenKind.{TokenKind}
+use Rattle.ltl_hoa.specs.declared.token.TokenKind.TheVariants.{UnclosedText, UnclosedComment}
+use Rattle.ltl_hoa.specs.TokenView.{token_of}
+use Rattle.ltl_hoa.specs.LexerView.{LexerView, begun, depth_of, ended_kind, rested, taken}
+use Rattle.ltl_hoa.specs.ParserView.{ParserView, new_parser, Takes}
+
+pub record MachineView : Type 0 where
+  -- how many bytes, and the line behind them
+  pub given : ℕ
+  pub line : ℕ
+  pub lexer : LexerView
+  pub parser : ParserView
+  pub fault : Option Found
+
+-- the counts stay within the text's limit
+pub record IsMachine (m : MachineView) : Type 0 where
+  pub given : m.given ≤ 16_777_216
+  pub line : m.line ≤ m.given + 1
+  pub depth : depth_of m.lexer.phase ≤ m.given
+
+-- the line behind a byte
+abbrev pub line_behind : ℕ → ℕ → ℕ
+line_behind line b = if b == 10 then line + 1 else line
+
+abbrev pub new_machine : MachineView
+new_machine = record { given = 0; line = 1; lexer = begun; parser = new_parser; fault = None }
+
+-- the line of a fault at a token
+abbrev pub fault_line : Place → TokenKind → ℕ → ℕ → ℕ
+fault_line place UnclosedComment start last = last
+fault_line End UnclosedText start last = start
+fault_line place UnclosedText start last = last
+fault_line place _ start last = start
+
+-- the fault that a call's answer adds
+abbrev pub FaultIs : MachineView → TokenKind → Result (Unit {0}) Stop → Option Found → Type 0
+FaultIs v kind (Ok u) fault = fault ≡ v.fault
+FaultIs v kind (Err (Fault k)) fault = fault ≡ Some (record { line = fault_line v.parser.place kind v.lexer.start v.line; kind = k })
+FaultIs v kind (Err OutOfMemory) fault = ⊥
+
+-- the token that has ended is taken
+pub record TakesToken (v : MachineView) (kind : TokenKind) (w : MachineView) : Type 0 where
+  pub given : w.given ≡ v.given
+  pub line : w.line ≡ v.line
+  pub lexer : w.lexer ≡ v.lexer
+  pub answer : Result (Unit {0}) Stop
+  pub parser : Takes v.parser (token_of kind v.lexer.text) answer w.parser
+  pub fault : FaultIs v kind answer w.fault
+
+-- the token that ends before a byte
+abbrev pub Leaves : Option TokenKind → MachineView → MachineView → Type 0
+Leaves None v u = u ≡ v
+Leaves (Some kind) v u = (x : MachineView) × TakesToken v kind x × (u ≡ record x { lexer = rested x.lexer })
+
+-- the token that ends with it
+abbrev pub Enters : Option TokenKind × LexerView → MachineView → MachineView → Type 0
+Enters (None, x) u w = w ≡ record u { lexer = x }
+Enters (Some kind, x) u w = TakesToken (record u { lexer = x }) kind w
+
+-- both, or the fault of the first
+pub data Lexes (v : MachineView) (byte : ℕ) (w : MachineView) : Type 0 where
+  -- a fault was met before
+  met : is_some v.fault ≡ true → w ≡ v → Lexes v byte w
+  through : v.fault ≡ None → (u : MachineView) → Leaves (ended_kind v.lexer.phase byte) v u → u.fault ≡ None → Enters (taken u.lexer u.line byte) u w → Lexes v byte w
+  stopped : v.fault ≡ None → Leaves (ended_kind v.lexer.phase byte) v w → is_some w.fault ≡ true → Lexes v byte w

@@ -1,0 +1,206 @@
+-- How the parser's state shows that of the definition.
+use Rattle.std.specs.Prelude.{◌≡◌, ℕ, zero, suc, ◌<◌, ◌≤◌, Bool, true, false, not, ◌==◌, nat_lt, if◌then◌else◌, List, [], ◌∷◌, ◌++◌, length, map, slice_index_or, Option, Some, None, option_map, unwrap_or, codes, ⊤}
+use Rattle.std.specs.Bool.{beq}
+use Rattle.std.specs.List.{list_any}
+use Rattle.std.specs.Ordering.{nat_cmp}
+use Rattle.ltl_spec.specs.Collections.Sets.{set_of}
+use Rattle.ltl_spec.specs.Semantics.Word.{Name}
+use Rattle.ltl_spec.specs.NormalForms.Normal.{Normal}
+use Rattle.ltl_spec.specs.NormalForms.NormalForm.{normal_form, postorder}
+use Rattle.ltl_spec.specs.Transitions.Cubes.{Cube}
+use Rattle.ltl_spec.specs.Automata.Automaton.{Edge}
+use Rattle.ltl_spec.specs.Hoa.HoaToken.{HoaToken, Identifier, Int, OpenBracket, CloseBracket, CloseLabel}
+use Rattle.ltl_spec.specs.Hoa.HoaLabel.{Label, label_formula, cubes, label_cubes}
+use Rattle.ltl_spec.specs.Hoa.HoaFault as spec
+use Rattle.ltl_spec.specs.Hoa.HoaFault.{Before, HoaHeader, LabelPart, LabelParts, whole}
+use Rattle.ltl_hoa.specs.declared.place.Place.{Place}
+use Rattle.ltl_hoa.specs.declared.place.Place.TheVariants as place
+use Rattle.ltl_hoa.specs.declared.place.ItemBefore.{ItemBefore}
+use Rattle.ltl_hoa.specs.declared.place.ItemBefore.TheVariants as item
+use Rattle.ltl_hoa.specs.declared.place.AcceptancePart.{AcceptancePart}
+use Rattle.ltl_hoa.specs.declared.place.AcceptancePart.TheVariants as part
+use Rattle.ltl_hoa.specs.declared.place.BodyPlace.{BodyPlace}
+use Rattle.ltl_hoa.specs.declared.place.BodyPlace.TheVariants as at
+use Rattle.ltl_hoa.specs.NumberView.{capped}
+use Rattle.ltl_hoa.specs.LabelView.{LabelView, PartView}
+use Rattle.ltl_hoa.specs.HeaderView.{HeaderView}
+use Rattle.ltl_hoa.specs.BodyView.{BodyView}
+use Rattle.ltl_hoa.specs.ParserView.{ParserView}
+
+-- ---- labels
+
+-- the cubes of a normal form, unless a part has too many
+abbrev pub narrow_normal : Normal → Option (List Cube)
+narrow_normal N = if list_any (λ p. nat_lt 4_096 (length (cubes p))) (postorder N) then None else Some (cubes N)
+
+-- those of a label, or of its negation
+unfoldable pub narrow : Bool → Label → Option (List Cube)
+narrow sign a = narrow_normal (normal_form sign (label_formula a))
+
+abbrev pub is_odd : ℕ → Bool
+is_odd zero = false
+is_odd (suc n) = not (is_odd n)
+
+abbrev pub shown_part : Bool → LabelPart → PartView
+shown_part positive p =
+    record { positive = positive; negated = is_odd p.negations; sum = option_map (narrow positive) p.sum; product = option_map (narrow positive) p.product }
+
+-- whether an even number of negations stands around what these parts are around
+abbrev pub sign_within : List LabelPart → Bool
+sign_within [] = true
+sign_within (p ∷ ps) = not (beq (sign_within ps) (is_odd p.negations))
+
+abbrev pub shown_around : List LabelPart → List PartView
+shown_around [] = []
+shown_around (p ∷ ps) = shown_around ps ++ shown_part (sign_within ps) p ∷ []
+
+abbrev pub shown_label : LabelParts → LabelView
+shown_label p = record { inner = shown_part (sign_within p.around) p.inner; around = shown_around p.around }
+
+-- ---- edges
+
+-- an edge as it came: its state, the cubes of its label, its target, and the sets of its state and then its own
+pub record CameEdge : Type 0 where
+  pub state : ℕ
+  pub cubes : List Cube
+  pub target : ℕ
+  pub sets : List ℕ
+
+-- what came so far of the body: the sets of the state that stood last, the cubes of the label that ended last, and the edges, the last first
+pub record Came : Type 0 where
+  pub sets : List ℕ
+  pub cubes : List Cube
+  pub edges : List CameEdge
+
+abbrev pub came_none : Came
+came_none = record { sets = []; cubes = []; edges = [] }
+
+abbrev pub first_or : ℕ → List ℕ → ℕ
+first_or n [] = n
+first_or n (m ∷ ms) = m
+
+abbrev pub with_set : ℕ → List CameEdge → List CameEdge
+with_set k [] = []
+with_set k (e ∷ es) = record e { sets = e.sets ++ k ∷ [] } ∷ es
+
+-- what a token at its place adds
+abbrev pub came_in : spec.BodyPlace → Before → HoaToken → Came → Came
+came_in spec.AtNumber b (Int n) g = record g { sets = [] }
+came_in spec.InStateSets b (Int k) g = record g { sets = g.sets ++ k ∷ [] }
+came_in (spec.AfterOperand p) b CloseLabel g = record g { cubes = label_cubes (whole p.inner) }
+came_in spec.AtTarget b (Int n) g = record g { edges = record { state = first_or 0 b.numbers; cubes = g.cubes; target = n; sets = g.sets } ∷ g.edges }
+came_in spec.InEdgeSets b (Int k) g = record g { edges = with_set k g.edges }
+came_in _ b t g = g
+
+abbrev pub came_at : spec.Place → Before → HoaToken → Came → Came
+came_at (spec.InBody p) b t g = came_in p b t g
+came_at _ b t g = g
+
+-- the edges of a cube each
+abbrev pub cube_edges : CameEdge → List Edge
+cube_edges e = map (λ c. record { cube = c; target = e.target; marks = set_of nat_cmp e.sets }) e.cubes
+
+-- the edges of a state, in the order in which they came
+abbrev pub edges_of : ℕ → List CameEdge → List Edge
+edges_of k [] = []
+edges_of k (e ∷ es) = edges_of k es ++ (if e.state == k then cube_edges e else [])
+
+-- ---- places
+
+abbrev pub ShowsItem : ItemBefore → spec.ItemBefore → Type 0
+ShowsItem item.Plain spec.PlainItem = ⊤
+ShowsItem item.StartNumber spec.StartNumber = ⊤
+ShowsItem item.ListedNames spec.ListedNames = ⊤
+ShowsItem item.Acceptance spec.Acceptance = ⊤
+ShowsItem item.Other spec.OtherItem = ⊤
+ShowsItem _ _ = ⊥
+
+-- the tokens of `Inf(0)` from a part on
+abbrev pub acceptance_left : AcceptancePart → List HoaToken
+acceptance_left part.Inf = Identifier (codes "Inf") ∷ OpenBracket ∷ Int 0 ∷ CloseBracket ∷ []
+acceptance_left part.Open = OpenBracket ∷ Int 0 ∷ CloseBracket ∷ []
+acceptance_left part.Number = Int 0 ∷ CloseBracket ∷ []
+acceptance_left part.Close = CloseBracket ∷ []
+
+abbrev pub ShowsBodyPlace : BodyPlace → BodyView → spec.BodyPlace → Type 0
+ShowsBodyPlace at.State b spec.AtState = ⊤
+ShowsBodyPlace at.Number b spec.AtNumber = ⊤
+ShowsBodyPlace at.AfterNumber b spec.AfterNumber = ⊤
+ShowsBodyPlace at.AfterName b spec.AfterName = ⊤
+ShowsBodyPlace at.StateSets b spec.InStateSets = ⊤
+ShowsBodyPlace at.Edge b spec.AtEdge = ⊤
+ShowsBodyPlace at.Target b spec.AtTarget = ⊤
+ShowsBodyPlace at.AfterTarget b spec.AfterTarget = ⊤
+ShowsBodyPlace at.EdgeSets b spec.InEdgeSets = ⊤
+ShowsBodyPlace at.Operand b (spec.AtOperand p) = b.label ≡ shown_label p
+ShowsBodyPlace at.AfterOperand b (spec.AfterOperand p) = b.label ≡ shown_label p
+ShowsBodyPlace _ b _ = ⊥
+
+-- ---- the body
+
+-- whether the last edge isn't among those of its state yet
+abbrev pub is_open : spec.BodyPlace → Bool
+is_open spec.AfterTarget = true
+is_open spec.InEdgeSets = true
+is_open _ = false
+
+-- the edges are those that came
+abbrev pub AreFiled : BodyView → List CameEdge → Type 0
+AreFiled b es = (k : ℕ) → k < b.counts.states → slice_index_or b.edges k [] ≡ edges_of k es
+
+-- but for the last one
+abbrev pub AreOpen : BodyView → List CameEdge → Type 0
+AreOpen b [] = ⊥
+AreOpen b (e ∷ es) = AreFiled b es × (e.state ≡ b.at) × (e.cubes ≡ b.cubes) × (e.target ≡ b.target) × (set_of nat_cmp e.sets ≡ b.own)
+
+abbrev pub AreAt : Bool → BodyView → List CameEdge → Type 0
+AreAt true b es = AreOpen b es
+AreAt false b es = AreFiled b es
+
+pub record ShowsBody (v : BodyView) (place : spec.BodyPlace) (b : Before) (g : Came) : Type 0 where
+  pub states : b.header.states ≡ Some v.counts.states
+  pub few_states : v.counts.states ≤ 65_536
+  pub sets : b.header.sets ≡ Some v.counts.sets
+  pub names : option_map length b.header.names ≡ Some v.counts.names
+  pub well : (v.counts.names ≤ 64) × (v.counts.sets ≤ 64)
+  pub defined : (k : ℕ) → k < v.counts.states → slice_index_or v.defined k false ≡ list_any (λ m. m == k) b.numbers
+  pub counted : (length v.defined ≡ v.counts.states) × (length v.edges ≡ v.counts.states)
+  pub at : (first_or 0 b.numbers ≡ v.at) × (v.at < v.counts.states)
+  pub made : b.edges ≡ v.made
+  pub marks : set_of nat_cmp g.sets ≡ v.sets
+  pub cubes : g.cubes ≡ v.cubes
+  pub edges : AreAt (is_open place) v g.edges
+
+-- ---- the header
+
+pub record ShowsHeader (v : HeaderView) (h : HoaHeader) : Type 0 where
+  pub states : v.states ≡ h.states
+  pub few_states : unwrap_or h.states 0 ≤ 65_536
+  pub start : v.start ≡ option_map capped h.start
+  pub names : v.names ≡ h.names
+  pub sets : v.sets ≡ h.sets
+
+-- ---- all
+
+-- `--BODY--` has not stood
+abbrev pub IsBegun : Before → Came → Type 0
+IsBegun b g = (b.numbers ≡ []) × (b.edges ≡ 0) × (g ≡ came_none)
+
+abbrev pub ShowsPlace : Place → ParserView → spec.Place → Before → Came → Type 0
+ShowsPlace place.Format v spec.AtFormat b g = IsBegun b g
+ShowsPlace place.Version v spec.AtVersion b g = IsBegun b g
+ShowsPlace (place.Item i) v (spec.AtItem j) b g = IsBegun b g × ShowsItem i j
+ShowsPlace place.States v spec.AtStates b g = IsBegun b g
+ShowsPlace place.Start v spec.AtStart b g = IsBegun b g
+ShowsPlace place.Count v spec.AtCount b g = IsBegun b g
+ShowsPlace place.Names v (spec.AtNames left) b g = IsBegun b g × (v.header.left ≡ left) × ((left == 0) ≡ false) × ((ns : List Name) × (v.header.names ≡ Some ns))
+ShowsPlace place.Sets v spec.AtSets b g = IsBegun b g
+ShowsPlace (place.Acceptance p) v (spec.InAcceptance ts) b g = IsBegun b g × (ts ≡ acceptance_left p)
+ShowsPlace (place.Body p) v (spec.InBody q) b g = (body : BodyView) × (v.body ≡ Some body) × ShowsBodyPlace p body q × ShowsBody body q b g
+ShowsPlace place.End v spec.AtEnd b g = (body : BodyView) × (v.body ≡ Some body) × ShowsBody body spec.AtState b g
+ShowsPlace _ v _ b g = ⊥
+
+-- the parser's state shows that of the definition, and what came of the body
+pub record Shows (v : ParserView) (b : Before) (g : Came) : Type 0 where
+  pub header : ShowsHeader v.header b.header
+  pub place : ShowsPlace v.place v b.place b g

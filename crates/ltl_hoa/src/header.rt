@@ -1,0 +1,335 @@
+//! The header: its items in any order.
+
+ghost use Rattle.std.specs.Prelude.{◌≡◌, ◌<◌, ◌≤◌, List, ℕ, map, IfOk};
+ghost use Rattle.ltl_hoa.specs.MarkedView.{edge_of};
+ghost use Rattle.ltl_spec.specs.Formulas.Names as spec_names;
+ghost use Rattle.ltl_hoa.specs.TokenView.{token_of, kind_of};
+ghost use Rattle.ltl_hoa.specs.HeaderView as view;
+ghost use Rattle.ltl_hoa.specs.HeaderView.{Leads, CountsAre};
+
+use crate::fault::{HoaFaultKind, Stop};
+use crate::marked::{MOST_NAMES, MOST_STATES, Marked, MarkedEdge};
+use crate::names::{is_listed, is_proposition, list_name};
+use crate::number::number;
+use crate::place::{AcceptancePart, ItemBefore, Place};
+use crate::token::TokenKind;
+use std::alloc::Allocator;
+use std::marker::Model;
+
+/// How many states, names and acceptance sets there are.
+#[derive(Clone, Copy, Debug, PartialEq, Eq)]
+pub(crate) struct Counts {
+    pub states: usize,
+    pub names: usize,
+    pub sets: usize,
+}
+
+/// The items so far.
+#[derive(Drop)]
+pub(crate) struct Header<'a, A: Allocator> {
+    alloc: &'a A,
+    states: Option<usize>,
+    start: Option<usize>,
+    names: Option<Vec<String<&'a A>, &'a A>>,
+    /// How many names have still to come.
+    left: usize,
+    sets: Option<usize>,
+}
+
+impl<'a, A: Allocator> Model for Header<'a, A> {
+    ghost use Rattle.std.specs.Prelude.{map, option_map, string_bytes};
+    ghost use Rattle.ltl_hoa.specs.HeaderView.{HeaderView, IsHeader};
+
+    ghost Value = { HeaderView };
+
+    ghost view = { λ h. record { states = h.states; start = h.start; names = option_map (λ v. map string_bytes v.items) h.names; left = h.left; sets = h.sets } };
+
+    ghost invariant = { λ h. IsHeader (record { states = h.states; start = h.start; names = option_map (λ v. map string_bytes v.items) h.names; left = h.left; sets = h.sets }) };
+}
+
+/// The fault, but a bad token where none begins or one has no end.
+fn unless_broken(kind: TokenKind, fault: HoaFaultKind) -> HoaFaultKind
+    ensures { (text : List ℕ) → kind_of result ≡ view.unless_broken (token_of kind text) (kind_of fault) }
+{
+    match kind {
+        TokenKind::Unknown | TokenKind::UnclosedText | TokenKind::UnclosedComment => {
+            HoaFaultKind::BadToken
+        }
+        _ => fault,
+    }
+}
+
+/// Whether an item of another name begins with an upper-case letter.
+fn begins_upper(name: &[u8]) -> bool
+    ensures { result ≡ view.begins_upper name.now }
+{
+    match name {
+        [first, ..] => first.is_ascii_uppercase(),
+        [] => false,
+    }
+}
+
+/// Begins an item that may stand once.
+fn once(stood: bool, place: Place) -> Result<Place, Stop>
+    ensures { (v : view.HeaderView) → Leads (view.once v stood place) result v }
+{
+    if stood {
+        Err(Stop::Fault(HoaFaultKind::ItemTwice))
+    } else {
+        Ok(place)
+    }
+}
+
+/// Takes a token that begins no item, behind one.
+fn go_on(before: ItemBefore, kind: TokenKind) -> Result<Place, Stop>
+    ensures { (v : view.HeaderView) (text : List ℕ) → Leads (view.go_on before v (token_of kind text)) result v }
+{
+    let fault = match (before, kind) {
+        (ItemBefore::Other, TokenKind::Text | TokenKind::Identifier | TokenKind::Int) => {
+            return Ok(Place::Item(ItemBefore::Other));
+        }
+        (ItemBefore::StartNumber, TokenKind::AndSign) => HoaFaultKind::Unsupported,
+        (ItemBefore::ListedNames, TokenKind::Text) => HoaFaultKind::BadPropositionList,
+        (ItemBefore::Acceptance, kind) => unless_broken(kind, HoaFaultKind::Unsupported),
+        _ => HoaFaultKind::BadToken,
+    };
+    Err(Stop::Fault(fault))
+}
+
+/// Takes a token in `Inf(0)`.
+fn in_acceptance(part: AcceptancePart, kind: TokenKind, text: &[u8]) -> Result<Place, Stop>
+    ensures { (v : view.HeaderView) → Leads (view.in_acceptance part v (token_of kind text.now)) result v }
+{
+    match (part, kind) {
+        (AcceptancePart::Inf, TokenKind::Identifier) if text == b"Inf".as_slice() => {
+            Ok(Place::Acceptance(AcceptancePart::Open))
+        }
+        (AcceptancePart::Open, TokenKind::OpenBracket) => {
+            Ok(Place::Acceptance(AcceptancePart::Number))
+        }
+        (AcceptancePart::Number, TokenKind::Int) if number(text) == 0 => {
+            Ok(Place::Acceptance(AcceptancePart::Close))
+        }
+        (AcceptancePart::Close, TokenKind::CloseBracket) => {
+            Ok(Place::Item(ItemBefore::Acceptance))
+        }
+        _ => Err(Stop::Fault(unless_broken(kind, HoaFaultKind::Unsupported))),
+    }
+}
+
+/// Takes the beginning of the format's name.
+fn at_format(kind: TokenKind, text: &[u8]) -> Result<Place, Stop>
+    ensures { (v : view.HeaderView) → Leads (view.at_format v (token_of kind text.now)) result v }
+{
+    match kind {
+        TokenKind::Header if text == b"HOA".as_slice() => Ok(Place::Version),
+        _ => Err(Stop::Fault(HoaFaultKind::NotHoaVersion1)),
+    }
+}
+
+/// Takes the format's version.
+fn at_version(kind: TokenKind, text: &[u8]) -> Result<Place, Stop>
+    ensures { (v : view.HeaderView) → Leads (view.at_version v (token_of kind text.now)) result v }
+{
+    match kind {
+        TokenKind::Identifier if text == b"v1".as_slice() => Ok(Place::Item(ItemBefore::Plain)),
+        _ => Err(Stop::Fault(HoaFaultKind::NotHoaVersion1)),
+    }
+}
+
+impl<'a, A: Allocator> Header<'a, A> {
+    pub(crate) fn new(alloc: &'a A) -> Header<'a, A>
+        ensures { result ≡ view.no_header }
+    {
+        Header {
+            alloc,
+            states: None,
+            start: None,
+            names: None,
+            left: 0,
+            sets: None,
+        }
+    }
+
+    /// Takes a token at its place, but for `--BODY--` where an item may begin.
+    pub(crate) fn take(&mut self, place: Place, kind: TokenKind, text: &[u8]) -> Result<Place, Stop>
+        ensures { Leads (view.take place self.old (token_of kind text.now)) result self.new }
+    {
+        match place {
+            Place::Format => at_format(kind, text),
+            Place::Version => at_version(kind, text),
+            Place::Item(before) => self.at_item(before, kind, text),
+            Place::States => self.at_states(kind, text),
+            Place::Start => self.at_start(kind, text),
+            Place::Count => self.at_count(kind, text),
+            Place::Names => self.at_names(kind, text),
+            Place::Sets => self.at_sets(kind, text),
+            Place::Acceptance(part) => in_acceptance(part, kind, text),
+            Place::Body(_) => Err(Stop::Fault(HoaFaultKind::BadToken)),
+            Place::End => Err(Stop::Fault(HoaFaultKind::TextAfterEnd)),
+        }
+    }
+
+    fn at_item(&self, before: ItemBefore, kind: TokenKind, text: &[u8]) -> Result<Place, Stop>
+        ensures { Leads (view.at_item before self.now (token_of kind text.now)) result self.now }
+    {
+        match kind {
+            TokenKind::Header => self.begin_item(text),
+            kind => go_on(before, kind),
+        }
+    }
+
+    fn begin_item(&self, name: &[u8]) -> Result<Place, Stop>
+        ensures { Leads (view.begin_item self.now name.now) result self.now }
+    {
+        if name == b"HOA".as_slice() {
+            Err(Stop::Fault(HoaFaultKind::ItemTwice))
+        } else if name == b"States".as_slice() {
+            once(self.states.is_some(), Place::States)
+        } else if name == b"Start".as_slice() {
+            once(self.start.is_some(), Place::Start)
+        } else if name == b"AP".as_slice() {
+            once(self.names.is_some(), Place::Count)
+        } else if name == b"Acceptance".as_slice() {
+            once(self.sets.is_some(), Place::Sets)
+        } else if name == b"Alias".as_slice() {
+            Err(Stop::Fault(HoaFaultKind::Unsupported))
+        } else if begins_upper(name) {
+            Err(Stop::Fault(HoaFaultKind::UnknownItem))
+        } else {
+            Ok(Place::Item(ItemBefore::Other))
+        }
+    }
+
+    fn at_states(&mut self, kind: TokenKind, text: &[u8]) -> Result<Place, Stop>
+        ensures { Leads (view.at_states self.old (token_of kind text.now)) result self.new }
+    {
+        if !matches!(kind, TokenKind::Int) {
+            return Err(Stop::Fault(HoaFaultKind::BadToken));
+        }
+        let count = number(text);
+        if count > MOST_STATES {
+            return Err(Stop::Fault(HoaFaultKind::LimitPassed));
+        }
+        self.states = Some(count);
+        Ok(Place::Item(ItemBefore::Plain))
+    }
+
+    fn at_start(&mut self, kind: TokenKind, text: &[u8]) -> Result<Place, Stop>
+        ensures { Leads (view.at_start self.old (token_of kind text.now)) result self.new }
+    {
+        if !matches!(kind, TokenKind::Int) {
+            return Err(Stop::Fault(HoaFaultKind::BadToken));
+        }
+        self.start = Some(number(text));
+        Ok(Place::Item(ItemBefore::StartNumber))
+    }
+
+    fn at_count(&mut self, kind: TokenKind, text: &[u8]) -> Result<Place, Stop>
+        ensures { Leads (view.at_count self.old (token_of kind text.now)) result self.new }
+    {
+        if !matches!(kind, TokenKind::Int) {
+            return Err(Stop::Fault(HoaFaultKind::BadToken));
+        }
+        let count = number(text);
+        if count > MOST_NAMES {
+            return Err(Stop::Fault(HoaFaultKind::LimitPassed));
+        }
+        self.names = Some(Vec::new(self.alloc));
+        self.left = count;
+        Ok(self.after_name())
+    }
+
+    /// Where the next name stands, if there is one.
+    fn after_name(&self) -> Place
+        ensures { result ≡ view.after_name self.now.left }
+    {
+        if self.left == 0 {
+            Place::Item(ItemBefore::ListedNames)
+        } else {
+            Place::Names
+        }
+    }
+
+    fn at_names(&mut self, kind: TokenKind, text: &[u8]) -> Result<Place, Stop>
+        ensures { Leads (view.at_names self.old (token_of kind text.now)) result self.new }
+    {
+        match kind {
+            TokenKind::Text => self.add_name(text),
+            kind => Err(Stop::Fault(unless_broken(kind, HoaFaultKind::BadPropositionList))),
+        }
+    }
+
+    fn add_name(&mut self, name: &[u8]) -> Result<Place, Stop>
+        ensures { Leads (view.add_name self.old name.now) result self.new }
+    {
+        let Some(names) = &mut self.names else {
+            return Err(Stop::Fault(HoaFaultKind::BadPropositionList));
+        };
+        if !is_proposition(name) || is_listed(names.as_slice(), name) || self.left == 0 {
+            return Err(Stop::Fault(HoaFaultKind::BadPropositionList));
+        }
+        list_name(self.alloc, names, name)?;
+        self.left -= 1;
+        Ok(self.after_name())
+    }
+
+    /// One set alone is read for now.
+    fn at_sets(&mut self, kind: TokenKind, text: &[u8]) -> Result<Place, Stop>
+        ensures { Leads (view.at_sets self.old (token_of kind text.now)) result self.new }
+    {
+        if !matches!(kind, TokenKind::Int) {
+            let fault = unless_broken(kind, HoaFaultKind::Unsupported);
+            return Err(Stop::Fault(fault));
+        }
+        if number(text) != 1 {
+            return Err(Stop::Fault(HoaFaultKind::Unsupported));
+        }
+        self.sets = Some(1);
+        Ok(Place::Acceptance(AcceptancePart::Inf))
+    }
+
+    /// What the header counts, where nothing is missing and the start is a state.
+    pub(crate) fn counts(&self) -> Result<Counts, HoaFaultKind>
+        ensures counts { CountsAre self.now result }
+        ensures names { IfOk result (λ c. c.names ≤ 64) }
+        ensures sets { IfOk result (λ c. c.sets ≤ 64) }
+        ensures some { IfOk result (λ c. 0 < c.states) }
+    {
+        let (Some(states), Some(start), Some(names), Some(sets)) = (
+            self.states,
+            self.start,
+            &self.names,
+            self.sets,
+        ) else {
+            return Err(HoaFaultKind::ItemMissing);
+        };
+        if start >= states {
+            return Err(HoaFaultKind::NumberOutOfRange);
+        }
+        Ok(Counts {
+            states,
+            names: names.len(),
+            sets,
+        })
+    }
+
+    /// The automaton of these states, by their edges.
+    pub(crate) fn finish(self, edges: Vec<Vec<MarkedEdge, &'a A>, &'a A>) -> Marked<'a, A>
+        requires { view.IsWhole self (map (λ s. map edge_of s.items) edges.items) }
+        ensures { view.IsAutomaton self.entry (map (λ s. map edge_of s.items) edges.entry.items) result }
+    {
+        let Header {
+            alloc: _,
+            states: _,
+            start,
+            names,
+            left: _,
+            sets,
+        } = self;
+        match (start, sets, names) {
+            (Some(start), Some(sets), Some(names)) => Marked::new(start, sets, names, edges),
+            _ => unreachable!(),
+        }
+    }
+}

@@ -1,0 +1,113 @@
+//! Automata that were read.
+
+ghost use Rattle.std.specs.Prelude.{◌≡◌, ◌<◌, length, map, string_bytes, slice_index_or, []};
+ghost use Rattle.ltl_spec.specs.Hoa.HoaReading as spec;
+ghost use Rattle.ltl_hoa.specs.MarkedView.{IsMarked, edge_of};
+
+use ltl_sets::{Cube, RowSet};
+use std::alloc::Allocator;
+use std::marker::Model;
+
+/// The most states that an automaton may have.
+pub const MOST_STATES: usize = 65_536;
+
+/// The most edges that an automaton may have.
+pub const MOST_EDGES: usize = 1_048_576;
+
+/// The most names that an automaton may list.
+pub const MOST_NAMES: usize = 64;
+
+/// An edge: its literals by the numbers of the automaton's names, its target, and the acceptance sets that it is in, by number.
+#[derive(Clone, Copy, Debug, PartialEq, Eq)]
+pub struct MarkedEdge {
+    pub cube: Cube,
+    pub target: usize,
+    pub sets: RowSet,
+}
+
+/// An automaton with acceptance sets of edges, over named propositions.
+#[derive(Drop)]
+pub struct Marked<'a, A: Allocator> {
+    start: usize,
+    sets: usize,
+    names: Vec<String<&'a A>, &'a A>,
+    states: Vec<Vec<MarkedEdge, &'a A>, &'a A>,
+}
+
+impl<'a, A: Allocator> Model for Marked<'a, A> {
+    ghost use Rattle.std.specs.Prelude.{map, length as count, string_bytes};
+    ghost use Rattle.ltl_spec.specs.Hoa.HoaReading.{MarkedAutomaton};
+    ghost use Rattle.ltl_hoa.specs.MarkedView.{IsMarked, edge_of, marked_code};
+
+    ghost Value = { MarkedAutomaton };
+
+    ghost coded = { marked_code };
+
+    ghost view = { λ m. record { states = count m.states.items; start = m.start; sets = m.sets; names = map string_bytes m.names.items; edges = map (λ s. map edge_of s.items) m.states.items } };
+
+    ghost invariant = { λ m. IsMarked (record { states = count m.states.items; start = m.start; sets = m.sets; names = map string_bytes m.names.items; edges = map (λ s. map edge_of s.items) m.states.items }) };
+}
+
+impl<'a, A: Allocator> Marked<'a, A> {
+    /// The automaton of its parts: the states are given by their edges.
+    pub(crate) fn new(
+        start: usize,
+        sets: usize,
+        names: Vec<String<&'a A>, &'a A>,
+        states: Vec<Vec<MarkedEdge, &'a A>, &'a A>,
+    ) -> Marked<'a, A>
+        requires { IsMarked (record { states = length states.items; start = start; sets = sets; names = map string_bytes names.items; edges = map (λ s. map edge_of s.items) states.items }) }
+        ensures { result ≡ record { states = length states.entry.items; start = start; sets = sets; names = map string_bytes names.entry.items; edges = map (λ s. map edge_of s.items) states.entry.items } }
+    {
+        Marked {
+            start,
+            sets,
+            names,
+            states,
+        }
+    }
+
+    /// How many states there are, at least one.
+    pub fn len(&self) -> usize
+        ensures count { result ≡ self.now.states }
+        ensures edges { result ≡ length self.now.edges }
+    {
+        self.states.len()
+    }
+
+    /// The number of the state where words begin.
+    pub fn start(&self) -> usize
+        ensures { result ≡ self.now.start }
+    {
+        self.start
+    }
+
+    /// How many acceptance sets there are.
+    pub fn sets(&self) -> usize
+        ensures { result ≡ self.now.sets }
+    {
+        self.sets
+    }
+
+    /// The names of the propositions, by number.
+    pub fn names(&self) -> &[String<&'a A>]
+        ensures { map string_bytes result.now ≡ self.now.names }
+    {
+        self.names.as_slice()
+    }
+
+    /// The edges of a state: in the order of the text, and those of one label by their literals.
+    pub fn edges(&self, i: usize) -> &[MarkedEdge]
+        requires { i < self.now.states }
+        ensures { map edge_of result.now ≡ slice_index_or self.now.edges i [] }
+    {
+        self.states[i].as_slice()
+    }
+
+    /// Hands what the type holds to callers.
+    pub fn stays_within(&self)
+        ensures { IsMarked self.now }
+    {
+        let _ = &self.states;
+    }
+}

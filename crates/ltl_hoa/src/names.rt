@@ -1,0 +1,69 @@
+//! Names of propositions.
+
+ghost use Rattle.std.specs.Prelude.{◌≡◌, ◌++◌, ◌∷◌, [], map, string_bytes, true, OnOk, OnErr};
+ghost use Rattle.std.specs.List.{list_all, list_any};
+ghost use Rattle.ltl_spec.specs.Formulas.Tokens as tokens;
+ghost use Rattle.ltl_spec.specs.Formulas.Names as spec_names;
+
+use crate::bytes::is_digit;
+use std::alloc::{AllocError, Allocator};
+
+fn is_name_byte(byte: u8) -> bool
+    ensures { result ≡ tokens.is_name_byte byte }
+{
+    byte.is_ascii_lowercase() || is_digit(byte) || byte == b'_'
+}
+
+fn is_constant(name: &[u8]) -> bool
+    ensures { result ≡ spec_names.is_constant name.now }
+{
+    name == b"true".as_slice() || name == b"false".as_slice()
+}
+
+fn are_name_bytes(bytes: &[u8]) -> bool
+    ensures { result ≡ list_all tokens.is_name_byte bytes.now }
+{
+    bytes.iter().all(|byte| is_name_byte(*byte))
+}
+
+/// Whether the bytes are a name that a formula may hold.
+pub(crate) fn is_proposition(name: &[u8]) -> bool
+    ensures { result ≡ spec_names.is_proposition name.now }
+{
+    match name {
+        [first, rest @ ..] => {
+            first.is_ascii_lowercase() && are_name_bytes(rest) && !is_constant(name)
+        }
+        [] => false,
+    }
+}
+
+/// Whether the name is one of those.
+pub(crate) fn is_listed<A: Allocator>(names: &[String<&A>], name: &[u8]) -> bool
+    ensures { result ≡ list_any (tokens.same_name name.now) (map string_bytes names.now) }
+{
+    'names: for other in names {
+        if name == other.as_bytes() {
+            return true;
+        }
+    }
+    false
+}
+
+/// Puts a name behind the others.
+pub(crate) fn list_name<'a, A: Allocator>(
+    alloc: &'a A,
+    names: &mut Vec<String<&'a A>, &'a A>,
+    name: &[u8],
+) -> Result<(), AllocError>
+    requires { spec_names.is_proposition name.now ≡ true }
+    ensures listed { OnOk result (map string_bytes names.new.items ≡ map string_bytes names.old.items ++ name.now ∷ []) }
+    ensures kept { OnErr result (names.new.items ≡ names.old.items) }
+{
+    let name = match str::from_utf8(name) {
+        Ok(name) => String::from_str(alloc, name)?,
+        Err(_) => unreachable!(),
+    };
+    names.push(name)?;
+    Ok(())
+}

@@ -1,0 +1,108 @@
+//! The tokens of a text, one after the other: what stood and what may come next.
+
+ghost use Rattle.std.specs.Prelude.{◌≡◌, List, ℕ, IfOk, OnOk, MatchResult, map, string_bytes, Some, None};
+ghost use Rattle.ltl_hoa.specs.TokenView.{token_of, kind_of};
+ghost use Rattle.ltl_hoa.specs.ParserView as view;
+
+use crate::body::Body;
+use crate::fault::{HoaFaultKind, Stop};
+use crate::header::Header;
+use crate::marked::Marked;
+use crate::place::{BodyPlace, ItemBefore, Place};
+use crate::token::TokenKind;
+use std::alloc::Allocator;
+use std::marker::Model;
+
+/// What stood so far.
+#[derive(Drop)]
+pub(crate) struct Parser<'a, A: Allocator> {
+    alloc: &'a A,
+    place: Place,
+    header: Header<'a, A>,
+    /// Behind `--BODY--`.
+    body: Option<Body<'a, A>>,
+}
+
+impl<'a, A: Allocator> Model for Parser<'a, A> {
+    ghost use Rattle.ltl_hoa.specs.ParserView.{ParserView};
+
+    ghost Value = { ParserView };
+
+    ghost view = { λ p. record { place = p.place; header = p.header; body = p.body } };
+}
+
+impl<'a, A: Allocator> Parser<'a, A> {
+    pub(crate) fn new(alloc: &'a A) -> Parser<'a, A>
+        ensures { result ≡ view.new_parser }
+    {
+        Parser {
+            alloc,
+            place: Place::Format,
+            header: Header::new(alloc),
+            body: None,
+        }
+    }
+
+    /// What may come next.
+    pub(crate) fn place(&self) -> Place
+        ensures { result ≡ self.now.place }
+    {
+        self.place
+    }
+
+    /// Takes a token.
+    pub(crate) fn take(&mut self, kind: TokenKind, text: &[u8]) -> Result<(), Stop>
+        ensures { view.Takes self.old (token_of kind text.now) result self.new }
+    {
+        match self.place {
+            Place::Body(place) => self.take_in_body(place, kind, text),
+            Place::Item(_) if matches!(kind, TokenKind::Body) => self.begin_body(),
+            place => {
+                self.place = self.header.take(place, kind, text)?;
+                Ok(())
+            }
+        }
+    }
+
+    /// Takes a token in the body.
+    fn take_in_body(&mut self, place: BodyPlace, kind: TokenKind, text: &[u8]) -> Result<(), Stop>
+        ensures { view.TakesInBody place self.old (token_of kind text.now) result self.new }
+    {
+        let Some(body) = &mut self.body else {
+            return Err(Stop::Fault(HoaFaultKind::BadToken));
+        };
+        self.place = body.take(place, kind, text)?;
+        Ok(())
+    }
+
+    /// Takes `--BODY--` where an item may begin.
+    fn begin_body(&mut self) -> Result<(), Stop>
+        ensures { view.BeginsBody self.old result self.new }
+    {
+        match self.header.counts() {
+            Ok(counts) => {
+                self.body = Some(Body::new(self.alloc, counts)?);
+                self.place = Place::Body(BodyPlace::State);
+                Ok(())
+            }
+            Err(kind) => Err(Stop::Fault(kind)),
+        }
+    }
+
+    /// The automaton of a text that has ended.
+    pub(crate) fn finish(self) -> Marked<'a, A>
+        requires { view.IsWhole self }
+        ensures { view.IsAutomaton self.entry result }
+    {
+        let Parser {
+            alloc: _,
+            place: _,
+            header,
+            body,
+        } = self;
+        match body {
+            Some(body) => header.finish(body.into_edges()),
+            None => unreachable!(),
+        }
+    }
+}

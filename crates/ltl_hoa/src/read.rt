@@ -1,0 +1,44 @@
+//! Reading an automaton from a reader, piece by piece.
+
+ghost use Rattle.std.specs.Prelude.{◌≡◌, MatchResult, IsErrOf, ⊤};
+ghost use Rattle.ltl_hoa.specs.Reading.{AnswersHeld, IsOfText, TakesFewer, TakesText};
+
+use crate::fault::{HoaFault, HoaFaultKind};
+use crate::machine::{MOST_BYTES, Machine};
+use crate::marked::Marked;
+use std::alloc::Allocator;
+use std::io::Read;
+
+/// How many bytes are read at a time.
+const PIECE: usize = 4_096;
+
+/// Reads an automaton. The text is taken to its end, or up to one byte past its limit, whatever the answer is but for a failed read and
+/// want of memory; beside the automaton only the current token, what is open of a label and the names are kept.
+pub fn hoa_read<'a, A: Allocator, R: Read>(
+    alloc: &'a A,
+    reader: &mut R,
+) -> Result<Marked<'a, A>, HoaFault>
+    ensures read { AnswersHeld (R.remaining reader.old) result }
+    ensures taken { MatchResult result (λ _. TakesText (R.remaining reader.old) (R.remaining reader.new)) (λ fault. IsOfText fault → TakesText (R.remaining reader.old) (R.remaining reader.new)) }
+    ensures failed { IsErrOf result HoaFault.CannotRead → TakesFewer (R.remaining reader.old) (R.remaining reader.new) }
+{
+    let mut machine = Machine::new(alloc);
+    let mut piece = [0u8; PIECE];
+    let mut given = 0usize;
+    'pieces: while given < MOST_BYTES {
+        let room = PIECE.min(MOST_BYTES - given);
+        match reader.read(&mut piece[..room]) {
+            Ok(0) => return machine.finish(),
+            Ok(count) => {
+                machine.take_piece(&piece[..count])?;
+                given += count;
+            }
+            Err(_) => return Err(HoaFault::CannotRead),
+        }
+    }
+    match reader.read(&mut piece[..1]) {
+        Ok(0) => machine.finish(),
+        Ok(_) => Err(HoaFault::AtLine(machine.line(), HoaFaultKind::LimitPassed)),
+        Err(_) => Err(HoaFault::CannotRead),
+    }
+}
