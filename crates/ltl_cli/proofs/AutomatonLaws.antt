@@ -1,7 +1,7 @@
 -- What was translated, as a step of the definitions.
 use Rattle.std.proofs.Common.{◌≡◌, ◌∙◌, ap, sym, subst, refl, ℕ, suc, ◌+◌, ◌≤◌, Bool, true, false, cond, ◌||◌, inl, inr, ◌⊎◌, List, [], ◌∷◌, filter, length, arith}
 use Rattle.std.specs.Prelude.{map, Result, Ok, Err}
-use Rattle.ltl_spec.specs.Collections.Lists.{places_from, places_where}
+use Rattle.ltl_spec.specs.Collections.Lists.{places_from}
 use Rattle.ltl_spec.specs.Formulas.Formula.{Formula, Reading}
 use Rattle.ltl_spec.specs.NormalForms.Normal.{Normal, same}
 use Rattle.ltl_spec.specs.NormalForms.NormalForm.{core, rows, elementary_rows, is_elementary}
@@ -13,7 +13,7 @@ use Rattle.ltl_spec.specs.Semantics.Language.{AcceptsModels}
 use Rattle.ltl_spec.specs.Tools.Limits.{stated_limits}
 use Rattle.ltl_spec.specs.Tools.Refusal as spec
 use Rattle.ltl_spec.specs.Tools.Outcome.{Then}
-use Rattle.ltl_spec.specs.Tools.Programs.{KeepsRows, Translates, Prints, Layout, Claim, Hoa}
+use Rattle.ltl_spec.specs.Tools.Programs.{KeepsRows, Translates, Prints, Claim, Hoa}
 use Rattle.ltl_spec.proofs.Collections.MemberLaws.{map_length}
 use Rattle.ltl_spec.proofs.NormalForms.SharedNodes.{trees_length}
 use Rattle.ltl_formula.specs.GraphView.{node_of}

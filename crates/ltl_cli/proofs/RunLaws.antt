@@ -1,10 +1,9 @@
 -- What a run shows.
-use Rattle.std.proofs.Common.{◌≡◌, ◌∙◌, ap, sym, subst, refl, ℕ, ◌≤◌, Bool, true, false, cond, nat_lt, length, inl, inr, ◌⊎◌, List, [], take, Option, Some, None, arith}
-use Rattle.std.proofs.KnownBytes.{Appends-nil, Keeps-refl}
+use Rattle.std.proofs.Common.{◌≡◌, ◌∙◌, ap, sym, subst, refl, ℕ, Bool, true, false, cond, nat_lt, length, inl, inr, ◌⊎◌, List, [], take, Option, Some, None, arith}
+use Rattle.std.proofs.KnownBytes.{Keeps-refl}
 use Rattle.std.proofs.lemmas.List.{append-nil}
 use Rattle.std.specs.Prelude.{Result, Ok, Err, ⊤}
 use Rattle.std.specs.Io.KnownBytes.{Appends, Keeps}
-use Rattle.ltl_spec.specs.Formulas.Formula.{Reading}
 use Rattle.ltl_spec.specs.NormalForms.NormalForm.{core}
 use Rattle.ltl_spec.specs.Automata.Automaton.{Automaton}
 use Rattle.ltl_spec.specs.Construction.Translation.{Options}
@@ -12,7 +11,7 @@ use Rattle.ltl_spec.specs.Tools.Limits.{stated_limits}
 use Rattle.ltl_spec.specs.Tools.Refusal as spec
 use Rattle.ltl_spec.specs.Tools.Outcome as outcome
 use Rattle.ltl_spec.specs.Tools.Outcome.{Answer, Input, IsGiven, TakesNoMemory, refused, printed}
-use Rattle.ltl_spec.specs.Tools.Programs.{InputReads, ReadsFormula, TranslatorAnswers, TranslatorPrints}
+use Rattle.ltl_spec.specs.Tools.Programs.{InputReads, TranslatorAnswers}
 use Rattle.ltl_formula.specs.FormulaView.{FormulaView, reading_of}
 use Rattle.ltl_formula.specs.Streams.{AppendsBeginning}
 use Rattle.ltl_cli.specs.declared.refusal.Refusal.{Refusal}
@@ -23,12 +22,12 @@ use Rattle.ltl_cli.specs.declared.request.Plan.{Plan}
 use Rattle.ltl_cli.specs.declared.request.FormulaWord.{FormulaWord}
 use Rattle.ltl_cli.specs.declared.request.PlanFault.{PlanFault}
 use Rattle.ltl_cli.specs.declared.request.PlanFault.TheVariants as fault
-use Rattle.ltl_cli.specs.Refusals.{of_plan, refusal_of, status_number}
+use Rattle.ltl_cli.specs.Refusals.{of_plan, refusal_of}
 use Rattle.ltl_cli.specs.Plans.{formula_word, request_in}
 use Rattle.ltl_cli.specs.Words.{translator_plan}
 use Rattle.ltl_cli.specs.Inputs.{RefusesInput}
-use Rattle.ltl_cli.specs.Runs.{IsBroken, IsDone, IsKept, IsOutcome, IsRefused, PlanOutcome, PlanPrints, RefusesPlan, Shows, TranslatorPromises, WordsOutcome, laid_out, message_with, status_with, translator_word}
-use Rattle.ltl_cli.proofs.AutomatonLaws.{Printing, Translating, printing_err, printing_ok, printing_takes}
+use Rattle.ltl_cli.specs.Runs.{IsDone, IsKept, IsOutcome, PlanOutcome, PlanPrints, RefusesPlan, Shows, TranslatorPromises, WordsOutcome, laid_out, message_with, status_with, translator_word}
+use Rattle.ltl_cli.proofs.AutomatonLaws.{Translating, printing_err, printing_ok, printing_takes}
 use Rattle.ltl_cli.proofs.InputLaws.{reads_takes}
 
 -- ---- the translator's steps
@@ -64,7 +63,7 @@ module _ (p : Plan) (input : Input) (f : FormulaView) (word : FormulaWord) (rewr
 never : {A B : Type 0} (a : A) (b : B) → Err b ≡ Ok a → ⊥
 never a b e = cc
 
-same_refusal : {A : Type 0} (x y : spec.Refusal) → ◌≡◌ {A = Result A spec.Refusal} (Err x) (Err y) → y ≡ x
+pub same_refusal : {A : Type 0} (x y : spec.Refusal) → ◌≡◌ {A = Result A spec.Refusal} (Err x) (Err y) → y ≡ x
 same_refusal x y p = cc
 
 taken_takes : (input : Input) → Err spec.OutOfMemory ≡ outcome.taken 65_536 input → ⊥
@@ -77,7 +76,7 @@ taken_takes (outcome.Failed bs) p = chosen (nat_lt 65_536 (length bs)) bs p
     chosen true bs p = never bs spec.OutOfMemory p
     chosen false bs p = cc
 
-input_takes : (input : Input) → InputReads stated_limits input (Err spec.OutOfMemory) → ⊥
+pub input_takes : (input : Input) → InputReads stated_limits input (Err spec.OutOfMemory) → ⊥
 input_takes input (inl (x, p, q)) = taken_takes input (subst (λ (y : spec.Refusal). Err y ≡ outcome.taken 65_536 input) (same_refusal spec.OutOfMemory x q) p)
 input_takes input (inr (a, p, h)) = h
 
@@ -170,13 +169,13 @@ module _ (tool : spec.Tool) (Answers : Answer → Type 0) (TakesNone : Type 0) (
     promised = (inl (refused stated_limits tool (refusal_of e), a, (st, refl, (k, refl))), λ t d. other (only_memory e (sym st ∙ d)));
   }
 
-short_shows : (o n mo mn : Option (List ℕ)) (status : ℕ) (r : Result Status Refusal) → r ≡ Err OutOfMemory → Keeps o n → status ≡ status_with r → AppendsBeginning mo mn (message_with spec.Translator r)
-    → Shows (outcome.IsShortOfMemory stated_limits spec.Translator) o n mo mn status
-short_shows o n mo mn status r c w st m =
-    let (k, t) = subst (λ (x : Result Status Refusal). AppendsBeginning mo mn (message_with spec.Translator x)) c m in
+pub short_shows : (tool : spec.Tool) (o n mo mn : Option (List ℕ)) (status : ℕ) (r : Result Status Refusal) → r ≡ Err OutOfMemory → Keeps o n → status ≡ status_with r → AppendsBeginning mo mn (message_with tool r)
+    → Shows (outcome.IsShortOfMemory stated_limits tool) o n mo mn status
+short_shows tool o n mo mn status r c w st m =
+    let (k, t) = subst (λ (x : Result Status Refusal). AppendsBeginning mo mn (message_with tool x)) c m in
     record {
       output = [];
-      message = take k (spec.message stated_limits spec.Translator spec.OutOfMemory);
+      message = take k (spec.message stated_limits tool spec.OutOfMemory);
       written = kept_nothing o n w;
       told = t;
       promised = (st ∙ ap status_with c, refl, (k, refl));
@@ -187,4 +186,4 @@ pub translator_shows : (plan : Result Plan PlanFault) (input : Input) (o n mo mn
 translator_shows (Ok p) input o n mo mn status r h st m =
     run_shows spec.Translator (TranslatorAnswers stated_limits (Some (translator_plan (request_in p))) input) (TakesNoMemory stated_limits.formula_bytes (Some (translator_word p)) input) o n mo mn status r h st m
 translator_shows (Err fault.Usage) input o n mo mn status r h st m = run_shows spec.Translator (TranslatorAnswers stated_limits None input) ⊤ o n mo mn status r h st m
-translator_shows (Err fault.OutOfMemory) input o n mo mn status r h st m = short_shows o n mo mn status r h.0 h.1 st m
+translator_shows (Err fault.OutOfMemory) input o n mo mn status r h st m = short_shows spec.Translator o n mo mn status r h.0 h.1 st m

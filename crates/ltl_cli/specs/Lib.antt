@@ -1,3 +1,4 @@
+pub mod Evaluations
 pub mod Inputs
 pub mod Messages
 pub mod Plans

@@ -1,5 +1,5 @@
 -- A plan as what its words ask for.
-use Rattle.std.specs.Prelude.{◌≡◌, Option, Some, None, List, [], Result, MatchResult, option_map}
+use Rattle.std.specs.Prelude.{◌≡◌, Some, None, List, [], Result, MatchResult, option_map}
 use Rattle.ltl_spec.specs.Tools.Refusal.{Tool}
 use Rattle.ltl_spec.specs.Tools.Outcome as spec
 use Rattle.clap.specs.Words.{Text, fault_of, found_of, matches_of, rows_of}

@@ -5,6 +5,7 @@ use Rattle.ltl_formula.specs.ParserView.{kind_of}
 use Rattle.ltl_formula.specs.declared.fault.ReadFault as read
 use Rattle.ltl_formula.specs.declared.build_fault.BuildFault as build
 use Rattle.ltl_buchi.specs.declared.fault.BaFault as translation
+use Rattle.ltl_word.specs.declared.fault.WordFault as word
 use Rattle.ltl_cli.specs.declared.request.PlanFault as plan
 use Rattle.ltl_cli.specs.declared.tool.Tool as tool
 use Rattle.ltl_cli.specs.declared.refusal.Refusal.{Refusal}
@@ -60,6 +61,12 @@ of_build build.TheVariants.OutOfMemory = OutOfMemory
 abbrev pub of_translation : translation.BaFault → Refusal
 of_translation translation.TheVariants.TooLarge = LargeAutomaton
 of_translation translation.TheVariants.OutOfMemory = OutOfMemory
+
+abbrev pub of_word : word.WordFault → Refusal
+of_word word.TheVariants.TooLong = LongWord
+of_word (word.TheVariants.BadWord place) = BadWord place
+of_word word.TheVariants.TooManyPropositions = TooManyPropositions
+of_word word.TheVariants.OutOfMemory = OutOfMemory
 
 -- A step of the definitions taken by code: the code has its value, or answers its refusal. Memory may be refused at any step
 abbrev pub Takes : {A F : Type 0} → (Result A spec.Refusal → Type 0) → (F → A) → Result F Refusal → Type 0

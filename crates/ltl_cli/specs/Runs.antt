@@ -1,18 +1,16 @@
 -- What a run of a program shows.
-use Rattle.std.specs.Prelude.{◌≡◌, ◌≤◌, ℕ, Bool, true, false, List, [], ◌⊎◌, Option, Some, None, Result, Ok, Err, MatchResult, ⊤, if◌then◌else◌, option_map}
+use Rattle.std.specs.Prelude.{◌≡◌, ◌≤◌, ℕ, Bool, List, [], ◌⊎◌, Option, Some, None, Result, Ok, Err, MatchResult, ⊤, if◌then◌else◌}
 use Rattle.std.specs.Io.KnownBytes.{Appends, Keeps}
 use Rattle.ltl_formula.specs.FormulaView.{FormulaView, reading_of}
 use Rattle.ltl_formula.specs.Streams.{AppendsBeginning}
 use Rattle.ltl_spec.specs.Formulas.Formula.{Reading}
-use Rattle.ltl_spec.specs.Formulas.Grammar.{IsTextOf}
-use Rattle.ltl_spec.specs.Semantics.Language.{AcceptsModels}
 use Rattle.ltl_spec.specs.Automata.Automaton.{Automaton}
 use Rattle.ltl_spec.specs.Automata.ClaimText.{never_text}
 use Rattle.ltl_spec.specs.Automata.HoaText.{hoa_text}
 use Rattle.ltl_spec.specs.Tools.Limits.{stated_limits}
 use Rattle.ltl_spec.specs.Tools.Refusal as spec
-use Rattle.ltl_spec.specs.Tools.Outcome.{Answer, FormulaWord, Input, IsGiven, IsPromised, IsShortOfMemory, TakesNoMemory, refused}
-use Rattle.ltl_spec.specs.Tools.Programs.{TranslatorPlan, TranslatorAnswers, TranslatorPrints}
+use Rattle.ltl_spec.specs.Tools.Outcome.{Answer, FormulaWord, Input, IsPromised, IsShortOfMemory, TakesNoMemory, refused}
+use Rattle.ltl_spec.specs.Tools.Programs.{TranslatorAnswers, TranslatorPrints}
 use Rattle.ltl_cli.specs.declared.refusal.Refusal.{Refusal}
 use Rattle.ltl_cli.specs.declared.refusal.Refusal.TheVariants.{OutOfMemory, CannotWrite}
 use Rattle.ltl_cli.specs.declared.status.Status.{Status}

@@ -1,5 +1,5 @@
 -- The command lines of the programs, as the library for command lines documents them, and what their words mean.
-use Rattle.std.specs.Prelude.{◌≡◌, ◌==◌, ℕ, Bool, true, false, not, List, [], ◌∷◌, Option, Some, None, codes, if◌then◌else◌}
+use Rattle.std.specs.Prelude.{ℕ, Bool, true, false, not, List, [], Option, Some, None, codes, if◌then◌else◌}
 use Rattle.std.specs.Str.{bytes_eq}
 use Rattle.std.specs.Option.{option_map_or}
 use Rattle.clap.specs.Words.{App, Row, Rule, Text, Kinds, fault_of, first_of, matches_of, new_app, new_rule, with_rule}
@@ -7,7 +7,7 @@ use Rattle.clap.specs.declared.builder.ArgAction.TheVariants.{Set, SetTrue}
 use Rattle.ltl_spec.specs.Construction.Translation.{Options}
 use Rattle.ltl_spec.specs.Tools.Refusal.{Tool, Translator, Checker, Evaluator}
 use Rattle.ltl_spec.specs.Tools.Outcome.{FormulaWord, Given, File}
-use Rattle.ltl_spec.specs.Tools.Programs.{Layout, Claim, Hoa, TranslatorPlan, CheckerPlan, EvaluatorPlan}
+use Rattle.ltl_spec.specs.Tools.Programs.{Claim, Hoa, TranslatorPlan, CheckerPlan, EvaluatorPlan}
 
 -- a word that stands alone
 abbrev pub flag_rule : Text → ℕ → Rule

@@ -3,6 +3,7 @@
 
 mod automaton;
 mod command;
+pub mod evaluate;
 mod finish;
 mod input;
 mod message;
@@ -14,6 +15,7 @@ pub mod tool;
 pub mod translate;
 mod words;
 
+pub use evaluate::run_eval;
 pub use refusal::Refusal;
 pub use request::{FormulaWord, Plan, PlanFault};
 pub use source::Source;

@@ -8,6 +8,8 @@ use crate::request::PlanFault;
 use crate::status::Status;
 use ltl_buchi::BaFault;
 use ltl_formula::{BuildFault, FaultKind, ReadFault, WriteFault};
+use ltl_word::WordFault;
+use std::alloc::AllocError;
 
 /// Why a program prints no result. Each has one message and one exit status.
 #[derive(Clone, Copy, Debug, PartialEq, Eq)]
@@ -108,6 +110,33 @@ impl From<BaFault> for Refusal {
             BaFault::TooLarge => Refusal::LargeAutomaton,
             BaFault::OutOfMemory => Refusal::OutOfMemory,
         }
+    }
+}
+
+impl From<WordFault> for Refusal {
+    ghost use Rattle.std.specs.Prelude.{◌≡◌};
+    ghost use Rattle.ltl_cli.specs.Refusals.{of_word};
+
+    ghost from_gives = { λ fault refusal. refusal ≡ of_word fault };
+
+    fn from(fault: WordFault) -> Refusal {
+        match fault {
+            WordFault::TooLong => Refusal::LongWord,
+            WordFault::BadWord(place) => Refusal::BadWord(place),
+            WordFault::TooManyPropositions => Refusal::TooManyPropositions,
+            WordFault::OutOfMemory => Refusal::OutOfMemory,
+        }
+    }
+}
+
+impl From<AllocError> for Refusal {
+    ghost use Rattle.std.specs.Prelude.{◌≡◌};
+    ghost use Rattle.ltl_cli.specs.declared.refusal.Refusal.TheVariants.{OutOfMemory};
+
+    ghost from_gives = { λ _ refusal. refusal ≡ OutOfMemory };
+
+    fn from(_: AllocError) -> Refusal {
+        Refusal::OutOfMemory
     }
 }
 

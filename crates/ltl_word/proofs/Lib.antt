@@ -1,0 +1,10 @@
+mod BackLaws
+mod BitLemmas
+mod LeastRows
+mod LetterLaws
+mod NameLaws
+mod NumberLaws
+mod RowLaws
+mod ScanLaws
+mod TextLaws
+mod WordLaws

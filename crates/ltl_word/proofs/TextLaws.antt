@@ -1,0 +1,170 @@
+-- Texts that go out piece by piece.
+use Rattle.std.proofs.Common.{◌≡◌, ◌∙◌, ap, ap₂, sym, refl, subst, ℕ, zero, suc, ◌+◌, ◌<◌, ◌≤◌, arith, List, [], ◌∷◌, ◌++◌, length, map, take, drop, append_assoc, Option, Some, None}
+use Rattle.std.specs.Prelude.{Result, Ok, Err, OnOk, OnErr, slice_index_or, codes, flat_map}
+use Rattle.std.specs.Io.KnownBytes.{Appends}
+use Rattle.std.proofs.lemmas.List.{append-nil}
+use Rattle.ltl_formula.specs.Streams.{AppendsBeginning}
+use Rattle.ltl_formula.proofs.StreamLemmas.{on_err, appends_trans, beginning_of_first, beginning_after}
+use Rattle.ltl_spec.specs.Collections.Lists.{joined_by}
+use Rattle.ltl_spec.specs.Words.LassoText.{letter_text, lasso_text}
+use Rattle.ltl_word.specs.LassoView.{letter_of, lasso_of}
+use Rattle.ltl_spec.specs.Semantics.Word.{Name, Lasso}
+use Rattle.std.specs.List.{AllByRecursion}
+use Rattle.ltl_spec.proofs.Collections.SetLaws.{all_at}
+use Rattle.ltl_spec.proofs.Collections.ListLaws.{Has-at}
+
+-- two pieces
+
+module _ {T E : Type 0} (r : Result T E) (o m n : Option (List ℕ)) (a b : List ℕ) where
+  pub first_stops : AppendsBeginning o n a → OnErr r (AppendsBeginning o n (a ++ b))
+  first_stops h = on_err r (beginning_of_first o n a b h)
+
+  pub second_stops : Appends o m a → AppendsBeginning m n b → OnErr r (AppendsBeginning o n (a ++ b))
+  second_stops h k = on_err r (beginning_after o m n a b h k)
+
+  pub both_sent : Appends o m a → OnOk r (Appends m n b) → OnOk r (Appends o n (a ++ b))
+  both_sent = at r
+    where
+      at : (s : Result T E) → Appends o m a → OnOk s (Appends m n b) → OnOk s (Appends o n (a ++ b))
+      at (Ok x) h k = appends_trans o m n a b h k
+      at (Err x) h k = tt
+
+  pub both_stop : Appends o m a → OnErr r (AppendsBeginning m n b) → OnErr r (AppendsBeginning o n (a ++ b))
+  both_stop = at r
+    where
+      at : (s : Result T E) → Appends o m a → OnErr s (AppendsBeginning m n b) → OnErr s (AppendsBeginning o n (a ++ b))
+      at (Ok x) h k = tt
+      at (Err x) h k = beginning_after o m n a b h k
+
+-- what is left of the whole
+
+pub record Leaves (old new : Option (List ℕ)) (rest whole : List ℕ) : Type 0 where
+  pub done : List ℕ
+  pub appended : Appends old new done
+  pub same : done ++ rest ≡ whole
+
+nothing : (o : Option (List ℕ)) → Appends o o []
+nothing None = tt
+nothing (Some x) = sym (append-nil x)
+
+pub leaves_all : (o : Option (List ℕ)) (whole : List ℕ) → Leaves o o whole whole
+leaves_all o whole = record { done = []; appended = nothing o; same = refl }
+
+module _ {o m : Option (List ℕ)} {left whole : List ℕ} (h : Leaves o m left whole) where
+  pub leaves_step : (n : Option (List ℕ)) (piece rest : List ℕ) → left ≡ piece ++ rest → Appends m n piece → Leaves o n rest whole
+  leaves_step n piece rest e a = record {
+    done = h.done ++ piece;
+    appended = appends_trans o m n h.done piece h.appended a;
+    same = append_assoc h.done piece rest ∙ ap (λ t. h.done ++ t) (sym e) ∙ h.same;
+  }
+
+  pub leaves_stops : {T E : Type 0} (r : Result T E) (n : Option (List ℕ)) (piece rest : List ℕ) → left ≡ piece ++ rest → AppendsBeginning m n piece → OnErr r (AppendsBeginning o n whole)
+  leaves_stops r n piece rest e b =
+      on_err r (subst (AppendsBeginning o n) (append_assoc h.done piece rest ∙ ap (λ t. h.done ++ t) (sym e) ∙ h.same) (beginning_of_first o n (h.done ++ piece) rest (beginning_after o m n h.done piece h.appended b)))
+
+  pub leaves_done : left ≡ [] → Appends o m whole
+  leaves_done e = subst (Appends o m) (sym (append-nil h.done) ∙ ap (λ t. h.done ++ t) (sym e) ∙ h.same) h.appended
+
+  -- the last piece
+  pub leaves_ok : {T E : Type 0} (r : Result T E) (n : Option (List ℕ)) → OnOk r (Appends m n left) → OnOk r (Appends o n whole)
+  leaves_ok {T = T} {E = E} r n = at r
+    where
+      at : (s : Result T E) → OnOk s (Appends m n left) → OnOk s (Appends o n whole)
+      at (Ok x) a = subst (Appends o n) h.same (appends_trans o m n h.done left h.appended a)
+      at (Err x) a = tt
+
+  pub leaves_err : {T E : Type 0} (r : Result T E) (n : Option (List ℕ)) → OnErr r (AppendsBeginning m n left) → OnErr r (AppendsBeginning o n whole)
+  leaves_err {T = T} {E = E} r n = at r
+    where
+      at : (s : Result T E) → OnErr s (AppendsBeginning m n left) → OnErr s (AppendsBeginning o n whole)
+      at (Ok x) a = tt
+      at (Err x) a = subst (AppendsBeginning o n) h.same (beginning_after o m n h.done left h.appended a)
+
+-- the texts
+
+-- the first piece, and then the others, with this in front of each
+pub joined_first : (between : List ℕ) (x : List ℕ) (xs : List (List ℕ)) → joined_by between (x ∷ xs) ≡ x ++ flat_map (λ y. between ++ y) xs
+joined_first between x [] = sym (append-nil x)
+joined_first between x (y ∷ ys) =
+    let rest = flat_map (λ z. between ++ z) ys in
+    append_assoc x between (joined_by between (y ∷ ys)) ∙ ap (λ t. x ++ (between ++ t)) (joined_first between y ys) ∙ ap (λ t. x ++ t) (sym (append_assoc between y rest))
+
+-- one element more
+pub flat_drop : {X : Type 0} (f : X → List ℕ) (xs : List X) (i : ℕ) (x d : X) → i < length xs → slice_index_or xs i d ≡ x → flat_map f (drop i xs) ≡ f x ++ flat_map f (drop (i + 1) xs)
+flat_drop f [] i x d l e = absurd (omega arith)
+flat_drop f (y ∷ ys) zero x d l e = ap (λ z. f z ++ flat_map f ys) e ∙ ap (λ zs. f x ++ flat_map f zs) (all ys)
+  where
+    all : {X : Type 0} (zs : List X) → zs ≡ drop 0 zs
+    all [] = refl
+    all (z ∷ zs) = refl
+flat_drop f (y ∷ ys) (suc i) x d l e =
+    let s : suc (i + 1) ≡ suc i + 1 = omega arith in
+    let m : i < length ys = omega arith in
+    flat_drop f ys i x d m e ∙ ap (λ k. f x ++ flat_map f (drop k (y ∷ ys))) s
+
+pub flat_begun : {X : Type 0} (f : X → List ℕ) (xs : List X) → flat_map f xs ≡ flat_map f (drop 0 xs)
+flat_begun f [] = refl
+flat_begun f (x ∷ xs) = refl
+
+pub flat_done : {X : Type 0} (f : X → List ℕ) (xs : List X) (i : ℕ) → length xs ≤ i → flat_map f (drop i xs) ≡ []
+flat_done f [] zero l = refl
+flat_done f [] (suc i) l = refl
+flat_done f (x ∷ xs) zero l = absurd (omega arith)
+flat_done f (x ∷ xs) (suc i) l = flat_done f xs i (omega arith)
+
+pub flat_mapped : {X Y : Type 0} (f : Y → List ℕ) (g : X → Y) (xs : List X) → flat_map f (map g xs) ≡ flat_map (λ x. f (g x)) xs
+flat_mapped f g [] = refl
+flat_mapped f g (x ∷ xs) = ap (λ t. f (g x) ++ t) (flat_mapped f g xs)
+
+-- names
+
+pub other_name : (names : List Name) (places : List ℕ) (p : ℕ) (ps : List ℕ) (name : Name) → places ≡ p ∷ ps → slice_index_or names p [] ≡ name
+    → flat_map (λ n. codes "," ++ n) (letter_of names places) ≡ (codes "," ++ name) ++ flat_map (λ n. codes "," ++ n) (letter_of names ps)
+other_name names places p ps name e f = ap (λ qs. flat_map (λ n. codes "," ++ n) (letter_of names qs)) e ∙ ap (λ m. (codes "," ++ m) ++ flat_map (λ n. codes "," ++ n) (letter_of names ps)) f
+
+pub first_name : (names : List Name) (places : List ℕ) (p : ℕ) (ps : List ℕ) (name : Name) → places ≡ p ∷ ps → slice_index_or names p [] ≡ name
+    → joined_by (codes ",") (letter_of names places) ≡ name ++ flat_map (λ n. codes "," ++ n) (letter_of names ps)
+first_name names places p ps name e f =
+    ap (λ qs. joined_by (codes ",") (letter_of names qs)) e ∙ joined_first (codes ",") (slice_index_or names p []) (letter_of names ps) ∙ ap (λ m. m ++ flat_map (λ n. codes "," ++ n) (letter_of names ps)) f
+
+-- letters
+
+pub row_inside : (P : List ℕ → Type 0) (rows : List (List ℕ)) (row : List ℕ) (i : ℕ) → AllByRecursion P rows → i < length rows → row ≡ slice_index_or rows i row → P row
+row_inside P rows row i h l e = subst P (sym e) (all_at P rows (slice_index_or rows i row) h (Has-at rows i row l))
+
+pub flat_starts : (o : Option (List ℕ)) (f : List Name → List ℕ) (g : List ℕ → List Name) (rows : List (List ℕ)) → Leaves o o (flat_map (λ r. f (g r)) (drop 0 rows)) (flat_map f (map g rows))
+flat_starts o f g rows = subst (λ t. Leaves o o t (flat_map f (map g rows))) (flat_mapped f g rows ∙ flat_begun (λ r. f (g r)) rows) (leaves_all o (flat_map f (map g rows)))
+
+pub two_pieces : (f : List ℕ → List ℕ) (rows : List (List ℕ)) (row : List ℕ) (i : ℕ) (a b : List ℕ) → f row ≡ a ++ b → i < length rows → row ≡ slice_index_or rows i row → flat_map f (drop i rows) ≡ a ++ (b ++ flat_map f (drop (i + 1) rows))
+two_pieces f rows row i a b q l e = flat_drop f rows i row row l (sym e) ∙ ap (λ t. t ++ flat_map f (drop (i + 1) rows)) q ∙ append_assoc a b (flat_map f (drop (i + 1) rows))
+
+pub first_letter : (names : List Name) (rows : List (List ℕ)) (r : List ℕ) (rs : List (List ℕ)) → rows ≡ r ∷ rs
+    → joined_by (codes "; ") (map letter_text (map (letter_of names) rows)) ≡ letter_text (letter_of names r) ++ flat_map (λ a. codes "; " ++ letter_text a) (map (letter_of names) rs)
+first_letter names rows r rs e =
+    ap (λ qs. joined_by (codes "; ") (map letter_text (map (letter_of names) qs))) e
+    ∙ joined_first (codes "; ") (letter_text (letter_of names r)) (map letter_text (map (letter_of names) rs))
+    ∙ ap (λ t. letter_text (letter_of names r) ++ t) (flat_mapped (λ y. codes "; " ++ y) letter_text (map (letter_of names) rs))
+
+-- the word
+
+abbrev pub stem_text : List Name → List (List ℕ) → List ℕ
+stem_text names rows = flat_map (λ a. letter_text a ++ codes "; ") (map (letter_of names) rows)
+
+abbrev pub cycle_text : List Name → List (List ℕ) → List ℕ
+cycle_text names rows = joined_by (codes "; ") (map letter_text (map (letter_of names) rows))
+
+pub word_text : (names : List Name) (rows : List (List ℕ)) (stem : ℕ) (w : Lasso) → lasso_of names rows stem ≡ w → (first second : List (List ℕ)) → first ≡ take stem rows → second ≡ drop stem rows
+    → lasso_text w ≡ stem_text names first ++ (codes "cycle " ++ cycle_text names second)
+word_text names rows stem w v first second e f =
+    ap lasso_text (sym v)
+    ∙ append_assoc (stem_text names (take stem rows)) (codes "cycle ") (cycle_text names (drop stem rows))
+    ∙ ap₂ (λ xs ys. stem_text names xs ++ (codes "cycle " ++ cycle_text names ys)) (sym e) (sym f)
+
+pub rest_inside : (P : List ℕ → Type 0) (rows : List (List ℕ)) (n : ℕ) → AllByRecursion P rows → AllByRecursion P (drop n rows)
+rest_inside P [] zero h = h
+rest_inside P (r ∷ rs) zero h = h
+rest_inside P [] (suc n) h = h
+rest_inside P (r ∷ rs) (suc n) h = rest_inside P rs n h.1
+
+pub two_there : (f : List ℕ → List ℕ) (rows : List (List ℕ)) (i : ℕ) (a b : List ℕ) → f (slice_index_or rows i []) ≡ a ++ b → i < length rows → flat_map f (drop i rows) ≡ a ++ (b ++ flat_map f (drop (i + 1) rows))
+two_there f rows i a b q l = flat_drop f rows i (slice_index_or rows i []) [] l refl ∙ ap (λ t. t ++ flat_map f (drop (i + 1) rows)) q ∙ append_assoc a b (flat_map f (drop (i + 1) rows))

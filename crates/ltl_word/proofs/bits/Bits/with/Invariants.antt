@@ -1,0 +1,12 @@
+use Rattle.std.proofs.Common.{◌≡◌, ℕ, ◌<◌, nat_eq, length}
+use Rattle.std.specs.Prelude.{slice_index}
+use Rattle.std.specs.Int.{bit_at}
+use Rattle.ltl_word.specs.Rows.{joined}
+use Rattle.ltl_word.proofs.bits.Bits.with.Given as goal
+
+abbrev pub invariant-loop-i : goal.invariant-loop-i
+invariant-loop-i g l = record {
+  long : length l.words.items ≡ l.i;
+  each : (k : ℕ) → k < length l.words.items → (j : ℕ) → j < 64
+      → nat_eq (bit_at (slice_index l.words.items k) j) 1 ≡ joined l.junction (nat_eq (bit_at (slice_index l.self k) j) 1) (nat_eq (bit_at (slice_index l.right k) j) 1);
+}

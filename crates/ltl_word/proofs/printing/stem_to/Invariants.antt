@@ -1,0 +1,10 @@
+use Rattle.std.proofs.Common.{◌++◌, map, drop}
+use Rattle.std.specs.Prelude.{codes, flat_map}
+use Rattle.ltl_spec.specs.Words.LassoText.{letter_text}
+use Rattle.ltl_word.specs.LassoView.{letter_of}
+use Rattle.ltl_word.proofs.TextLaws.{Leaves}
+use Rattle.ltl_word.proofs.printing.stem_to.Given as goal
+
+abbrev pub invariant-loop-i : goal.invariant-loop-i
+invariant-loop-i g l =
+    Leaves (g.W.Write.contents l.fn.w) (g.W.Write.contents l.w) (flat_map (λ r. letter_text (letter_of (map (λ n. n.items) l.names) r) ++ codes "; ") (drop l.i l.letters)) (flat_map (λ a. letter_text a ++ codes "; ") (map (letter_of (map (λ n. n.items) l.names)) l.letters))

@@ -1,0 +1,7 @@
+pub mod Evaluation
+pub mod LassoView
+pub mod LeastView
+pub mod NameView
+pub mod ReadText
+pub mod Rows
+pub mod WrittenView

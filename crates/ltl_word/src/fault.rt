@@ -1,0 +1,37 @@
+//! Why a text is not read as a word.
+
+use std::alloc::{AllocError, AllocFailed};
+
+/// Why a text is not read as a word. Of several reasons the first of these is told.
+#[derive(Clone, Copy, Debug, PartialEq, Eq)]
+pub enum WordFault {
+    /// The text has more than `TEXT_LIMIT` bytes.
+    TooLong,
+    /// No word's text goes on as this one does at the byte of that number.
+    BadWord(usize),
+    /// The word and the formula together have more than `NAME_LIMIT` propositions.
+    TooManyPropositions,
+    OutOfMemory,
+}
+
+impl From<AllocError> for WordFault {
+    ghost use Rattle.std.specs.Prelude.{◌≡◌};
+    ghost use Rattle.ltl_word.specs.declared.fault.WordFault.TheVariants.{OutOfMemory};
+
+    ghost from_gives = { λ _ fault. fault ≡ OutOfMemory };
+
+    fn from(_: AllocError) -> WordFault {
+        WordFault::OutOfMemory
+    }
+}
+
+impl<T: Drop> From<AllocFailed<T>> for WordFault {
+    ghost use Rattle.std.specs.Prelude.{◌≡◌};
+    ghost use Rattle.ltl_word.specs.declared.fault.WordFault.TheVariants.{OutOfMemory};
+
+    ghost from_gives = { λ _ fault. fault ≡ OutOfMemory };
+
+    fn from(_: AllocFailed<T>) -> WordFault {
+        WordFault::OutOfMemory
+    }
+}

@@ -1,0 +1,94 @@
+//! Ultimately periodic words.
+
+ghost use Rattle.std.specs.Prelude.{◌≡◌, ◌≢◌, ◌<◌, ◌≤◌, ℕ, IfOk, IsTrue, [], length, map, slice_index_or};
+ghost use Rattle.ltl_spec.specs.Collections.Sets.{has};
+ghost use Rattle.ltl_spec.specs.Semantics.Word.{letter_at, name_cmp};
+ghost use Rattle.ltl_word.specs.LassoView.{size};
+ghost use Rattle.ltl_word.specs.Rows.{IsRow};
+
+use crate::bits::Bits;
+use crate::name::is_same;
+use ltl_sets::RowSet;
+use std::alloc::{AllocError, Allocator};
+use std::marker::Model;
+
+/// An ultimately periodic word: the letters of a stem, and then those of a cycle for ever. A letter is the set of the names that are
+/// true there.
+#[derive(Drop)]
+pub struct Lasso<'a, A: Allocator> {
+    pub(crate) names: Vec<Vec<u8, &'a A>, &'a A>,
+    pub(crate) letters: Vec<RowSet, &'a A>,
+    pub(crate) stem: usize,
+}
+
+impl<'a, A: Allocator> Model for Lasso<'a, A> {
+    ghost use Rattle.std.specs.Prelude.{map};
+    ghost use Rattle.ltl_spec.specs.Semantics.Word as word;
+    ghost use Rattle.ltl_word.specs.LassoView.{lasso_of, IsMade};
+
+    ghost Value = { word.Lasso };
+
+    ghost view = { λ w. lasso_of (map (λ n. n.items) w.names.items) w.letters.items w.stem };
+
+    ghost invariant = { λ w. IsMade (map (λ n. n.items) w.names.items) w.letters.items w.stem };
+}
+
+impl<'a, A: Allocator> Lasso<'a, A> {
+    /// How many letters are written, those of the stem and of the cycle.
+    #[tactic(auto, using(crate::proofs::LetterLaws::size_is))]
+    pub(crate) fn len(&self) -> usize
+        ensures { result ≡ size self.now }
+    {
+        self.letters.len()
+    }
+
+    /// The first position.
+    #[tactic(auto, using(crate::proofs::LetterLaws::size_is))]
+    pub(crate) fn first(&self) -> usize
+        ensures first { result ≡ 0 }
+        ensures within { result < size self.now }
+    {
+        let _ = &self.letters;
+        0
+    }
+
+    /// How many letters the stem has.
+    #[tactic(auto, using(crate::proofs::LetterLaws::size_is, crate::proofs::LetterLaws::stem_is))]
+    pub(crate) fn stem_len(&self) -> usize
+        ensures stem { result ≡ length self.now.stem }
+        ensures cycle { result < size self.now }
+    {
+        self.stem
+    }
+
+    /// The row of the positions where the name is true.
+    pub(crate) fn row_of_name<'r>(
+        &self,
+        alloc: &'r A,
+        name: &[u8],
+    ) -> Result<Bits<'r, A>, AllocError>
+        ensures { IfOk result (IsRow (size self.now) (λ i. IsTrue (has name_cmp name.now (letter_at self.now i)))) }
+    {
+        let place = place_of(self.names.as_slice(), name);
+        let mut row = Bits::all(alloc, self.letters.len(), false)?;
+        let mut i = self.letters.len();
+        'positions: while i > 0 {
+            i -= 1;
+            row.insert_if(i, self.letters[i].contains(place));
+        }
+        Ok(row)
+    }
+}
+
+/// Where the name stands, or the length.
+fn place_of<A: Allocator>(names: &[Vec<u8, &A>], name: &[u8]) -> usize
+    ensures within { result ≤ length names.now }
+    ensures found { result < length names.now → slice_index_or (map (λ n. n.items) names.now) result [] ≡ name.now }
+    ensures earlier { (k : ℕ) → k < result → slice_index_or (map (λ n. n.items) names.now) k [] ≢ name.now }
+{
+    let mut at = 0;
+    'names: while at < names.len() && !is_same(names[at].as_slice(), name) {
+        at += 1;
+    }
+    at
+}

@@ -1,0 +1,81 @@
+//! The least form of a word.
+
+ghost use Rattle.std.specs.Prelude.{◌≡◌, ◌+◌, ◌<◌, ◌≤◌, length, map, IfOk};
+ghost use Rattle.std.specs.Bool.{Decides};
+ghost use Rattle.ltl_spec.specs.Words.LassoText.{IsLeastForm};
+ghost use Rattle.ltl_word.specs.LeastView.{Repeats, IsShortest, IsKept};
+
+use crate::lasso::Lasso;
+use ltl_sets::RowSet;
+use std::alloc::{AllocError, Allocator};
+
+/// Whether the letters are the first `d` of them, over and over.
+fn repeats(cycle: &[RowSet], d: usize) -> bool
+    requires { 0 < d }
+    ensures { Decides result (Repeats cycle.now d) }
+{
+    if cycle.len() % d != 0 {
+        return false;
+    }
+    for i in 0..cycle.len() {
+        if cycle[i] != cycle[i % d] {
+            return false;
+        }
+    }
+    true
+}
+
+/// How many letters the shortest list has that these repeat.
+fn shortest(cycle: &[RowSet]) -> usize
+    requires { 0 < length cycle.now }
+    ensures { IsShortest cycle.now result }
+{
+    let mut d = 1;
+    'lengths: while d < cycle.len() && !repeats(cycle, d) {
+        d += 1;
+    }
+    d
+}
+
+/// How many letters of the stem are left, where a cycle of `d` letters takes over those that it can.
+fn kept(letters: &[RowSet], stem: usize, d: usize) -> usize
+    requires { stem + d ≤ length letters.now }
+    ensures { IsKept letters.now stem d result }
+{
+    let mut keep = stem;
+    'letters: while keep > 0 && letters[keep - 1] == letters[keep - 1 + d] {
+        keep -= 1;
+    }
+    keep
+}
+
+/// The names once more.
+fn copied<'a, A: Allocator>(
+    alloc: &'a A,
+    names: &[Vec<u8, &A>],
+) -> Result<Vec<Vec<u8, &'a A>, &'a A>, AllocError>
+    ensures { IfOk result (λ copied. map (λ n. n.items) copied.items ≡ map (λ n. n.items) names.now) }
+{
+    let mut copied = Vec::new(alloc);
+    for i in 0..names.len() {
+        copied.push(Vec::from_slice(alloc, names[i].as_slice())?)?;
+    }
+    Ok(copied)
+}
+
+impl<'a, A: Allocator> Lasso<'a, A> {
+    /// The same word in least form. Only lengths that divide the cycle's are tried, each once round the cycle.
+    pub fn least(&self, alloc: &'a A) -> Result<Lasso<'a, A>, AllocError>
+        ensures { IfOk result (λ w. IsLeastForm self.now w) }
+    {
+        let d = shortest(&self.letters[self.stem..]);
+        let stem = kept(self.letters.as_slice(), self.stem, d);
+        let letters = Vec::from_slice(alloc, &self.letters[..stem + d])?;
+        let names = copied(alloc, self.names.as_slice())?;
+        Ok(Lasso {
+            names,
+            letters,
+            stem,
+        })
+    }
+}

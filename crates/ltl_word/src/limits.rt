@@ -1,0 +1,7 @@
+//! Limits of words.
+
+/// How many bytes the text of a word may have.
+pub const TEXT_LIMIT: usize = 65_536;
+
+/// How many propositions a word may have, those of a formula included.
+pub const NAME_LIMIT: usize = 64;

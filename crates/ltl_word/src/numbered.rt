@@ -1,0 +1,80 @@
+//! Words whose letters are sets of numbers of names.
+
+ghost use Rattle.std.specs.Prelude.{◌≡◌, ◌<◌, ◌≤◌, ◌++◌, [], length, map, All, IfOk, IsTrue};
+ghost use Rattle.std.specs.List.{AllByRecursion, list_all};
+ghost use Rattle.ltl_spec.specs.Formulas.Names.{is_proposition};
+ghost use Rattle.ltl_word.specs.LassoView.{letter_of, word_with};
+ghost use Rattle.ltl_word.specs.NameView.{with_names};
+
+use crate::lasso::Lasso;
+use crate::name_list::NameList;
+use crate::written::{Letters, Written};
+use ltl_sets::RowSet;
+use std::alloc::{AllocError, Allocator};
+
+/// The names with these numbers.
+fn names_at<'t, 'a, A: Allocator>(
+    alloc: &'a A,
+    names: &[&'t str],
+    numbers: &RowSet,
+) -> Result<Vec<&'t [u8], &'a A>, AllocError>
+    requires { AllByRecursion (λ i. i < length names.now) numbers.now }
+    ensures { IfOk result (λ letter. map (λ n. n.now) letter.items ≡ letter_of (map (λ n. n.now) names.now) numbers.now) }
+{
+    let mut letter = Vec::new(alloc);
+    for i in numbers.iter() {
+        letter.push(names[i].as_bytes())?;
+    }
+    Ok(letter)
+}
+
+/// The letters as lists of names.
+fn letters_at<'t, 'a, A: Allocator>(
+    alloc: &'a A,
+    names: &[&'t str],
+    rows: &[RowSet],
+) -> Result<Letters<'t, 'a, A>, AllocError>
+    requires { AllByRecursion (AllByRecursion (λ i. i < length names.now)) rows.now }
+    ensures { IfOk result (λ letters. map (λ a. map (λ n. n.now) a.items) letters.items ≡ map (letter_of (map (λ n. n.now) names.now)) rows.now) }
+{
+    let mut letters = Vec::new(alloc);
+    for i in 0..rows.len() {
+        letters.push(names_at(alloc, names, &rows[i])?)?;
+    }
+    Ok(letters)
+}
+
+/// The names as a set.
+fn name_set<'t, 'a, A: Allocator>(
+    alloc: &'a A,
+    names: &[&'t str],
+) -> Result<NameList<'t, 'a, A>, AllocError>
+    ensures { IfOk result (λ set. set ≡ with_names [] (map (λ n. n.now) names.now)) }
+{
+    let mut set = NameList::new(alloc);
+    for i in 0..names.len() {
+        set.put(names[i].as_bytes())?;
+    }
+    Ok(set)
+}
+
+impl<'a, A: Allocator> Lasso<'a, A> {
+    /// The word of these letters, which are sets of numbers in the list of names.
+    pub fn new(
+        alloc: &'a A,
+        names: &[&str],
+        stem: &[RowSet],
+        cycle: &[RowSet],
+    ) -> Result<Lasso<'a, A>, AllocError>
+        requires propositions { IsTrue (list_all is_proposition (map (λ n. n.now) names.now)) }
+        requires few { length names.now ≤ 64 }
+        requires within { All (All (λ i. i < length names.now)) (stem.now ++ cycle.now) }
+        requires cycles { 0 < length cycle.now }
+        ensures { IfOk result (λ w. w ≡ word_with (map (λ n. n.now) names.now) stem.now cycle.now) }
+    {
+        let set = name_set(alloc, names)?;
+        let stem = letters_at(alloc, names, stem)?;
+        let cycle = letters_at(alloc, names, cycle)?;
+        Lasso::from_written(alloc, &set, &Written::of_letters(alloc, stem, cycle))
+    }
+}

@@ -1,0 +1,30 @@
+//! Reading a word from its text.
+
+ghost use Rattle.std.specs.Prelude.{MatchResult};
+ghost use Rattle.ltl_word.specs.ReadText.{IsReadAs, IsRefusedFor};
+
+use crate::fault::WordFault;
+use crate::lasso::Lasso;
+use crate::limits::TEXT_LIMIT;
+use crate::name_list::gather;
+use crate::scan::read_letters;
+use ltl_formula::Formula;
+use std::alloc::Allocator;
+
+impl<'a, A: Allocator> Lasso<'a, A> {
+    /// Reads a word that is to be looked at with the formula. The text is gone over once, with no recursion.
+    pub fn read(
+        alloc: &'a A,
+        text: &[u8],
+        formula: &Formula<'_, A>,
+    ) -> Result<Lasso<'a, A>, WordFault>
+        ensures { MatchResult result (IsReadAs formula.now.names text.now) (IsRefusedFor formula.now.names text.now) }
+    {
+        if text.len() > TEXT_LIMIT {
+            return Err(WordFault::TooLong);
+        }
+        let word = read_letters(alloc, text)?;
+        let names = gather(alloc, formula, &word)?;
+        Ok(Lasso::from_written(alloc, &names, &word)?)
+    }
+}

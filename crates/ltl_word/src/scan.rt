@@ -1,0 +1,191 @@
+//! Reading the text of a word byte by byte.
+
+ghost use Rattle.std.specs.Prelude.{◌≡◌, ℕ, ◌+◌, ◌<◌, ◌≤◌, List, [], ◌∷◌, ◌++◌, if◌then◌else◌, ◌==◌, length, slice_index, IfOk, IfSome, Some, None, MatchResult};
+ghost use Rattle.std.specs.Option.{option_map};
+ghost use Rattle.ltl_spec.specs.Formulas.Tokens.{is_lower};
+ghost use Rattle.ltl_spec.proofs.Words.LassoTextLaws as machine;
+ghost use Rattle.ltl_word.specs.WrittenView.{WrittenView, NextIs, IsInside, after, place_of};
+ghost use Rattle.ltl_word.specs.declared.place.Place.TheVariants as places;
+ghost use Rattle.ltl_word.specs.ReadText.{IsWritten, RefusesLetters};
+
+use crate::fault::WordFault;
+use crate::name::{is_lower, is_name_byte, is_proposition};
+use crate::place::Place;
+use crate::written::Written;
+use std::alloc::{AllocError, Allocator};
+
+/// Where a letter or the word `cycle ` has to begin.
+fn at_letter(in_cycle: bool, byte: u8) -> Option<Place>
+    ensures next { (text : List ℕ) (at : ℕ) (v : WrittenView) → v.in_cycle ≡ in_cycle → NextIs text at byte places.Letter v result v }
+    ensures inside { (at : ℕ) → IfSome result (IsInside at) }
+{
+    if byte == b'{' {
+        return Some(Place::FirstName);
+    }
+    if byte == b'c' && !in_cycle {
+        return Some(Place::InWord(b"ycle "));
+    }
+    None
+}
+
+/// Where a name has to begin.
+fn at_name(text: &[u8], at: usize) -> Option<Place>
+    requires { at < length text.now }
+    ensures next { (v : WrittenView) → NextIs text.now at (slice_index text.now at) places.Name v result v }
+    ensures inside { IfSome result (IsInside (at + 1)) }
+{
+    if is_lower(text[at]) {
+        Some(Place::InName(at))
+    } else {
+        None
+    }
+}
+
+/// Where one byte has to come.
+fn expect(byte: u8, wanted: u8, place: Place) -> Option<Place>
+    ensures { result ≡ (if byte == wanted then Some place else None) }
+{
+    if byte == wanted { Some(place) } else { None }
+}
+
+/// In the word `cycle `.
+fn in_word<A: Allocator>(
+    written: &mut Written<'_, '_, A>,
+    rest: &'static [u8],
+    byte: u8,
+) -> Option<Place>
+    ensures next { (text : List ℕ) (at : ℕ) → NextIs text at byte (places.InWord rest.entry) written.old result written.new }
+    ensures inside { (at : ℕ) → IfSome result (IsInside at) }
+{
+    let [first, rest @ ..] = rest else {
+        return None;
+    };
+    if byte != *first {
+        return None;
+    }
+    if rest.is_empty() {
+        written.turn();
+        return Some(Place::Letter);
+    }
+    Some(Place::InWord(rest))
+}
+
+/// Behind a whole name.
+fn end_name<'t, A: Allocator>(
+    written: &mut Written<'t, '_, A>,
+    name: &'t [u8],
+    byte: u8,
+) -> Result<Option<Place>, AllocError>
+    ensures next { IfOk result (λ next. (text : List ℕ) (at : ℕ) (b : machine.WordPlace) → machine.end_name (record (after text at places.Name written.old) { place = b }) (written.old.letter ++ name.now ∷ []) byte ≡ option_map (λ p. after text (at + 1) p written.new) next) }
+    ensures inside { IfOk result (λ next. (at : ℕ) → IfSome next (IsInside at)) }
+{
+    if byte == b',' {
+        written.push(name)?;
+        return Ok(Some(Place::Name));
+    }
+    if byte == b'}' {
+        written.push(name)?;
+        written.close()?;
+        return Ok(Some(Place::AfterLetter));
+    }
+    Ok(None)
+}
+
+/// Where a letter ends, or its first name has to begin.
+fn at_first_name<A: Allocator>(
+    written: &mut Written<'_, '_, A>,
+    text: &[u8],
+    at: usize,
+) -> Result<Option<Place>, AllocError>
+    requires { at < length text.now }
+    ensures next { IfOk result (λ next. NextIs text.now at (slice_index text.now at) places.FirstName written.old next written.new) }
+    ensures inside { IfOk result (λ next. IfSome next (IsInside (at + 1))) }
+{
+    if text[at] == b'}' {
+        written.clear();
+        written.close()?;
+        return Ok(Some(Place::AfterLetter));
+    }
+    Ok(at_name(text, at))
+}
+
+/// In a name that begins there.
+fn in_name<'t, A: Allocator>(
+    written: &mut Written<'t, '_, A>,
+    text: &'t [u8],
+    at: usize,
+    start: usize,
+) -> Result<Option<Place>, AllocError>
+    requires within { at < length text.now }
+    requires begins { start ≤ at }
+    ensures next { IfOk result (λ next. NextIs text.now at (slice_index text.now at) (places.InName start) written.old next written.new) }
+    ensures inside { IfOk result (λ next. IfSome next (IsInside (at + 1))) }
+{
+    let byte = text[at];
+    if is_name_byte(byte) {
+        return Ok(Some(Place::InName(start)));
+    }
+    let name = &text[start..at];
+    if is_proposition(name) {
+        return end_name(written, name, byte);
+    }
+    Ok(None)
+}
+
+/// Takes a byte, and tells what may come next, if some word's text goes on so.
+fn step<'t, A: Allocator>(
+    written: &mut Written<'t, '_, A>,
+    text: &'t [u8],
+    at: usize,
+    place: Place,
+) -> Result<Option<Place>, AllocError>
+    requires within { at < length text.now }
+    requires inside { IsInside at place }
+    ensures next { IfOk result (λ next. NextIs text.now at (slice_index text.now at) place written.old next written.new) }
+    ensures inside { IfOk result (λ next. IfSome next (IsInside (at + 1))) }
+{
+    let byte = text[at];
+    match place {
+        Place::Letter => Ok(at_letter(written.in_cycle, byte)),
+        Place::FirstName => at_first_name(written, text, at),
+        Place::Name => Ok(at_name(text, at)),
+        Place::InName(start) => in_name(written, text, at, start),
+        Place::AfterLetter => Ok(expect(byte, b';', Place::Blank)),
+        Place::Blank => Ok(expect(byte, b' ', Place::Letter)),
+        Place::InWord(rest) => Ok(in_word(written, rest, byte)),
+    }
+}
+
+/// Whether all of a word was read.
+fn is_finished(place: Place, in_cycle: bool) -> bool
+    ensures { (text : List ℕ) (at : ℕ) → result ≡ machine.is_finished (place_of text at place) in_cycle }
+{
+    match place {
+        Place::AfterLetter => in_cycle,
+        _ => false,
+    }
+}
+
+/// The letters of a word's text.
+pub(crate) fn read_letters<'t, 'a, A: Allocator>(
+    alloc: &'a A,
+    text: &'t [u8],
+) -> Result<Written<'t, 'a, A>, WordFault>
+    ensures { MatchResult result (IsWritten text.now) (RefusesLetters text.now) }
+{
+    let mut written = Written::new(alloc);
+    let mut place = Place::Letter;
+    let mut at = 0;
+    'bytes: while at < text.len() {
+        match step(&mut written, text, at, place)? {
+            Some(next) => place = next,
+            None => return Err(WordFault::BadWord(at)),
+        }
+        at += 1;
+    }
+    if is_finished(place, written.in_cycle) {
+        Ok(written)
+    } else {
+        Err(WordFault::BadWord(at))
+    }
+}

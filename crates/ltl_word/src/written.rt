@@ -1,0 +1,102 @@
+//! Words as they are written.
+
+ghost use Rattle.std.specs.Prelude.{◌≡◌, ℕ, List, [], ◌∷◌, ◌++◌, false, true, map, OnOk, IfOk};
+ghost use Rattle.ltl_spec.proofs.Words.LassoTextLaws as machine;
+ghost use Rattle.ltl_word.specs.WrittenView.{WrittenView, after};
+ghost use Rattle.ltl_word.specs.declared.place.Place.TheVariants.{AfterLetter};
+
+use std::alloc::{AllocError, Allocator};
+use std::marker::Model;
+
+/// Letters, of each the names in any order, also repeatedly.
+pub(crate) type Letters<'t, 'a, A> = Vec<Vec<&'t [u8], &'a A>, &'a A>;
+
+/// What is written of a word: whether it is in its cycle, the letters of the stem and of the cycle, and the names of an open letter.
+#[derive(Drop)]
+pub(crate) struct Written<'t, 'a, A: Allocator> {
+    alloc: &'a A,
+    pub(crate) in_cycle: bool,
+    pub(crate) stem: Letters<'t, 'a, A>,
+    pub(crate) cycle: Letters<'t, 'a, A>,
+    pub(crate) letter: Vec<&'t [u8], &'a A>,
+}
+
+impl<'t, 'a, A: Allocator> Model for Written<'t, 'a, A> {
+    ghost use Rattle.std.specs.Prelude.{map};
+    ghost use Rattle.ltl_word.specs.WrittenView.{WrittenView};
+
+    ghost Value = { WrittenView };
+
+    ghost view = { λ w. record {
+      in_cycle = w.in_cycle;
+      stem = map (λ a. map (λ n. n.now) a.items) w.stem.items;
+      cycle = map (λ a. map (λ n. n.now) a.items) w.cycle.items;
+      letter = map (λ n. n.now) w.letter.items;
+    } };
+}
+
+impl<'t, 'a, A: Allocator> Written<'t, 'a, A> {
+    pub(crate) fn new(alloc: &'a A) -> Written<'t, 'a, A>
+        ensures { result ≡ record { in_cycle = false; stem = []; cycle = []; letter = [] } }
+    {
+        Written {
+            alloc,
+            in_cycle: false,
+            stem: Vec::new(alloc),
+            cycle: Vec::new(alloc),
+            letter: Vec::new(alloc),
+        }
+    }
+
+    /// A word whose letters are all there.
+    pub(crate) fn of_letters(
+        alloc: &'a A,
+        stem: Letters<'t, 'a, A>,
+        cycle: Letters<'t, 'a, A>,
+    ) -> Written<'t, 'a, A>
+        ensures { result ≡ record { in_cycle = true; stem = map (λ a. map (λ n. n.now) a.items) stem.entry.items; cycle = map (λ a. map (λ n. n.now) a.items) cycle.entry.items; letter = [] } }
+    {
+        Written {
+            alloc,
+            in_cycle: true,
+            stem,
+            cycle,
+            letter: Vec::new(alloc),
+        }
+    }
+
+    /// Forgets the names of the open letter.
+    pub(crate) fn clear(&mut self)
+        ensures { self.new ≡ record self.old { letter = [] } }
+    {
+        self.letter.clear();
+    }
+
+    /// A name more in the open letter.
+    pub(crate) fn push(&mut self, name: &'t [u8]) -> Result<(), AllocError>
+        ensures { OnOk result (self.new ≡ record self.old { letter = self.old.letter ++ name.now ∷ [] }) }
+    {
+        self.letter.push(name)?;
+        Ok(())
+    }
+
+    /// Goes on with the cycle.
+    pub(crate) fn turn(&mut self)
+        ensures { self.new ≡ record self.old { in_cycle = true } }
+    {
+        self.in_cycle = true;
+    }
+
+    /// Ends the open letter.
+    pub(crate) fn close(&mut self) -> Result<(), AllocError>
+        ensures { OnOk result ((text : List ℕ) (at : ℕ) → after text at AfterLetter self.new ≡ machine.closed self.old.in_cycle self.old.stem self.old.cycle self.old.letter) }
+    {
+        let letter = std::mem::replace(&mut self.letter, Vec::new(self.alloc));
+        if self.in_cycle {
+            self.cycle.push(letter)?;
+        } else {
+            self.stem.push(letter)?;
+        }
+        Ok(())
+    }
+}
