@@ -3,7 +3,8 @@
 
 A run is an object: `args` (the words after the program's name), `stdin`, `files` (name to text; null is a folder, which opens and cannot be read),
 `stdout`, `stderr` and `status`, which are what the run has to give. Where more than one output is right, `stdout_begins` says how it has to begin.
-A text is a list of strings and pairs [string, how often]. With `output` the program writes to that file, as /dev/full, which takes no byte.
+A text is a list of strings, pairs [string, how often], and {"chain": n}, the states of
+an automaton: n of them, each with one edge to the next, and the last with one to itself. With `output` the program writes to that file, as /dev/full, which takes no byte.
 The last line is 'N passed, M failed'. Without an argument the programs are those that the gate built."""
 
 import json
@@ -16,8 +17,17 @@ TOP = os.path.dirname(os.path.dirname(os.path.abspath(__file__)))
 SECONDS = 60
 
 
+def part(form):
+    if isinstance(form, str):
+        return form.encode()
+    if isinstance(form, list):
+        return form[0].encode() * form[1]
+    last = form["chain"] - 1
+    return b"".join(b"State: %d\n[t] %d\n" % (k, min(k + 1, last)) for k in range(last + 1))
+
+
 def text(form):
-    return b"".join(it.encode() if isinstance(it, str) else it[0].encode() * it[1] for it in form)
+    return b"".join(map(part, form))
 
 
 def word(form):
