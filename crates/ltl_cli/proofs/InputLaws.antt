@@ -106,7 +106,7 @@ few_failed bs l = inr (inl (spec.CannotRead, rw (not_long bs l) refl, refl))
     not_long : (bs : List ℕ) → length bs < 65_537 → nat_lt 65_536 (length bs) ≡ false
     not_long bs l = grind (arith, l)
 
-failed_stream : (old new : Option (List ℕ)) (bs : List ℕ) → Consumes old new bs → IsStream old (outcome.Failed bs)
+pub failed_stream : (old new : Option (List ℕ)) (bs : List ℕ) → Consumes old new bs → IsStream old (outcome.Failed bs)
 failed_stream None new bs p = tt
 failed_stream (Some xs) (Some ys) bs p = (length bs, sym (ap (take (length bs)) p ∙ take-append_seam bs ys))
 failed_stream (Some xs) None bs p = absurd p

@@ -1,4 +1,5 @@
 pub mod AutomatonLaws
+pub mod CheckLaws
 pub mod EvaluationLaws
 pub mod InputLaws
 pub mod MessageLaws

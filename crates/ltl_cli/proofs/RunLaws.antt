@@ -133,6 +133,7 @@ only_memory code.LongWord h = absurd (omega (arith, h))
 only_memory code.LargeProduct h = absurd (omega (arith, h))
 only_memory (code.BadFormula place kind) h = absurd (omega (arith, h))
 only_memory (code.BadWord place) h = absurd (omega (arith, h))
+only_memory (code.BadAutomaton line kind) h = absurd (omega (arith, h))
 
 module _ (tool : spec.Tool) (Answers : Answer → Type 0) (TakesNone : Type 0) (o n mo mn : Option (List ℕ)) (status : ℕ) where
   pub run_shows : (r : Result Status Refusal) → IsOutcome tool Answers TakesNone o n r → status ≡ status_with r → AppendsBeginning mo mn (message_with tool r)

@@ -1,3 +1,4 @@
+pub mod Checks
 pub mod Evaluations
 pub mod Inputs
 pub mod Messages

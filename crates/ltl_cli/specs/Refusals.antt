@@ -6,10 +6,13 @@ use Rattle.ltl_formula.specs.declared.fault.ReadFault as read
 use Rattle.ltl_formula.specs.declared.build_fault.BuildFault as build
 use Rattle.ltl_buchi.specs.declared.fault.BaFault as translation
 use Rattle.ltl_word.specs.declared.fault.WordFault as word
+use Rattle.ltl_hoa.specs.TokenView as hoa_view
+use Rattle.ltl_hoa.specs.declared.fault.HoaFault as hoa
+use Rattle.ltl_check.specs.declared.fault.CheckFault as check
 use Rattle.ltl_cli.specs.declared.request.PlanFault as plan
 use Rattle.ltl_cli.specs.declared.tool.Tool as tool
 use Rattle.ltl_cli.specs.declared.refusal.Refusal.{Refusal}
-use Rattle.ltl_cli.specs.declared.refusal.Refusal.TheVariants.{Usage, CannotOpen, CannotRead, CannotWrite, OutOfMemory, LongFormula, BadFormula, TooManyPropositions, TooManyRows, TooManyElementaryRows, LargeAutomaton, LongWord, BadWord, LargeProduct}
+use Rattle.ltl_cli.specs.declared.refusal.Refusal.TheVariants.{Usage, CannotOpen, CannotRead, CannotWrite, OutOfMemory, LongFormula, BadFormula, TooManyPropositions, TooManyRows, TooManyElementaryRows, LargeAutomaton, LongWord, BadWord, BadAutomaton, LargeProduct}
 use Rattle.ltl_cli.specs.declared.status.Status as status
 
 abbrev pub tool_of : tool.Tool → spec.Tool
@@ -31,6 +34,7 @@ refusal_of TooManyElementaryRows = spec.TooManyElementaryRows
 refusal_of LargeAutomaton = spec.LargeAutomaton
 refusal_of LongWord = spec.LongWord
 refusal_of (BadWord place) = spec.BadWord place
+refusal_of (BadAutomaton line kind) = spec.BadAutomaton line (hoa_view.kind_of kind)
 refusal_of LargeProduct = spec.LargeProduct
 
 abbrev pub status_number : status.Status → ℕ
@@ -67,6 +71,16 @@ of_word word.TheVariants.TooLong = LongWord
 of_word (word.TheVariants.BadWord place) = BadWord place
 of_word word.TheVariants.TooManyPropositions = TooManyPropositions
 of_word word.TheVariants.OutOfMemory = OutOfMemory
+
+abbrev pub of_hoa : hoa.HoaFault → Refusal
+of_hoa (hoa.TheVariants.AtLine line kind) = BadAutomaton line kind
+of_hoa hoa.TheVariants.CannotRead = CannotRead
+of_hoa hoa.TheVariants.OutOfMemory = OutOfMemory
+
+abbrev pub of_check : check.CheckFault → Refusal
+of_check check.TheVariants.TooManyPropositions = TooManyPropositions
+of_check check.TheVariants.ProductTooLarge = LargeProduct
+of_check check.TheVariants.OutOfMemory = OutOfMemory
 
 -- A step of the definitions taken by code: the code has its value, or answers its refusal. Memory may be refused at any step
 abbrev pub Takes : {A F : Type 0} → (Result A spec.Refusal → Type 0) → (F → A) → Result F Refusal → Type 0

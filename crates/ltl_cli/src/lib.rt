@@ -2,6 +2,7 @@
 #![tactic(auto)]
 
 mod automaton;
+pub mod check;
 mod command;
 pub mod evaluate;
 mod finish;
@@ -15,6 +16,7 @@ pub mod tool;
 pub mod translate;
 mod words;
 
+pub use check::run_check;
 pub use evaluate::run_eval;
 pub use refusal::Refusal;
 pub use request::{FormulaWord, Plan, PlanFault};

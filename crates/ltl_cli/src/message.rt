@@ -4,6 +4,8 @@ ghost use Rattle.std.specs.Prelude.{◌≡◌, ◌++◌, List, ℕ, codes, OnOk,
 ghost use Rattle.std.specs.Io.KnownBytes.{Appends};
 ghost use Rattle.ltl_formula.specs.Streams.{AppendsBeginning};
 ghost use Rattle.ltl_formula.specs.ParserView.{kind_of};
+ghost use Rattle.ltl_hoa.specs.TokenView as hoa;
+ghost use Rattle.ltl_spec.specs.Hoa.HoaFaultKind.{hoa_fault_text};
 ghost use Rattle.ltl_spec.specs.Tools.Limits.{stated_limits};
 ghost use Rattle.ltl_spec.specs.Tools.Refusal as spec;
 ghost use Rattle.ltl_cli.specs.Messages.{back_text, front_text, number_in, number_text};
@@ -12,6 +14,7 @@ ghost use Rattle.ltl_cli.specs.Refusals.{refusal_of, tool_of};
 use crate::refusal::Refusal;
 use crate::tool::Tool;
 use ltl_formula::{FaultKind, WriteFault, write_whole};
+use ltl_hoa::HoaFaultKind;
 use ltl_text::Digits;
 use std::io::Write;
 
@@ -49,6 +52,25 @@ fn part(kind: FaultKind) -> &'static [u8]
     }
 }
 
+/// What stands behind the line of a fault in an automaton.
+fn automaton_part(kind: HoaFaultKind) -> &'static [u8]
+    ensures { result.now ≡ codes ": " ++ hoa_fault_text (hoa.kind_of kind) }
+{
+    match kind {
+        HoaFaultKind::NotHoaVersion1 => b": not HOA v1",
+        HoaFaultKind::BadToken => b": bad token",
+        HoaFaultKind::ItemTwice => b": item twice",
+        HoaFaultKind::ItemMissing => b": item missing",
+        HoaFaultKind::UnknownItem => b": unknown item",
+        HoaFaultKind::Unsupported => b": unsupported",
+        HoaFaultKind::NumberOutOfRange => b": number out of range",
+        HoaFaultKind::BadPropositionList => b": bad AP list",
+        HoaFaultKind::StateDefinedTwice => b": state defined twice",
+        HoaFaultKind::TextAfterEnd => b": text after the end",
+        HoaFaultKind::LimitPassed => b": limit passed",
+    }
+}
+
 /// The text of a refusal up to its number, and all of it where it has none.
 fn front(tool: Tool, refusal: Refusal) -> &'static [u8]
     ensures { result.now ≡ front_text (tool_of tool) (refusal_of refusal) }
@@ -67,6 +89,7 @@ fn front(tool: Tool, refusal: Refusal) -> &'static [u8]
         Refusal::LargeAutomaton => b"limit: automaton too large",
         Refusal::LongWord => b"limit: word longer than 65536 bytes",
         Refusal::BadWord(_) => b"word: byte ",
+        Refusal::BadAutomaton(_, _) => b"automaton: line ",
         Refusal::LargeProduct => b"limit: product too large",
     }
 }
@@ -78,6 +101,7 @@ fn number(refusal: Refusal) -> Option<usize>
     match refusal {
         Refusal::BadFormula(place, _) => Some(place),
         Refusal::BadWord(place) => Some(place),
+        Refusal::BadAutomaton(line, _) => Some(line),
         _ => None,
     }
 }
@@ -89,6 +113,7 @@ fn back(refusal: Refusal) -> &'static [u8]
     match refusal {
         Refusal::BadFormula(_, kind) => part(kind),
         Refusal::BadWord(_) => b": bad word",
+        Refusal::BadAutomaton(_, kind) => automaton_part(kind),
         _ => b"",
     }
 }

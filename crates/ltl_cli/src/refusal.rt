@@ -7,7 +7,9 @@ ghost use Rattle.ltl_cli.specs.Refusals.{of_plan, refusal_of, status_number};
 use crate::request::PlanFault;
 use crate::status::Status;
 use ltl_buchi::BaFault;
+use ltl_check::CheckFault;
 use ltl_formula::{BuildFault, FaultKind, ReadFault, WriteFault};
+use ltl_hoa::{HoaFault, HoaFaultKind};
 use ltl_word::WordFault;
 use std::alloc::AllocError;
 
@@ -40,6 +42,8 @@ pub enum Refusal {
     LongWord,
     /// No word's text goes on as this one does at the byte of that number.
     BadWord(usize),
+    /// The text is no automaton, for a fault in the line of that number.
+    BadAutomaton(usize, HoaFaultKind),
     /// The search for a word would be too large.
     LargeProduct,
 }
@@ -129,6 +133,21 @@ impl From<WordFault> for Refusal {
     }
 }
 
+impl From<HoaFault> for Refusal {
+    ghost use Rattle.std.specs.Prelude.{◌≡◌};
+    ghost use Rattle.ltl_cli.specs.Refusals.{of_hoa};
+
+    ghost from_gives = { λ fault refusal. refusal ≡ of_hoa fault };
+
+    fn from(fault: HoaFault) -> Refusal {
+        match fault {
+            HoaFault::AtLine(line, kind) => Refusal::BadAutomaton(line, kind),
+            HoaFault::CannotRead => Refusal::CannotRead,
+            HoaFault::OutOfMemory => Refusal::OutOfMemory,
+        }
+    }
+}
+
 impl From<AllocError> for Refusal {
     ghost use Rattle.std.specs.Prelude.{◌≡◌};
     ghost use Rattle.ltl_cli.specs.declared.refusal.Refusal.TheVariants.{OutOfMemory};
@@ -137,6 +156,21 @@ impl From<AllocError> for Refusal {
 
     fn from(_: AllocError) -> Refusal {
         Refusal::OutOfMemory
+    }
+}
+
+impl From<CheckFault> for Refusal {
+    ghost use Rattle.std.specs.Prelude.{◌≡◌};
+    ghost use Rattle.ltl_cli.specs.Refusals.{of_check};
+
+    ghost from_gives = { λ fault refusal. refusal ≡ of_check fault };
+
+    fn from(fault: CheckFault) -> Refusal {
+        match fault {
+            CheckFault::TooManyPropositions => Refusal::TooManyPropositions,
+            CheckFault::ProductTooLarge => Refusal::LargeProduct,
+            CheckFault::OutOfMemory => Refusal::OutOfMemory,
+        }
     }
 }
 

@@ -1,0 +1,11 @@
+pub mod WayLaws
+pub mod FirstPass
+pub mod SecondPass
+pub mod Costs
+pub mod FullWalkLaws
+pub mod RowSums
+pub mod JoinLaws
+pub mod ProductWalks
+pub mod VerdictLaws
+pub mod NameLaws
+pub mod PairSums

@@ -1,0 +1,119 @@
+-- The verdict of the check, from what the search finds.
+use Rattle.std.proofs.Common.{◌≡◌, ℕ, ◌+◌, ◌*◌, ◌/◌, ◌<◌, ◌≤◌, Bool, true, cond, List, [], ◌∷◌, ◌++◌, map, length, inl, inr, refl, sym, ◌∙◌, subst, arith}
+use Rattle.std.specs.Prelude.{All, filter}
+use Rattle.ltl_spec.specs.Collections.Sets.{Has}
+use Rattle.ltl_spec.specs.Transitions.Cubes.{Literal}
+use Rattle.ltl_spec.specs.Semantics.Word.{Name, Lasso}
+use Rattle.ltl_spec.specs.Formulas.Names.{unified}
+use Rattle.ltl_spec.specs.Words.LassoText.{IsLeastForm}
+use Rattle.ltl_spec.specs.Automata.Automaton.{Automaton, State, Edge, state_at}
+use Rattle.ltl_spec.specs.Hoa.HoaReading.{MarkedAutomaton}
+use Rattle.ltl_spec.specs.Checking.Product.{unified_number}
+use Rattle.ltl_spec.specs.Checking.Search.{lasso_along}
+use Rattle.ltl_spec.specs.Checking.Searched.{HasCommonWalk, printed_word}
+use Rattle.ltl_spec.specs.Checking.Check.{Contained, Violated, IsVerdict, IsCommon, graph_of, product_size}
+use Rattle.ltl_spec.specs.Checking.Bounds.{HasNamesBelow, IsBuchi, IsProper}
+use Rattle.ltl_spec.proofs.Collections.SetLaws.{append_cases, append_left, append_right, filter_cases}
+use Rattle.ltl_spec.proofs.Collections.ListLaws.{All-at_has, All-from_has, Has-at}
+use Rattle.ltl_spec.proofs.Collections.MemberLaws.{map_cases, map_length}
+use Rattle.ltl_spec.proofs.Automata.ListedStates.{no_state, has_edge_below}
+use Rattle.ltl_spec.proofs.Words.LeastLaws.{least_form_is}
+use Rattle.ltl_spec.proofs.Words.UniqueLaws.{least_unique}
+use Rattle.ltl_spec.proofs.Checking.CheckLaws.{common_lasso, both_below}
+use Rattle.ltl_spec.proofs.Checking.VerdictLaws.{contained_verdict, violated_verdict, graph_is_graph}
+use Rattle.ltl_hoa.specs.MarkedView.{IsMarked, IsEdgeWithin}
+use Rattle.ltl_buchi.specs.BaView.{IsBa}
+use Rattle.ltl_check.specs.declared.walk.Taken.{Taken}
+use Rattle.ltl_check.specs.Levels.{IsFullWalk, levels_net}
+use Rattle.ltl_check.specs.ProductView.{number_in, product_net, edge_pairs, pair_at, pair_count}
+use Rattle.ltl_check.specs.VerdictView.{letters_of, IsReachedCopy, chosen_pairs}
+use Rattle.ltl_word.specs.LassoView.{letter_with, word_with}
+use Rattle.ltl_check.specs.Explored.{sum_below, Reached}
+use Rattle.ltl_check.proofs.ProductWalks.{map_twice, found_walk, found_cubes, walk_found, reached_by_looks}
+
+-- what the types hold is what the laws of the check ask for
+pub proper_of : (A : MarkedAutomaton) → IsMarked A → IsProper A
+proper_of A m = record {
+  differ = m.differ;
+  marks = λ es e h k j o. All-at_has (λ i. i < A.sets) e.marks (edge es e h k).marks j o;
+  propositions = λ es e h k l o. All-at_has (λ (x : Literal). x.proposition < length A.names) e.cube (edge es e h k).cube l o;
+}
+  where
+    edge : (es : List Edge) (e : Edge) → Has A.edges es → Has es e → IsEdgeWithin (length A.names) A.states A.sets e
+    edge es e h k = All-at_has (IsEdgeWithin (length A.names) A.states A.sets) es (All-at_has (λ xs. All (IsEdgeWithin (length A.names) A.states A.sets) xs) A.edges m.within es h) e k
+
+pub buchi_of : (n : ℕ) (B : Automaton) → IsBa B → HasNamesBelow n B → IsBuchi n B
+buchi_of n B b named = record { sets = b.no_sets; begins = b.some; inside = inside; propositions = named }
+  where
+    inside : (s : ℕ) (e : Edge) → Has (state_at B s).edges e → e.target < length B.states
+    inside s e h =
+        let P : Edge → Type 0 = λ x. x.target < length B.states in
+        let Q : State → Type 0 = λ x. All P x.edges in
+        All-at_has P (state_at B s).edges (All-at_has Q B.states b.within (state_at B s) (Has-at B.states s no_state (has_edge_below B s e h))) e h
+
+module _ (A : MarkedAutomaton) (names : List Name) (B : Automaton) (numbers : List ℕ) (marked : IsMarked A) (ba : IsBa B) (named : HasNamesBelow (length names) B)
+    (maps : (p : ℕ) → p < length names → number_in numbers p ≡ unified_number A.names names p) where
+  abbrev all_names : List Name
+  all_names = unified A.names names
+
+  proper : IsProper A
+  proper = proper_of A marked
+
+  buchi : IsBuchi (length names) B
+  buchi = buchi_of (length names) B ba named
+
+  -- without a walk
+  pub none_verdict : ((way turn : List Taken) → IsFullWalk (product_net A B numbers) (A.sets + 1) way turn → ⊥) → IsVerdict A names B (IsCommon A names B) Contained
+  none_verdict none = contained_verdict A proper names B buchi (λ h. let w = walk_found A names B numbers ba.some marked.counted named maps h in none w.0 w.1 w.2)
+
+  module _ (way turn : List Taken) (w : IsFullWalk (product_net A B numbers) (A.sets + 1) way turn) where
+    -- there is something to repeat
+    pub turn_cycles : 0 < length (letters_of turn)
+    turn_cycles = let e = map_length (λ (t : Taken). t.letter) turn in let l = longer turn w.moves in omega (arith, e, l)
+      where
+        longer : (ts : List Taken) → (ts ≡ [] → ⊥) → 0 < length ts
+        longer [] n = absurd (n refl)
+        longer (t ∷ ts) n = omega arith
+
+    -- the letters hold propositions that have names
+    within_of : (t : Taken) → Has (way ++ turn) t → (i : ℕ) → Has t.letter i → i < length all_names
+    within_of t h i m =
+        let (k, x, stands, e) = found_cubes A names B numbers ba.some marked.counted named maps way turn w t h in
+        let (l, o, q) = map_cases (λ (l : Literal). l.proposition) (filter (λ (l : Literal). l.positive) x.cube) i (subst (λ is. Has is i) (sym e) m) in
+        subst (λ n. n < length all_names) (sym q) (both_below (graph_of A) B A.names names marked.differ (graph_is_graph A proper) buchi A.start k x stands l (filter_cases (λ (l : Literal). l.positive) x.cube l o).0)
+
+    letters_at : (ts : List Taken) → ((t : Taken) → Has ts t → Has (way ++ turn) t) → (is : List ℕ) → Has (letters_of ts) is → All (λ i. i < length all_names) is
+    letters_at ts among is h =
+        let (t, k, e) = map_cases (λ (t : Taken). t.letter) ts is h in
+        All-from_has (λ i. i < length all_names) is (λ i m. within_of t (among t k) i (subst (λ js. Has js i) e m))
+
+    pub letters_within : (count : ℕ) → count ≡ length all_names → All (All (λ i. i < count)) (letters_of way ++ letters_of turn)
+    letters_within count e =
+        subst (λ n. All (All (λ i. i < n)) (letters_of way ++ letters_of turn)) (sym e)
+        (All-from_has (All (λ i. i < length all_names)) (letters_of way ++ letters_of turn) (λ is h. elim (append_cases (letters_of way) (letters_of turn) is h) [
+          | inl k ↦ letters_at way (λ t m. append_left way turn t m) is k
+          | inr k ↦ letters_at turn (λ t m. append_right way turn t m) is k
+        ]))
+
+    -- the word along a walk, in least form
+    pub walk_verdict : (all : List Name) → all ≡ all_names → (v : Lasso) → IsLeastForm (word_with all (letters_of way) (letters_of turn)) v → IsVerdict A names B (IsCommon A names B) (Violated v)
+    walk_verdict all e v least = of_walk (found_walk A names B numbers ba.some marked.counted named maps way turn w)
+      where
+        of_walk : (h : HasCommonWalk A names B) × (lasso_along all_names h.way h.turn ≡ record { stem = map (λ (t : Taken). letter_with all_names t.letter) way; cycle = map (λ (t : Taken). letter_with all_names t.letter) turn }) → IsVerdict A names B (IsCommon A names B) (Violated v)
+        of_walk (h, along) =
+            let letters : word_with all_names (letters_of way) (letters_of turn) ≡ lasso_along all_names h.way h.turn =
+            (λ i. record { stem = map_twice (λ (t : Taken). t.letter) (letter_with all_names) way i; cycle = map_twice (λ (t : Taken). t.letter) (letter_with all_names) turn i }) ∙ sym along in
+            let here : IsLeastForm (lasso_along all_names h.way h.turn) v = subst (λ u. IsLeastForm u v) letters (subst (λ ns. IsLeastForm (word_with ns (letters_of way) (letters_of turn)) v) e least) in
+            let lasso = common_lasso (graph_of A) B A.names names marked.differ (graph_is_graph A proper) buchi A.start h in
+            let p = least_form_is (lasso_along all_names h.way h.turn) lasso in
+            let same : v ≡ printed_word A names h.way h.turn = least_unique v (printed_word A names h.way h.turn) here.lasso.cycles p.lasso.cycles (λ k. sym (here.same k) ∙ p.same k) here.least p.least in
+            subst (λ u. IsVerdict A names B (IsCommon A names B) (Violated u)) (sym same) (violated_verdict A proper names B buchi h)
+
+  -- what is reached costs no more than what the search paid for
+  pub paid_copies : (c : ℕ) → ((p : ℕ → Bool) → ((n : ℕ) → p n ≡ true → Reached (levels_net (A.sets + 1) (product_net A B numbers)) n)
+      → sum_below (λ n. cond (p n) (edge_pairs A B (pair_at A B (n / (A.sets + 1 + 1)))) 0) (pair_count A B * (A.sets + 1 + 1)) ≤ c)
+      → (p : ℕ → Bool) → ((n : ℕ) → p n ≡ true → IsReachedCopy A names B n) → chosen_pairs A B p (product_size A names B) ≤ c
+  paid_copies c paid p reached =
+      let two : A.sets + 1 + 1 ≡ A.sets + 2 = omega arith in
+      subst (λ k. sum_below (λ n. cond (p n) (edge_pairs A B (pair_at A B (n / k))) 0) (pair_count A B * k) ≤ c) two
+      (paid p (λ n e. reached_by_looks A names B numbers ba.some marked.counted named maps n (reached n e)))

@@ -1,0 +1,18 @@
+use Rattle.std.proofs.Common.{◌*◌, ◌≤◌, sym, subst}
+use Rattle.ltl_check.specs.VerdictView.{level_pairs, chosen_pairs}
+use Rattle.ltl_spec.specs.Checking.Check.{product_size}
+use Rattle.ltl_check.proofs.PairSums.{steps_most, steps_least}
+use Rattle.ltl_check.proofs.checking.check.Goals as goal
+
+pub returns-clause-most : goal.returns-clause-most
+returns-clause-most g c =
+    let counted = rw c.new-product.ensures.first at c.new-product.result.inside.counted in
+    let m = rw (c.new-product.ensures.first, c.new-product.ensures.second) at c.search_product.ensures.most in
+    subst (λ n. n ≤ 2 * level_pairs c.args.automaton.now c.args.ba.now) (sym c.looked.ensures)
+    (steps_most c.args.automaton.now c.args.ba.now counted c.new-steps.result.count c.search_product.new.steps.count m.0 c.new-steps.ensures m.1 m.2)
+
+pub returns-clause-least : goal.returns-clause-least
+returns-clause-least g c e chosen reached =
+    let l = (rw (c.new-product.ensures.first, c.new-product.ensures.second) at c.in_ok-outcome.ensures.least) e in
+    let s = steps_least (chosen_pairs c.args.automaton.now c.args.ba.now chosen (product_size c.args.automaton.now c.args.formula.now.names c.args.ba.now)) c.new-steps.result.count c.search_product.new.steps.count l.0 c.new-steps.ensures l.1 (l.2 chosen reached) in
+    rw c.looked.ensures s

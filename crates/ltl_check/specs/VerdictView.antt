@@ -1,0 +1,33 @@
+-- A verdict as one of the definitions, the letters along a walk, and what bounds the steps.
+use Rattle.std.specs.Prelude.{ℕ, ◌+◌, ◌*◌, ◌/◌, ◌%◌, Bool, cond, List, map, length, sum_by}
+use Rattle.ltl_spec.specs.Semantics.Word.{Name}
+use Rattle.ltl_spec.specs.Automata.Automaton.{Automaton, Edge}
+use Rattle.ltl_spec.specs.Hoa.HoaReading.{MarkedAutomaton}
+use Rattle.ltl_spec.specs.Checking.Search.{IsLevelPath}
+use Rattle.ltl_spec.specs.Checking.Searched.{searched_graph, searched_start}
+use Rattle.ltl_spec.specs.Checking.Check as spec
+use Rattle.ltl_check.specs.declared.verdict.Outcome.{Outcome}
+use Rattle.ltl_check.specs.declared.verdict.Outcome.TheVariants.{Contained, Violated}
+use Rattle.ltl_check.specs.declared.walk.Taken.{Taken}
+use Rattle.ltl_check.specs.Explored.{sum_below}
+use Rattle.ltl_check.specs.ProductView.{edge_pairs, pair_at}
+
+abbrev pub verdict_of : {A : Type 0} → Outcome A → spec.Verdict
+verdict_of Contained = spec.Contained
+verdict_of (Violated w) = spec.Violated w
+
+abbrev pub letters_of : List Taken → List (List ℕ)
+letters_of steps = map (λ t. t.letter) steps
+
+-- The states of a product on levels are numbered by the state, and then by the level. Some path leads to the one with this number
+abbrev pub IsReachedCopy : MarkedAutomaton → List Name → Automaton → ℕ → Type 0
+IsReachedCopy A names B n =
+    (way : List Edge) × IsLevelPath (searched_graph A names B) (record { state = searched_start A names B; level = 0 }) way (record { state = n / (A.sets + 2); level = n % (A.sets + 2) })
+
+-- the pairs of edges, one of each side, on all levels
+abbrev pub level_pairs : MarkedAutomaton → Automaton → ℕ
+level_pairs A B = (A.sets + 2) * (sum_by length A.edges * sum_by (λ s. length s.edges) B.states)
+
+-- the pairs of edges that leave the first so many states on levels, of those that are chosen
+abbrev pub chosen_pairs : MarkedAutomaton → Automaton → (ℕ → Bool) → ℕ → ℕ
+chosen_pairs A B chosen count = sum_below (λ n. cond (chosen n) (edge_pairs A B (pair_at A B (n / (A.sets + 2)))) 0) count

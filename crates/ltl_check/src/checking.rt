@@ -1,0 +1,146 @@
+//! The check of an automaton that was read against a Büchi automaton.
+
+ghost use Rattle.std.specs.Prelude.{◌≡◌, ℕ, ◌+◌, ◌-◌, ◌*◌, ◌^◌, ◌<◌, ◌≤◌, ◌++◌, Bool, true, min, length, map, All, IsTrue, IfOk, OnOk, IfSome, Ok, IsErrOf, []};
+ghost use Rattle.std.specs.List.{list_all};
+ghost use Rattle.ltl_spec.specs.Collections.Lists.{HasNoRepeats};
+ghost use Rattle.ltl_spec.specs.Formulas.Names.{is_proposition, unified};
+ghost use Rattle.ltl_spec.specs.Words.LassoText.{IsLeastForm};
+ghost use Rattle.ltl_spec.specs.Checking.Bounds.{HasNamesBelow};
+ghost use Rattle.ltl_spec.specs.Checking.Product.{unified_number};
+ghost use Rattle.ltl_spec.specs.Checking.Check.{IsVerdict, IsCommon, product_size};
+ghost use Rattle.ltl_check.specs.Explored.{IsGrown, sum_below};
+ghost use Rattle.ltl_check.specs.ProductView.{number_in, pair_count, pair_at, edge_pairs};
+ghost use Rattle.ltl_check.specs.VerdictView.{verdict_of, letters_of, IsReachedCopy, level_pairs, chosen_pairs};
+ghost use Rattle.ltl_word.specs.LassoView.{word_with};
+ghost use Rattle.ltl_check.specs.declared.verdict.Outcome.TheVariants.{Contained};
+
+use crate::fault::CheckFault;
+use crate::finding::find;
+use crate::graph::Graph;
+use crate::names::{all_names, numbers};
+use crate::product::{Product, Steps};
+use crate::verdict::{Outcome, Verdict};
+use crate::walk::{Taken, Walk};
+use ltl_buchi::Ba;
+use ltl_formula::{Formula, PROPOSITION_LIMIT};
+use ltl_hoa::Marked;
+use ltl_sets::RowSet;
+use ltl_word::Lasso;
+use std::alloc::{AllocError, Allocator};
+
+/// How many states a search may have: those of both automata, on the levels of the given one's sets and of one set more.
+pub const PRODUCT_LIMIT: usize = 16_777_216;
+
+/// The letters of the steps.
+fn letters<'a, A: Allocator>(
+    alloc: &'a A,
+    steps: &[Taken],
+) -> Result<Vec<RowSet, &'a A>, AllocError>
+    ensures { IfOk result (λ ls. ls.items ≡ letters_of steps.now) }
+{
+    let mut letters = Vec::new(alloc);
+    let mut i = 0usize;
+    'steps: while i < steps.len() {
+        let step = steps[i];
+        letters.push(step.letter)?;
+        i += 1;
+    }
+    Ok(letters)
+}
+
+/// The word along the walk, in least form.
+fn word<'a, A: Allocator>(
+    alloc: &'a A,
+    names: &[&str],
+    walk: &Walk<'a, A>,
+) -> Result<Lasso<'a, A>, AllocError>
+    requires distinct { HasNoRepeats (map (λ n. n.now) names.now) }
+    requires propositions { IsTrue (list_all is_proposition (map (λ n. n.now) names.now)) }
+    requires few { length names.now ≤ 64 }
+    requires within { All (All (λ i. i < length names.now)) (letters_of walk.now.way.items ++ letters_of walk.now.turn.items) }
+    requires cycles { 0 < length (letters_of walk.now.turn.items) }
+    ensures { IfOk result (IsLeastForm (word_with (map (λ n. n.now) names.now) (letters_of walk.now.way.items) (letters_of walk.now.turn.items))) }
+{
+    let stem = letters(alloc, &walk.way)?;
+    let cycle = letters(alloc, &walk.turn)?;
+    let word = Lasso::new(alloc, names, stem.as_slice(), cycle.as_slice())?;
+    word.least(alloc)
+}
+
+/// Searches the product, where all names are these.
+fn search_product<'a, A: Allocator>(
+    alloc: &'a A,
+    product: &Product<'_, 'a, A>,
+    formula: &Formula<'a, A>,
+    names: &[&str],
+    steps: &mut Steps,
+) -> Result<Outcome<'a, A>, AllocError>
+    requires named { HasNamesBelow (length formula.now.names) product.now.second.now }
+    requires names { map (λ n. n.now) names.now ≡ unified product.now.first.now.names formula.now.names }
+    requires few { length names.now ≤ 64 }
+    requires numbers { (p : ℕ) → p < length formula.now.names → number_in product.now.numbers.now p ≡ unified_number product.now.first.now.names formula.now.names p }
+    requires fits { pair_count product.now.first.now product.now.second.now * (product.now.first.now.sets + 1 + 1) ≤ 16_777_216 }
+    ensures verdict { IfOk result (λ o. IsVerdict product.now.first.now formula.now.names product.now.second.now (IsCommon product.now.first.now formula.now.names product.now.second.now) (verdict_of o)) }
+    ensures most { (c : ℕ) × IsGrown steps.old.count steps.new.count c × (c ≤ 2 * ((product.now.first.now.sets + 1 + 1) * sum_below (λ n. edge_pairs product.now.first.now product.now.second.now (pair_at product.now.first.now product.now.second.now n)) (pair_count product.now.first.now product.now.second.now))) }
+    ensures least { IfOk result (λ o. o ≡ Contained → (c : ℕ) × IsGrown steps.old.count steps.new.count c × ((p : ℕ → Bool) → ((n : ℕ) → p n ≡ true → IsReachedCopy product.now.first.now formula.now.names product.now.second.now n) → chosen_pairs product.now.first.now product.now.second.now p (product_size product.now.first.now formula.now.names product.now.second.now) ≤ c)) }
+{
+    product.first.stays_within();
+    product.second.stays_within();
+    formula.len();
+    match find(alloc, product, steps)? {
+        Some(walk) => Ok(Outcome::Violated(word(alloc, names, &walk)?)),
+        None => Ok(Outcome::Contained),
+    }
+}
+
+/// How many states a search of the product has.
+fn product_states<'a, A: Allocator>(automaton: &Marked<'a, A>, ba: &Ba<'a, A>) -> usize
+    ensures { result ≡ product_size automaton.now [] ba.now }
+{
+    automaton.stays_within();
+    ba.stays_within();
+    automaton.len() * ba.len() * (automaton.sets() + 2)
+}
+
+/// Whether both automata accept a common word, where the propositions of the second one are those of the formula. The names of
+/// both are unified: the automaton's first, and then those of the formula that it lacks.
+///
+/// # Errors
+///
+/// More than [`PROPOSITION_LIMIT`] names together, more than [`PRODUCT_LIMIT`] states of the product on its levels, or no memory.
+pub fn check<'a, A: Allocator>(
+    alloc: &'a A,
+    automaton: &Marked<'a, A>,
+    ba: &Ba<'a, A>,
+    formula: &Formula<'a, A>,
+) -> Result<Verdict<'a, A>, CheckFault>
+    requires { HasNamesBelow (length formula.now.names) ba.now }
+    ensures verdict { IfOk result (λ v. IsVerdict automaton.now formula.now.names ba.now (IsCommon automaton.now formula.now.names ba.now) (verdict_of v.outcome)) }
+
+    // Each pair of edges is looked at on each level at most twice, and without a common word each one that is reached at least once. `chosen` may be
+    // any choice of states on levels that are reached.
+    ensures most { IfOk result (λ v. v.steps ≤ 2 * level_pairs automaton.now ba.now) }
+    ensures least { IfOk result (λ v. v.outcome ≡ Contained → (chosen : ℕ → Bool) → ((n : ℕ) → chosen n ≡ true → IsReachedCopy automaton.now formula.now.names ba.now n) → min (chosen_pairs automaton.now ba.now chosen (product_size automaton.now formula.now.names ba.now)) (2 ^ 128 - 1) ≤ v.steps) }
+
+    // The faults come exactly where a limit is passed, in this order. Memory may be refused at any time.
+    ensures few { OnOk result (length (unified automaton.now.names formula.now.names) ≤ 64) }
+    ensures fits { OnOk result (product_size automaton.now formula.now.names ba.now ≤ 16_777_216) }
+    ensures many { IsErrOf result CheckFault.TooManyPropositions → 64 < length (unified automaton.now.names formula.now.names) }
+    ensures large { IsErrOf result CheckFault.ProductTooLarge → (length (unified automaton.now.names formula.now.names) ≤ 64) × (16_777_216 < product_size automaton.now formula.now.names ba.now) }
+{
+    let names = all_names(alloc, automaton, formula)?;
+    if names.len() > PROPOSITION_LIMIT {
+        return Err(CheckFault::TooManyPropositions);
+    }
+    if product_states(automaton, ba) > PRODUCT_LIMIT {
+        return Err(CheckFault::ProductTooLarge);
+    }
+    let numbers = numbers(alloc, names.as_slice(), formula)?;
+    let product = Product::new(automaton, ba, numbers.as_slice());
+    let mut steps = Steps::new();
+    let outcome = search_product(alloc, &product, formula, names.as_slice(), &mut steps)?;
+    Ok(Verdict {
+        outcome,
+        steps: Product::<A>::looked(&steps),
+    })
+}

@@ -1,0 +1,63 @@
+//! A closed walk through all sets of a graph.
+
+ghost use Rattle.std.specs.Prelude.{◌≡◌, ℕ, ◌+◌, ◌*◌, ◌<◌, ◌≤◌, List, map, length, IfOk, IfSome, Ok, None, Bool, true, cond, ◌/◌, ◌^◌};
+ghost use Rattle.ltl_check.specs.declared.walk.Taken.{Taken};
+ghost use Rattle.ltl_check.specs.Levels.{net_of, levels_net, without_level, IsFullWalk};
+ghost use Rattle.ltl_check.specs.Explored.{IsGrown, sum_below, Reached};
+
+use crate::graph::Graph;
+use crate::levels::Levels;
+use crate::search::search;
+use crate::walk::{Taken, Walk};
+use std::alloc::{AllocError, Allocator};
+
+/// The steps of the graph under steps on levels.
+fn strip<'a, A: Allocator>(
+    alloc: &'a A,
+    steps: &[Taken],
+    sets: usize,
+) -> Result<Vec<Taken, &'a A>, AllocError>
+    requires { sets + 1 < 2 ^ 64 }
+    ensures { IfOk result (λ v. v.items ≡ map (without_level sets) steps.now) }
+{
+    let mut stripped = Vec::new(alloc);
+    let mut i = 0usize;
+    'steps: while i < steps.len() {
+        let step = steps[i];
+        let taken = Taken {
+            state: step.state / (sets + 1),
+            pick: step.pick,
+            letter: step.letter,
+        };
+        match stripped.push(taken) {
+            Ok(()) => {}
+            Err(_) => return Err(AllocError),
+        }
+        i += 1;
+    }
+    Ok(stripped)
+}
+
+/// A way from the start and a closed walk from its end that takes an edge of every set, where there is one.
+pub fn find<'a, G: Graph, A: Allocator>(
+    alloc: &'a A,
+    graph: &G,
+    looks: &mut G::Looks,
+) -> Result<Option<Walk<'a, A>>, AllocError>
+    requires { G.count_of graph.now * (G.sets_of graph.now + 1) ≤ 16777216 }
+    ensures found { IfOk result (λ r. IfSome r (λ w. IsFullWalk (net_of (G.count_of graph.now) (G.start_of graph.now) (G.number_of graph.now) (G.state_of graph.now) (G.pairs_of graph.now) (G.step_of graph.now)) (G.sets_of graph.now) w.way.items w.turn.items)) }
+    ensures none { result ≡ Ok None → (way turn : List Taken) → IsFullWalk (net_of (G.count_of graph.now) (G.start_of graph.now) (G.number_of graph.now) (G.state_of graph.now) (G.pairs_of graph.now) (G.step_of graph.now)) (G.sets_of graph.now) way turn → ⊥ }
+    ensures most { (c : ℕ) × IsGrown (G.looked_of looks.old) (G.looked_of looks.new) c × (c ≤ 2 * ((G.sets_of graph.now + 1) * sum_below (λ n. G.pairs_of graph.now (G.state_of graph.now n)) (G.count_of graph.now))) }
+    ensures least { result ≡ Ok None → (c : ℕ) × IsGrown (G.looked_of looks.old) (G.looked_of looks.new) c × ((p : ℕ → Bool) → ((n : ℕ) → p n ≡ true → Reached (levels_net (G.sets_of graph.now) (net_of (G.count_of graph.now) (G.start_of graph.now) (G.number_of graph.now) (G.state_of graph.now) (G.pairs_of graph.now) (G.step_of graph.now))) n) → sum_below (λ n. cond (p n) (G.pairs_of graph.now (G.state_of graph.now (n / (G.sets_of graph.now + 1)))) 0) (G.count_of graph.now * (G.sets_of graph.now + 1)) ≤ c) }
+{
+    let levels = Levels::of(graph);
+    match search(alloc, &levels, looks)? {
+        Some(walk) => {
+            let sets = graph.sets();
+            let way = strip(alloc, &walk.way, sets)?;
+            let turn = strip(alloc, &walk.turn, sets)?;
+            Ok(Some(Walk { way, turn }))
+        }
+        None => Ok(None),
+    }
+}

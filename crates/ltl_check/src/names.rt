@@ -1,0 +1,103 @@
+//! The names of an automaton and of a formula together.
+
+ghost use Rattle.std.specs.Prelude.{◌≡◌, ◌<◌, ◌≤◌, ℕ, [], length, map, fold, slice_index_or, string_bytes, All, IfOk, OnOk};
+ghost use Rattle.ltl_spec.specs.Collections.Lists as lists;
+ghost use Rattle.ltl_spec.specs.Formulas.Tokens.{same_name};
+ghost use Rattle.ltl_spec.specs.Formulas.Names.{unified};
+ghost use Rattle.ltl_check.specs.ProductView.{number_in};
+
+use ltl_formula::Formula;
+use ltl_hoa::Marked;
+use std::alloc::{AllocError, Allocator};
+
+fn is_same(a: &str, b: &str) -> bool
+    ensures { result ≡ same_name a.now b.now }
+{
+    a == b
+}
+
+/// The place of the name, or the length where it isn't there.
+fn place_of(names: &[&str], name: &str) -> usize
+    ensures place { result ≡ lists.place_of same_name name.now (map (λ n. n.now) names.now) }
+    ensures within { result ≤ length names.now }
+{
+    for place in 0..names.len() {
+        let other = names[place];
+        if is_same(name, other) {
+            return place;
+        }
+    }
+    names.len()
+}
+
+/// Puts the name behind the others, unless it is there.
+fn put<'p, 'a, A: Allocator>(
+    names: &mut Vec<&'p str, &'a A>,
+    name: &'p str,
+) -> Result<(), AllocError>
+    ensures { OnOk result (map (λ n. n.now) names.new.items ≡ lists.with_new same_name (map (λ n. n.now) names.old.items) name.entry.now) }
+{
+    if place_of(names.as_slice(), name) < names.len() {
+        return Ok(());
+    }
+    names.push(name)?;
+    Ok(())
+}
+
+/// Puts each of the names.
+fn put_all<'p, 'a, A: Allocator>(
+    names: &mut Vec<&'p str, &'a A>,
+    more: &'p [String<&'a A>],
+) -> Result<(), AllocError>
+    ensures { OnOk result (map (λ n. n.now) names.new.items ≡ fold (lists.with_new same_name) (map (λ n. n.now) names.old.items) (map string_bytes more.entry.now)) }
+{
+    for i in 0..more.len() {
+        put(names, more[i].as_str())?;
+    }
+    Ok(())
+}
+
+/// Puts each of the formula's names.
+fn put_formula<'p, 'a, A: Allocator>(
+    names: &mut Vec<&'p str, &'a A>,
+    formula: &'p Formula<'a, A>,
+) -> Result<(), AllocError>
+    ensures { OnOk result (map (λ n. n.now) names.new.items ≡ fold (lists.with_new same_name) (map (λ n. n.now) names.old.items) formula.entry.now.names) }
+{
+    for i in 0..formula.name_count() {
+        put(names, formula.name(i))?;
+    }
+    Ok(())
+}
+
+/// The names of the automaton, and then those of the formula that it lacks.
+#[tactic(auto, using(crate::proofs::NameLaws::unified_is))]
+pub(crate) fn all_names<'p, 'a, A: Allocator>(
+    alloc: &'a A,
+    automaton: &'p Marked<'a, A>,
+    formula: &'p Formula<'a, A>,
+) -> Result<Vec<&'p str, &'a A>, AllocError>
+    ensures { IfOk result (λ names. map (λ n. n.now) names.items ≡ unified automaton.entry.now.names formula.entry.now.names) }
+{
+    let mut names = Vec::new(alloc);
+    put_all(&mut names, automaton.names())?;
+    put_formula(&mut names, formula)?;
+    Ok(names)
+}
+
+/// The numbers that the formula's propositions have among these names.
+pub(crate) fn numbers<'a, A: Allocator>(
+    alloc: &'a A,
+    names: &[&str],
+    formula: &Formula<'a, A>,
+) -> Result<Vec<usize, &'a A>, AllocError>
+    ensures count { IfOk result (λ ns. length ns.items ≡ length formula.now.names) }
+    ensures numbers { IfOk result (λ ns. (p : ℕ) → p < length formula.now.names → number_in ns.items p ≡ lists.place_of same_name (slice_index_or formula.now.names p []) (map (λ n. n.now) names.now)) }
+    ensures within { IfOk result (λ ns. (n : ℕ) → length names.now < n → All (λ k. k < n) ns.items) }
+{
+    let mut numbers = Vec::new(alloc);
+    for i in 0..formula.name_count() {
+        numbers.push(place_of(names, formula.name(i)))?;
+    }
+    Ok(numbers)
+}

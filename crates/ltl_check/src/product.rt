@@ -1,0 +1,203 @@
+//! The product of an automaton that was read and a Büchi automaton.
+
+ghost use Rattle.std.specs.Prelude.{◌≡◌, ℕ, ◌<◌, [], ◌∷◌, length, All};
+ghost use Rattle.ltl_spec.specs.Collections.Sets.{Has};
+ghost use Rattle.ltl_spec.specs.Transitions.Cubes as cubes;
+ghost use Rattle.ltl_spec.specs.Automata.Automaton.{state_at};
+ghost use Rattle.ltl_spec.specs.Checking.Product.{renamed_cube};
+ghost use Rattle.ltl_spec.specs.Checking.Bounds.{HasNamesBelow};
+ghost use Rattle.ltl_check.specs.ProductView.{IsSearchable, number_in, pair_marks, first_edges, second_edges, pair_count, edge_pairs, IsPair, pair_place, pair_at, pair_step, start_pair};
+
+use crate::graph::{Graph, Step};
+use ltl_buchi::Ba;
+use ltl_hoa::Marked;
+use ltl_sets::{Cube, Literal, RowSet};
+use std::alloc::Allocator;
+
+/// A state of the product: a state of each side, by its number.
+#[derive(Clone, Copy, Debug)]
+pub struct Pair {
+    pub first: usize,
+    pub second: usize,
+}
+
+/// How many pairs of edges were looked at. At the greatest number it stays.
+#[derive(Debug, Drop)]
+pub struct Steps {
+    pub(crate) count: u128,
+}
+
+impl Steps {
+    /// None yet.
+    pub fn new() -> Steps
+        ensures { result.count ≡ 0 }
+    {
+        Steps { count: 0 }
+    }
+}
+
+/// The literal alone, with the number of its proposition.
+fn numbered(literal: Literal, numbers: &[usize]) -> Cube
+    requires named { literal.proposition < length numbers.now }
+    requires within { All (λ n. n < 256) numbers.now }
+    ensures { result ≡ record { proposition = number_in numbers.now literal.proposition; positive = literal.positive } ∷ [] }
+{
+    Cube::literal(numbers[literal.proposition], literal.positive)
+}
+
+/// The literals of both, where `numbers` holds the numbers of the other one's propositions, or `None` where they contradict each
+/// other.
+fn joined(mine: &Cube, other: &Cube, numbers: &[usize]) -> Option<Cube>
+    requires named { (l : cubes.Literal) → Has other.now l → l.proposition < length numbers.now }
+    requires within { All (λ n. n < 256) numbers.now }
+    ensures { result ≡ cubes.join_cubes mine.now (renamed_cube (number_in numbers.now) other.now) }
+{
+    let mut cube = *mine;
+    for literal in other.iter() {
+        match cube.join(&numbered(literal, numbers)) {
+            Some(more) => cube = more,
+            None => return None,
+        }
+    }
+    cube.literals_rise();
+    Some(cube)
+}
+
+/// The product, over the names of both. It borrows both automata and the numbers that the second one's propositions have among all
+/// names, and builds neither states nor edges.
+#[derive(Drop)]
+pub struct Product<'p, 'a, A: Allocator> {
+    pub(crate) first: &'p Marked<'a, A>,
+    pub(crate) second: &'p Ba<'a, A>,
+    pub(crate) numbers: &'p [usize],
+    ghost inside: { IsSearchable first.now second.now },
+    ghost named: { HasNamesBelow (length numbers.now) second.now },
+    ghost within: { All (λ n. n < 256) numbers.now },
+}
+
+impl<'p, 'a, A: Allocator> Product<'p, 'a, A> {
+    /// The product of these, where `numbers` holds the number of each proposition of the second one.
+    pub fn new(
+        first: &'p Marked<'a, A>,
+        second: &'p Ba<'a, A>,
+        numbers: &'p [usize],
+    ) -> Product<'p, 'a, A>
+        requires named { HasNamesBelow (length numbers.now) second.now }
+        requires within { All (λ n. n < 256) numbers.now }
+        ensures first { result.first.now ≡ first.now }
+        ensures second { result.second.now ≡ second.now }
+        ensures numbers { result.numbers.now ≡ numbers.now }
+    {
+        first.stays_within();
+        second.stays_within();
+        Product {
+            first,
+            second,
+            numbers,
+        }
+    }
+
+    /// The marks of an edge, and the last set where it leaves an accepting state of the second automaton.
+    fn marks(&self, marks: RowSet, second: usize) -> RowSet
+        requires { second < length self.now.second.now.states }
+        ensures { result ≡ pair_marks self.now.first.now.sets (state_at self.now.second.now second).accepting marks }
+    {
+        let mut all = marks;
+        if self.second.accepting(second) {
+            all.insert(self.first.sets());
+        }
+        all
+    }
+}
+
+impl<'p, 'a, A: Allocator> Graph for Product<'p, 'a, A> {
+    type State = Pair;
+
+    type Looks = Steps;
+
+    ghost use Rattle.std.specs.Prelude.{◌+◌};
+    ghost use Rattle.ltl_check.specs.PairLaws.{place_in_rows, pair_of_number, place_of_pair, pair_back, pair_target, pair_marks_below};
+
+    ghost count_of = { λ p. pair_count p.first.now p.second.now };
+
+    ghost sets_of = { λ p. p.first.now.sets + 1 };
+
+    ghost start_of = { λ p. start_pair p.first.now p.second.now };
+
+    ghost number_of = { λ p. pair_place p.first.now p.second.now };
+
+    ghost state_of = { λ p. pair_at p.first.now p.second.now };
+
+    ghost IsState = { λ p. IsPair p.first.now p.second.now };
+
+    ghost pairs_of = { λ p. edge_pairs p.first.now p.second.now };
+
+    ghost step_of = { λ p. pair_step p.first.now p.second.now p.numbers.now };
+
+    ghost looked_of = { λ c. c.count };
+
+    fn count(&self) -> usize {
+        self.first.len() * self.second.len()
+    }
+
+    fn sets(&self) -> usize {
+        self.first.sets() + 1
+    }
+
+    fn start(&self) -> Pair {
+        Pair {
+            first: self.first.start(),
+            second: 0,
+        }
+    }
+
+    fn number(&self, s: Pair) -> usize {
+        s.first * self.second.len() + s.second
+    }
+
+    fn state(&self, n: usize) -> Pair {
+        let count = self.second.len();
+        Pair {
+            first: n / count,
+            second: n % count,
+        }
+    }
+
+    fn pairs(&self, s: Pair) -> usize {
+        self.first.edges(s.first).len() * self.second.edges(s.second).len()
+    }
+
+    fn at(&self, s: Pair, k: usize, looks: &mut Steps) -> Option<Step<Pair>> {
+        looks.count = looks.count.saturating_add(1);
+        let others = self.second.edges(s.second);
+        let edge = self.first.edges(s.first)[k / others.len()];
+        let other = others[k % others.len()];
+        match joined(&edge.cube, &other.cube, self.numbers) {
+            Some(cube) => Some(Step {
+                target: Pair {
+                    first: edge.target,
+                    second: other.target,
+                },
+                marks: self.marks(edge.sets, s.second),
+                letter: cube.letter(),
+            }),
+            None => None,
+        }
+    }
+
+    fn looked(looks: &Steps) -> u128 {
+        looks.count
+    }
+
+    ghost start_is = { λ p. (p.inside.begins, p.inside.some) };
+
+    ghost state_is = { λ p n l. pair_of_number p.first.now p.second.now n l };
+
+    ghost target_is = { λ p s k t own inside e. pair_target p.first.now p.second.now p.numbers.now p.inside s k t own inside e };
+
+    ghost marks_below = { λ p s k t own inside e. pair_marks_below p.first.now p.second.now p.numbers.now p.inside s k t own inside e };
+
+    ghost below = { λ p s own. place_of_pair p.first.now p.second.now s own };
+
+    ghost back = { λ p s own. pair_back p.first.now p.second.now s own };
+}

@@ -1,0 +1,29 @@
+use Rattle.std.proofs.Common.{◌≡◌, Bool, subst}
+use Rattle.std.proofs.lemmas.Result.{err_from_is_err_and}
+use Rattle.std.specs.Io.KnownBytes.{Appends}
+use Rattle.ltl_formula.specs.Streams.{AppendsBeginning}
+use Rattle.ltl_spec.specs.Tools.Limits.{stated_limits}
+use Rattle.ltl_spec.specs.Tools.Programs.{verdict_answer}
+use Rattle.ltl_check.specs.VerdictView.{verdict_of}
+use Rattle.ltl_cli.proofs.CheckLaws.{outcome_broken, outcome_done, outcome_refused}
+use Rattle.ltl_cli.proofs.check.printed.Goals as goal
+
+pub returns-in_err-verdict : goal.returns-in_err-verdict
+returns-in_err-verdict g c =
+    let (input, s, file, t, h) = c.in_err-verdict.ensures in
+    let p = err_from_is_err_and c.from_residual.result c.from_residual.ensures.1 in
+    (input, s, file, t, rw (p.1, p.2) (outcome_refused c.args.plan.now input file _ _ h))
+
+pub returns-in_err-print : goal.returns-in_err-print
+returns-in_err-print g c =
+    let (input, s, file, t, h) = c.in_ok-verdict.ensures in
+    let p = err_from_is_err_and c.from_residual-in_err-print.result c.from_residual-in_err-print.ensures.1 in
+    let w = rw c.outcome.ensures at c.in_err-print.ensures.err in
+    (input, s, file, t, rw p.1 (outcome_broken c.args.plan.now input file _ _ _ p.0 h p.2 w))
+
+pub returns : goal.returns
+returns g c =
+    let (input, s, file, t, h) = c.in_ok-verdict.ensures in
+    let w = rw c.outcome.ensures at c.in_ok-print.ensures.ok in
+    let e = rw c.outcome-2.ensures at c.status_of.ensures in
+    (input, s, file, t, outcome_done c.args.plan.now input file _ _ _ _ h w e)

@@ -1,0 +1,101 @@
+-- What a run of the checker shows.
+use Rattle.std.specs.Prelude.{◌≡◌, ◌≤◌, ◌⊎◌, true, List, ◌++◌, ℕ, Option, Some, None, Result, Ok, Err, MatchResult, ⊤, codes}
+use Rattle.std.specs.Io.KnownBytes.{Keeps}
+use Rattle.ltl_spec.specs.Formulas.Formula.{Reading}
+use Rattle.ltl_spec.specs.Semantics.Word.{Lasso, IsLasso}
+use Rattle.ltl_spec.specs.Words.LassoText.{lasso_text}
+use Rattle.ltl_spec.specs.NormalForms.NormalForm.{core}
+use Rattle.ltl_spec.specs.Automata.Automaton.{Automaton}
+use Rattle.ltl_spec.specs.Automata.ClaimText.{line}
+use Rattle.ltl_spec.specs.Hoa.HoaReading.{MarkedAutomaton, OneSet}
+use Rattle.ltl_spec.specs.Checking.Check.{Verdict, IsViolation, IsContained}
+use Rattle.ltl_spec.specs.Tools.Limits.{stated_limits}
+use Rattle.ltl_spec.specs.Tools.Refusal as spec
+use Rattle.ltl_spec.specs.Tools.Outcome.{Answer, Input, IsShortOfMemory, TakesNoMemory, Then, input_of, taken}
+use Rattle.ltl_spec.specs.Tools.Programs.{CheckerPlan, CheckerAnswers, CheckerFinds, InputReads, KeepsRows, ReadsHoa, Translates, plain_options}
+use Rattle.ltl_cli.specs.declared.refusal.Refusal.{Refusal}
+use Rattle.ltl_cli.specs.declared.refusal.Refusal.TheVariants.{OutOfMemory}
+use Rattle.ltl_cli.specs.declared.status.Status.{Status}
+use Rattle.ltl_cli.specs.declared.request.Plan.{Plan}
+use Rattle.ltl_cli.specs.declared.request.PlanFault.{PlanFault}
+use Rattle.ltl_cli.specs.declared.request.PlanFault.TheVariants as fault
+use Rattle.ltl_cli.specs.Refusals.{refusal_of}
+use Rattle.ltl_cli.specs.Words.{checker_plan}
+use Rattle.ltl_cli.specs.Plans.{request_in}
+use Rattle.ltl_cli.specs.Runs.{IsKept, IsOutcome}
+
+-- what a plan asks of the checker, in the words of the definitions
+abbrev pub check_in : Plan → CheckerPlan
+check_in p = checker_plan (request_in p)
+
+-- the right answers, for the formula's input and for the automaton's, and where no memory is taken
+abbrev pub CheckerGives : Option CheckerPlan → Input → Input → Answer → Type 0
+CheckerGives = CheckerAnswers stated_limits OneSet
+
+abbrev pub CheckTakesNone : Plan → Input → Type 0
+CheckTakesNone p input = TakesNoMemory stated_limits.formula_bytes (Some (check_in p).formula) input
+
+-- What a run of the checker promises for what its words gave and for both inputs
+abbrev pub CheckerPromises : Result Plan PlanFault → Input → Input → Answer → Type 0
+CheckerPromises (Ok p) input file = IsKept spec.Checker (CheckerGives (Some (check_in p)) input file) (CheckTakesNone p input)
+CheckerPromises (Err fault.Usage) input file = IsKept spec.Checker (CheckerGives None input file) ⊤
+CheckerPromises (Err fault.OutOfMemory) input file = IsShortOfMemory stated_limits spec.Checker
+
+-- ---- what the status says
+
+-- what the words ask of the checker; none where they are usage, or memory was refused
+abbrev pub asked_of : Result Plan PlanFault → Option CheckerPlan
+asked_of (Ok p) = Some (check_in p)
+asked_of (Err e) = None
+
+-- from the automaton's input to the automaton
+abbrev pub AutomatonReads : Input → Result MarkedAutomaton spec.Refusal → Type 0
+AutomatonReads file = Then (λ r. r ≡ taken stated_limits.hoa_bytes file) (ReadsHoa stated_limits OneSet)
+
+-- the words ask for a check, and the inputs are read as this formula and this automaton
+pub record AreInputs (plan : Option CheckerPlan) (input file : Input) (R : Reading) (A : MarkedAutomaton) : Type 0 where
+  pub asked : CheckerPlan
+  pub words : plan ≡ Some asked
+  pub formula : InputReads stated_limits (input_of asked.formula input) (Ok R)
+  pub automaton : AutomatonReads file (Ok A)
+
+-- the output is that of a word that the automaton accepts and that violates the formula
+abbrev pub PrintsViolation : MarkedAutomaton → Reading → List ℕ → Type 0
+PrintsViolation A R output = (w : Lasso) × IsLasso w × IsViolation A R w × (output ≡ line (codes "violated") ++ line (lasso_text w))
+
+-- A run that ends with status 0 or 1 has read a formula and an automaton. With 0 no word that this automaton accepts violates this
+-- formula; with 1 such a word was printed
+pub record TellsVerdict (plan : Option CheckerPlan) (input file : Input) (seen : Answer) : Type 0 where
+  pub reads : seen.status ≤ 1 → (R : Reading) × (A : MarkedAutomaton) × AreInputs plan input file R A
+  pub contained : (R : Reading) (A : MarkedAutomaton) → AreInputs plan input file R A → seen.status ≡ 0 → IsContained A R
+  pub violated : (R : Reading) (A : MarkedAutomaton) → AreInputs plan input file R A → seen.status ≡ 1 → PrintsViolation A R seen.output
+
+-- ---- before the message
+
+-- the automaton of the formula's violations
+abbrev pub Negates : Reading → Result Automaton spec.Refusal → Type 0
+Negates R = Then (KeepsRows stated_limits (core R.formula true true)) (λ N. Translates stated_limits N plain_options)
+
+-- what the definitions say of the plan and the inputs, or memory was refused where some is taken
+abbrev pub RefusesCheck : Plan → Input → Input → Refusal → Type 0
+RefusesCheck p input file e =
+    (e ≡ OutOfMemory) × (¬ (CheckTakesNone p input)) ⊎ CheckerFinds stated_limits OneSet (check_in p) input file (Err (refusal_of e))
+
+-- the formula and the automaton of its violations, or a refusal, whatever the automaton's input is
+abbrev pub IsNegated : {T : Type 0} → Plan → Input → (T → Reading) → (T → Automaton) → Result T Refusal → Type 0
+IsNegated p input formula violations r =
+    MatchResult r (λ t. InputReads stated_limits (input_of (check_in p).formula input) (Ok (formula t)) × Negates (formula t) (Ok (violations t)))
+    (λ e. (file : Input) → RefusesCheck p input file e)
+
+abbrev pub IsChecked : {T : Type 0} → Plan → Input → Input → (T → Verdict) → Result T Refusal → Type 0
+IsChecked p input file verdict r = MatchResult r (λ t. CheckerFinds stated_limits OneSet (check_in p) input file (Ok (verdict t))) (RefusesCheck p input file)
+
+-- the outcome of a plan
+abbrev pub CheckOutcome : Plan → Input → Input → Option (List ℕ) → Option (List ℕ) → Result Status Refusal → Type 0
+CheckOutcome p input file = IsOutcome spec.Checker (CheckerGives (Some (check_in p)) input file) (CheckTakesNone p input)
+
+-- the outcome of what the words gave
+abbrev pub CheckerOutcome : Result Plan PlanFault → Input → Input → Option (List ℕ) → Option (List ℕ) → Result Status Refusal → Type 0
+CheckerOutcome (Ok p) input file old new r = CheckOutcome p input file old new r
+CheckerOutcome (Err fault.Usage) input file old new r = IsOutcome spec.Checker (CheckerGives None input file) ⊤ old new r
+CheckerOutcome (Err fault.OutOfMemory) input file old new r = (r ≡ Err OutOfMemory) × Keeps old new
