@@ -120,7 +120,7 @@ pub fn run_translate<A: Allocator, R: Read + Drop, W: Write, E: Write>(
     output: &mut W,
     message: &mut E,
 ) -> u8
-    ensures promised { (input : spec.Input) × IsInputOf R.remaining source input
+    ensures told { (input : spec.Input) × IsInputOf R.remaining source input
         × Shows (TranslatorPromises plan.now input) (W.contents output.old) (W.contents output.new) (E.contents message.old) (E.contents message.new) result }
     ensures language { (input : spec.Input) × IsInputOf R.remaining source input
         × Shows (PrintsModels plan.now input) (W.contents output.old) (W.contents output.new) (E.contents message.old) (E.contents message.new) result }

@@ -2,8 +2,8 @@ use Rattle.ltl_cli.proofs.PromiseLaws.{shows_memory, shows_models}
 use Rattle.ltl_cli.proofs.RunLaws.{translator_shows}
 use Rattle.ltl_cli.proofs.translate.run_translate.Goals as goal
 
-pub returns-clause-promised : goal.returns-clause-promised
-returns-clause-promised g c =
+pub returns-clause-told : goal.returns-clause-told
+returns-clause-told g c =
     let (input, s, h) = c.answered-outcome.ensures in
     (input, s, translator_shows c.args.plan.now input _ _ _ _ _ _ h c.finish.ensures.status c.finish.ensures.message)
 
