@@ -27,7 +27,7 @@ pub struct Copied {
 }
 
 /// An edge to a copy.
-#[derive(Clone, Copy, Debug, PartialEq, Eq)]
+#[derive(Clone, Copy)]
 struct CopyEdge {
     cube: Cube,
     copy: Copied,

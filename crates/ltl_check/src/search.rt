@@ -12,7 +12,7 @@ use crate::walk::{Taken, Walk};
 use std::alloc::{AllocError, Allocator};
 
 /// How far the search has come with a state.
-#[derive(Clone, Copy, Debug)]
+#[derive(Clone, Copy)]
 pub enum Colour {
     New,
     Open,
@@ -119,7 +119,7 @@ fn step_back<'a, A: Allocator>(front: &mut Front<'a, A>) -> bool
 }
 
 /// An open state that the second pass has met: the step to it, and its place on the way.
-#[derive(Clone, Copy, Debug)]
+#[derive(Clone, Copy)]
 struct Met {
     taken: Taken,
     place: usize,

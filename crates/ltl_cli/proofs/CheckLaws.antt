@@ -1,13 +1,13 @@
 -- What a run of the checker shows.
-use Rattle.std.proofs.Common.{◌≡◌, ◌∙◌, ap, sym, subst, refl, ℕ, ◌≤◌, ◌<◌, Bool, true, false, cond, nat_lt, length, inl, inr, ◌⊎◌, List, [], ◌++◌, Option, Some, None, arith}
+use Rattle.std.proofs.Common.{◌≡◌, ◌∙◌, ap, sym, subst, refl, ℕ, ◌≤◌, ◌<◌, Bool, true, false, cond, nat_lt, length, inl, inr, ◌⊎◌, List, [], Option, Some, None, arith}
 use Rattle.std.proofs.KnownBytes.{Keeps-refl}
 use Rattle.std.specs.Prelude.{IfSome, Result, Ok, Err, ⊤}
-use Rattle.std.specs.Io.KnownBytes.{Appends, Keeps}
+use Rattle.std.specs.Io.KnownBytes.{Appends}
 use Rattle.ltl_spec.specs.Formulas.Formula.{Reading}
 use Rattle.ltl_spec.specs.Formulas.Grammar.{IsTextOf}
 use Rattle.ltl_spec.specs.Formulas.Names.{unified}
 use Rattle.ltl_spec.specs.Formulas.Tokens.{tokens}
-use Rattle.ltl_spec.specs.Semantics.Word.{Name, Lasso, IsLasso}
+use Rattle.ltl_spec.specs.Semantics.Word.{Name, Lasso}
 use Rattle.ltl_spec.specs.Semantics.Language.{AcceptsViolations}
 use Rattle.ltl_spec.specs.NormalForms.Normal.{Normal}
 use Rattle.ltl_spec.specs.NormalForms.NormalForm.{core}
@@ -27,7 +27,7 @@ use Rattle.ltl_formula.specs.FormulaView.{FormulaView, reading_of}
 use Rattle.ltl_formula.specs.Streams.{AppendsBeginning}
 use Rattle.ltl_hoa.specs.declared.fault.HoaFault.{HoaFault}
 use Rattle.ltl_hoa.specs.declared.fault.HoaFault.TheVariants as hoa
-use Rattle.ltl_hoa.specs.Reading.{Answers, AnswersHeld, TakesFewer}
+use Rattle.ltl_hoa.specs.Reading.{AnswersHeld, TakesFewer}
 use Rattle.ltl_check.specs.declared.fault.CheckFault.{CheckFault}
 use Rattle.ltl_check.specs.declared.fault.CheckFault.TheVariants as fault
 use Rattle.ltl_cli.specs.declared.refusal.Refusal.{Refusal}
@@ -40,7 +40,7 @@ use Rattle.ltl_cli.specs.declared.request.PlanFault.TheVariants as plan
 use Rattle.ltl_cli.specs.Refusals.{Takes, of_check, of_hoa, of_plan, refusal_of}
 use Rattle.ltl_cli.specs.Plans.{formula_word}
 use Rattle.ltl_cli.specs.Inputs.{IsStream, RefusesInput}
-use Rattle.ltl_cli.specs.Runs.{IsBroken, IsDone, Shows, message_with, status_with}
+use Rattle.ltl_cli.specs.Runs.{IsDone, Shows, message_with, status_with}
 use Rattle.ltl_cli.specs.Checks.{AreInputs, AutomatonReads, CheckerGives, CheckerOutcome, CheckerPromises, CheckOutcome, CheckTakesNone, IsChecked, Negates, PrintsViolation, RefusesCheck, TellsVerdict, asked_of, check_in}
 use Rattle.ltl_cli.proofs.InputLaws.{failed_stream, reads_takes}
 use Rattle.ltl_cli.proofs.RunLaws.{input_takes, run_shows, same_refusal, short_shows}

@@ -15,7 +15,7 @@ use ltl_sets::Literal;
 use std::alloc::{AllocError, Allocator};
 
 /// The numbers of the normal forms of a formula and of its negation.
-#[derive(Clone, Copy, Debug, PartialEq, Eq)]
+#[derive(Clone, Copy)]
 pub struct Forms {
     pub positive: usize,
     pub negative: usize,

@@ -10,7 +10,7 @@ use crate::graph::{BOTTOM, TOP};
 use crate::row::Row;
 
 /// A number that is there, or a node that may be there or not.
-#[derive(Clone, Copy, Debug, PartialEq, Eq)]
+#[derive(Clone, Copy)]
 pub enum Choice {
     Old(usize),
     New(Row),

@@ -13,7 +13,7 @@ use crate::row::Row;
 use std::alloc::{AllocError, Allocator};
 
 /// What is left to do for a node: to look at its operands, or to list it.
-#[derive(Clone, Copy, Debug, PartialEq, Eq)]
+#[derive(Clone, Copy)]
 pub enum Task {
     Enter(usize),
     Leave(usize),

@@ -48,7 +48,7 @@ impl From<AllocError> for HoaFault {
 }
 
 /// Why a token isn't taken.
-#[derive(Clone, Copy, Debug, PartialEq, Eq)]
+#[derive(Clone, Copy)]
 pub(crate) enum Stop {
     Fault(HoaFaultKind),
     OutOfMemory,

@@ -17,7 +17,7 @@ use std::alloc::Allocator;
 use std::marker::Model;
 
 /// How many states, names and acceptance sets there are.
-#[derive(Clone, Copy, Debug, PartialEq, Eq)]
+#[derive(Clone, Copy)]
 pub(crate) struct Counts {
     pub states: usize,
     pub names: usize,

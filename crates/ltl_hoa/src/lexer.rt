@@ -11,7 +11,7 @@ use std::alloc::{AllocError, Allocator};
 use std::marker::Model;
 
 /// What the bytes so far leave open. Comments are open to a depth.
-#[derive(Clone, Copy, Debug, PartialEq, Eq)]
+#[derive(Clone, Copy)]
 pub(crate) enum Phase {
     /// Nothing.
     Between,

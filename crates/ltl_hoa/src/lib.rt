@@ -9,7 +9,7 @@ mod header;
 mod label;
 pub mod laws;
 mod lexer;
-pub mod machine;
+mod machine;
 pub mod marked;
 mod names;
 mod number;
@@ -19,6 +19,5 @@ mod read;
 mod token;
 
 pub use fault::{HoaFault, HoaFaultKind};
-pub use machine::Machine;
 pub use marked::{Marked, MarkedEdge};
 pub use read::hoa_read;

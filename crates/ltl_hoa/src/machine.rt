@@ -15,10 +15,10 @@ use std::alloc::{AllocError, Allocator};
 use std::marker::Model;
 
 /// The most bytes that a text may have.
-pub const MOST_BYTES: usize = 16_777_216;
+pub(crate) const MOST_BYTES: usize = 16_777_216;
 
 /// A fault and its line.
-#[derive(Clone, Copy, Debug, PartialEq, Eq)]
+#[derive(Clone, Copy)]
 pub(crate) struct Found {
     pub line: usize,
     pub kind: HoaFaultKind,
@@ -27,7 +27,7 @@ pub(crate) struct Found {
 /// What was read so far of a text: its tokens, its leftmost fault and its lines. Only the current token, what is open of a label, the names and
 /// the automaton so far are kept.
 #[derive(Drop)]
-pub struct Machine<'a, A: Allocator> {
+pub(crate) struct Machine<'a, A: Allocator> {
     /// How many bytes, and the line behind them.
     given: usize,
     line: usize,
@@ -69,7 +69,7 @@ fn line_behind(line: usize, byte: u8) -> usize
 
 impl<'a, A: Allocator> Machine<'a, A> {
     /// No byte was read.
-    pub fn new(alloc: &'a A) -> Machine<'a, A>
+    pub(crate) fn new(alloc: &'a A) -> Machine<'a, A>
         ensures { result ≡ view.new_machine }
     {
         Machine {
@@ -82,14 +82,14 @@ impl<'a, A: Allocator> Machine<'a, A> {
     }
 
     /// The line behind the bytes so far, counted from 1.
-    pub fn line(&self) -> usize
+    pub(crate) fn line(&self) -> usize
         ensures { result ≡ self.now.line }
     {
         self.line
     }
 
     /// Takes the bytes of a piece. Behind a fault only lines are counted. After an error nothing is claimed of the machine.
-    pub fn take_piece(&mut self, piece: &[u8]) -> Result<(), AllocError>
+    pub(crate) fn take_piece(&mut self, piece: &[u8]) -> Result<(), AllocError>
         requires { self.old.given + length piece.now ≤ 16_777_216 }
         ensures { (text : List ℕ) → IsAfter self.old text → OnOk result (IsAfter self.new (text ++ piece.now)) }
     {
@@ -178,7 +178,7 @@ impl<'a, A: Allocator> Machine<'a, A> {
     }
 
     /// The automaton that the whole text reads as, or its leftmost fault.
-    pub fn finish(mut self) -> Result<Marked<'a, A>, HoaFault>
+    pub(crate) fn finish(mut self) -> Result<Marked<'a, A>, HoaFault>
         requires { (text : List ℕ) × IsAfter self text }
         ensures { (text : List ℕ) → IsAfter self.entry text → Answers text result }
     {

@@ -1,7 +1,7 @@
 //! Places in a text: which tokens may come next.
 
 /// The item before the place where another one may begin.
-#[derive(Clone, Copy, Debug, PartialEq, Eq)]
+#[derive(Clone, Copy)]
 pub(crate) enum ItemBefore {
     Plain,
     StartNumber,
@@ -11,7 +11,7 @@ pub(crate) enum ItemBefore {
 }
 
 /// The token that comes next in `Inf(0)`.
-#[derive(Clone, Copy, Debug, PartialEq, Eq)]
+#[derive(Clone, Copy)]
 pub(crate) enum AcceptancePart {
     Inf,
     Open,
@@ -20,7 +20,7 @@ pub(crate) enum AcceptancePart {
 }
 
 /// What may come next in the body.
-#[derive(Clone, Copy, Debug, PartialEq, Eq)]
+#[derive(Clone, Copy)]
 pub(crate) enum BodyPlace {
     /// A state.
     State,
@@ -43,7 +43,7 @@ pub(crate) enum BodyPlace {
 }
 
 /// What may come next.
-#[derive(Clone, Copy, Debug, PartialEq, Eq)]
+#[derive(Clone, Copy)]
 pub(crate) enum Place {
     Format,
     Version,

@@ -1,7 +1,7 @@
 //! Tokens of an automaton's text.
 
 /// What a token is. Its content stands beside it.
-#[derive(Clone, Copy, Debug, PartialEq, Eq)]
+#[derive(Clone, Copy)]
 pub(crate) enum TokenKind {
     /// By its content, without the quotes and the backslashes that keep a byte.
     Text,

@@ -55,7 +55,7 @@ impl Write for Room {
     }
 }
 
-fn room(alloc: Global, room: usize) -> Room {
+fn writer(alloc: Global, room: usize) -> Room {
     Room {
         held: Vec::new(alloc),
         room,
@@ -86,8 +86,8 @@ fn run<A: Allocator>(
     automaton: Given<'_>,
     most: usize,
 ) -> Shown {
-    let mut output = room(global, most);
-    let mut message = room(global, usize::MAX);
+    let mut output = writer(global, most);
+    let mut message = writer(global, usize::MAX);
     let source: Source<Given<'_>> = Source::Text;
     let automaton = Source::Input(automaton);
     let status = run_check(alloc, plan, source, automaton, &mut output, &mut message);

@@ -1,4 +1,3 @@
-use Rattle.std.proofs.Common.{◌≡◌}
 use Rattle.std.proofs.lemmas.Result.{err_from_is_err_and}
 use Rattle.ltl_spec.specs.Checking.Check.{IsViolation}
 use Rattle.ltl_formula.specs.FormulaView.{reading_of}

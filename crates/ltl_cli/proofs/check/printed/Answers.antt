@@ -1,10 +1,4 @@
-use Rattle.std.proofs.Common.{◌≡◌, Bool, subst}
 use Rattle.std.proofs.lemmas.Result.{err_from_is_err_and}
-use Rattle.std.specs.Io.KnownBytes.{Appends}
-use Rattle.ltl_formula.specs.Streams.{AppendsBeginning}
-use Rattle.ltl_spec.specs.Tools.Limits.{stated_limits}
-use Rattle.ltl_spec.specs.Tools.Programs.{verdict_answer}
-use Rattle.ltl_check.specs.VerdictView.{verdict_of}
 use Rattle.ltl_cli.proofs.CheckLaws.{outcome_broken, outcome_done, outcome_refused}
 use Rattle.ltl_cli.proofs.check.printed.Goals as goal
 

@@ -1,4 +1,4 @@
-use Rattle.std.proofs.Common.{◌≡◌, ◌++◌, ◌∷◌, [], sym, append_assoc, codes}
+use Rattle.std.proofs.Common.{◌∷◌, [], append_assoc, codes}
 use Rattle.ltl_spec.specs.Automata.ClaimText.{line}
 use Rattle.ltl_spec.specs.Words.LassoText.{lasso_text}
 use Rattle.ltl_cli.proofs.MessageLaws.{all_went, first_failed, second_failed, third_failed}
