@@ -27,7 +27,7 @@ pub struct Copied {
 }
 
 /// An edge to a copy.
-#[derive(Clone, Copy)]
+#[derive(Clone, Copy, PartialEq, Eq)]
 struct CopyEdge {
     cube: Cube,
     copy: Copied,

@@ -8,6 +8,10 @@ mod buchi;
 #[cfg(test)]
 mod formula;
 #[cfg(test)]
+mod hoa;
+#[cfg(test)]
 mod sets;
 #[cfg(test)]
 mod table;
+#[cfg(test)]
+mod word;

@@ -121,12 +121,6 @@ const CONJUNCTIONS: [(&str, [&str; 4]); 6] = [
     ),
 ];
 
-/// Each line of the table of rewriting for `&&`, and what no line matches.
-#[test]
-fn conjunctions(rt: HostRuntime) -> Result<(), Fail> {
-    check_all(&rt, rt.alloc(), &CONJUNCTIONS)
-}
-
 const DISJUNCTIONS: [(&str, [&str; 4]); 6] = [
     (
         "false || p",
@@ -184,12 +178,6 @@ const DISJUNCTIONS: [(&str, [&str; 4]); 6] = [
     ),
 ];
 
-/// Each line for `||`.
-#[test]
-fn disjunctions(rt: HostRuntime) -> Result<(), Fail> {
-    check_all(&rt, rt.alloc(), &DISJUNCTIONS)
-}
-
 const NEXTS: [(&str, [&str; 4]); 4] = [
     (
         "X true",
@@ -228,12 +216,6 @@ const NEXTS: [(&str, [&str; 4]); 4] = [
         ],
     ),
 ];
-
-/// Each line for `X`. No line moves `X` out of a conjunction.
-#[test]
-fn nexts(rt: HostRuntime) -> Result<(), Fail> {
-    check_all(&rt, rt.alloc(), &NEXTS)
-}
 
 const UNTILS: [(&str, [&str; 4]); 7] = [
     (
@@ -301,12 +283,6 @@ const UNTILS: [(&str, [&str; 4]); 7] = [
     ),
 ];
 
-/// Each line for `U`.
-#[test]
-fn untils(rt: HostRuntime) -> Result<(), Fail> {
-    check_all(&rt, rt.alloc(), &UNTILS)
-}
-
 const RELEASES: [(&str, [&str; 4]); 7] = [
     (
         "p V true",
@@ -372,12 +348,6 @@ const RELEASES: [(&str, [&str; 4]); 7] = [
         ],
     ),
 ];
-
-/// Each line for `V`.
-#[test]
-fn releases(rt: HostRuntime) -> Result<(), Fail> {
-    check_all(&rt, rt.alloc(), &RELEASES)
-}
 
 const OPERATORS: [(&str, [&str; 4]); 10] = [
     ("!p", ["!p0 / / 0", "p0 / / 0", "!p0 / / 0", "p0 / / 0"]),
@@ -456,12 +426,6 @@ const OPERATORS: [(&str, [&str; 4]); 10] = [
     ),
 ];
 
-/// Operators that are written by others.
-#[test]
-fn operators(rt: HostRuntime) -> Result<(), Fail> {
-    check_all(&rt, rt.alloc(), &OPERATORS)
-}
-
 const WHOLE_FORMULAS: [(&str, [&str; 4]); 7] = [
     (
         "X true U p",
@@ -528,10 +492,16 @@ const WHOLE_FORMULAS: [(&str, [&str; 4]); 7] = [
     ),
 ];
 
-/// Whole formulas.
 #[test]
-fn whole_formulas(rt: HostRuntime) -> Result<(), Fail> {
-    check_all(&rt, rt.alloc(), &WHOLE_FORMULAS)
+fn rows_of_formulas(rt: HostRuntime) -> Result<(), Fail> {
+    let alloc = rt.alloc();
+    check_all(&rt, alloc, &CONJUNCTIONS)?;
+    check_all(&rt, alloc, &DISJUNCTIONS)?;
+    check_all(&rt, alloc, &NEXTS)?;
+    check_all(&rt, alloc, &UNTILS)?;
+    check_all(&rt, alloc, &RELEASES)?;
+    check_all(&rt, alloc, &OPERATORS)?;
+    check_all(&rt, alloc, &WHOLE_FORMULAS)
 }
 
 /// So many `X` before a proposition.

@@ -71,7 +71,14 @@ fn check<S: Read + Drop>(
     let source = source_of(rt, plan);
     let mut output = io::writer(rt);
     let mut message = rt.stderr();
-    ExitCode::from(run_check(&rt.alloc(), plan, source, automaton, &mut output, &mut message))
+    ExitCode::from(run_check(
+        &rt.alloc(),
+        plan,
+        source,
+        automaton,
+        &mut output,
+        &mut message,
+    ))
 }
 
 fn run(rt: &HostRuntime, plan: &Result<Plan<'_>, PlanFault>) -> ExitCode {

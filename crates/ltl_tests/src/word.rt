@@ -11,68 +11,10 @@ use std::io::{self, Write};
 use std::process::Abort;
 use std::test::Fail;
 
-/// Whether the formula holds on the word.
-fn truth(rt: &impl Abort, alloc: Global, formula: &str, word: &str) -> bool {
-    let formula = read(&alloc, formula.as_bytes()).expect(rt, "a formula");
-    let word = Lasso::read(&alloc, word.as_bytes(), &formula).expect(rt, "a word");
-    holds(&alloc, &formula, &word).expect(rt, "memory")
-}
-
-#[test]
-fn formulas_hold_or_not(rt: HostRuntime) {
-    let rows = [
-        ("p && X[]!p", "{p}; cycle {}", true),
-        ("p && X[]!p", "cycle {p}; {}", false),
-        ("p", "cycle {q}", false),
-        ("[]p", "{p}; cycle {p}; {p}", true),
-        ("[]<>p", "cycle {p}; {}", true),
-        ("[]<>p -> <>[]p", "cycle {p}; {}", false),
-        ("[](p -> X q)", "cycle {p}; {q}", true),
-        ("[](p -> X q)", "cycle {p}; {q}; {p,q}", false),
-        ("X X X p", "cycle {p}; {}", false),
-        ("X X X X p", "cycle {p}; {}", true),
-        ("X X (p U q)", "cycle {q}; {}; {p}", true),
-        ("X (p U q)", "cycle {q}; {}; {p}", false),
-        ("p U (q U r)", "{p}; {q}; cycle {r}; {}", true),
-        ("q V p", "cycle {p}", true),
-        ("q V p", "{p}; {p,q}; cycle {}", true),
-        ("q V p", "{p}; {q}; cycle {p}", false),
-        ("<>p <-> !([]!p)", "{}; cycle {}; {p}", true),
-        ("p -> q -> r", "cycle {p,q}", false),
-        ("p <-> q <-> r", "cycle {r}", true),
-    ];
-    for (formula, word, wanted) in rows {
-        assert_eq!(rt;
-            truth(&rt, rt.alloc(), formula, word),
-            wanted,
-            "{formula} on {word}"
-        );
-    }
-}
-
 /// Why the word is not read beside the formula.
 fn fault(rt: &impl Abort, alloc: Global, formula: &str, word: &[u8]) -> Option<WordFault> {
     let formula = read(&alloc, formula.as_bytes()).expect(rt, "a formula");
     Lasso::read(&alloc, word, &formula).err()
-}
-
-#[test]
-fn bad_words(rt: HostRuntime) {
-    let rows = [
-        ("{p}", 3),
-        ("{p};cycle {}", 4),
-        ("cycle {p,}", 9),
-        ("", 0),
-        ("cycle {p};{q}", 10),
-        ("cycle {true}", 11),
-    ];
-    for (word, place) in rows {
-        assert_eq!(rt;
-            fault(&rt, rt.alloc(), "p", word.as_bytes()),
-            Some(WordFault::BadWord(place)),
-            "{word}"
-        );
-    }
 }
 
 /// A letter with the names `a0` to `a9`, `b0` to `b9` and so on, so many.

@@ -1,5 +1,0 @@
-//! Tests of the check, over its public calls.
-#![tactic(auto)]
-
-#[cfg(test)]
-mod check;
