@@ -5,3 +5,5 @@
 mod hoa;
 #[cfg(test)]
 mod sets;
+#[cfg(test)]
+mod word;
