@@ -1,67 +1,26 @@
-//! `ltl2ba`: opens the formula's file and hands the streams in.
+//! `ltl2ba`: hands the words, the formula's file and the streams to the translator.
 #![tactic(auto)]
 
-use ltl_cli::{FormulaWord, Plan, PlanFault, Source, Tool, plan, run_translate};
-use std::alloc::{AllocError, Global};
-use std::fs::File;
+use ltl_cli::{Plan, PlanFault, Tool, plan, run_translate};
+use ltl_host::{formula_source, texts, words};
+use std::io;
 use std::process::ExitCode;
-use std::{env, io};
-
-/// The words of the command line, the program's name first.
-fn words_of(rt: &HostRuntime) -> Result<Vec<String>, PlanFault> {
-    let mut words = Vec::new(rt.alloc());
-    match env::args(rt) {
-        Ok(given) => {
-            for word in given {
-                if words.push(word).is_err() {
-                    return Err(PlanFault::OutOfMemory);
-                }
-            }
-            Ok(words)
-        }
-        Err(error) => match error.kind() {
-            io::ErrorKind::OutOfMemory => Err(PlanFault::OutOfMemory),
-            _ => Err(PlanFault::Usage),
-        },
-    }
-}
-
-fn texts<'a>(alloc: Global, words: &'a [String]) -> Result<Vec<&'a str>, AllocError> {
-    let mut texts = Vec::new(alloc);
-    for word in words {
-        texts.push(word.as_str())?;
-    }
-    Ok(texts)
-}
-
-/// The formula's file, where the plan names one.
-fn source_of(rt: &HostRuntime, plan: &Result<Plan<'_>, PlanFault>) -> Source<File> {
-    let Ok(plan) = plan else {
-        return Source::Text;
-    };
-    match plan.formula() {
-        FormulaWord::Given(_) => Source::Text,
-        FormulaWord::File(name) => match File::open(rt, name) {
-            Ok(file) => Source::Input(file),
-            Err(_) => Source::NotOpened,
-        },
-    }
-}
 
 fn run(rt: &HostRuntime, plan: &Result<Plan<'_>, PlanFault>) -> ExitCode {
-    let source = source_of(rt, plan);
+    let source = formula_source(rt, plan);
     let mut output = io::writer(rt);
     let mut message = rt.stderr();
     ExitCode::from(run_translate(&rt.alloc(), plan, source, &mut output, &mut message))
 }
 
 fn main(rt: HostRuntime) -> ExitCode {
-    let words = match words_of(&rt) {
+    let words = match words(&rt) {
         Ok(words) => words,
         Err(fault) => return run(&rt, &Err(fault)),
     };
-    let Ok(texts) = texts(rt.alloc(), words.as_slice()) else {
-        return run(&rt, &Err(PlanFault::OutOfMemory));
+    let texts = match texts(rt.alloc(), words.as_slice()) {
+        Ok(texts) => texts,
+        Err(fault) => return run(&rt, &Err(fault)),
     };
     run(&rt, &plan(rt.alloc(), Tool::Translator, texts.as_slice()))
 }

@@ -10,7 +10,6 @@ pub mod ReachLaws
 pub mod RowLaws
 pub mod RowListLaws
 pub mod PruneLaws
-pub mod SortedSets
 pub mod StandInLaws
 pub mod TransitionLaws
 pub mod TreeLaws

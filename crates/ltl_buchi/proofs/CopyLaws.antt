@@ -1,6 +1,6 @@
 -- The steps of listing the copies, and the limits.
-use Rattle.std.proofs.Common.{◌≡◌, ℕ, zero, suc, ◌||◌, ◌+◌, ◌<◌, ◌≤◌, Bool, true, ◌⊎◌, inl, inr, ◌&&◌, List, [], ◌∷◌, ◌++◌, length, map, refl, sym, ◌∙◌, ap, subst, arith, Some, None, cond, not}
-use Rattle.std.specs.Prelude.{slice_get, slice_index_or, take, fold, sum_by, ◌==◌, All, nat_eq}
+use Rattle.std.proofs.Common.{◌≡◌, ℕ, zero, suc, ◌||◌, ◌+◌, ◌<◌, ◌≤◌, Bool, true, inl, inr, ◌&&◌, List, [], ◌∷◌, ◌++◌, length, map, refl, sym, ◌∙◌, ap, subst, arith, Some, None, cond, not}
+use Rattle.std.specs.Prelude.{slice_get, slice_index_or, fold, ◌==◌, All, nat_eq}
 use Rattle.std.specs.Bool.{Decides}
 use Rattle.std.specs.List.{position_or_len, list_any}
 use Rattle.std.specs.Cmp.{first_so, second_so}
@@ -10,26 +10,25 @@ use Rattle.std.proofs.lemmas.List.Elements.{All-map, All-contains}
 use Rattle.indexmap.specs.IndexSet.{insert_key}
 use Rattle.ltl_spec.specs.Collections.Sets.{Has, IsRising, set_of}
 use Rattle.ltl_spec.specs.Collections.Lists.{place_of, with_new}
-use Rattle.ltl_spec.specs.Transitions.Cubes.{Cube}
 use Rattle.ltl_spec.specs.Automata.Automaton.{Automaton, State, Edge, edge_cmp, state_at}
-use Rattle.ltl_spec.specs.Automata.Listing.{listing, IsComplete}
-use Rattle.ltl_spec.specs.Construction.Levels.{Copy, CopyEdge, same_copy, start_copy, copy_edge, copy_edge_cmp, copy_edges, copy_targets, copies, edge_to_copy, copy_state, level_automaton, HasTooManyCopies}
-use Rattle.ltl_spec.proofs.Collections.Orders.{edge_linear, copy_edge_linear}
+use Rattle.ltl_spec.specs.Automata.Listing.{listing}
+use Rattle.ltl_spec.specs.Construction.Levels.{Copy, CopyEdge, same_copy, start_copy, copy_edge_cmp, copy_edges, copy_targets, copies, edge_to_copy, copy_state, level_automaton, HasTooManyCopies}
+use Rattle.ltl_spec.proofs.Collections.Orders.{edge_linear}
 use Rattle.ltl_spec.proofs.Collections.SetLaws.{IsRising-set_of, Has-set_of}
 use Rattle.ltl_spec.proofs.Collections.MemberLaws.{Has-map, map_cases}
 use Rattle.ltl_spec.proofs.Collections.ListLaws.{Contains-from_has}
-use Rattle.ltl_spec.proofs.Automata.CountsLaws.{edges_step, edges_after, never_passed}
+use Rattle.ltl_spec.proofs.Automata.CountsLaws.{edges_step, never_passed}
 use Rattle.ltl_spec.proofs.Construction.LevelRuns.{same_copy_Decides, complete_copies}
 use Rattle.ltl_spec.proofs.Semantics.Runs.{IsClosed}
 use Rattle.ltl_sets.specs.CubeEq.{same_cube, cube_Decides}
 use Rattle.ltl_alt.specs.GbaView as gba
 use Rattle.ltl_alt.specs.declared.edge.GbaEdge.{GbaEdge}
-use Rattle.ltl_buchi.specs.BaView.{edge_of, IsBa, IsReached}
-use Rattle.ltl_buchi.specs.Copies.{copy_of, copy_edge_of, lifted_edge}
+use Rattle.ltl_buchi.specs.BaView.{IsReached}
+use Rattle.ltl_buchi.specs.Copies.{IsCopied, copy_of, copy_edge_of, edges_so_far, lifted_edge}
 use Rattle.ltl_buchi.specs.Numbered.{numbered_edge, IsNumbered}
 use Rattle.ltl_buchi.specs.declared.copies.Copied as copied
 use Rattle.ltl_buchi.specs.declared.copies.CopyEdge as code
-use Rattle.ltl_buchi.proofs.NumberedLaws.{map_agree, place_kept, place_met, numbered_stay, IsMade, made_none, made_next, made_all, got_below, map_pushed}
+use Rattle.ltl_buchi.proofs.NumberedLaws.{place_met, numbered_stay, made_none, made_next, made_all, got_below, map_pushed}
 use Rattle.ltl_buchi.proofs.ReachedLaws.{listed_reached}
 use Rattle.ltl_buchi.proofs.Within.{edges_within, pushed_longer, All_inserted}
 
@@ -119,11 +118,7 @@ module _ (A : Automaton) where
       (numbered_stay same_copy same_copy_Decides (λ (e : CopyEdge). e.cube) (λ (e : CopyEdge). e.copy) keys more (copy_edges A p)
       (λ x k. h x.copy (Has-map (λ (e : CopyEdge). e.copy) (copy_edges A p) x k)))
 
-  -- the states that were made when n copies were taken
-  abbrev pub IsCopied : ℕ → List Copy → List State → Type 0
-  IsCopied n keys made = IsMade same_copy same_copy_Decides (copy_targets A) start_copy (copy_state A) copy_stays n keys made
-
-  pub copied_none : (keys : List Copy) → keys ≡ start_copy ∷ [] → IsCopied 0 keys []
+  pub copied_none : (keys : List Copy) → keys ≡ start_copy ∷ [] → IsCopied A 0 keys []
   copied_none keys e = made_none same_copy same_copy_Decides (copy_targets A) start_copy (copy_state A) copy_stays keys e
 
   -- the edges of a copy as the code has them
@@ -134,14 +129,14 @@ module _ (A : Automaton) where
       over [] = refl
       over (y ∷ ys) = ap (λ l. copy_of y.copy ∷ l) (over ys)
 
-  pub copied_step : (i : ℕ) (keys more_keys : List Copy) (made more_made : List State) (p : Copy) (st : State) (xs : List code.CopyEdge) (es : List Edge) (accepting : Bool) → IsCopied (length made) keys made
+  pub copied_step : (i : ℕ) (keys more_keys : List Copy) (made more_made : List State) (p : Copy) (st : State) (xs : List code.CopyEdge) (es : List Edge) (accepting : Bool) → IsCopied A (length made) keys made
       → i ≡ length made → slice_get keys i ≡ Some p → map copy_edge_of xs ≡ copy_edges A p
       → IsNumbered same_copy (λ (e : code.CopyEdge). e.cube) (λ (e : code.CopyEdge). copy_of e.copy) keys xs more_keys es → accepting ≡ (p.level == A.sets)
-      → st ≡ (let t : State = record { accepting = accepting; edges = set_of edge_cmp es } in t) → more_made ≡ made ++ st ∷ [] → IsCopied (length more_made) more_keys more_made
+      → st ≡ (let t : State = record { accepting = accepting; edges = set_of edge_cmp es } in t) → more_made ≡ made ++ st ∷ [] → IsCopied A (length more_made) more_keys more_made
   copied_step i keys more_keys made more_made p st xs es accepting w j g seen numbered a e q =
       let n : suc (length made) ≡ length more_made = omega (arith, pushed_longer made more_made st q) in
       let numbers : es ≡ map (edge_to_copy A more_keys) (copy_edges A p) = numbered.numbers ∙ over xs ∙ ap (map (edge_to_copy A more_keys)) seen in
-      subst (λ m. IsCopied m more_keys more_made) n
+      subst (λ m. IsCopied A m more_keys more_made) n
       (made_next same_copy same_copy_Decides (copy_targets A) start_copy (copy_state A) copy_stays (length made) keys more_keys made more_made p st w (subst (λ m. slice_get keys m ≡ Some p) j g)
       (subst (λ ts. more_keys ≡ fold (with_new same_copy) keys ts) (seen_copies xs p seen) numbered.listed)
       (e ∙ (λ k. let t : State = record { accepting = a k; edges = set_of edge_cmp (numbers k) } in t)) q)
@@ -150,19 +145,15 @@ module _ (A : Automaton) where
       over [] = refl
       over (y ∷ ys) = ap (λ l. edge_to_copy A more_keys (copy_edge_of y) ∷ l) (over ys)
 
-  -- how many edges the first n copies have
-  abbrev pub edges_so_far : ℕ → ℕ
-  edges_so_far n = edges_after same_copy (copy_targets A) start_copy n
-
-  pub more_edges : (i count more_count n : ℕ) (keys : List Copy) (made : List State) (p : Copy) (xs : List code.CopyEdge) → IsCopied (length made) keys made → i ≡ length made → slice_get keys i ≡ Some p
-      → map copy_edge_of xs ≡ copy_edges A p → count ≡ edges_so_far (length made) → n ≡ suc (length made) → more_count ≡ count + length xs → more_count ≡ edges_so_far n
+  pub more_edges : (i count more_count n : ℕ) (keys : List Copy) (made : List State) (p : Copy) (xs : List code.CopyEdge) → IsCopied A (length made) keys made → i ≡ length made → slice_get keys i ≡ Some p
+      → map copy_edge_of xs ≡ copy_edges A p → count ≡ edges_so_far A (length made) → n ≡ suc (length made) → more_count ≡ count + length xs → more_count ≡ edges_so_far A n
   more_edges i count more_count n keys made p xs w j g seen c m k =
       let got = subst (λ l. slice_get l (length made) ≡ Some p) w.listed (subst (λ m. slice_get keys m ≡ Some p) j g) in
       let step = edges_step same_copy (copy_targets A) start_copy (length made) p (got_below (listing same_copy (copy_targets A) start_copy (length made)) (length made) p got) in
       let here : slice_index_or (listing same_copy (copy_targets A) start_copy (length made)) (length made) p ≡ p = at (listing same_copy (copy_targets A) start_copy (length made)) (length made) p got in
       let long : length (copy_targets A p) ≡ length xs = ap length (sym (seen_copies xs p seen)) ∙ length-map xs (λ (e : code.CopyEdge). copy_of e.copy) in
       let there = ap (λ q. length (copy_targets A q)) here in
-      let last = ap edges_so_far m in
+      let last = ap (edges_so_far A) m in
       omega arith
     where
       at : (ks : List Copy) (i : ℕ) (p : Copy) → slice_get ks i ≡ Some p → slice_index_or ks i p ≡ p
@@ -171,14 +162,14 @@ module _ (A : Automaton) where
       at (k ∷ ks) (suc i) p e = at ks i p e
 
   -- the limits are passed
-  pub too_many_edges : (n count most_states most_edges : ℕ) → count ≡ edges_so_far n → most_edges < count → HasTooManyCopies A most_states most_edges
+  pub too_many_edges : (n count most_states most_edges : ℕ) → count ≡ edges_so_far A n → most_edges < count → HasTooManyCopies A most_states most_edges
   too_many_edges n count most_states most_edges c l = (n, inr (omega arith))
 
-  pub too_many_copies : (keys : List Copy) (made : List State) (most_states most_edges : ℕ) → IsCopied (length made) keys made → most_states < length keys → HasTooManyCopies A most_states most_edges
+  pub too_many_copies : (keys : List Copy) (made : List State) (most_states most_edges : ℕ) → IsCopied A (length made) keys made → most_states < length keys → HasTooManyCopies A most_states most_edges
   too_many_copies keys made most_states most_edges w l = (length made, inl (subst (λ ks. most_states < length ks) w.listed l))
 
   -- all were taken
-  module _ (inside : gba.IsGba A) (keys : List Copy) (made : List State) (w : IsCopied (length made) keys made) (l : length keys ≤ length made) where
+  module _ (inside : gba.IsGba A) (keys : List Copy) (made : List State) (w : IsCopied A (length made) keys made) (l : length keys ≤ length made) where
     closed : IsClosed A
     closed = record {
       begins = inside.some;
@@ -217,6 +208,6 @@ module _ (A : Automaton) where
         (listed_reached same_copy same_copy_Decides (copy_targets A) start_copy (copy_state A) 0 (length made) (omega (arith, long)) has_edge s (subst (λ ms. s < length ms) (sym same) m))
 
     -- and the limits were never passed
-    pub copied_few : (count most_states most_edges : ℕ) → count ≡ edges_so_far (length made) → count ≤ most_edges → length keys ≤ most_states → ¬ (HasTooManyCopies A most_states most_edges)
+    pub copied_few : (count most_states most_edges : ℕ) → count ≡ edges_so_far A (length made) → count ≤ most_edges → length keys ≤ most_states → ¬ (HasTooManyCopies A most_states most_edges)
     copied_few count most_states most_edges c e s =
         never_passed same_copy (copy_targets A) start_copy most_states most_edges (length made) long (subst (λ ks. length ks ≤ most_states) w.listed s) (omega arith)

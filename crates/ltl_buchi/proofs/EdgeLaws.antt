@@ -1,11 +1,10 @@
 -- The edges of the code are those of the definitions.
-use Rattle.std.proofs.Common.{◌≡◌, ℕ, Bool, true, false, ◌&&◌, List, refl, sym, ◌∙◌, ap, subst}
+use Rattle.std.proofs.Common.{◌≡◌, Bool, true, ◌&&◌, ◌∙◌, ap}
 use Rattle.std.specs.Prelude.{nat_eq}
 use Rattle.std.specs.Bool.{Decides}
 use Rattle.std.specs.Cmp.{first_so, second_so}
 use Rattle.std.proofs.lemmas.Bool.Decides.{Decides-eqb}
 use Rattle.ltl_spec.specs.Automata.Automaton.{Edge}
-use Rattle.ltl_spec.specs.Transitions.Cubes.{Cube}
 use Rattle.ltl_sets.specs.CubeEq.{same_cube, cube_Decides}
 use Rattle.ltl_buchi.specs.BaView.{edge_of}
 use Rattle.ltl_buchi.specs.declared.automaton.Edge as made

@@ -11,7 +11,6 @@ pub mod QuotientLaws
 pub mod ReachedLaws
 pub mod RenumberLaws
 pub mod RowStates
-pub mod SortedSets
 pub mod Sums
 pub mod TranslationLaws
 pub mod Within

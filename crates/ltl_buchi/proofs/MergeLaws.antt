@@ -1,6 +1,6 @@
 -- The steps of reading and making the states of automata that are merged.
-use Rattle.std.proofs.Common.{◌≡◌, ℕ, zero, suc, ◌+◌, ◌<◌, ◌≤◌, Bool, true, false, ◌||◌, ◌&&◌, not, cond, List, [], ◌∷◌, ◌++◌, map, length, refl, sym, ◌∙◌, ap, subst, arith}
-use Rattle.std.specs.Prelude.{slice_index, slice_index_or, take, All}
+use Rattle.std.proofs.Common.{◌≡◌, ℕ, zero, suc, ◌+◌, ◌<◌, Bool, true, false, ◌||◌, ◌&&◌, not, cond, List, [], ◌∷◌, ◌++◌, map, length, refl, sym, ◌∙◌, ap, subst, arith}
+use Rattle.std.specs.Prelude.{slice_index, slice_index_or, take}
 use Rattle.std.specs.Ordering.{nat_cmp}
 use Rattle.std.specs.Prelude.{nat_eq}
 use Rattle.std.specs.List.{list_any, filter}
@@ -13,8 +13,8 @@ use Rattle.ltl_spec.proofs.Collections.ListLaws.{Has-at}
 use Rattle.ltl_spec.proofs.Collections.MemberLaws.{Has-map, any_true}
 use Rattle.std.proofs.lemmas.List.{get_or-map, append-nil}
 use Rattle.ltl_spec.specs.Collections.Sets.{Has, IsRising, set_of}
-use Rattle.ltl_spec.specs.Automata.Automaton.{Automaton, State, Edge, edge_cmp, state_at}
-use Rattle.ltl_spec.specs.Construction.Merging.{same_edge, implies_edge, retargeted_edge, retargeted_state, without_implied, class_names, quotient, merged_automaton}
+use Rattle.ltl_spec.specs.Automata.Automaton.{Automaton, State, Edge, edge_cmp}
+use Rattle.ltl_spec.specs.Construction.Merging.{same_edge, implies_edge, retargeted_state, without_implied, class_names, quotient, merged_automaton}
 use Rattle.ltl_spec.proofs.Collections.SetLaws.{set_of_same}
 use Rattle.ltl_spec.proofs.Collections.Orders.{edge_linear}
 use Rattle.ltl_spec.proofs.Construction.RoundLaws.{same_edge_Decides, names_length, name_low, name_twice}

@@ -1,19 +1,19 @@
 -- The merged automaton has what its type holds.
-use Rattle.std.proofs.Common.{◌≡◌, ℕ, ◌<◌, ◌≤◌, Bool, true, false, cond, List, [], map, length, refl, sym, ◌∙◌, ap, subst, arith}
-use Rattle.std.specs.Prelude.{All, slice_index}
+use Rattle.std.proofs.Common.{◌≡◌, ℕ, ◌<◌, Bool, true, false, cond, List, [], map, length, refl, ◌∙◌, ap, subst, arith}
+use Rattle.std.specs.Prelude.{All}
 use Rattle.std.proofs.lemmas.List.Elements.{All-weaker, All-map}
-use Rattle.ltl_spec.specs.Collections.Sets.{Has, IsRising, set_of}
+use Rattle.ltl_spec.specs.Collections.Sets.{Has, IsRising}
 use Rattle.ltl_spec.specs.Automata.Automaton.{Automaton, State, Edge, edge_cmp, state_at}
-use Rattle.ltl_spec.specs.Construction.Merging.{retargeted_edge, retargeted_state, without_implied, class_names, merged_automaton}
+use Rattle.ltl_spec.specs.Construction.Merging.{class_names, merged_automaton}
 use Rattle.ltl_spec.proofs.Collections.ListLaws.{All-at_has, All-from_has}
 use Rattle.ltl_spec.proofs.Collections.MemberLaws.{map_cases}
 use Rattle.ltl_spec.proofs.Semantics.Runs.{IsClosed}
 use Rattle.ltl_spec.proofs.Construction.ImpliedEdges.{IsSetEdge, thin_accepting}
 use Rattle.ltl_spec.proofs.Construction.RoundLaws.{names_length, name_low, name_twice}
 use Rattle.ltl_spec.proofs.Construction.MergingUnique.{way_begins, last_alike}
-use Rattle.ltl_spec.proofs.Construction.QuotientRuns.{IsNaming, HasSetEdges, number_inside}
+use Rattle.ltl_spec.proofs.Construction.QuotientRuns.{IsNaming, number_inside}
 use Rattle.ltl_alt.specs.GbaView as gba
-use Rattle.ltl_buchi.specs.BaView.{IsBa, IsReached, edge_of}
+use Rattle.ltl_buchi.specs.BaView.{IsBa, edge_of}
 use Rattle.ltl_buchi.specs.declared.automaton.Edge as code
 use Rattle.ltl_buchi.specs.Classes.{IsWithinStates, of_states}
 use Rattle.ltl_buchi.proofs.MergeLaws.{merged_states}

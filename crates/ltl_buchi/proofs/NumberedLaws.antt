@@ -1,22 +1,22 @@
 -- Numbers that are given when a thing is first met are its place in the list of all.
-use Rattle.std.proofs.Common.{◌≡◌, ℕ, zero, suc, ◌+◌, ◌<◌, ◌≤◌, Bool, true, false, cond, not, ◌⊎◌, inl, inr, List, [], ◌∷◌, ◌++◌, length, map, refl, sym, ◌∙◌, ap, subst, arith, Option, Some, None, append_assoc}
+use Rattle.std.proofs.Common.{◌≡◌, ℕ, zero, suc, ◌+◌, ◌<◌, ◌≤◌, Bool, true, false, cond, not, inl, inr, List, [], ◌∷◌, ◌++◌, length, map, refl, sym, ◌∙◌, ap, subst, arith, Some, None}
 use Rattle.std.specs.Prelude.{nat_eq, fold, slice_get, slice_index_or, take}
 use Rattle.std.specs.Bool.{Decides}
 use Rattle.std.specs.List.{list_any, position_or_len}
 use Rattle.std.proofs.lemmas.Bool.Decides.{Decides-eqb}
-use Rattle.std.proofs.lemmas.List.{map-append, append-nil, take-append-le, take_more}
+use Rattle.std.proofs.lemmas.List.{map-append, take_more}
 use Rattle.std.proofs.lemmas.List.Sums.{fold-append}
 use Rattle.ltl_spec.specs.Collections.Sets.{Has}
 use Rattle.ltl_spec.specs.Collections.Lists.{with_new, place_of}
 use Rattle.ltl_spec.specs.Transitions.Cubes.{Cube}
 use Rattle.ltl_spec.specs.Automata.Automaton.{Edge, State}
-use Rattle.ltl_spec.specs.Automata.Listing.{listing, with_targets_of, IsComplete}
+use Rattle.ltl_spec.specs.Automata.Listing.{listing, with_targets_of}
 use Rattle.ltl_spec.proofs.Collections.CaseLaws.{false_is_true}
 use Rattle.ltl_spec.proofs.Collections.ListLaws.{any_Decides, fold_new}
 use Rattle.ltl_spec.proofs.Collections.MemberLaws.{Has-map}
 use Rattle.ltl_spec.proofs.Automata.ListingLaws.{with_new_behind, fold_behind}
 use Rattle.ltl_spec.proofs.Automata.ListingReach.{listed_targets}
-use Rattle.ltl_buchi.specs.Numbered.{numbered_edge, IsNumbered}
+use Rattle.ltl_buchi.specs.Numbered.{IsMade, numbered_edge, IsNumbered}
 
 -- functions that agree on the elements give one list
 pub map_agree : {X Y : Type 0} (f g : X → Y) (xs : List X) → ((x : X) → Has xs x → f x ≡ g x) → map f xs ≡ map g xs
@@ -114,15 +114,11 @@ take_whole (suc n) (x ∷ xs) l = ap (λ l. x ∷ l) (take_whole n xs (omega ari
 -- States are made while their targets are listed. A state that was made stays the same where more is listed
 module _ {K : Type 0} (same : K → K → Bool) (decides : (x y : K) → Decides (same x y) (x ≡ y)) (targets : K → List K) (start : K) (state : List K → K → State)
     (stays : (keys more : List K) (x : K) → ((y : K) → Has (targets x) y → Has keys y) → state (keys ++ more) x ≡ state keys x) where
-  pub record IsMade (n : ℕ) (keys : List K) (made : List State) : Type 0 where
-    pub listed : keys ≡ listing same targets start n
-    pub states : made ≡ map (state keys) (take n keys)
-
-  pub made_none : (keys : List K) → keys ≡ start ∷ [] → IsMade 0 keys []
+  pub made_none : (keys : List K) → keys ≡ start ∷ [] → IsMade same targets start state 0 keys []
   made_none keys e = record { listed = e; states = refl }
 
-  pub made_next : (n : ℕ) (keys more_keys : List K) (made more_made : List State) (x : K) (s : State) → IsMade n keys made → slice_get keys n ≡ Some x
-      → more_keys ≡ fold (with_new same) keys (targets x) → s ≡ state more_keys x → more_made ≡ made ++ s ∷ [] → IsMade (suc n) more_keys more_made
+  pub made_next : (n : ℕ) (keys more_keys : List K) (made more_made : List State) (x : K) (s : State) → IsMade same targets start state n keys made → slice_get keys n ≡ Some x
+      → more_keys ≡ fold (with_new same) keys (targets x) → s ≡ state more_keys x → more_made ≡ made ++ s ∷ [] → IsMade same targets start state (suc n) more_keys more_made
   made_next n keys more_keys made more_made x s w g k e p =
       let behind = fold_behind same (targets x) keys in
       let grown : more_keys ≡ keys ++ behind.0 = k ∙ behind.1 in
@@ -143,7 +139,7 @@ module _ {K : Type 0} (same : K → K → Bool) (decides : (x y : K) → Decides
       }
 
   -- all were taken
-  pub made_all : (n : ℕ) (keys : List K) (made : List State) → IsMade n keys made → length keys ≤ n → made ≡ map (state keys) keys
+  pub made_all : (n : ℕ) (keys : List K) (made : List State) → IsMade same targets start state n keys made → length keys ≤ n → made ≡ map (state keys) keys
   made_all n keys made w l = w.states ∙ ap (map (state keys)) (take_whole n keys l)
 
 -- the index that an insertion gives is the place among the keys that are then there

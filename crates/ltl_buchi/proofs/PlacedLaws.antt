@@ -1,17 +1,16 @@
 -- The places of the edges by target.
-use Rattle.std.proofs.Common.{◌≡◌, ℕ, ◌+◌, ◌<◌, ◌≤◌, Bool, true, false, cond, ◌&&◌, ◌⊎◌, inl, inr, List, [], ◌∷◌, ◌++◌, length, map, refl, sym, ◌∙◌, ap, subst, arith, IsPermutation}
-use Rattle.std.specs.Prelude.{All, nat_eq, slice_index_or, take}
+use Rattle.std.proofs.Common.{◌≡◌, ℕ, ◌+◌, ◌<◌, Bool, true, false, cond, ◌&&◌, ◌⊎◌, inl, inr, List, [], ◌∷◌, ◌++◌, length, map, refl, sym, ◌∙◌, ap, subst, arith, IsPermutation}
+use Rattle.std.specs.Prelude.{nat_eq, slice_index_or, take}
 use Rattle.std.specs.declared.cmp.Ordering.{Ordering}
 use Rattle.std.specs.declared.cmp.Ordering.TheVariants.{Less}
 use Rattle.std.specs.Bool.{Decides}
 use Rattle.std.specs.Cmp.{IsTotalOrder, first_so, second_so}
-use Rattle.std.specs.List.{IsDistinct, dedup, dedup_from, AllByRecursion}
+use Rattle.std.specs.List.{IsDistinct, dedup, dedup_from}
 use Rattle.std.specs.List.Sorted.{IsSorted, IsStrictlySortedBy}
 use Rattle.std.specs.Ordering.{nat_cmp, on, then_cmp, is_eq}
 use Rattle.std.proofs.lemmas.Bool.Decides.{Decides-eqb, same_from_decides}
 use Rattle.std.proofs.lemmas.Cmp.{nat_cmp_total, on_total, then_total}
-use Rattle.std.proofs.lemmas.List.{get_or-map, length-map, map_push, take_more}
-use Rattle.std.proofs.lemmas.List.Elements.{All-map, All-contains_itself}
+use Rattle.std.proofs.lemmas.List.{get_or-map, map_push, take_more}
 use Rattle.std.proofs.lemmas.List.Kept.{IsStrictlySortedBy-dedup}
 use Rattle.std.proofs.lemmas.List.Sorted.{Contains-permutation, IsPermutation-sym}
 use Rattle.std.proofs.lemmas.Map.Keys.{IsDistinct-IsPermutation}
@@ -25,7 +24,7 @@ use Rattle.ltl_spec.proofs.Collections.ListLaws.{HasNoRepeats-push, Has-from_con
 use Rattle.ltl_buchi.specs.BaView.{edge_of, target_at, place_cmp, IsTargetOrder}
 use Rattle.ltl_buchi.specs.declared.automaton.Edge as code
 use Rattle.ltl_buchi.specs.declared.automaton.Placed.{Placed}
-use Rattle.ltl_buchi.proofs.SortedSets.{tied}
+use Rattle.ltl_spec.proofs.Collections.SortedSets.{tied}
 
 abbrev placed_cmp : Placed → Placed → Ordering
 placed_cmp = then_cmp (on (λ p. p.target) nat_cmp) (on (λ p. p.place) nat_cmp)

@@ -1,5 +1,5 @@
 -- A quotient stays within the limits of what it is made of, and each of its states is reached.
-use Rattle.std.proofs.Common.{◌≡◌, ℕ, zero, suc, ◌+◌, ◌<◌, ◌≤◌, Bool, true, false, cond, not, ◌&&◌, ◌⊎◌, inl, inr, List, [], ◌∷◌, ◌++◌, map, length, refl, sym, ◌∙◌, ap, subst, arith}
+use Rattle.std.proofs.Common.{◌≡◌, ℕ, zero, suc, ◌<◌, ◌≤◌, Bool, true, false, cond, not, ◌&&◌, inl, inr, List, [], ◌∷◌, map, length, refl, sym, ◌∙◌, ap, subst, arith}
 use Rattle.std.specs.Prelude.{slice_index, slice_index_or, ◌==◌, sum_by, take, All}
 use Rattle.std.specs.List.{filter, list_any}
 use Rattle.std.specs.declared.cmp.Ordering.{Ordering}
@@ -8,7 +8,7 @@ use Rattle.std.specs.Ordering.{nat_cmp}
 use Rattle.ltl_spec.specs.Collections.Sets.{Has, IsRising, set_of, put, by_order}
 use Rattle.ltl_spec.specs.Collections.Lists.{place_of, HasNoRepeats}
 use Rattle.ltl_spec.specs.Automata.Automaton.{Automaton, State, Edge, edge_cmp, state_at}
-use Rattle.ltl_spec.specs.Construction.Merging.{same_edge, implies_edge, unimplied_edges, retargeted_edge, retargeted_state, without_implied, quotient}
+use Rattle.ltl_spec.specs.Construction.Merging.{same_edge, implies_edge, retargeted_edge, retargeted_state, without_implied, quotient}
 use Rattle.ltl_spec.proofs.Collections.SetLaws.{set_of_cases, IsRising-set_of, IsRising-filter, irreflexive, all_at}
 use Rattle.ltl_spec.proofs.Collections.Orders.{nat_linear, edge_linear}
 use Rattle.ltl_spec.proofs.Collections.ListLaws.{Has-at, All-from_has, place_again}

@@ -1,11 +1,11 @@
 -- The states that a complete listing lists are reached.
-use Rattle.std.proofs.Common.{◌≡◌, ℕ, ◌<◌, ◌≤◌, Bool, List, length, map, sym, ap, subst}
+use Rattle.std.proofs.Common.{◌≡◌, ℕ, ◌<◌, ◌≤◌, Bool, List, length, map, sym, subst}
 use Rattle.std.specs.Prelude.{slice_index_or}
 use Rattle.std.specs.Bool.{Decides}
 use Rattle.std.proofs.lemmas.List.{length-map}
 use Rattle.ltl_spec.specs.Collections.Sets.{Has}
 use Rattle.ltl_spec.specs.Collections.Lists.{place_of}
-use Rattle.ltl_spec.specs.Automata.Automaton.{Automaton, Edge, State, state_at}
+use Rattle.ltl_spec.specs.Automata.Automaton.{Automaton, Edge, State}
 use Rattle.ltl_spec.specs.Automata.Listing.{listing}
 use Rattle.ltl_spec.proofs.Collections.ListLaws.{Has-at, place_again}
 use Rattle.ltl_spec.proofs.Automata.ListingReach.{listed_within, complete_targets, place_start, listed_start, HasNoRepeats-listed}

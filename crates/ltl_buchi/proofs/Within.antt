@@ -11,6 +11,7 @@ use Rattle.std.proofs.lemmas.List.Elements.{All-cons, All-head, All-tail, All-pu
 use Rattle.indexmap.specs.IndexSet.{insert_key}
 use Rattle.ltl_spec.specs.Automata.Automaton.{Automaton, State, Edge, state_at}
 use Rattle.ltl_alt.specs.GbaView as gba
+use Rattle.ltl_buchi.specs.Numbered.{StatesWithin}
 use Rattle.ltl_alt.specs.declared.edge.GbaEdge.{GbaEdge}
 
 -- a function's values have it where each element's has
@@ -68,10 +69,6 @@ few_below n ks d a = numbers_short n ks d (λ x h. All-contains (λ k. k < n) ks
 -- one more is one longer
 pub pushed_longer : {K : Type 0} (xs ys : List K) (x : K) → ys ≡ xs ++ x ∷ [] → length ys ≡ length xs + 1
 pushed_longer xs ys x e = ap length e ∙ length-append xs (x ∷ [])
-
--- all states stay within the states
-abbrev pub StatesWithin : ℕ → List State → Type 0
-StatesWithin n states = All (λ s. All (λ e. e.target < n) s.edges) states
 
 -- the edges of one more state
 pub more_within : {K : Type 0} (states made : List State) (s : State) (keys more_keys : List K) → made ≡ states ++ s ∷ [] → (more : List K) × (more_keys ≡ keys ++ more)

@@ -1,5 +1,5 @@
 -- Classes of states by codes: what is seen of a state has a code, and states with one code are one class, which has the name of its least state.
-use Rattle.std.specs.Prelude.{◌≡◌, ℕ, ◌<◌, ◌≤◌, List, length, map, slice_index, slice_index_or, slice_get, Some, All, ◌==◌}
+use Rattle.std.specs.Prelude.{◌≡◌, ℕ, ◌<◌, ◌≤◌, List, length, map, slice_index, slice_get, Some, All, ◌==◌}
 use Rattle.std.specs.Ordering.{nat_cmp}
 use Rattle.ltl_spec.specs.Collections.Sets.{set_of}
 use Rattle.ltl_spec.specs.Collections.Lists.{HasNoRepeats, place_of}

@@ -1,7 +1,6 @@
 -- Equal states, and what is fed to a hasher of one.
-use Rattle.std.specs.Prelude.{◌≡◌, ◌++◌, Bool, List, ℕ, IsTrue, refl}
+use Rattle.std.specs.Prelude.{◌≡◌, ◌++◌, List, ℕ, IsTrue, refl}
 use Rattle.std.proofs.Common.{ap, sym}
-use Rattle.std.specs.Bool.{Decides}
 use Rattle.std.specs.Cmp.{IsEquivalence}
 use Rattle.std.specs.Hash as fed
 use Rattle.std.proofs.lemmas.Bool.Decides.{same_from_decides}

@@ -1,12 +1,12 @@
 //! Levels: from acceptance sets on edges to accepting states. Each state has a copy for each number of sets met in turn.
 
-ghost use Rattle.std.specs.Prelude.{◌≡◌, ℕ, ◌<◌, ◌≤◌, List, ◌++◌, length, map, All, IfOk, OnOk, IsErrOf};
+ghost use Rattle.std.specs.Prelude.{◌≡◌, ℕ, ◌<◌, ◌≤◌, List, ◌+◌, ◌++◌, length, map, All, IfOk, OnOk, IsErrOf};
 ghost use Rattle.ltl_spec.specs.Collections.Sets.{set_of};
 ghost use Rattle.ltl_spec.specs.Collections.Lists.{with_new, place_of};
 ghost use Rattle.ltl_spec.specs.Construction.Levels as levels_of;
 ghost use Rattle.ltl_alt.specs.GbaView as gba;
 ghost use Rattle.ltl_buchi.specs.BaView.{edge_of};
-ghost use Rattle.ltl_buchi.specs.Copies.{IsCopyBelow, copy_of, copy_edge_of, lifted_edge};
+ghost use Rattle.ltl_buchi.specs.Copies.{AreCopies, IsCopyBelow, copy_of, copy_edge_of, lifted_edge};
 ghost use Rattle.ltl_buchi.specs.Numbered.{IsNumbered};
 ghost use Rattle.ltl_buchi.specs.declared.copies.Copied.{Copied};
 
@@ -149,6 +149,29 @@ fn numbered<'a, A: Allocator>(
     Ok(edges)
 }
 
+/// Makes the state of the copy that comes next, and numbers the copies that it leads to. Answers how many edges the copies made so far have.
+fn add_copy<'a, A: Allocator>(
+    alloc: &'a A,
+    automaton: &Gba<'_, A>,
+    copies: &mut Copies<'a, A>,
+    made: &mut Vec<State<'a, A>, &'a A>,
+    edge_count: usize,
+) -> Result<usize, AllocError>
+    requires listed { AreCopies automaton.now edge_count copies.old.keys made.old.items }
+    requires next { length made.old.items < length copies.old.keys }
+    requires few { edge_count ≤ MOST_EDGES }
+    ensures listed { IfOk result (λ count. AreCopies automaton.now count copies.new.keys made.new.items) }
+    ensures more { OnOk result (length made.new.items ≡ 1 + length made.old.items) }
+{
+    automaton.stays_within();
+    let sets = automaton.sets();
+    let copy = copies[made.len()];
+    let copied = copy_edges(alloc, sets, automaton.edges(copy.state), copy.level)?;
+    let edges = numbered(alloc, copies, copied.as_slice())?;
+    made.push(State::new(alloc, copy.level == sets, edges)?)?;
+    Ok(edge_count + copied.len())
+}
+
 /// The Büchi automaton of the copies that are reached from the start on level 0; those on the last level are accepting.
 pub fn levels<'a, A: Allocator>(alloc: &'a A, automaton: &Gba<'_, A>) -> Result<Ba<'a, A>, BaFault>
     ensures copies { IfOk result (λ b. b ≡ levels_of.level_automaton automaton.now) }
@@ -158,21 +181,13 @@ pub fn levels<'a, A: Allocator>(alloc: &'a A, automaton: &Gba<'_, A>) -> Result<
     ensures many { IsErrOf result BaFault.TooLarge → levels_of.HasTooManyCopies automaton.now 65_536 1_048_576 }
 {
     automaton.stays_within();
-    let sets = automaton.sets();
     let mut copies: Copies<'a, A> = IndexSet::new(alloc);
     copies.insert(Copied { state: 0, level: 0 })?;
     let mut made = Vec::new(alloc);
     let mut edge_count = 0usize;
     'copies: while made.len() < copies.len() {
-        let copy = copies[made.len()];
-        let copied = copy_edges(alloc, sets, automaton.edges(copy.state), copy.level)?;
-        edge_count += copied.len();
-        if edge_count > MOST_EDGES {
-            return Err(BaFault::TooLarge);
-        }
-        let edges = numbered(alloc, &mut copies, copied.as_slice())?;
-        made.push(State::new(alloc, copy.level == sets, edges)?)?;
-        if copies.len() > MOST_STATES {
+        edge_count = add_copy(alloc, automaton, &mut copies, &mut made, edge_count)?;
+        if edge_count > MOST_EDGES || copies.len() > MOST_STATES {
             return Err(BaFault::TooLarge);
         }
     }

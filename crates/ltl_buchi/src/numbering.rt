@@ -1,10 +1,10 @@
 //! Numbering breadth first.
 
-ghost use Rattle.std.specs.Prelude.{◌≡◌, ℕ, ◌<◌, ◌≤◌, ◌==◌, List, ◌++◌, length, map, All, IfOk, OnOk, IsErrOf};
+ghost use Rattle.std.specs.Prelude.{◌≡◌, ℕ, ◌<◌, ◌≤◌, ◌==◌, List, ◌+◌, ◌++◌, length, map, All, IfOk, OnOk, IsErrOf};
 ghost use Rattle.ltl_spec.specs.Collections.Lists.{HasNoRepeats, with_new, place_of};
 ghost use Rattle.ltl_spec.specs.Construction.Renumbered.{renumbered_automaton};
 ghost use Rattle.ltl_buchi.specs.BaView.{edge_of};
-ghost use Rattle.ltl_buchi.specs.Numbered.{IsNumbered};
+ghost use Rattle.ltl_buchi.specs.Numbered.{AreOrdered, IsNumbered};
 
 use crate::automaton::{Ba, Edge, State};
 use crate::fault::BaFault;
@@ -53,6 +53,25 @@ fn renumbered<'a, A: Allocator>(
     Ok(made)
 }
 
+/// Makes the state that comes next, and numbers the states that it leads to.
+fn add_state<'a, A: Allocator>(
+    alloc: &'a A,
+    automaton: &Ba<'_, A>,
+    order: &mut Order<'a, A>,
+    made: &mut Vec<State<'a, A>, &'a A>,
+) -> Result<(), AllocError>
+    requires ordered { AreOrdered automaton.now order.old.keys made.old.items }
+    requires next { length made.old.items < length order.old.keys }
+    ensures ordered { OnOk result (AreOrdered automaton.now order.new.keys made.new.items) }
+    ensures more { OnOk result (length made.new.items ≡ 1 + length made.old.items) }
+{
+    automaton.stays_within();
+    let state = order[made.len()];
+    let edges = renumbered(alloc, order, automaton.edges(state))?;
+    made.push(State::new(alloc, automaton.accepting(state), edges)?)?;
+    Ok(())
+}
+
 /// The same automaton with its states numbered breadth first: the start is 0; states are taken in the order of their numbers, their edges
 /// by literals and then by target, and a new target gets the next number.
 pub fn renumber<'a, A: Allocator>(alloc: &'a A, automaton: &Ba<'_, A>) -> Result<Ba<'a, A>, BaFault>
@@ -64,9 +83,7 @@ pub fn renumber<'a, A: Allocator>(alloc: &'a A, automaton: &Ba<'_, A>) -> Result
     order.insert(0)?;
     let mut made = Vec::new(alloc);
     'states: while made.len() < order.len() {
-        let state = order[made.len()];
-        let edges = renumbered(alloc, &mut order, automaton.edges(state))?;
-        made.push(State::new(alloc, automaton.accepting(state), edges)?)?;
+        add_state(alloc, automaton, &mut order, &mut made)?;
     }
     Ok(Ba::new(made))
 }

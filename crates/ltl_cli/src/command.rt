@@ -86,9 +86,7 @@ pub fn matched<'a>(
 ) -> Result<ArgMatches<'a>, PlanFault>
     ensures { Matches (tool_of tool) (map (λ w. w.now) words.entry.now) result }
 {
-    let Ok(command) = command(alloc, tool) else {
-        return Err(PlanFault::OutOfMemory);
-    };
+    let command = command(alloc, tool)?;
     match command.try_get_matches_from(words) {
         Ok(matches) => Ok(matches),
         Err(error) => match error.kind() {

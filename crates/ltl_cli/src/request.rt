@@ -3,6 +3,7 @@
 ghost use Rattle.std.specs.Prelude.{◌≡◌, option_map};
 
 use ltl_buchi::Options;
+use std::alloc::{AllocError, AllocFailed};
 
 /// Where the formula's text comes from.
 #[derive(Clone, Copy, Debug)]
@@ -77,4 +78,26 @@ pub enum PlanFault {
     Usage,
     /// A growth was refused.
     OutOfMemory,
+}
+
+impl From<AllocError> for PlanFault {
+    ghost use Rattle.std.specs.Prelude.{◌≡◌};
+    ghost use Rattle.ltl_cli.specs.declared.request.PlanFault.TheVariants.{OutOfMemory};
+
+    ghost from_gives = { λ _ fault. fault ≡ OutOfMemory };
+
+    fn from(_: AllocError) -> PlanFault {
+        PlanFault::OutOfMemory
+    }
+}
+
+impl<T: Drop> From<AllocFailed<T>> for PlanFault {
+    ghost use Rattle.std.specs.Prelude.{◌≡◌};
+    ghost use Rattle.ltl_cli.specs.declared.request.PlanFault.TheVariants.{OutOfMemory};
+
+    ghost from_gives = { λ _ fault. fault ≡ OutOfMemory };
+
+    fn from(_: AllocFailed<T>) -> PlanFault {
+        PlanFault::OutOfMemory
+    }
 }

@@ -57,11 +57,9 @@ fn planned<'a>(tool: Tool, matches: &ArgMatches<'a>) -> Option<Plan<'a>>
 pub fn plan<'a>(alloc: Global, tool: Tool, words: &'a [&'a str]) -> Result<Plan<'a>, PlanFault>
     ensures { Plans (tool_of tool) (map (λ w. w.now) words.entry.now) result }
 {
-    match matched(alloc, tool, words) {
-        Ok(matches) => match planned(tool, &matches) {
-            Some(plan) => Ok(plan),
-            None => Err(PlanFault::Usage),
-        },
-        Err(fault) => Err(fault),
+    let matches = matched(alloc, tool, words)?;
+    match planned(tool, &matches) {
+        Some(plan) => Ok(plan),
+        None => Err(PlanFault::Usage),
     }
 }

@@ -1,5 +1,6 @@
 -- The text of what is still to be written, at a node.
 use Rattle.std.proofs.Common.{◌≡◌, ◌∙◌, ap, sym, subst, ℕ, ◌<◌, List, [], ◌∷◌, ◌++◌, length, append_assoc, slice_index_or, false}
+use Rattle.std.specs.Prelude.{Result, Ok, Err, OnOk, is_ok, if◌then◌else◌, ⊤}
 use Rattle.std.proofs.lemmas.List.{append-nil}
 use Rattle.ltl_spec.specs.Semantics.Word.{Name}
 use Rattle.ltl_spec.specs.Formulas.Formula.{Formula}
@@ -15,10 +16,18 @@ use Rattle.ltl_formula.specs.CanonicalWork.{HasOperands, Points, size, stack_tex
 use Rattle.ltl_formula.proofs.TreeLemmas.{tree_at}
 
 module _ (names : List Name) (ts : List Formula) where
-  -- what is pushed is written first
+  -- what is put behind is written first
+  pub stack_text_more : (ws vs : List Work) → stack_text names ts (ws ++ vs) ≡ stack_text names ts vs ++ stack_text names ts ws
+  stack_text_more [] vs = sym (append-nil (stack_text names ts vs))
+  stack_text_more (x ∷ xs) vs = ap (λ t. t ++ work_text names ts x) (stack_text_more xs vs) ∙ append_assoc (stack_text names ts vs) (stack_text names ts xs) (work_text names ts x)
+
   pub stack_text_push : (ws : List Work) (w : Work) → stack_text names ts (ws ++ w ∷ []) ≡ work_text names ts w ++ stack_text names ts ws
-  stack_text_push [] w = sym (append-nil (work_text names ts w))
-  stack_text_push (x ∷ xs) w = ap (λ t. t ++ work_text names ts x) (stack_text_push xs w) ∙ append_assoc (work_text names ts w) (stack_text names ts xs) (work_text names ts x)
+  stack_text_push ws w = stack_text_more ws (w ∷ [])
+
+-- what a call that may lack memory put behind, where it didn't
+pub where_taken : {E : Type 0} {P : Type 0} (r : Result ⊤ E) {X : Type 0} (new old more : List X) → new ≡ (if is_ok r then old ++ more else old) → (new ≡ old ++ more → P) → OnOk r P
+where_taken (Ok u) new old more e f = f e
+where_taken (Err x) new old more e f = tt
 
 module _ (names : List Name) (count : ℕ) (ns : List Node) (o : HasOperands count ns) (w : Work) (i : ℕ) (is : w ≡ Visit i) (points : Points (length ns) w) where
   within : i < length ns
@@ -43,23 +52,11 @@ module _ (names : List Name) (count : ℕ) (ns : List Node) (o : HasOperands cou
   unary_node_text t t' bs s s' op a e b et es =
       rw (et, es, same_text (Unary op a) e, stack_text_push names (trees ns) s (Visit a), b) (simp append_assoc)
 
-  pub binary_node_text : (t t' : List ℕ) (s s1 s2 s3 s4 : List Work) (op : BinaryOperator) (a b : ℕ) → slice_index_or ns i (Constant false) ≡ Binary op a b → t' ≡ t ++ 40 ∷ []
-      → s1 ≡ s ++ Close ∷ [] → s2 ≡ s1 ++ Visit b ∷ [] → s3 ≡ s2 ++ Middle op ∷ [] → s4 ≡ s3 ++ Visit a ∷ []
-      → t' ++ stack_text names (trees ns) s4 ≡ t ++ (work_text names (trees ns) w ++ stack_text names (trees ns) s)
-  binary_node_text t t' s s1 s2 s3 s4 op a b e et e1 e2 e3 e4 =
-      rw (
-        et,
-        same_text (Binary op a b) e,
-        e4,
-        stack_text_push names (trees ns) s3 (Visit a),
-        e3,
-        stack_text_push names (trees ns) s2 (Middle op),
-        e2,
-        stack_text_push names (trees ns) s1 (Visit b),
-        e1,
-        stack_text_push names (trees ns) s Close,
-      )
-      (simp append_assoc)
+  pub binary_node_text : (t t' : List ℕ) (s s' : List Work) (op : BinaryOperator) (a b : ℕ) → slice_index_or ns i (Constant false) ≡ Binary op a b → t' ≡ t ++ 40 ∷ []
+      → s' ≡ s ++ Close ∷ Visit b ∷ Middle op ∷ Visit a ∷ []
+      → t' ++ stack_text names (trees ns) s' ≡ t ++ (work_text names (trees ns) w ++ stack_text names (trees ns) s)
+  binary_node_text t t' s s' op a b e et es =
+      rw (et, es, same_text (Binary op a b) e, stack_text_more names (trees ns) s (Close ∷ Visit b ∷ Middle op ∷ Visit a ∷ [])) (simp append_assoc)
 
   -- the proposition has a name
   pub proposition_within : (p : ℕ) → slice_index_or ns i (Constant false) ≡ Proposition p → p < count

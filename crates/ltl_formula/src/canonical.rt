@@ -46,6 +46,44 @@ fn binary_text(operator: BinaryOperator) -> &'static [u8]
     }
 }
 
+/// Writes what begins a node, and puts what is left of it on the stack.
+fn visit<A: Allocator>(
+    nodes: &[Node],
+    names: &[String<&A>],
+    i: usize,
+    text: &mut Vec<u8, &A>,
+    stack: &mut Vec<Work, &A>,
+) -> Result<(), AllocError>
+    requires ordered { HasOperands (length names.now) nodes.now }
+    requires within { i < length nodes.now }
+    requires all_point { All (Points (length nodes.now)) stack.old.items }
+    ensures points { OnOk result (All (Points (length nodes.now)) stack.new.items) }
+    ensures text { OnOk result (let names = map string_bytes names.now in
+        text.new.items ++ stack_text names (trees nodes.now) stack.new.items
+        ≡ text.old.items ++ (work_text names (trees nodes.now) (Work.Visit i) ++ stack_text names (trees nodes.now) stack.old.items)) }
+    ensures falls { OnOk result (sum_by (weight (trees nodes.now)) stack.new.items
+        < weight (trees nodes.now) (Work.Visit i) + sum_by (weight (trees nodes.now)) stack.old.items) }
+{
+    match nodes[i] {
+        Node::Constant(value) => text.extend_from_slice(constant_text(value)),
+        Node::Proposition(number) => text.extend_from_slice(names[number].as_bytes()),
+        Node::Unary(operator, operand) => {
+            text.extend_from_slice(unary_text(operator))?;
+            stack.push(Work::Visit(operand))?;
+            Ok(())
+        }
+        Node::Binary(operator, left, right) => {
+            text.push(b'(')?;
+            stack.extend_from_slice(&[
+                Work::Close,
+                Work::Visit(right),
+                Work::Middle(operator),
+                Work::Visit(left),
+            ])
+        }
+    }
+}
+
 /// Writes what stands on top, and puts what is left of it on the stack.
 fn step<A: Allocator>(
     nodes: &[Node],
@@ -65,25 +103,13 @@ fn step<A: Allocator>(
         < weight (trees nodes.now) work + sum_by (weight (trees nodes.now)) stack.old.items) }
 {
     match work {
-        Work::Middle(operator) => text.extend_from_slice(binary_text(operator))?,
-        Work::Close => text.push(b')')?,
-        Work::Visit(i) => match nodes[i] {
-            Node::Constant(value) => text.extend_from_slice(constant_text(value))?,
-            Node::Proposition(number) => text.extend_from_slice(names[number].as_bytes())?,
-            Node::Unary(operator, operand) => {
-                text.extend_from_slice(unary_text(operator))?;
-                stack.push(Work::Visit(operand))?;
-            }
-            Node::Binary(operator, left, right) => {
-                text.push(b'(')?;
-                stack.push(Work::Close)?;
-                stack.push(Work::Visit(right))?;
-                stack.push(Work::Middle(operator))?;
-                stack.push(Work::Visit(left))?;
-            }
-        },
+        Work::Middle(operator) => text.extend_from_slice(binary_text(operator)),
+        Work::Close => {
+            text.push(b')')?;
+            Ok(())
+        }
+        Work::Visit(i) => visit(nodes, names, i, text, stack),
     }
-    Ok(())
 }
 
 /// The canonical text of the last node.

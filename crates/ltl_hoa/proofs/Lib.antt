@@ -14,7 +14,6 @@ pub mod ParserLaws
 pub mod PrintedLabels
 pub mod PrintedLaws
 pub mod PrintedTokens
-pub mod SortedSets
 pub mod StepLaws
 pub mod StreamLaws
 pub mod WholeLaws

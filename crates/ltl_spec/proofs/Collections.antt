@@ -4,3 +4,4 @@ pub mod SetLaws
 pub mod ListLaws
 pub mod MemberLaws
 pub mod Orders
+pub mod SortedSets

@@ -18,7 +18,7 @@ use Rattle.ltl_spec.specs.Transitions.RowTransitions.{Table, table_of, place, pa
 use Rattle.ltl_spec.specs.Automata.Automaton.{Automaton, State, Edge, state_at}
 use Rattle.ltl_spec.specs.Automata.Generalized.{same_row_set, target_sets, root_set, edge_to, state_of, automaton_over, IsGeneralized}
 use Rattle.ltl_spec.specs.Construction.Merging.{retargeted_state, without_implied, class_names, quotient, merged_automaton}
-use Rattle.ltl_spec.specs.Construction.Levels.{Copy, same_copy, CopyEdge, copy_edge, copy_edges, copies, edge_to_copy, copy_state, level_automaton}
+use Rattle.ltl_spec.specs.Construction.Levels.{Copy, CopyEdge, copy_edge, copy_edges, copies, edge_to_copy, copy_state, level_automaton}
 use Rattle.ltl_spec.specs.Construction.Renumbered.{reached_states, renumbered_automaton}
 use Rattle.ltl_spec.specs.Formulas.Grammar.{Parses, Reads, of_constant, of_name, of_brackets, of_unary, of_tighter, of_left, of_right}
 use Rattle.ltl_spec.specs.Formulas.Tokens.{Token}

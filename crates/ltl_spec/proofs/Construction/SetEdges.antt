@@ -5,7 +5,6 @@ use Rattle.std.specs.Ordering.{nat_cmp, is_ne}
 use Rattle.std.specs.List.{list_any}
 use Rattle.std.proofs.lemmas.List.{get_or-map}
 use Rattle.ltl_spec.specs.Collections.Sets.{Has, IsRising, union}
-use Rattle.ltl_spec.specs.Collections.Lists.{place_of}
 use Rattle.ltl_spec.specs.Automata.Listing.{listing}
 use Rattle.ltl_spec.specs.Transitions.Cubes.{Cube, literal_cmp, is_contradictory}
 use Rattle.ltl_spec.specs.NormalForms.Normal.{Normal, Top, Bottom, Leaf, Next, And, Or, Until, Release}
@@ -13,7 +12,7 @@ use Rattle.ltl_spec.specs.Transitions.Pairs.{RowSet, Pair, join_pair, join, empt
 use Rattle.ltl_spec.specs.Transitions.RowTransitions.{Table, table_of, place, pairs_at, successors, is_marked, with_marks, Transition, transition_cmp, implies, transitions}
 use Rattle.ltl_spec.specs.Automata.Automaton.{Automaton, State, Edge, state_at}
 use Rattle.ltl_spec.specs.Automata.Generalized.{same_row_set, target_sets, root_set, edge_to, state_of, automaton_over, IsGeneralized}
-use Rattle.ltl_spec.specs.Construction.Levels.{Copy, same_copy, CopyEdge, copy_edge, copy_edges, copies, edge_to_copy, copy_state, level_automaton}
+use Rattle.ltl_spec.specs.Construction.Levels.{Copy, CopyEdge, copy_edge, copy_edges, copies, edge_to_copy, copy_state, level_automaton}
 use Rattle.ltl_spec.proofs.Collections.SetLaws.{append_cases, IsRising-union, set_of_cases, filter_cases}
 use Rattle.ltl_spec.proofs.Collections.ListLaws.{IsRising-places}
 use Rattle.ltl_spec.proofs.Collections.Orders.{literal_linear, pair_linear, copy_edge_linear, edge_linear}

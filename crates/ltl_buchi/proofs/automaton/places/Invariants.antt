@@ -1,4 +1,4 @@
-use Rattle.std.proofs.Common.{◌≡◌, List}
+use Rattle.std.proofs.Common.{◌≡◌}
 use Rattle.std.specs.Prelude.{map, take}
 use Rattle.ltl_buchi.specs.declared.automaton.Placed.{Placed}
 use Rattle.ltl_buchi.proofs.automaton.places.Given as goal

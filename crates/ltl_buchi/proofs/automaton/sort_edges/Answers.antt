@@ -1,4 +1,4 @@
-use Rattle.std.proofs.Common.{◌<◌, ℕ, sym, subst, rules}
+use Rattle.std.proofs.Common.{◌<◌, sym, subst, rules}
 use Rattle.std.specs.Prelude.{All}
 use Rattle.std.proofs.lemmas.List.Filters.{dedup_is, All-dedup}
 use Rattle.std.proofs.lemmas.List.Sorted.{All-permutation}
@@ -6,7 +6,7 @@ use Rattle.ltl_spec.proofs.Collections.Orders.{edge_linear}
 use Rattle.ltl_buchi.specs.BaView.{edge_of}
 use Rattle.ltl_buchi.specs.declared.automaton.Edge.{Edge}
 use Rattle.ltl_buchi.proofs.EdgeLaws.{edge_exact, edge_Decides}
-use Rattle.ltl_buchi.proofs.SortedSets.{sorted_set, sorted_by}
+use Rattle.ltl_spec.proofs.Collections.SortedSets.{sorted_set, sorted_by}
 use Rattle.ltl_buchi.proofs.automaton.sort_edges.Goals as goal
 
 pub returns-clause-set : goal.returns-clause-set

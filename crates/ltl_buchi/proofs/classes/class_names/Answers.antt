@@ -1,4 +1,4 @@
-use Rattle.std.proofs.Common.{◌≡◌, ◌∙◌, ◌<◌, ap, sym, subst, arith, length}
+use Rattle.std.proofs.Common.{◌∙◌, ◌<◌, ap, sym, subst, arith, length}
 use Rattle.std.specs.Prelude.{All}
 use Rattle.ltl_buchi.specs.Classes.{IsCoded, IsLeastPlaces}
 use Rattle.ltl_buchi.proofs.ClassLaws.{codes_within}

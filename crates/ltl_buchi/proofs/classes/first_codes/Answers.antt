@@ -1,8 +1,8 @@
-use Rattle.std.proofs.Common.{◌≡◌, ◌∙◌, ap, arith, sym, Some}
-use Rattle.std.specs.Prelude.{slice_index, slice_index_or}
+use Rattle.std.proofs.Common.{◌∙◌, ap, arith, Some}
+use Rattle.std.specs.Prelude.{slice_index}
 use Rattle.ltl_spec.specs.Automata.Automaton.{State}
 use Rattle.ltl_spec.specs.Construction.Merging.{retargeted_state}
-use Rattle.ltl_buchi.proofs.ClassLaws.{recoded_none, recoded_push, recoded_ends, got_state}
+use Rattle.ltl_buchi.proofs.ClassLaws.{recoded_push, got_state}
 use Rattle.ltl_buchi.proofs.Within.{pushed_longer}
 use Rattle.ltl_buchi.proofs.classes.first_codes.Goals as goal
 

@@ -1,8 +1,6 @@
 use Rattle.std.proofs.Common.{◌<◌, arith, sym, subst}
 use Rattle.std.specs.Prelude.{All}
 use Rattle.std.proofs.lemmas.List.Elements.{All-push}
-use Rattle.std.proofs.lemmas.List.Sorted.{All-permutation}
-use Rattle.std.proofs.lemmas.List.Filters.{dedup_is, All-dedup}
 use Rattle.ltl_alt.specs.declared.edge.GbaEdge.{GbaEdge}
 use Rattle.std.specs.Prelude.{map, take}
 use Rattle.std.proofs.Common.{ap, ◌∙◌}

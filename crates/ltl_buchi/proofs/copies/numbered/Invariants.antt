@@ -1,4 +1,4 @@
-use Rattle.std.proofs.Common.{◌≡◌, ℕ, ◌<◌, ◌≤◌, List, ◌++◌, length}
+use Rattle.std.proofs.Common.{◌≡◌, ℕ, ◌<◌, List, ◌++◌, length}
 use Rattle.std.specs.Prelude.{All}
 use Rattle.ltl_buchi.specs.Copies.{IsCopyBelow}
 use Rattle.ltl_buchi.specs.declared.copies.Copied.{Copied}

@@ -1,8 +1,8 @@
-use Rattle.std.proofs.Common.{◌≡◌, true, ◌∙◌, sym, subst, map}
+use Rattle.std.proofs.Common.{◌≡◌, true, ◌∙◌, sym, subst}
 use Rattle.std.specs.Prelude.{All}
-use Rattle.ltl_spec.specs.Automata.Automaton.{Automaton, State}
+use Rattle.ltl_spec.specs.Automata.Automaton.{State}
 use Rattle.ltl_spec.specs.Construction.Merging.{merged_automaton}
-use Rattle.ltl_alt.specs.GbaView.{IsGba, state_of}
+use Rattle.ltl_alt.specs.GbaView.{IsGba}
 use Rattle.ltl_buchi.specs.Classes.{IsWithinStates}
 use Rattle.ltl_buchi.proofs.MergedLaws.{automaton_is, merged_of, merged_gba, merged_accepting, gba_within}
 use Rattle.ltl_buchi.proofs.merging.merge.Goals as goal

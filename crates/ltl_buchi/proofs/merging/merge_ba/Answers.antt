@@ -1,7 +1,7 @@
-use Rattle.std.proofs.Common.{◌≡◌, [], ◌∙◌, sym, subst, refl}
+use Rattle.std.proofs.Common.{◌≡◌, [], ◌∙◌, sym, subst}
 use Rattle.std.specs.Prelude.{All}
 use Rattle.ltl_spec.specs.Collections.Sets.{IsRising}
-use Rattle.ltl_spec.specs.Automata.Automaton.{Automaton, Edge, State, edge_cmp}
+use Rattle.ltl_spec.specs.Automata.Automaton.{Edge, State, edge_cmp}
 use Rattle.ltl_spec.specs.Construction.Merging.{merged_automaton}
 use Rattle.ltl_spec.proofs.Construction.ImpliedEdges.{IsSetEdge}
 use Rattle.ltl_buchi.specs.BaView.{IsBa}

@@ -2,7 +2,7 @@ use Rattle.std.proofs.Common.{◌<◌, ◌≤◌, length, arith, sym, subst}
 use Rattle.std.specs.Prelude.{All, ◌==◌}
 use Rattle.std.proofs.lemmas.Bool.Decides.{Decides-eqb}
 use Rattle.ltl_buchi.specs.BaView.{edge_of}
-use Rattle.ltl_buchi.proofs.NumberedLaws.{numbered_next, numbered_all, took, map_pushed}
+use Rattle.ltl_buchi.proofs.NumberedLaws.{numbered_next, took, map_pushed}
 use Rattle.std.proofs.lemmas.List.Elements.{All-push}
 use Rattle.std.proofs.lemmas.Grind.{common_steps}
 use Rattle.ltl_buchi.proofs.Within.{All_below_more, extended_longer, extended_twice}

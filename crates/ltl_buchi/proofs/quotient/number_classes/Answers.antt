@@ -1,5 +1,5 @@
 use Rattle.std.proofs.Common.{◌≡◌, ◌+◌, ◌<◌, ◌≤◌, ◌∙◌, ap, arith, sym, refl, subst, length, ◌++◌, ◌∷◌, []}
-use Rattle.std.specs.Prelude.{slice_index, slice_index_or, take}
+use Rattle.std.specs.Prelude.{slice_index, take}
 use Rattle.std.proofs.lemmas.Grind.{common_steps}
 use Rattle.ltl_buchi.specs.Classes.{IsNumbering}
 use Rattle.ltl_buchi.proofs.NumberLaws.{step_new, step_old, index_same}

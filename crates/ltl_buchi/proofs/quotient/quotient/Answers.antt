@@ -1,4 +1,4 @@
-use Rattle.std.proofs.Common.{◌≡◌, ◌<◌, ◌∙◌, ap, arith, sym, subst, length, map, ℕ, List}
+use Rattle.std.proofs.Common.{◌≡◌, ◌<◌, ◌∙◌, ap, arith, sym, subst, length, ℕ, List}
 use Rattle.std.specs.Prelude.{All, take, slice_index, slice_index_or}
 use Rattle.std.specs.Ordering.{nat_cmp}
 use Rattle.ltl_spec.specs.Collections.Sets.{Has, set_of}
@@ -6,7 +6,7 @@ use Rattle.ltl_spec.specs.Automata.Automaton.{Edge, State, state_at}
 use Rattle.ltl_spec.specs.Construction.Merging.{without_implied, retargeted_state}
 use Rattle.ltl_buchi.specs.Classes.{of_states, number_in}
 use Rattle.ltl_buchi.proofs.NumberLaws.{class_below}
-use Rattle.ltl_buchi.proofs.NumberedLaws.{took, take_whole}
+use Rattle.ltl_buchi.proofs.NumberedLaws.{took}
 use Rattle.ltl_buchi.proofs.MergeLaws.{pushed_value, index_own, class_same}
 use Rattle.ltl_buchi.proofs.MergedLaws.{of_all}
 use Rattle.ltl_buchi.proofs.quotient.quotient.Goals as goal

@@ -1,6 +1,6 @@
-use Rattle.std.proofs.Common.{◌≡◌, List, Bool, true, false, ◌∙◌, sym, ap, not, subst}
+use Rattle.std.proofs.Common.{◌≡◌, List, Bool, true, false, ◌∙◌, sym, ap, not}
 use Rattle.std.specs.Prelude.{map, take}
-use Rattle.std.specs.List.{list_any, filter}
+use Rattle.std.specs.List.{list_any}
 use Rattle.ltl_spec.specs.Automata.Automaton.{Edge}
 use Rattle.ltl_spec.proofs.Construction.ImpliedEdges.{is_above}
 use Rattle.ltl_alt.specs.GbaView.{edge_of}

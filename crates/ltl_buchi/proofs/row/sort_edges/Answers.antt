@@ -2,7 +2,7 @@ use Rattle.std.proofs.Common.{rules}
 use Rattle.ltl_spec.proofs.Collections.Orders.{edge_linear}
 use Rattle.ltl_alt.specs.GbaView.{edge_of}
 use Rattle.ltl_buchi.proofs.RowStates.{edge_exact, edge_Decides}
-use Rattle.ltl_buchi.proofs.SortedSets.{sorted_set, sorted_by}
+use Rattle.ltl_spec.proofs.Collections.SortedSets.{sorted_set, sorted_by}
 use Rattle.ltl_buchi.proofs.row.sort_edges.Goals as goal
 
 pub returns : goal.returns

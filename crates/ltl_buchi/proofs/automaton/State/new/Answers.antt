@@ -1,4 +1,4 @@
-use Rattle.std.proofs.Common.{ℕ, ◌<◌}
+use Rattle.std.proofs.Common.{◌<◌}
 use Rattle.std.proofs.lemmas.List.Elements.{All-map}
 use Rattle.ltl_spec.specs.Automata.Automaton as spec
 use Rattle.ltl_buchi.specs.BaView.{edge_of}

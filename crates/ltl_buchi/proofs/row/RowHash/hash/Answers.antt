@@ -1,4 +1,4 @@
-use Rattle.std.proofs.Common.{◌∙◌, ap, subst}
+use Rattle.std.proofs.Common.{◌∙◌, ap}
 use Rattle.std.specs.Prelude.{fold}
 use Rattle.std.specs.Hash as fed
 use Rattle.ltl_buchi.specs.RowLaws.{hash_of_state}

@@ -1,12 +1,12 @@
--- Sorting a list and dropping repetitions gives the set of its elements.
-use Rattle.std.proofs.Common.{◌≡◌, ℕ, Bool, true, false, List, [], ◌∷◌, map, refl, sym, ◌∙◌, ap, subst, IsPermutation}
+-- Sorting a list and dropping repetitions gives the set of its elements: by a key that tells elements apart, or by the elements themselves.
+use Rattle.std.proofs.Common.{◌≡◌, Bool, List, [], ◌∷◌, map, refl, sym, ◌∙◌, ap, subst, IsPermutation}
 use Rattle.std.specs.declared.cmp.Ordering.{Ordering}
 use Rattle.std.specs.declared.cmp.Ordering.TheVariants.{Less, Equal, Greater}
 use Rattle.std.specs.Ordering.{is_eq, is_lt, eq_by_cmp}
 use Rattle.std.specs.Bool.{Decides}
-use Rattle.std.specs.Cmp.{IsTotalOrder, IsEquivalence, IsStrictWeakOrder}
+use Rattle.std.specs.Cmp.{IsEquivalence, IsStrictWeakOrder}
 use Rattle.std.specs.Fn.{Called, ComparesAs}
-use Rattle.std.specs.List.{dedup, AllByRecursion, Contains}
+use Rattle.std.specs.List.{dedup, Contains}
 use Rattle.std.specs.List.Retain.{IsFiltered, DiffersFromLast}
 use Rattle.std.specs.List.Sorted.{IsSortedBy, IsStrictlySortedBy, IsSorted}
 use Rattle.std.proofs.lemmas.Bool.Decides.{same_from_decides}
@@ -82,3 +82,13 @@ pub sorted_by : {X Y : Type 0} {R : Y → Y → Ordering} → IsLinearOrder R �
 sorted_by {R = R} o key {g = g} {f = f} ys up h =
     up (λ x y. is_lt (R (key x) (key y))) (ranks_by o.total key)
     (always_returns_same g (λ a r. is_lt r ≡ is_lt (R (key a.0.now) (key a.1.0.now))) f (λ a r f' k. (ap is_lt (h a r f' k).0, (h a r f' k).1)))
+
+-- the same, of the elements themselves
+pub sorted_set_itself : {X : Type 0} {R : X → X → Ordering} → IsLinearOrder R → (same : X → X → Bool) → ((x y : X) → Decides (same x y) (x ≡ y)) → (xs ys zs : List X)
+    → IsPermutation xs ys → IsSorted R ys → IsFiltered (DiffersFromLast same) [] ys zs → zs ≡ set_of R xs
+sorted_set_itself {R = R} o same decides xs ys zs p s f =
+    sym (unchanged zs) ∙ sorted_set o (λ x. x) (λ x y e. e) same decides xs ys zs p s f ∙ ap (set_of R) (unchanged xs)
+  where
+    unchanged : {X : Type 0} (xs : List X) → map (λ x. x) xs ≡ xs
+    unchanged [] = refl
+    unchanged (x ∷ xs) = ap (λ l. x ∷ l) (unchanged xs)
