@@ -13,4 +13,5 @@ pub mod RenumberLaws
 pub mod RowStates
 pub mod Sums
 pub mod TranslationLaws
+pub mod WeighedLaws
 pub mod Within

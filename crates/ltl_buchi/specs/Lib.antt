@@ -5,3 +5,4 @@ pub mod FaultOf
 pub mod Numbered
 pub mod OptionsView
 pub mod RowLaws
+pub mod Weighed

@@ -5,6 +5,7 @@ pub mod automaton;
 mod classes;
 pub mod copies;
 pub mod fault;
+mod implied;
 pub mod merging;
 pub mod numbering;
 pub mod options;

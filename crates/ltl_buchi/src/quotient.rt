@@ -1,15 +1,12 @@
 //! The automaton of the classes of states.
 
-ghost use Rattle.std.specs.Prelude.{◌≡◌, ◌<◌, length, map, slice_index, All, IfOk};
-ghost use Rattle.std.specs.List.{list_any};
+ghost use Rattle.std.specs.Prelude.{◌≡◌, ◌<◌, length, slice_index, All, IfOk};
 ghost use Rattle.ltl_spec.specs.Automata.Automaton.{state_at};
 ghost use Rattle.ltl_spec.specs.Construction.Merging as merging;
-ghost use Rattle.ltl_spec.proofs.Construction.ImpliedEdges.{is_above};
-ghost use Rattle.ltl_alt.specs.GbaView.{edge_of};
 ghost use Rattle.ltl_buchi.specs.Classes.{AreNames, IsNumbering, IsWithinStates, of_states};
 
+use crate::implied::unimplied;
 use crate::row::Row;
-use ltl_alt::GbaEdge;
 use std::alloc::{AllocError, Allocator};
 
 /// The names of the classes, rising, and the number of each state's class.
@@ -40,59 +37,6 @@ fn number_classes<'a, A: Allocator>(
         }
     }
     Ok(Numbering { classes, numbers })
-}
-
-/// Whether the first edge implies the second one: it has the same target, asks for no more, and is in each set that the second is in.
-#[tactic(auto, using(crate::proofs::MergeLaws::no_target, crate::proofs::MergeLaws::no_cube, crate::proofs::MergeLaws::only_marks))]
-fn implies(f: &GbaEdge, e: &GbaEdge) -> bool
-    ensures { result ≡ merging.implies_edge (edge_of f.now) (edge_of e.now) }
-{
-    if f.target != e.target {
-        return false;
-    }
-    if !f.cube.implies_of(&e.cube) {
-        return false;
-    }
-    e.marks.is_subset(&f.marks)
-}
-
-/// Whether the first edge is another one than the second and implies it.
-#[tactic(auto, using(crate::proofs::MergeLaws::above_equal, crate::proofs::MergeLaws::above_other))]
-fn is_other_implying(f: &GbaEdge, e: &GbaEdge) -> bool
-    ensures { result ≡ is_above (edge_of f.now) (edge_of e.now) }
-{
-    if *f == *e {
-        return false;
-    }
-    implies(f, e)
-}
-
-/// Whether another edge of the list implies this one.
-fn is_implied(edges: &[GbaEdge], e: &GbaEdge) -> bool
-    ensures { result ≡ list_any (λ f. is_above f (edge_of e.now)) (map edge_of edges.now) }
-{
-    for f in edges {
-        if is_other_implying(f, e) {
-            return true;
-        }
-    }
-    false
-}
-
-/// The edges without those that another one with the same target implies.
-fn unimplied<'a, A: Allocator>(
-    alloc: &'a A,
-    edges: &[GbaEdge],
-) -> Result<Vec<GbaEdge, &'a A>, AllocError>
-    ensures { IfOk result (λ es. map edge_of es.items ≡ merging.unimplied_edges (map edge_of edges.now)) }
-{
-    let mut kept = Vec::new(alloc);
-    for edge in edges {
-        if !is_implied(edges, edge) {
-            kept.push(*edge)?;
-        }
-    }
-    Ok(kept)
 }
 
 /// The state of a class, from the state that names it.

@@ -4,7 +4,7 @@ use Rattle.std.specs.declared.cmp.Ordering.{Ordering}
 use Rattle.std.specs.declared.cmp.Ordering.TheVariants.{Less, Equal, Greater}
 use Rattle.std.specs.Ordering.{is_eq, is_lt, eq_by_cmp}
 use Rattle.std.specs.Bool.{Decides}
-use Rattle.std.specs.Cmp.{IsEquivalence, IsStrictWeakOrder}
+use Rattle.std.specs.Cmp.{IsEquivalence, IsStrictWeakOrder, IsTotalOrder}
 use Rattle.std.specs.Fn.{Called, ComparesAs}
 use Rattle.std.specs.List.{dedup, Contains}
 use Rattle.std.specs.List.Retain.{IsFiltered, DiffersFromLast}
@@ -76,11 +76,11 @@ module _ {X Y : Type 0} {R : Y → Y → Ordering} (o : IsLinearOrder R) (key : 
             subst (Has (map key zs)) (sym w.2) (Has-map key zs w.0 (Has-from_contains zs w.0 (subst (λ l. Contains l w.0) (sym (dedup_is same ys zs f)) c)))
 
 -- what `sort_unstable_by` says, where each call of its closure compares the keys
-pub sorted_by : {X Y : Type 0} {R : Y → Y → Ordering} → IsLinearOrder R → (key : X → Y) → {F : Type 0} {g : Mut F (Bor X × (Bor X × Unit {0})) Ordering} {f : F} (ys : List X)
+pub sorted_by : {X Y : Type 0} {R : Y → Y → Ordering} → IsTotalOrder R → (key : X → Y) → {F : Type 0} {g : Mut F (Bor X × (Bor X × Unit {0})) Ordering} {f : F} (ys : List X)
     → ((lt : X → X → Bool) → IsStrictWeakOrder lt → ComparesAs g lt f → IsSortedBy lt ys)
     → ((a : Bor X × (Bor X × Unit {0})) (r : Ordering) (f' : F) → Called g f a r f' → (r ≡ R (key a.0.now) (key a.1.0.now)) × (f' ≡ f)) → IsSortedBy (λ x y. is_lt (R (key x) (key y))) ys
 sorted_by {R = R} o key {g = g} {f = f} ys up h =
-    up (λ x y. is_lt (R (key x) (key y))) (ranks_by o.total key)
+    up (λ x y. is_lt (R (key x) (key y))) (ranks_by o key)
     (always_returns_same g (λ a r. is_lt r ≡ is_lt (R (key a.0.now) (key a.1.0.now))) f (λ a r f' k. (ap is_lt (h a r f' k).0, (h a r f' k).1)))
 
 -- the same, of the elements themselves

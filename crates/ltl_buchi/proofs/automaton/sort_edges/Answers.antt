@@ -11,7 +11,7 @@ use Rattle.ltl_buchi.proofs.automaton.sort_edges.Goals as goal
 
 pub returns-clause-set : goal.returns-clause-set
 returns-clause-set g c =
-    let sorted = sorted_by edge_linear edge_of c.sort_unstable_by.new.self.items c.sort_unstable_by.ensures.sorted (λ a r q k. search rules) in
+    let sorted = sorted_by edge_linear.total edge_of c.sort_unstable_by.new.self.items c.sort_unstable_by.ensures.sorted (λ a r q k. search rules) in
     sorted_set edge_linear edge_of edge_exact _ edge_Decides _ _ _ c.sort_unstable_by.ensures.permutation sorted c.dedup.ensures.filtered
 
 pub returns-clause-within : goal.returns-clause-within

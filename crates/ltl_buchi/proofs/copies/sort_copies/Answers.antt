@@ -11,7 +11,7 @@ use Rattle.ltl_buchi.proofs.copies.sort_copies.Goals as goal
 
 pub returns-clause-set : goal.returns-clause-set
 returns-clause-set g c =
-    let sorted = sorted_by copy_edge_linear copy_edge_of c.sort_unstable_by.new.self.items c.sort_unstable_by.ensures.sorted (λ a r q k. search rules) in
+    let sorted = sorted_by copy_edge_linear.total copy_edge_of c.sort_unstable_by.new.self.items c.sort_unstable_by.ensures.sorted (λ a r q k. search rules) in
     sorted_set copy_edge_linear copy_edge_of copy_edge_exact _ copy_edge_Decides _ _ _ c.sort_unstable_by.ensures.permutation sorted c.dedup.ensures.filtered
 
 pub returns-clause-within : goal.returns-clause-within

@@ -7,5 +7,5 @@ use Rattle.ltl_buchi.proofs.row.sort_edges.Goals as goal
 
 pub returns : goal.returns
 returns g c =
-    let sorted = sorted_by edge_linear edge_of c.sort_unstable_by.new.self.items c.sort_unstable_by.ensures.sorted (λ a r q k. search rules) in
+    let sorted = sorted_by edge_linear.total edge_of c.sort_unstable_by.new.self.items c.sort_unstable_by.ensures.sorted (λ a r q k. search rules) in
     sorted_set edge_linear edge_of edge_exact _ edge_Decides _ _ _ c.sort_unstable_by.ensures.permutation sorted c.dedup.ensures.filtered

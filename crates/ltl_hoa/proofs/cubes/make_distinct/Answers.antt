@@ -7,5 +7,5 @@ use Rattle.ltl_hoa.proofs.cubes.make_distinct.Goals as goal
 pub returns : goal.returns
 returns g c =
     sorted_set_itself cube_linear _ cube_Decides _ _ _ c.sort_unstable_by.ensures.permutation
-    (sorted_by cube_linear (λ d. d) _ c.sort_unstable_by.ensures.sorted (λ a r q k. search rules))
+    (sorted_by cube_linear.total (λ d. d) _ c.sort_unstable_by.ensures.sorted (λ a r q k. search rules))
     c.dedup.ensures.filtered
