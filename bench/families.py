@@ -1,0 +1,63 @@
+#!/usr/bin/env python3
+"""Times ltl2ba on families of formulas, beside `spin -f` where that is installed.
+
+Usage: bench/families.py [-s SECONDS] [FAMILY..]
+
+For each formula: how long each program took as a whole, with the output thrown away, and how much it printed. A program that takes longer
+than SECONDS (10, if not given) is stopped. Nothing checks the numbers: they depend on the machine."""
+import shutil
+import subprocess
+import sys
+import time
+from pathlib import Path
+
+PROGRAM = Path(__file__).resolve().parent.parent / "crates/ltl2ba/out/ltl2ba"
+
+
+def all_of(count, formula):
+    return " && ".join("(" + formula.format(i, i + 1) + ")" for i in range(count))
+
+
+FAMILIES = {
+    "always eventually": [all_of(n, "[]<>p{0}") for n in (4, 6, 9)],
+    "eventually": [all_of(n, "<>p{0}") for n in (6, 9, 12)],
+    "response": [all_of(n, "[](p{0} -> <>q{0})") for n in (3, 5, 7)],
+    "next": [all_of(n, "[](p{0} -> X q{0})") for n in (3, 6, 9)],
+    "until chain": [all_of(n, "[](p{0} U p{1})") for n in (6, 9, 12)],
+    "strong fairness": [all_of(n, "[]<>p{0} -> []<>q{0}") for n in (2, 4, 6)],
+    "nested until": [" U ".join(f"p{i}" for i in range(n)) for n in (4, 6, 10)],
+    "parity": [" <-> ".join(f"p{i}" for i in range(n)) for n in (4, 8, 16)],
+    "eventual parity": [" <-> ".join(f"<>p{i}" for i in range(n)) for n in (2, 4, 8)],
+    "clauses": [f"<>({all_of(n, 'a{0} || b{0}')})" for n in (5, 10, 15)],
+    "delay": [f"[](p -> {'X ' * n}q)" for n in (4, 8, 16)],
+}
+
+
+def timed(words, most):
+    """How long the program took and how many bytes it printed, or none where it was stopped."""
+    began = time.monotonic()
+    try:
+        run = subprocess.run(words, stdout=subprocess.PIPE, stderr=subprocess.DEVNULL, timeout=most)
+    except subprocess.TimeoutExpired:
+        return f"over {most:g} s"
+    took = time.monotonic() - began
+    return f"{took:8.3f} s {len(run.stdout):10} bytes" + (f", status {run.returncode}" if run.returncode else "")
+
+
+def main(words):
+    most = 10.0
+    if words[:1] == ["-s"]:
+        most, words = float(words[1]), words[2:]
+    if not PROGRAM.exists():
+        sys.exit("bench/families.py: build ltl2ba first: ./run ltl2ba -f p")
+    spin = shutil.which("spin")
+    for family in words or FAMILIES:
+        for formula in FAMILIES[family]:
+            shown = formula if len(formula) < 60 else formula[:57] + "..."
+            print(f"{family}: {shown}")
+            print(f"  ltl2ba   {timed([PROGRAM, '-f', formula], most)}")
+            if spin:
+                print(f"  spin -f  {timed([spin, '-f', formula], most)}", flush=True)
+
+
+main(sys.argv[1:])
