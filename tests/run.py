@@ -1,11 +1,15 @@
 #!/usr/bin/env python3
 """Runs the built programs on the runs that stand in tests/*.json, and compares every byte of the output, the message and the status.
 
-A run is an object: `args` (the words after the program's name), `stdin`, `files` (name to text; null is a folder, which opens and cannot be read),
-`stdout`, `stderr` and `status`, which are what the run has to give. Where more than one output is right, `stdout_begins` says how it has to begin.
-A text is a list of strings, pairs [string, how often], and {"chain": n}, the states of
-an automaton: n of them, each with one edge to the next, and the last with one to itself. With `output` the program writes to that file, as /dev/full, which takes no byte.
-The last line is 'N passed, M failed'. Without an argument the programs are those that the gate built."""
+Usage: tests/run.py [-p FOLDER] [NAME..]; the programs are those of the folder, or those that the gate built. A NAME is that of a file (ltl2ba), or a part
+of what runs say that they are about; without one, all run. The last line is 'N passed, M failed'.
+
+A run is an object: what it is `about`, `args` (the words after the program's name), `stdin`, `files` (name to text; null is a folder, which opens and cannot be
+read), `stdout`, `stderr` and `status`, which are what the run has to give. Where more than one output is right, `stdout_begins` says how it has to begin.
+A word that ltlcheck prints is given to ltleval: the formula of the run has to fail on it, and each formula of `word_keeps` has to hold.
+With `output` or `message` the program writes its output, or its message, to that file, as /dev/full, which takes no byte; "closed" is a stream that isn't open.
+A text is a list of strings, pairs [string, how often], objects {"each": string, "from": n, "to": m}, the string for each of these numbers, which stands for # in it,
+and {"chain": n}, the states of an automaton: n of them, each with one edge to the next, and the last with one to itself."""
 
 import json
 import os
@@ -22,6 +26,8 @@ def part(form):
         return form.encode()
     if isinstance(form, list):
         return form[0].encode() * form[1]
+    if "each" in form:
+        return "".join(form["each"].replace("#", str(k)) for k in range(form["from"], form["to"] + 1)).encode()
     last = form["chain"] - 1
     return b"".join(b"State: %d\n[t] %d\n" % (k, min(k + 1, last)) for k in range(last + 1))
 
@@ -34,6 +40,27 @@ def word(form):
     return form if isinstance(form, str) else text(form).decode()
 
 
+class Stream:
+    """Where the program writes its output or its message: to us, to a file, or nowhere since the stream is closed."""
+
+    def __init__(self, number, place):
+        self.number, self.place, self.file = number, place, None
+
+    def handle(self):
+        if self.place is None:
+            return subprocess.PIPE
+        self.file = open(os.devnull if self.place == "closed" else self.place, "wb")
+        return self.file
+
+    def prepare(self):
+        if self.place == "closed":
+            os.close(self.number)
+
+    def close(self):
+        if self.file:
+            self.file.close()
+
+
 def differences(run, program):
     with tempfile.TemporaryDirectory() as folder:
         for name, form in run.get("files", {}).items():
@@ -43,29 +70,49 @@ def differences(run, program):
                 with open(f"{folder}/{name}", "wb") as it:
                     it.write(text(form))
         words = [program, *(word(it) for it in run["args"])]
-        with open(run.get("output", os.devnull), "wb") as to:
-            output = to if "output" in run else subprocess.PIPE
-            how = {"stdout": output, "stderr": subprocess.PIPE, "cwd": folder, "timeout": SECONDS}
-            try:
-                ran = subprocess.run(words, input=text(run.get("stdin", [])), **how)
-            except subprocess.TimeoutExpired:
-                return [f"had not ended after {SECONDS} seconds"]
-    wrote = ran.stdout or b""
+        streams = Stream(1, run.get("output")), Stream(2, run.get("message"))
+        how = {"stdout": streams[0].handle(), "stderr": streams[1].handle(), "cwd": folder, "timeout": SECONDS}
+        if any(it.place == "closed" for it in streams):
+            how["preexec_fn"] = lambda: [it.prepare() for it in streams]
+        try:
+            ran = subprocess.run(words, input=text(run.get("stdin", [])), **how)
+        except subprocess.TimeoutExpired:
+            return [f"had not ended after {SECONDS} seconds"]
+        except FileNotFoundError:
+            return ["is not built"]
+        finally:
+            for it in streams:
+                it.close()
+    wrote, told = ran.stdout or b"", ran.stderr or b""
     found = []
     if ran.returncode != run["status"]:
         found.append(f"status {ran.returncode}, and not {run['status']}")
-    if ran.stderr != text(run["stderr"]):
-        found.append(f"message {ran.stderr[:200]}, and not {text(run['stderr'])[:200]}")
+    if told != text(run["stderr"]):
+        found.append(f"message {told[:200]}, and not {text(run['stderr'])[:200]}")
     if "stdout_begins" in run:
         if not wrote.startswith(text(run["stdout_begins"])):
             found.append(f"output {wrote[:200]}, which does not begin with {text(run['stdout_begins'])}")
     elif wrote != text(run["stdout"]):
         found.append(f"output {wrote[:400]}, and not {text(run['stdout'])[:400]}")
+    if wrote.startswith(b"violated\n"):
+        found += misjudged(run, wrote.decode().split("\n")[1], program)
     return found
 
 
-def main():
-    folder = os.path.abspath(sys.argv[1]) if len(sys.argv) > 1 else None
+def misjudged(run, lasso, program):
+    """Which formulas don't hold or fail on a word as they should."""
+    evaluator = os.path.join(os.path.dirname(program).replace("ltlcheck/out", "ltleval/out"), "ltleval")
+    formula = word(run["args"][run["args"].index("-f") + 1])
+    for asked, wanted in [(formula, b"false\n"), *((it, b"true\n") for it in run.get("word_keeps", []))]:
+        ran = subprocess.run([evaluator, "-f", asked, "-w", lasso], stdout=subprocess.PIPE, stderr=subprocess.STDOUT, timeout=SECONDS)
+        if ran.stdout != wanted:
+            yield f"word {lasso}: {asked} is {ran.stdout}, and not {wanted}"
+
+
+def main(words):
+    folder = None
+    if words[:1] == ["-p"]:
+        folder, words = os.path.abspath(words[1]), words[2:]
     passed = failed = 0
     for file in sorted(os.listdir(f"{TOP}/tests")):
         tool, kind = os.path.splitext(file)
@@ -75,13 +122,15 @@ def main():
         with open(f"{TOP}/tests/{file}", encoding="utf-8") as it:
             runs = json.load(it)
         for run in runs:
+            if words and tool not in words and not any(it in run["about"] for it in words):
+                continue
             found = differences(run, program)
             passed, failed = passed + (not found), failed + bool(found)
             for it in found:
-                print(f"{tool} {' '.join(map(word, run['args']))[:200]}: {it}")
+                print(f"{tool}, {run['about']}: {' '.join(map(word, run['args']))[:200]}: {it}")
     print(f"{passed} passed, {failed} failed")
-    return 1 if failed else 0
+    return 1 if failed or not passed else 0
 
 
 if __name__ == "__main__":
-    sys.exit(main())
+    sys.exit(main(sys.argv[1:]))

@@ -1,7 +1,11 @@
 /* Lets one thing fail in a program that is started with this library in LD_PRELOAD:
    REFUSED=n  the nth call of malloc or realloc; where the program ends with fewer, the file that UNMET names is made
+   LARGEST=n  each call of malloc or realloc for more than n bytes
    TAKEN=n    the standard output takes n bytes, and then each write of it fails, or with BY=none takes no byte
-   GIVEN=n    all reads together give n bytes, and then each read fails */
+   GIVEN=n    all reads together give n bytes, and then each read fails
+   ONCE=1     with TAKEN or GIVEN: one write or read fails, and all later ones work
+   BY=signal  a write or read that fails says that a signal came
+   COUNTED=F  how many calls of malloc and realloc there were goes to the file F */
 #define _GNU_SOURCE
 #include <dlfcn.h>
 #include <errno.h>
@@ -11,8 +15,8 @@
 #include <string.h>
 #include <unistd.h>
 
-static long refused = -1, taken = -1, given = -1;
-static int is_ready, takes_none;
+static long refused = -1, largest = -1, taken = -1, given = -1, counted;
+static int is_ready, is_once, takes_none, is_signal;
 static void *(*real_malloc)(size_t);
 static void *(*real_realloc)(void *, size_t);
 static ssize_t (*real_read)(int, void *, size_t);
@@ -22,6 +26,12 @@ static long number(const char *name)
 {
     const char *text = getenv(name);
     return text ? atol(text) : -1;
+}
+
+static int is_by(const char *way)
+{
+    const char *by = getenv("BY");
+    return by && !strcmp(by, way);
 }
 
 static void prepare(void)
@@ -34,31 +44,39 @@ static void prepare(void)
     real_read = (ssize_t (*)(int, void *, size_t))dlsym(RTLD_NEXT, "read");
     real_write = (ssize_t (*)(int, const void *, size_t))dlsym(RTLD_NEXT, "write");
     refused = number("REFUSED");
+    largest = number("LARGEST");
     taken = number("TAKEN");
     given = number("GIVEN");
-    takes_none = getenv("BY") && !strcmp(getenv("BY"), "none");
+    is_once = getenv("ONCE") != NULL;
+    takes_none = is_by("none");
+    is_signal = is_by("signal");
 }
 
-static int is_refused(void)
+static int is_refused(size_t size)
 {
+    counted++;
+    if (largest >= 0 && size > (size_t)largest)
+        return 1;
     return refused > 0 && --refused == 0;
 }
 
 void *malloc(size_t size)
 {
     prepare();
-    return is_refused() ? NULL : real_malloc(size);
+    return is_refused(size) ? NULL : real_malloc(size);
 }
 
 void *realloc(void *held, size_t size)
 {
     prepare();
-    return is_refused() ? NULL : real_realloc(held, size);
+    return is_refused(size) ? NULL : real_realloc(held, size);
 }
 
-static ssize_t fault(void)
+static ssize_t fault(long *left)
 {
-    errno = EIO;
+    if (is_once)
+        *left = -1;
+    errno = is_signal ? EINTR : EIO;
     return -1;
 }
 
@@ -68,7 +86,7 @@ ssize_t read(int file, void *bytes, size_t size)
     if (given < 0)
         return real_read(file, bytes, size);
     if (given == 0)
-        return fault();
+        return fault(&given);
     ssize_t count = real_read(file, bytes, size < (size_t)given ? size : (size_t)given);
     if (count > 0)
         given -= count;
@@ -80,17 +98,31 @@ ssize_t write(int file, const void *bytes, size_t size)
     prepare();
     if (file != 1 || taken < 0)
         return real_write(file, bytes, size);
-    if (taken == 0)
-        return takes_none ? 0 : fault();
+    if (taken == 0) {
+        ssize_t failed = fault(&taken);
+        return takes_none ? 0 : failed;
+    }
     ssize_t count = real_write(file, bytes, size < (size_t)taken ? size : (size_t)taken);
     if (count > 0)
         taken -= count;
     return count;
 }
 
-__attribute__((destructor)) static void tell_unmet(void)
+__attribute__((destructor)) static void tell(void)
 {
-    const char *file = getenv("UNMET");
-    if (file && refused > 0)
-        open(file, O_CREAT | O_WRONLY, 0600);
+    const char *unmet = getenv("UNMET"), *file = getenv("COUNTED");
+    char digits[32];
+    int place = sizeof digits;
+    if (unmet && refused > 0)
+        open(unmet, O_CREAT | O_WRONLY, 0600);
+    if (!file)
+        return;
+    prepare();
+    digits[--place] = '\n';
+    do
+        digits[--place] = '0' + counted % 10;
+    while ((counted /= 10) > 0);
+    int to = open(file, O_CREAT | O_WRONLY | O_TRUNC, 0600);
+    if (to >= 0)
+        real_write(to, digits + place, sizeof digits - place);
 }

@@ -14,6 +14,7 @@ use Rattle.ltl_spec.specs.Transitions.Pairs.{RowSet}
 use Rattle.ltl_spec.specs.Transitions.RowTransitions.{Table, table_of, Transition, transitions, successors, with_marks, is_marked}
 use Rattle.ltl_spec.specs.Automata.Automaton.{State, Edge}
 use Rattle.ltl_spec.specs.Automata.Generalized.{same_row_set, target_sets, root_set, state_of, IsGeneralized, IsTooLarge}
+use Rattle.ltl_spec.specs.Tools.Limits.{stated_limits}
 use Rattle.ltl_spec.proofs.Collections.SetLaws.{all_from, filter_cases}
 use Rattle.ltl_spec.proofs.Collections.ListLaws.{place_below, places_cases}
 use Rattle.ltl_spec.proofs.Collections.MemberLaws.{Has-map, map_cases}
@@ -76,7 +77,7 @@ module _ (F : Normal) (keep : Bool) where
 
       -- one more was taken
       pub under_way_next : (ms : List RowSet) (next : List State) (es : List Edge) → ms ≡ with_targets ks ts → es ≡ map (edge_in ms) ts → next ≡ made ++ record { accepting = true; edges = es } ∷ []
-          → c + length ts ≤ 1_048_576 → length ms ≤ 65_536 → IsUnderWay F keep (n + 1) ms (c + length ts) next
+          → c + length ts ≤ stated_limits.edges → length ms ≤ stated_limits.states → IsUnderWay F keep (n + 1) ms (c + length ts) next
       under_way_next ms next es m g x few small =
           let l = inside in
           let longer = targets_longer ks ts ms m in
@@ -90,12 +91,12 @@ module _ (F : Normal) (keep : Bool) where
           }
 
       -- there are too many edges
-      pub too_many_edges : 1_048_576 < c + length ts → IsTooLarge F keep 65_536 1_048_576
-      too_many_edges l = (n + 1, inr (subst (λ k. 1_048_576 < k) total l))
+      pub too_many_edges : stated_limits.edges < c + length ts → IsTooLarge F keep stated_limits.states stated_limits.edges
+      too_many_edges l = (n + 1, inr (subst (λ k. stated_limits.edges < k) total l))
 
       -- there are too many states
-      pub too_many_states : (ms : List RowSet) → ms ≡ with_targets ks ts → 65_536 < length ms → IsTooLarge F keep 65_536 1_048_576
-      too_many_states ms m l = (n + 1, inl (subst (λ (xs : List RowSet). 65_536 < length xs) (grown ms m) l))
+      pub too_many_states : (ms : List RowSet) → ms ≡ with_targets ks ts → stated_limits.states < length ms → IsTooLarge F keep stated_limits.states stated_limits.edges
+      too_many_states ms m l = (n + 1, inl (subst (λ (xs : List RowSet). stated_limits.states < length xs) (grown ms m) l))
 
     module _ (done : length ks ≤ n) (sets : ℕ) (s : sets ≡ length (until_rows F)) where
       long : n ≡ length ks
@@ -115,11 +116,11 @@ module _ (F : Normal) (keep : Bool) where
       is_generalized = (n, long ∙ ap length w.list, (λ i. record { sets = s i; states = (is_made ∙ ap (λ xs. map (state_of F keep xs) xs) w.list) i }))
 
       -- and no limit is passed
-      pub is_within_limits : IsTooLarge F keep 65_536 1_048_576 → ⊥
+      pub is_within_limits : IsTooLarge F keep stated_limits.states stated_limits.edges → ⊥
       is_within_limits =
-          never_passed same_row_set (target_sets F keep) (root_set F keep) 65_536 1_048_576 n (long ∙ ap length w.list)
-          (subst (λ (xs : List RowSet). length xs ≤ 65_536) w.list w.few_states)
-          (subst (λ k. k ≤ 1_048_576) w.count w.few_edges)
+          never_passed same_row_set (target_sets F keep) (root_set F keep) stated_limits.states stated_limits.edges n (long ∙ ap length w.list)
+          (subst (λ (xs : List RowSet). length xs ≤ stated_limits.states) w.list w.few_states)
+          (subst (λ k. k ≤ stated_limits.edges) w.count w.few_edges)
 
       -- marks are numbers of until rows
       marks_below : (t : Transition) (e : RowSet) → Has (moves e) t → (k : ℕ) → Has t.marks k → k < sets
@@ -148,7 +149,7 @@ module _ (F : Normal) (keep : Bool) where
             marks = all_has (λ k. k < sets) t.marks (marks_below t e m);
           }
 
-      pub is_gba : sets ≤ 64 → IsGba (record { sets = sets; states = made })
+      pub is_gba : sets ≤ stated_limits.elementary_rows → IsGba (record { sets = sets; states = made })
       is_gba few =
           let count : length made ≡ length ks = ap length is_made ∙ length-map ks (state_of F keep ks) in
           let start = listed_begins same_row_set decides (target_sets F keep) (root_set F keep) n in

@@ -1,4 +1,5 @@
 pub mod AlikeLaws
+pub mod ElementaryLaws
 pub mod GbaLaws
 pub mod ImpliedLaws
 pub mod ListsLaws
@@ -10,6 +11,7 @@ pub mod ReachLaws
 pub mod RowLaws
 pub mod RowListLaws
 pub mod PruneLaws
+pub mod SortLaws
 pub mod StandInLaws
 pub mod TransitionLaws
 pub mod TreeLaws

@@ -19,7 +19,7 @@ use Rattle.ltl_alt.proofs.RowLaws.{rows_count}
 
 -- ---- first places
 
-told_equal : (x y : ℕ) → x ≡ y → (x == y) ≡ true
+pub told_equal : (x y : ℕ) → x ≡ y → (x == y) ≡ true
 told_equal x y e = grind (arith, nat_tests)
 
 told_other : (x y : ℕ) → x ≢ y → (x == y) ≡ false

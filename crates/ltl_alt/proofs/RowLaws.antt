@@ -9,6 +9,7 @@ use Rattle.ltl_spec.proofs.Collections.ListLaws.{places_cases}
 use Rattle.ltl_spec.proofs.Collections.MemberLaws.{map_length}
 use Rattle.ltl_spec.proofs.Collections.ListLaws.{slice_get_has}
 use Rattle.ltl_spec.proofs.NormalForms.SharedNodes.{trees_length}
+use Rattle.ltl_spec.specs.Tools.Limits.{stated_limits}
 use Rattle.ltl_formula.specs.GraphView.{node_of}
 use Rattle.ltl_formula.specs.TableView.{TableView, IsTable, core_of}
 
@@ -47,7 +48,7 @@ fewer_places p q f n (x ∷ xs) = at (fewer_places p q f (n + 1) xs) (p x) (q x)
     at r false false d e = r
 
 -- until rows are elementary
-until_elementary : (F a : Normal) → normal.is_until a ≡ true → (normal.is_elementary a || same a F) ≡ true
+pub until_elementary : (F a : Normal) → normal.is_until a ≡ true → (normal.is_elementary a || same a F) ≡ true
 until_elementary F (Until a b) e = refl
 until_elementary F Top e = cc
 until_elementary F Bottom e = cc
@@ -58,7 +59,7 @@ until_elementary F (Or a b) e = cc
 until_elementary F (Release a b) e = cc
 
 -- so there are no more of them
-pub untils_few : (t : TableView) → IsTable t → length t.untils ≤ 64
+pub untils_few : (t : TableView) → IsTable t → length t.untils ≤ stated_limits.elementary_rows
 untils_few t w =
     let l = fewer_places normal.is_until (λ a. normal.is_elementary a || same a (core_of t)) (until_elementary (core_of t)) 0 (normal.rows (core_of t)) in
     let m : length t.untils ≤ length t.elementary = subst (λ ks. length ks ≤ length t.elementary) (sym w.table.untils) (subst (λ js. length (places_where normal.is_until (normal.rows (core_of t))) ≤ length js) (sym w.table.elementary) l) in

@@ -3,6 +3,7 @@ use Rattle.std.specs.Prelude.{ℕ, ◌<◌, ◌≤◌, Bool, true, List, length,
 use Rattle.std.specs.Coded.{Coded, code_by, coded×, coded_ℕ, coded_bool, coded_list}
 use Rattle.ltl_spec.specs.Automata.Automaton.{Automaton, State, Edge}
 use Rattle.ltl_spec.specs.Transitions.Cubes.{Literal}
+use Rattle.ltl_spec.specs.Tools.Limits.{stated_limits}
 use Rattle.ltl_alt.specs.declared.edge.GbaEdge as made
 
 abbrev pub literal_code : Coded Literal
@@ -30,10 +31,10 @@ pub record IsEdgeWithin (states sets : ℕ) (e : Edge) : Type 0 where
   pub target : e.target < states
   pub marks : All (λ k. k < sets) e.marks
 
--- there are 1 to 65,536 states and at most 1,048,576 edges, which stay within the automaton
+-- there is a state, no limit on states, edges and sets is passed, and the edges stay within the automaton
 pub record IsGba (g : Automaton) : Type 0 where
   pub some : 0 < length g.states
-  pub few_states : length g.states ≤ 65_536
-  pub few_edges : sum_by (λ s. length s.edges) g.states ≤ 1_048_576
-  pub few_sets : g.sets ≤ 64
+  pub few_states : length g.states ≤ stated_limits.states
+  pub few_edges : sum_by (λ s. length s.edges) g.states ≤ stated_limits.edges
+  pub few_sets : g.sets ≤ stated_limits.elementary_rows
   pub within : All (λ s. All (IsEdgeWithin (length g.states) g.sets) s.edges) g.states

@@ -3,7 +3,7 @@ use Rattle.std.specs.Prelude.{◌≡◌, ◌+◌, Bool, List, length}
 use Rattle.std.specs.List.Sorted.{IsNonDecreasingBy}
 use Rattle.ltl_spec.specs.Collections.Sets.{Has}
 use Rattle.ltl_spec.specs.Transitions.RowTransitions.{Transition}
-use Rattle.ltl_spec.proofs.Transitions.TransitionLaws.{HasSets}
+use Rattle.ltl_spec.specs.Transitions.RowTransitions.{HasSets}
 use Rattle.ltl_alt.specs.declared.implied.Weighed as made
 use Rattle.ltl_alt.specs.TransitionView.{is_implied_by}
 

@@ -6,6 +6,7 @@ use Rattle.ltl_spec.specs.Transitions.Pairs.{RowSet}
 use Rattle.ltl_spec.specs.Transitions.RowTransitions.{Transition}
 use Rattle.ltl_spec.specs.Automata.Listing.{listing}
 use Rattle.ltl_spec.specs.Automata.Automaton.{State, Edge}
+use Rattle.ltl_spec.specs.Tools.Limits.{stated_limits}
 use Rattle.ltl_spec.specs.Automata.Generalized.{same_row_set, target_sets, root_set, state_of}
 
 -- the edge of a transition, where the states stand in this list
@@ -30,5 +31,5 @@ pub record IsUnderWay (F : Normal) (keep : Bool) (n : ℕ) (sets : List RowSet) 
   pub count : total ≡ counted F keep n
   pub states : made ≡ map (state_of F keep sets) (take n sets)
   pub taken : n ≤ length sets
-  pub few_states : length sets ≤ 65_536
-  pub few_edges : total ≤ 1_048_576
+  pub few_states : length sets ≤ stated_limits.states
+  pub few_edges : total ≤ stated_limits.edges

@@ -6,8 +6,8 @@ use Rattle.ltl_spec.specs.Transitions.Cubes.{literal_cmp, is_contradictory}
 use Rattle.ltl_spec.specs.NormalForms.Normal.{Bottom}
 use Rattle.ltl_spec.specs.Transitions.Pairs.{Pair, pair_cmp}
 use Rattle.ltl_spec.specs.Transitions.RowTransitions.{Table}
-use Rattle.ltl_spec.proofs.Transitions.JoinLaws.{Within}
-use Rattle.ltl_spec.proofs.Transitions.Pruning.{is_within, asks_beyond, IsEnough, own_pairs, IsSafeToDrop}
+use Rattle.ltl_spec.specs.Transitions.Pairs.{Within}
+use Rattle.ltl_spec.specs.Transitions.Pruning.{is_within, asks_beyond, IsEnough, own_pairs, IsSafeToDrop}
 use Rattle.ltl_alt.specs.declared.prune.Measured as made
 use Rattle.ltl_alt.specs.declared.rule.Rule.{Rule}
 use Rattle.ltl_alt.specs.declared.rule.Rule.TheVariants as rule

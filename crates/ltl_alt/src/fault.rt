@@ -4,13 +4,16 @@ ghost use Rattle.std.specs.Prelude.{◌≡◌};
 ghost use Rattle.ltl_alt.specs.declared.fault.AltFault.TheVariants.{OutOfMemory};
 
 use std::alloc::{AllocError, AllocFailed};
+use thiserror::Error;
 
 /// Why there is no automaton.
-#[derive(Clone, Copy, Debug, PartialEq, Eq)]
+#[derive(Clone, Copy, Debug, PartialEq, Eq, Error)]
 pub enum AltFault {
     /// It would have more than `MOST_STATES` states or `MOST_EDGES` edges.
+    #[error("limit: automaton too large")]
     TooLarge,
     /// A growth was refused.
+    #[error("out of memory")]
     OutOfMemory,
 }
 

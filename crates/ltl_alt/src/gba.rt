@@ -3,6 +3,7 @@
 ghost use Rattle.std.specs.Prelude.{◌≡◌, ◌<◌, ◌≤◌, true, length, map, All, IfOk, IsErrOf};
 ghost use Rattle.ltl_spec.specs.Automata.Automaton.{state_at};
 ghost use Rattle.ltl_spec.specs.Automata.Generalized.{IsGeneralized, IsTooLarge};
+ghost use Rattle.ltl_spec.specs.Tools.Limits.{stated_limits};
 ghost use Rattle.ltl_formula.specs.TableView.{core_of};
 ghost use Rattle.ltl_alt.specs.GbaView.{IsGba, edge_of, state_of};
 
@@ -49,8 +50,8 @@ impl<'a, A: Allocator> Gba<'a, A> {
         keep_implied: bool,
     ) -> Result<Gba<'a, A>, AltFault>
         ensures generalized { IfOk result (IsGeneralized (core_of table.now) keep_implied) }
-        ensures fits { IfOk result (λ _. ¬ (IsTooLarge (core_of table.now) keep_implied MOST_STATES MOST_EDGES)) }
-        ensures large { IsErrOf result AltFault.TooLarge → IsTooLarge (core_of table.now) keep_implied MOST_STATES MOST_EDGES }
+        ensures fits { IfOk result (λ _. ¬ (IsTooLarge (core_of table.now) keep_implied stated_limits.states stated_limits.edges)) }
+        ensures large { IsErrOf result AltFault.TooLarge → IsTooLarge (core_of table.now) keep_implied stated_limits.states stated_limits.edges }
     {
         reach(alloc, table, keep_implied)
     }

@@ -46,7 +46,8 @@ pub(crate) fn both<'a, A: Allocator>(
 ) -> Result<Vec<Pair, &'a A>, AllocError>
     ensures { IfOk result (λ v. v.items ≡ left.now ++ right.now) }
 {
-    let mut pairs = Vec::from_slice(alloc, left)?;
+    let mut pairs = Vec::with_capacity(alloc, left.len().saturating_add(right.len()))?;
+    pairs.extend_from_slice(left)?;
     pairs.extend_from_slice(right)?;
     Ok(pairs)
 }

@@ -5,7 +5,7 @@ ghost use Rattle.std.specs.List.{list_all, list_any};
 ghost use Rattle.std.specs.Ordering.{nat_cmp};
 ghost use Rattle.ltl_spec.specs.Collections.Sets.{has, union};
 ghost use Rattle.ltl_spec.specs.Transitions.Cubes.{literal_cmp, is_contradictory};
-ghost use Rattle.ltl_spec.proofs.Transitions.Pruning.{asks_beyond};
+ghost use Rattle.ltl_spec.specs.Transitions.Pruning.{asks_beyond};
 ghost use Rattle.ltl_sets.specs.Literals.{literal_of};
 ghost use Rattle.ltl_alt.specs.StandIns.{is_as_near};
 

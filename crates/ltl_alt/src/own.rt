@@ -4,7 +4,7 @@ ghost use Rattle.std.specs.Prelude.{◌≡◌, ◌<◌, length, IfOk, OnOk, slic
 ghost use Rattle.std.specs.Ordering.{nat_cmp};
 ghost use Rattle.ltl_spec.specs.Collections.Sets.{has};
 ghost use Rattle.ltl_spec.specs.NormalForms.Normal.{Bottom};
-ghost use Rattle.ltl_spec.proofs.Transitions.Pruning.{IsEnough, own_pairs};
+ghost use Rattle.ltl_spec.specs.Transitions.Pruning.{IsEnough, own_pairs};
 ghost use Rattle.ltl_alt.specs.declared.rule.Rule.TheVariants.{Contained};
 ghost use Rattle.ltl_alt.specs.RowLists.{AreLists};
 ghost use Rattle.ltl_alt.specs.StandIns.{AreOwn};

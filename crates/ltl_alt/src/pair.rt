@@ -3,7 +3,7 @@
 ghost use Rattle.std.specs.Prelude.{◌≡◌, ◌<◌, [], ◌∷◌};
 ghost use Rattle.ltl_sets.specs.Literals.{literal_of};
 ghost use Rattle.ltl_spec.specs.Transitions.Pairs.{pair_cmp, join_pair, empty_pair};
-ghost use Rattle.ltl_spec.proofs.Transitions.Pruning.{is_within};
+ghost use Rattle.ltl_spec.specs.Transitions.Pruning.{is_within};
 
 use ltl_sets::{Cube, Literal, RowSet};
 use std::alloc::AllocError;

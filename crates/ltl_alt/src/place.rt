@@ -1,10 +1,13 @@
 //! Rows of a table, and their places among the elementary rows.
 
 ghost use Rattle.ltl_alt.specs.RowLists.{row_place};
+ghost use Rattle.ltl_spec.specs.Tools.Limits.{stated_limits};
 ghost use Rattle.ltl_formula.specs.TableView.{row_tree};
+ghost use Rattle.ltl_spec.specs.Collections.Sets.{Has};
 ghost use Rattle.std.specs.Prelude.{position, ◌==◌, ◌≡◌, ◌≤◌, ◌<◌, length, slice_get, Some, IfSome};
 
 use ltl_formula::Table;
+use ltl_sets::RowSet;
 use std::alloc::Allocator;
 
 /// Where a number first stands in a list.
@@ -18,7 +21,7 @@ fn index_of(numbers: &[usize], number: usize) -> Option<usize>
 pub(crate) fn place<A: Allocator>(table: &Table<'_, A>, row: usize) -> usize
     requires { row < length table.now.rows }
     ensures place { result ≡ row_place table.now (row_tree table.now row) }
-    ensures small { result ≤ 64 }
+    ensures small { Has table.now.elementary row → result < RowSet.LIMIT }
 {
     let _ = table.len();
     let elementary = table.elementary();
@@ -29,7 +32,7 @@ pub(crate) fn place<A: Allocator>(table: &Table<'_, A>, row: usize) -> usize
 #[tactic(auto, using(crate::proofs::RowLaws::untils_few))]
 pub(crate) fn until_count<A: Allocator>(table: &Table<'_, A>) -> usize
     ensures count { result ≡ length table.now.untils }
-    ensures few { result ≤ 64 }
+    ensures few { result ≤ stated_limits.elementary_rows }
 {
     let _ = table.len();
     table.untils().len()
@@ -41,6 +44,7 @@ pub(crate) fn until_row<A: Allocator>(table: &Table<'_, A>, number: usize) -> us
     requires { number < length table.now.untils }
     ensures found { slice_get table.now.untils number ≡ Some result }
     ensures within { result < length table.now.rows }
+    ensures elementary { Has table.now.elementary result }
 {
     let _ = table.len();
     table.untils()[number]

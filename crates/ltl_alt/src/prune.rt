@@ -1,6 +1,7 @@
 //! Lists of pairs without those that need not stand there.
 
-ghost use Rattle.std.specs.Prelude.{◌≡◌, IfOk, map, true};
+ghost use Rattle.std.specs.Prelude.{◌≡◌, IfOk, OnOk, length, map, true};
+ghost use Rattle.std.specs.List.Sorted.{IsPermutation};
 ghost use Rattle.ltl_spec.specs.Collections.Sets.{Has};
 ghost use Rattle.ltl_spec.specs.Transitions.Pairs as spec;
 ghost use Rattle.ltl_alt.specs.StandIns.{pair_of, HasStandIn, AreSpared, IsPruned, HaveSame};
@@ -9,6 +10,7 @@ use crate::lists::make_distinct;
 use crate::pair::Pair;
 use crate::rule::{Pruning, Rule};
 use ltl_sets::{Cube, RowSet};
+use smallvec::SmallVec;
 use std::alloc::{AllocError, Allocator};
 
 /// A pair, how many literals and rows it asks for, and which: a bit for each row, and one for the literals of several propositions.
@@ -18,6 +20,20 @@ struct Measured {
     literals: u64,
     rows: u64,
     pair: Pair,
+}
+
+/// Pairs with their sizes. Most lists are short.
+type MeasuredPairs<'a, A> = SmallVec<Measured, 4, &'a A>;
+
+impl Default for Measured {
+    fn default() -> Measured {
+        Measured {
+            size: 0,
+            literals: 0,
+            rows: 0,
+            pair: Pair::empty(),
+        }
+    }
 }
 
 impl Measured {
@@ -51,22 +67,30 @@ fn row_bits(rows: &RowSet) -> u64 {
 fn by_size<'a, A: Allocator>(
     alloc: &'a A,
     pairs: &[Pair],
-) -> Result<Vec<Measured, &'a A>, AllocError>
+) -> Result<MeasuredPairs<'a, A>, AllocError>
     ensures { IfOk result (λ v. HaveSame pairs.now (map pair_of v.items)) }
 {
     let mut measured = measure(alloc, pairs)?;
-    measured.sort_unstable_by(|m, n| m.size.cmp(&n.size));
+    sort_by_size(measured.as_mut_slice());
     Ok(measured)
+}
+
+/// Puts the smaller ones first.
+fn sort_by_size(measured: &mut [Measured])
+    ensures permutation { IsPermutation measured.old measured.new }
+    ensures len { length measured.new ≡ length measured.old }
+{
+    measured.sort_unstable_by(|m, n| m.size.cmp(&n.size));
 }
 
 /// The pairs with their sizes.
 fn measure<'a, A: Allocator>(
     alloc: &'a A,
     pairs: &[Pair],
-) -> Result<Vec<Measured, &'a A>, AllocError>
+) -> Result<MeasuredPairs<'a, A>, AllocError>
     ensures { IfOk result (λ v. map pair_of v.items ≡ pairs.now) }
 {
-    let mut measured = Vec::new(alloc);
+    let mut measured: MeasuredPairs<'a, A> = SmallVec::with_capacity(alloc, pairs.len())?;
     'pairs: for pair in pairs {
         measured.push(Measured {
             size: pair.size(),
@@ -103,11 +127,11 @@ fn spared<'a, A: Allocator>(
     alloc: &'a A,
     pruning: &Pruning<'_, '_, A>,
     pairs: &[Measured],
-) -> Result<Vec<Measured, &'a A>, AllocError>
+) -> Result<MeasuredPairs<'a, A>, AllocError>
     ensures from { IfOk result (λ v. (q : spec.Pair) → Has (map pair_of v.items) q → Has (map pair_of pairs.now) q) }
     ensures spared { IfOk result (λ v. AreSpared pruning.now.rule pruning.now.own.now (map pair_of v.items) (map pair_of pairs.now)) }
 {
-    let mut kept: Vec<Measured, &'a A> = Vec::new(alloc);
+    let mut kept: MeasuredPairs<'a, A> = SmallVec::new(alloc);
     'pairs: for pair in pairs {
         if !has_stand_in(pruning, kept.as_slice(), pair) {
             kept.push(*pair)?;
@@ -116,18 +140,18 @@ fn spared<'a, A: Allocator>(
     Ok(kept)
 }
 
-/// The pairs alone.
-fn bare<'a, A: Allocator>(
-    alloc: &'a A,
+/// Puts the pairs alone where others stood.
+fn put_bare<A: Allocator>(
+    pairs: &mut Vec<Pair, &A>,
     measured: &[Measured],
-) -> Result<Vec<Pair, &'a A>, AllocError>
-    ensures { IfOk result (λ v. v.items ≡ map pair_of measured.now) }
+) -> Result<(), AllocError>
+    ensures { OnOk result (pairs.new.items ≡ map pair_of measured.now) }
 {
-    let mut pairs = Vec::new(alloc);
+    pairs.clear();
     'measured: for m in measured {
         pairs.push(m.pair)?;
     }
-    Ok(pairs)
+    Ok(())
 }
 
 /// The pairs as a sorted list without repetitions, and without some of those in whose place others may be listed.
@@ -139,12 +163,15 @@ pub(crate) fn prune<'a, A: Allocator>(
     ensures { IfOk result (λ v. IsPruned pruning.now.rule pruning.now.own.now pairs.entry.items v.items) }
 {
     make_distinct(&mut pairs);
+    if pairs.len() < 2 {
+        return Ok(pairs);
+    }
     if pruning.rule == Rule::Equal {
         return Ok(pairs);
     }
     let measured = by_size(alloc, pairs.as_slice())?;
     let kept = spared(alloc, pruning, measured.as_slice())?;
-    let mut bare = bare(alloc, kept.as_slice())?;
-    make_distinct(&mut bare);
-    Ok(bare)
+    put_bare(&mut pairs, kept.as_slice())?;
+    make_distinct(&mut pairs);
+    Ok(pairs)
 }

@@ -3,6 +3,7 @@
 ghost use Rattle.std.specs.Prelude.{◌≡◌, ◌<◌, ◌++◌, ◌∷◌, [], map, IfOk, OnOk, IsErrOf};
 ghost use Rattle.ltl_spec.specs.Collections.Lists.{with_new, place_of};
 ghost use Rattle.ltl_spec.specs.Automata.Generalized.{same_row_set, IsGeneralized, IsTooLarge};
+ghost use Rattle.ltl_spec.specs.Tools.Limits.{stated_limits};
 ghost use Rattle.ltl_formula.specs.TableView.{core_of};
 ghost use Rattle.ltl_alt.specs.GbaView.{edge_of};
 ghost use Rattle.ltl_alt.specs.RowLists.{AreLists};
@@ -74,7 +75,7 @@ fn edges_of<'a, A: Allocator>(
     ensures keys { OnOk result (states.new.keys ≡ with_targets states.old.keys transitions.now) }
     ensures edges { IfOk result (λ v. map edge_of v.items ≡ map (edge_in states.new.keys) transitions.now) }
 {
-    let mut edges = Vec::new(alloc);
+    let mut edges = Vec::with_capacity(alloc, transitions.len())?;
     'transitions: for transition in transitions {
         add_edge(states, &mut edges, transition)?;
     }
@@ -92,8 +93,8 @@ fn explore<'a, A: Allocator>(
     requires lists { AreLists table.now (rule_of keep_implied) lists.old.pairs.items lists.old.sets.items }
     requires own { AreOwn (table_at table.now) own.now }
     ensures generalized { IfOk result (IsGeneralized (core_of table.now) keep_implied) }
-    ensures fits { IfOk result (λ _. ¬ (IsTooLarge (core_of table.now) keep_implied MOST_STATES MOST_EDGES)) }
-    ensures large { IsErrOf result AltFault.TooLarge → IsTooLarge (core_of table.now) keep_implied MOST_STATES MOST_EDGES }
+    ensures fits { IfOk result (λ _. ¬ (IsTooLarge (core_of table.now) keep_implied stated_limits.states stated_limits.edges)) }
+    ensures large { IsErrOf result AltFault.TooLarge → IsTooLarge (core_of table.now) keep_implied stated_limits.states stated_limits.edges }
 {
     let _ = table.len();
     let mut states: States<'a, A> = IndexSet::new(alloc);
@@ -123,8 +124,8 @@ pub(crate) fn reach<'a, A: Allocator>(
     keep_implied: bool,
 ) -> Result<Gba<'a, A>, AltFault>
     ensures generalized { IfOk result (IsGeneralized (core_of table.now) keep_implied) }
-    ensures fits { IfOk result (λ _. ¬ (IsTooLarge (core_of table.now) keep_implied MOST_STATES MOST_EDGES)) }
-    ensures large { IsErrOf result AltFault.TooLarge → IsTooLarge (core_of table.now) keep_implied MOST_STATES MOST_EDGES }
+    ensures fits { IfOk result (λ _. ¬ (IsTooLarge (core_of table.now) keep_implied stated_limits.states stated_limits.edges)) }
+    ensures large { IsErrOf result AltFault.TooLarge → IsTooLarge (core_of table.now) keep_implied stated_limits.states stated_limits.edges }
 {
     let own = all_own(alloc, table)?;
     let mut lists = RowLists::new(alloc, table)?;

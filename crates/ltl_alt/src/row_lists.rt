@@ -2,7 +2,7 @@
 
 ghost use Rattle.std.specs.Prelude.{◌≡◌, ◌<◌, ◌≤◌, length, IfOk, OnOk, slice_get, slice_set, Some, true};
 ghost use Rattle.ltl_formula.specs.GraphView.{IsBelow};
-ghost use Rattle.ltl_formula.specs.TableView.{IsNamedBelow};
+ghost use Rattle.ltl_formula.specs.TableView.{IsNamedBelow, is_elementary_row};
 ghost use Rattle.ltl_formula.specs.declared.row.Row as made;
 ghost use Rattle.ltl_alt.specs.declared.rule.Rule as made_rule;
 ghost use Rattle.ltl_alt.specs.RowLists.{list_at, is_made, pairs_from, sets_from, IsListedRow, IsListedSet, HavePairs, HaveSets, HasAdded, AreLists, IsMore};
@@ -34,8 +34,8 @@ impl<'a, A: Allocator> RowLists<'a, A> {
     pub(crate) fn new(alloc: &'a A, table: &Table<'_, A>) -> Result<RowLists<'a, A>, AllocError>
         ensures { IfOk result (λ l. (r : made_rule.Rule) → AreLists table.now r l.pairs.items l.sets.items) }
     {
-        let mut pairs = Vec::new(alloc);
-        let mut sets = Vec::new(alloc);
+        let mut pairs = Vec::with_capacity(alloc, table.len())?;
+        let mut sets = Vec::with_capacity(alloc, table.len())?;
         'rows: for _k in 0..table.len() {
             pairs.push(None)?;
             sets.push(None)?;
@@ -218,6 +218,7 @@ impl<'a, A: Allocator> RowLists<'a, A> {
         requires have { (r : made.Row) → slice_get table.now.rows row ≡ Some r → HavePairs table.now pruning.now.rule (list_at self.now.pairs.items) (list_at self.now.sets.items) r }
         ensures { IfOk result (IsListedRow table.now pruning.now.rule row) }
     {
+        let _ = table.len();
         let all = self.pairs_from(alloc, table.row(row), place(table, row))?;
         let pairs = prune(alloc, pruning, all)?;
         Ok(PairSet { pairs })
@@ -232,8 +233,8 @@ impl<'a, A: Allocator> RowLists<'a, A> {
     ) -> Result<Vec<Pair, &'a A>, AllocError>
         requires pairs { IsBelow (length self.now.pairs.items) row }
         requires sets { IsBelow (length self.now.sets.items) row }
-        requires literal { IsNamedBelow 64 row }
-        requires place { place < RowSet.LIMIT }
+        requires literal { IsNamedBelow RowSet.LIMIT row }
+        requires place { is_elementary_row row ≡ true → place < RowSet.LIMIT }
         ensures { IfOk result (λ v. v.items ≡ pairs_from (list_at self.now.pairs.items) (list_at self.now.sets.items) place row) }
     {
         match row {
@@ -270,6 +271,7 @@ impl<'a, A: Allocator> RowLists<'a, A> {
         requires have { (r : made.Row) → slice_get table.now.rows row ≡ Some r → HaveSets table.now pruning.now.rule (list_at self.now.sets.items) r }
         ensures { IfOk result (IsListedSet table.now pruning.now.rule row) }
     {
+        let _ = table.len();
         let all = self.sets_from(alloc, table.row(row), place(table, row))?;
         let pairs = prune(alloc, pruning, all)?;
         Ok(PairSet { pairs })
@@ -283,7 +285,7 @@ impl<'a, A: Allocator> RowLists<'a, A> {
         place: usize,
     ) -> Result<Vec<Pair, &'a A>, AllocError>
         requires sets { IsBelow (length self.now.sets.items) row }
-        requires place { place < RowSet.LIMIT }
+        requires place { is_elementary_row row ≡ true → place < RowSet.LIMIT }
         ensures { IfOk result (λ v. v.items ≡ sets_from (list_at self.now.sets.items) place row) }
     {
         match row {

@@ -6,7 +6,7 @@ ghost use Rattle.ltl_spec.specs.Collections.Sets.{has, put};
 ghost use Rattle.std.specs.List.{list_any};
 ghost use Rattle.ltl_spec.specs.Transitions.Pairs as spec_pairs;
 ghost use Rattle.ltl_spec.specs.Transitions.RowTransitions as spec;
-ghost use Rattle.ltl_spec.proofs.Transitions.Pruning.{is_within};
+ghost use Rattle.ltl_spec.specs.Transitions.Pruning.{is_within};
 ghost use Rattle.ltl_alt.specs.RowLists.{AreLists};
 ghost use Rattle.ltl_alt.specs.StandIns.{IsFit, IsListed, StandsFor, AreOwn, rule_of};
 ghost use Rattle.ltl_alt.specs.TransitionView.{table_at, all_joined, is_marked_at};
@@ -135,7 +135,7 @@ fn marked<'a, A: Allocator>(
     requires { AreOwn (table_at table.now) own.now }
     ensures { IfOk result (λ v. v.items ≡ map (spec.with_marks (table_at table.now)) pairs.now) }
 {
-    let mut all = Vec::new(alloc);
+    let mut all = Vec::with_capacity(alloc, pairs.len())?;
     'pairs: for pair in pairs {
         all.push(Transition {
             cube: pair.cube,

@@ -11,7 +11,9 @@ use Rattle.ltl_spec.specs.Construction.Levels.{level_automaton, HasTooManyCopies
 use Rattle.ltl_spec.specs.Construction.Renumbered.{renumbered_automaton}
 use Rattle.ltl_spec.specs.Construction.Translation.{Options, IsTranslation, IsTranslationTooLarge}
 use Rattle.ltl_spec.specs.Semantics.Language.{HasLanguageOf, AcceptsModels, AcceptsViolations}
+use Rattle.ltl_spec.specs.Checking.Bounds.{HasPropositionsBelow, HasNamesBelow}
 use Rattle.ltl_spec.proofs.Automata.LimitLaws.{one_generalized}
+use Rattle.ltl_spec.proofs.Checking.BelowLaws.{HasLeavesBelow, core_below, translation_is_buchi}
 use Rattle.ltl_spec.proofs.Semantics.LanguageLaws.{translation_language, translation_models, translation_violations}
 
 -- A is the generalized automaton, S its merging
@@ -56,3 +58,9 @@ module _ (N : Normal) (o : Options) where
   pub violations : {E : Type 0} (r : Result Automaton E) → IfOk r (IsTranslation N o) → IfOk r (λ B. (F : Formula) (rewrite : Bool) → N ≡ core F true rewrite → AcceptsViolations B F)
   violations (Err f) translation = tt
   violations (Ok B) translation = λ F rewrite e. translation_violations F rewrite o B (subst (λ (M : Normal). IsTranslation M o B) e translation)
+
+  -- and its literals are of the formula's propositions
+  pub named : {E : Type 0} (r : Result Automaton E) → IfOk r (IsTranslation N o)
+      → IfOk r (λ B. (n : ℕ) (F : Formula) (negate rewrite : Bool) → HasPropositionsBelow n F → N ≡ core F negate rewrite → HasNamesBelow n B)
+  named (Err f) translation = tt
+  named (Ok B) translation = λ n F negate rewrite h e. (translation_is_buchi n N o B translation (subst (HasLeavesBelow n) (sym e) (core_below n F negate rewrite h))).propositions

@@ -17,6 +17,7 @@ use Rattle.ltl_spec.proofs.Collections.Orders.{nat_linear, literal_linear}
 use Rattle.ltl_spec.proofs.Construction.ImpliedEdges.{IsSetEdge, implies_edge_Decides, is_above}
 use Rattle.ltl_spec.proofs.Construction.RoundLaws.{same_edge_Decides}
 use Rattle.ltl_spec.proofs.Transitions.TransitionLaws.{subset_length}
+use Rattle.ltl_sets.specs.declared.row_set.TheConstants.RowSet.{LIMIT}
 use Rattle.ltl_buchi.specs.declared.implied.Weighed.{Weighed}
 use Rattle.ltl_buchi.specs.Weighed.{IsWeighed, weight, weighed_cmp, weighed_edge}
 
@@ -24,7 +25,7 @@ below_or_from : (k q : ℕ) → (k < q) ⊎ (q ≤ k)
 below_or_from k q = grind arith
 
 -- an edge that implies another one has its target and asks for less
-pub above_is_lighter : (f e : Edge) → IsSetEdge f → IsSetEdge e → length f.marks ≤ 256 → is_above f e ≡ true → (f.target ≡ e.target) × (weight f < weight e)
+pub above_is_lighter : (f e : Edge) → IsSetEdge f → IsSetEdge e → length f.marks ≤ LIMIT → is_above f e ≡ true → (f.target ≡ e.target) × (weight f < weight e)
 above_is_lighter f e sf se few t =
     let c = (implies_edge_Decides f e).0 (right_true (not (same_edge f e)) _ t) in
     let cubes = subset_length literal_linear f.cube e.cube sf.cube se.cube c.cube in

@@ -4,6 +4,7 @@ use Rattle.std.specs.declared.cmp.Ordering.{Ordering}
 use Rattle.std.specs.Ordering.{nat_cmp, on, then_cmp}
 use Rattle.ltl_spec.specs.Collections.Sets.{Has, IsRising}
 use Rattle.ltl_spec.specs.Automata.Automaton.{Automaton, Edge, edge_cmp, state_at}
+use Rattle.ltl_spec.specs.Tools.Limits.{stated_limits}
 use Rattle.ltl_buchi.specs.declared.automaton.Edge as made
 
 -- the edges of the code as those of the definitions
@@ -29,13 +30,13 @@ pub data IsReached (B : Automaton) : ℕ → Type 0 where
   start : IsReached B 0
   along : (s : ℕ) (e : Edge) → IsReached B s → Has (state_at B s).edges e → IsReached B e.target
 
--- There is no acceptance set. There are 1 to 65,536 states and at most 1,048,576 edges, which stay within the automaton; the edges of a
--- state rise, and each state is reached
+-- There is no acceptance set. There is a state, no limit on states and edges is passed, and the edges stay within the automaton; the edges
+-- of a state rise, and each state is reached
 pub record IsBa (B : Automaton) : Type 0 where
   pub no_sets : B.sets ≡ 0
   pub some : 0 < length B.states
-  pub few_states : length B.states ≤ 65_536
-  pub few_edges : sum_by (λ s. length s.edges) B.states ≤ 1_048_576
+  pub few_states : length B.states ≤ stated_limits.states
+  pub few_edges : sum_by (λ s. length s.edges) B.states ≤ stated_limits.edges
   pub within : All (λ s. All (λ e. e.target < length B.states) s.edges) B.states
   pub rising : All (λ s. IsRising edge_cmp s.edges) B.states
   pub reached : (s : ℕ) → s < length B.states → IsReached B s

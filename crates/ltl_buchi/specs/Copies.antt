@@ -2,7 +2,7 @@
 use Rattle.std.specs.Prelude.{◌≡◌, ℕ, ◌<◌, ◌≤◌, List, All, length, map, sum_by}
 use Rattle.ltl_spec.specs.Automata.Automaton.{Automaton, Edge, State}
 use Rattle.ltl_spec.specs.Construction.Levels.{Copy, CopyEdge, copy_state, copy_targets, next_level, same_copy, start_copy}
-use Rattle.ltl_spec.proofs.Automata.CountsLaws.{edges_after}
+use Rattle.ltl_spec.specs.Automata.Listing.{edges_after}
 use Rattle.ltl_buchi.specs.Numbered.{IsMade, StatesWithin}
 use Rattle.ltl_buchi.specs.declared.copies.Copied.{Copied}
 use Rattle.ltl_buchi.specs.declared.copies.CopyEdge as code

@@ -5,13 +5,14 @@ use Rattle.std.specs.Ordering.{nat_cmp, ordering_then}
 use Rattle.std.specs.List.{list_any}
 use Rattle.std.specs.List.Sorted.{IsSorted}
 use Rattle.ltl_spec.specs.Automata.Automaton.{Edge}
-use Rattle.ltl_spec.proofs.Construction.ImpliedEdges.{IsSetEdge}
+use Rattle.ltl_spec.specs.Construction.ImpliedEdges.{IsSetEdge}
+use Rattle.ltl_sets.specs.declared.row_set.TheConstants.RowSet.{LIMIT}
 use Rattle.ltl_alt.specs.GbaView.{edge_of}
 use Rattle.ltl_buchi.specs.declared.implied.Weighed.{Weighed}
 
--- how many literals an edge has, and how many of 256 sets it isn't in
+-- how many literals an edge has, and how many of as many sets as there may be it isn't in
 abbrev pub weight : Edge → ℕ
-weight e = length e.cube + (256 - length e.marks)
+weight e = length e.cube + (LIMIT - length e.marks)
 
 abbrev pub weighed_edge : Weighed → Edge
 weighed_edge m = edge_of m.edge
@@ -20,7 +21,7 @@ weighed_edge m = edge_of m.edge
 pub record IsWeighed (m : Weighed) : Type 0 where
   pub weight : m.weight ≡ weight (edge_of m.edge)
   pub sets : IsSetEdge (edge_of m.edge)
-  pub few : length m.edge.marks ≤ 256
+  pub few : length m.edge.marks ≤ LIMIT
 
 -- by the target, and then by the weight
 abbrev pub weighed_cmp : Weighed → Weighed → Ordering

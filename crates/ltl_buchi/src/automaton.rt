@@ -1,11 +1,14 @@
 //! Büchi automata.
 
 ghost use Rattle.std.specs.Prelude.{◌≡◌, ℕ, ◌<◌, ◌≤◌, length, map, All, IfOk};
+ghost use Rattle.std.specs.List.Sorted.{IsPermutation, IsSorted};
 ghost use Rattle.ltl_spec.specs.Collections.Sets.{set_of};
 ghost use Rattle.ltl_spec.specs.Automata.Automaton.{state_at, edge_cmp};
+ghost use Rattle.ltl_spec.specs.Tools.Limits.{stated_limits};
 ghost use Rattle.ltl_buchi.specs.BaView.{IsBa, IsTargetOrder, edge_of};
 
 use ltl_sets::Cube;
+use smallvec::SmallVec;
 use std::alloc::{AllocError, Allocator};
 use std::cmp::Ordering;
 use std::marker::Model;
@@ -29,12 +32,15 @@ impl Edge {
     }
 }
 
+/// Places of edges. Most states have few edges.
+type Places<'a, A> = SmallVec<usize, 4, &'a A>;
+
 /// A state of a Büchi automaton, with the places of its edges by target and then by place.
 #[derive(Drop)]
 pub struct State<'a, A: Allocator> {
     accepting: bool,
     edges: Vec<Edge, &'a A>,
-    by_target: Vec<usize, &'a A>,
+    by_target: Places<'a, A>,
 }
 
 impl<'a, A: Allocator> Model for State<'a, A> {
@@ -86,7 +92,7 @@ fn sort_edges<'a, A: Allocator>(edges: &mut Vec<Edge, &'a A>)
 }
 
 /// An edge's target and its place.
-#[derive(Clone, Copy, PartialEq, Eq, PartialOrd, Ord)]
+#[derive(Clone, Copy, Default, PartialEq, Eq, PartialOrd, Ord)]
 struct Placed {
     target: usize,
     place: usize,
@@ -96,29 +102,35 @@ struct Placed {
 fn places_by_target<'a, A: Allocator>(
     alloc: &'a A,
     edges: &[Edge],
-) -> Result<Vec<usize, &'a A>, AllocError>
+) -> Result<Places<'a, A>, AllocError>
     ensures order { IfOk result (λ ps. IsTargetOrder (map edge_of edges.now) ps.items) }
 {
-    let mut placed = Vec::new(alloc);
+    let mut placed: SmallVec<Placed, 4, &'a A> = SmallVec::with_capacity(alloc, edges.len())?;
     for (place, edge) in edges.iter().enumerate() {
         placed.push(Placed {
             target: edge.target,
             place,
         })?;
     }
-    placed.sort_unstable();
+    sort_placed(placed.as_mut_slice());
     let places = places(alloc, placed.as_slice())?;
     Ok(places)
 }
 
+/// Sorts by target and then by place.
+fn sort_placed(placed: &mut [Placed])
+    ensures permutation { IsPermutation placed.old placed.new }
+    ensures len { length placed.new ≡ length placed.old }
+    ensures sorted { IsSorted ⟦<Placed as Ord>⟧.cmp placed.new }
+{
+    placed.sort_unstable();
+}
+
 /// The places alone.
-fn places<'a, A: Allocator>(
-    alloc: &'a A,
-    placed: &[Placed],
-) -> Result<Vec<usize, &'a A>, AllocError>
+fn places<'a, A: Allocator>(alloc: &'a A, placed: &[Placed]) -> Result<Places<'a, A>, AllocError>
     ensures { IfOk result (λ ps. ps.items ≡ map (λ p. p.place) placed.now) }
 {
-    let mut places = Vec::new(alloc);
+    let mut places: Places<'a, A> = SmallVec::with_capacity(alloc, placed.len())?;
     for one in placed {
         places.push(one.place)?;
     }
@@ -158,7 +170,7 @@ impl<'a, A: Allocator> Ba<'a, A> {
     pub fn len(&self) -> usize
         ensures count { result ≡ length self.now.states }
         ensures some { 0 < result }
-        ensures few { result ≤ 65_536 }
+        ensures few { result ≤ stated_limits.states }
     {
         self.states.len()
     }

@@ -4,6 +4,7 @@ ghost use Rattle.std.specs.Prelude.{◌≡◌, ℕ, ◌<◌, ◌≤◌, List, �
 ghost use Rattle.ltl_spec.specs.Collections.Sets.{set_of};
 ghost use Rattle.ltl_spec.specs.Collections.Lists.{with_new, place_of};
 ghost use Rattle.ltl_spec.specs.Construction.Levels as levels_of;
+ghost use Rattle.ltl_spec.specs.Tools.Limits.{stated_limits};
 ghost use Rattle.ltl_alt.specs.GbaView as gba;
 ghost use Rattle.ltl_buchi.specs.BaView.{edge_of};
 ghost use Rattle.ltl_buchi.specs.Copies.{AreCopies, IsCopyBelow, copy_of, copy_edge_of, lifted_edge};
@@ -53,7 +54,7 @@ type Copies<'a, A> = IndexSet<Copied, BuildHasherDefault<FoldHasher>, &'a A>;
 
 /// The level to which an edge with these marks leads: up as long as the marks hold the set that comes next, from the last level as from the first.
 fn next_level(sets: usize, marks: &RowSet, level: usize) -> usize
-    requires few { sets ≤ 64 }
+    requires few { sets ≤ RowSet.LIMIT }
     requires within { level ≤ sets }
     ensures most { result ≤ sets }
     ensures level { result ≡ levels_of.next_level sets marks.now level }
@@ -67,7 +68,7 @@ fn next_level(sets: usize, marks: &RowSet, level: usize) -> usize
 
 /// An edge of a copy on a level.
 fn copy_edge(sets: usize, edge: &GbaEdge, level: usize) -> CopyEdge
-    requires few { sets ≤ 64 }
+    requires few { sets ≤ RowSet.LIMIT }
     requires within { level ≤ sets }
     ensures lifted { copy_edge_of result ≡ lifted_edge sets level (gba.edge_of edge.now) }
     ensures state { result.copy.state ≡ edge.now.target }
@@ -89,7 +90,7 @@ fn copy_edges<'a, A: Allocator>(
     edges: &[GbaEdge],
     level: usize,
 ) -> Result<Vec<CopyEdge, &'a A>, AllocError>
-    requires few { sets ≤ 64 }
+    requires few { sets ≤ RowSet.LIMIT }
     requires within { level ≤ sets }
     ensures set { IfOk result (λ es. map copy_edge_of es.items ≡ set_of levels_of.copy_edge_cmp (map (lifted_edge sets level) (map gba.edge_of edges.now))) }
     ensures few { IfOk result (λ es. length es.items ≤ length edges.now) }
@@ -177,8 +178,8 @@ pub fn levels<'a, A: Allocator>(alloc: &'a A, automaton: &Gba<'_, A>) -> Result<
     ensures copies { IfOk result (λ b. b ≡ levels_of.level_automaton automaton.now) }
 
     // The fault comes exactly where a limit is passed. Memory may be refused at any time.
-    ensures few { OnOk result (¬ levels_of.HasTooManyCopies automaton.now 65_536 1_048_576) }
-    ensures many { IsErrOf result BaFault.TooLarge → levels_of.HasTooManyCopies automaton.now 65_536 1_048_576 }
+    ensures few { OnOk result (¬ levels_of.HasTooManyCopies automaton.now stated_limits.states stated_limits.edges) }
+    ensures many { IsErrOf result BaFault.TooLarge → levels_of.HasTooManyCopies automaton.now stated_limits.states stated_limits.edges }
 {
     automaton.stays_within();
     let mut copies: Copies<'a, A> = IndexSet::new(alloc);

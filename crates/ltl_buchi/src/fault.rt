@@ -4,13 +4,16 @@ ghost use Rattle.std.specs.Prelude.{◌≡◌};
 
 use ltl_alt::AltFault;
 use std::alloc::{AllocError, AllocFailed};
+use thiserror::Error;
 
 /// Why there is no automaton.
-#[derive(Clone, Copy, Debug, PartialEq, Eq)]
+#[derive(Clone, Copy, Debug, PartialEq, Eq, Error)]
 pub enum BaFault {
     /// An automaton on the way would have too many states or edges.
+    #[error("limit: automaton too large")]
     TooLarge,
     /// A growth was refused.
+    #[error("out of memory")]
     OutOfMemory,
 }
 

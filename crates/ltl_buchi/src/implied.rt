@@ -4,7 +4,7 @@ ghost use Rattle.std.specs.Prelude.{◌≡◌, All, map, IfOk};
 ghost use Rattle.std.specs.List.{list_any};
 ghost use Rattle.std.specs.List.Sorted.{IsSorted};
 ghost use Rattle.ltl_spec.specs.Construction.Merging as merging;
-ghost use Rattle.ltl_spec.proofs.Construction.ImpliedEdges.{is_above};
+ghost use Rattle.ltl_spec.specs.Construction.ImpliedEdges.{is_above};
 ghost use Rattle.ltl_alt.specs.GbaView.{edge_of};
 ghost use Rattle.ltl_buchi.specs.Weighed.{AreByWeight, IsWeighed, weighed_cmp, weighed_edge};
 

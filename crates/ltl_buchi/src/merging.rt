@@ -5,7 +5,7 @@ ghost use Rattle.ltl_spec.specs.Collections.Sets.{IsRising};
 ghost use Rattle.ltl_spec.specs.Automata.Automaton.{edge_cmp};
 ghost use Rattle.ltl_spec.specs.Construction.Merging as merging;
 ghost use Rattle.ltl_spec.specs.Construction.Merging.{merged_automaton};
-ghost use Rattle.ltl_spec.proofs.Construction.ImpliedEdges.{IsSetEdge};
+ghost use Rattle.ltl_spec.specs.Construction.ImpliedEdges.{IsSetEdge};
 ghost use Rattle.ltl_alt.specs.GbaView as gba_view;
 ghost use Rattle.ltl_buchi.specs.BaView.{edge_of};
 ghost use Rattle.ltl_buchi.specs.Classes.{IsWithinStates, of_states};

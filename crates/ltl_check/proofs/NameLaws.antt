@@ -1,15 +1,18 @@
 -- Lists of names, one name after the other.
 use Rattle.std.proofs.Common.{◌≡◌, ℕ, zero, suc, ◌+◌, ◌<◌, ◌≤◌, Bool, true, false, cond, List, [], ◌∷◌, ◌++◌, map, length, drop, inl, inr, refl, sym, ◌∙◌, ap, subst, arith, Bor}
-use Rattle.std.specs.Prelude.{fold, slice_index_or, IsTrue}
+use Rattle.std.specs.Prelude.{fold, slice_index_or, IsTrue, All}
 use Rattle.std.specs.List.{list_any, list_all}
 use Rattle.std.specs.Bool.{Decides}
 use Rattle.std.proofs.lemmas.List.{drop_more, drop_all, get_or-map}
+use Rattle.std.proofs.lemmas.List.Elements.{All-from_get_or}
 use Rattle.std.proofs.lemmas.List.Sums.{fold-append, position_or_len_is, passes_at_first}
 use Rattle.ltl_spec.specs.Collections.Sets.{Has}
 use Rattle.ltl_spec.specs.Collections.Lists.{with_new, place_of}
 use Rattle.ltl_spec.specs.Semantics.Word.{Name}
 use Rattle.ltl_spec.specs.Formulas.Tokens.{same_name}
 use Rattle.ltl_spec.specs.Formulas.Names.{is_proposition, unified}
+use Rattle.ltl_check.specs.ProductView.{number_in}
+use Rattle.ltl_spec.proofs.Checking.UnifiedLaws.{second_below}
 use Rattle.ltl_spec.proofs.Collections.ListLaws.{any_Decides, Has-at, place_below, first_occurrences_cases}
 use Rattle.ltl_spec.proofs.Collections.SetLaws.{append_cases}
 use Rattle.ltl_spec.proofs.Collections.MemberLaws.{all_Decides, map_length}
@@ -99,6 +102,17 @@ pub put_next : {S : Type 0} (f : S → Name) (ss : List S) (all now then : List 
 put_next f ss all now then i s x l e g h p =
     let n = map_length f ss in
     fold_next (map f ss) all now then i x (omega (arith, n, l)) (get_or-map f ss i s [] l ∙ ap f (sym e) ∙ sym g) h p
+
+-- the numbers of the other names are below each limit that all names together keep
+pub numbers_within : (own other : List Name) (all : List (Bor Name)) (numbers : List ℕ) (most : ℕ) → map bytes all ≡ unified own other → length all ≤ most → length numbers ≡ length other
+    → ((p : ℕ) → p < length other → number_in numbers p ≡ place_of same_name (slice_index_or other p []) (map bytes all)) → All (λ n. n < most) numbers
+numbers_within own other all numbers most e few count are = All-from_get_or (λ n. n < most) numbers 0 (λ p l.
+    let m : p < length other = omega (arith, count, l) in
+    let same = are p m ∙ ap (place_of same_name (slice_index_or other p [])) e in
+    let below = second_below own other p m in
+    let n = map_length bytes all in
+    let k = ap length e in
+    omega (arith, few, n, k, below, same))
 
 -- propositions together are propositions
 pub unified_propositions : (xs ys : List Name) → IsTrue (list_all is_proposition xs) → IsTrue (list_all is_proposition ys) → IsTrue (list_all is_proposition (unified xs ys))

@@ -15,6 +15,7 @@ use Rattle.ltl_spec.proofs.Collections.SetLaws.{has_Decides, put_cases}
 use Rattle.ltl_spec.proofs.Collections.ListLaws.{All-at_has}
 use Rattle.ltl_spec.proofs.Collections.Orders.{nat_linear}
 use Rattle.ltl_spec.proofs.Automata.ListedStates.{no_state}
+use Rattle.ltl_spec.specs.Tools.Limits.{stated_limits}
 use Rattle.ltl_hoa.specs.MarkedView.{IsMarked, IsEdgeWithin}
 use Rattle.ltl_buchi.specs.BaView.{IsBa}
 use Rattle.ltl_check.specs.declared.graph.Step.{Step}
@@ -112,7 +113,7 @@ module _ (A : MarkedAutomaton) (B : Automaton) where
   }
 
   -- the pairs of edges are not too many to count
-  pub first_few : IsSearchable A B → (s : Pair) → IsPair A B s → length (first_edges A B s.first) ≤ 1_048_576
+  pub first_few : IsSearchable A B → (s : Pair) → IsPair A B s → length (first_edges A B s.first) ≤ stated_limits.hoa_edges
   first_few inside s h =
       let n = inside.counted in
       let l = h.0 in
@@ -120,7 +121,7 @@ module _ (A : MarkedAutomaton) (B : Automaton) where
       let f = inside.few_first_edges in
       omega arith
 
-  pub second_few : IsSearchable A B → (s : Pair) → IsPair A B s → length (second_edges A B s.second) ≤ 1_048_576
+  pub second_few : IsSearchable A B → (s : Pair) → IsPair A B s → length (second_edges A B s.second) ≤ stated_limits.edges
   second_few inside s h =
       let m = get_or-le-sum_by (λ (x : State). length x.edges) B.states s.second no_state h.1 in
       let f = inside.few_second_edges in

@@ -6,7 +6,9 @@ use Rattle.ltl_spec.specs.Transitions.Cubes.{Cube, join_cubes}
 use Rattle.ltl_spec.specs.Automata.Automaton.{Automaton, Edge, state_at}
 use Rattle.ltl_spec.specs.Hoa.HoaReading.{MarkedAutomaton}
 use Rattle.ltl_spec.specs.Checking.Product.{renamed_cube}
+use Rattle.ltl_spec.specs.Tools.Limits.{stated_limits}
 use Rattle.ltl_sets.specs.Words.{letter_of}
+use Rattle.ltl_hoa.specs.declared.marked.TheConstants.{MOST_SETS}
 use Rattle.ltl_hoa.specs.MarkedView.{IsEdgeWithin}
 use Rattle.ltl_check.specs.declared.graph.Step.{Step}
 use Rattle.ltl_check.specs.declared.product.Pair.{Pair}
@@ -40,13 +42,13 @@ joined_step sets accepting number e f = option_map (step_with sets accepting e f
 pub record IsSearchable (A : MarkedAutomaton) (B : Automaton) : Type 0 where
   pub counted : length A.edges ≡ A.states
   pub begins : A.start < A.states
-  pub few_firsts : A.states ≤ 65_536
-  pub few_sets : A.sets ≤ 64
-  pub few_first_edges : sum_by length A.edges ≤ 1_048_576
+  pub few_firsts : A.states ≤ stated_limits.hoa_states
+  pub few_sets : A.sets ≤ MOST_SETS
+  pub few_first_edges : sum_by length A.edges ≤ stated_limits.hoa_edges
   pub firsts : All (λ es. All (IsEdgeWithin (length A.names) A.states A.sets) es) A.edges
   pub some : 0 < length B.states
-  pub few_seconds : length B.states ≤ 65_536
-  pub few_second_edges : sum_by (λ s. length s.edges) B.states ≤ 1_048_576
+  pub few_seconds : length B.states ≤ stated_limits.states
+  pub few_second_edges : sum_by (λ s. length s.edges) B.states ≤ stated_limits.edges
   pub seconds : All (λ s. All (λ e. e.target < length B.states) s.edges) B.states
 
 module _ (A : MarkedAutomaton) (B : Automaton) where

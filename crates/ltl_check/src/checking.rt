@@ -1,6 +1,6 @@
 //! The check of an automaton that was read against a Büchi automaton.
 
-ghost use Rattle.std.specs.Prelude.{◌≡◌, ℕ, ◌+◌, ◌-◌, ◌*◌, ◌^◌, ◌<◌, ◌≤◌, ◌++◌, Bool, true, min, length, map, All, IsTrue, IfOk, OnOk, IfSome, Ok, IsErrOf, []};
+ghost use Rattle.std.specs.Prelude.{◌≡◌, ℕ, ◌+◌, ◌-◌, ◌*◌, ◌^◌, ◌<◌, ◌≤◌, ◌++◌, Bool, true, min, length, map, All, IsTrue, IfOk, IfErr, OnOk, IfSome, Ok, IsErrOf, []};
 ghost use Rattle.std.specs.List.{list_all};
 ghost use Rattle.ltl_spec.specs.Collections.Lists.{HasNoRepeats};
 ghost use Rattle.ltl_spec.specs.Formulas.Names.{is_proposition, unified};
@@ -8,6 +8,7 @@ ghost use Rattle.ltl_spec.specs.Words.LassoText.{IsLeastForm};
 ghost use Rattle.ltl_spec.specs.Checking.Bounds.{HasNamesBelow};
 ghost use Rattle.ltl_spec.specs.Checking.Product.{unified_number};
 ghost use Rattle.ltl_spec.specs.Checking.Check.{IsVerdict, IsCommon, product_size};
+ghost use Rattle.ltl_spec.specs.Tools.Limits.{stated_limits};
 ghost use Rattle.ltl_check.specs.Explored.{IsGrown, sum_below};
 ghost use Rattle.ltl_check.specs.ProductView.{number_in, pair_count, pair_at, edge_pairs};
 ghost use Rattle.ltl_check.specs.VerdictView.{verdict_of, letters_of, IsReachedCopy, level_pairs, chosen_pairs};
@@ -56,7 +57,7 @@ fn word<'a, A: Allocator>(
 ) -> Result<Lasso<'a, A>, AllocError>
     requires distinct { HasNoRepeats (map (λ n. n.now) names.now) }
     requires propositions { IsTrue (list_all is_proposition (map (λ n. n.now) names.now)) }
-    requires few { length names.now ≤ 64 }
+    requires few { length names.now ≤ stated_limits.propositions }
     requires within { All (All (λ i. i < length names.now)) (letters_of walk.now.way.items ++ letters_of walk.now.turn.items) }
     requires cycles { 0 < length (letters_of walk.now.turn.items) }
     ensures { IfOk result (IsLeastForm (word_with (map (λ n. n.now) names.now) (letters_of walk.now.way.items) (letters_of walk.now.turn.items))) }
@@ -74,15 +75,16 @@ fn search_product<'a, A: Allocator>(
     formula: &Formula<'a, A>,
     names: &[&str],
     steps: &mut Steps,
-) -> Result<Outcome<'a, A>, AllocError>
+) -> Result<Outcome<'a, A>, CheckFault>
     requires named { HasNamesBelow (length formula.now.names) product.now.second.now }
     requires names { map (λ n. n.now) names.now ≡ unified product.now.first.now.names formula.now.names }
-    requires few { length names.now ≤ 64 }
+    requires few { length names.now ≤ stated_limits.propositions }
     requires numbers { (p : ℕ) → p < length formula.now.names → number_in product.now.numbers.now p ≡ unified_number product.now.first.now.names formula.now.names p }
-    requires fits { pair_count product.now.first.now product.now.second.now * (product.now.first.now.sets + 1 + 1) ≤ 16_777_216 }
+    requires fits { pair_count product.now.first.now product.now.second.now * (product.now.first.now.sets + 1 + 1) ≤ stated_limits.product }
     ensures verdict { IfOk result (λ o. IsVerdict product.now.first.now formula.now.names product.now.second.now (IsCommon product.now.first.now formula.now.names product.now.second.now) (verdict_of o)) }
     ensures most { (c : ℕ) × IsGrown steps.old.count steps.new.count c × (c ≤ 2 * ((product.now.first.now.sets + 1 + 1) * sum_below (λ n. edge_pairs product.now.first.now product.now.second.now (pair_at product.now.first.now product.now.second.now n)) (pair_count product.now.first.now product.now.second.now))) }
     ensures least { IfOk result (λ o. o ≡ Contained → (c : ℕ) × IsGrown steps.old.count steps.new.count c × ((p : ℕ → Bool) → ((n : ℕ) → p n ≡ true → IsReachedCopy product.now.first.now formula.now.names product.now.second.now n) → chosen_pairs product.now.first.now product.now.second.now p (product_size product.now.first.now formula.now.names product.now.second.now) ≤ c)) }
+    ensures memory { IfErr result (λ fault. fault ≡ CheckFault.OutOfMemory) }
 {
     product.first.stays_within();
     product.second.stays_within();
@@ -123,10 +125,10 @@ pub fn check<'a, A: Allocator>(
     ensures least { IfOk result (λ v. v.outcome ≡ Contained → (chosen : ℕ → Bool) → ((n : ℕ) → chosen n ≡ true → IsReachedCopy automaton.now formula.now.names ba.now n) → min (chosen_pairs automaton.now ba.now chosen (product_size automaton.now formula.now.names ba.now)) (2 ^ 128 - 1) ≤ v.steps) }
 
     // The faults come exactly where a limit is passed, in this order. Memory may be refused at any time.
-    ensures few { OnOk result (length (unified automaton.now.names formula.now.names) ≤ 64) }
-    ensures fits { OnOk result (product_size automaton.now formula.now.names ba.now ≤ 16_777_216) }
-    ensures many { IsErrOf result CheckFault.TooManyPropositions → 64 < length (unified automaton.now.names formula.now.names) }
-    ensures large { IsErrOf result CheckFault.ProductTooLarge → (length (unified automaton.now.names formula.now.names) ≤ 64) × (16_777_216 < product_size automaton.now formula.now.names ba.now) }
+    ensures few { OnOk result (length (unified automaton.now.names formula.now.names) ≤ stated_limits.propositions) }
+    ensures fits { OnOk result (product_size automaton.now formula.now.names ba.now ≤ stated_limits.product) }
+    ensures many { IsErrOf result CheckFault.TooManyPropositions → stated_limits.propositions < length (unified automaton.now.names formula.now.names) }
+    ensures large { IsErrOf result CheckFault.ProductTooLarge → (length (unified automaton.now.names formula.now.names) ≤ stated_limits.propositions) × (stated_limits.product < product_size automaton.now formula.now.names ba.now) }
 {
     let names = all_names(alloc, automaton, formula)?;
     if names.len() > PROPOSITION_LIMIT {

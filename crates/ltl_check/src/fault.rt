@@ -1,15 +1,20 @@
 //! Why there is no verdict.
 
+use ltl_formula::PROPOSITION_LIMIT;
 use std::alloc::{AllocError, AllocFailed};
+use thiserror::Error;
 
 /// Why there is no verdict. The faults stand in the order in which they are looked for; memory may be refused at any time.
-#[derive(Clone, Copy, Debug, PartialEq, Eq)]
+#[derive(Clone, Copy, Debug, PartialEq, Eq, Error)]
 pub enum CheckFault {
-    /// The automaton and the formula have more than [`PROPOSITION_LIMIT`](ltl_formula::PROPOSITION_LIMIT) propositions together.
+    /// The automaton and the formula have more than [`PROPOSITION_LIMIT`] propositions together.
+    #[error("limit: more than {limit} propositions", limit = PROPOSITION_LIMIT)]
     TooManyPropositions,
     /// The states of both automata, on the levels of the search, are more than [`PRODUCT_LIMIT`](crate::PRODUCT_LIMIT).
+    #[error("limit: product too large")]
     ProductTooLarge,
     /// A growth was refused.
+    #[error("out of memory")]
     OutOfMemory,
 }
 

@@ -4,6 +4,7 @@ ghost use Rattle.std.specs.Prelude.{◌≡◌, ℕ, ◌+◌, ◌-◌, ◌*◌, �
 ghost use Rattle.ltl_check.specs.declared.graph.Step.{Step};
 ghost use Rattle.ltl_check.specs.Marks.{in_set};
 ghost use Rattle.ltl_spec.specs.Construction.Levels.{next_level};
+ghost use Rattle.ltl_spec.specs.Tools.Limits.{stated_limits};
 ghost use Rattle.ltl_check.specs.Levels.{placed_step, levels_net, net_of};
 
 use crate::graph::{Graph, Step};
@@ -48,13 +49,13 @@ fn next_level(sets: usize, marks: &RowSet, level: usize) -> usize
 #[derive(Drop)]
 pub struct Levels<'a, G: Graph> {
     graph: &'a G,
-    ghost fits: { G.count_of graph.now * (G.sets_of graph.now + 1) ≤ 16777216 },
+    ghost fits: { G.count_of graph.now * (G.sets_of graph.now + 1) ≤ stated_limits.product },
 }
 
 impl<'a, G: Graph> Levels<'a, G> {
     /// The graph on levels. It takes no memory.
     pub fn of(graph: &'a G) -> Levels<'a, G>
-        requires { G.count_of graph.now * (G.sets_of graph.now + 1) ≤ 16777216 }
+        requires { G.count_of graph.now * (G.sets_of graph.now + 1) ≤ stated_limits.product }
         ensures { result.graph.now ≡ graph.now }
     {
         Levels { graph }

@@ -1,6 +1,6 @@
 //! The names of an automaton and of a formula together.
 
-ghost use Rattle.std.specs.Prelude.{◌≡◌, ◌<◌, ◌≤◌, ℕ, [], length, map, fold, slice_index_or, string_bytes, All, IfOk, OnOk};
+ghost use Rattle.std.specs.Prelude.{◌≡◌, ◌<◌, ◌≤◌, ℕ, [], length, map, fold, slice_index_or, string_bytes, IfOk, OnOk};
 ghost use Rattle.ltl_spec.specs.Collections.Lists as lists;
 ghost use Rattle.ltl_spec.specs.Formulas.Tokens.{same_name};
 ghost use Rattle.ltl_spec.specs.Formulas.Names.{unified};
@@ -93,7 +93,6 @@ pub(crate) fn numbers<'a, A: Allocator>(
 ) -> Result<Vec<usize, &'a A>, AllocError>
     ensures count { IfOk result (λ ns. length ns.items ≡ length formula.now.names) }
     ensures numbers { IfOk result (λ ns. (p : ℕ) → p < length formula.now.names → number_in ns.items p ≡ lists.place_of same_name (slice_index_or formula.now.names p []) (map (λ n. n.now) names.now)) }
-    ensures within { IfOk result (λ ns. (n : ℕ) → length names.now < n → All (λ k. k < n) ns.items) }
 {
     let mut numbers = Vec::new(alloc);
     for i in 0..formula.name_count() {

@@ -6,6 +6,7 @@ ghost use Rattle.ltl_spec.specs.Transitions.Cubes as cubes;
 ghost use Rattle.ltl_spec.specs.Automata.Automaton.{state_at};
 ghost use Rattle.ltl_spec.specs.Checking.Product.{renamed_cube};
 ghost use Rattle.ltl_spec.specs.Checking.Bounds.{HasNamesBelow};
+ghost use Rattle.ltl_sets.specs.declared.row_set.TheConstants.RowSet.{LIMIT};
 ghost use Rattle.ltl_check.specs.ProductView.{IsSearchable, number_in, pair_marks, first_edges, second_edges, pair_count, edge_pairs, IsPair, pair_place, pair_at, pair_step, start_pair};
 
 use crate::graph::{Graph, Step};
@@ -39,7 +40,7 @@ impl Steps {
 /// The literal alone, with the number of its proposition.
 fn numbered(literal: Literal, numbers: &[usize]) -> Cube
     requires named { literal.proposition < length numbers.now }
-    requires within { All (λ n. n < 256) numbers.now }
+    requires within { All (λ n. n < RowSet.LIMIT) numbers.now }
     ensures { result ≡ record { proposition = number_in numbers.now literal.proposition; positive = literal.positive } ∷ [] }
 {
     Cube::literal(numbers[literal.proposition], literal.positive)
@@ -49,7 +50,7 @@ fn numbered(literal: Literal, numbers: &[usize]) -> Cube
 /// other.
 fn joined(mine: &Cube, other: &Cube, numbers: &[usize]) -> Option<Cube>
     requires named { (l : cubes.Literal) → Has other.now l → l.proposition < length numbers.now }
-    requires within { All (λ n. n < 256) numbers.now }
+    requires within { All (λ n. n < RowSet.LIMIT) numbers.now }
     ensures { result ≡ cubes.join_cubes mine.now (renamed_cube (number_in numbers.now) other.now) }
 {
     let mut cube = *mine;
@@ -72,7 +73,7 @@ pub struct Product<'p, 'a, A: Allocator> {
     pub(crate) numbers: &'p [usize],
     ghost inside: { IsSearchable first.now second.now },
     ghost named: { HasNamesBelow (length numbers.now) second.now },
-    ghost within: { All (λ n. n < 256) numbers.now },
+    ghost within: { All (λ n. n < LIMIT) numbers.now },
 }
 
 impl<'p, 'a, A: Allocator> Product<'p, 'a, A> {
@@ -83,7 +84,7 @@ impl<'p, 'a, A: Allocator> Product<'p, 'a, A> {
         numbers: &'p [usize],
     ) -> Product<'p, 'a, A>
         requires named { HasNamesBelow (length numbers.now) second.now }
-        requires within { All (λ n. n < 256) numbers.now }
+        requires within { All (λ n. n < RowSet.LIMIT) numbers.now }
         ensures first { result.first.now ≡ first.now }
         ensures second { result.second.now ≡ second.now }
         ensures numbers { result.numbers.now ≡ numbers.now }

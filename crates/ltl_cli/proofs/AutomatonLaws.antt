@@ -13,7 +13,8 @@ use Rattle.ltl_spec.specs.Semantics.Language.{AcceptsModels}
 use Rattle.ltl_spec.specs.Tools.Limits.{stated_limits}
 use Rattle.ltl_spec.specs.Tools.Refusal as spec
 use Rattle.ltl_spec.specs.Tools.Outcome.{Then}
-use Rattle.ltl_spec.specs.Tools.Programs.{KeepsRows, Translates, Prints, Claim, Hoa}
+use Rattle.ltl_spec.specs.Tools.Programs.{KeepsRows, Translates, Prints}
+use Rattle.ltl_spec.specs.Tools.Run.{laid_out}
 use Rattle.ltl_spec.proofs.Collections.MemberLaws.{map_length}
 use Rattle.ltl_spec.proofs.NormalForms.SharedNodes.{trees_length}
 use Rattle.ltl_formula.specs.GraphView.{node_of}
@@ -23,7 +24,7 @@ use Rattle.ltl_buchi.specs.declared.fault.BaFault.{BaFault}
 use Rattle.ltl_buchi.specs.declared.fault.BaFault.TheVariants as fault
 use Rattle.ltl_cli.specs.declared.refusal.Refusal.TheVariants.{OutOfMemory}
 use Rattle.ltl_cli.specs.Refusals.{of_translation, refusal_of}
-use Rattle.ltl_cli.specs.Runs.{laid_out}
+use Rattle.ltl_cli.specs.Words.{layout_with}
 
 trees_long : (t : TableView) → length (row_trees t.rows) ≡ length t.rows
 trees_long t = trees_length (map node_of t.rows) ∙ map_length node_of t.rows
@@ -42,13 +43,13 @@ places_count p n (x ∷ xs) = chosen (p x) (places_count p (n + 1) xs)
 pub table_kept : (t : TableView) (N : Normal) → IsTable t → core_of t ≡ N → KeepsRows stated_limits N (Ok N)
 table_kept t N h e = subst (λ (M : Normal). KeepsRows stated_limits M (Ok M)) e (refl, few, few_elementary)
   where
-    few : length (rows (core_of t)) ≤ 4_096
+    few : length (rows (core_of t)) ≤ stated_limits.rows
     few =
         let counted = ap length (sym h.table.rows) ∙ trees_long t in
         let most = h.few in
         omega (arith, counted, most)
 
-    few_elementary : length (elementary_rows (core_of t)) ≤ 64
+    few_elementary : length (elementary_rows (core_of t)) ≤ stated_limits.elementary_rows
     few_elementary =
         let counted = ap length h.table.elementary ∙ places_count (λ a. is_elementary a || same a (core_of t)) 0 (rows (core_of t)) in
         let most = h.few_elementary in
@@ -56,16 +57,16 @@ table_kept t N h e = subst (λ (M : Normal). KeepsRows stated_limits M (Ok M)) e
 
 -- the automaton is too large, or memory was refused
 pub translation_refused : (t : TableView) (N : Normal) (o : Options) (e : BaFault) → IsTable t → core_of t ≡ N
-    → (◌≡◌ {A = Result Automaton BaFault} (Err e) (Err fault.TooLarge) → IsTranslationTooLarge (core_of t) o 65_536 1_048_576)
+    → (◌≡◌ {A = Result Automaton BaFault} (Err e) (Err fault.TooLarge) → IsTranslationTooLarge (core_of t) o stated_limits.states stated_limits.edges)
     → (of_translation e ≡ OutOfMemory) ⊎ Then (KeepsRows stated_limits N) (λ M. Translates stated_limits M o) (Err (refusal_of (of_translation e)))
 translation_refused t N o fault.TooLarge h c large =
-    inr (inr (N, table_kept t N h c, subst (λ (M : Normal). IsTranslationTooLarge M o 65_536 1_048_576) c (large refl)))
+    inr (inr (N, table_kept t N h c, subst (λ (M : Normal). IsTranslationTooLarge M o stated_limits.states stated_limits.edges) c (large refl)))
 translation_refused t N o fault.OutOfMemory h c large = inl refl
 
 pub translation_made : (t : TableView) (N : Normal) (o : Options) (B : Automaton) → IsTable t → core_of t ≡ N → IsTranslation (core_of t) o B
-    → ¬ (IsTranslationTooLarge (core_of t) o 65_536 1_048_576) → Then (KeepsRows stated_limits N) (λ M. Translates stated_limits M o) (Ok B)
+    → ¬ (IsTranslationTooLarge (core_of t) o stated_limits.states stated_limits.edges) → Then (KeepsRows stated_limits N) (λ M. Translates stated_limits M o) (Ok B)
 translation_made t N o B h c made fits =
-    inr (N, table_kept t N h c, subst (λ (M : Normal). IsTranslation M o B × ¬ (IsTranslationTooLarge M o 65_536 1_048_576)) c (made, fits))
+    inr (N, table_kept t N h c, subst (λ (M : Normal). IsTranslation M o B × ¬ (IsTranslationTooLarge M o stated_limits.states stated_limits.edges)) c (made, fits))
 
 -- from the automaton to its text
 
@@ -73,16 +74,16 @@ abbrev pub Translating : Normal → Options → Result Automaton spec.Refusal �
 Translating N o = Then (KeepsRows stated_limits N) (λ M. Translates stated_limits M o)
 
 abbrev pub Printing : Bool → Normal → Options → Reading → Result (List ℕ) spec.Refusal → Type 0
-Printing hoa N o R = Then (KeepsRows stated_limits N) (λ M. Prints stated_limits (cond hoa Hoa Claim) M o R)
+Printing hoa N o R = Then (KeepsRows stated_limits N) (λ M. Prints stated_limits (layout_with hoa) M o R)
 
 never : {A B : Type 0} (a : A) (b : B) → Err b ≡ Ok a → ⊥
 never a b e = cc
 
-prints_err : (hoa : Bool) (M : Normal) (o : Options) (R : Reading) (e : spec.Refusal) → Translates stated_limits M o (Err e) → Prints stated_limits (cond hoa Hoa Claim) M o R (Err e)
+prints_err : (hoa : Bool) (M : Normal) (o : Options) (R : Reading) (e : spec.Refusal) → Translates stated_limits M o (Err e) → Prints stated_limits (layout_with hoa) M o R (Err e)
 prints_err true M o R e h = inl (e, h, refl)
 prints_err false M o R e h = inl (e, h, refl)
 
-prints_ok : (hoa : Bool) (M : Normal) (o : Options) (R : Reading) (B : Automaton) → Translates stated_limits M o (Ok B) → Prints stated_limits (cond hoa Hoa Claim) M o R (Ok (laid_out hoa B R))
+prints_ok : (hoa : Bool) (M : Normal) (o : Options) (R : Reading) (B : Automaton) → Translates stated_limits M o (Ok B) → Prints stated_limits (layout_with hoa) M o R (Ok (laid_out (layout_with hoa) B R))
 prints_ok true M o R B h = inr (B, h, refl)
 prints_ok false M o R B h = inr (B, h, refl)
 
@@ -93,7 +94,7 @@ printing_err hoa N o R e (inl h) = inl (h.0, h.1, err_same e h.0 h.2)
     err_same x y p = cc
 printing_err hoa N o R e (inr (M, k, h)) = inr (M, k, prints_err hoa M o R e h)
 
-pub printing_ok : (hoa : Bool) (N : Normal) (o : Options) (R : Reading) (B : Automaton) → Translating N o (Ok B) → Printing hoa N o R (Ok (laid_out hoa B R))
+pub printing_ok : (hoa : Bool) (N : Normal) (o : Options) (R : Reading) (B : Automaton) → Translating N o (Ok B) → Printing hoa N o R (Ok (laid_out (layout_with hoa) B R))
 printing_ok hoa N o R B (inl h) = absurd (never B h.0 (sym h.2))
 printing_ok hoa N o R B (inr (M, k, h)) = inr (M, k, prints_ok hoa M o R B h)
 

@@ -1,5 +1,5 @@
 -- What a run of the checker shows.
-use Rattle.std.proofs.Common.{◌≡◌, ◌∙◌, ap, sym, subst, refl, ℕ, ◌≤◌, ◌<◌, Bool, true, false, cond, nat_lt, length, inl, inr, ◌⊎◌, List, [], Option, Some, None, arith}
+use Rattle.std.proofs.Common.{◌≡◌, ◌∙◌, ap, sym, subst, refl, ℕ, ◌+◌, ◌≤◌, ◌<◌, Bool, true, false, cond, nat_lt, length, inl, inr, ◌⊎◌, List, [], Option, Some, None, arith}
 use Rattle.std.proofs.KnownBytes.{Keeps-refl}
 use Rattle.std.specs.Prelude.{IfSome, Result, Ok, Err, ⊤}
 use Rattle.std.specs.Io.KnownBytes.{Appends}
@@ -13,7 +13,7 @@ use Rattle.ltl_spec.specs.NormalForms.Normal.{Normal}
 use Rattle.ltl_spec.specs.NormalForms.NormalForm.{core}
 use Rattle.ltl_spec.specs.Automata.Automaton.{Automaton}
 use Rattle.ltl_spec.specs.Construction.Translation.{IsTranslation}
-use Rattle.ltl_spec.specs.Hoa.HoaReading.{MarkedAutomaton, HoaReadsWithin, OneSet}
+use Rattle.ltl_spec.specs.Hoa.HoaReading.{MarkedAutomaton, HoaReadsWithin, stated_form}
 use Rattle.ltl_spec.specs.Checking.Check.{Verdict, Contained, Violated, IsVerdict, IsCommon, IsViolation, IsContained, product_size}
 use Rattle.ltl_spec.specs.Tools.Limits.{stated_limits}
 use Rattle.ltl_spec.specs.Tools.Refusal as spec
@@ -41,8 +41,8 @@ use Rattle.ltl_cli.specs.Refusals.{Takes, of_check, of_hoa, of_plan, refusal_of}
 use Rattle.ltl_cli.specs.Plans.{formula_word}
 use Rattle.ltl_cli.specs.Inputs.{IsStream, RefusesInput}
 use Rattle.ltl_cli.specs.Runs.{IsDone, Shows, message_with, status_with}
-use Rattle.ltl_cli.specs.Checks.{AreInputs, AutomatonReads, CheckerGives, CheckerOutcome, CheckerPromises, CheckOutcome, CheckTakesNone, IsChecked, Negates, PrintsViolation, RefusesCheck, TellsVerdict, asked_of, check_in}
-use Rattle.ltl_cli.proofs.InputLaws.{failed_stream, reads_takes}
+use Rattle.ltl_cli.specs.Checks.{CheckerGives, CheckerOutcome, CheckerPromises, CheckOutcome, CheckTakesNone, IsChecked, Negates, ReadsAutomaton, RefusesCheck, check_in}
+use Rattle.ltl_cli.proofs.InputLaws.{failed_stream, not_long, reads_takes}
 use Rattle.ltl_cli.proofs.RunLaws.{input_takes, run_shows, same_refusal, short_shows}
 
 never : {A B : Type 0} (a : A) (b : B) → Err b ≡ Ok a → ⊥
@@ -79,7 +79,7 @@ then_takes First Second f g (inr (a, h, k)) = g a k
 
 -- what follows the automaton of the negation
 abbrev Rest : Reading → Input → Automaton → Result Verdict spec.Refusal → Type 0
-Rest R file B = Then (λ r. r ≡ outcome.taken 16_777_216 file) (λ text. Then (ReadsHoa stated_limits OneSet text) (λ A. Judges stated_limits A R.names B (IsViolation A R)))
+Rest R file B = Then (λ r. r ≡ outcome.taken stated_limits.hoa_bytes file) (λ text. Then (ReadsHoa stated_limits stated_form text) (λ A. Judges stated_limits A R.names B (IsViolation A R)))
 
 -- ---- the formula and its automaton
 
@@ -106,18 +106,18 @@ module _ (p : Plan) (input : Input) (R : Reading) (reads : InputReads stated_lim
       inr (inr (R, reads, then_refused (KeepsRows stated_limits (core R.formula true true)) (λ N. Translates stated_limits N plain_options) (Rest R file) (refusal_of e) h))
 
   module _ (B : Automaton) (negates : Negates R (Ok B)) (file : Input) where
-    found : (r : Result Verdict spec.Refusal) → Rest R file B r → CheckerFinds stated_limits OneSet (check_in p) input file r
+    found : (r : Result Verdict spec.Refusal) → Rest R file B r → CheckerFinds stated_limits stated_form (check_in p) input file r
     found r h = inr (R, reads, then_goes (KeepsRows stated_limits (core R.formula true true)) (λ N. Translates stated_limits N plain_options) (Rest R file) B r negates h)
 
     -- the given automaton was refused
-    pub automaton_refused : (e : Refusal) → (e ≡ OutOfMemory) ⊎ AutomatonReads file (Err (refusal_of e)) → RefusesCheck p input file e
+    pub automaton_refused : (e : Refusal) → (e ≡ OutOfMemory) ⊎ ReadsAutomaton file (Err (refusal_of e)) → RefusesCheck p input file e
     automaton_refused e (inl h) = inl (h, takes)
     automaton_refused e (inr h) =
-        inr (found (Err (refusal_of e)) (then_refused (λ r. r ≡ outcome.taken 16_777_216 file) (ReadsHoa stated_limits OneSet) (λ A. Judges stated_limits A R.names B (IsViolation A R)) (refusal_of e) h))
+        inr (found (Err (refusal_of e)) (then_refused (λ r. r ≡ outcome.taken stated_limits.hoa_bytes file) (ReadsHoa stated_limits stated_form) (λ A. Judges stated_limits A R.names B (IsViolation A R)) (refusal_of e) h))
 
-    module _ (A : MarkedAutomaton) (automaton : AutomatonReads file (Ok A)) where
-      judges : (r : Result Verdict spec.Refusal) → Judges stated_limits A R.names B (IsViolation A R) r → CheckerFinds stated_limits OneSet (check_in p) input file r
-      judges r h = found r (then_goes (λ s. s ≡ outcome.taken 16_777_216 file) (ReadsHoa stated_limits OneSet) (λ M. Judges stated_limits M R.names B (IsViolation M R)) A r automaton h)
+    module _ (A : MarkedAutomaton) (automaton : ReadsAutomaton file (Ok A)) where
+      judges : (r : Result Verdict spec.Refusal) → Judges stated_limits A R.names B (IsViolation A R) r → CheckerFinds stated_limits stated_form (check_in p) input file r
+      judges r h = found r (then_goes (λ s. s ≡ outcome.taken stated_limits.hoa_bytes file) (ReadsHoa stated_limits stated_form) (λ M. Judges stated_limits M R.names B (IsViolation M R)) A r automaton h)
 
       -- there is no verdict
       check_refused : (e : Refusal) → (e ≡ OutOfMemory) ⊎ Judges stated_limits A R.names B (IsViolation A R) (Err (refusal_of e)) → RefusesCheck p input file e
@@ -137,15 +137,12 @@ negates_violations R B (inr (M, k, h)) = translation_violations R.formula true p
 -- ---- the given automaton
 
 -- what was read of it is some input
-pub automaton_from : (known : Option (List ℕ)) (A : MarkedAutomaton) → AnswersHeld known (Ok A) → (file : Input) × IsStream known file × AutomatonReads file (Ok A)
+pub automaton_from : (known : Option (List ℕ)) (A : MarkedAutomaton) → AnswersHeld known (Ok A) → (file : Input) × IsStream known file × ReadsAutomaton file (Ok A)
 automaton_from None A (text, s, h) = (outcome.Ended text, tt, inr (text, refl, h))
 automaton_from (Some xs) A (text, s, h) = (outcome.Ended text, s, inr (text, refl, h))
 
-few_failed : (bs : List ℕ) → length bs < 16_777_217 → AutomatonReads (outcome.Failed bs) (Err spec.CannotRead)
-few_failed bs l = inl (spec.CannotRead, rw (not_long bs l) refl, refl)
-  where
-    not_long : (xs : List ℕ) → length xs < 16_777_217 → nat_lt 16_777_216 (length xs) ≡ false
-    not_long xs m = grind (arith, m)
+few_failed : (bs : List ℕ) → length bs < stated_limits.hoa_bytes + 1 → ReadsAutomaton (outcome.Failed bs) (Err spec.CannotRead)
+few_failed bs l = inl (spec.CannotRead, rw (not_long stated_limits.hoa_bytes bs l) refl, refl)
 
 some_stream : (known : Option (List ℕ)) → (file : Input) × IsStream known file
 some_stream None = (outcome.Ended [], tt)
@@ -157,7 +154,7 @@ held_stream (Some xs) text s = s
 
 -- or why it was refused
 pub automaton_fault : (known new : Option (List ℕ)) (f : HoaFault) → AnswersHeld known (Err f) → (f ≡ hoa.CannotRead → TakesFewer known new)
-    → (file : Input) × IsStream known file × ((of_hoa f ≡ OutOfMemory) ⊎ AutomatonReads file (Err (refusal_of (of_hoa f))))
+    → (file : Input) × IsStream known file × ((of_hoa f ≡ OutOfMemory) ⊎ ReadsAutomaton file (Err (refusal_of (of_hoa f))))
 automaton_fault known new (hoa.AtLine line kind) (text, s, h) few = (outcome.Ended text, held_stream known text s, inr (inr (text, refl, h)))
 automaton_fault known new hoa.CannotRead a few =
     let (bs, c, l) = few refl in
@@ -174,8 +171,8 @@ verdict_moves A R B violations Contained h = λ w lasso k. h w lasso (k.0, (viol
 verdict_moves A R B violations (Violated w) (l, c, m, n) = (l, (c.0, (violations R.names w l.cycles).0 c.1), m, n)
 
 pub verdict_refused : {T : Type 0} (A : MarkedAutomaton) (names : List Name) (B : Automaton) (Found : Lasso → Type 0) (e : CheckFault)
-    → (◌≡◌ {A = Result T CheckFault} (Err e) (Err fault.TooManyPropositions) → 64 < length (unified A.names names))
-    → (◌≡◌ {A = Result T CheckFault} (Err e) (Err fault.ProductTooLarge) → (length (unified A.names names) ≤ 64) × (16_777_216 < product_size A names B))
+    → (◌≡◌ {A = Result T CheckFault} (Err e) (Err fault.TooManyPropositions) → stated_limits.propositions < length (unified A.names names))
+    → (◌≡◌ {A = Result T CheckFault} (Err e) (Err fault.ProductTooLarge) → (length (unified A.names names) ≤ stated_limits.propositions) × (stated_limits.product < product_size A names B))
     → (of_check e ≡ OutOfMemory) ⊎ Judges stated_limits A names B Found (Err (refusal_of (of_check e)))
 verdict_refused A names B Found fault.TooManyPropositions many large = inr (many refl)
 verdict_refused A names B Found fault.ProductTooLarge many large = inr (large refl)
@@ -183,24 +180,24 @@ verdict_refused A names B Found fault.OutOfMemory many large = inl refl
 
 -- ---- outcomes
 
-taken_takes : (file : Input) → Err spec.OutOfMemory ≡ outcome.taken 16_777_216 file → ⊥
+taken_takes : (file : Input) → Err spec.OutOfMemory ≡ outcome.taken stated_limits.hoa_bytes file → ⊥
 taken_takes (outcome.Text bs) p = never bs spec.OutOfMemory p
 taken_takes outcome.NotOpened p = cc
 taken_takes (outcome.Ended bs) p = never bs spec.OutOfMemory p
-taken_takes (outcome.Failed bs) p = chosen (nat_lt 16_777_216 (length bs)) bs p
+taken_takes (outcome.Failed bs) p = chosen (nat_lt stated_limits.hoa_bytes (length bs)) bs p
   where
     chosen : (b : Bool) (bs : List ℕ) → Err spec.OutOfMemory ≡ cond b (Ok bs) (Err spec.CannotRead) → ⊥
     chosen true bs p = never bs spec.OutOfMemory p
     chosen false bs p = cc
 
 -- no step says that memory was refused
-finds_takes : (p : CheckerPlan) (input file : Input) → CheckerFinds stated_limits OneSet p input file (Err spec.OutOfMemory) → ⊥
+finds_takes : (p : CheckerPlan) (input file : Input) → CheckerFinds stated_limits stated_form p input file (Err spec.OutOfMemory) → ⊥
 finds_takes p input file h =
     then_takes (InputReads stated_limits (outcome.input_of p.formula input)) (λ R. Then (KeepsRows stated_limits (core R.formula true true)) (λ N. Then (Translates stated_limits N plain_options) (Rest R file))) (input_takes (outcome.input_of p.formula input))
     (λ R k. then_takes (KeepsRows stated_limits (core R.formula true true)) (λ N. Then (Translates stated_limits N plain_options) (Rest R file)) (λ z. z)
     (λ N m. then_takes (Translates stated_limits N plain_options) (Rest R file) (λ z. z)
-    (λ B n. then_takes (λ r. r ≡ outcome.taken 16_777_216 file) (λ text. Then (ReadsHoa stated_limits OneSet text) (λ A. Judges stated_limits A R.names B (IsViolation A R))) (taken_takes file)
-    (λ text o. then_takes (ReadsHoa stated_limits OneSet text) (λ A. Judges stated_limits A R.names B (IsViolation A R)) (λ z. z) (λ A q. q) o) n) m) k) h
+    (λ B n. then_takes (λ r. r ≡ outcome.taken stated_limits.hoa_bytes file) (λ text. Then (ReadsHoa stated_limits stated_form text) (λ A. Judges stated_limits A R.names B (IsViolation A R))) (taken_takes file)
+    (λ text o. then_takes (ReadsHoa stated_limits stated_form text) (λ A. Judges stated_limits A R.names B (IsViolation A R)) (λ z. z) (λ A q. q) o) n) m) k) h
 
 pub outcome_refused : (p : Plan) (input file : Input) (o : Option (List ℕ)) (e : Refusal) → RefusesCheck p input file e → CheckOutcome p input file o o (Err e)
 outcome_refused p input file o e (inl h) = inr (Keeps-refl o, inl h)
@@ -208,7 +205,7 @@ outcome_refused p input file o e (inr h) =
     inr (
       Keeps-refl o,
       inr (
-        (λ m. finds_takes (check_in p) input file (subst (λ (x : Refusal). CheckerFinds stated_limits OneSet (check_in p) input file (Err (refusal_of x))) m h)),
+        (λ m. finds_takes (check_in p) input file (subst (λ (x : Refusal). CheckerFinds stated_limits stated_form (check_in p) input file (Err (refusal_of x))) m h)),
         (Err (refusal_of e), h, refl),
       ),
     )
@@ -221,11 +218,11 @@ low_verdict : (v : Verdict) → (verdict_answer stated_limits v).status ≤ 1
 low_verdict Contained = omega arith
 low_verdict (Violated w) = omega arith
 
-pub outcome_broken : (p : Plan) (input file : Input) (o n : Option (List ℕ)) (v : Verdict) (e : Refusal) → CheckerFinds stated_limits OneSet (check_in p) input file (Ok v) → e ≡ CannotWrite
+pub outcome_broken : (p : Plan) (input file : Input) (o n : Option (List ℕ)) (v : Verdict) (e : Refusal) → CheckerFinds stated_limits stated_form (check_in p) input file (Ok v) → e ≡ CannotWrite
     → AppendsBeginning o n (verdict_answer stated_limits v).output → CheckOutcome p input file o n (Err e)
 outcome_broken p input file o n v e h c w = inl (c, record { answer = verdict_answer stated_limits v; right = (Ok v, h, refl); silent = silent_verdict v; written = w })
 
-pub outcome_done : (p : Plan) (input file : Input) (o n : Option (List ℕ)) (v : Verdict) (status : ℕ) → CheckerFinds stated_limits OneSet (check_in p) input file (Ok v)
+pub outcome_done : (p : Plan) (input file : Input) (o n : Option (List ℕ)) (v : Verdict) (status : ℕ) → CheckerFinds stated_limits stated_form (check_in p) input file (Ok v)
     → Appends o n (verdict_answer stated_limits v).output → status ≡ (verdict_answer stated_limits v).status → IsDone (CheckerGives (Some (check_in p)) input file) o n status
 outcome_done p input file o n v status h w s = record {
   answer = verdict_answer stated_limits v;
@@ -252,116 +249,3 @@ pub checker_shows : (plan : Result Plan PlanFault) (input file : Input) (o n mo 
 checker_shows (Ok p) input file o n mo mn status r h st m = run_shows spec.Checker (CheckerGives (Some (check_in p)) input file) (CheckTakesNone p input) o n mo mn status r h st m
 checker_shows (Err plan.Usage) input file o n mo mn status r h st m = run_shows spec.Checker (CheckerGives None input file) ⊤ o n mo mn status r h st m
 checker_shows (Err plan.OutOfMemory) input file o n mo mn status r h st m = short_shows spec.Checker o n mo mn status r h.0 h.1 st m
-
--- ---- what the status says
-
--- an input reads as one formula
-one_formula : (input : Input) (R S : Reading) → InputReads stated_limits input (Ok R) → InputReads stated_limits input (Ok S) → R ≡ S
-one_formula input R S (inl (e, p, q)) h = absurd (never R e (sym q))
-one_formula input R S (inr g) (inl (e, p, q)) = absurd (never S e (sym q))
-one_formula input R S (inr (t, p, g)) (inr (u, q, h)) =
-    reads_once (tokens t) R S g.1 (subst (λ (x : List ℕ). IsTextOf x S) (same_ok u t (q ∙ sym p)) h.1)
-
--- and as one automaton
-one_given : (file : Input) (A M : MarkedAutomaton) → AutomatonReads file (Ok A) → AutomatonReads file (Ok M) → A ≡ M
-one_given file A M (inl (e, p, q)) h = absurd (never A e (sym q))
-one_given file A M (inr g) (inl (e, p, q)) = absurd (never M e (sym q))
-one_given file A M (inr (t, p, g)) (inr (u, q, h)) =
-    one_automaton OneSet t A M g.0 (subst (λ (x : List ℕ). HoaReadsWithin stated_limits OneSet x M) (same_ok u t (q ∙ sym p)) h).0
-
--- the words ask for one formula and one automaton
-module _ (plan : Option CheckerPlan) (input file : Input) (R S : Reading) (A M : MarkedAutomaton) (g : AreInputs plan input file R A) (h : AreInputs plan input file S M) where
-  asked : h.asked ≡ g.asked
-  asked = same_some h.asked g.asked (sym h.words ∙ g.words)
-
-  same_formula : R ≡ S
-  same_formula = one_formula (outcome.input_of g.asked.formula input) R S g.formula (subst (λ (p : CheckerPlan). InputReads stated_limits (outcome.input_of p.formula input) (Ok S)) asked h.formula)
-
-  same_automaton : A ≡ M
-  same_automaton = one_given file A M g.automaton h.automaton
-
--- a step that passes
-then_ok : {A B : Type 0} (First : Result A spec.Refusal → Type 0) (Second : A → Result B spec.Refusal → Type 0) (b : B) → Then First Second (Ok b) → (a : A) × First (Ok a) × Second a (Ok b)
-then_ok First Second b (inl (e, h, q)) = absurd (never b e (sym q))
-then_ok First Second b (inr w) = w
-
-refusals_high : (e : spec.Refusal) → 2 ≤ spec.status_of e
-refusals_high spec.Usage = omega arith
-refusals_high spec.CannotOpen = omega arith
-refusals_high spec.CannotRead = omega arith
-refusals_high spec.CannotWrite = omega arith
-refusals_high spec.OutOfMemory = omega arith
-refusals_high spec.LongFormula = omega arith
-refusals_high spec.TooManyPropositions = omega arith
-refusals_high spec.TooManyRows = omega arith
-refusals_high spec.TooManyElementaryRows = omega arith
-refusals_high spec.LargeAutomaton = omega arith
-refusals_high spec.LongWord = omega arith
-refusals_high spec.LargeProduct = omega arith
-refusals_high (spec.BadFormula place kind) = omega arith
-refusals_high (spec.BadWord place) = omega arith
-refusals_high (spec.BadAutomaton number kind) = omega arith
-
--- a status from 2 on says nothing
-high_tells : (plan : Option CheckerPlan) (input file : Input) (seen : Answer) → 2 ≤ seen.status → TellsVerdict plan input file seen
-high_tells plan input file seen l = record {
-  reads = λ m. absurd (omega (arith, l, m));
-  contained = λ R A h z. absurd (omega (arith, l, z));
-  violated = λ R A h z. absurd (omega (arith, l, z));
-}
-
--- what was read decides
-verdict_tells : (plan : Option CheckerPlan) (input file : Input) (seen : Answer) (R : Reading) (A : MarkedAutomaton) (B : Automaton) (v : Verdict) → AreInputs plan input file R A → IsVerdict A R.names B (IsViolation A R) v
-    → seen.status ≡ (verdict_answer stated_limits v).status → seen.output ≡ (verdict_answer stated_limits v).output → TellsVerdict plan input file seen
-verdict_tells plan input file seen R A B Contained g h st o = record {
-  reads = λ m. (R, A, g);
-  contained = λ S M k z. subst (λ (x : MarkedAutomaton). IsContained x S) (same_automaton plan input file R S A M g k) (subst (λ (x : Reading). IsContained A x) (same_formula plan input file R S A M g k) h);
-  violated = λ S M k z. absurd (omega (arith, st, z));
-}
-verdict_tells plan input file seen R A B (Violated w) g h st o = record {
-  reads = λ m. (R, A, g);
-  contained = λ S M k z. absurd (omega (arith, st, z));
-  violated = λ S M k z. subst (λ (x : MarkedAutomaton). PrintsViolation x S seen.output) (same_automaton plan input file R S A M g k)
-      (subst (λ (x : Reading). PrintsViolation A x seen.output) (same_formula plan input file R S A M g k) (w, h.0, h.1, o));
-}
-
-found_tells : (p : CheckerPlan) (input file : Input) (seen : Answer) (v : Verdict) → CheckerFinds stated_limits OneSet p input file (Ok v)
-    → seen.status ≡ (verdict_answer stated_limits v).status → seen.output ≡ (verdict_answer stated_limits v).output → TellsVerdict (Some p) input file seen
-found_tells p input file seen v h st o =
-    let (R, reads, h1) = then_ok (InputReads stated_limits (outcome.input_of p.formula input)) (λ R. Then (KeepsRows stated_limits (core R.formula true true)) (λ N. Then (Translates stated_limits N plain_options) (Rest R file))) v h in
-    let (N, kept, h2) = then_ok (KeepsRows stated_limits (core R.formula true true)) (λ N. Then (Translates stated_limits N plain_options) (Rest R file)) v h1 in
-    let (B, made, h3) = then_ok (Translates stated_limits N plain_options) (Rest R file) v h2 in
-    let (text, taken, h4) = then_ok (λ r. r ≡ outcome.taken 16_777_216 file) (λ text. Then (ReadsHoa stated_limits OneSet text) (λ A. Judges stated_limits A R.names B (IsViolation A R))) v h3 in
-    let (A, read, judged) = then_ok (ReadsHoa stated_limits OneSet text) (λ A. Judges stated_limits A R.names B (IsViolation A R)) v h4 in
-    verdict_tells (Some p) input file seen R A B v (record { asked = p; words = refl; formula = reads; automaton = inr (text, taken, read) }) judged.2 st o
-
-answer_tells : (p : CheckerPlan) (input file : Input) (seen : Answer) (r : Result Verdict spec.Refusal) → CheckerFinds stated_limits OneSet p input file r
-    → seen.status ≡ (outcome.answer_by stated_limits spec.Checker (verdict_answer stated_limits) r).status → seen.output ≡ (outcome.answer_by stated_limits spec.Checker (verdict_answer stated_limits) r).output
-    → TellsVerdict (Some p) input file seen
-answer_tells p input file seen (Ok v) h st o = found_tells p input file seen v h st o
-answer_tells p input file seen (Err e) h st o = high_tells (Some p) input file seen (subst (λ n. 2 ≤ n) (sym st) (refusals_high e))
-
-asked_tells : (plan : Option CheckerPlan) (input file : Input) (seen a : Answer) → CheckerGives plan input file a → seen.status ≡ a.status → seen.output ≡ a.output → TellsVerdict plan input file seen
-asked_tells None input file seen a e st o = high_tells None input file seen (let s = st ∙ ap (λ (x : Answer). x.status) e in omega (arith, s))
-asked_tells (Some p) input file seen a (r, h, e) st o = answer_tells p input file seen r h (st ∙ ap (λ (x : Answer). x.status) e) (o ∙ ap (λ (x : Answer). x.output) e)
-
-kept_tells : (plan : Option CheckerPlan) (input file : Input) (seen : Answer) → IsPromised stated_limits spec.Checker (CheckerGives plan input file) seen → TellsVerdict plan input file seen
-kept_tells plan input file seen (inl (a, h, g)) = asked_tells plan input file seen a h g.0 g.1
-kept_tells plan input file seen (inr (inl g)) = high_tells plan input file seen (let s = g.0 in omega (arith, s))
-kept_tells plan input file seen (inr (inr (a, h, m, s, w, z))) = high_tells plan input file seen (omega (arith, s))
-
--- the promise of a run says what its status says
-pub promise_tells : (plan : Result Plan PlanFault) (input file : Input) (seen : Answer) → CheckerPromises plan input file seen → TellsVerdict (asked_of plan) input file seen
-promise_tells (Ok p) input file seen h = kept_tells (Some (check_in p)) input file seen h.0
-promise_tells (Err plan.Usage) input file seen h = kept_tells None input file seen h.0
-promise_tells (Err plan.OutOfMemory) input file seen h = high_tells None input file seen (let s = h.0 in omega (arith, s))
-
--- so the run shows it
-pub shows_verdict : (plan : Result Plan PlanFault) (input file : Input) (o n mo mn : Option (List ℕ)) (status : ℕ) → Shows (CheckerPromises plan input file) o n mo mn status → Shows (TellsVerdict (asked_of plan) input file) o n mo mn status
-shows_verdict plan input file o n mo mn status h = record {
-  output = h.output;
-  message = h.message;
-  written = h.written;
-  told = h.told;
-  promised = promise_tells plan input file _ h.promised;
-}

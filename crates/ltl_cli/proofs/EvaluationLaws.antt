@@ -34,7 +34,7 @@ use Rattle.ltl_cli.specs.Plans.{formula_word, request_in}
 use Rattle.ltl_cli.specs.Words.{evaluator_plan}
 use Rattle.ltl_cli.specs.Inputs.{RefusesInput}
 use Rattle.ltl_cli.specs.Runs.{IsDone, Shows, message_with, status_with}
-use Rattle.ltl_cli.specs.Evaluations.{EvaluatorGives, EvaluatorTakesNone, EvaluatorPromises, EvaluatorOutcome, RefusesEvaluation, RequestOutcome, AreRead, TellsTruth, evaluation_in, with_word}
+use Rattle.ltl_cli.specs.Evaluations.{EvaluatorGives, EvaluatorTakesNone, EvaluatorPromises, EvaluatorOutcome, RefusesEvaluation, RequestOutcome, with_word}
 use Rattle.ltl_cli.proofs.InputLaws.{reads_takes}
 use Rattle.ltl_cli.proofs.RunLaws.{input_takes, run_shows, same_refusal, short_shows}
 
@@ -141,90 +141,3 @@ evaluator_shows (Ok p) input o n mo mn status r h st m =
     run_shows spec.Evaluator (EvaluatorGives (evaluator_plan (request_in p)) input) (EvaluatorTakesNone (evaluator_plan (request_in p)) input) o n mo mn status r h st m
 evaluator_shows (Err plan.Usage) input o n mo mn status r h st m = run_shows spec.Evaluator (EvaluatorGives None input) ⊤ o n mo mn status r h st m
 evaluator_shows (Err plan.OutOfMemory) input o n mo mn status r h st m = short_shows spec.Evaluator o n mo mn status r h.0 h.1 st m
-
--- ---- what the status says
-
-never : {A B : Type 0} (a : A) (b : B) → Err b ≡ Ok a → ⊥
-never a b e = cc
-
-same_ok : {A B : Type 0} (a b : A) → ◌≡◌ {A = Result A B} (Ok a) (Ok b) → a ≡ b
-same_ok a b e = cc
-
-same_some : {A : Type 0} (a b : A) → Some a ≡ Some b → a ≡ b
-same_some a b e = cc
-
--- an input reads as one formula
-one_formula : (input : Input) (R S : Reading) → InputReads stated_limits input (Ok R) → InputReads stated_limits input (Ok S) → R ≡ S
-one_formula input R S (inl (e, p, q)) h = absurd (never R e (sym q))
-one_formula input R S (inr g) (inl (e, p, q)) = absurd (never S e (sym q))
-one_formula input R S (inr (t, p, g)) (inr (u, q, h)) =
-    reads_once (tokens t) R S g.1 (subst (λ (x : List ℕ). IsTextOf x S) (same_ok u t (q ∙ sym p)) h.1)
-
--- the words ask for one formula and one word
-module _ (plan : Option EvaluatorPlan) (input : Input) (R S : Reading) (v w : Lasso) (g : AreRead plan input R v) (h : AreRead plan input S w) where
-  asked : h.asked ≡ g.asked
-  asked = same_some h.asked g.asked (sym h.words ∙ g.words)
-
-  pub same_formula : R ≡ S
-  same_formula = one_formula (outcome.input_of g.asked.formula input) R S g.formula (subst (λ (p : EvaluatorPlan). InputReads stated_limits (outcome.input_of p.formula input) (Ok S)) asked h.formula)
-
-  pub same_word : v ≡ w
-  same_word = one_word g.asked.word v w g.word.1 (subst (λ (p : EvaluatorPlan). IsLassoText p.word w) asked h.word.1)
-
-refusals_high : (e : spec.Refusal) → 2 ≤ spec.status_of e
-refusals_high spec.Usage = omega arith
-refusals_high spec.CannotOpen = omega arith
-refusals_high spec.CannotRead = omega arith
-refusals_high spec.CannotWrite = omega arith
-refusals_high spec.OutOfMemory = omega arith
-refusals_high spec.LongFormula = omega arith
-refusals_high spec.TooManyPropositions = omega arith
-refusals_high spec.TooManyRows = omega arith
-refusals_high spec.TooManyElementaryRows = omega arith
-refusals_high spec.LargeAutomaton = omega arith
-refusals_high spec.LongWord = omega arith
-refusals_high spec.LargeProduct = omega arith
-refusals_high (spec.BadFormula place kind) = omega arith
-refusals_high (spec.BadWord place) = omega arith
-refusals_high (spec.BadAutomaton number kind) = omega arith
-
--- a status from 2 on says nothing
-high_tells : (plan : Option EvaluatorPlan) (input : Input) (status : ℕ) → 2 ≤ status → TellsTruth plan input status
-high_tells plan input status l = record { reads = λ m. absurd (omega (arith, l, m)); truth = λ m. absurd (omega (arith, l, m)) }
-
--- what was read decides
-decides_tells : (plan : Option EvaluatorPlan) (input : Input) (status : ℕ) (R : Reading) (w : Lasso) → AreRead plan input R w → (status ≡ 0) ↔ Satisfies R.names w 0 R.formula → TellsTruth plan input status
-decides_tells plan input status R w g d = record {
-  reads = λ m. (R, w, g);
-  truth = λ m S v h. subst (λ (x : Lasso). (status ≡ 0) ↔ Satisfies S.names x 0 S.formula) (same_word plan input R S w v g h)
-      (subst (λ (X : Reading). (status ≡ 0) ↔ Satisfies X.names w 0 X.formula) (same_formula plan input R S w v g h) d);
-}
-
-found_tells : (p : EvaluatorPlan) (input : Input) (status : ℕ) (r : Result Bool spec.Refusal) → EvaluatorFinds stated_limits p input r → status ≡ (outcome.answer_by stated_limits spec.Evaluator (truth_answer stated_limits) r).status
-    → TellsTruth (Some p) input status
-found_tells p input status (Err e) h st = high_tells (Some p) input status (subst (λ n. 2 ≤ n) (sym st) (refusals_high e))
-found_tells p input status (Ok b) (inl (e, h, q)) st = absurd (never b e (sym q))
-found_tells p input status (Ok b) (inr (R, g, inl (e, h, q))) st = absurd (never b e (sym q))
-found_tells p input status (Ok b) (inr (R, g, inr (w, h, k))) st = decides_tells (Some p) input status R w (record { asked = p; words = refl; formula = g; word = h }) (decided b k st)
-  where
-    ended : (c d : Bool) → ◌≡◌ {A = Result Bool spec.Refusal} (Ok c) (Ok d) → status ≡ (truth_answer stated_limits c).status → status ≡ (truth_answer stated_limits d).status
-    ended c d e st = st ∙ ap (λ (t : Bool). (truth_answer stated_limits t).status) (same_ok c d e)
-
-    decided : (c : Bool) → Evaluates stated_limits R w (Ok c) → status ≡ (truth_answer stated_limits c).status → (status ≡ 0) ↔ Satisfies R.names w 0 R.formula
-    decided c (inl (e, s)) st = ((λ z. s), λ t. ended c true e st)
-    decided c (inr (e, n)) st = ((λ z. let o = ended c false e st in absurd (omega (arith, o, z))), λ t. absurd (n t))
-
-asked_tells : (plan : Option EvaluatorPlan) (input : Input) (seen a : Answer) → EvaluatorGives plan input a → seen.status ≡ a.status → TellsTruth plan input seen.status
-asked_tells None input seen a e st = high_tells None input seen.status (let s = st ∙ ap (λ (x : Answer). x.status) e in omega (arith, s))
-asked_tells (Some p) input seen a (r, h, e) st = found_tells p input seen.status r h (st ∙ ap (λ (x : Answer). x.status) e)
-
-kept_tells : (plan : Option EvaluatorPlan) (input : Input) (seen : Answer) → IsPromised stated_limits spec.Evaluator (EvaluatorGives plan input) seen → TellsTruth plan input seen.status
-kept_tells plan input seen (inl (a, h, g)) = asked_tells plan input seen a h g.0
-kept_tells plan input seen (inr (inl g)) = high_tells plan input seen.status (let s = g.0 in omega (arith, s))
-kept_tells plan input seen (inr (inr (a, h, m, s, w, t))) = high_tells plan input seen.status (omega (arith, s))
-
--- the promise of a run says what its status says
-pub promise_tells : (plan : Result Plan PlanFault) (input : Input) (seen : Answer) → EvaluatorPromises plan input seen → TellsTruth (evaluation_in plan) input seen.status
-promise_tells (Ok p) input seen h = kept_tells (evaluator_plan (request_in p)) input seen h.0
-promise_tells (Err plan.Usage) input seen h = kept_tells None input seen h.0
-promise_tells (Err plan.OutOfMemory) input seen h = high_tells None input seen.status (let s = h.0 in omega (arith, s))

@@ -1,9 +1,9 @@
 -- What was read, as an input of the definitions.
-use Rattle.std.proofs.Common.{◌≡◌, ◌∙◌, ap, sym, subst, refl, ℕ, ◌<◌, nat_lt, false, inl, inr, ◌⊎◌, List, [], length, take, Option, Some, None, arith, length-take}
+use Rattle.std.proofs.Common.{◌≡◌, ◌∙◌, ap, sym, subst, refl, ℕ, ◌+◌, ◌<◌, nat_lt, false, inl, inr, ◌⊎◌, List, [], length, take, Option, Some, None, arith, length-take}
 use Rattle.std.proofs.Math.Seq.{take-append_seam}
 use Rattle.std.proofs.lemmas.Bool.{cases_lt}
 use Rattle.std.proofs.lemmas.List.{take_all}
-use Rattle.std.specs.Prelude.{IfSome, Result, Ok, Err}
+use Rattle.std.specs.Prelude.{IfSome, IsErrOf, Result, Ok, Err}
 use Rattle.std.specs.Io.KnownBytes.{Consumes}
 use Rattle.ltl_spec.specs.Formulas.Formula.{Reading}
 use Rattle.ltl_spec.specs.Formulas.Grammar.{IsTextOf}
@@ -20,7 +20,7 @@ use Rattle.ltl_cli.specs.declared.source.Source.TheVariants as source
 use Rattle.ltl_cli.specs.declared.refusal.Refusal.{Refusal}
 use Rattle.ltl_cli.specs.declared.refusal.Refusal.TheVariants.{OutOfMemory, CannotRead}
 use Rattle.ltl_cli.specs.Refusals.{of_read, refusal_of}
-use Rattle.ltl_cli.specs.Inputs.{IsInputOf, IsReadFrom, IsStream, RefusesInput, TakesFewer}
+use Rattle.ltl_cli.specs.Inputs.{IsInputOf, IsReadFrom, IsStream, RefusesInput, TakesFewer, most_taken}
 
 -- a text is refused as the definitions say
 pub given_refused : (text : List ℕ) (e : ReadFault) → IsRefusedFor text e → RefusesInput (outcome.Given text) outcome.NotOpened (of_read e)
@@ -39,14 +39,14 @@ not_opened : (xs : List ℕ) → outcome.Ended xs ≡ outcome.NotOpened → ⊥
 not_opened xs e = cc
 
 -- the first 65,537 bytes are all of them, or both are too long
-same_or_long : (v xs : List ℕ) → v ≡ take 65_537 xs → (v ≡ xs) ⊎ (65_536 < length v) × (65_536 < length xs)
-same_or_long v xs e = elim (cases_lt 65_536 (length xs)) [
-  | inl l ↦ inr (subst (λ (w : List ℕ). 65_536 < length w) (sym e) (rw (length-take 65_537 xs) (omega arith)), l)
-  | inr l ↦ inl (e ∙ take_all 65_537 xs (omega arith))
+same_or_long : (v xs : List ℕ) → v ≡ take most_taken xs → (v ≡ xs) ⊎ (stated_limits.formula_bytes < length v) × (stated_limits.formula_bytes < length xs)
+same_or_long v xs e = elim (cases_lt stated_limits.formula_bytes (length xs)) [
+  | inl l ↦ inr (subst (λ (w : List ℕ). stated_limits.formula_bytes < length w) (sym e) (rw (length-take most_taken xs) (omega arith)), l)
+  | inr l ↦ inl (e ∙ take_all most_taken xs (omega arith))
 ]
 
 -- a text that is too long is refused for that, whatever it is
-long_reads : (v xs : List ℕ) → 65_536 < length v → 65_536 < length xs → (r : Result Reading spec.Refusal) → ReadsFormula stated_limits v r → ReadsFormula stated_limits xs r
+long_reads : (v xs : List ℕ) → stated_limits.formula_bytes < length v → stated_limits.formula_bytes < length xs → (r : Result Reading spec.Refusal) → ReadsFormula stated_limits v r → ReadsFormula stated_limits xs r
 long_reads v xs l m (Ok R) h = absurd (omega (arith, l, h.0))
 long_reads v xs l m (Err spec.LongFormula) h = m
 long_reads v xs l m (Err (spec.BadFormula place kind)) h = absurd (omega (arith, l, h.0))
@@ -69,7 +69,7 @@ pub text_reads : (v : List ℕ) (r : Result Reading spec.Refusal) → InputReads
 text_reads v r (inl (e, p, q)) = absurd (never v e p)
 text_reads v r (inr (a, p, h)) = subst (λ (w : List ℕ). ReadsFormula stated_limits w r) (ok_is a v p) h
 
-reads_from : (v xs : List ℕ) → v ≡ take 65_537 xs → (r : Result Reading spec.Refusal) → InputReads stated_limits (outcome.Text v) r → InputReads stated_limits (outcome.Ended xs) r
+reads_from : (v xs : List ℕ) → v ≡ take most_taken xs → (r : Result Reading spec.Refusal) → InputReads stated_limits (outcome.Text v) r → InputReads stated_limits (outcome.Ended xs) r
 reads_from v xs e r h = inr (
   xs,
   refl,
@@ -79,7 +79,7 @@ reads_from v xs e r h = inr (
   ],
 )
 
-file_read : (v xs : List ℕ) → v ≡ take 65_537 xs → (r : Result FormulaView Refusal) → IsReadFrom (outcome.Given v) outcome.NotOpened r → IsReadFrom (outcome.File []) (outcome.Ended xs) r
+file_read : (v xs : List ℕ) → v ≡ take most_taken xs → (r : Result FormulaView Refusal) → IsReadFrom (outcome.Given v) outcome.NotOpened r → IsReadFrom (outcome.File []) (outcome.Ended xs) r
 file_read v xs e (Ok f) h = reads_from v xs e (Ok (reading_of f)) h
 file_read v xs e (Err x) (inl p) = inl (p.0, not_opened xs)
 file_read v xs e (Err x) (inr h) = inr (reads_from v xs e (Err (refusal_of x)) h)
@@ -90,7 +90,7 @@ file_same v (Err x) (inl p) = inl (p.0, not_opened v)
 file_same v (Err x) (inr h) = inr h
 
 -- what was read from a file's bytes
-pub file_from : (known : Option (List ℕ)) (v : List ℕ) (r : Result FormulaView Refusal) → IfSome known (λ xs. v ≡ take 65_537 xs)
+pub file_from : (known : Option (List ℕ)) (v : List ℕ) (r : Result FormulaView Refusal) → IfSome known (λ xs. v ≡ take most_taken xs)
     → IsReadFrom (outcome.Given v) outcome.NotOpened r → (input : outcome.Input) × IsStream known input × IsReadFrom (outcome.File []) input r
 file_from None v r e h = (outcome.Ended v, tt, file_same v r h)
 file_from (Some xs) v r e h = (outcome.Ended xs, refl, file_read v xs e r h)
@@ -100,11 +100,12 @@ short_file : (known : Option (List ℕ)) → (input : outcome.Input) × IsStream
 short_file None = (outcome.Ended [], tt, inl (refl, not_opened []))
 short_file (Some xs) = (outcome.Ended xs, refl, inl (refl, not_opened xs))
 
-few_failed : (bs : List ℕ) → length bs < 65_537 → RefusesInput (outcome.File []) (outcome.Failed bs) CannotRead
-few_failed bs l = inr (inl (spec.CannotRead, rw (not_long bs l) refl, refl))
-  where
-    not_long : (bs : List ℕ) → length bs < 65_537 → nat_lt 65_536 (length bs) ≡ false
-    not_long bs l = grind (arith, l)
+-- a list that isn't longer than the limit
+pub not_long : (n : ℕ) (bs : List ℕ) → length bs < n + 1 → nat_lt n (length bs) ≡ false
+not_long n bs l = grind (arith, l)
+
+few_failed : (bs : List ℕ) → length bs < most_taken → RefusesInput (outcome.File []) (outcome.Failed bs) CannotRead
+few_failed bs l = inr (inl (spec.CannotRead, rw (not_long stated_limits.formula_bytes bs l) refl, refl))
 
 pub failed_stream : (old new : Option (List ℕ)) (bs : List ℕ) → Consumes old new bs → IsStream old (outcome.Failed bs)
 failed_stream None new bs p = tt
@@ -112,7 +113,7 @@ failed_stream (Some xs) (Some ys) bs p = (length bs, sym (ap (take (length bs)) 
 failed_stream (Some xs) None bs p = absurd p
 
 -- a read failed
-pub file_refused : (old new : Option (List ℕ)) (e : Refusal) → (e ≡ CannotRead) ⊎ (e ≡ OutOfMemory) → (e ≡ CannotRead → TakesFewer old new 65_537)
+pub file_refused : (old new : Option (List ℕ)) (e : Refusal) → (e ≡ CannotRead) ⊎ (e ≡ OutOfMemory) → (e ≡ CannotRead → TakesFewer old new most_taken)
     → (input : outcome.Input) × IsStream old input × RefusesInput (outcome.File []) input e
 file_refused old new e (inl c) few =
     let (bs, p, l) = few c in
@@ -145,3 +146,11 @@ reads_takes (outcome.File name) input R h = λ m. closed (subst (λ (i : outcome
 pub has_text : (input : outcome.Input) (R : Reading) → InputReads stated_limits input (Ok R) → (text : List ℕ) × IsTextOf text R
 has_text input R (inl (e, p, q)) = absurd (never R e (sym q))
 has_text input R (inr (text, p, (l, t, n))) = (text, t)
+
+-- a text that is known is never refused for a read
+pub given_readable : (text : List ℕ) (input : outcome.Input) {A : Type 0} (r : Result FormulaView Refusal) → IsReadFrom (outcome.Given text) input r → IsErrOf r CannotRead → A
+given_readable text input r h e = absurd (closed (subst (IsReadFrom (outcome.Given text) input) e h))
+  where
+    closed : IsReadFrom (outcome.Given text) input (Err CannotRead) → ⊥
+    closed (inl (m, t)) = cc
+    closed (inr h) = text_reads text (Err spec.CannotRead) h

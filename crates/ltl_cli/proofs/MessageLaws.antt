@@ -84,7 +84,7 @@ pub long_word : (tool : Tool) → front_text tool LongWord ≡ codes "limit: wor
 unfolding digits
 long_word tool = refl
 
-pub many_propositions : (tool : Tool) → front_text tool TooManyPropositions ≡ codes "limit: more than 64 propositions"
+pub many_propositions : (tool : Tool) → front_text tool TooManyPropositions ≡ codes "limit: more than 256 propositions"
 unfolding digits
 many_propositions tool = refl
 
@@ -92,6 +92,6 @@ pub many_rows : (tool : Tool) → front_text tool TooManyRows ≡ codes "limit: 
 unfolding digits
 many_rows tool = refl
 
-pub many_elementary_rows : (tool : Tool) → front_text tool TooManyElementaryRows ≡ codes "limit: more than 64 elementary rows"
+pub many_elementary_rows : (tool : Tool) → front_text tool TooManyElementaryRows ≡ codes "limit: more than 256 elementary rows"
 unfolding digits
 many_elementary_rows tool = refl

@@ -12,6 +12,7 @@ use Rattle.ltl_spec.specs.Tools.Refusal as spec
 use Rattle.ltl_spec.specs.Tools.Outcome as outcome
 use Rattle.ltl_spec.specs.Tools.Outcome.{Answer, Input, IsGiven, TakesNoMemory, refused, printed}
 use Rattle.ltl_spec.specs.Tools.Programs.{InputReads, TranslatorAnswers}
+use Rattle.ltl_spec.specs.Tools.Run.{laid_out}
 use Rattle.ltl_formula.specs.FormulaView.{FormulaView, reading_of}
 use Rattle.ltl_formula.specs.Streams.{AppendsBeginning}
 use Rattle.ltl_cli.specs.declared.refusal.Refusal.{Refusal}
@@ -24,9 +25,9 @@ use Rattle.ltl_cli.specs.declared.request.PlanFault.{PlanFault}
 use Rattle.ltl_cli.specs.declared.request.PlanFault.TheVariants as fault
 use Rattle.ltl_cli.specs.Refusals.{of_plan, refusal_of}
 use Rattle.ltl_cli.specs.Plans.{formula_word, request_in}
-use Rattle.ltl_cli.specs.Words.{translator_plan}
+use Rattle.ltl_cli.specs.Words.{layout_with, translator_plan}
 use Rattle.ltl_cli.specs.Inputs.{RefusesInput}
-use Rattle.ltl_cli.specs.Runs.{IsDone, IsKept, IsOutcome, PlanOutcome, PlanPrints, RefusesPlan, Shows, TranslatorPromises, WordsOutcome, laid_out, message_with, status_with, translator_word}
+use Rattle.ltl_cli.specs.Runs.{IsDone, IsKept, IsOutcome, PlanOutcome, PlanPrints, RefusesPlan, Shows, TranslatorPromises, WordsOutcome, message_with, status_with, translator_word}
 use Rattle.ltl_cli.proofs.AutomatonLaws.{Translating, printing_err, printing_ok, printing_takes}
 use Rattle.ltl_cli.proofs.InputLaws.{reads_takes}
 
@@ -55,7 +56,7 @@ module _ (p : Plan) (input : Input) (f : FormulaView) (word : FormulaWord) (rewr
       inr (inr (reading_of f, plan_reads, printing_err p.hoa (core (reading_of f).formula false p.rewrite) p.options (reading_of f) (refusal_of e) (plan_translates (Err (refusal_of e)) h)))
 
   -- it has one
-  pub automaton_prints : (B : Automaton) → Translating (core (reading_of f).formula false rewrite) o (Ok B) → PlanPrints p input (Ok (laid_out p.hoa B (reading_of f)))
+  pub automaton_prints : (B : Automaton) → Translating (core (reading_of f).formula false rewrite) o (Ok B) → PlanPrints p input (Ok (laid_out (layout_with p.hoa) B (reading_of f)))
   automaton_prints B h = inr (reading_of f, plan_reads, printing_ok p.hoa (core (reading_of f).formula false p.rewrite) p.options (reading_of f) B (plan_translates (Ok B) h))
 
 -- ---- no step says that memory was refused
@@ -66,18 +67,18 @@ never a b e = cc
 pub same_refusal : {A : Type 0} (x y : spec.Refusal) → ◌≡◌ {A = Result A spec.Refusal} (Err x) (Err y) → y ≡ x
 same_refusal x y p = cc
 
-taken_takes : (input : Input) → Err spec.OutOfMemory ≡ outcome.taken 65_536 input → ⊥
+taken_takes : (input : Input) → Err spec.OutOfMemory ≡ outcome.taken stated_limits.formula_bytes input → ⊥
 taken_takes (outcome.Text bs) p = never bs spec.OutOfMemory p
 taken_takes outcome.NotOpened p = cc
 taken_takes (outcome.Ended bs) p = never bs spec.OutOfMemory p
-taken_takes (outcome.Failed bs) p = chosen (nat_lt 65_536 (length bs)) bs p
+taken_takes (outcome.Failed bs) p = chosen (nat_lt stated_limits.formula_bytes (length bs)) bs p
   where
     chosen : (b : Bool) (bs : List ℕ) → Err spec.OutOfMemory ≡ cond b (Ok bs) (Err spec.CannotRead) → ⊥
     chosen true bs p = never bs spec.OutOfMemory p
     chosen false bs p = cc
 
 pub input_takes : (input : Input) → InputReads stated_limits input (Err spec.OutOfMemory) → ⊥
-input_takes input (inl (x, p, q)) = taken_takes input (subst (λ (y : spec.Refusal). Err y ≡ outcome.taken 65_536 input) (same_refusal spec.OutOfMemory x q) p)
+input_takes input (inl (x, p, q)) = taken_takes input (subst (λ (y : spec.Refusal). Err y ≡ outcome.taken stated_limits.formula_bytes input) (same_refusal spec.OutOfMemory x q) p)
 input_takes input (inr (a, p, h)) = h
 
 pub plan_takes : (p : Plan) (input : Input) → PlanPrints p input (Err spec.OutOfMemory) → ⊥

@@ -1,5 +1,5 @@
 -- How the known bytes of a reader shrink over several calls.
-use Rattle.std.proofs.Common.{◌≡◌, ◌∙◌, ap, sym, refl, ℕ, ◌≤◌, List, ◌++◌, length, take, Option, Some, None, append_assoc, length-append, length-take, ◌+◌, arith}
+use Rattle.std.proofs.Common.{◌≡◌, ◌∙◌, ap, sym, refl, ℕ, ◌≤◌, List, [], ◌++◌, length, take, Option, Some, None, append_assoc, length-append, length-take, ◌+◌, arith}
 use Rattle.std.proofs.Math.Seq.{take-append_seam}
 use Rattle.std.proofs.lemmas.List.{append-nil, take_all}
 use Rattle.std.specs.Prelude.{IfSome}
@@ -37,3 +37,12 @@ taken_more most o m n bs k buf p q le =
     let long = length-append bs (take k buf) in
     let part = length-take k buf in
     (bs ++ take k buf, consumes_trans o m n bs (take k buf) p q, omega (arith, le, long, part))
+
+-- nothing was taken
+pub takes_none : (most : ℕ) (o : Option (List ℕ)) → TakesUpTo o o most
+takes_none most None = ([], tt, omega arith)
+takes_none most (Some xs) = ([], refl, omega arith)
+
+-- all that was taken is a list that isn't too long
+pub taken_all : (most : ℕ) (o n : Option (List ℕ)) (bs : List ℕ) → Consumes o n bs → length bs ≤ most → TakesUpTo o n most
+taken_all most o n bs p le = (bs, p, le)

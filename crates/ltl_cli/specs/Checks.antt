@@ -1,18 +1,18 @@
 -- What a run of the checker shows.
-use Rattle.std.specs.Prelude.{◌≡◌, ◌≤◌, ◌⊎◌, true, List, ◌++◌, ℕ, Option, Some, None, Result, Ok, Err, MatchResult, ⊤, codes}
+use Rattle.std.specs.Prelude.{◌≡◌, ◌⊎◌, true, List, ℕ, Option, Some, None, Result, Ok, Err, MatchResult, ⊤}
 use Rattle.std.specs.Io.KnownBytes.{Keeps}
 use Rattle.ltl_spec.specs.Formulas.Formula.{Reading}
-use Rattle.ltl_spec.specs.Semantics.Word.{Lasso, IsLasso}
-use Rattle.ltl_spec.specs.Words.LassoText.{lasso_text}
 use Rattle.ltl_spec.specs.NormalForms.NormalForm.{core}
 use Rattle.ltl_spec.specs.Automata.Automaton.{Automaton}
-use Rattle.ltl_spec.specs.Automata.ClaimText.{line}
-use Rattle.ltl_spec.specs.Hoa.HoaReading.{MarkedAutomaton, OneSet}
-use Rattle.ltl_spec.specs.Checking.Check.{Verdict, IsViolation, IsContained}
+use Rattle.ltl_spec.specs.Hoa.HoaReading.{MarkedAutomaton, stated_form}
+use Rattle.ltl_spec.specs.Checking.Check.{Verdict, IsViolation}
 use Rattle.ltl_spec.specs.Tools.Limits.{stated_limits}
 use Rattle.ltl_spec.specs.Tools.Refusal as spec
-use Rattle.ltl_spec.specs.Tools.Outcome.{Answer, Input, IsShortOfMemory, TakesNoMemory, Then, input_of, taken}
-use Rattle.ltl_spec.specs.Tools.Programs.{CheckerPlan, CheckerAnswers, CheckerFinds, InputReads, KeepsRows, ReadsHoa, Translates, plain_options}
+use Rattle.ltl_spec.specs.Tools.Outcome.{Answer, Input, IsShortOfMemory, TakesNoMemory, Then, input_of}
+use Rattle.ltl_spec.specs.Tools.Programs.{CheckerPlan, CheckerAnswers, CheckerFinds, InputReads, Judges, KeepsRows, Translates, plain_options, verdict_answer}
+use Rattle.ltl_spec.specs.Tools.Run.{AutomatonReads, TellsVerdict}
+use Rattle.ltl_check.specs.declared.verdict.Outcome.{Outcome}
+use Rattle.ltl_check.specs.VerdictView.{verdict_of}
 use Rattle.ltl_cli.specs.declared.refusal.Refusal.{Refusal}
 use Rattle.ltl_cli.specs.declared.refusal.Refusal.TheVariants.{OutOfMemory}
 use Rattle.ltl_cli.specs.declared.status.Status.{Status}
@@ -21,7 +21,7 @@ use Rattle.ltl_cli.specs.declared.request.PlanFault.{PlanFault}
 use Rattle.ltl_cli.specs.declared.request.PlanFault.TheVariants as fault
 use Rattle.ltl_cli.specs.Refusals.{refusal_of}
 use Rattle.ltl_cli.specs.Words.{checker_plan}
-use Rattle.ltl_cli.specs.Plans.{request_in}
+use Rattle.ltl_cli.specs.Plans.{planned, request_in}
 use Rattle.ltl_cli.specs.Runs.{IsKept, IsOutcome}
 
 -- what a plan asks of the checker, in the words of the definitions
@@ -30,7 +30,7 @@ check_in p = checker_plan (request_in p)
 
 -- the right answers, for the formula's input and for the automaton's, and where no memory is taken
 abbrev pub CheckerGives : Option CheckerPlan → Input → Input → Answer → Type 0
-CheckerGives = CheckerAnswers stated_limits OneSet
+CheckerGives = CheckerAnswers stated_limits stated_form
 
 abbrev pub CheckTakesNone : Plan → Input → Type 0
 CheckTakesNone p input = TakesNoMemory stated_limits.formula_bytes (Some (check_in p).formula) input
@@ -41,36 +41,24 @@ CheckerPromises (Ok p) input file = IsKept spec.Checker (CheckerGives (Some (che
 CheckerPromises (Err fault.Usage) input file = IsKept spec.Checker (CheckerGives None input file) ⊤
 CheckerPromises (Err fault.OutOfMemory) input file = IsShortOfMemory stated_limits spec.Checker
 
--- ---- what the status says
-
--- what the words ask of the checker; none where they are usage, or memory was refused
-abbrev pub asked_of : Result Plan PlanFault → Option CheckerPlan
-asked_of (Ok p) = Some (check_in p)
-asked_of (Err e) = None
-
--- from the automaton's input to the automaton
-abbrev pub AutomatonReads : Input → Result MarkedAutomaton spec.Refusal → Type 0
-AutomatonReads file = Then (λ r. r ≡ taken stated_limits.hoa_bytes file) (ReadsHoa stated_limits OneSet)
-
--- the words ask for a check, and the inputs are read as this formula and this automaton
-pub record AreInputs (plan : Option CheckerPlan) (input file : Input) (R : Reading) (A : MarkedAutomaton) : Type 0 where
-  pub asked : CheckerPlan
-  pub words : plan ≡ Some asked
-  pub formula : InputReads stated_limits (input_of asked.formula input) (Ok R)
-  pub automaton : AutomatonReads file (Ok A)
-
--- the output is that of a word that the automaton accepts and that violates the formula
-abbrev pub PrintsViolation : MarkedAutomaton → Reading → List ℕ → Type 0
-PrintsViolation A R output = (w : Lasso) × IsLasso w × IsViolation A R w × (output ≡ line (codes "violated") ++ line (lasso_text w))
-
--- A run that ends with status 0 or 1 has read a formula and an automaton. With 0 no word that this automaton accepts violates this
--- formula; with 1 such a word was printed
-pub record TellsVerdict (plan : Option CheckerPlan) (input file : Input) (seen : Answer) : Type 0 where
-  pub reads : seen.status ≤ 1 → (R : Reading) × (A : MarkedAutomaton) × AreInputs plan input file R A
-  pub contained : (R : Reading) (A : MarkedAutomaton) → AreInputs plan input file R A → seen.status ≡ 0 → IsContained A R
-  pub violated : (R : Reading) (A : MarkedAutomaton) → AreInputs plan input file R A → seen.status ≡ 1 → PrintsViolation A R seen.output
+-- What a run of the checker shows: what it promises, and so the verdict
+pub record CheckerRun (plan : Result Plan PlanFault) (input file : Input) (seen : Answer) : Type 0 where
+  pub told : CheckerPromises plan input file seen
+  pub verdict : TellsVerdict stated_limits stated_form (planned spec.Checker plan) input file seen
 
 -- ---- before the message
+
+-- the automaton that is checked
+abbrev pub ReadsAutomaton : Input → Result MarkedAutomaton spec.Refusal → Type 0
+ReadsAutomaton = AutomatonReads stated_limits stated_form
+
+-- whether a word that the automaton accepts violates the formula, by the automaton of its violations
+abbrev pub JudgesFormula : MarkedAutomaton → Reading → Automaton → Result Verdict spec.Refusal → Type 0
+JudgesFormula A R B = Judges stated_limits A R.names B (IsViolation A R)
+
+-- the answer for what was found
+abbrev pub answer_for : {A : Type 0} → Outcome A → Answer
+answer_for outcome = verdict_answer stated_limits (verdict_of outcome)
 
 -- the automaton of the formula's violations
 abbrev pub Negates : Reading → Result Automaton spec.Refusal → Type 0
@@ -79,7 +67,7 @@ Negates R = Then (KeepsRows stated_limits (core R.formula true true)) (λ N. Tra
 -- what the definitions say of the plan and the inputs, or memory was refused where some is taken
 abbrev pub RefusesCheck : Plan → Input → Input → Refusal → Type 0
 RefusesCheck p input file e =
-    (e ≡ OutOfMemory) × (¬ (CheckTakesNone p input)) ⊎ CheckerFinds stated_limits OneSet (check_in p) input file (Err (refusal_of e))
+    (e ≡ OutOfMemory) × (¬ (CheckTakesNone p input)) ⊎ CheckerFinds stated_limits stated_form (check_in p) input file (Err (refusal_of e))
 
 -- the formula and the automaton of its violations, or a refusal, whatever the automaton's input is
 abbrev pub IsNegated : {T : Type 0} → Plan → Input → (T → Reading) → (T → Automaton) → Result T Refusal → Type 0
@@ -88,7 +76,7 @@ IsNegated p input formula violations r =
     (λ e. (file : Input) → RefusesCheck p input file e)
 
 abbrev pub IsChecked : {T : Type 0} → Plan → Input → Input → (T → Verdict) → Result T Refusal → Type 0
-IsChecked p input file verdict r = MatchResult r (λ t. CheckerFinds stated_limits OneSet (check_in p) input file (Ok (verdict t))) (RefusesCheck p input file)
+IsChecked p input file verdict r = MatchResult r (λ t. CheckerFinds stated_limits stated_form (check_in p) input file (Ok (verdict t))) (RefusesCheck p input file)
 
 -- the outcome of a plan
 abbrev pub CheckOutcome : Plan → Input → Input → Option (List ℕ) → Option (List ℕ) → Result Status Refusal → Type 0

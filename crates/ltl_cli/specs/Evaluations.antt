@@ -1,13 +1,11 @@
 -- What a run of the evaluator shows.
-use Rattle.std.specs.Prelude.{◌≡◌, ◌≤◌, ◌⊎◌, ◌↔◌, Bool, List, ℕ, Option, Some, None, Result, Ok, Err, MatchResult, ⊤, option_map}
+use Rattle.std.specs.Prelude.{◌≡◌, ◌⊎◌, Bool, List, ℕ, Option, Some, None, Result, Ok, Err, MatchResult, ⊤, option_map}
 use Rattle.std.specs.Io.KnownBytes.{Keeps}
-use Rattle.ltl_spec.specs.Formulas.Formula.{Reading}
-use Rattle.ltl_spec.specs.Semantics.Word.{Lasso}
-use Rattle.ltl_spec.specs.Semantics.Satisfaction.{Satisfies}
 use Rattle.ltl_spec.specs.Tools.Limits.{stated_limits}
 use Rattle.ltl_spec.specs.Tools.Refusal as spec
-use Rattle.ltl_spec.specs.Tools.Outcome.{Answer, Input, IsShortOfMemory, TakesNoMemory, input_of}
-use Rattle.ltl_spec.specs.Tools.Programs.{EvaluatorPlan, EvaluatorAnswers, EvaluatorFinds, InputReads, ReadsWord}
+use Rattle.ltl_spec.specs.Tools.Outcome.{Answer, Input, IsShortOfMemory, TakesNoMemory}
+use Rattle.ltl_spec.specs.Tools.Programs.{EvaluatorPlan, EvaluatorAnswers, EvaluatorFinds}
+use Rattle.ltl_spec.specs.Tools.Run.{TellsTruth}
 use Rattle.ltl_cli.specs.declared.refusal.Refusal.{Refusal}
 use Rattle.ltl_cli.specs.declared.refusal.Refusal.TheVariants.{OutOfMemory}
 use Rattle.ltl_cli.specs.declared.status.Status.{Status}
@@ -16,7 +14,7 @@ use Rattle.ltl_cli.specs.declared.request.PlanFault.{PlanFault}
 use Rattle.ltl_cli.specs.declared.request.PlanFault.TheVariants as fault
 use Rattle.ltl_cli.specs.Refusals.{refusal_of}
 use Rattle.ltl_cli.specs.Words.{evaluator_plan}
-use Rattle.ltl_cli.specs.Plans.{formula_word, request_in}
+use Rattle.ltl_cli.specs.Plans.{formula_word, planned, request_in}
 use Rattle.ltl_cli.specs.Runs.{IsKept, IsOutcome}
 
 -- the right answers, and where no memory is taken
@@ -32,25 +30,10 @@ EvaluatorPromises (Ok p) input = IsKept spec.Evaluator (EvaluatorGives (evaluato
 EvaluatorPromises (Err fault.Usage) input = IsKept spec.Evaluator (EvaluatorGives None input) ⊤
 EvaluatorPromises (Err fault.OutOfMemory) input = IsShortOfMemory stated_limits spec.Evaluator
 
--- ---- what the status says
-
--- what the words ask of the evaluator; none where they are usage, or memory was refused
-abbrev pub evaluation_in : Result Plan PlanFault → Option EvaluatorPlan
-evaluation_in (Ok p) = evaluator_plan (request_in p)
-evaluation_in (Err e) = None
-
--- the words ask for a formula and a word, which are read as these
-pub record AreRead (plan : Option EvaluatorPlan) (input : Input) (R : Reading) (w : Lasso) : Type 0 where
-  pub asked : EvaluatorPlan
-  pub words : plan ≡ Some asked
-  pub formula : InputReads stated_limits (input_of asked.formula input) (Ok R)
-  pub word : ReadsWord stated_limits R.names asked.word (Ok w)
-
--- A run that ends with status 0 or 1 has read a formula and a word, and the status is 0 exactly where that formula holds at the beginning of
--- that word
-pub record TellsTruth (plan : Option EvaluatorPlan) (input : Input) (status : ℕ) : Type 0 where
-  pub reads : status ≤ 1 → (R : Reading) × (w : Lasso) × AreRead plan input R w
-  pub truth : status ≤ 1 → (R : Reading) (w : Lasso) → AreRead plan input R w → (status ≡ 0) ↔ Satisfies R.names w 0 R.formula
+-- What a run of the evaluator shows: what it promises, and so the truth
+pub record EvaluatorRun (plan : Result Plan PlanFault) (input : Input) (seen : Answer) : Type 0 where
+  pub told : EvaluatorPromises plan input seen
+  pub truth : TellsTruth stated_limits (planned spec.Evaluator plan) input seen
 
 -- ---- before the message
 

@@ -1,5 +1,5 @@
 -- What the code reads, as the inputs of the definitions.
-use Rattle.std.specs.Prelude.{◌≡◌, ◌<◌, ◌≤◌, ◌⊎◌, ℕ, List, length, Option, Some, None, Result, Ok, Err, MatchResult, ⊤}
+use Rattle.std.specs.Prelude.{◌≡◌, ◌<◌, ◌≤◌, ◌⊎◌, ◌+◌, ℕ, List, [], length, Option, Some, None, Result, Ok, Err, MatchResult, ⊤}
 use Rattle.std.specs.Io.KnownBytes.{Consumes}
 use Rattle.ltl_spec.specs.Tools.Limits.{stated_limits}
 use Rattle.ltl_spec.specs.Tools.Outcome as spec
@@ -10,6 +10,10 @@ use Rattle.ltl_cli.specs.declared.source.Source.TheVariants.{Text, Input, NotOpe
 use Rattle.ltl_cli.specs.declared.refusal.Refusal.{Refusal}
 use Rattle.ltl_cli.specs.declared.refusal.Refusal.TheVariants.{OutOfMemory}
 use Rattle.ltl_cli.specs.Refusals.{refusal_of}
+
+-- how many bytes of a formula's file are taken at most: one more than its text may have
+abbrev pub most_taken : ℕ
+most_taken = stated_limits.formula_bytes + 1
 
 -- at most n bytes were taken, and they are a beginning of what was left
 abbrev pub TakesUpTo : Option (List ℕ) → Option (List ℕ) → ℕ → Type 0
@@ -27,6 +31,12 @@ IsStream None (spec.Ended bs) = ⊤
 IsStream None (spec.Failed bs) = ⊤
 IsStream known _ = ⊥
 
+-- the bytes that the source has left; only a reader has any
+abbrev pub bytes_of : {R : Type 0} → (R → Option (List ℕ)) → Source R → Option (List ℕ)
+bytes_of remaining Text = Some []
+bytes_of remaining (Input r) = remaining r
+bytes_of remaining NotOpened = Some []
+
 -- The source of a file's bytes is this input. Where the words name a file there is no text in their place
 abbrev pub IsInputOf : {R : Type 0} → (R → Option (List ℕ)) → Source R → spec.Input → Type 0
 IsInputOf remaining Text input = input ≡ spec.NotOpened
@@ -41,3 +51,8 @@ RefusesInput word input e =
 
 abbrev pub IsReadFrom : spec.FormulaWord → spec.Input → Result FormulaView Refusal → Type 0
 IsReadFrom word input r = MatchResult r (λ f. InputReads stated_limits (spec.input_of word input) (Ok (reading_of f))) (RefusesInput word input)
+
+-- the words hold the text
+abbrev pub HoldsText : spec.FormulaWord → Type 0
+HoldsText (spec.Given text) = ⊤
+HoldsText (spec.File name) = ⊥

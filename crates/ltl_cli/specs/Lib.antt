@@ -1,9 +1,9 @@
 pub mod Checks
 pub mod Evaluations
+pub mod Headline
 pub mod Inputs
 pub mod Messages
 pub mod Plans
-pub mod Promises
 pub mod Refusals
 pub mod Runs
 pub mod Words

@@ -2,7 +2,10 @@
 use Rattle.std.specs.Prelude.{ℕ, List, [], ◌++◌, Option, Some, None, codes, decimal}
 use Rattle.ltl_spec.specs.Hoa.HoaFaultKind.{hoa_fault_text}
 use Rattle.ltl_spec.specs.Tools.Limits.{stated_limits}
-use Rattle.ltl_spec.specs.Tools.Refusal.{Tool, Refusal, BadFormula, BadWord, BadAutomaton, fault_text, refusal_text}
+use Rattle.ltl_spec.specs.Tools.Refusal.{Tool, Refusal, BadFormula, BadWord, BadAutomaton, fault_text, message, refusal_text}
+use Rattle.ltl_cli.specs.declared.tool.Tool as code
+use Rattle.ltl_cli.specs.declared.refusal.Refusal as why
+use Rattle.ltl_cli.specs.Refusals.{refusal_of, tool_of}
 
 abbrev pub front_text : Tool → Refusal → List ℕ
 front_text tool (BadFormula place kind) = codes "formula: byte "
@@ -25,3 +28,11 @@ back_text (BadFormula place kind) = codes ": " ++ fault_text kind
 back_text (BadWord place) = codes ": bad word"
 back_text (BadAutomaton number kind) = codes ": " ++ hoa_fault_text kind
 back_text _ = []
+
+-- the text of a refusal of the code, and its line
+
+abbrev pub text_for : code.Tool → why.Refusal → List ℕ
+text_for tool refusal = refusal_text stated_limits (tool_of tool) (refusal_of refusal)
+
+abbrev pub line_for : code.Tool → why.Refusal → List ℕ
+line_for tool refusal = message stated_limits (tool_of tool) (refusal_of refusal)

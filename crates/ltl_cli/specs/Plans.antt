@@ -1,10 +1,11 @@
 -- A plan as what its words ask for.
-use Rattle.std.specs.Prelude.{◌≡◌, Some, None, List, [], Result, MatchResult, option_map}
+use Rattle.std.specs.Prelude.{◌≡◌, Option, Some, None, List, [], Result, Ok, Err, MatchResult, option_map}
 use Rattle.ltl_spec.specs.Tools.Refusal.{Tool}
 use Rattle.ltl_spec.specs.Tools.Outcome as spec
+use Rattle.ltl_spec.specs.Tools.Run.{PlanOf}
 use Rattle.clap.specs.Words.{Text, fault_of, found_of, matches_of, rows_of}
 use Rattle.clap.specs.declared.parser.matches.ArgMatches.{ArgMatches}
-use Rattle.ltl_cli.specs.Words.{Request, app_for, request_of}
+use Rattle.ltl_cli.specs.Words.{Request, app_for, plan_of, request_of}
 use Rattle.ltl_cli.specs.declared.request.Plan.{Plan}
 use Rattle.ltl_cli.specs.declared.request.FormulaWord.{FormulaWord}
 use Rattle.ltl_cli.specs.declared.request.FormulaWord.TheVariants as word
@@ -24,6 +25,11 @@ request_in p = record {
   options = p.options;
   hoa = p.hoa;
 }
+
+-- what was planned for the program; nothing where its words are usage, or memory was refused
+abbrev pub planned : (tool : Tool) → Result Plan PlanFault → Option (PlanOf tool)
+planned tool (Ok p) = plan_of tool (Some (request_in p))
+planned tool (Err e) = None
 
 -- usage only where the words mean nothing; memory may be refused for any words
 abbrev pub RefusesWords : Tool → List Text → PlanFault → Type 0

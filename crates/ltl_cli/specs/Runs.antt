@@ -1,16 +1,17 @@
 -- What a run of a program shows.
-use Rattle.std.specs.Prelude.{◌≡◌, ◌≤◌, ℕ, Bool, List, [], ◌⊎◌, Option, Some, None, Result, Ok, Err, MatchResult, ⊤, if◌then◌else◌}
+use Rattle.std.specs.Prelude.{◌≡◌, ◌≤◌, ℕ, Bool, List, [], ◌⊎◌, Option, Some, None, Result, Ok, Err, MatchResult, ⊤}
 use Rattle.std.specs.Io.KnownBytes.{Appends, Keeps}
 use Rattle.ltl_formula.specs.FormulaView.{FormulaView, reading_of}
 use Rattle.ltl_formula.specs.Streams.{AppendsBeginning}
 use Rattle.ltl_spec.specs.Formulas.Formula.{Reading}
+use Rattle.ltl_spec.specs.NormalForms.NormalForm.{core}
 use Rattle.ltl_spec.specs.Automata.Automaton.{Automaton}
-use Rattle.ltl_spec.specs.Automata.ClaimText.{never_text}
-use Rattle.ltl_spec.specs.Automata.HoaText.{hoa_text}
+use Rattle.ltl_spec.specs.Construction.Translation.{Options}
 use Rattle.ltl_spec.specs.Tools.Limits.{stated_limits}
 use Rattle.ltl_spec.specs.Tools.Refusal as spec
-use Rattle.ltl_spec.specs.Tools.Outcome.{Answer, FormulaWord, Input, IsPromised, IsShortOfMemory, TakesNoMemory, refused}
-use Rattle.ltl_spec.specs.Tools.Programs.{TranslatorAnswers, TranslatorPrints}
+use Rattle.ltl_spec.specs.Tools.Outcome.{Answer, FormulaWord, Input, IsPromised, IsShortOfMemory, TakesNoMemory, Then, refused}
+use Rattle.ltl_spec.specs.Tools.Programs.{KeepsRows, TranslatorAnswers, TranslatorPrints, Translates}
+use Rattle.ltl_spec.specs.Tools.Run.{TellsModels, laid_out}
 use Rattle.ltl_cli.specs.declared.refusal.Refusal.{Refusal}
 use Rattle.ltl_cli.specs.declared.refusal.Refusal.TheVariants.{OutOfMemory, CannotWrite}
 use Rattle.ltl_cli.specs.declared.status.Status.{Status}
@@ -18,8 +19,8 @@ use Rattle.ltl_cli.specs.declared.request.Plan.{Plan}
 use Rattle.ltl_cli.specs.declared.request.PlanFault.{PlanFault}
 use Rattle.ltl_cli.specs.declared.request.PlanFault.TheVariants as fault
 use Rattle.ltl_cli.specs.Refusals.{refusal_of, status_number}
-use Rattle.ltl_cli.specs.Words.{translator_plan}
-use Rattle.ltl_cli.specs.Plans.{request_in}
+use Rattle.ltl_cli.specs.Words.{layout_with, translator_plan}
+use Rattle.ltl_cli.specs.Plans.{planned, request_in}
 
 -- ---- before the message
 
@@ -85,11 +86,26 @@ TranslatorPromises (Ok p) input =
 TranslatorPromises (Err fault.Usage) input = IsKept spec.Translator (TranslatorAnswers stated_limits None input) ⊤
 TranslatorPromises (Err fault.OutOfMemory) input = IsShortOfMemory stated_limits spec.Translator
 
--- the text of an automaton, in one of the two layouts
-abbrev pub laid_out : Bool → Automaton → Reading → List ℕ
-laid_out hoa B R = if hoa then hoa_text B R else never_text B R
+-- What a run of the translator shows: what it promises, and so, where its status is 0, the text of an automaton for the formula
+pub record TranslatorRun (plan : Result Plan PlanFault) (input : Input) (seen : Answer) : Type 0 where
+  pub told : TranslatorPromises plan input seen
+  pub language : TellsModels stated_limits (planned spec.Translator plan) input seen
+
+-- where a run is answered before any memory is taken
+abbrev pub TakesNone : Result Plan PlanFault → Input → Type 0
+TakesNone (Ok p) input = TakesNoMemory stated_limits.formula_bytes (Some (translator_word p)) input
+TakesNone (Err fault.Usage) input = ⊤
+TakesNone (Err fault.OutOfMemory) input = ⊥
 
 -- ---- the translator before the message
+
+-- from a formula to the automaton of its normal form
+abbrev pub MakesAutomaton : Reading → Bool → Bool → Options → Result Automaton spec.Refusal → Type 0
+MakesAutomaton R negate rewrite o = Then (KeepsRows stated_limits (core R.formula negate rewrite)) (λ N. Translates stated_limits N o)
+
+-- the text of an automaton, with `-H` or without
+abbrev pub text_with : Bool → Automaton → FormulaView → List ℕ
+text_with hoa B f = laid_out (layout_with hoa) B (reading_of f)
 
 -- what the definitions say of the plan and the input
 abbrev pub PlanPrints : Plan → Input → Result (List ℕ) spec.Refusal → Type 0
@@ -103,7 +119,7 @@ RefusesPlan p input e =
 -- a formula and its automaton, whose text the definitions say is printed, or a refusal
 abbrev pub IsTranslated : {T : Type 0} → Plan → Input → (T → FormulaView) → (T → Automaton) → Result T Refusal → Type 0
 IsTranslated p input formula automaton r =
-    MatchResult r (λ t. PlanPrints p input (Ok (laid_out p.hoa (automaton t) (reading_of (formula t))))) (RefusesPlan p input)
+    MatchResult r (λ t. PlanPrints p input (Ok (text_with p.hoa (automaton t) (formula t)))) (RefusesPlan p input)
 
 -- the outcome of a plan
 abbrev pub PlanOutcome : Plan → Input → Option (List ℕ) → Option (List ℕ) → Result Status Refusal → Type 0

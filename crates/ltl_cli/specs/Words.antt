@@ -7,7 +7,8 @@ use Rattle.clap.specs.declared.builder.ArgAction.TheVariants.{Set, SetTrue}
 use Rattle.ltl_spec.specs.Construction.Translation.{Options}
 use Rattle.ltl_spec.specs.Tools.Refusal.{Tool, Translator, Checker, Evaluator}
 use Rattle.ltl_spec.specs.Tools.Outcome.{FormulaWord, Given, File}
-use Rattle.ltl_spec.specs.Tools.Programs.{Claim, Hoa, TranslatorPlan, CheckerPlan, EvaluatorPlan}
+use Rattle.ltl_spec.specs.Tools.Programs.{Layout, Claim, Hoa, TranslatorPlan, CheckerPlan, EvaluatorPlan}
+use Rattle.ltl_spec.specs.Tools.Run.{PlanOf}
 
 -- a word that stands alone
 abbrev pub flag_rule : Text → ℕ → Rule
@@ -85,10 +86,14 @@ request_if tool _ rows = None
 abbrev pub request_of : Tool → List Text → Option Request
 request_of tool words = request_if tool (fault_of (app_for tool) words) (matches_of (app_for tool) words)
 
+-- the layout with and without `-H`
+abbrev pub layout_with : Bool → Layout
+layout_with hoa = if hoa then Hoa else Claim
+
 -- the same in the words of each program
 
 abbrev pub translator_plan : Request → TranslatorPlan
-translator_plan r = record { formula = r.formula; rewrite = r.rewrite; options = r.options; layout = if r.hoa then Hoa else Claim }
+translator_plan r = record { formula = r.formula; rewrite = r.rewrite; options = r.options; layout = layout_with r.hoa }
 
 abbrev pub checker_plan : Request → CheckerPlan
 checker_plan r = record { formula = r.formula; automaton = r.automaton }
@@ -96,3 +101,13 @@ checker_plan r = record { formula = r.formula; automaton = r.automaton }
 -- none where there is no word
 abbrev pub evaluator_plan : Request → Option EvaluatorPlan
 evaluator_plan r = option_map_or (λ w. Some (record { formula = r.formula; word = w })) r.word None
+
+abbrev pub plan_of : (tool : Tool) → Option Request → Option (PlanOf tool)
+plan_of tool None = None
+plan_of Translator (Some r) = Some (translator_plan r)
+plan_of Checker (Some r) = Some (checker_plan r)
+plan_of Evaluator (Some r) = evaluator_plan r
+
+-- what the words mean to the program; none where they are usage
+abbrev pub meaning_of : (tool : Tool) → List Text → Option (PlanOf tool)
+meaning_of tool words = plan_of tool (request_of tool words)

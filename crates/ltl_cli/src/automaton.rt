@@ -2,13 +2,10 @@
 
 ghost use Rattle.std.specs.Prelude.{◌≡◌, List, ℕ, length, IfOk};
 ghost use Rattle.ltl_spec.specs.Formulas.Grammar.{IsTextOf};
-ghost use Rattle.ltl_spec.specs.NormalForms.NormalForm.{core};
 ghost use Rattle.ltl_spec.specs.Checking.Bounds.{HasNamesBelow};
-ghost use Rattle.ltl_spec.specs.Tools.Limits.{stated_limits};
-ghost use Rattle.ltl_spec.specs.Tools.Outcome.{Then};
-ghost use Rattle.ltl_spec.specs.Tools.Programs.{KeepsRows, Translates};
 ghost use Rattle.ltl_formula.specs.FormulaView.{reading_of};
 ghost use Rattle.ltl_cli.specs.Refusals.{Takes};
+ghost use Rattle.ltl_cli.specs.Runs.{MakesAutomaton};
 
 use crate::refusal::Refusal;
 use ltl_buchi::{Ba, Options, translate};
@@ -23,7 +20,7 @@ pub fn automaton_of<'a, A: Allocator>(
     rewrite: bool,
     options: &Options,
 ) -> Result<Ba<'a, A>, Refusal>
-    ensures step { Takes (Then (KeepsRows stated_limits (core (reading_of formula.now).formula negate rewrite)) (λ N. Translates stated_limits N options.now)) (λ B. B) result }
+    ensures step { Takes (MakesAutomaton (reading_of formula.now) negate rewrite options.now) (λ B. B) result }
 
     // Each proposition in it has a name, as a formula that was read from a text has.
     ensures named { IfOk result (λ B. (text : List ℕ) → IsTextOf text (reading_of formula.now) → HasNamesBelow (length formula.now.names) B) }

@@ -5,18 +5,15 @@ ghost use Rattle.std.specs.Io.KnownBytes.{Appends};
 ghost use Rattle.ltl_spec.specs.Automata.ClaimText.{line};
 ghost use Rattle.ltl_spec.specs.Words.LassoText.{lasso_text};
 ghost use Rattle.ltl_spec.specs.Checking.Bounds.{HasNamesBelow};
-ghost use Rattle.ltl_spec.specs.Checking.Check.{IsViolation};
 ghost use Rattle.ltl_spec.specs.Semantics.Language.{AcceptsViolations};
-ghost use Rattle.ltl_spec.specs.Tools.Limits.{stated_limits};
 ghost use Rattle.ltl_spec.specs.Tools.Outcome as spec;
-ghost use Rattle.ltl_spec.specs.Tools.Programs.{Judges, verdict_answer};
 ghost use Rattle.ltl_formula.specs.FormulaView.{reading_of};
 ghost use Rattle.ltl_formula.specs.Streams.{AppendsBeginning};
 ghost use Rattle.ltl_check.specs.VerdictView.{verdict_of};
 ghost use Rattle.ltl_cli.specs.Inputs.{IsInputOf};
 ghost use Rattle.ltl_cli.specs.Refusals.{Takes, status_number};
 ghost use Rattle.ltl_cli.specs.Runs.{Shows};
-ghost use Rattle.ltl_cli.specs.Checks.{AutomatonReads, CheckOutcome, CheckerOutcome, CheckerPromises, IsChecked, IsNegated, TellsVerdict, asked_of};
+ghost use Rattle.ltl_cli.specs.Checks.{CheckOutcome, CheckerOutcome, CheckerRun, IsChecked, IsNegated, JudgesFormula, ReadsAutomaton, answer_for};
 
 use crate::automaton::automaton_of;
 use crate::finish::{finish, flush};
@@ -47,7 +44,8 @@ fn negated<'a, A: Allocator, R: Read>(
     plan: &Plan<'_>,
     source: &mut Source<R>,
 ) -> Result<Negation<'a, A>, Refusal>
-    ensures found { (input : spec.Input) × IsInputOf R.remaining source.old input × IsNegated plan.now input (λ t. reading_of t.formula) (λ t. t.violations) result }
+    ensures found { (input : spec.Input) × IsInputOf R.remaining source.old input
+        × IsNegated plan.now input (λ t. reading_of t.formula) (λ t. t.violations) result }
     ensures named { IfOk result (λ t. HasNamesBelow (length t.formula.names) t.violations) }
 {
     let formula = read_formula(alloc, plan.formula(), source)?;
@@ -67,7 +65,7 @@ fn read_automaton<'a, A: Allocator, S: Read>(
     alloc: &'a A,
     source: &mut Source<S>,
 ) -> Result<Marked<'a, A>, Refusal>
-    ensures { (file : spec.Input) × IsInputOf S.remaining source.old file × Takes (AutomatonReads file) (λ A. A) result }
+    ensures { (file : spec.Input) × IsInputOf S.remaining source.old file × Takes (ReadsAutomaton file) (λ A. A) result }
 {
     match source {
         Source::Input(reader) => {
@@ -86,7 +84,7 @@ fn judged<'a, A: Allocator>(
 ) -> Result<Verdict<'a, A>, Refusal>
     requires named { HasNamesBelow (length negation.now.formula.names) negation.now.violations }
     requires language { AcceptsViolations negation.now.violations (reading_of negation.now.formula).formula }
-    ensures { Takes (Judges stated_limits automaton.now negation.now.formula.names negation.now.violations (IsViolation automaton.now (reading_of negation.now.formula))) (λ v. verdict_of v.outcome) result }
+    ensures { Takes (JudgesFormula automaton.now (reading_of negation.now.formula) negation.now.violations) (λ v. verdict_of v.outcome) result }
 {
     let verdict = check(alloc, automaton, &negation.violations, &negation.formula)?;
     Ok(verdict)
@@ -119,8 +117,8 @@ fn put_word<A: Allocator, W: Write>(word: &Lasso<'_, A>, output: &mut W) -> Resu
 
 /// Writes what was found.
 fn put<A: Allocator, W: Write>(outcome: &Outcome<'_, A>, output: &mut W) -> Result<(), WriteFault>
-    ensures ok { OnOk result (Appends (W.contents output.old) (W.contents output.new) (verdict_answer stated_limits (verdict_of outcome.now)).output) }
-    ensures err { OnErr result (AppendsBeginning (W.contents output.old) (W.contents output.new) (verdict_answer stated_limits (verdict_of outcome.now)).output) }
+    ensures ok { OnOk result (Appends (W.contents output.old) (W.contents output.new) (answer_for outcome.now).output) }
+    ensures err { OnErr result (AppendsBeginning (W.contents output.old) (W.contents output.new) (answer_for outcome.now).output) }
 {
     match outcome {
         Outcome::Contained => write_whole(output, b"contained\n"),
@@ -130,8 +128,8 @@ fn put<A: Allocator, W: Write>(outcome: &Outcome<'_, A>, output: &mut W) -> Resu
 
 /// Writes what was found, and flushes.
 fn print<A: Allocator, W: Write>(outcome: &Outcome<'_, A>, output: &mut W) -> Result<(), WriteFault>
-    ensures ok { OnOk result (Appends (W.contents output.old) (W.contents output.new) (verdict_answer stated_limits (verdict_of outcome.now)).output) }
-    ensures err { OnErr result (AppendsBeginning (W.contents output.old) (W.contents output.new) (verdict_answer stated_limits (verdict_of outcome.now)).output) }
+    ensures ok { OnOk result (Appends (W.contents output.old) (W.contents output.new) (answer_for outcome.now).output) }
+    ensures err { OnErr result (AppendsBeginning (W.contents output.old) (W.contents output.new) (answer_for outcome.now).output) }
 {
     put(outcome, output)?;
     flush(output)
@@ -139,7 +137,7 @@ fn print<A: Allocator, W: Write>(outcome: &Outcome<'_, A>, output: &mut W) -> Re
 
 /// How the program ends with that.
 fn status_of<A: Allocator>(outcome: &Outcome<'_, A>) -> Status
-    ensures { status_number result ≡ (verdict_answer stated_limits (verdict_of outcome.now)).status }
+    ensures { status_number result ≡ (answer_for outcome.now).status }
 {
     match outcome {
         Outcome::Contained => Status::Done,
@@ -191,12 +189,8 @@ pub fn run_check<A: Allocator, R: Read + Drop, S: Read + Drop, W: Write, E: Writ
     output: &mut W,
     message: &mut E,
 ) -> u8
-    ensures told { (input : spec.Input) × IsInputOf R.remaining source input × (file : spec.Input) × IsInputOf S.remaining automaton file
-        × Shows (CheckerPromises plan.now input file) (W.contents output.old) (W.contents output.new) (E.contents message.old) (E.contents message.new) result }
-
-    // The verdict, by acceptance and satisfaction alone.
-    ensures verdict { (input : spec.Input) × IsInputOf R.remaining source input × (file : spec.Input) × IsInputOf S.remaining automaton file
-        × Shows (TellsVerdict (asked_of plan.now) input file) (W.contents output.old) (W.contents output.new) (E.contents message.old) (E.contents message.new) result }
+    ensures { (input : spec.Input) × IsInputOf R.remaining source input × (file : spec.Input) × IsInputOf S.remaining automaton file
+        × Shows (CheckerRun plan.now input file) (W.contents output.old) (W.contents output.new) (E.contents message.old) (E.contents message.new) result }
 {
     let mut source = source;
     let mut automaton = automaton;

@@ -8,7 +8,7 @@ ghost use Rattle.ltl_spec.specs.Tools.Programs.{truth_answer};
 ghost use Rattle.ltl_formula.specs.Streams.{AppendsBeginning};
 ghost use Rattle.ltl_cli.specs.Inputs.{IsInputOf};
 ghost use Rattle.ltl_cli.specs.Runs.{Shows};
-ghost use Rattle.ltl_cli.specs.Evaluations.{EvaluatorOutcome, EvaluatorPromises, IsEvaluated, RequestOutcome, TellsTruth, evaluation_in, with_word};
+ghost use Rattle.ltl_cli.specs.Evaluations.{EvaluatorOutcome, EvaluatorRun, IsEvaluated, RequestOutcome, with_word};
 
 use crate::finish::{finish, flush};
 use crate::input::read_formula;
@@ -79,7 +79,8 @@ fn answered<A: Allocator, R: Read, W: Write>(
     source: &mut Source<R>,
     output: &mut W,
 ) -> Result<Status, Refusal>
-    ensures { (input : spec.Input) × IsInputOf R.remaining source.old input × EvaluatorOutcome plan.now input (W.contents output.old) (W.contents output.new) result }
+    ensures { (input : spec.Input) × IsInputOf R.remaining source.old input
+        × EvaluatorOutcome plan.now input (W.contents output.old) (W.contents output.new) result }
 {
     match plan {
         Ok(plan) => match plan.word() {
@@ -100,9 +101,8 @@ pub fn run_eval<A: Allocator, R: Read + Drop, W: Write, E: Write>(
     output: &mut W,
     message: &mut E,
 ) -> u8
-    ensures told { (input : spec.Input) × IsInputOf R.remaining source input
-        × Shows (EvaluatorPromises plan.now input) (W.contents output.old) (W.contents output.new) (E.contents message.old) (E.contents message.new) result }
-    ensures truth { (input : spec.Input) × IsInputOf R.remaining source input × TellsTruth (evaluation_in plan.now) input result }
+    ensures { (input : spec.Input) × IsInputOf R.remaining source input
+        × Shows (EvaluatorRun plan.now input) (W.contents output.old) (W.contents output.new) (E.contents message.old) (E.contents message.new) result }
 {
     let mut source = source;
     let outcome = answered(alloc, plan, &mut source, output);

@@ -1,10 +1,10 @@
 //! Reading the inputs of a program.
 
-ghost use Rattle.std.specs.Prelude.{◌≡◌, ◌⊎◌, [], take, IfOk, IfErr, IfSome, IsErrOf, OnErr};
+ghost use Rattle.std.specs.Prelude.{◌≡◌, ◌⊎◌, [], take, IfOk, IfErr, IfSome, IsErrOf};
 ghost use Rattle.std.specs.Io.KnownBytes.{Consumes};
 ghost use Rattle.ltl_spec.specs.Tools.Outcome as spec;
 ghost use Rattle.ltl_cli.specs.Plans.{formula_word};
-ghost use Rattle.ltl_cli.specs.Inputs.{IsInputOf, IsReadFrom, IsStream, TakesFewer, TakesUpTo};
+ghost use Rattle.ltl_cli.specs.Inputs.{HoldsText, IsInputOf, IsReadFrom, IsStream, TakesFewer, TakesUpTo, bytes_of, most_taken};
 
 use crate::refusal::Refusal;
 use crate::request::FormulaWord;
@@ -13,20 +13,20 @@ use ltl_formula::{Formula, TEXT_LIMIT, read};
 use std::alloc::{AllocError, AllocFailed, Allocator};
 use std::io::Read;
 
-/// How many bytes of a formula's file are taken: one more than its text may have.
+/// How many bytes of a formula's file are taken at most: one more than its text may have.
 const MOST: usize = TEXT_LIMIT + 1;
 
 const PIECE: usize = 4096;
 
-/// The bytes of a formula's file to their end, or 65,537 of them, and no read is made behind those.
+/// The bytes of a formula's file to their end, or `MOST` of them, and no read is made behind those.
 fn read_text<'a, A: Allocator, R: Read>(
     alloc: &'a A,
     reader: &mut R,
 ) -> Result<Vec<u8, &'a A>, Refusal>
     ensures taken { IfOk result (λ v. Consumes (R.remaining reader.old) (R.remaining reader.new) v.items) }
-    ensures text { IfOk result (λ v. IfSome (R.remaining reader.old) (λ xs. v.items ≡ take 65_537 xs)) }
-    ensures failed { IsErrOf result Refusal.CannotRead → TakesFewer (R.remaining reader.old) (R.remaining reader.new) 65_537 }
-    ensures few { OnErr result (TakesUpTo (R.remaining reader.old) (R.remaining reader.new) 65_537) }
+    ensures text { IfOk result (λ v. IfSome (R.remaining reader.old) (λ xs. v.items ≡ take most_taken xs)) }
+    ensures failed { IsErrOf result Refusal.CannotRead → TakesFewer (R.remaining reader.old) (R.remaining reader.new) most_taken }
+    ensures few { TakesUpTo (R.remaining reader.old) (R.remaining reader.new) most_taken }
     ensures kinds { IfErr result (λ e. (e ≡ Refusal.CannotRead) ⊎ (e ≡ Refusal.OutOfMemory)) }
 {
     let mut text = Vec::new(alloc);
@@ -58,21 +58,25 @@ fn read_file<'a, A: Allocator, R: Read>(
     alloc: &'a A,
     reader: &mut R,
 ) -> Result<Formula<'a, A>, Refusal>
-    ensures { (input : spec.Input) × IsStream (R.remaining reader.old) input × IsReadFrom (spec.File []) input result }
+    ensures read { (input : spec.Input) × IsStream (R.remaining reader.old) input × IsReadFrom (spec.File []) input result }
+    ensures few { TakesUpTo (R.remaining reader.old) (R.remaining reader.new) most_taken }
+    ensures failed { IsErrOf result Refusal.CannotRead → TakesFewer (R.remaining reader.old) (R.remaining reader.new) most_taken }
 {
     let text = read_text(alloc, reader)?;
     read_given(alloc, text.as_slice())
 }
 
-/// Reads the formula that the words ask for: their text, or what the source of the file gives. Nothing is asked of the source where the words
-/// hold the text, nor behind the first 65,537 bytes of a file. A source that is a text where the words name a file counts as a file that
-/// could not be opened.
+/// Reads the formula that the words ask for: their text, or what the source of the file gives. No read is made where the words hold the text, nor
+/// behind the first byte past `TEXT_LIMIT` of a file. A source that is a text where the words name a file counts as a file that could not be opened.
 pub fn read_formula<'a, A: Allocator, R: Read>(
     alloc: &'a A,
     word: FormulaWord<'_>,
     source: &mut Source<R>,
 ) -> Result<Formula<'a, A>, Refusal>
-    ensures { (input : spec.Input) × IsInputOf R.remaining source.old input × IsReadFrom (formula_word word.entry) input result }
+    ensures read { (input : spec.Input) × IsInputOf R.remaining source.old input × IsReadFrom (formula_word word.entry) input result }
+    ensures few { TakesUpTo (bytes_of R.remaining source.old) (bytes_of R.remaining source.new) most_taken }
+    ensures failed { IsErrOf result Refusal.CannotRead → TakesFewer (bytes_of R.remaining source.old) (bytes_of R.remaining source.new) most_taken }
+    ensures given { HoldsText (formula_word word.entry) → source.new ≡ source.old }
 {
     match word {
         FormulaWord::Given(text) => read_given(alloc, text.as_bytes()),

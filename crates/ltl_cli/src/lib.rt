@@ -8,6 +8,7 @@ pub mod evaluate;
 mod finish;
 mod input;
 mod message;
+pub mod program;
 pub mod refusal;
 pub mod request;
 pub mod source;
@@ -18,6 +19,8 @@ mod words;
 
 pub use check::run_check;
 pub use evaluate::run_eval;
+pub use input::read_formula;
+pub use program::run;
 pub use refusal::Refusal;
 pub use request::{FormulaWord, Plan, PlanFault};
 pub use source::Source;

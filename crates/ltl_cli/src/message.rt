@@ -6,9 +6,8 @@ ghost use Rattle.ltl_formula.specs.Streams.{AppendsBeginning};
 ghost use Rattle.ltl_formula.specs.ParserView.{kind_of};
 ghost use Rattle.ltl_hoa.specs.TokenView as hoa;
 ghost use Rattle.ltl_spec.specs.Hoa.HoaFaultKind.{hoa_fault_text};
-ghost use Rattle.ltl_spec.specs.Tools.Limits.{stated_limits};
 ghost use Rattle.ltl_spec.specs.Tools.Refusal as spec;
-ghost use Rattle.ltl_cli.specs.Messages.{back_text, front_text, number_in, number_text};
+ghost use Rattle.ltl_cli.specs.Messages.{back_text, front_text, line_for, number_in, number_text, text_for};
 ghost use Rattle.ltl_cli.specs.Refusals.{refusal_of, tool_of};
 
 use crate::refusal::Refusal;
@@ -83,9 +82,9 @@ fn front(tool: Tool, refusal: Refusal) -> &'static [u8]
         Refusal::OutOfMemory => b"out of memory",
         Refusal::LongFormula => b"limit: formula longer than 65536 bytes",
         Refusal::BadFormula(_, _) => b"formula: byte ",
-        Refusal::TooManyPropositions => b"limit: more than 64 propositions",
+        Refusal::TooManyPropositions => b"limit: more than 256 propositions",
         Refusal::TooManyRows => b"limit: more than 4096 rows",
-        Refusal::TooManyElementaryRows => b"limit: more than 64 elementary rows",
+        Refusal::TooManyElementaryRows => b"limit: more than 256 elementary rows",
         Refusal::LargeAutomaton => b"limit: automaton too large",
         Refusal::LongWord => b"limit: word longer than 65536 bytes",
         Refusal::BadWord(_) => b"word: byte ",
@@ -146,8 +145,8 @@ fn put_parts<E: Write>(
 
 /// Puts the text of a refusal.
 fn put_text<E: Write>(tool: Tool, refusal: Refusal, message: &mut E) -> Result<(), WriteFault>
-    ensures ok { OnOk result (Appends (E.contents message.old) (E.contents message.new) (spec.refusal_text stated_limits (tool_of tool) (refusal_of refusal))) }
-    ensures err { OnErr result (AppendsBeginning (E.contents message.old) (E.contents message.new) (spec.refusal_text stated_limits (tool_of tool) (refusal_of refusal))) }
+    ensures ok { OnOk result (Appends (E.contents message.old) (E.contents message.new) (text_for tool refusal)) }
+    ensures err { OnErr result (AppendsBeginning (E.contents message.old) (E.contents message.new) (text_for tool refusal)) }
 {
     put_parts(
         front(tool, refusal),
@@ -159,8 +158,8 @@ fn put_text<E: Write>(tool: Tool, refusal: Refusal, message: &mut E) -> Result<(
 
 /// Puts the whole line.
 fn put_line<E: Write>(tool: Tool, refusal: Refusal, message: &mut E) -> Result<(), WriteFault>
-    ensures ok { OnOk result (Appends (E.contents message.old) (E.contents message.new) (spec.message stated_limits (tool_of tool) (refusal_of refusal))) }
-    ensures err { OnErr result (AppendsBeginning (E.contents message.old) (E.contents message.new) (spec.message stated_limits (tool_of tool) (refusal_of refusal))) }
+    ensures ok { OnOk result (Appends (E.contents message.old) (E.contents message.new) (line_for tool refusal)) }
+    ensures err { OnErr result (AppendsBeginning (E.contents message.old) (E.contents message.new) (line_for tool refusal)) }
 {
     let name = name(tool);
     write_whole(message, name)?;
@@ -170,7 +169,7 @@ fn put_line<E: Write>(tool: Tool, refusal: Refusal, message: &mut E) -> Result<(
 
 /// Writes the line for a refusal, or as much of it as the writer takes. No memory is taken.
 pub fn write<E: Write>(tool: Tool, refusal: Refusal, message: &mut E)
-    ensures { AppendsBeginning (E.contents message.old) (E.contents message.new) (spec.message stated_limits (tool_of tool) (refusal_of refusal)) }
+    ensures { AppendsBeginning (E.contents message.old) (E.contents message.new) (line_for tool refusal) }
 {
     let _ = put_line(tool, refusal, message);
 }

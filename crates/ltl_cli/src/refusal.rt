@@ -12,39 +12,56 @@ use ltl_formula::{BuildFault, FaultKind, ReadFault, WriteFault};
 use ltl_hoa::{HoaFault, HoaFaultKind};
 use ltl_word::WordFault;
 use std::alloc::AllocError;
+use thiserror::Error;
 
-/// Why a program prints no result. Each has one message and one exit status.
-#[derive(Clone, Copy, Debug, PartialEq, Eq)]
+/// Why a program prints no result. Each has one exit status, and one line in which a program tells it: its name, and then what stands here,
+/// but of usage the command line too.
+#[derive(Clone, Copy, Debug, PartialEq, Eq, Error)]
 pub enum Refusal {
     /// The words of the command line mean nothing.
+    #[error("usage")]
     Usage,
     /// A file could not be opened.
+    #[error("cannot open")]
     CannotOpen,
     /// A read failed.
+    #[error("cannot read")]
     CannotRead,
     /// A write or a flush of the output failed.
+    #[error("cannot write")]
     CannotWrite,
     /// A growth was refused.
+    #[error("out of memory")]
     OutOfMemory,
     /// The formula's text is too long.
+    #[error("{}", ReadFault::TooLong)]
     LongFormula,
     /// No formula's text goes on as this one does at the byte of that number.
+    #[error("{}", ReadFault::AtByte(*.0, *.1))]
     BadFormula(usize, FaultKind),
     /// The formula, or both inputs together, have too many propositions.
+    #[error("{}", ReadFault::TooManyPropositions)]
     TooManyPropositions,
     /// The formula has too many rows.
+    #[error("{}", BuildFault::TooManyRows)]
     TooManyRows,
     /// The formula has too many elementary rows.
+    #[error("{}", BuildFault::TooManyElementaryRows)]
     TooManyElementaryRows,
     /// The formula's automaton, or one on the way to it, is too large.
+    #[error("limit: automaton too large")]
     LargeAutomaton,
     /// The word's text is too long.
+    #[error("{}", WordFault::TooLong)]
     LongWord,
     /// No word's text goes on as this one does at the byte of that number.
+    #[error("{}", WordFault::BadWord(*.0))]
     BadWord(usize),
     /// The text is no automaton, for a fault in the line of that number.
+    #[error("{}", HoaFault::AtLine(*.0, *.1))]
     BadAutomaton(usize, HoaFaultKind),
     /// The search for a word would be too large.
+    #[error("{}", CheckFault::ProductTooLarge)]
     LargeProduct,
 }
 

@@ -4,6 +4,7 @@ ghost use Rattle.std.specs.Prelude.{◌≡◌, option_map};
 
 use ltl_buchi::Options;
 use std::alloc::{AllocError, AllocFailed};
+use thiserror::Error;
 
 /// Where the formula's text comes from.
 #[derive(Clone, Copy, Debug)]
@@ -72,11 +73,13 @@ impl<'a> Plan<'a> {
 }
 
 /// Why there is no plan.
-#[derive(Clone, Copy, Debug, PartialEq, Eq)]
+#[derive(Clone, Copy, Debug, PartialEq, Eq, Error)]
 pub enum PlanFault {
     /// The words mean nothing, or ask for help.
+    #[error("usage")]
     Usage,
     /// A growth was refused.
+    #[error("out of memory")]
     OutOfMemory,
 }
 

@@ -4,14 +4,11 @@ ghost use Rattle.std.specs.Prelude.{◌≡◌, ◌<◌, length, OnOk, OnErr, IfO
 ghost use Rattle.std.specs.Io.KnownBytes.{Appends};
 ghost use Rattle.ltl_spec.specs.Checking.Bounds.{HasNamesBelow};
 ghost use Rattle.ltl_spec.specs.Semantics.Language.{AcceptsModels};
-ghost use Rattle.ltl_spec.specs.Tools.Limits.{stated_limits};
 ghost use Rattle.ltl_spec.specs.Tools.Outcome as spec;
-ghost use Rattle.ltl_spec.specs.Tools.Refusal.{Translator};
 ghost use Rattle.ltl_formula.specs.FormulaView.{reading_of};
 ghost use Rattle.ltl_formula.specs.Streams.{AppendsBeginning};
 ghost use Rattle.ltl_cli.specs.Inputs.{IsInputOf};
-ghost use Rattle.ltl_cli.specs.Promises.{PrintsModels, TakesNone};
-ghost use Rattle.ltl_cli.specs.Runs.{IsOutcome, Shows, TranslatorPromises, IsTranslated, PlanOutcome, WordsOutcome, laid_out};
+ghost use Rattle.ltl_cli.specs.Runs.{IsTranslated, PlanOutcome, Shows, TakesNone, TranslatorRun, WordsOutcome, text_with};
 
 use crate::automaton::automaton_of;
 use crate::finish::{finish, flush};
@@ -41,8 +38,9 @@ fn put<A: Allocator, W: Write>(
     output: &mut W,
 ) -> Result<(), WriteFault>
     requires { HasNamesBelow (length translated.now.formula.names) translated.now.automaton }
-    ensures ok { OnOk result (Appends (W.contents output.old) (W.contents output.new) (laid_out hoa translated.now.automaton (reading_of translated.now.formula))) }
-    ensures err { OnErr result (AppendsBeginning (W.contents output.old) (W.contents output.new) (laid_out hoa translated.now.automaton (reading_of translated.now.formula))) }
+    ensures ok { OnOk result (Appends (W.contents output.old) (W.contents output.new) (text_with hoa translated.now.automaton translated.now.formula)) }
+    ensures err { OnErr result (AppendsBeginning (W.contents output.old) (W.contents output.new)
+        (text_with hoa translated.now.automaton translated.now.formula)) }
 {
     if hoa {
         hoa_to(&translated.automaton, &translated.formula, output)
@@ -58,8 +56,9 @@ fn print<A: Allocator, W: Write>(
     output: &mut W,
 ) -> Result<(), WriteFault>
     requires { HasNamesBelow (length translated.now.formula.names) translated.now.automaton }
-    ensures ok { OnOk result (Appends (W.contents output.old) (W.contents output.new) (laid_out hoa translated.now.automaton (reading_of translated.now.formula))) }
-    ensures err { OnErr result (AppendsBeginning (W.contents output.old) (W.contents output.new) (laid_out hoa translated.now.automaton (reading_of translated.now.formula))) }
+    ensures ok { OnOk result (Appends (W.contents output.old) (W.contents output.new) (text_with hoa translated.now.automaton translated.now.formula)) }
+    ensures err { OnErr result (AppendsBeginning (W.contents output.old) (W.contents output.new)
+        (text_with hoa translated.now.automaton translated.now.formula)) }
 {
     put(translated, hoa, output)?;
     flush(output)
@@ -87,7 +86,8 @@ fn printed<A: Allocator, R: Read, W: Write>(
     source: &mut Source<R>,
     output: &mut W,
 ) -> Result<Status, Refusal>
-    ensures { (input : spec.Input) × IsInputOf R.remaining source.old input × PlanOutcome plan.now input (W.contents output.old) (W.contents output.new) result }
+    ensures { (input : spec.Input) × IsInputOf R.remaining source.old input
+        × PlanOutcome plan.now input (W.contents output.old) (W.contents output.new) result }
 {
     let translated = translated(alloc, plan, source)?;
     print(&translated, plan.hoa(), output)?;
@@ -101,7 +101,8 @@ fn answered<A: Allocator, R: Read, W: Write>(
     source: &mut Source<R>,
     output: &mut W,
 ) -> Result<Status, Refusal>
-    ensures { (input : spec.Input) × IsInputOf R.remaining source.old input × WordsOutcome plan.now input (W.contents output.old) (W.contents output.new) result }
+    ensures { (input : spec.Input) × IsInputOf R.remaining source.old input
+        × WordsOutcome plan.now input (W.contents output.old) (W.contents output.new) result }
 {
     match plan {
         Ok(plan) => printed(alloc, plan, source, output),
@@ -120,10 +121,8 @@ pub fn run_translate<A: Allocator, R: Read + Drop, W: Write, E: Write>(
     output: &mut W,
     message: &mut E,
 ) -> u8
-    ensures told { (input : spec.Input) × IsInputOf R.remaining source input
-        × Shows (TranslatorPromises plan.now input) (W.contents output.old) (W.contents output.new) (E.contents message.old) (E.contents message.new) result }
-    ensures language { (input : spec.Input) × IsInputOf R.remaining source input
-        × Shows (PrintsModels plan.now input) (W.contents output.old) (W.contents output.new) (E.contents message.old) (E.contents message.new) result }
+    ensures shown { (input : spec.Input) × IsInputOf R.remaining source input
+        × Shows (TranslatorRun plan.now input) (W.contents output.old) (W.contents output.new) (E.contents message.old) (E.contents message.new) result }
     ensures memory { ((input : spec.Input) → IsInputOf R.remaining source input → TakesNone plan.now input) → ¬ (result ≡ 4) }
 {
     let mut source = source;

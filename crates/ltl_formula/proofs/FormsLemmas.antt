@@ -132,11 +132,26 @@ module _ (g : GraphView) (done : List Forms) (nodes : List Node) (n : ℕ) (e : 
       either true a = a.negative
       either false a = a.positive
 
+-- a place inside the list needs no default
+index_any : (xs : List Forms) (k : ℕ) (c d : Forms) → k < length xs → slice_index_or xs k c ≡ slice_index_or xs k d
+index_any [] k c d l = absurd (omega arith)
+index_any (x ∷ xs) zero c d l = refl
+index_any (x ∷ xs) (suc k) c d l = index_any xs k c d (omega arith)
+
 -- so the graph has a node for the core
 pub core_made : (old g : GraphView) (done : List Forms) (nodes : List Node) (n m : ℕ) → n ≡ length nodes → m ≡ length nodes → 0 < n → IsBuilt g.rewrite g.nodes (map numbers_of done) (map flat_of (take n nodes)) → g.rewrite ≡ old.rewrite → IsMore old.nodes g.nodes
-    → (negate : Bool) (p : Forms) → p ≡ slice_index_or done (m - 1) p → (k : ℕ) → k ≡ cond negate p.negative p.positive → Makes old g k (core (whole_tree nodes) negate old.rewrite)
-core_made old g done nodes n m e f some b r keeps negate p at k is = record {
+    → (negate : Bool) (d : Forms) (there : List Forms) → there ≡ done → (k : ℕ) → k ≡ cond negate (slice_index_or there (m - 1) d).negative (slice_index_or there (m - 1) d).positive
+    → Makes old g k (core (whole_tree nodes) negate old.rewrite)
+core_made old g done nodes n m e f some b r keeps negate d there same k is = record {
   rewrite = r;
   keeps = keeps;
-  stands = subst (λ (w : Bool). StandsFor g.nodes k (core (whole_tree nodes) negate w)) r (core_stands g done nodes n e some b negate p (at ∙ ap (λ j. slice_index_or done (j - 1) p) (f ∙ sym e)) k is);
+  stands = subst (λ (w : Bool). StandsFor g.nodes k (core (whole_tree nodes) negate w)) r (core_stands g done nodes n e some b negate last last_is k is);
 }
+  where
+    last : Forms
+    last = slice_index_or there (m - 1) d
+
+    last_is : last ≡ slice_index_or done (n - 1) last
+    last_is =
+        (λ t. slice_index_or (same t) ((f ∙ sym e) t - 1) d)
+        ∙ index_any done (n - 1) d last (last_inside g done nodes n e some b)

@@ -168,7 +168,3 @@ close_turn most ns ns' fs fs' f n ef en e l b =
       operands = λ count o. subst (HasOperands count) (sym en) (operands_push count ns n o (closed_stands count (length ns) most f n l parts.1 e));
       longer = omega arith;
     }
-
--- what is left when memory runs out
-pub popped_below : (n m : ℕ) (fs fs' : List Frame) (f : Frame) → fs ≡ fs' ++ f ∷ [] → n ≡ m → AreBelow n fs → AreBelow m fs'
-popped_below n m fs fs' f e l b = subst (λ k. AreBelow k fs') l (below_pop n fs' f (subst (AreBelow n) e b)).0

@@ -29,6 +29,11 @@ pub where_taken : {E : Type 0} {P : Type 0} (r : Result ⊤ E) {X : Type 0} (new
 where_taken (Ok u) new old more e f = f e
 where_taken (Err x) new old more e f = tt
 
+-- what follows from what a call ensures
+pub where_ok : {T E P Q : Type 0} (r : Result T E) → OnOk r P → (P → Q) → OnOk r Q
+where_ok (Ok u) p f = f p
+where_ok (Err x) p f = tt
+
 module _ (names : List Name) (count : ℕ) (ns : List Node) (o : HasOperands count ns) (w : Work) (i : ℕ) (is : w ≡ Visit i) (points : Points (length ns) w) where
   within : i < length ns
   within = subst (Points (length ns)) is points

@@ -28,6 +28,7 @@ use Rattle.ltl_formula.specs.ParserView.{ParserView, RefusesEnd, RefusesToken, k
 use Rattle.ltl_formula.specs.ReadText.{IsReadAs, IsRefusedFor, RefusesNames}
 use Rattle.ltl_formula.specs.CanonicalWork.{HasOperands}
 use Rattle.ltl_spec.specs.Semantics.Word.{Name}
+use Rattle.ltl_spec.specs.Tools.Limits.{stated_limits}
 use Rattle.ltl_spec.proofs.Formulas.TokenLaws.{IsNameWord}
 
 -- a byte of a name is ASCII
@@ -87,14 +88,14 @@ words_propositions names a = (all_Decides is_proposition names).1 (λ n h. word_
 
 -- nodes and names that were read are a formula
 pub is_formula : (ns : List Node) (names ms : List Name) (count : ℕ) → ms ≡ names → count ≡ length names → 0 < length ns → HasOperands count ns
-    → IsNamed (record { formula = whole_tree ns; names = names }) → count ≤ 64 → IsFormula ns ms
+    → IsNamed (record { formula = whole_tree ns; names = names }) → count ≤ stated_limits.propositions → IsFormula ns ms
 is_formula ns names ms count e n l o d few =
     subst (IsFormula ns) (sym e) (record {
       some = l;
       operands = subst (λ k. HasOperands k ns) n o;
       propositions = words_propositions names d.words;
       distinct = named_differ (record { formula = whole_tree ns; names = names }) d;
-      few = subst (λ k. k ≤ 64) n few;
+      few = subst (λ k. k ≤ stated_limits.propositions) n few;
     })
 
 -- as many as there are keys
@@ -140,7 +141,7 @@ verdict_stops text r names item rest its place kind v i p k e =
 -- ---- what reading answers
 
 -- a token that doesn't fit is told
-pub refused_token : (text : List ℕ) (p : ParserView) (item : Item) (rest its : List Item) (e : ReadFault) → length text ≤ 65536
+pub refused_token : (text : List ℕ) (p : ParserView) (item : Item) (rest its : List Item) (e : ReadFault) → length text ≤ stated_limits.formula_bytes
     → verdict (length text) p.names (reader_of p) its ≡ verdict (length text) [] (machine.Wanting []) (items text) → its ≡ item ∷ rest
     → RefusesToken p item.token item.start e → IsRefusedFor text e
 refused_token text p item rest its (AtByte place kind) l v i w =
@@ -150,7 +151,7 @@ refused_token text p item rest its TooLong l v i w = absurd w
 refused_token text p item rest its TooManyPropositions l v i w = absurd w
 
 -- so is the end
-pub refused_end : (text : List ℕ) (p : ParserView) (its : List Item) (e : ReadFault) → length text ≤ 65536
+pub refused_end : (text : List ℕ) (p : ParserView) (its : List Item) (e : ReadFault) → length text ≤ stated_limits.formula_bytes
     → verdict (length text) p.names (reader_of p) its ≡ verdict (length text) [] (machine.Wanting []) (items text) → its ≡ []
     → RefusesEnd p (length text) e → IsRefusedFor text e
 refused_end text p its (AtByte place kind) l v i w =
@@ -171,16 +172,16 @@ final_text text p q its ns names v i f n a b =
     subst (Text (whole_tree ns)) (sym (b ∙ n)) (subst (λ m. Text (whole_tree m) p.names) (sym a) (verdict_end text (reader_of p) p.names (whole_tree q.nodes) end f))
 
 -- a formula of these nodes and names is read from the text
-pub read_formula : (text : List ℕ) (ns : List Node) (names : List Name) (f : FormulaView) → length text ≤ 65536 → IsTextOf text (record { formula = whole_tree ns; names = names })
-    → (f.nodes ≡ ns) × (f.names ≡ names) × (length f.names ≤ 64) → IsReadAs text f
+pub read_formula : (text : List ℕ) (ns : List Node) (names : List Name) (f : FormulaView) → length text ≤ stated_limits.formula_bytes → IsTextOf text (record { formula = whole_tree ns; names = names })
+    → (f.nodes ≡ ns) × (f.names ≡ names) × (length f.names ≤ stated_limits.propositions) → IsReadAs text f
 read_formula text ns names f l t w =
     let Text : List Node → List Name → Type 0 = λ m k. IsTextOf text (record { formula = whole_tree m; names = k }) in
     (l, subst (Text f.nodes) (sym w.1) (subst (λ m. Text m names) (sym w.0) t), w.2)
 
 -- and one with too many names is refused
-pub refused_names : (text : List ℕ) (ns : List Node) (names : List Name) (count : ℕ) (e : ReadFault) → length text ≤ 65536
+pub refused_names : (text : List ℕ) (ns : List Node) (names : List Name) (count : ℕ) (e : ReadFault) → length text ≤ stated_limits.formula_bytes
     → IsTextOf text (record { formula = whole_tree ns; names = names }) → count ≡ length names → RefusesNames count e → IsRefusedFor text e
-refused_names text ns names count TooManyPropositions l t c w = (l, (record { formula = whole_tree ns; names = names }, t, subst (λ k. 64 < k) c w))
+refused_names text ns names count TooManyPropositions l t c w = (l, (record { formula = whole_tree ns; names = names }, t, subst (λ k. stated_limits.propositions < k) c w))
 refused_names text ns names count OutOfMemory l t c w = l
 refused_names text ns names count TooLong l t c w = absurd w
 refused_names text ns names count (AtByte place kind) l t c w = absurd w
@@ -188,7 +189,7 @@ refused_names text ns names count (AtByte place kind) l t c w = absurd w
 -- ---- laws of reading
 
 -- a canonical text is read back
-pub read_back : (text : List ℕ) (f : FormulaView) → IsReadAs text f → length (canonical_text (reading_of f)) ≤ 65536 → IsReadAs (canonical_text (reading_of f)) f
+pub read_back : (text : List ℕ) (f : FormulaView) → IsReadAs text f → length (canonical_text (reading_of f)) ≤ stated_limits.formula_bytes → IsReadAs (canonical_text (reading_of f)) f
 read_back text f w l = (l, canonical_again text (reading_of f) w.1, w.2)
 
 -- a text has one reading
@@ -202,6 +203,6 @@ refused_alone text f (AtByte place kind) v w = absurd (never_both text (reading_
 refused_alone text f TooManyPropositions v w =
     let same : reading_of f ≡ w.1.0 = reads_once (tokens text) (reading_of f) w.1.0 v.1 w.1.1 in
     let few = v.2 in
-    let many = subst (λ R. 64 < length R.names) (sym same) w.1.2 in
+    let many = subst (λ R. stated_limits.propositions < length R.names) (sym same) w.1.2 in
     absurd (omega arith)
 refused_alone text f OutOfMemory v w = refl

@@ -1,5 +1,5 @@
 -- A parser's state after its steps.
-use Rattle.std.proofs.Common.{◌≡◌, ◌∙◌, ap, sym, refl, subst, ℕ, zero, suc, ◌+◌, ◌-◌, ◌≤◌, Bool, true, false, cond, List, [], ◌∷◌, ◌++◌, fold, length, arith, Option, Some, None, option_to_list, MatchOption, append-nil, ◌==◌}
+use Rattle.std.proofs.Common.{◌≡◌, ◌∙◌, ap, sym, refl, subst, ℕ, zero, suc, ◌+◌, ◌-◌, ◌<◌, ◌≤◌, Bool, true, false, cond, List, [], ◌∷◌, ◌++◌, fold, length, arith, Option, Some, None, option_to_list, IsSome, MatchOption, append-nil, ◌==◌}
 use Rattle.std.proofs.lemmas.Bool.Decides.{nat_tests}
 use Rattle.ltl_spec.specs.Semantics.Word.{Name}
 use Rattle.ltl_spec.specs.Formulas.Formula as spec
@@ -94,6 +94,14 @@ pub empty_list : {X : Type 0} (xs : List X) → length xs ≡ 0 → xs ≡ []
 empty_list [] z = refl
 empty_list (x ∷ xs) z = absurd (omega arith)
 
+-- nor where a list that had one would have given one
+pub none_left : {X : Type 0} (xs : List X) → (0 < length xs → IsSome {T = X} None) → xs ≡ []
+none_left [] some = refl
+none_left (x ∷ xs) some = absurd (impossible (some (omega arith)))
+  where
+    impossible : false ≡ true → ⊥
+    impossible e = cc
+
 -- a test for zero
 pub zero_from_test : (n : ℕ) → (n == 0) ≡ true → n ≡ 0
 zero_from_test n e = grind (arith, nat_tests, e)
@@ -154,20 +162,19 @@ module _ (now : ParserView) (ns ns1 : List Node) (fs fs1 : List Frame) (names : 
       not_bracket (Pending i op) o = refl
 
   -- what came off decides
-  pub step_popped : (fs2 : List Frame) (o : Option Frame) (b : Bool) (k m : ℕ) → most ≡ 5 → fs1 ≡ fs2 ++ option_to_list o → k ≡ length fs1
-      → MatchOption o ((k ≡ 0) × (m ≡ 0)) (λ _. m + 1 ≡ k) → MatchOption o (b ≡ false) (λ f. b ≡ is_bracket f)
+  pub step_popped : (fs2 : List Frame) (o : Option Frame) (b : Bool) → most ≡ 5 → fs1 ≡ fs2 ++ option_to_list o
+      → (0 < length fs1 → IsSome o) → MatchOption o (b ≡ false) (λ f. b ≡ is_bracket f)
       → (l : List Name) → machine.read_step l (reader_of now) tokens.Close ≡ cond b (Some (reader_of (record { nodes = ns1; frames = fs2; names = names; has_operand = has }))) None
-  step_popped fs2 None b k m most_is e n cases t l =
-      let none = cases.0 in
-      step_unopened most_is (empty_list fs1 (omega arith)) l
+  step_popped fs2 None b most_is e some t l =
+      step_unopened most_is (none_left fs1 some) l
       ∙ ap (λ c. cond c (Some (reader_of (record { nodes = ns1; frames = fs2; names = names; has_operand = has }))) None) (sym t)
-  step_popped fs2 (Some Bracket) b k m most_is e n cases t l =
+  step_popped fs2 (Some Bracket) b most_is e some t l =
       step_close fs2 most_is e l ∙ ap (λ c. Some (reader_of (record { nodes = ns1; frames = fs2; names = names; has_operand = c }))) (sym (ap (λ w. w.has_operand) v ∙ h))
       ∙ ap (λ c. cond c (Some (reader_of (record { nodes = ns1; frames = fs2; names = names; has_operand = has }))) None) (sym t)
-  step_popped fs2 (Some (Prefix op)) b k m most_is e n cases t l =
+  step_popped fs2 (Some (Prefix op)) b most_is e some t l =
       step_other fs2 (Prefix op) (λ d. cc) most_is e l
       ∙ ap (λ c. cond c (Some (reader_of (record { nodes = ns1; frames = fs2; names = names; has_operand = has }))) None) (sym t)
-  step_popped fs2 (Some (Pending i op)) b k m most_is e n cases t l =
+  step_popped fs2 (Some (Pending i op)) b most_is e some t l =
       step_other fs2 (Pending i op) (λ d. cc) most_is e l
       ∙ ap (λ c. cond c (Some (reader_of (record { nodes = ns1; frames = fs2; names = names; has_operand = has }))) None) (sym t)
 

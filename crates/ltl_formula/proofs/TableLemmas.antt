@@ -12,6 +12,7 @@ use Rattle.ltl_spec.specs.Collections.Lists.{HasNoRepeats, place_of, places_from
 use Rattle.ltl_spec.specs.Formulas.Formula as spec
 use Rattle.ltl_spec.specs.NormalForms.Normal.{Normal, Top, Bottom, Leaf, Next, And, Or, Until, Release, same}
 use Rattle.ltl_spec.specs.NormalForms.NormalForm as normal
+use Rattle.ltl_spec.specs.Tools.Limits.{stated_limits}
 use Rattle.ltl_spec.proofs.Checking.BelowLaws.{HasLeavesBelow}
 use Rattle.ltl_spec.proofs.Collections.ListLaws.{Has-at, HasNoRepeats-first_occurrences, first_occurrences_cases}
 use Rattle.ltl_spec.proofs.Collections.MemberLaws.{at_map, map_length}
@@ -267,17 +268,17 @@ module _ (F : Normal) (rs : List Row) (made : row_trees rs ≡ normal.rows F) (o
     is_table_of : IsTableOf F table
     is_table_of = record { rows = made; untils = u ∙ untils_are; elementary = e ∙ elementary_are }
 
-    pub table_made : length rs ≤ 4096 → length elementary ≤ 64 → HasLeavesBelow 64 F → IsTable table
+    pub table_made : length rs ≤ stated_limits.rows → length elementary ≤ stated_limits.elementary_rows → HasLeavesBelow stated_limits.propositions F → IsTable table
     table_made few few_elementary leaves = record {
       some = some_row;
       few = few;
       few_elementary = few_elementary;
       ordered = ordered;
-      literals = rows_below 64 F rs made ordered leaves;
+      literals = rows_below stated_limits.propositions F rs made ordered leaves;
       table = subst (λ (G : Normal). IsTableOf G table) (sym last_tree) is_table_of;
     }
 
-    pub elementary_many : 64 < length elementary → 64 < length (normal.elementary_rows F)
+    pub elementary_many : stated_limits.elementary_rows < length elementary → stated_limits.elementary_rows < length (normal.elementary_rows F)
     elementary_many l =
         let a = ap length (e ∙ elementary_are) in
         let b = places_length (λ a. normal.is_elementary a || same a F) 0 (normal.rows F) in

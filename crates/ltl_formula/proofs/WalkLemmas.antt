@@ -1,5 +1,5 @@
 -- What the steps of the walk do, over plain variables.
-use Rattle.std.proofs.Common.{take, ◌-◌, ◌≡◌, ℕ, zero, suc, ◌<◌, ◌≤◌, Bool, true, false, ◌⊎◌, inl, inr, List, [], ◌∷◌, ◌++◌, map, length, refl, sym, ◌∙◌, ap, subst, arith, length-append}
+use Rattle.std.proofs.Common.{◌≡◌, ℕ, ◌<◌, ◌≤◌, Bool, true, false, ◌⊎◌, inl, inr, List, [], ◌∷◌, ◌++◌, map, length, refl, sym, ◌∙◌, ap, subst, arith, length-append}
 use Rattle.std.specs.Prelude.{replicate, All, slice_index_or, fold}
 use Rattle.std.specs.Bool.{Decides}
 use Rattle.std.specs.List.{list_any}
@@ -52,17 +52,17 @@ module _ (nodes : List Node) (shared : IsShared nodes) (task : Task) (stack : Li
     short : k < length flags
     short = let l = enter_inside k e in omega arith
 
-    pub passed : (b : Bool) → b ≡ slice_index_or flags k b → b ≡ true → Done stack listed
-    passed b r f = subst (λ t. IsTaskDone (tree_at nodes) (length nodes) (map task_of stack) (task_of t) listed (map task_of stack) listed) (sym e)
-        (done_listed (tree_at nodes) parts (length nodes) graph (map task_of stack) listed k tasks numbers (enter_inside k e) (are.yes k b short (sym r ∙ f)))
+    pub passed : (d : Bool) (there : List Bool) → there ≡ flags → slice_index_or there k d ≡ true → Done stack listed
+    passed d there r f = subst (λ t. IsTaskDone (tree_at nodes) (length nodes) (map task_of stack) (task_of t) listed (map task_of stack) listed) (sym e)
+        (done_listed (tree_at nodes) parts (length nodes) graph (map task_of stack) listed k tasks numbers (enter_inside k e) (are.yes k d short (ap (λ xs. slice_index_or xs k d) (sym r) ∙ f)))
 
-    module _ (b : Bool) (r : b ≡ slice_index_or flags k b) (f : b ≡ false) (v : Row) (here : node_of v ≡ node_at nodes k) where
+    module _ (d : Bool) (there : List Bool) (r : there ≡ flags) (f : slice_index_or there k d ≡ false) (v : Row) (here : node_of v ≡ node_at nodes k) where
       at_node : (u : Row) → v ≡ u → parts_of (node_at nodes k) ≡ parts_of (node_of u)
       at_node u h = ap parts_of (sym here ∙ ap node_of h)
 
       leaf : (u : Row) → v ≡ u → parts_of (node_of u) ≡ [] → (new_listed : List ℕ) → new_listed ≡ listed ++ k ∷ [] → Done stack new_listed
       leaf u h p new_listed g = subst (λ t. IsTaskDone (tree_at nodes) (length nodes) (map task_of stack) (task_of t) listed (map task_of stack) new_listed) (sym e)
-          (done_leaf (tree_at nodes) parts (length nodes) graph (map task_of stack) listed k tasks numbers (enter_inside k e) (are.no k b short (sym r ∙ f)) (at_node u h ∙ p) new_listed g)
+          (done_leaf (tree_at nodes) parts (length nodes) graph (map task_of stack) listed k tasks numbers (enter_inside k e) (are.no k d short (ap (λ xs. slice_index_or xs k d) (sym r) ∙ f)) (at_node u h ∙ p) new_listed g)
 
       pub listed_leaf : (v ≡ row.True) ⊎ ((v ≡ row.False) ⊎ ((l : Literal) × (v ≡ row.Literal l))) → (new_listed : List ℕ) → new_listed ≡ listed ++ k ∷ [] → Done stack new_listed
       listed_leaf (inl h) new_listed g = leaf row.True h refl new_listed g
@@ -71,12 +71,12 @@ module _ (nodes : List Node) (shared : IsShared nodes) (task : Task) (stack : Li
 
       pub one_operand : (i : ℕ) → v ≡ row.Next i → (s1 s2 : List Task) → s1 ≡ stack ++ Leave k ∷ [] → s2 ≡ s1 ++ Enter i ∷ [] → Done s2 listed
       one_operand i h s1 s2 e1 e2 = subst (λ t. IsTaskDone (tree_at nodes) (length nodes) (map task_of stack) (task_of t) listed (map task_of s2) listed) (sym e)
-          (done_one (tree_at nodes) parts (length nodes) graph (map task_of stack) listed k tasks numbers (enter_inside k e) (are.no k b short (sym r ∙ f)) i (at_node (row.Next i) h)
+          (done_one (tree_at nodes) parts (length nodes) graph (map task_of stack) listed k tasks numbers (enter_inside k e) (are.no k d short (ap (λ xs. slice_index_or xs k d) (sym r) ∙ f)) i (at_node (row.Next i) h)
           (map task_of s1) (map task_of s2) (pushed stack s1 (Leave k) e1) (pushed s1 s2 (Enter i) e2))
 
       two : (u : Row) (i j : ℕ) → v ≡ u → parts_of (node_of u) ≡ i ∷ j ∷ [] → (s1 s2 s3 : List Task) → s1 ≡ stack ++ Leave k ∷ [] → s2 ≡ s1 ++ Enter j ∷ [] → s3 ≡ s2 ++ Enter i ∷ [] → Done s3 listed
       two u i j h p s1 s2 s3 e1 e2 e3 = subst (λ t. IsTaskDone (tree_at nodes) (length nodes) (map task_of stack) (task_of t) listed (map task_of s3) listed) (sym e)
-          (done_two (tree_at nodes) parts (length nodes) graph (map task_of stack) listed k tasks numbers (enter_inside k e) (are.no k b short (sym r ∙ f)) i j (at_node u h ∙ p)
+          (done_two (tree_at nodes) parts (length nodes) graph (map task_of stack) listed k tasks numbers (enter_inside k e) (are.no k d short (ap (λ xs. slice_index_or xs k d) (sym r) ∙ f)) i j (at_node u h ∙ p)
           (map task_of s1) (map task_of s2) (map task_of s3) (pushed stack s1 (Leave k) e1) (pushed s1 s2 (Enter j) e2) (pushed s2 s3 (Enter i) e3))
 
       pub two_operands : (i j : ℕ) → (v ≡ row.And i j) ⊎ ((v ≡ row.Or i j) ⊎ ((v ≡ row.Until i j) ⊎ (v ≡ row.Release i j)))
@@ -99,15 +99,8 @@ pub loop_pops : (nodes : List Node) (root : ℕ) (stack rest : List Task) (task 
     → All (λ t. task_number t < length nodes) (map task_of rest) × (task_number (task_of task) < length nodes)
 loop_pops nodes root stack rest task listed w e = walk_pops (tree_at nodes) (length nodes) root (map task_of stack) (map task_of rest) (task_of task) listed w (pushed rest stack task e)
 
-no_flags : (n m : ℕ) (old new : List Bool) → old ≡ [] → m ≡ 0 → new ≡ take n old ++ replicate (n - m) false → new ≡ replicate n false
-no_flags n m old new e z f = f ∙ ap (λ xs. take n xs ++ replicate (n - m) false) e ∙ at n ∙ ap (λ k. replicate k false) (omega arith)
-  where
-    at : (n : ℕ) → take n [] ++ replicate (n - m) false ≡ replicate (n - m) false
-    at zero = refl
-    at (suc n) = refl
-
-pub loop_flags : (n m : ℕ) (old new : List Bool) (listed : List ℕ) → old ≡ [] → m ≡ 0 → new ≡ take n old ++ replicate (n - m) false → listed ≡ [] → AreFlags new listed
-loop_flags n m old new listed e z f g = flags_begin n new listed (no_flags n m old new e z f) g
+pub loop_flags : (n : ℕ) (flags : List Bool) (listed : List ℕ) → flags ≡ replicate n false → listed ≡ [] → AreFlags flags listed
+loop_flags n flags listed e f = flags_begin n flags listed e f
 
 pub loop_begins : (nodes : List Node) (root : ℕ) (s1 s2 : List Task) (listed : List ℕ) → root < length nodes → s1 ≡ [] → s2 ≡ s1 ++ Enter root ∷ [] → listed ≡ [] → IsWalking (tree_at nodes) (length nodes) root (map task_of s2) listed
 loop_begins nodes root s1 s2 listed l e1 e2 f = subst (λ ks. IsWalking (tree_at nodes) (length nodes) root (map task_of s2) ks) (sym f)

@@ -1,7 +1,7 @@
 -- The normal forms of a formula and of its negation as numbers of nodes.
 use Rattle.std.specs.Prelude.{◌≡◌, ◌<◌, ℕ, List, length, slice_index_or}
-use Rattle.ltl_spec.proofs.NormalForms.BothPolarities.{Both, FlatNode, FlatConstant, FlatProposition, FlatUnary, FlatBinary}
-use Rattle.ltl_spec.proofs.NormalForms.SharedRewriting.{IsMore, StandsFor, Numbers, stand_for}
+use Rattle.ltl_spec.specs.NormalForms.BothPolarities.{Both, FlatNode, FlatConstant, FlatProposition, FlatUnary, FlatBinary}
+use Rattle.ltl_spec.specs.NormalForms.SharedRewriting.{IsMore, StandsFor, Numbers, stand_for}
 use Rattle.ltl_formula.specs.FormulaView.{unary_of, binary_of}
 use Rattle.ltl_formula.specs.GraphView.{GraphView}
 use Rattle.ltl_formula.specs.declared.operators.Node.{Node}

@@ -5,6 +5,7 @@ use Rattle.ltl_spec.specs.Semantics.Word.{Name}
 use Rattle.ltl_spec.specs.Collections.Lists.{HasNoRepeats}
 use Rattle.ltl_spec.specs.Formulas.Formula as spec
 use Rattle.ltl_spec.specs.Formulas.Names.{is_proposition}
+use Rattle.ltl_spec.specs.Tools.Limits.{stated_limits}
 use Rattle.ltl_formula.specs.declared.operators.Node.{Node}
 use Rattle.ltl_formula.specs.declared.operators.Node.TheVariants.{Constant, Proposition, Unary, Binary}
 use Rattle.ltl_formula.specs.declared.operators.UnaryOperator as unary
@@ -63,10 +64,10 @@ StandsAt count i (Proposition p) = p < count
 StandsAt count i (Unary op a) = a < i
 StandsAt count i (Binary op a b) = (a < i) × (b < i)
 
--- there is a node, operands stand before their node, and the names are at most 64 and distinct propositions
+-- there is a node, operands stand before their node, and the names are within their limit and distinct propositions
 pub record IsFormula (nodes : List Node) (names : List Name) : Type 0 where
   pub some : 0 < length nodes
   pub operands : (i : ℕ) → i < length nodes → StandsAt (length names) i (slice_index_or nodes i (Constant false))
   pub propositions : IsTrue (list_all is_proposition names)
   pub distinct : HasNoRepeats names
-  pub few : length names ≤ 64
+  pub few : length names ≤ stated_limits.propositions

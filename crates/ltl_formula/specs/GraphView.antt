@@ -2,8 +2,8 @@
 use Rattle.std.specs.Prelude.{◌≡◌, ◌<◌, ℕ, Bool, List, map}
 use Rattle.ltl_sets.specs.Literals.{literal_of}
 use Rattle.ltl_spec.specs.NormalForms.Normal.{Normal}
-use Rattle.ltl_spec.proofs.NormalForms.SharedNodes.{Node, TopNode, BottomNode, LeafNode, NextNode, AndNode, OrNode, UntilNode, ReleaseNode}
-use Rattle.ltl_spec.proofs.NormalForms.SharedRewriting.{IsMore, StandsFor}
+use Rattle.ltl_spec.specs.NormalForms.SharedNodes.{Node, TopNode, BottomNode, LeafNode, NextNode, AndNode, OrNode, UntilNode, ReleaseNode}
+use Rattle.ltl_spec.specs.NormalForms.SharedRewriting.{IsMore, StandsFor}
 use Rattle.ltl_formula.specs.declared.row.Row.{Row}
 use Rattle.ltl_formula.specs.declared.row.Row.TheVariants as row
 

@@ -5,10 +5,10 @@ use Rattle.ltl_spec.specs.Formulas.Formula as spec
 use Rattle.ltl_spec.specs.Formulas.Grammar.{rank_of}
 use Rattle.ltl_spec.specs.Formulas.Fault as fault
 use Rattle.ltl_spec.specs.Formulas.Tokens as tokens
-use Rattle.ltl_spec.proofs.Formulas.GrammarMachine as machine
-use Rattle.ltl_spec.proofs.Formulas.BeginningLaws.{outline}
-use Rattle.ltl_spec.proofs.Formulas.FaultLaws.{kind_at, kind_before}
-use Rattle.ltl_spec.proofs.Formulas.ReaderLaws.{with_name}
+use Rattle.ltl_spec.specs.Formulas.GrammarMachine as machine
+use Rattle.ltl_spec.specs.Formulas.Outline.{outline}
+use Rattle.ltl_spec.specs.Formulas.Outline.{kind_at, kind_before}
+use Rattle.ltl_spec.specs.Formulas.Names.{with_name}
 use Rattle.ltl_formula.specs.declared.operators.Node.{Node}
 use Rattle.ltl_formula.specs.declared.operators.Node.TheVariants.{Unary, Binary}
 use Rattle.ltl_formula.specs.declared.parser.Frame.{Frame}

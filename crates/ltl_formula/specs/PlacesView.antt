@@ -1,6 +1,6 @@
 -- Nodes whose operands are numbered anew.
 use Rattle.std.specs.Prelude.{ℕ}
-use Rattle.ltl_spec.proofs.NormalForms.SharedNodes.{Node, TopNode, BottomNode, LeafNode, NextNode, AndNode, OrNode, UntilNode, ReleaseNode}
+use Rattle.ltl_spec.specs.NormalForms.SharedNodes.{Node, TopNode, BottomNode, LeafNode, NextNode, AndNode, OrNode, UntilNode, ReleaseNode}
 
 abbrev pub renumbered : (ℕ → ℕ) → Node → Node
 renumbered f TopNode = TopNode

@@ -3,7 +3,8 @@ use Rattle.std.specs.Prelude.{◌≡◌, ◌<◌, ◌≤◌, ◌+◌, ◌-◌, �
 use Rattle.ltl_spec.specs.Collections.Lists.{places_where}
 use Rattle.ltl_spec.specs.NormalForms.Normal.{Normal, same}
 use Rattle.ltl_spec.specs.NormalForms.NormalForm as normal
-use Rattle.ltl_spec.proofs.NormalForms.SharedNodes.{trees, tree_at}
+use Rattle.ltl_spec.specs.NormalForms.SharedNodes.{trees, tree_at}
+use Rattle.ltl_spec.specs.Tools.Limits.{stated_limits}
 use Rattle.ltl_formula.specs.GraphView.{IsBelow, node_of}
 use Rattle.ltl_formula.specs.declared.row.Row.{Row}
 use Rattle.ltl_formula.specs.declared.row.Row.TheVariants as row
@@ -44,10 +45,10 @@ pub record IsTableOf (F : Normal) (t : TableView) : Type 0 where
 -- a table: that of the normal form of its last row, within the limits
 pub record IsTable (t : TableView) : Type 0 where
   pub some : 0 < length t.rows
-  pub few : length t.rows ≤ 4096
-  pub few_elementary : length t.elementary ≤ 64
+  pub few : length t.rows ≤ stated_limits.rows
+  pub few_elementary : length t.elementary ≤ stated_limits.elementary_rows
   pub ordered : AreOrdered t.rows
-  pub literals : All (IsNamedBelow 64) t.rows
+  pub literals : All (IsNamedBelow stated_limits.propositions) t.rows
   pub table : IsTableOf (core_of t) t
 
 -- ---- tests on rows

@@ -2,8 +2,8 @@
 use Rattle.std.specs.Prelude.{ℕ, ◌<◌, List, length, take, All, slice_index}
 use Rattle.ltl_spec.specs.Collections.Sets.{Has}
 use Rattle.ltl_spec.specs.Collections.Lists.{HasNoRepeats}
-use Rattle.ltl_spec.proofs.NormalForms.RowsCollected as law
-use Rattle.ltl_spec.proofs.NormalForms.SharedNodes.{Node, node_at, parts_of}
+use Rattle.ltl_spec.specs.NormalForms.RowsCollected as law
+use Rattle.ltl_spec.specs.NormalForms.SharedNodes.{Node, node_at, parts_of}
 use Rattle.ltl_formula.specs.declared.walk.Task.{Task}
 use Rattle.ltl_formula.specs.declared.walk.Task.TheVariants.{Enter, Leave}
 

@@ -6,15 +6,20 @@ ghost use Rattle.ltl_formula.specs.FormulaView.{binary_of, trees, unary_of, whol
 ghost use Rattle.ltl_formula.specs.CanonicalWork.{HasOperands, Points, stack_text, weight, work_text};
 
 use crate::operators::{BinaryOperator, Node, UnaryOperator};
+use smallvec::SmallVec;
 use std::alloc::{AllocError, Allocator};
 
 /// What is still to be written.
-#[derive(Clone, Copy)]
+#[derive(Clone, Copy, Default)]
 enum Work {
     Visit(usize),
     Middle(BinaryOperator),
+    #[default]
     Close,
 }
+
+/// What is still to be written, the last first. Most formulas of the benchmark leave no more than 32 parts, which need no memory.
+type Works<'a, A> = SmallVec<Work, 32, &'a A>;
 
 fn constant_text(value: bool) -> &'static [u8]
     ensures { result.now ≡ spec.constant_text value }
@@ -52,7 +57,7 @@ fn visit<A: Allocator>(
     names: &[String<&A>],
     i: usize,
     text: &mut Vec<u8, &A>,
-    stack: &mut Vec<Work, &A>,
+    stack: &mut Works<'_, A>,
 ) -> Result<(), AllocError>
     requires ordered { HasOperands (length names.now) nodes.now }
     requires within { i < length nodes.now }
@@ -90,7 +95,7 @@ fn step<A: Allocator>(
     names: &[String<&A>],
     work: Work,
     text: &mut Vec<u8, &A>,
-    stack: &mut Vec<Work, &A>,
+    stack: &mut Works<'_, A>,
 ) -> Result<(), AllocError>
     requires ordered { HasOperands (length names.now) nodes.now }
     requires points { Points (length nodes.now) work }
@@ -122,8 +127,9 @@ pub(crate) fn canonical<'a, A: Allocator>(
     requires ordered { HasOperands (length names.now) nodes.now }
     ensures { IfOk result (λ text. text.items ≡ spec.formula_text (map string_bytes names.now) (whole_tree nodes.now)) }
 {
-    let mut text = Vec::new(alloc);
-    let mut stack = Vec::new(alloc);
+    // Most texts have no more than eight bytes for each node.
+    let mut text = Vec::with_capacity(alloc, nodes.len().saturating_mul(8))?;
+    let mut stack: Works<'a, A> = SmallVec::new(alloc);
     stack.push(Work::Visit(nodes.len() - 1))?;
     'work: while let Some(work) = stack.pop() {
         step(nodes, names, work, &mut text, &mut stack)?;

@@ -23,7 +23,7 @@ pub struct Graph<'a, A: Allocator> {
 
 impl<'a, A: Allocator> Model for Graph<'a, A> {
     ghost use Rattle.std.specs.Prelude.{map};
-    ghost use Rattle.ltl_spec.proofs.NormalForms.SharedRewriting.{HasConstants};
+    ghost use Rattle.ltl_spec.specs.NormalForms.SharedRewriting.{HasConstants};
     ghost use Rattle.ltl_formula.specs.GraphView.{GraphView, graph_of, node_of};
 
     ghost Value = { GraphView };
@@ -34,8 +34,8 @@ impl<'a, A: Allocator> Model for Graph<'a, A> {
 }
 
 impl<'a, A: Allocator> Graph<'a, A> {
-    ghost use Rattle.ltl_spec.proofs.NormalForms.SharedNodes.{AllBefore, node_at, tree_at, tree_of};
-    ghost use Rattle.ltl_spec.proofs.NormalForms.SharedRewriting.{HasConstants, StandsFor};
+    ghost use Rattle.ltl_spec.specs.NormalForms.SharedNodes.{AllBefore, node_at, tree_at, tree_of};
+    ghost use Rattle.ltl_spec.specs.NormalForms.SharedRewriting.{HasConstants, StandsFor};
     ghost use Rattle.ltl_spec.specs.NormalForms.Normal.{Top, Bottom};
     ghost use Rattle.ltl_formula.specs.GraphView.{IsBelow, Makes, node_of};
 

@@ -9,9 +9,11 @@ ghost use Rattle.ltl_formula.specs.Streams.{AppendsBeginning};
 use crate::formula::Formula;
 use std::alloc::Allocator;
 use std::io::Write;
+use thiserror::Error;
 
 /// A write or a flush failed.
-#[derive(Clone, Copy, Debug, PartialEq, Eq)]
+#[derive(Clone, Copy, Debug, PartialEq, Eq, Error)]
+#[error("cannot write")]
 pub struct WriteFault;
 
 /// Writes all of `bytes`. Nothing is tried again, and a write that takes no byte is a failure.

@@ -6,9 +6,9 @@ ghost use Rattle.ltl_spec.specs.Formulas.Grammar.{rank_of};
 ghost use Rattle.ltl_spec.specs.Formulas.Tokens as tokens;
 ghost use Rattle.ltl_spec.specs.Semantics.Word.{Name};
 ghost use Rattle.ltl_spec.specs.Collections.Lists.{place_of, with_new};
-ghost use Rattle.ltl_spec.proofs.Formulas.GrammarMachine as machine;
-ghost use Rattle.ltl_spec.proofs.Formulas.BeginningLaws.{outline};
-ghost use Rattle.ltl_spec.proofs.Formulas.FaultLaws.{kind_before};
+ghost use Rattle.ltl_spec.specs.Formulas.GrammarMachine as machine;
+ghost use Rattle.ltl_spec.specs.Formulas.Outline.{outline};
+ghost use Rattle.ltl_spec.specs.Formulas.Outline.{kind_before};
 ghost use Rattle.ltl_formula.specs.FormulaView.{StandsAt, binary_of, tree_of, trees, whole_tree};
 ghost use Rattle.ltl_formula.specs.TokenView.{token_of};
 ghost use Rattle.ltl_formula.specs.CanonicalWork.{HasOperands};
@@ -18,6 +18,7 @@ use crate::fault::{FaultKind, ReadFault};
 use crate::operators::{BinaryOperator, Node, UnaryOperator};
 use crate::token::{Token, TokenKind};
 use indexmap::IndexSet;
+use smallvec::SmallVec;
 use std::alloc::{AllocError, Allocator};
 use std::hash::{BuildHasherDefault, FoldHasher};
 use std::marker::Model;
@@ -26,12 +27,16 @@ use std::marker::Model;
 pub(crate) type NameSet<'t, 'a, A> = IndexSet<&'t [u8], BuildHasherDefault<FoldHasher>, &'a A>;
 
 /// What is open: a bracket, an operator that waits for its operand, or a left operand with its operator.
-#[derive(Clone, Copy)]
+#[derive(Clone, Copy, Default)]
 pub(crate) enum Frame {
+    #[default]
     Bracket,
     Prefix(UnaryOperator),
     Pending(usize, BinaryOperator),
 }
+
+/// What is open. Up to 32 frames need no memory.
+type Frames<'a, A> = SmallVec<Frame, 32, &'a A>;
 
 /// The rank that closes all operators.
 const LOOSEST: u8 = 5;
@@ -87,7 +92,7 @@ fn closed(frame: Frame, operand: usize, most: u8) -> Option<Node>
 /// Closes what binds the operand, which is the last node, at least as tightly as the rank.
 fn close<A: Allocator>(
     nodes: &mut Vec<Node, &A>,
-    frames: &mut Vec<Frame, &A>,
+    frames: &mut Frames<'_, A>,
     most: u8,
 ) -> Result<(), AllocError>
     requires some { 0 < length nodes.old.items }
@@ -99,14 +104,12 @@ fn close<A: Allocator>(
     ensures pending { AreBelow (length nodes.new.items) frames.new.items }
     ensures longer { length nodes.old.items ≤ length nodes.new.items }
 {
-    'closing: while let Some(frame) = frames.pop() {
-        match closed(frame, nodes.len() - 1, most) {
+    'closing: while let Some(frame) = frames.last() {
+        match closed(*frame, nodes.len() - 1, most) {
             Some(node) => nodes.push(node)?,
-            None => {
-                frames.push(frame)?;
-                return Ok(());
-            }
+            None => return Ok(()),
         }
+        frames.pop();
     }
     Ok(())
 }
@@ -115,7 +118,7 @@ fn close<A: Allocator>(
 #[derive(Drop)]
 pub(crate) struct Parser<'a, 't, A: Allocator> {
     nodes: Vec<Node, &'a A>,
-    frames: Vec<Frame, &'a A>,
+    frames: Frames<'a, A>,
     names: NameSet<'t, 'a, A>,
     has_operand: bool,
 }
@@ -137,7 +140,7 @@ impl<'a, 't, A: Allocator> Parser<'a, 't, A> {
     {
         Parser {
             nodes: Vec::new(alloc),
-            frames: Vec::new(alloc),
+            frames: SmallVec::new(alloc),
             names: IndexSet::with_hasher(alloc, BuildHasherDefault::new()),
             has_operand: false,
         }

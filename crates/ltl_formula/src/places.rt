@@ -1,7 +1,7 @@
 //! The rows of a table from the nodes of a graph, and the places of some of them.
 
 ghost use Rattle.std.specs.Prelude.{◌≡◌, ◌<◌, length, map, slice_index, IfOk};
-ghost use Rattle.ltl_spec.proofs.NormalForms.SharedNodes.{tree_at};
+ghost use Rattle.ltl_spec.specs.NormalForms.SharedNodes.{tree_at};
 ghost use Rattle.ltl_formula.specs.GraphView.{IsBelow, node_of};
 ghost use Rattle.ltl_formula.specs.PlacesView.{renumbered};
 ghost use Rattle.ltl_formula.specs.TableView as table;
@@ -9,6 +9,7 @@ ghost use Rattle.ltl_formula.specs.WalkView.{AreInOrder};
 
 use crate::graph::Graph;
 use crate::row::Row;
+use smallvec::SmallVec;
 use std::alloc::{AllocError, Allocator};
 
 /// The node with operands by their places.
@@ -26,6 +27,14 @@ fn placed(node: Row, places: &[usize]) -> Row
     }
 }
 
+/// A place for each node of the graph. No formula of the benchmark has more than 128 nodes in both forms.
+type NodePlaces<'a, A> = SmallVec<usize, 128, &'a A>;
+
+/// Places of rows. Most formulas of the benchmark have no more than 16 until rows and 32 elementary ones, which need no memory.
+pub type UntilPlaces<'a, A> = SmallVec<usize, 16, &'a A>;
+
+pub type ElementaryPlaces<'a, A> = SmallVec<usize, 32, &'a A>;
+
 /// The nodes of these numbers, with operands by their places among them.
 pub fn numbered_rows<'a, A: Allocator>(
     alloc: &'a A,
@@ -37,8 +46,7 @@ pub fn numbered_rows<'a, A: Allocator>(
     ensures order { IfOk result (λ v. table.AreOrdered v.items) }
 {
     let mut rows = Vec::with_capacity(alloc, numbers.len())?;
-    let mut places: Vec<usize, &'a A> = Vec::new(alloc);
-    places.resize(graph.len(), 0)?;
+    let mut places: NodePlaces<'a, A> = SmallVec::from_elem(alloc, 0, graph.len())?;
     'rows: for (place, number) in numbers.iter().enumerate() {
         rows.push(placed(graph.node(*number), &places))?;
         places[*number] = place;
@@ -75,10 +83,10 @@ fn is_elementary_at(row: Row, place: usize, count: usize) -> bool
 pub fn until_places<'a, A: Allocator>(
     alloc: &'a A,
     rows: &[Row],
-) -> Result<Vec<usize, &'a A>, AllocError>
+) -> Result<UntilPlaces<'a, A>, AllocError>
     ensures { IfOk result (λ v. v.items ≡ table.places_by (λ _ r. table.is_until_row r) 0 rows.now) }
 {
-    let mut places = Vec::new(alloc);
+    let mut places: UntilPlaces<'a, A> = SmallVec::new(alloc);
     'places: for (place, row) in rows.iter().enumerate() {
         if is_until(*row) {
             places.push(place)?;
@@ -91,10 +99,10 @@ pub fn until_places<'a, A: Allocator>(
 pub fn elementary_places<'a, A: Allocator>(
     alloc: &'a A,
     rows: &[Row],
-) -> Result<Vec<usize, &'a A>, AllocError>
+) -> Result<ElementaryPlaces<'a, A>, AllocError>
     ensures { IfOk result (λ v. v.items ≡ table.places_by (table.is_elementary_of (length rows.now)) 0 rows.now) }
 {
-    let mut places = Vec::new(alloc);
+    let mut places: ElementaryPlaces<'a, A> = SmallVec::new(alloc);
     'places: for (place, row) in rows.iter().enumerate() {
         if is_elementary_at(*row, place, rows.len()) {
             places.push(place)?;

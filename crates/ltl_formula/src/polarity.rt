@@ -2,7 +2,8 @@
 
 ghost use Rattle.std.specs.Prelude.{◌≡◌, ◌<◌, ◌≤◌, ℕ, [], if◌then◌else◌, length, not, All, IfOk};
 ghost use Rattle.ltl_spec.specs.NormalForms.NormalForm.{core};
-ghost use Rattle.ltl_spec.proofs.Checking.BelowLaws.{HasLeavesBelow};
+ghost use Rattle.ltl_spec.specs.Checking.Bounds.{HasLeavesBelow};
+ghost use Rattle.ltl_spec.specs.Tools.Limits.{stated_limits};
 ghost use Rattle.ltl_formula.specs.FormulaView.{reading_of};
 ghost use Rattle.ltl_formula.specs.GraphView.{Makes};
 
@@ -12,14 +13,18 @@ use crate::operators::{BinaryOperator, Node, UnaryOperator};
 use crate::rewriting::{Choice, choose_and, choose_next, choose_or, choose_release, choose_until};
 use crate::row::Row;
 use ltl_sets::Literal;
+use smallvec::SmallVec;
 use std::alloc::{AllocError, Allocator};
 
 /// The numbers of the normal forms of a formula and of its negation.
-#[derive(Clone, Copy)]
+#[derive(Clone, Copy, Default)]
 pub struct Forms {
     pub positive: usize,
     pub negative: usize,
 }
+
+/// The forms of the nodes so far. No formula of the benchmark has more than 64 nodes, so they need no memory.
+type FormsList<'a, A> = SmallVec<Forms, 64, &'a A>;
 
 impl Forms {
     /// The forms of the negation.
@@ -44,9 +49,9 @@ impl Forms {
 impl<'a, A: Allocator> Graph<'a, A> {
     ghost use Rattle.ltl_spec.specs.Formulas.Formula as spec;
     ghost use Rattle.ltl_spec.specs.NormalForms.NormalForm.{constant};
-    ghost use Rattle.ltl_spec.proofs.NormalForms.SharedNodes.{tree_at};
-    ghost use Rattle.ltl_spec.proofs.NormalForms.SharedRewriting.{StandsFor, choice_tree};
-    ghost use Rattle.ltl_spec.proofs.NormalForms.BothPolarities.{FlatProposition, made_next, made_and, made_or, made_until, made_release, both_unary, both_binary, both_of};
+    ghost use Rattle.ltl_spec.specs.NormalForms.SharedNodes.{tree_at};
+    ghost use Rattle.ltl_spec.specs.NormalForms.SharedRewriting.{StandsFor, choice_tree};
+    ghost use Rattle.ltl_spec.specs.NormalForms.BothPolarities.{FlatProposition, made_next, made_and, made_or, made_until, made_release, both_unary, both_binary, both_of};
     ghost use Rattle.ltl_formula.specs.ChoiceView.{choice_of, IsInside};
     ghost use Rattle.ltl_formula.specs.FormsView.{MakesBoth, AreInside, forms_at, forms_in, flat_of};
     ghost use Rattle.ltl_formula.specs.FormulaView.{unary_of, binary_of, StandsAt};
@@ -259,11 +264,11 @@ pub fn core_number<A: Allocator, B: Allocator>(
     negate: bool,
 ) -> Result<usize, AllocError>
     ensures made { IfOk result (λ k. Makes graph.old graph.new k (core (reading_of formula.now).formula negate graph.old.rewrite)) }
-    ensures few { IfOk result (λ _. length formula.now.names ≤ 64) }
+    ensures few { IfOk result (λ _. length formula.now.names ≤ stated_limits.propositions) }
     ensures literals { IfOk result (λ _. HasLeavesBelow (length formula.now.names) (core (reading_of formula.now).formula negate graph.old.rewrite)) }
 {
     let count = formula.len();
-    let mut done = Vec::with_capacity(alloc, count)?;
+    let mut done: FormsList<'_, A> = SmallVec::with_capacity(alloc, count)?;
     'nodes: for i in 0..count {
         let forms = graph.node_forms(formula.node(i), &done)?;
         done.push(forms)?;

@@ -2,8 +2,7 @@
 
 ghost use Rattle.std.specs.Prelude.{◌≡◌, ◌<◌, ◌≤◌, length, map, string_bytes, IfOk, MatchResult};
 ghost use Rattle.std.specs.List.{AllByRecursion};
-ghost use Rattle.ltl_spec.proofs.Formulas.TokenLaws.{IsNameWord};
-ghost use Rattle.ltl_spec.proofs.Formulas.CanonicalLaws.{IsNamed};
+ghost use Rattle.ltl_spec.specs.Formulas.Names.{IsNameWord, IsNamed};
 ghost use Rattle.ltl_formula.specs.FormulaView.{reading_of, whole_tree};
 ghost use Rattle.ltl_formula.specs.CanonicalWork.{HasOperands};
 ghost use Rattle.ltl_formula.specs.ReadText.{IsReadAs, IsRefusedFor, RefusesNames};
@@ -63,7 +62,7 @@ fn owned_names<'a, A: Allocator>(
     requires { AllByRecursion IsNameWord (map (λ k. k.now) names.now.keys) }
     ensures { IfOk result (λ owned. map string_bytes owned.items ≡ map (λ k. k.now) names.now.keys) }
 {
-    let mut owned = Vec::new(alloc);
+    let mut owned = Vec::with_capacity(alloc, names.len())?;
     for name in names.iter() {
         owned.push(owned_name(alloc, name)?)?;
     }

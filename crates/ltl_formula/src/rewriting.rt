@@ -1,8 +1,8 @@
 //! The table of rewriting, decided by the numbers of the operands alone.
 
 ghost use Rattle.std.specs.Prelude.{◌≡◌, ◌<◌, ◌==◌, ◌&&◌, ℕ, length, IfOk, if◌then◌else◌};
-ghost use Rattle.ltl_spec.proofs.NormalForms.SharedNodes as nodes;
-ghost use Rattle.ltl_spec.proofs.NormalForms.SharedRewriting as law;
+ghost use Rattle.ltl_spec.specs.NormalForms.SharedNodes as nodes;
+ghost use Rattle.ltl_spec.specs.NormalForms.SharedRewriting as law;
 ghost use Rattle.ltl_formula.specs.GraphView.{node_of};
 ghost use Rattle.ltl_formula.specs.ChoiceView.{choice_of, IsInside};
 

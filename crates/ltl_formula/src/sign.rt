@@ -14,8 +14,11 @@ pub(crate) fn sign_from(first: u8, second: u8, third: u8) -> (TokenKind, usize)
     match first {
         b'!' => (TokenKind::Unary(UnaryOperator::Not), 1),
         b'X' => (TokenKind::Unary(UnaryOperator::Next), 1),
+        b'G' => (TokenKind::Unary(UnaryOperator::Always), 1),
+        b'F' => (TokenKind::Unary(UnaryOperator::Eventually), 1),
         b'U' => (TokenKind::Binary(BinaryOperator::Until), 1),
         b'V' => (TokenKind::Binary(BinaryOperator::Release), 1),
+        b'R' => (TokenKind::Binary(BinaryOperator::Release), 1),
         b'(' => (TokenKind::Open, 1),
         b')' => (TokenKind::Close, 1),
         b'<' => angle_from(second, third),

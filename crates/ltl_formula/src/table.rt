@@ -1,5 +1,6 @@
 //! The table of a formula: its rows in normal form.
 
+ghost use Rattle.ltl_spec.specs.Tools.Limits.{stated_limits};
 ghost use Rattle.std.specs.Prelude.{◌≡◌, ◌<◌, ◌≤◌, ◌-◌, All, length, slice_get, Some, IfOk, IsErrOf};
 ghost use Rattle.ltl_formula.specs.declared.limits.TheConstants.{ROW_LIMIT};
 
@@ -7,7 +8,9 @@ use crate::build_fault::BuildFault;
 use crate::formula::Formula;
 use crate::graph::Graph;
 use crate::limits::ELEMENTARY_ROW_LIMIT;
-use crate::places::{elementary_places, numbered_rows, until_places};
+use crate::places::{
+    ElementaryPlaces, UntilPlaces, elementary_places, numbered_rows, until_places,
+};
 use crate::polarity::core_number;
 use crate::row::Row;
 use crate::walk::row_numbers;
@@ -18,8 +21,8 @@ use std::marker::Model;
 #[derive(Drop)]
 pub struct Table<'a, A: Allocator> {
     rows: Vec<Row, &'a A>,
-    untils: Vec<usize, &'a A>,
-    elementary: Vec<usize, &'a A>,
+    untils: UntilPlaces<'a, A>,
+    elementary: ElementaryPlaces<'a, A>,
 }
 
 impl<'a, A: Allocator> Model for Table<'a, A> {
@@ -34,8 +37,8 @@ impl<'a, A: Allocator> Model for Table<'a, A> {
 
 impl<'a, A: Allocator> Table<'a, A> {
     ghost use Rattle.ltl_spec.specs.NormalForms.NormalForm.{core, elementary_rows, rows};
-    ghost use Rattle.ltl_spec.proofs.Checking.BelowLaws.{HasLeavesBelow};
-    ghost use Rattle.ltl_spec.proofs.NormalForms.SharedNodes.{tree_at};
+    ghost use Rattle.ltl_spec.specs.Checking.Bounds.{HasLeavesBelow};
+    ghost use Rattle.ltl_spec.specs.NormalForms.SharedNodes.{tree_at};
     ghost use Rattle.ltl_formula.specs.FormulaView.{reading_of};
     ghost use Rattle.ltl_formula.specs.GraphView.{IsBelow};
     ghost use Rattle.ltl_formula.specs.TableView.{IsNamedBelow, IsTable, core_of};
@@ -52,9 +55,9 @@ impl<'a, A: Allocator> Table<'a, A> {
         ensures literals { IfOk result (λ t. All (IsNamedBelow (length formula.now.names)) t.rows) }
 
         // The faults come where a limit is passed. Memory may be refused at any time.
-        ensures rows { IsErrOf result BuildFault.TooManyRows → ROW_LIMIT < length (rows (core (reading_of formula.now).formula negate rewrite)) }
-        ensures few { IsErrOf result BuildFault.TooManyElementaryRows → length (rows (core (reading_of formula.now).formula negate rewrite)) ≤ ROW_LIMIT }
-        ensures elementary { IsErrOf result BuildFault.TooManyElementaryRows → ELEMENTARY_ROW_LIMIT < length (elementary_rows (core (reading_of formula.now).formula negate rewrite)) }
+        ensures rows { IsErrOf result BuildFault.TooManyRows → stated_limits.rows < length (rows (core (reading_of formula.now).formula negate rewrite)) }
+        ensures few { IsErrOf result BuildFault.TooManyElementaryRows → length (rows (core (reading_of formula.now).formula negate rewrite)) ≤ stated_limits.rows }
+        ensures elementary { IsErrOf result BuildFault.TooManyElementaryRows → stated_limits.elementary_rows < length (elementary_rows (core (reading_of formula.now).formula negate rewrite)) }
     {
         let mut graph = Graph::new(alloc, rewrite)?;
         let root = core_number(alloc, &mut graph, formula, negate)?;
@@ -64,12 +67,12 @@ impl<'a, A: Allocator> Table<'a, A> {
     /// The table of a node of a graph.
     fn of_node(alloc: &'a A, graph: &Graph<'_, A>, root: usize) -> Result<Table<'a, A>, BuildFault>
         requires inside { root < length graph.now.nodes }
-        requires literals { HasLeavesBelow 64 (tree_at graph.now.nodes root) }
+        requires literals { HasLeavesBelow stated_limits.propositions (tree_at graph.now.nodes root) }
         ensures table { IfOk result IsTable }
         ensures core { IfOk result (λ t. core_of t ≡ tree_at graph.now.nodes root) }
-        ensures rows { IsErrOf result BuildFault.TooManyRows → ROW_LIMIT < length (rows (tree_at graph.now.nodes root)) }
-        ensures few { IsErrOf result BuildFault.TooManyElementaryRows → length (rows (tree_at graph.now.nodes root)) ≤ ROW_LIMIT }
-        ensures elementary { IsErrOf result BuildFault.TooManyElementaryRows → ELEMENTARY_ROW_LIMIT < length (elementary_rows (tree_at graph.now.nodes root)) }
+        ensures rows { IsErrOf result BuildFault.TooManyRows → stated_limits.rows < length (rows (tree_at graph.now.nodes root)) }
+        ensures few { IsErrOf result BuildFault.TooManyElementaryRows → length (rows (tree_at graph.now.nodes root)) ≤ stated_limits.rows }
+        ensures elementary { IsErrOf result BuildFault.TooManyElementaryRows → stated_limits.elementary_rows < length (elementary_rows (tree_at graph.now.nodes root)) }
     {
         let numbers = row_numbers(alloc, graph, root)?;
         let rows = numbered_rows(alloc, graph, &numbers)?;
@@ -98,7 +101,7 @@ impl<'a, A: Allocator> Table<'a, A> {
         requires { i < length self.now.rows }
         ensures found { slice_get self.now.rows i ≡ Some result }
         ensures operands { IsBelow i result }
-        ensures literal { IsNamedBelow 64 result }
+        ensures literal { IsNamedBelow stated_limits.propositions result }
     {
         self.rows[i]
     }

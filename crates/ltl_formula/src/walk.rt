@@ -2,14 +2,15 @@
 
 ghost use Rattle.std.specs.Prelude.{◌≡◌, ◌<◌, ◌≤◌, ℕ, All, IfOk, IsErrOf, OnOk, length, map};
 ghost use Rattle.ltl_spec.specs.NormalForms.NormalForm.{rows};
-ghost use Rattle.ltl_spec.proofs.NormalForms.SharedNodes.{IsShared, tree_at};
-ghost use Rattle.ltl_spec.proofs.NormalForms.RowsCollected.{IsTaskDone, AreFlags, task_number};
+ghost use Rattle.ltl_spec.specs.NormalForms.SharedNodes.{IsShared, tree_at};
+ghost use Rattle.ltl_spec.specs.NormalForms.RowsCollected.{IsTaskDone, AreFlags, task_number};
 ghost use Rattle.ltl_formula.specs.WalkView.{AreInOrder, task_of};
 
 use crate::build_fault::BuildFault;
 use crate::graph::Graph;
 use crate::limits::ROW_LIMIT;
 use crate::row::Row;
+use smallvec::SmallVec;
 use std::alloc::{AllocError, Allocator};
 
 /// What is left to do for a node: to look at its operands, or to list it.
@@ -19,13 +20,28 @@ pub enum Task {
     Leave(usize),
 }
 
+impl Default for Task {
+    fn default() -> Task {
+        Task::Enter(0)
+    }
+}
+
+/// What is left to do, the last first. Most formulas of the benchmark leave no more than 32 tasks, which need no memory.
+type Tasks<'a, A> = SmallVec<Task, 32, &'a A>;
+
+/// Numbers of rows. Most formulas of the benchmark have no more than 64, which need no memory.
+pub type Numbers<'a, A> = SmallVec<usize, 64, &'a A>;
+
+/// A truth value for each node of the graph. No formula of the benchmark has more than 128 in both forms.
+type Flags<'a, A> = SmallVec<bool, 128, &'a A>;
+
 /// Does one task.
 fn step<A: Allocator>(
     graph: &Graph<'_, A>,
     task: Task,
-    flags: &mut Vec<bool, &A>,
-    listed: &mut Vec<usize, &A>,
-    stack: &mut Vec<Task, &A>,
+    flags: &mut Flags<'_, A>,
+    listed: &mut Numbers<'_, A>,
+    stack: &mut Tasks<'_, A>,
 ) -> Result<(), AllocError>
     requires shared { IsShared graph.now.nodes }
     requires long { length flags.old.items ≡ length graph.now.nodes }
@@ -71,7 +87,7 @@ pub fn row_numbers<'a, A: Allocator>(
     alloc: &'a A,
     graph: &Graph<'_, A>,
     root: usize,
-) -> Result<Vec<usize, &'a A>, BuildFault>
+) -> Result<Numbers<'a, A>, BuildFault>
     requires { root < length graph.now.nodes }
     ensures rows { IfOk result (λ v. map (tree_at graph.now.nodes) v.items ≡ rows (tree_at graph.now.nodes root)) }
     ensures order { IfOk result (λ v. AreInOrder graph.now.nodes v.items) }
@@ -79,10 +95,9 @@ pub fn row_numbers<'a, A: Allocator>(
     ensures too_many { IsErrOf result BuildFault.TooManyRows → ROW_LIMIT < length (rows (tree_at graph.now.nodes root)) }
     ensures other { ¬ (IsErrOf result BuildFault.TooManyElementaryRows) }
 {
-    let mut listed = Vec::new(alloc);
-    let mut flags: Vec<bool, &'a A> = Vec::new(alloc);
-    flags.resize(graph.len(), false)?;
-    let mut stack: Vec<Task, &'a A> = Vec::new(alloc);
+    let mut listed: Numbers<'a, A> = SmallVec::new(alloc);
+    let mut flags: Flags<'a, A> = SmallVec::from_elem(alloc, false, graph.len())?;
+    let mut stack: Tasks<'a, A> = SmallVec::new(alloc);
     stack.push(Task::Enter(root))?;
     'work: while let Some(task) = stack.pop() {
         step(graph, task, &mut flags, &mut listed, &mut stack)?;

@@ -77,7 +77,7 @@ put_last ks k =
     ]))
 
 -- a number that has to be below its count
-numbered : (n count : ℕ) (o : Option ℕ) (x : Led) (y : Step) (b : Before) (g : Came) → o ≡ Some count → count ≤ 1_048_576 → (nat_lt n count ≡ true → AgreesAt x y b g)
+numbered : (n count : ℕ) (o : Option ℕ) (x : Led) (y : Step) (b : Before) (g : Came) → o ≡ Some count → count ≤ stated_limits.hoa_edges → (nat_lt n count ≡ true → AgreesAt x y b g)
     → AgreesAt (if not (nat_lt (capped n) count) then Err NumberOutOfRange else x) (if_below n o y) b g
 numbered n count o x y b g e few f =
     subst (λ u. AgreesAt (if not (nat_lt (capped n) count) then Err NumberOutOfRange else x) (if_below n u y) b g) (sym e)
@@ -88,13 +88,13 @@ numbered n count o x y b g e few f =
     go false q = refl
 
 module _ (v : BodyView) (p : spec.BodyPlace) (b : Before) (g : Came) (s : ShowsBody v p b g) where
-  small_sets : v.counts.sets ≤ 1_048_576
+  small_sets : v.counts.sets ≤ stated_limits.hoa_edges
   small_sets = let m = s.well.1 in omega (arith, m)
 
-  small_names : v.counts.names ≤ 1_048_576
+  small_names : v.counts.names ≤ stated_limits.hoa_edges
   small_names = let m = s.well.0 in omega (arith, m)
 
-  small_states : v.counts.states ≤ 1_048_576
+  small_states : v.counts.states ≤ stated_limits.hoa_edges
   small_states = let m = s.few_states in omega (arith, m)
 
   to_place : (q : BodyPlace) (r : spec.BodyPlace) → is_open p ≡ is_open r → ShowsBodyPlace q v r → AgreesAt (Ok (place.Body q, v)) (in_body b r) b g
@@ -378,21 +378,21 @@ label_ends : (v : BodyView) (inner : LabelPart) (b : Before) (g : Came) → v.la
     → AgreesAt (view.close_label v) (spec.close_label stated_limits b inner []) b (record g { cubes = label_cubes (whole inner) })
 label_ends v inner b g w s =
     subst (λ x. AgreesAt (if not (label.is_closed x) then Err BadToken else view.close_with (record v { label = label.spent v.label }) (label.whole v.label.inner)) (spec.close_label stated_limits b inner []) b h) (sym w)
-    (subst (λ o. AgreesAt (view.close_with (record v { label = label.spent v.label }) o) (spec.close_label stated_limits b inner []) b h) (sym cubes_is) (go (is_wide 4_096 (whole inner))))
+    (subst (λ o. AgreesAt (view.close_with (record v { label = label.spent v.label }) o) (spec.close_label stated_limits b inner []) b h) (sym cubes_is) (go (is_wide stated_limits.label_cubes (whole inner))))
   where
     h : Came
     h = record g { cubes = label_cubes (whole inner) }
 
-    cubes_is : label.whole v.label.inner ≡ (if is_wide 4_096 (whole inner) then None else Some (label_cubes (whole inner)))
+    cubes_is : label.whole v.label.inner ≡ (if is_wide stated_limits.label_cubes (whole inner) then None else Some (label_cubes (whole inner)))
     cubes_is = ap (λ x. label.whole x.inner) w ∙ sym (part_whole true inner) ∙ narrow_is (whole inner)
 
-    few : (c : Bool) → nat_lt 1_048_576 (v.made + length (label_cubes (whole inner))) ≡ c
+    few : (c : Bool) → nat_lt stated_limits.hoa_edges (v.made + length (label_cubes (whole inner))) ≡ c
         → AgreesAt (if c then Err LimitPassed else Ok (place.Body at.Target, record v { label = label.spent v.label; made = v.made + length (label_cubes (whole inner)); cubes = label_cubes (whole inner) }))
-        (if nat_lt 1_048_576 (b.edges + length (label_cubes (whole inner))) then Err LimitPassed else Ok (record b { place = spec.InBody spec.AtTarget; edges = b.edges + length (label_cubes (whole inner)) })) b h
+        (if nat_lt stated_limits.hoa_edges (b.edges + length (label_cubes (whole inner))) then Err LimitPassed else Ok (record b { place = spec.InBody spec.AtTarget; edges = b.edges + length (label_cubes (whole inner)) })) b h
     few c q =
         subst (λ d. AgreesAt (if c then Err LimitPassed else Ok (place.Body at.Target, record v { label = label.spent v.label; made = v.made + length (label_cubes (whole inner)); cubes = label_cubes (whole inner) }))
         (if d then Err LimitPassed else Ok (record b { place = spec.InBody spec.AtTarget; edges = b.edges + length (label_cubes (whole inner)) })) b h)
-        (sym (ap (λ m. nat_lt 1_048_576 (m + length (label_cubes (whole inner)))) s.made ∙ q))
+        (sym (ap (λ m. nat_lt stated_limits.hoa_edges (m + length (label_cubes (whole inner)))) s.made ∙ q))
         (if_at c _ _ _ _ b h refl (
           (
             tt,
@@ -416,9 +416,9 @@ label_ends v inner b g w s =
 
     go : (wide : Bool)
         → AgreesAt (view.close_with (record v { label = label.spent v.label }) (if wide then None else Some (label_cubes (whole inner))))
-        (if wide || nat_lt 1_048_576 (b.edges + length (label_cubes (whole inner))) then Err LimitPassed else Ok (record b { place = spec.InBody spec.AtTarget; edges = b.edges + length (label_cubes (whole inner)) })) b h
+        (if wide || nat_lt stated_limits.hoa_edges (b.edges + length (label_cubes (whole inner))) then Err LimitPassed else Ok (record b { place = spec.InBody spec.AtTarget; edges = b.edges + length (label_cubes (whole inner)) })) b h
     go true = refl
-    go false = few (nat_lt 1_048_576 (v.made + length (label_cubes (whole inner)))) refl
+    go false = few (nat_lt stated_limits.hoa_edges (v.made + length (label_cubes (whole inner)))) refl
 
 -- a bracket is open
 stays_open : (v : BodyView) (inner p : LabelPart) (ps : List LabelPart) → v.label ≡ shown_label (record { inner = inner; around = p ∷ ps }) → label.is_closed v.label ≡ false

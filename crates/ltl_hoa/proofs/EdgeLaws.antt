@@ -13,7 +13,7 @@ use Rattle.ltl_spec.specs.Transitions.Cubes.{Cube}
 use Rattle.ltl_spec.specs.Tools.Limits.{Limits, stated_limits}
 use Rattle.ltl_spec.specs.Hoa.HoaToken.{HoaToken, HoaItem, hoa_items, Header, Int, Body, End, OpenLabel, CloseLabel, CloseSets}
 use Rattle.ltl_spec.specs.Hoa.HoaLabel.{Label, label_tokens, label_cubes, is_grouped, has_names_below, is_wide}
-use Rattle.ltl_spec.specs.Hoa.HoaReading.{AcceptanceForm, OneSet, WrittenEdge, WrittenState, HoaDocument, header_item_tokens, sets_tokens, name_tokens, edge_tokens, state_tokens, document_tokens, cube_edges, state_edges, edges_at, MarkedAutomaton, are_sets, is_edge_inside, is_state_inside, IsDocumentOf, IsWithin, HoaReadsWithin}
+use Rattle.ltl_spec.specs.Hoa.HoaReading.{AcceptanceForm, stated_form, WrittenEdge, WrittenState, HoaDocument, header_item_tokens, sets_tokens, name_tokens, edge_tokens, state_tokens, document_tokens, cube_edges, state_edges, edges_at, MarkedAutomaton, are_sets, is_edge_inside, is_state_inside, IsDocumentOf, IsWithin, HoaReadsWithin}
 use Rattle.ltl_spec.specs.Hoa.HoaFaultKind.{NumberOutOfRange, StateDefinedTwice, LimitPassed}
 use Rattle.ltl_spec.specs.Hoa.HoaFault as spec
 use Rattle.ltl_spec.specs.Hoa.HoaFault.{BodyPlace, AtState, AtNumber, AfterNumber, AfterName, InStateSets, AtEdge, AtTarget, AfterTarget, InEdgeSets, AtOperand, AfterOperand, InBody, AtItem, PlainItem, AtEnd, Before, before_all, Step, step, whole, empty_part, no_header, take_item, with_line}
@@ -336,11 +336,11 @@ fault_stays whole [] f g c h e = not_ok (ap (λ (r : Reached). r.0) e)
 fault_stays whole (i ∷ items) f g c h e = fault_stays whole items f g c h e
 
 items_told : (whole : List ℕ) (items : List HoaItem) (b : Before) (g : Came) (c : Before) (h : Came) → fold (reach whole) (Ok b, g) items ≡ (Ok c, h)
-    → tell stated_limits OneSet (Ok b, g) (map (λ i. i.token) items) ≡ (Ok c, h)
+    → tell stated_limits stated_form (Ok b, g) (map (λ i. i.token) items) ≡ (Ok c, h)
 items_told whole [] b g c h e = ap (λ (r : Reached). (step_of r.0, r.1)) e
 items_told whole (i ∷ items) b g c h e =
-    elim (step stated_limits OneSet b.place b i.token) as (λ o. fold (reach whole) (with_line stated_limits OneSet whole b.place i o, came_at b.place b i.token g) items ≡ (Ok c, h)
-    → tell stated_limits OneSet (o, came_at b.place b i.token g) (map (λ j. j.token) items) ≡ (Ok c, h)) [
+    elim (step stated_limits stated_form b.place b i.token) as (λ o. fold (reach whole) (with_line stated_limits stated_form whole b.place i o, came_at b.place b i.token g) items ≡ (Ok c, h)
+    → tell stated_limits stated_form (o, came_at b.place b i.token g) (map (λ j. j.token) items) ≡ (Ok c, h)) [
       | Ok d ↦ λ q. items_told whole items d (came_at b.place b i.token g) c h q
       | Err kind ↦ λ q. absurd (fault_stays whole items _ (came_at b.place b i.token g) c h q)
     ] e
@@ -350,13 +350,13 @@ pub record IsReadAs (A : MarkedAutomaton) (d : HoaDocument) (b : Before) (g : Ca
   pub header : b.header ≡ whole_header A
   pub edges : (k : ℕ) → edges_of k g.edges ≡ edges_at d k
 
-pub read_as : (text : List ℕ) (A : MarkedAutomaton) (r : HoaReadsWithin stated_limits OneSet text A) (b : Before) (g : Came) → reached text (hoa_items text) ≡ (Ok b, g) → IsReadAs A r.0.document b g
+pub read_as : (text : List ℕ) (A : MarkedAutomaton) (r : HoaReadsWithin stated_limits stated_form text A) (b : Before) (g : Came) → reached text (hoa_items text) ≡ (Ok b, g) → IsReadAs A r.0.document b g
 read_as text A r b g e =
-    let whole = document_told stated_limits OneSet A text r.0.document r.0.describes r.1 in
-    let same = sym (items_told text (hoa_items text) before_all came_none b g e) ∙ ap (tell stated_limits OneSet (Ok before_all, came_none)) r.0.spelled ∙ whole.told in
+    let whole = document_told stated_limits stated_form A text r.0.document r.0.describes r.1 in
+    let same = sym (items_told text (hoa_items text) before_all came_none b g e) ∙ ap (tell stated_limits stated_form (Ok before_all, came_none)) r.0.spelled ∙ whole.told in
     record {
-      header = ap (λ (p : Told stated_limits OneSet). header_in b p.0) same;
-      edges = λ k. ap (λ (p : Told stated_limits OneSet). edges_of k p.1.edges) same ∙ whole.are k;
+      header = ap (λ (p : Told stated_limits stated_form). header_in b p.0) same;
+      edges = λ k. ap (λ (p : Told stated_limits stated_form). edges_of k p.1.edges) same ∙ whole.are k;
     }
   where
     header_in : Before → Step → spec.HoaHeader

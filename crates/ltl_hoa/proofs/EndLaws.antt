@@ -8,7 +8,7 @@ use Rattle.std.proofs.lemmas.List.{append-nil}
 use Rattle.std.proofs.lemmas.List.Sums.{fold-append}
 use Rattle.ltl_spec.specs.Tools.Limits.{stated_limits}
 use Rattle.ltl_spec.specs.Hoa.HoaToken.{HoaItem, hoa_items, last_line}
-use Rattle.ltl_spec.specs.Hoa.HoaReading.{OneSet}
+use Rattle.ltl_spec.specs.Hoa.HoaReading.{stated_form}
 use Rattle.ltl_spec.specs.Hoa.HoaFaultKind.{HoaFaultKind, NotHoaVersion1, BadToken, LimitPassed}
 use Rattle.ltl_spec.specs.Hoa.HoaFault as spec
 use Rattle.ltl_spec.specs.Hoa.HoaFault.{Before, before_all, take_item, with_line, fault_after, end_fault, fault_at, hoa_fault}
@@ -27,28 +27,28 @@ use Rattle.ltl_hoa.specs.Reading.{Reached, reach, reached, fault_of, IsSound, Is
 use Rattle.ltl_hoa.proofs.LexLaws.{lexer_last}
 use Rattle.ltl_hoa.proofs.MachineLaws.{TokenShown, token_shown, reached_more, first_reached}
 
-after_fault : (whole : List ℕ) (f : spec.HoaFault) (items : List HoaItem) → fold (take_item stated_limits OneSet whole) (Err f) items ≡ Err f
+after_fault : (whole : List ℕ) (f : spec.HoaFault) (items : List HoaItem) → fold (take_item stated_limits stated_form whole) (Err f) items ≡ Err f
 after_fault whole f [] = refl
 after_fault whole f (i ∷ items) = after_fault whole f items
 
 -- a text within the limit
-within_limit : (text : List ℕ) → length text ≤ 16_777_216 → hoa_fault stated_limits OneSet text ≡ fault_after stated_limits OneSet text (fold (take_item stated_limits OneSet text) (Ok before_all) (hoa_items text))
+within_limit : (text : List ℕ) → length text ≤ stated_limits.hoa_bytes → hoa_fault stated_limits stated_form text ≡ fault_after stated_limits stated_form text (fold (take_item stated_limits stated_form text) (Ok before_all) (hoa_items text))
 within_limit text l =
-    ap (λ t. if t then fault_at spec_limit (last_line (take 16_777_216 text)) else fault_after stated_limits OneSet text (fold (take_item stated_limits OneSet text) (Ok before_all) (hoa_items text)))
-    (le-ltb 16_777_216 (length text) l)
+    ap (λ t. if t then fault_at spec_limit (last_line (take stated_limits.hoa_bytes text)) else fault_after stated_limits stated_form text (fold (take_item stated_limits stated_form text) (Ok before_all) (hoa_items text)))
+    (le-ltb stated_limits.hoa_bytes (length text) l)
   where
     spec_limit : HoaFaultKind
     spec_limit = LimitPassed
 
 -- the fault that was met is that of the text
-pub fault_met : (f : Found) (text : List ℕ) → length text ≤ 16_777_216 → IsFaulty f text → hoa_fault stated_limits OneSet text ≡ Some (fault_of f)
+pub fault_met : (f : Found) (text : List ℕ) → length text ≤ stated_limits.hoa_bytes → IsFaulty f text → hoa_fault stated_limits stated_form text ≡ Some (fault_of f)
 fault_met f text l s =
     let r = s.rest [] in
     let all : hoa_items text ≡ s.items ++ r.0 = ap hoa_items (sym (append-nil text)) ∙ r.1 in
     within_limit text l
-    ∙ ap (λ x. fault_after stated_limits OneSet text (fold (take_item stated_limits OneSet text) (Ok before_all) x)) all
-    ∙ ap (fault_after stated_limits OneSet text) (
-    fold-append (take_item stated_limits OneSet text) (Ok before_all) s.items r.0 ∙ ap (λ x. fold (take_item stated_limits OneSet text) x r.0) (s.faulty text) ∙ after_fault text (fault_of f) r.0)
+    ∙ ap (λ x. fault_after stated_limits stated_form text (fold (take_item stated_limits stated_form text) (Ok before_all) x)) all
+    ∙ ap (fault_after stated_limits stated_form text) (
+    fold-append (take_item stated_limits stated_form text) (Ok before_all) s.items r.0 ∙ ap (λ x. fold (take_item stated_limits stated_form text) x r.0) (s.faulty text) ∙ after_fault text (fault_of f) r.0)
 
 -- the line of a fault at the last token
 place_line : (q : Place) (pl : spec.Place) (k : TokenKind) (text : List ℕ) (start last : ℕ) (v : ParserView) (b : Before) (g : Came) → ShowsPlace q v pl b g → fault_line q k start last ≡ spec.fault_line pl (token_of k text) start last
@@ -123,8 +123,8 @@ ended_between v text s e = record {
 
 -- at the end of the last token
 pub ended_in : (v w : MachineView) (k : TokenKind) (text : List ℕ) → v.fault ≡ None → v.line ≡ last_line text → IsSound v text → last_kind v.lexer.phase ≡ Some k → TakesToken v k w
-    → (w.fault ≡ None) × IsTold w text ⊎ ((f : Found) × (w.fault ≡ Some f) × (fold (take_item stated_limits OneSet text) (Ok before_all) (hoa_items text) ≡ Err (fault_of f)))
-ended_in v w k text n line s e t = go (spec.step stated_limits OneSet s.before.place s.before (token_of k v.lexer.text)) refl (token_shown v w k s.before s.came n s.shows t)
+    → (w.fault ≡ None) × IsTold w text ⊎ ((f : Found) × (w.fault ≡ Some f) × (fold (take_item stated_limits stated_form text) (Ok before_all) (hoa_items text) ≡ Err (fault_of f)))
+ended_in v w k text n line s e t = go (spec.step stated_limits stated_form s.before.place s.before (token_of k v.lexer.text)) refl (token_shown v w k s.before s.came n s.shows t)
   where
     all : hoa_items text ≡ s.items ++ item_of k v.lexer ∷ []
     all = ap hoa_items (sym (append-nil text)) ∙ s.rest [] ∙ ap (λ x. s.items ++ x) (lexer_last v.lexer v.line s.lexing ∙ ap (λ o. with_item o v.lexer []) e)
@@ -132,14 +132,14 @@ ended_in v w k text n line s e t = go (spec.step stated_limits OneSet s.before.p
     more : reached text (hoa_items text) ≡ reach text (Ok s.before, s.came) (item_of k v.lexer)
     more = ap (λ x. reached text x) all ∙ reached_more text s.items (item_of k v.lexer) ∙ ap (λ x. reach text x (item_of k v.lexer)) (s.reached text)
 
-    go : (S : spec.Step) → spec.step stated_limits OneSet s.before.place s.before (token_of k v.lexer.text) ≡ S → TokenShown S (came_at s.before.place s.before (token_of k v.lexer.text) s.came) v k w
-        → (w.fault ≡ None) × IsTold w text ⊎ ((f : Found) × (w.fault ≡ Some f) × (fold (take_item stated_limits OneSet text) (Ok before_all) (hoa_items text) ≡ Err (fault_of f)))
+    go : (S : spec.Step) → spec.step stated_limits stated_form s.before.place s.before (token_of k v.lexer.text) ≡ S → TokenShown S (came_at s.before.place s.before (token_of k v.lexer.text) s.came) v k w
+        → (w.fault ≡ None) × IsTold w text ⊎ ((f : Found) × (w.fault ≡ Some f) × (fold (take_item stated_limits stated_form text) (Ok before_all) (hoa_items text) ≡ Err (fault_of f)))
     go (Ok c) q a = inl (
       a.0,
       record {
         before = c;
         came = came_at s.before.place s.before (token_of k v.lexer.text) s.came;
-        reached = more ∙ ap (λ S. (with_line stated_limits OneSet text s.before.place (item_of k v.lexer) S, came_at s.before.place s.before (token_of k v.lexer.text) s.came)) q;
+        reached = more ∙ ap (λ S. (with_line stated_limits stated_form text s.before.place (item_of k v.lexer) S, came_at s.before.place s.before (token_of k v.lexer.text) s.came)) q;
         shows = a.1;
       },
     )
@@ -147,7 +147,7 @@ ended_in v w k text n line s e t = go (spec.step stated_limits OneSet s.before.p
       record { line = fault_line v.parser.place k v.lexer.start v.line; kind = m },
       f,
       sym (first_reached text (hoa_items text) (Ok before_all, came_none))
-          ∙ ap (λ (x : Reached). x.0) (more ∙ ap (λ S. (with_line stated_limits OneSet text s.before.place (item_of k v.lexer) S, came_at s.before.place s.before (token_of k v.lexer.text) s.came)) q)
+          ∙ ap (λ (x : Reached). x.0) (more ∙ ap (λ S. (with_line stated_limits stated_form text s.before.place (item_of k v.lexer) S, came_at s.before.place s.before (token_of k v.lexer.text) s.came)) q)
           ∙ ap (λ l. Err (record { kind = j; line = l })) (
           ap (λ n. spec.fault_line s.before.place (token_of k v.lexer.text) v.lexer.start n) (sym line)
           ∙ sym (place_line v.parser.place s.before.place k v.lexer.text v.lexer.start v.line v.parser s.before s.came s.shows.place))
@@ -155,22 +155,22 @@ ended_in v w k text n line s e t = go (spec.step stated_limits OneSet s.before.p
     )
 
 -- the fault at the end, if there is one
-pub told_fault : (w : MachineView) (text : List ℕ) → length text ≤ 16_777_216 → IsTold w text → hoa_fault stated_limits OneSet text ≡ at_line (end_kind w.parser.place) (last_line text)
+pub told_fault : (w : MachineView) (text : List ℕ) → length text ≤ stated_limits.hoa_bytes → IsTold w text → hoa_fault stated_limits stated_form text ≡ at_line (end_kind w.parser.place) (last_line text)
 told_fault w text l s =
     within_limit text l
-    ∙ ap (fault_after stated_limits OneSet text) (sym (first_reached text (hoa_items text) (Ok before_all, came_none)) ∙ ap (λ (x : Reached). x.0) s.reached)
+    ∙ ap (fault_after stated_limits stated_form text) (sym (first_reached text (hoa_items text) (Ok before_all, came_none)) ∙ ap (λ (x : Reached). x.0) s.reached)
     ∙ end_line w.parser.place s.before.place (last_line text) w.parser s.before s.came s.shows.place
 
-pub last_fault : (f : Found) (text : List ℕ) → length text ≤ 16_777_216 → fold (take_item stated_limits OneSet text) (Ok before_all) (hoa_items text) ≡ Err (fault_of f) → hoa_fault stated_limits OneSet text ≡ Some (fault_of f)
-last_fault f text l e = within_limit text l ∙ ap (fault_after stated_limits OneSet text) e
+pub last_fault : (f : Found) (text : List ℕ) → length text ≤ stated_limits.hoa_bytes → fold (take_item stated_limits stated_form text) (Ok before_all) (hoa_items text) ≡ Err (fault_of f) → hoa_fault stated_limits stated_form text ≡ Some (fault_of f)
+last_fault f text l e = within_limit text l ∙ ap (fault_after stated_limits stated_form text) e
 
 -- ---- the machine behind the end
 
-few_bytes : (v : MachineView) (text : List ℕ) → v.given ≤ 16_777_216 → v.given ≡ length text → length text ≤ 16_777_216
-few_bytes v text l e = subst (λ n. n ≤ 16_777_216) e l
+few_bytes : (v : MachineView) (text : List ℕ) → v.given ≤ stated_limits.hoa_bytes → v.given ≡ length text → length text ≤ stated_limits.hoa_bytes
+few_bytes v text l e = subst (λ n. n ≤ stated_limits.hoa_bytes) e l
 
 -- a fault was met before
-pub ended_met : (v : MachineView) (f : Found) (text : List ℕ) → v.given ≤ 16_777_216 → v.fault ≡ Some f → IsAfter v text → IsEnded v text
+pub ended_met : (v : MachineView) (f : Found) (text : List ℕ) → v.given ≤ stated_limits.hoa_bytes → v.fault ≡ Some f → IsAfter v text → IsEnded v text
 ended_met v f text l e a = record {
   few = few_bytes v text l a.given;
   line = a.line;
@@ -178,7 +178,7 @@ ended_met v f text l e a = record {
 }
 
 -- no token is open
-pub ended_free : (v : MachineView) (text : List ℕ) → v.given ≤ 16_777_216 → v.fault ≡ None → last_kind v.lexer.phase ≡ None → IsAfter v text → IsEnded v text
+pub ended_free : (v : MachineView) (text : List ℕ) → v.given ≤ stated_limits.hoa_bytes → v.fault ≡ None → last_kind v.lexer.phase ≡ None → IsAfter v text → IsEnded v text
 ended_free v text l e n a = record {
   few = few_bytes v text l a.given;
   line = a.line;
@@ -186,7 +186,7 @@ ended_free v text l e n a = record {
 }
 
 -- the last token was taken
-pub ended_token : (v w : MachineView) (k : TokenKind) (text : List ℕ) → v.given ≤ 16_777_216 → v.fault ≡ None → last_kind v.lexer.phase ≡ Some k → TakesToken v k w → IsAfter v text → IsEnded w text
+pub ended_token : (v w : MachineView) (k : TokenKind) (text : List ℕ) → v.given ≤ stated_limits.hoa_bytes → v.fault ≡ None → last_kind v.lexer.phase ≡ Some k → TakesToken v k w → IsAfter v text → IsEnded w text
 ended_token v w k text l e n t a = record {
   few = few_bytes v text l a.given;
   line = t.line ∙ a.line;
@@ -204,7 +204,7 @@ pub no_fault : (o : Option Found) → is_some o ≡ false → o ≡ None
 no_fault None e = refl
 no_fault (Some f) e = cc
 
-pub ended_kept : (v w : MachineView) (k : TokenKind) (text : List ℕ) (r : Result (Unit {0}) AllocError) → v.given ≤ 16_777_216 → v.fault ≡ None → last_kind v.lexer.phase ≡ Some k → OnOk r (TakesToken v k w) → IsAfter v text
+pub ended_kept : (v w : MachineView) (k : TokenKind) (text : List ℕ) (r : Result (Unit {0}) AllocError) → v.given ≤ stated_limits.hoa_bytes → v.fault ≡ None → last_kind v.lexer.phase ≡ Some k → OnOk r (TakesToken v k w) → IsAfter v text
     → OnOk r (IsEnded w text)
 ended_kept v w k text (Ok u) l e n t a = ended_token v w k text l e n t a
 ended_kept v w k text (Err z) l e n t a = tt

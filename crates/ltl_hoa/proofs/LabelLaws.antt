@@ -3,6 +3,7 @@ use Rattle.std.proofs.Common.{◌≡◌, ℕ, zero, suc, ◌+◌, Bool, true, fa
 use Rattle.std.specs.Prelude.{nat_lt, if◌then◌else◌, flat_map, filter_map, option_map, unwrap_or}
 use Rattle.std.specs.Bool.{beq}
 use Rattle.std.specs.List.{list_any}
+use Rattle.ltl_spec.specs.Tools.Limits.{stated_limits}
 use Rattle.ltl_spec.specs.Collections.Sets.{set_of, union, IsRising}
 use Rattle.ltl_spec.specs.Transitions.Cubes.{Cube, cube_cmp, join_cubes}
 use Rattle.ltl_spec.specs.NormalForms.Normal.{Normal, Top, Bottom, Leaf, Next, And, Or, Until, Release}
@@ -18,7 +19,7 @@ use Rattle.ltl_hoa.specs.LabelView.{PartView, LabelView}
 use Rattle.ltl_hoa.specs.Shown.{narrow_normal, narrow, is_odd, shown_part, sign_within, shown_around, shown_label}
 
 wide : List Normal → Bool
-wide ps = list_any (λ p. nat_lt 4_096 (length (cubes p))) ps
+wide ps = list_any (λ p. nat_lt stated_limits.label_cubes (length (cubes p))) ps
 
 -- cubes of a normal form are a set
 cubes_rise : (N : Normal) → IsRising cube_cmp (cubes N)
@@ -40,7 +41,7 @@ any_more p (x ∷ xs) ys = ap (λ t. p x || t) (any_more p xs ys) ∙ assoc (p x
     assoc false t u = refl
 
 abbrev is_large : Normal → Bool
-is_large p = nat_lt 4_096 (length (cubes p))
+is_large p = nat_lt stated_limits.label_cubes (length (cubes p))
 
 -- a node above two others
 node : (a b c : Normal) → list_any is_large (postorder a ++ postorder b ++ c ∷ []) ≡ (list_any is_large (postorder a) || list_any is_large (postorder b) || is_large c)
@@ -113,7 +114,7 @@ narrow_number true n = refl
 narrow_number false n = refl
 
 -- the cubes of a label, unless a part has too many
-pub narrow_is : (a : Label) → narrow true a ≡ (if is_wide 4_096 a then None else Some (label_cubes a))
+pub narrow_is : (a : Label) → narrow true a ≡ (if is_wide stated_limits.label_cubes a then None else Some (label_cubes a))
 unfolding narrow
 narrow_is a = refl
 

@@ -8,7 +8,7 @@ use Rattle.std.specs.Prelude.{codes}
 use Rattle.ltl_spec.specs.Formulas.Tokens.{is_blank, same_name}
 use Rattle.ltl_spec.specs.Tools.Limits.{stated_limits}
 use Rattle.ltl_spec.specs.Hoa.HoaToken.{HoaItem, hoa_items, last_line, is_digit, begins_identifier, is_identifier_byte}
-use Rattle.ltl_spec.specs.Hoa.HoaReading.{OneSet}
+use Rattle.ltl_spec.specs.Hoa.HoaReading.{stated_form}
 use Rattle.ltl_spec.specs.Hoa.HoaFault as spec
 use Rattle.ltl_spec.specs.Hoa.HoaFault.{Before, before_all, Step, take_item, with_line}
 use Rattle.ltl_hoa.specs.declared.fault.Stop.{Stop}
@@ -110,9 +110,9 @@ TokenShown (Ok c) h v k w = (w.fault ≡ None) × Shows w.parser c h
 TokenShown (Err j) h v k w = (m : made.HoaFaultKind) × (w.fault ≡ Some (record { line = fault_line v.parser.place k v.lexer.start v.line; kind = m })) × (kind_of m ≡ j)
 
 pub token_shown : (v w : MachineView) (k : TokenKind) (b : Before) (g : Came) → v.fault ≡ None → Shows v.parser b g → TakesToken v k w
-    → TokenShown (spec.step stated_limits OneSet b.place b (token_of k v.lexer.text)) (came_at b.place b (token_of k v.lexer.text) g) v k w
+    → TokenShown (spec.step stated_limits stated_form b.place b (token_of k v.lexer.text)) (came_at b.place b (token_of k v.lexer.text) g) v k w
 token_shown v w k b g n s t =
-    go (spec.step stated_limits OneSet b.place b (token_of k v.lexer.text)) (came_at b.place b (token_of k v.lexer.text) g) t.answer (parser_takes v.parser w.parser b g (token_of k v.lexer.text) t.answer s t.parser) t.fault
+    go (spec.step stated_limits stated_form b.place b (token_of k v.lexer.text)) (came_at b.place b (token_of k v.lexer.text) g) t.answer (parser_takes v.parser w.parser b g (token_of k v.lexer.text) t.answer s t.parser) t.fault
   where
     go : (S : Step) (h : Came) (r : Result (Unit {0}) Stop) → StepShown S h r w.parser → FaultIs v k r w.fault → TokenShown S h v k w
     go (Ok c) h (Ok u) a f = (f ∙ n, a)
@@ -126,31 +126,31 @@ token_shown v w k b g n s t =
 pub reached_more : (whole : List ℕ) (items : List HoaItem) (i : HoaItem) → reached whole (items ++ i ∷ []) ≡ reach whole (reached whole items) i
 reached_more whole items i = fold-append (reach whole) (Ok before_all, came_none) items (i ∷ [])
 
-pub first_reached : (whole : List ℕ) (items : List HoaItem) (r : Reached) → (fold (reach whole) r items).0 ≡ fold (take_item stated_limits OneSet whole) r.0 items
+pub first_reached : (whole : List ℕ) (items : List HoaItem) (r : Reached) → (fold (reach whole) r items).0 ≡ fold (take_item stated_limits stated_form whole) r.0 items
 first_reached whole [] r = refl
 first_reached whole (i ∷ items) r = first_reached whole items (reach whole r i)
 
 -- what the machine is behind these items
 abbrev pub Behind : Option Found → MachineView → List HoaItem → Type 0
 Behind None w items = (b : Before) × (g : Came) × ((whole : List ℕ) → reached whole items ≡ (Ok b, g)) × Shows w.parser b g
-Behind (Some f) w items = (whole : List ℕ) → fold (take_item stated_limits OneSet whole) (Ok before_all) items ≡ Err (fault_of f)
+Behind (Some f) w items = (whole : List ℕ) → fold (take_item stated_limits stated_form whole) (Ok before_all) items ≡ Err (fault_of f)
 
 -- a token with an end
 pub token_behind : (v w : MachineView) (k : TokenKind) (items : List HoaItem) (b : Before) (g : Came) → v.fault ≡ None → has_end k ≡ true → ((whole : List ℕ) → reached whole items ≡ (Ok b, g)) → Shows v.parser b g → TakesToken v k w
     → Behind w.fault w (items ++ item_of k v.lexer ∷ [])
-token_behind v w k items b g n e r s t = go (spec.step stated_limits OneSet b.place b (token_of k v.lexer.text)) refl (token_shown v w k b g n s t)
+token_behind v w k items b g n e r s t = go (spec.step stated_limits stated_form b.place b (token_of k v.lexer.text)) refl (token_shown v w k b g n s t)
   where
     more : (whole : List ℕ) → reached whole (items ++ item_of k v.lexer ∷ []) ≡ reach whole (Ok b, g) (item_of k v.lexer)
     more whole = reached_more whole items (item_of k v.lexer) ∙ ap (λ x. reach whole x (item_of k v.lexer)) (r whole)
 
-    go : (S : Step) → spec.step stated_limits OneSet b.place b (token_of k v.lexer.text) ≡ S → TokenShown S (came_at b.place b (token_of k v.lexer.text) g) v k w → Behind w.fault w (items ++ item_of k v.lexer ∷ [])
+    go : (S : Step) → spec.step stated_limits stated_form b.place b (token_of k v.lexer.text) ≡ S → TokenShown S (came_at b.place b (token_of k v.lexer.text) g) v k w → Behind w.fault w (items ++ item_of k v.lexer ∷ [])
     go (Ok c) q a =
         subst (λ o. Behind o w (items ++ item_of k v.lexer ∷ [])) (sym a.0)
-        (c, came_at b.place b (token_of k v.lexer.text) g, (λ whole. more whole ∙ ap (λ S. (with_line stated_limits OneSet whole b.place (item_of k v.lexer) S, came_at b.place b (token_of k v.lexer.text) g)) q), a.1)
+        (c, came_at b.place b (token_of k v.lexer.text) g, (λ whole. more whole ∙ ap (λ S. (with_line stated_limits stated_form whole b.place (item_of k v.lexer) S, came_at b.place b (token_of k v.lexer.text) g)) q), a.1)
     go (Err j) q (m, f, d) =
         subst (λ o. Behind o w (items ++ item_of k v.lexer ∷ [])) (sym f) (λ whole.
         sym (first_reached whole (items ++ item_of k v.lexer ∷ []) (Ok before_all, came_none))
-        ∙ ap (λ (x : Reached). x.0) (more whole ∙ ap (λ S. (with_line stated_limits OneSet whole b.place (item_of k v.lexer) S, came_at b.place b (token_of k v.lexer.text) g)) q)
+        ∙ ap (λ (x : Reached). x.0) (more whole ∙ ap (λ S. (with_line stated_limits stated_form whole b.place (item_of k v.lexer) S, came_at b.place b (token_of k v.lexer.text) g)) q)
         ∙ ap (λ l. Err (record { kind = j; line = l })) (spec_line b.place k v.lexer.text v.lexer.start (last_line whole) e ∙ sym (plain_line v.parser.place k v.lexer.start v.line e))
         ∙ ap (λ i. Err (record { kind = i; line = fault_line v.parser.place k v.lexer.start v.line })) (sym d))
 

@@ -11,12 +11,13 @@ use Rattle.ltl_spec.specs.Automata.Automaton.{Edge}
 use Rattle.ltl_spec.specs.Transitions.Cubes.{Cube}
 use Rattle.ltl_spec.specs.Tools.Limits.{stated_limits}
 use Rattle.ltl_spec.specs.Hoa.HoaLabel.{label_cubes, is_grouped, has_names_below}
-use Rattle.ltl_spec.specs.Hoa.HoaReading.{AcceptanceForm, OneSet, WrittenEdge, WrittenState, HoaDocument, cube_edges, state_edges, edges_at, MarkedAutomaton, are_sets, is_edge_inside, is_state_inside, IsDocumentOf, HoaReadsWithin}
+use Rattle.ltl_spec.specs.Hoa.HoaReading.{AcceptanceForm, stated_form, WrittenEdge, WrittenState, HoaDocument, cube_edges, state_edges, edges_at, MarkedAutomaton, are_sets, is_edge_inside, is_state_inside, IsDocumentOf, HoaReadsWithin}
 use Rattle.ltl_spec.proofs.Collections.CaseLaws.{left_true, right_true}
 use Rattle.ltl_spec.proofs.Collections.ListLaws.{All-from_has}
 use Rattle.ltl_spec.proofs.Collections.SetLaws.{filter_cases}
 use Rattle.ltl_spec.proofs.Collections.MemberLaws.{map_cases, flat_map_cases, all_Decides}
 use Rattle.ltl_spec.proofs.Checking.DocumentLaws.{document_proper}
+use Rattle.ltl_hoa.specs.declared.marked.TheConstants.{MOST_SETS}
 use Rattle.ltl_hoa.specs.MarkedView.{IsMarked, IsEdgeWithin}
 
 -- ---- the edges of all states are no more than those that are written
@@ -126,15 +127,15 @@ module _ (form : AcceptanceForm) (A : MarkedAutomaton) (d : HoaDocument) (f : Is
 
 -- ---- all
 
-few_sets : (n : ℕ) → (n == 1) ≡ true → n ≤ 64
+few_sets : (n : ℕ) → (n == 1) ≡ true → n ≤ MOST_SETS
 few_sets n e = let one : n ≡ 1 = eqb-true n 1 e in omega (arith, one)
 
-pub read_marked : (text : List ℕ) (A : MarkedAutomaton) → HoaReadsWithin stated_limits OneSet text A → IsMarked A
+pub read_marked : (text : List ℕ) (A : MarkedAutomaton) → HoaReadsWithin stated_limits stated_form text A → IsMarked A
 read_marked text A r =
     let d = r.0.document in
     let f = r.0.describes in
     let w = r.1 in
-    let proper = document_proper OneSet A d f in
+    let proper = document_proper stated_form A d f in
     record {
       counted = ap length f.edges ∙ length-map-range_with_len (edges_at d) 0 A.states;
       few_states = w.states;
@@ -145,13 +146,13 @@ read_marked text A r =
       differ = f.differ;
       within = All-from_has (λ es. All (IsEdgeWithin (length A.names) A.states A.sets) es) A.edges (λ es h. All-from_has (IsEdgeWithin (length A.names) A.states A.sets) es (λ e m. record {
         cube = All-from_has (λ l. l.proposition < length A.names) e.cube (λ l o. proper.propositions es e h m l o);
-        target = target_inside OneSet A d f es e h m;
+        target = target_inside stated_form A d f es e h m;
         marks = All-from_has (λ k. k < A.sets) e.marks (λ k o. proper.marks es e h m k o);
       }));
       few_edges =
           let same = ap (sum_by length) f.edges ∙ sum_mapped (edges_at d) (range_with_len 0 A.states) in
           let count = edges_counted d.states 0 A.states in
-          at_most _ _ _ 1_048_576 same count w.edges;
+          at_most _ _ _ stated_limits.hoa_edges same count w.edges;
     }
   where
     at_most : (a b c n : ℕ) → a ≡ b → b ≤ c → c ≤ n → a ≤ n

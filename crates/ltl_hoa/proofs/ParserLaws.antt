@@ -11,10 +11,11 @@ use Rattle.ltl_spec.specs.Tools.Limits.{stated_limits}
 use Rattle.ltl_spec.specs.Hoa.HoaToken as token
 use Rattle.ltl_spec.specs.Hoa.HoaToken.{HoaToken}
 use Rattle.ltl_spec.specs.Hoa.HoaLabel.{BracketLabel}
-use Rattle.ltl_spec.specs.Hoa.HoaReading.{OneSet}
+use Rattle.ltl_spec.specs.Hoa.HoaReading.{stated_form}
 use Rattle.ltl_spec.specs.Hoa.HoaFaultKind.{ItemMissing, NumberOutOfRange}
 use Rattle.ltl_spec.specs.Hoa.HoaFault as spec
 use Rattle.ltl_spec.specs.Hoa.HoaFault.{Before, HoaHeader, Step, LabelPart, LabelParts, whole, with_operand}
+use Rattle.ltl_hoa.specs.declared.marked.TheConstants.{MOST_SETS}
 use Rattle.ltl_hoa.specs.declared.fault.Stop.{Stop}
 use Rattle.ltl_hoa.specs.declared.fault.Stop.TheVariants.{Fault, OutOfMemory}
 use Rattle.ltl_hoa.specs.declared.header.Counts.{Counts}
@@ -63,8 +64,8 @@ replicate_get (suc n) (suc k) d = replicate_get n k d
 replicate_length : {T : Type 0} (n : ℕ) (d : T) → length (replicate n d) ≡ n
 replicate_length n d = length-replicate n d
 
-new_shows : (c : Counts) (b : Before) (g : Came) (names : List Name) → IsBegun b g → b.header.states ≡ Some c.states → c.states ≤ 65_536 → b.header.sets ≡ Some c.sets → b.header.names ≡ Some names → c.names ≡ length names
-    → c.names ≤ 64 → c.sets ≤ 64 → 0 < c.states → ShowsBody (new_body c) spec.AtState (record b { place = spec.InBody spec.AtState }) g
+new_shows : (c : Counts) (b : Before) (g : Came) (names : List Name) → IsBegun b g → b.header.states ≡ Some c.states → c.states ≤ stated_limits.hoa_states → b.header.sets ≡ Some c.sets → b.header.names ≡ Some names → c.names ≡ length names
+    → c.names ≤ stated_limits.propositions → c.sets ≤ MOST_SETS → 0 < c.states → ShowsBody (new_body c) spec.AtState (record b { place = spec.InBody spec.AtState }) g
 new_shows c b g names begun st few se na le fn fs some = record {
   states = st;
   few_states = few;
@@ -92,7 +93,7 @@ begin_shown v w b g r sh begun k =
     missing (Ok u) m = m
     missing (Err stop) m = m
 
-    present : (states start : ℕ) (names : List Name) (sets : ℕ) → b.header.states ≡ Some states → b.header.names ≡ Some names → b.header.sets ≡ Some sets → states ≤ 65_536
+    present : (states start : ℕ) (names : List Name) (sets : ℕ) → b.header.states ≡ Some states → b.header.names ≡ Some names → b.header.sets ≡ Some sets → states ≤ stated_limits.hoa_states
         → (c : Bool) → nat_lt start states ≡ c → (x : Result (Unit {0}) Stop)
         → Begins (if c then Ok (record { states = states; names = length names; sets = sets }) else Err NumberOutOfRange) v x w
         → StepShown (if c then spec.in_body b spec.AtState else Err NumberOutOfRange) g x w
@@ -111,8 +112,8 @@ begin_shown v w b g r sh begun k =
         → Begins (header.counted s (option_map capped t) n e) v r w
         → StepShown (if not (is_some s && is_some t && is_some n && is_some e) then Err ItemMissing else spec.if_below (unwrap_or t 0) s (spec.in_body b spec.AtState)) g r w
     go (Some s) (Some t) (Some n) (Some e) p1 p2 p3 p4 m =
-        let few : s ≤ 65_536 = subst (λ o. unwrap_or o 0 ≤ 65_536) p1 sh.few_states in
-        let wide : s ≤ 1_048_576 = omega (arith, few) in
+        let few : s ≤ stated_limits.hoa_states = subst (λ o. unwrap_or o 0 ≤ stated_limits.hoa_states) p1 sh.few_states in
+        let wide : s ≤ stated_limits.hoa_edges = omega (arith, few) in
         present s t n e p1 p3 p4 few (nat_lt t s) refl r (subst (λ c. Begins (if c then Ok (record { states = s; names = length n; sets = e }) else Err NumberOutOfRange) v r w) (capped_under t s wide) m)
     go None t n e p1 p2 p3 p4 m = missing r m
     go (Some s) None n e p1 p2 p3 p4 m = missing r m
@@ -228,7 +229,7 @@ in_body_shown p q v w b g t r own e sh l s k = go w.body refl k.0 r refl
         ended (Err j) a = a
 
 places : (q : Place) (pl : spec.Place) (v w : ParserView) (b : Before) (g : Came) (t : HoaToken) (r : Result (Unit {0}) Stop) → b.place ≡ pl → ShowsHeader v.header b.header → ShowsPlace q v pl b g
-    → TakesAt q v t r w → StepShown (spec.step stated_limits OneSet pl b t) (came_at pl b t g) r w
+    → TakesAt q v t r w → StepShown (spec.step stated_limits stated_form pl b t) (came_at pl b t g) r w
 places place.Format spec.AtFormat v w b g t r e sh s k = by_header _ _ g v w t r place.Format refl (format v.header b g sh s t) k
 places place.Version spec.AtVersion v w b g t r e sh s k = by_header _ _ g v w t r place.Version refl (version v.header b g sh s t) k
 places (place.Item i) (spec.AtItem j) v w b g token.Body r e sh s k = begin_shown v w b g r sh s.0 k
@@ -247,5 +248,5 @@ places q pl v w b g t r e sh s k = absurd s
 
 -- the parser's answer is that of the definition's step
 pub parser_takes : (v w : ParserView) (b : Before) (g : Came) (t : HoaToken) (r : Result (Unit {0}) Stop) → Shows v b g → Takes v t r w
-    → StepShown (spec.step stated_limits OneSet b.place b t) (came_at b.place b t g) r w
+    → StepShown (spec.step stated_limits stated_form b.place b t) (came_at b.place b t g) r w
 parser_takes v w b g t r s k = places v.place b.place v w b g t r refl s.header s.place k

@@ -6,6 +6,7 @@ use Rattle.std.specs.declared.cmp.Ordering.{Ordering}
 use Rattle.std.specs.declared.cmp.Ordering.TheVariants.{Less}
 use Rattle.std.proofs.lemmas.Bool.Decides.{nat_tests}
 use Rattle.std.proofs.lemmas.List.{append-nil}
+use Rattle.ltl_spec.specs.Tools.Limits.{stated_limits}
 use Rattle.ltl_spec.specs.Collections.Sets.{Has, IsRising, by_order, put, set_of, union}
 use Rattle.ltl_spec.specs.Transitions.Cubes.{Literal, literal_cmp, Cube, cube_cmp, is_contradictory, join_cubes}
 use Rattle.ltl_spec.specs.NormalForms.Normal.{Normal, Leaf, And}
@@ -37,7 +38,7 @@ union_in_row cmp (x ∷ xs) ys r = ap (put cmp x) (union_in_row cmp xs ys r.1) �
 -- a label with one cube, and no part with more
 record HasOneCube (N : Normal) (c : Cube) : Type 0 where
   one : cubes N ≡ c ∷ []
-  narrow : list_any (λ part. nat_lt 4_096 (length (cubes part))) (postorder N) ≡ false
+  narrow : list_any (λ part. nat_lt stated_limits.label_cubes (length (cubes part))) (postorder N) ≡ false
 
 any_both : {K : Type 0} (p : K → Bool) (xs ys : List K) → list_any p xs ≡ false → list_any p ys ≡ false → list_any p (xs ++ ys) ≡ false
 any_both p [] ys e f = f
@@ -58,7 +59,7 @@ one_more N c l h r n =
     record {
       one = both;
       narrow = any_both _ (postorder N ++ Leaf l ∷ []) (And N (Leaf l) ∷ []) (any_both _ (postorder N) (Leaf l ∷ []) h.narrow refl)
-          (ap (λ cs. nat_lt 4_096 (length cs) || false) both);
+          (ap (λ cs. nat_lt stated_limits.label_cubes (length cs) || false) both);
     }
 
 literal_normal : (l : Literal) → label_normal (literal_label l) ≡ Leaf l
@@ -90,7 +91,7 @@ pub printed_cubes : (c : Cube) → IsRising literal_cmp c → is_contradictory c
 printed_cubes c r n = (cube_one c r n).one
 
 -- and isn't wide
-pub printed_narrow : (c : Cube) → IsRising literal_cmp c → is_contradictory c ≡ false → is_wide 4_096 (cube_label c) ≡ false
+pub printed_narrow : (c : Cube) → IsRising literal_cmp c → is_contradictory c ≡ false → is_wide stated_limits.label_cubes (cube_label c) ≡ false
 printed_narrow c r n = (cube_one c r n).narrow
 
 -- it needs no brackets

@@ -19,12 +19,12 @@ use Rattle.ltl_spec.specs.Automata.HoaText.{quoted, state_lines, names_line, hoa
 use Rattle.ltl_spec.specs.Tools.Limits.{stated_limits}
 use Rattle.ltl_spec.specs.Hoa.HoaToken.{HoaToken, StringToken, Identifier, Header, Int, Body, End, OpenBracket, CloseBracket, hoa_tokens}
 use Rattle.ltl_spec.specs.Hoa.HoaLabel.{is_wide}
-use Rattle.ltl_spec.specs.Hoa.HoaReading.{OneSet, StatesItem, StartItem, SetsItem, NamesItem, OtherItem, WrittenEdge, WrittenState, HoaDocument, document_tokens, state_tokens, header_item_tokens, MarkedAutomaton, cube_edges, state_edges, edges_at, is_edge_inside, is_state_inside, are_sets, HoaReadsWithin}
+use Rattle.ltl_spec.specs.Hoa.HoaReading.{stated_form, StatesItem, StartItem, SetsItem, NamesItem, OtherItem, WrittenEdge, WrittenState, HoaDocument, document_tokens, state_tokens, header_item_tokens, MarkedAutomaton, cube_edges, state_edges, edges_at, is_edge_inside, is_state_inside, are_sets, HoaReadsWithin}
 use Rattle.ltl_spec.proofs.Hoa.HoaLaws.{reads_without_fault}
 use Rattle.ltl_spec.proofs.Hoa.HoaUniqueLaws.{one_automaton}
 use Rattle.ltl_hoa.specs.declared.fault.HoaFault.{HoaFault}
 use Rattle.ltl_hoa.specs.declared.fault.HoaFault.TheVariants.{AtLine, CannotRead, OutOfMemory}
-use Rattle.ltl_hoa.specs.Reading.{Answers}
+use Rattle.ltl_hoa.specs.Reading.{Answers, IsOfText, RefusesText}
 use Rattle.ltl_spec.proofs.Collections.ListLaws.{Has-at, All-at_has}
 use Rattle.ltl_spec.proofs.Collections.MemberLaws.{all_Decides, all_append, all_weaker, map_cases, map_length}
 use Rattle.ltl_spec.proofs.Collections.CaseLaws.{left_true, right_true}
@@ -199,10 +199,10 @@ module _ (B : Automaton) (F : Reading) (p : IsPrinted B F) where
   small_of k n m a b c = omega (arith, a, b, c)
 
   few_named : (k : ℕ) → k < length F.names → k < 2 ^ 64
-  few_named k l = small_of k (length F.names) 64 l p.few_names (omega arith)
+  few_named k l = small_of k (length F.names) stated_limits.propositions l p.few_names (omega arith)
 
   few_numbered : (k : ℕ) → k < length B.states → k < 2 ^ 64
-  few_numbered k l = small_of k (length B.states) 65_536 l p.few_states (omega arith)
+  few_numbered k l = small_of k (length B.states) stated_limits.hoa_states l p.few_states (omega arith)
 
   edge_small : (s : State) → Has B.states s → (e : Edge) → Has s.edges e → SmallEdge e
   edge_small s h e m =
@@ -239,11 +239,11 @@ module _ (B : Automaton) (F : Reading) (p : IsPrinted B F) where
     (
       name_line (canonical_text F) (formula_clean F.names p.propositions F.formula),
       (
-        states_line (length B.states) (small_length (length B.states) 65_536 p.few_states (omega arith)),
+        states_line (length B.states) (small_length (length B.states) stated_limits.hoa_states p.few_states (omega arith)),
         (
           start_line,
           (
-            names_spelled F.names (small_length (length F.names) 64 p.few_names (omega arith)) (name_clean F.names p.propositions),
+            names_spelled F.names (small_length (length F.names) stated_limits.propositions p.few_names (omega arith)) (name_clean F.names p.propositions),
             (acceptance_name_line, (acceptance_line, (properties_line, (body_line, (states_spelled, (end_line, tt)))))),
           ),
         ),
@@ -374,16 +374,16 @@ module _ (B : Automaton) (F : Reading) (p : IsPrinted B F) where
           ap (is_state_inside (marked_of B F.names)) q
           ∙ (λ i. small_test k (length B.states) (numbered k h) i && sets_inside (state_at B k).accepting i && edges_inside (state_at B k) (state_has k h) i)
 
-  labels_narrow : list_all (λ s. list_all (λ e. not (is_wide 4_096 e.label)) s.edges) document.states ≡ true
-  labels_narrow = (all_Decides (λ s. list_all (λ e. not (is_wide 4_096 e.label)) s.edges) document.states).1 (λ w m. go w (map_cases (written_state B) (range_with_len 0 (length B.states)) w m))
+  labels_narrow : list_all (λ s. list_all (λ e. not (is_wide stated_limits.label_cubes e.label)) s.edges) document.states ≡ true
+  labels_narrow = (all_Decides (λ s. list_all (λ e. not (is_wide stated_limits.label_cubes e.label)) s.edges) document.states).1 (λ w m. go w (map_cases (written_state B) (range_with_len 0 (length B.states)) w m))
     where
-      one : (s : State) → Has B.states s → (w : WrittenEdge) → (e : Edge) × Has s.edges e × (w ≡ written_edge e) → not (is_wide 4_096 w.label) ≡ true
-      one s h w (e, m, q) = let f = edge_fine s h e m in ap (λ v. not (is_wide 4_096 v.label)) q ∙ ap not (printed_narrow e.cube f.rising f.consistent)
+      one : (s : State) → Has B.states s → (w : WrittenEdge) → (e : Edge) × Has s.edges e × (w ≡ written_edge e) → not (is_wide stated_limits.label_cubes w.label) ≡ true
+      one s h w (e, m, q) = let f = edge_fine s h e m in ap (λ v. not (is_wide stated_limits.label_cubes v.label)) q ∙ ap not (printed_narrow e.cube f.rising f.consistent)
 
-      go : (w : WrittenState) → (k : ℕ) × Has (range_with_len 0 (length B.states)) k × (w ≡ written_state B k) → list_all (λ e. not (is_wide 4_096 e.label)) w.edges ≡ true
+      go : (w : WrittenState) → (k : ℕ) × Has (range_with_len 0 (length B.states)) k × (w ≡ written_state B k) → list_all (λ e. not (is_wide stated_limits.label_cubes e.label)) w.edges ≡ true
       go w (k, h, q) =
-          ap (λ v. list_all (λ e. not (is_wide 4_096 e.label)) v.edges) q
-          ∙ (all_Decides (λ e. not (is_wide 4_096 e.label)) (map written_edge (state_at B k).edges)).1 (λ v m. one (state_at B k) (state_has k h) v (map_cases written_edge (state_at B k).edges v m))
+          ap (λ v. list_all (λ e. not (is_wide stated_limits.label_cubes e.label)) v.edges) q
+          ∙ (all_Decides (λ e. not (is_wide stated_limits.label_cubes e.label)) (map written_edge (state_at B k).edges)).1 (λ v m. one (state_at B k) (state_has k h) v (map_cases written_edge (state_at B k).edges v m))
 
   same_length : (s : State) → length (map (marked_edge s.accepting) s.edges) ≡ length s.edges
   same_length s = map_length (marked_edge s.accepting) s.edges
@@ -395,7 +395,7 @@ module _ (B : Automaton) (F : Reading) (p : IsPrinted B F) where
       ∙ ap (sum_by (λ s. length s.edges)) all_states
 
   -- the printed text reads as the automaton
-  pub printed_reads : length (hoa_text B F) ≤ 16_777_216 → HoaReadsWithin stated_limits OneSet (hoa_text B F) (marked_of B F.names)
+  pub printed_reads : length (hoa_text B F) ≤ stated_limits.hoa_bytes → HoaReadsWithin stated_limits stated_form (hoa_text B F) (marked_of B F.names)
   printed_reads few = (
     record {
       document = document;
@@ -420,7 +420,7 @@ module _ (B : Automaton) (F : Reading) (p : IsPrinted B F) where
       states = p.few_states;
       names = p.few_names;
       labels = labels_narrow;
-      edges = subst (λ n. n ≤ 1_048_576) (sym edge_count) p.few_edges;
+      edges = subst (λ n. n ≤ stated_limits.hoa_edges) (sym edge_count) p.few_edges;
     },
   )
     where
@@ -428,12 +428,16 @@ module _ (B : Automaton) (F : Reading) (p : IsPrinted B F) where
       map_id [] = refl
       map_id (k ∷ ks) = ap (λ js. k ∷ js) (map_id ks)
 
--- what is answered to the printed text
-pub answered_back : (B : Automaton) (F : Reading) (answer : Result MarkedAutomaton HoaFault) → IsPrinted B F → length (hoa_text B F) ≤ 16_777_216 → Answers (hoa_text B F) answer → IsReadBack B F answer
-answered_back B F (Ok A) p l a = one_automaton OneSet (hoa_text B F) A (marked_of B F.names) a.0 (printed_reads B F p l).0
-answered_back B F (Err (AtLine n k)) p l a = λ _. no_fault (sym (reads_without_fault stated_limits OneSet (hoa_text B F) (marked_of B F.names) (printed_reads B F p l)) ∙ a)
+-- what reads as an automaton isn't refused for a fault of its own
+pub answered_alone : (text : List ℕ) (A : MarkedAutomaton) (fault : HoaFault) → HoaReadsWithin stated_limits stated_form text A → RefusesText text fault → ¬ (IsOfText fault)
+answered_alone text A (AtLine n k) r a = λ _. no_fault (sym (reads_without_fault stated_limits stated_form text A r) ∙ a)
   where
     no_fault : {X : Type 0} {x : X} → None ≡ Some x → ⊥
     no_fault e = cc
-answered_back B F (Err CannotRead) p l a = λ e. e
-answered_back B F (Err OutOfMemory) p l a = λ e. e
+answered_alone text A CannotRead r a = λ e. e
+answered_alone text A OutOfMemory r a = λ e. e
+
+-- what is answered to the printed text
+pub answered_back : (B : Automaton) (F : Reading) (answer : Result MarkedAutomaton HoaFault) → IsPrinted B F → length (hoa_text B F) ≤ stated_limits.hoa_bytes → Answers (hoa_text B F) answer → IsReadBack B F answer
+answered_back B F (Ok A) p l a = one_automaton stated_form (hoa_text B F) A (marked_of B F.names) a.0 (printed_reads B F p l).0
+answered_back B F (Err fault) p l a = answered_alone (hoa_text B F) (marked_of B F.names) fault (printed_reads B F p l) a

@@ -10,7 +10,7 @@ use Rattle.ltl_spec.specs.Formulas.Names.{is_proposition}
 use Rattle.ltl_spec.specs.Tools.Limits.{stated_limits}
 use Rattle.ltl_spec.specs.Hoa.HoaToken as token
 use Rattle.ltl_spec.specs.Hoa.HoaToken.{HoaToken}
-use Rattle.ltl_spec.specs.Hoa.HoaReading.{OneSet, begins_upper, acceptance_tokens}
+use Rattle.ltl_spec.specs.Hoa.HoaReading.{stated_form, begins_upper, acceptance_tokens}
 use Rattle.ltl_spec.specs.Hoa.HoaFaultKind.{HoaFaultKind, UnknownItem, Unsupported, BadPropositionList, LimitPassed}
 use Rattle.ltl_spec.specs.Hoa.HoaFault as spec
 use Rattle.ltl_spec.specs.Hoa.HoaFault.{Before, HoaHeader, Step, go_to}
@@ -42,19 +42,19 @@ if_agrees false x x' y y' g a n = n
 pub capped_small : (n : ℕ) → n ≤ 4_294_967_295 → capped n ≡ n
 capped_small n l = omega (arith, l)
 
-pub capped_over : (m n : ℕ) → m ≤ 1_048_576 → nat_lt m (capped n) ≡ nat_lt m n
+pub capped_over : (m n : ℕ) → m ≤ stated_limits.hoa_edges → nat_lt m (capped n) ≡ nat_lt m n
 capped_over m n l = grind (arith, nat_tests, l)
 
-pub capped_under : (n m : ℕ) → m ≤ 1_048_576 → nat_lt (capped n) m ≡ nat_lt n m
+pub capped_under : (n m : ℕ) → m ≤ stated_limits.hoa_edges → nat_lt (capped n) m ≡ nat_lt n m
 capped_under n m l = grind (arith, nat_tests, l)
 
-pub capped_same : (n m : ℕ) → m ≤ 1_048_576 → (capped n == m) ≡ (n == m)
+pub capped_same : (n m : ℕ) → m ≤ stated_limits.hoa_edges → (capped n == m) ≡ (n == m)
 capped_same n m l = grind (arith, nat_tests, l)
 
-pub small_of : (m n : ℕ) → m ≤ 1_048_576 → nat_lt m n ≡ false → capped n ≡ n
+pub small_of : (m n : ℕ) → m ≤ stated_limits.hoa_edges → nat_lt m n ≡ false → capped n ≡ n
 small_of m n l e = grind (arith, nat_tests, l, e)
 
-pub below_small : (n m : ℕ) → m ≤ 1_048_576 → nat_lt n m ≡ true → capped n ≡ n
+pub below_small : (n m : ℕ) → m ≤ stated_limits.hoa_edges → nat_lt n m ≡ true → capped n ≡ n
 below_small n m l e = grind (arith, nat_tests, l, e)
 
 same_turned : (s t : List ℕ) → same_name s t ≡ same_name t s
@@ -128,21 +128,21 @@ module _ (h : HeaderView) (b : Before) (g : Came) (sh : ShowsHeader h b.header) 
   in_items i j t s n = goes_on i j t s
 
   pub states : (t : HoaToken) → Agrees (view.at_states h t) (spec.at_states stated_limits b t) g
-  states (token.Int n) = go (nat_lt 65_536 n) refl
+  states (token.Int n) = go (nat_lt stated_limits.hoa_states n) refl
     where
-      go : (c : Bool) → nat_lt 65_536 n ≡ c
-          → Agrees (if nat_lt 65_536 (capped n) then Err LimitPassed else Ok (place.Item item.Plain, record h { states = Some (capped n) }))
+      go : (c : Bool) → nat_lt stated_limits.hoa_states n ≡ c
+          → Agrees (if nat_lt stated_limits.hoa_states (capped n) then Err LimitPassed else Ok (place.Item item.Plain, record h { states = Some (capped n) }))
           (if c then Err LimitPassed else Ok (record b { place = spec.AtItem spec.PlainItem; header = record b.header { states = Some n } })) g
-      go true e = subst (λ x. Agrees (if x then Err LimitPassed else Ok (place.Item item.Plain, record h { states = Some (capped n) })) (Err LimitPassed) g) (sym (capped_over 65_536 n (omega arith) ∙ e)) refl
+      go true e = subst (λ x. Agrees (if x then Err LimitPassed else Ok (place.Item item.Plain, record h { states = Some (capped n) })) (Err LimitPassed) g) (sym (capped_over stated_limits.hoa_states n (omega arith) ∙ e)) refl
       go false e =
           subst (λ x. Agrees (if x then Err LimitPassed else Ok (place.Item item.Plain, record h { states = Some (capped n) }))
-          (Ok (record b { place = spec.AtItem spec.PlainItem; header = record b.header { states = Some n } })) g) (sym (capped_over 65_536 n (omega arith) ∙ e))
+          (Ok (record b { place = spec.AtItem spec.PlainItem; header = record b.header { states = Some n } })) g) (sym (capped_over stated_limits.hoa_states n (omega arith) ∙ e))
           (λ body. record {
-            header = record { states = ap Some (small_of 65_536 n (omega arith) e); few_states = few n e; start = sh.start; names = sh.names; sets = sh.sets };
+            header = record { states = ap Some (small_of stated_limits.hoa_states n (omega arith) e); few_states = few n e; start = sh.start; names = sh.names; sets = sh.sets };
             place = (begun, tt);
           })
         where
-          few : (m : ℕ) → nat_lt 65_536 m ≡ false → m ≤ 65_536
+          few : (m : ℕ) → nat_lt stated_limits.hoa_states m ≡ false → m ≤ stated_limits.hoa_states
           few m q = grind (arith, nat_tests, q)
   states t = refl
 
@@ -162,14 +162,14 @@ module _ (h : HeaderView) (b : Before) (g : Came) (sh : ShowsHeader h b.header) 
       go false q = λ body. record { header = record { states = sh.states; few_states = sh.few_states; start = sh.start; names = refl; sets = sh.sets }; place = (begun, refl, q, (names, refl)) }
 
   pub count : (t : HoaToken) → Agrees (view.at_count h t) (spec.at_count stated_limits b t) g
-  count (token.Int n) = go (nat_lt 64 n) refl
+  count (token.Int n) = go (nat_lt stated_limits.propositions n) refl
     where
-      go : (c : Bool) → nat_lt 64 n ≡ c
-          → Agrees (if nat_lt 64 (capped n) then Err LimitPassed else Ok (view.after_name (capped n), record h { names = Some []; left = capped n })) (if c then Err LimitPassed else spec.with_names b [] n) g
-      go true e = subst (λ x. Agrees (if x then Err LimitPassed else Ok (view.after_name (capped n), record h { names = Some []; left = capped n })) (Err LimitPassed) g) (sym (capped_over 64 n (omega arith) ∙ e)) refl
+      go : (c : Bool) → nat_lt stated_limits.propositions n ≡ c
+          → Agrees (if nat_lt stated_limits.propositions (capped n) then Err LimitPassed else Ok (view.after_name (capped n), record h { names = Some []; left = capped n })) (if c then Err LimitPassed else spec.with_names b [] n) g
+      go true e = subst (λ x. Agrees (if x then Err LimitPassed else Ok (view.after_name (capped n), record h { names = Some []; left = capped n })) (Err LimitPassed) g) (sym (capped_over stated_limits.propositions n (omega arith) ∙ e)) refl
       go false e =
           subst (λ x. Agrees (if x then Err LimitPassed else Ok (view.after_name (capped n), record h { names = Some []; left = capped n })) (spec.with_names b [] n) g)
-          (sym (capped_over 64 n (omega arith) ∙ e)) (listed [] (capped n) n (small_of 64 n (omega arith) e))
+          (sym (capped_over stated_limits.propositions n (omega arith) ∙ e)) (listed [] (capped n) n (small_of stated_limits.propositions n (omega arith) e))
   count t = refl
 
   pub names : (left : ℕ) (t : HoaToken) → h.left ≡ left → (left == 0) ≡ false → (ns : List Name) → h.names ≡ Some ns → Agrees (view.at_names h t) (spec.at_names b left t) g
@@ -187,7 +187,7 @@ module _ (h : HeaderView) (b : Before) (g : Came) (sh : ShowsHeader h b.header) 
           (sym (ap (λ k. k == 0) e ∙ z)) (listed (ns ++ name ∷ []) (h.left - 1) (left - 1) (ap (λ k. k - 1) e))
   names left t e z ns q = broken t BadPropositionList g
 
-  pub sets : (t : HoaToken) → Agrees (view.at_sets h t) (spec.at_sets OneSet b t) g
+  pub sets : (t : HoaToken) → Agrees (view.at_sets h t) (spec.at_sets stated_form b t) g
   sets (token.Int n) = go (n == 1) refl
     where
       go : (c : Bool) → (n == 1) ≡ c

@@ -1,13 +1,13 @@
 -- What was read of a stream, and what it says of the whole text.
 use Rattle.std.proofs.Common.{◌≡◌, ℕ, suc, ◌+◌, ◌<◌, ◌≤◌, List, [], ◌∷◌, ◌++◌, length, Option, Some, None, refl, sym, ◌∙◌, ap, subst, arith, append_assoc, take, length-append, length-take, min}
 use Rattle.std.specs.Prelude.{Result, if◌then◌else◌, fold, Ok, Err, MatchResult}
-use Rattle.std.specs.Io.KnownBytes.{Consumes, IsAtEnd}
+use Rattle.std.specs.Io.KnownBytes.{Consumes, IsAtEnd, Keeps}
 use Rattle.std.proofs.Math.Seq.{take-append_seam}
 use Rattle.std.proofs.lemmas.Bool.{lt-ltb}
 use Rattle.std.proofs.lemmas.List.{append-nil, take_all, take-append-le}
 use Rattle.ltl_spec.specs.Tools.Limits.{stated_limits}
 use Rattle.ltl_spec.specs.Hoa.HoaToken.{hoa_items, last_line}
-use Rattle.ltl_spec.specs.Hoa.HoaReading.{OneSet, MarkedAutomaton}
+use Rattle.ltl_spec.specs.Hoa.HoaReading.{stated_form, MarkedAutomaton}
 use Rattle.ltl_spec.specs.Hoa.HoaFaultKind.{LimitPassed}
 use Rattle.ltl_spec.specs.Hoa.HoaFault.{before_all, take_item, fault_after, fault_at, hoa_fault}
 use Rattle.ltl_hoa.specs.declared.fault.HoaFault.{HoaFault}
@@ -15,7 +15,7 @@ use Rattle.ltl_hoa.specs.declared.fault.HoaFault.TheVariants.{AtLine, CannotRead
 use Rattle.ltl_hoa.specs.declared.fault.HoaFaultKind.TheVariants as made
 use Rattle.ltl_hoa.specs.MachineView.{MachineView, new_machine}
 use Rattle.ltl_hoa.specs.Shown.{came_none}
-use Rattle.ltl_hoa.specs.Reading.{Answers, AnswersHeld, IsAfter, IsOfText, TakesText}
+use Rattle.ltl_hoa.specs.Reading.{Answers, AnswersHeld, IsAfter, IsOfText, TakesText, TakesUpTo}
 
 pub consumes_trans : (o m n : Option (List ℕ)) (a b : List ℕ) → Consumes o m a → Consumes m n b → Consumes o n (a ++ b)
 consumes_trans None m n a b p q = tt
@@ -30,23 +30,23 @@ whole_answered (Some x) (Some y) bytes r p e a = (bytes, sym (p ∙ ap (λ w. by
 whole_answered (Some x) None bytes r p e a = absurd p
 
 -- a byte stands behind the limit
-pub past_limit : (bytes rest : List ℕ) (b : ℕ) → length bytes ≡ 16_777_216 → hoa_fault stated_limits OneSet (bytes ++ b ∷ rest) ≡ fault_at LimitPassed (last_line bytes)
+pub past_limit : (bytes rest : List ℕ) (b : ℕ) → length bytes ≡ stated_limits.hoa_bytes → hoa_fault stated_limits stated_form (bytes ++ b ∷ rest) ≡ fault_at LimitPassed (last_line bytes)
 past_limit bytes rest b l =
-    ap (λ t. if t then fault_at LimitPassed (last_line (take 16_777_216 text)) else fault_after stated_limits OneSet text (fold (take_item stated_limits OneSet text) (Ok before_all) (hoa_items text)))
-    (lt-ltb 16_777_216 (length text) more)
+    ap (λ t. if t then fault_at LimitPassed (last_line (take stated_limits.hoa_bytes text)) else fault_after stated_limits stated_form text (fold (take_item stated_limits stated_form text) (Ok before_all) (hoa_items text)))
+    (lt-ltb stated_limits.hoa_bytes (length text) more)
     ∙ ap (λ n. fault_at LimitPassed (last_line (take n text))) (sym l)
     ∙ ap (λ t. fault_at LimitPassed (last_line t)) (take-append_seam bytes (b ∷ rest))
   where
     text : List ℕ
     text = bytes ++ b ∷ rest
 
-    counted : (m n k : ℕ) → m ≡ n + k → n ≡ 16_777_216 → 0 < k → 16_777_216 < m
+    counted : (m n k : ℕ) → m ≡ n + k → n ≡ stated_limits.hoa_bytes → 0 < k → stated_limits.hoa_bytes < m
     counted m n k e f g = omega (arith, e, f, g)
 
     some : (ys : List ℕ) → 0 < length (b ∷ ys)
     some ys = omega arith
 
-    more : 16_777_216 < length text
+    more : stated_limits.hoa_bytes < length text
     more = counted (length text) (length bytes) (length (b ∷ rest)) (length-append bytes (b ∷ rest)) l (some rest)
 
 -- ---- the loop
@@ -110,26 +110,26 @@ pub read_failed : (o : Option (List ℕ)) → AnswersHeld o (Err CannotRead)
 read_failed o = no_answer o (Err CannotRead) (λ text. tt)
 
 -- all bytes were taken
-takes_all : (o n : Option (List ℕ)) (text : List ℕ) → length text ≤ 16_777_217 → Consumes o n text → IsAtEnd n → TakesText o n
+takes_all : (o n : Option (List ℕ)) (text : List ℕ) → length text ≤ (stated_limits.hoa_bytes + 1) → Consumes o n text → IsAtEnd n → TakesText o n
 takes_all None n text l c e = tt
 takes_all (Some x) (Some y) text l c e =
     let same : x ≡ text = c ∙ ap (λ w. text ++ w) e ∙ append-nil text in
     same ∙ sym (append-nil text) ∙ (λ i. taken i ++ sym e i)
   where
-    taken : text ≡ take 16_777_217 x
-    taken = sym (take_all 16_777_217 text l) ∙ ap (take 16_777_217) (sym (c ∙ ap (λ w. text ++ w) e ∙ append-nil text))
+    taken : text ≡ take (stated_limits.hoa_bytes + 1) x
+    taken = sym (take_all (stated_limits.hoa_bytes + 1) text l) ∙ ap (take (stated_limits.hoa_bytes + 1)) (sym (c ∙ ap (λ w. text ++ w) e ∙ append-nil text))
 takes_all (Some x) None text l c e = absurd c
 
 pub whatever : {P : Type 0} (r : Result MarkedAutomaton HoaFault) → P → MatchResult r (λ _. P) (λ fault. IsOfText fault → P)
 whatever (Ok A) p = p
 whatever (Err f) p = λ _. p
 
-pub end_taken : (o m n : Option (List ℕ)) (v : MachineView) (given k : ℕ) (buf : List ℕ) → HasRead o m v given → given ≤ 16_777_216 → k ≡ 0 → 0 < length buf
+pub end_taken : (o m n : Option (List ℕ)) (v : MachineView) (given k : ℕ) (buf : List ℕ) → HasRead o m v given → given ≤ stated_limits.hoa_bytes → k ≡ 0 → 0 < length buf
     → Consumes m n (take k buf) × (k ≡ 0 → 0 < length buf → IsAtEnd n) → TakesText o n
 end_taken o m n v given k buf (text, c, a, l) g z s (d, e) =
     takes_all o n text (few (length text) l) (subst (λ t. Consumes o n t) (append-nil text) (consumes_trans o m n text [] c (subst (λ j. Consumes m n (take j buf)) z d))) (e z s)
   where
-    few : (x : ℕ) → x ≡ given → x ≤ 16_777_217
+    few : (x : ℕ) → x ≡ given → x ≤ (stated_limits.hoa_bytes + 1)
     few x q = omega (arith, q, g)
 
 -- a byte was read behind the limit
@@ -147,32 +147,51 @@ one_byte k (b ∷ c ∷ buf) p l e = absurd (two (length buf) e)
     two : (n : ℕ) → suc (suc n) ≡ 1 → ⊥
     two n q = omega (arith, q)
 
-refused_past : (o n : Option (List ℕ)) (text : List ℕ) (b line : ℕ) → length text ≡ 16_777_216 → line ≡ last_line text → Consumes o n (text ++ b ∷ []) → AnswersHeld o (Err (AtLine line made.LimitPassed))
+refused_past : (o n : Option (List ℕ)) (text : List ℕ) (b line : ℕ) → length text ≡ stated_limits.hoa_bytes → line ≡ last_line text → Consumes o n (text ++ b ∷ []) → AnswersHeld o (Err (AtLine line made.LimitPassed))
 refused_past None n text b line l e c = (text ++ b ∷ [], tt, past_limit text [] b l ∙ ap (λ m. fault_at LimitPassed m) (sym e))
 refused_past (Some x) (Some y) text b line l e c = (
   x,
   refl,
-  ap (λ t. hoa_fault stated_limits OneSet t) (c ∙ append_assoc text (b ∷ []) y) ∙ past_limit text y b l ∙ ap (λ m. fault_at LimitPassed m) (sym e),
+  ap (λ t. hoa_fault stated_limits stated_form t) (c ∙ append_assoc text (b ∷ []) y) ∙ past_limit text y b l ∙ ap (λ m. fault_at LimitPassed m) (sym e),
 )
 refused_past (Some x) None text b line l e c = absurd c
 
-pub past_answered : (o m n : Option (List ℕ)) (v : MachineView) (given k line : ℕ) (buf : List ℕ) → HasRead o m v given → given ≡ 16_777_216 → 0 < k → k ≤ length buf → length buf ≡ 1 → line ≡ v.line
+pub past_answered : (o m n : Option (List ℕ)) (v : MachineView) (given k line : ℕ) (buf : List ℕ) → HasRead o m v given → given ≡ stated_limits.hoa_bytes → 0 < k → k ≤ length buf → length buf ≡ 1 → line ≡ v.line
     → Consumes m n (take k buf) → AnswersHeld o (Err (AtLine line made.LimitPassed))
 past_answered o m n v given k line buf (text, c, a, l) g p s e q d =
     let one = one_byte k buf p s e in
     refused_past o n text one.0 line (l ∙ g) (q ∙ a.line) (consumes_trans o m n text (one.0 ∷ []) c (subst (λ t. Consumes m n t) one.1 d))
 
-takes_past : (o n : Option (List ℕ)) (text : List ℕ) → length text ≡ 16_777_217 → Consumes o n text → TakesText o n
+takes_past : (o n : Option (List ℕ)) (text : List ℕ) → length text ≡ (stated_limits.hoa_bytes + 1) → Consumes o n text → TakesText o n
 takes_past None n text l c = tt
 takes_past (Some x) (Some y) text l c =
-    c ∙ ap (λ t. t ++ y) (sym (take-append_seam text y) ∙ ap (λ j. take j (text ++ y)) l ∙ ap (take 16_777_217) (sym c))
+    c ∙ ap (λ t. t ++ y) (sym (take-append_seam text y) ∙ ap (λ j. take j (text ++ y)) l ∙ ap (take (stated_limits.hoa_bytes + 1)) (sym c))
 takes_past (Some x) None text l c = absurd c
 
-pub past_taken : (o m n : Option (List ℕ)) (v : MachineView) (given k : ℕ) (buf : List ℕ) → HasRead o m v given → given ≡ 16_777_216 → 0 < k → k ≤ length buf → length buf ≡ 1
+pub past_taken : (o m n : Option (List ℕ)) (v : MachineView) (given k : ℕ) (buf : List ℕ) → HasRead o m v given → given ≡ stated_limits.hoa_bytes → 0 < k → k ≤ length buf → length buf ≡ 1
     → Consumes m n (take k buf) → TakesText o n
 past_taken o m n v given k buf (text, c, a, l) g p s e d =
     let one = one_byte k buf p s e in
     takes_past o n (text ++ one.0 ∷ []) (length-append text (one.0 ∷ []) ∙ counted (length text) (l ∙ g)) (consumes_trans o m n text (one.0 ∷ []) c (subst (λ t. Consumes m n t) one.1 d))
   where
-    counted : (x : ℕ) → x ≡ 16_777_216 → x + 1 ≡ 16_777_217
+    counted : (x : ℕ) → x ≡ stated_limits.hoa_bytes → x + 1 ≡ (stated_limits.hoa_bytes + 1)
     counted x q = omega (arith, q)
+
+-- ---- how many bytes were taken, whatever the answer
+
+-- behind a read of so many bytes, the last one maybe
+pub taken_up_to : (o m n : Option (List ℕ)) (v : MachineView) (given k : ℕ) (buf : List ℕ) → HasRead o m v given → Consumes m n (take k buf) → given + k ≤ stated_limits.hoa_bytes + 1 → TakesUpTo o n
+taken_up_to o m n v given k buf (text, c, a, l) d few =
+    (text ++ take k buf, consumes_trans o m n text (take k buf) c d, counted (length (text ++ take k buf)) (length text) (length (take k buf)) (length-append text (take k buf)) l (length-take k buf))
+  where
+    counted : (z x y : ℕ) → z ≡ x + y → x ≡ given → y ≡ min k (length buf) → z ≤ stated_limits.hoa_bytes + 1
+    counted z x y e f g = omega (arith, e, f, g, few)
+
+-- behind a failed read
+pub kept_up_to : (o m n : Option (List ℕ)) (v : MachineView) (given : ℕ) → HasRead o m v given → Keeps m n → given ≤ stated_limits.hoa_bytes → TakesUpTo o n
+kept_up_to o m n v given r d few = taken_up_to o m n v given 0 [] r (consumes_none m n d) (omega (arith, few))
+  where
+    consumes_none : (a b : Option (List ℕ)) → Keeps a b → Consumes a b []
+    consumes_none None b k = tt
+    consumes_none (Some x) (Some y) k = sym k
+    consumes_none (Some x) None k = absurd k

@@ -5,7 +5,7 @@ use Rattle.std.specs.List.{range_with_len}
 use Rattle.ltl_spec.specs.Automata.Automaton.{Edge}
 use Rattle.ltl_spec.specs.Tools.Limits.{stated_limits}
 use Rattle.ltl_spec.specs.Hoa.HoaToken.{hoa_items}
-use Rattle.ltl_spec.specs.Hoa.HoaReading.{OneSet, MarkedAutomaton, edges_at, HoaReadsWithin}
+use Rattle.ltl_spec.specs.Hoa.HoaReading.{stated_form, MarkedAutomaton, edges_at, HoaReadsWithin}
 use Rattle.ltl_spec.specs.Hoa.HoaFault as spec
 use Rattle.ltl_spec.specs.Hoa.HoaFault.{Before}
 use Rattle.ltl_spec.proofs.Hoa.HoaHeaderLaws.{whole_header}
@@ -62,18 +62,18 @@ automaton_made : (A : MarkedAutomaton) (start sets : Option ℕ) (names : Option
 automaton_made A start sets names edges s k n c e =
     (λ i. automaton_from (s i) (k i) (n i) edges) ∙ (λ i. Some (record { states = c i; start = A.start; sets = A.sets; names = A.names; edges = e i }))
 
-header_made : (A : MarkedAutomaton) (v : HeaderView) (h : spec.HoaHeader) (b : BodyView) (before : Before) (g : Came) → ShowsHeader v h → h ≡ whole_header A → A.start < A.states → A.states ≤ 65_536
+header_made : (A : MarkedAutomaton) (v : HeaderView) (h : spec.HoaHeader) (b : BodyView) (before : Before) (g : Came) → ShowsHeader v h → h ≡ whole_header A → A.start < A.states → A.states ≤ stated_limits.hoa_states
     → length b.edges ≡ A.states → b.edges ≡ A.edges → header.IsAutomaton v b.edges A
 header_made A v h b before g s e l m c q =
     automaton_made A v.start v.sets v.names b.edges
     (s.start ∙ ap (λ x. option_map capped x.start) e ∙ ap Some (capped_small A.start (small A.start A.states l m)))
     (s.sets ∙ ap (λ x. x.sets) e) (s.names ∙ ap (λ x. x.names) e) c q
   where
-    small : (m n : ℕ) → m < n → n ≤ 65_536 → m ≤ 4_294_967_295
+    small : (m n : ℕ) → m < n → n ≤ stated_limits.hoa_states → m ≤ 4_294_967_295
     small m n l k = omega (arith, l, k)
 
 -- the parser's automaton is the one that the text reads as
-pub whole_automaton : (v : ParserView) (text : List ℕ) (b : Before) (g : Came) (A : MarkedAutomaton) → HoaReadsWithin stated_limits OneSet text A → v.place ≡ place.End → Shows v b g
+pub whole_automaton : (v : ParserView) (text : List ℕ) (b : Before) (g : Came) (A : MarkedAutomaton) → HoaReadsWithin stated_limits stated_form text A → v.place ≡ place.End → Shows v b g
     → reached text (hoa_items text) ≡ (Ok b, g) → IsAutomaton v A
 whole_automaton v text b g A r p s e =
     let told = read_as text A r b g e in
@@ -97,7 +97,7 @@ whole_automaton v text b g A r p s e =
         from_zero k = omega arith
 
 -- so there is one
-pub whole_holds : (v : ParserView) (text : List ℕ) (A : MarkedAutomaton) → HoaReadsWithin stated_limits OneSet text A → IsAutomaton v A → IsWhole v
+pub whole_holds : (v : ParserView) (text : List ℕ) (A : MarkedAutomaton) → HoaReadsWithin stated_limits stated_form text A → IsAutomaton v A → IsWhole v
 whole_holds v text A r a = go v.body a
   where
     go : (o : Option BodyView) → IsAutomatonWith v.header o A → IsWholeWith v.header o
@@ -121,24 +121,24 @@ told : (w : MachineView) (text : List ℕ) → IsEnded w text → w.fault ≡ No
 told w text e n = subst (λ o. IsToldIn o w text) n e.inside
 
 -- without a fault, where the automaton has ended
-pub end_reads : (w : MachineView) (text : List ℕ) → IsEnded w text → w.fault ≡ None → w.parser.place ≡ place.End → (A : MarkedAutomaton) × HoaReadsWithin stated_limits OneSet text A × IsAutomaton w.parser A
+pub end_reads : (w : MachineView) (text : List ℕ) → IsEnded w text → w.fault ≡ None → w.parser.place ≡ place.End → (A : MarkedAutomaton) × HoaReadsWithin stated_limits stated_form text A × IsAutomaton w.parser A
 end_reads w text e n p =
     let s = told w text e n in
-    let r = no_fault_reads stated_limits OneSet text (told_fault w text e.few s ∙ ap (λ q. at_line (end_kind q) (last_line text)) p) in
+    let r = no_fault_reads stated_limits stated_form text (told_fault w text e.few s ∙ ap (λ q. at_line (end_kind q) (last_line text)) p) in
     (r.0, r.1, whole_automaton w.parser text s.before s.came r.0 r.1 p s.shows s.reached)
 
 pub end_whole : (w : MachineView) (text : List ℕ) → IsEnded w text → w.fault ≡ None → w.parser.place ≡ place.End → IsWhole w.parser
 end_whole w text e n p = let r = end_reads w text e n p in whole_holds w.parser text r.0 r.1 r.2
 
-pub end_answers : (w : MachineView) (text : List ℕ) (A : MarkedAutomaton) → IsEnded w text → w.fault ≡ None → w.parser.place ≡ place.End → IsAutomaton w.parser A → HoaReadsWithin stated_limits OneSet text A
-end_answers w text A e n p a = let r = end_reads w text e n p in subst (HoaReadsWithin stated_limits OneSet text) (whole_same w.parser r.0 A r.2 a) r.1
+pub end_answers : (w : MachineView) (text : List ℕ) (A : MarkedAutomaton) → IsEnded w text → w.fault ≡ None → w.parser.place ≡ place.End → IsAutomaton w.parser A → HoaReadsWithin stated_limits stated_form text A
+end_answers w text A e n p a = let r = end_reads w text e n p in subst (HoaReadsWithin stated_limits stated_form text) (whole_same w.parser r.0 A r.2 a) r.1
 
 -- where it has not
 pub end_refused : (w : MachineView) (text : List ℕ) (kind : made.HoaFaultKind) → IsEnded w text → w.fault ≡ None → end_kind w.parser.place ≡ Some (kind_of kind)
-    → hoa_fault stated_limits OneSet text ≡ Some (record { kind = kind_of kind; line = w.line })
+    → hoa_fault stated_limits stated_form text ≡ Some (record { kind = kind_of kind; line = w.line })
 end_refused w text kind e n p =
     told_fault w text e.few (told w text e n) ∙ ap (λ k. at_line k (last_line text)) p ∙ ap (λ m. Some (record { kind = kind_of kind; line = m })) (sym e.line)
 
 -- a fault was met
-pub met_refused : (w : MachineView) (text : List ℕ) (f : Found) → IsEnded w text → w.fault ≡ Some f → hoa_fault stated_limits OneSet text ≡ Some (fault_of f)
+pub met_refused : (w : MachineView) (text : List ℕ) (f : Found) → IsEnded w text → w.fault ≡ Some f → hoa_fault stated_limits stated_form text ≡ Some (fault_of f)
 met_refused w text f e n = subst (λ o. IsToldIn o w text) n e.inside

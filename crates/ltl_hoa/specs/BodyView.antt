@@ -5,12 +5,14 @@ use Rattle.ltl_spec.specs.Collections.Sets.{put}
 use Rattle.ltl_spec.specs.Transitions.Cubes.{Cube}
 use Rattle.ltl_spec.specs.Automata.Automaton.{Edge}
 use Rattle.ltl_spec.specs.Formulas.Tokens.{same_name}
+use Rattle.ltl_spec.specs.Tools.Limits.{stated_limits}
 use Rattle.ltl_spec.specs.Hoa.HoaToken as token
 use Rattle.ltl_spec.specs.Hoa.HoaToken.{HoaToken}
 use Rattle.ltl_spec.specs.Hoa.HoaFaultKind.{HoaFaultKind, BadToken, Unsupported, NumberOutOfRange, StateDefinedTwice, LimitPassed}
 use Rattle.ltl_hoa.specs.declared.fault.Stop.{Stop}
 use Rattle.ltl_hoa.specs.declared.fault.Stop.TheVariants.{Fault, OutOfMemory}
 use Rattle.ltl_hoa.specs.declared.header.Counts.{Counts}
+use Rattle.ltl_hoa.specs.declared.marked.TheConstants.{MOST_SETS}
 use Rattle.ltl_hoa.specs.declared.place.Place.{Place}
 use Rattle.ltl_hoa.specs.declared.place.Place.TheVariants.{Body, End}
 use Rattle.ltl_hoa.specs.declared.place.BodyPlace.{BodyPlace}
@@ -39,12 +41,12 @@ pub record BodyView : Type 0 where
 
 -- the counts stay within their limits, and the lists have a place for each state
 pub record IsBody (b : BodyView) : Type 0 where
-  pub names : b.counts.names ≤ 64
-  pub sets : b.counts.sets ≤ 64
+  pub names : b.counts.names ≤ stated_limits.propositions
+  pub sets : b.counts.sets ≤ MOST_SETS
   pub defined : length b.defined ≡ b.counts.states
   pub edges : length b.edges ≡ b.counts.states
   pub at : b.at < b.counts.states
-  pub made : b.made ≤ 1_048_576
+  pub made : b.made ≤ stated_limits.hoa_edges
 
 abbrev pub none_defined : ℕ → List Bool
 none_defined n = replicate n false
@@ -120,7 +122,7 @@ at_operand v _ = Err BadToken
 abbrev pub close_with : BodyView → Option (List Cube) → Led
 close_with v None = Err LimitPassed
 close_with v (Some cubes) =
-    if nat_lt 1_048_576 (v.made + length cubes) then Err LimitPassed else
+    if nat_lt stated_limits.hoa_edges (v.made + length cubes) then Err LimitPassed else
     Ok (Body at.Target, record v { made = v.made + length cubes; cubes = cubes })
 
 abbrev pub close_label : BodyView → Led

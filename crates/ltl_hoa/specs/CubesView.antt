@@ -2,9 +2,10 @@
 use Rattle.std.specs.Prelude.{ℕ, Bool, nat_lt, if◌then◌else◌, List, [], ◌∷◌, ◌++◌, length, flat_map, filter_map, Option, Some, None}
 use Rattle.ltl_spec.specs.Collections.Sets.{set_of}
 use Rattle.ltl_spec.specs.Transitions.Cubes.{Cube, cube_cmp, join_cubes}
+use Rattle.ltl_spec.specs.Tools.Limits.{stated_limits}
 
 abbrev pub few : List Cube → Option (List Cube)
-few cs = if nat_lt 4_096 (length cs) then None else Some cs
+few cs = if nat_lt stated_limits.label_cubes (length cs) then None else Some cs
 
 abbrev pub constant_cubes : Bool → Option (List Cube)
 constant_cubes value = Some (if value then [] ∷ [] else [])

@@ -4,12 +4,14 @@ use Rattle.std.specs.List.{list_any}
 use Rattle.ltl_spec.specs.Semantics.Word.{Name}
 use Rattle.ltl_spec.specs.Formulas.Tokens.{same_name}
 use Rattle.ltl_spec.specs.Formulas.Names.{is_proposition}
+use Rattle.ltl_spec.specs.Tools.Limits.{stated_limits}
 use Rattle.ltl_spec.specs.Hoa.HoaToken.{HoaToken, StringToken, Identifier, Header, Int, AndSign, OpenBracket, CloseBracket, Unknown, UnclosedString, UnclosedComment, is_upper}
 use Rattle.ltl_spec.specs.Hoa.HoaFaultKind.{HoaFaultKind, NotHoaVersion1, BadToken, ItemTwice, ItemMissing, UnknownItem, Unsupported, NumberOutOfRange, BadPropositionList, TextAfterEnd, LimitPassed}
 use Rattle.ltl_hoa.specs.declared.fault.HoaFaultKind as made
 use Rattle.ltl_hoa.specs.declared.fault.Stop.{Stop}
 use Rattle.ltl_hoa.specs.declared.fault.Stop.TheVariants.{Fault, OutOfMemory}
 use Rattle.ltl_hoa.specs.declared.header.Counts.{Counts}
+use Rattle.ltl_hoa.specs.declared.marked.TheConstants.{MOST_SETS}
 use Rattle.ltl_hoa.specs.declared.place.Place.{Place}
 use Rattle.ltl_hoa.specs.declared.place.Place.TheVariants.{Format, Version, Item, States, Start, Count, Names, Sets, Acceptance, Body, End}
 use Rattle.ltl_hoa.specs.declared.place.ItemBefore.{ItemBefore}
@@ -32,8 +34,8 @@ pub record HeaderView : Type 0 where
 
 -- the counts stay within their limits
 pub record IsHeader (h : HeaderView) : Type 0 where
-  pub names : length (unwrap_or h.names []) + h.left ≤ 64
-  pub sets : unwrap_or h.sets 0 ≤ 64
+  pub names : length (unwrap_or h.names []) + h.left ≤ stated_limits.propositions
+  pub sets : unwrap_or h.sets 0 ≤ MOST_SETS
 
 abbrev pub no_header : HeaderView
 no_header = record { states = None; start = None; names = None; left = 0; sets = None }
@@ -102,7 +104,7 @@ at_item item v (Header name) = begin_item v name
 at_item item v t = go_on item v t
 
 abbrev pub at_states : HeaderView → HoaToken → Led
-at_states v (Int n) = if nat_lt 65_536 (capped n) then Err LimitPassed else Ok (Item before.Plain, record v { states = Some (capped n) })
+at_states v (Int n) = if nat_lt stated_limits.hoa_states (capped n) then Err LimitPassed else Ok (Item before.Plain, record v { states = Some (capped n) })
 at_states v _ = Err BadToken
 
 abbrev pub at_start : HeaderView → HoaToken → Led
@@ -113,7 +115,7 @@ abbrev pub after_name : ℕ → Place
 after_name left = if left == 0 then Item before.ListedNames else Names
 
 abbrev pub at_count : HeaderView → HoaToken → Led
-at_count v (Int n) = if nat_lt 64 (capped n) then Err LimitPassed else Ok (after_name (capped n), record v { names = Some []; left = capped n })
+at_count v (Int n) = if nat_lt stated_limits.propositions (capped n) then Err LimitPassed else Ok (after_name (capped n), record v { names = Some []; left = capped n })
 at_count v _ = Err BadToken
 
 abbrev pub add_to : HeaderView → Option (List Name) → Name → Led

@@ -1,5 +1,6 @@
 -- What was read so far, and what a byte makes of it.
 use Rattle.std.specs.Prelude.{◌≡◌, true, ℕ, ◌+◌, ◌==◌, if◌then◌else◌, ◌≤◌, Option, Some, None, Result, Ok, Err, is_some}
+use Rattle.ltl_spec.specs.Tools.Limits.{stated_limits}
 use Rattle.ltl_hoa.specs.declared.fault.Stop.{Stop}
 use Rattle.ltl_hoa.specs.declared.fault.Stop.TheVariants.{Fault, OutOfMemory}
 use Rattle.ltl_hoa.specs.declared.machine.Found.{Found}
@@ -21,7 +22,7 @@ pub record MachineView : Type 0 where
 
 -- the counts stay within the text's limit
 pub record IsMachine (m : MachineView) : Type 0 where
-  pub given : m.given ≤ 16_777_216
+  pub given : m.given ≤ stated_limits.hoa_bytes
   pub line : m.line ≤ m.given + 1
   pub depth : depth_of m.lexer.phase ≤ m.given
 

@@ -7,8 +7,10 @@ use Rattle.ltl_spec.specs.Semantics.Word.{Name}
 use Rattle.ltl_spec.specs.Transitions.Cubes.{Literal, Cube}
 use Rattle.ltl_spec.specs.Automata.Automaton.{Edge}
 use Rattle.ltl_spec.specs.Formulas.Names.{is_proposition}
+use Rattle.ltl_spec.specs.Tools.Limits.{stated_limits}
 use Rattle.ltl_spec.specs.Hoa.HoaReading.{MarkedAutomaton}
 use Rattle.ltl_hoa.specs.declared.marked.MarkedEdge as made
+use Rattle.ltl_hoa.specs.declared.marked.TheConstants.{MOST_SETS}
 
 abbrev pub literal_code : Coded Literal
 literal_code = code_by (ℕ × Bool) (coded× coded_ℕ coded_bool) (λ l. (l.proposition, l.positive)) (λ p. record { proposition = p.0; positive = p.1 }) (λ _. refl)
@@ -35,15 +37,14 @@ pub record IsEdgeWithin (names states sets : ℕ) (e : Edge) : Type 0 where
   pub target : e.target < states
   pub marks : All (λ k. k < sets) e.marks
 
--- There are 1 to 65,536 states and at most 1,048,576 edges, which stay within the automaton, and at most 64 names, which are different
--- propositions
+-- There is a state, and the counts are within the limits. Edges stay within the automaton, and the names are different propositions
 pub record IsMarked (A : MarkedAutomaton) : Type 0 where
   pub counted : length A.edges ≡ A.states
-  pub few_states : A.states ≤ 65_536
+  pub few_states : A.states ≤ stated_limits.hoa_states
   pub begins : A.start < A.states
-  pub few_names : length A.names ≤ 64
-  pub few_sets : A.sets ≤ 64
+  pub few_names : length A.names ≤ stated_limits.propositions
+  pub few_sets : A.sets ≤ MOST_SETS
   pub propositions : IsTrue (list_all is_proposition A.names)
   pub differ : HasNoRepeats A.names
   pub within : All (λ es. All (IsEdgeWithin (length A.names) A.states A.sets) es) A.edges
-  pub few_edges : sum_by length A.edges ≤ 1_048_576
+  pub few_edges : sum_by length A.edges ≤ stated_limits.hoa_edges

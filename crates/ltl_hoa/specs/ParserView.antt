@@ -1,5 +1,6 @@
 -- What stood so far, and what a token makes of it.
 use Rattle.std.specs.Prelude.{◌≡◌, ◌≤◌, Option, Some, None, Result, Ok, Err}
+use Rattle.ltl_spec.specs.Tools.Limits.{stated_limits}
 use Rattle.ltl_spec.specs.Hoa.HoaToken as token
 use Rattle.ltl_spec.specs.Hoa.HoaToken.{HoaToken}
 use Rattle.ltl_spec.specs.Hoa.HoaFaultKind.{HoaFaultKind, BadToken}
@@ -7,6 +8,7 @@ use Rattle.ltl_spec.specs.Hoa.HoaReading.{MarkedAutomaton}
 use Rattle.ltl_hoa.specs.declared.fault.Stop.{Stop}
 use Rattle.ltl_hoa.specs.declared.fault.Stop.TheVariants.{OutOfMemory}
 use Rattle.ltl_hoa.specs.declared.header.Counts.{Counts}
+use Rattle.ltl_hoa.specs.declared.marked.TheConstants.{MOST_SETS}
 use Rattle.ltl_hoa.specs.declared.place.Place.{Place}
 use Rattle.ltl_hoa.specs.declared.place.Place.TheVariants.{Format, Item, Body}
 use Rattle.ltl_hoa.specs.declared.place.BodyPlace.{BodyPlace}
@@ -53,7 +55,7 @@ TakesInBody place v t r w = TakesBody place v v.body t r w
 
 -- `--BODY--` where an item may begin
 abbrev pub Begins : Result Counts HoaFaultKind → ParserView → Result (Unit {0}) Stop → ParserView → Type 0
-Begins (Ok c) v (Ok u) w = (w ≡ record { place = Body State; header = v.header; body = Some (new_body c) }) × (c.names ≤ 64) × (c.sets ≤ 64)
+Begins (Ok c) v (Ok u) w = (w ≡ record { place = Body State; header = v.header; body = Some (new_body c) }) × (c.names ≤ stated_limits.propositions) × (c.sets ≤ MOST_SETS)
 Begins (Ok c) v (Err stop) w = stop ≡ OutOfMemory
 Begins (Err kind) v (Ok u) w = ⊥
 Begins (Err kind) v (Err stop) w = Refuses kind stop

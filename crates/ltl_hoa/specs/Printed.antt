@@ -8,6 +8,7 @@ use Rattle.ltl_spec.specs.Formulas.Names.{is_proposition}
 use Rattle.ltl_spec.specs.Formulas.Formula.{Reading}
 use Rattle.ltl_spec.specs.Transitions.Cubes.{literal_cmp, is_contradictory}
 use Rattle.ltl_spec.specs.Automata.Automaton.{Automaton, Edge}
+use Rattle.ltl_spec.specs.Tools.Limits.{stated_limits}
 use Rattle.ltl_spec.specs.Hoa.HoaReading.{MarkedAutomaton}
 use Rattle.ltl_hoa.specs.declared.fault.HoaFault.{HoaFault}
 use Rattle.ltl_hoa.specs.Reading.{IsOfText}
@@ -22,9 +23,9 @@ pub record IsPrintedEdge (names states : ℕ) (e : Edge) : Type 0 where
 -- an automaton within the limits, with the names of a formula
 pub record IsPrinted (B : Automaton) (F : Reading) : Type 0 where
   pub some : 0 < length B.states
-  pub few_states : length B.states ≤ 65_536
-  pub few_edges : sum_by (λ s. length s.edges) B.states ≤ 1_048_576
-  pub few_names : length F.names ≤ 64
+  pub few_states : length B.states ≤ stated_limits.hoa_states
+  pub few_edges : sum_by (λ s. length s.edges) B.states ≤ stated_limits.hoa_edges
+  pub few_names : length F.names ≤ stated_limits.propositions
   pub propositions : IsTrue (list_all is_proposition F.names)
   pub differ : HasNoRepeats F.names
   pub within : All (λ s. All (IsPrintedEdge (length F.names) (length B.states)) s.edges) B.states

@@ -1,9 +1,9 @@
 -- How the machine's state is that of a text so far, and what a call answers.
-use Rattle.std.specs.Prelude.{◌≡◌, ℕ, ◌<◌, take, IfSome, ◌≤◌, List, ◌++◌, length, fold, Option, Some, None, Result, Ok, Err, MatchResult, ⊤}
+use Rattle.std.specs.Prelude.{◌≡◌, ℕ, ◌<◌, take, IfSome, ◌≤◌, ◌+◌, List, ◌++◌, length, fold, Option, Some, None, Result, Ok, Err, MatchResult, ⊤}
 use Rattle.std.specs.Io.KnownBytes.{Consumes}
 use Rattle.ltl_spec.specs.Tools.Limits.{stated_limits}
 use Rattle.ltl_spec.specs.Hoa.HoaToken.{HoaItem, hoa_items, last_line}
-use Rattle.ltl_spec.specs.Hoa.HoaReading.{OneSet, MarkedAutomaton, HoaReadsWithin}
+use Rattle.ltl_spec.specs.Hoa.HoaReading.{stated_form, MarkedAutomaton, HoaReadsWithin}
 use Rattle.ltl_spec.specs.Hoa.HoaFault as spec
 use Rattle.ltl_spec.specs.Hoa.HoaFault.{Before, before_all, take_item, hoa_fault}
 use Rattle.ltl_hoa.specs.declared.fault.HoaFault.{HoaFault}
@@ -23,7 +23,7 @@ abbrev pub Reached : Type 0
 Reached = Result Before spec.HoaFault × Came
 
 abbrev pub reach : List ℕ → Reached → HoaItem → Reached
-reach whole r i = (take_item stated_limits OneSet whole r.0 i, came_by r.0 i r.1)
+reach whole r i = (take_item stated_limits stated_form whole r.0 i, came_by r.0 i r.1)
 
 abbrev pub reached : List ℕ → List HoaItem → Reached
 reached whole items = fold (reach whole) (Ok before_all, came_none) items
@@ -45,7 +45,7 @@ pub record IsSound (m : MachineView) (text : List ℕ) : Type 0 where
 pub record IsFaulty (f : Found) (text : List ℕ) : Type 0 where
   pub items : List HoaItem
   pub rest : (more : List ℕ) → (later : List HoaItem) × (hoa_items (text ++ more) ≡ items ++ later)
-  pub faulty : (whole : List ℕ) → fold (take_item stated_limits OneSet whole) (Ok before_all) items ≡ Err (fault_of f)
+  pub faulty : (whole : List ℕ) → fold (take_item stated_limits stated_form whole) (Ok before_all) items ≡ Err (fault_of f)
 
 abbrev pub IsIn : Option Found → MachineView → List ℕ → Type 0
 IsIn None m text = IsSound m text
@@ -67,23 +67,23 @@ pub record IsTold (m : MachineView) (text : List ℕ) : Type 0 where
 -- without a fault, or the leftmost one was met
 abbrev pub IsToldIn : Option Found → MachineView → List ℕ → Type 0
 IsToldIn None m text = IsTold m text
-IsToldIn (Some f) m text = hoa_fault stated_limits OneSet text ≡ Some (fault_of f)
+IsToldIn (Some f) m text = hoa_fault stated_limits stated_form text ≡ Some (fault_of f)
 
 -- the machine has taken the text and the token that ends with it
 pub record IsEnded (m : MachineView) (text : List ℕ) : Type 0 where
-  pub few : length text ≤ 16_777_216
+  pub few : length text ≤ stated_limits.hoa_bytes
   pub line : m.line ≡ last_line text
   pub inside : IsToldIn m.fault m text
 
 -- why the text is no automaton
 abbrev pub RefusesText : List ℕ → HoaFault → Type 0
-RefusesText text (AtLine line kind) = hoa_fault stated_limits OneSet text ≡ Some (record { kind = kind_of kind; line = line })
+RefusesText text (AtLine line kind) = hoa_fault stated_limits stated_form text ≡ Some (record { kind = kind_of kind; line = line })
 RefusesText text CannotRead = ⊤
 RefusesText text OutOfMemory = ⊤
 
 -- the text reads as the automaton, or is refused
 abbrev pub Answers : List ℕ → Result MarkedAutomaton HoaFault → Type 0
-Answers text r = MatchResult r (HoaReadsWithin stated_limits OneSet text) (RefusesText text)
+Answers text r = MatchResult r (HoaReadsWithin stated_limits stated_form text) (RefusesText text)
 
 -- The answer for some text, which is what the reader holds where that is known
 abbrev pub AnswersHeld : Option (List ℕ) → Result MarkedAutomaton HoaFault → Type 0
@@ -96,8 +96,12 @@ IsOfText _ = ⊥
 
 -- the bytes up to one past the limit were taken
 abbrev pub TakesText : Option (List ℕ) → Option (List ℕ) → Type 0
-TakesText old new = IfSome old (λ text. Consumes old new (take 16_777_217 text))
+TakesText old new = IfSome old (λ text. Consumes old new (take (stated_limits.hoa_bytes + 1) text))
+
+-- no more bytes were taken than one past the limit
+abbrev pub TakesUpTo : Option (List ℕ) → Option (List ℕ) → Type 0
+TakesUpTo old new = (bytes : List ℕ) × Consumes old new bytes × (length bytes ≤ stated_limits.hoa_bytes + 1)
 
 -- fewer bytes were taken than one past the limit
 abbrev pub TakesFewer : Option (List ℕ) → Option (List ℕ) → Type 0
-TakesFewer old new = (bytes : List ℕ) × Consumes old new bytes × (length bytes < 16_777_217)
+TakesFewer old new = (bytes : List ℕ) × Consumes old new bytes × (length bytes < stated_limits.hoa_bytes + 1)

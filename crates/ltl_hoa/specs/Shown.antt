@@ -9,10 +9,12 @@ use Rattle.ltl_spec.specs.NormalForms.Normal.{Normal}
 use Rattle.ltl_spec.specs.NormalForms.NormalForm.{normal_form, postorder}
 use Rattle.ltl_spec.specs.Transitions.Cubes.{Cube}
 use Rattle.ltl_spec.specs.Automata.Automaton.{Edge}
+use Rattle.ltl_spec.specs.Tools.Limits.{stated_limits}
 use Rattle.ltl_spec.specs.Hoa.HoaToken.{HoaToken, Identifier, Int, OpenBracket, CloseBracket, CloseLabel}
 use Rattle.ltl_spec.specs.Hoa.HoaLabel.{Label, label_formula, cubes, label_cubes}
 use Rattle.ltl_spec.specs.Hoa.HoaFault as spec
 use Rattle.ltl_spec.specs.Hoa.HoaFault.{Before, HoaHeader, LabelPart, LabelParts, whole}
+use Rattle.ltl_hoa.specs.declared.marked.TheConstants.{MOST_SETS}
 use Rattle.ltl_hoa.specs.declared.place.Place.{Place}
 use Rattle.ltl_hoa.specs.declared.place.Place.TheVariants as place
 use Rattle.ltl_hoa.specs.declared.place.ItemBefore.{ItemBefore}
@@ -31,7 +33,7 @@ use Rattle.ltl_hoa.specs.ParserView.{ParserView}
 
 -- the cubes of a normal form, unless a part has too many
 abbrev pub narrow_normal : Normal → Option (List Cube)
-narrow_normal N = if list_any (λ p. nat_lt 4_096 (length (cubes p))) (postorder N) then None else Some (cubes N)
+narrow_normal N = if list_any (λ p. nat_lt stated_limits.label_cubes (length (cubes p))) (postorder N) then None else Some (cubes N)
 
 -- those of a label, or of its negation
 unfoldable pub narrow : Bool → Label → Option (List Cube)
@@ -159,10 +161,10 @@ AreAt false b es = AreFiled b es
 
 pub record ShowsBody (v : BodyView) (place : spec.BodyPlace) (b : Before) (g : Came) : Type 0 where
   pub states : b.header.states ≡ Some v.counts.states
-  pub few_states : v.counts.states ≤ 65_536
+  pub few_states : v.counts.states ≤ stated_limits.hoa_states
   pub sets : b.header.sets ≡ Some v.counts.sets
   pub names : option_map length b.header.names ≡ Some v.counts.names
-  pub well : (v.counts.names ≤ 64) × (v.counts.sets ≤ 64)
+  pub well : (v.counts.names ≤ stated_limits.propositions) × (v.counts.sets ≤ MOST_SETS)
   pub defined : (k : ℕ) → k < v.counts.states → slice_index_or v.defined k false ≡ list_any (λ m. m == k) b.numbers
   pub counted : (length v.defined ≡ v.counts.states) × (length v.edges ≡ v.counts.states)
   pub at : (first_or 0 b.numbers ≡ v.at) × (v.at < v.counts.states)
@@ -175,7 +177,7 @@ pub record ShowsBody (v : BodyView) (place : spec.BodyPlace) (b : Before) (g : C
 
 pub record ShowsHeader (v : HeaderView) (h : HoaHeader) : Type 0 where
   pub states : v.states ≡ h.states
-  pub few_states : unwrap_or h.states 0 ≤ 65_536
+  pub few_states : unwrap_or h.states 0 ≤ stated_limits.hoa_states
   pub start : v.start ≡ option_map capped h.start
   pub names : v.names ≡ h.names
   pub sets : v.sets ≡ h.sets

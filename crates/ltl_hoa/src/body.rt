@@ -6,15 +6,16 @@ ghost use Rattle.ltl_hoa.specs.MarkedView.{edge_of};
 ghost use Rattle.ltl_hoa.specs.BodyView as view;
 ghost use Rattle.ltl_hoa.specs.BodyView.{BodyLeads};
 
-use crate::cubes::Cubes;
+use crate::cubes::CubeList;
 use crate::fault::{HoaFaultKind, Stop};
 use crate::header::Counts;
 use crate::label::Label;
-use crate::marked::{MOST_EDGES, MarkedEdge};
+use crate::marked::{MOST_EDGES, MOST_NAMES, MOST_SETS, MarkedEdge};
 use crate::number::number;
 use crate::place::{BodyPlace, Place};
 use crate::token::TokenKind;
 use ltl_sets::{Cube, RowSet};
+use smallvec::SmallVec;
 use std::alloc::{AllocError, Allocator};
 use std::marker::Model;
 
@@ -32,7 +33,7 @@ pub(crate) struct Body<'a, A: Allocator> {
     sets: RowSet,
     label: Label<'a, A>,
     /// The last edge: its cubes, its target and its sets.
-    cubes: Vec<Cube, &'a A>,
+    cubes: CubeList<'a, A>,
     target: usize,
     own: RowSet,
 }
@@ -111,8 +112,8 @@ impl<'a, A: Allocator> Body<'a, A> {
     /// A body of so many states, at least one, without edges.
     pub(crate) fn new(alloc: &'a A, counts: Counts) -> Result<Body<'a, A>, AllocError>
         requires some { 0 < counts.states }
-        requires names { counts.names ≤ 64 }
-        requires sets { counts.sets ≤ 64 }
+        requires names { counts.names ≤ MOST_NAMES }
+        requires sets { counts.sets ≤ MOST_SETS }
         ensures { IfOk result (λ b. b ≡ view.new_body counts) }
     {
         Ok(Body {
@@ -123,7 +124,7 @@ impl<'a, A: Allocator> Body<'a, A> {
             at: 0,
             sets: RowSet::empty(),
             label: Label::new(alloc),
-            cubes: Vec::new(alloc),
+            cubes: SmallVec::new(alloc),
             target: 0,
             own: RowSet::empty(),
         })

@@ -6,16 +6,20 @@ ghost use Rattle.ltl_spec.specs.Transitions.Cubes as spec_cubes;
 ghost use Rattle.ltl_hoa.specs.CubesView.{both_cubes, constant_cubes, few, joined_cubes, literal_cubes};
 
 use ltl_sets::{Cube, RowSet};
+use smallvec::SmallVec;
 use std::alloc::{AllocError, Allocator};
 
 /// The most cubes that a part of a label may have.
 pub(crate) const MOST_CUBES: usize = 4_096;
 
+/// Cubes, of which one takes no memory.
+pub(crate) type CubeList<'a, A> = SmallVec<Cube, 1, &'a A>;
+
 /// The cubes of a part of a label; `None` where the part, or one inside it, has more than `MOST_CUBES`.
-pub(crate) type Cubes<'a, A> = Option<Vec<Cube, &'a A>>;
+pub(crate) type Cubes<'a, A> = Option<CubeList<'a, A>>;
 
 /// Sorts the cubes, and keeps each once.
-fn make_distinct<A: Allocator>(cubes: &mut Vec<Cube, &A>)
+fn make_distinct<A: Allocator>(cubes: &mut CubeList<'_, A>)
     ensures { cubes.new.items ≡ spec_sets.set_of spec_cubes.cube_cmp cubes.old.items }
 {
     cubes.sort_unstable_by(|c, d| c.cmp_list(d));
@@ -23,7 +27,7 @@ fn make_distinct<A: Allocator>(cubes: &mut Vec<Cube, &A>)
 }
 
 /// The cubes, unless there are too many.
-fn few<'a, A: Allocator>(cubes: Vec<Cube, &'a A>) -> Cubes<'a, A>
+fn few<'a, A: Allocator>(cubes: CubeList<'a, A>) -> Cubes<'a, A>
     ensures { option_map (λ v. v.items) result ≡ few cubes.entry.items }
 {
     if cubes.len() > MOST_CUBES {
@@ -40,7 +44,7 @@ pub(crate) fn constant<'a, A: Allocator>(
 ) -> Result<Cubes<'a, A>, AllocError>
     ensures { IfOk result (λ r. option_map (λ v. v.items) r ≡ constant_cubes value) }
 {
-    let mut cubes = Vec::new(alloc);
+    let mut cubes = SmallVec::new(alloc);
     if value {
         cubes.push(Cube::empty())?;
     }
@@ -56,14 +60,14 @@ pub(crate) fn literal<'a, A: Allocator>(
     requires { proposition < RowSet.LIMIT }
     ensures { IfOk result (λ r. option_map (λ v. v.items) r ≡ literal_cubes proposition sign) }
 {
-    let mut cubes = Vec::new(alloc);
+    let mut cubes = SmallVec::new(alloc);
     cubes.push(Cube::literal(proposition, sign))?;
     Ok(Some(cubes))
 }
 
 /// Puts the joins of a cube with each of a list behind the others.
 fn join_one<A: Allocator>(
-    joined: &mut Vec<Cube, &A>,
+    joined: &mut CubeList<'_, A>,
     left: &Cube,
     right: &[Cube],
 ) -> Result<(), AllocError>
@@ -85,7 +89,7 @@ fn join<'a, A: Allocator>(
 ) -> Result<Cubes<'a, A>, AllocError>
     ensures { IfOk result (λ r. option_map (λ v. v.items) r ≡ few (joined_cubes left.now right.now)) }
 {
-    let mut joined = Vec::new(alloc);
+    let mut joined = SmallVec::new(alloc);
     'left: for cube in left {
         join_one(&mut joined, cube, right)?;
         if joined.len() > MOST_CUBES {
@@ -101,7 +105,7 @@ fn join<'a, A: Allocator>(
 
 /// The cubes of both sides.
 fn unite<'a, A: Allocator>(
-    mut left: Vec<Cube, &'a A>,
+    mut left: CubeList<'a, A>,
     right: &[Cube],
 ) -> Result<Cubes<'a, A>, AllocError>
     ensures { IfOk result (λ r. option_map (λ v. v.items) r ≡ few (spec_sets.set_of spec_cubes.cube_cmp (left.entry.items ++ right.now))) }

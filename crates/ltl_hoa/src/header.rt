@@ -8,7 +8,7 @@ ghost use Rattle.ltl_hoa.specs.HeaderView as view;
 ghost use Rattle.ltl_hoa.specs.HeaderView.{Leads, CountsAre};
 
 use crate::fault::{HoaFaultKind, Stop};
-use crate::marked::{MOST_NAMES, MOST_STATES, Marked, MarkedEdge};
+use crate::marked::{MOST_NAMES, MOST_SETS, MOST_STATES, Marked, MarkedEdge};
 use crate::names::{is_listed, is_proposition, list_name};
 use crate::number::number;
 use crate::place::{AcceptancePart, ItemBefore, Place};
@@ -292,8 +292,8 @@ impl<'a, A: Allocator> Header<'a, A> {
     /// What the header counts, where nothing is missing and the start is a state.
     pub(crate) fn counts(&self) -> Result<Counts, HoaFaultKind>
         ensures counts { CountsAre self.now result }
-        ensures names { IfOk result (λ c. c.names ≤ 64) }
-        ensures sets { IfOk result (λ c. c.sets ≤ 64) }
+        ensures names { IfOk result (λ c. c.names ≤ MOST_NAMES) }
+        ensures sets { IfOk result (λ c. c.sets ≤ MOST_SETS) }
         ensures some { IfOk result (λ c. 0 < c.states) }
     {
         let (Some(states), Some(start), Some(names), Some(sets)) = (

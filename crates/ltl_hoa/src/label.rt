@@ -5,6 +5,7 @@ ghost use Rattle.ltl_hoa.specs.LabelView as view;
 
 use crate::cubes::{Cubes, both, constant, literal};
 use ltl_sets::RowSet;
+use smallvec::SmallVec;
 use std::alloc::{AllocError, Allocator};
 use std::marker::Model;
 use std::mem;
@@ -27,6 +28,13 @@ impl<'a, A: Allocator> Model for Part<'a, A> {
     ghost Value = { PartView };
 
     ghost view = { λ p. record { positive = p.positive; negated = p.negated; sum = option_map (option_map (λ v. v.items)) p.sum; product = option_map (option_map (λ v. v.items)) p.product } };
+}
+
+/// A part of no label.
+impl<'a, A: Allocator> Default for Part<'a, A> {
+    fn default() -> Part<'a, A> {
+        Part::new(true)
+    }
 }
 
 impl<'a, A: Allocator> Part<'a, A> {
@@ -94,12 +102,12 @@ impl<'a, A: Allocator> Part<'a, A> {
     }
 }
 
-/// What is open of a label: the innermost part, and those around it, the innermost of them last.
+/// What is open of a label: the innermost part, and those around it, the innermost of them last. Up to 4 of them take no memory.
 #[derive(Drop)]
 pub(crate) struct Label<'a, A: Allocator> {
     alloc: &'a A,
     inner: Part<'a, A>,
-    around: Vec<Part<'a, A>, &'a A>,
+    around: SmallVec<Part<'a, A>, 4, &'a A>,
 }
 
 impl<'a, A: Allocator> Model for Label<'a, A> {
@@ -117,7 +125,7 @@ impl<'a, A: Allocator> Label<'a, A> {
         Label {
             alloc,
             inner: Part::new(true),
-            around: Vec::new(alloc),
+            around: SmallVec::new(alloc),
         }
     }
 

@@ -1,19 +1,28 @@
-//! Laws of texts and automata. This function does nothing: its contract is the laws.
+//! Laws of texts and automata. These functions do nothing: their contracts are the laws.
 
-ghost use Rattle.std.specs.Prelude.{◌≤◌, length, Result};
+ghost use Rattle.std.specs.Prelude.{◌≡◌, ◌↔◌, ◌≤◌, ℕ, List, length, None, Ok, Err, Result};
 ghost use Rattle.ltl_spec.specs.Automata.Automaton.{Automaton};
 ghost use Rattle.ltl_spec.specs.Automata.HoaText.{hoa_text};
 ghost use Rattle.ltl_spec.specs.Formulas.Formula.{Reading};
-ghost use Rattle.ltl_spec.specs.Hoa.HoaReading.{MarkedAutomaton, OneSet, HoaReadsWithin};
+ghost use Rattle.ltl_spec.specs.Hoa.HoaFault.{hoa_fault};
+ghost use Rattle.ltl_spec.specs.Hoa.HoaReading.{MarkedAutomaton, stated_form, HoaReadsWithin};
 ghost use Rattle.ltl_spec.specs.Tools.Limits.{stated_limits};
 ghost use Rattle.ltl_hoa.specs.Printed.{IsPrinted, IsReadBack, marked_of};
-ghost use Rattle.ltl_hoa.specs.Reading.{Answers};
+ghost use Rattle.ltl_hoa.specs.Reading.{Answers, IsOfText};
 
 use crate::fault::HoaFault;
 
 /// The text of an automaton, if it is within the limit, reads as that automaton, an edge being in set 0 exactly when it leaves an accepting
 /// state. So what is answered to it is that automaton, unless a read failed or memory ran out.
 pub fn printed_automata_are_read_back()
-    ensures reads { (B : Automaton) (F : Reading) → IsPrinted B F → length (hoa_text B F) ≤ 16_777_216 → HoaReadsWithin stated_limits OneSet (hoa_text B F) (marked_of B F.names) }
-    ensures answered { (B : Automaton) (F : Reading) (answer : Result MarkedAutomaton HoaFault) → IsPrinted B F → length (hoa_text B F) ≤ 16_777_216 → Answers (hoa_text B F) answer → IsReadBack B F answer }
+    ensures reads { (B : Automaton) (F : Reading) → IsPrinted B F → length (hoa_text B F) ≤ stated_limits.hoa_bytes → HoaReadsWithin stated_limits stated_form (hoa_text B F) (marked_of B F.names) }
+    ensures answered { (B : Automaton) (F : Reading) (answer : Result MarkedAutomaton HoaFault) → IsPrinted B F → length (hoa_text B F) ≤ stated_limits.hoa_bytes → Answers (hoa_text B F) answer → IsReadBack B F answer }
+{}
+
+/// A text reads as an automaton exactly where it has no fault, and then as one alone. So of two answers about it one can't be an automaton and
+/// the other a fault.
+pub fn texts_are_read_one_way()
+    ensures exactly { (text : List ℕ) → (hoa_fault stated_limits stated_form text ≡ None) ↔ ((A : MarkedAutomaton) × HoaReadsWithin stated_limits stated_form text A) }
+    ensures once { (text : List ℕ) (A B : MarkedAutomaton) → HoaReadsWithin stated_limits stated_form text A → HoaReadsWithin stated_limits stated_form text B → A ≡ B }
+    ensures alone { (text : List ℕ) (A : MarkedAutomaton) (fault : HoaFault) → Answers text (Ok A) → Answers text (Err fault) → ¬ (IsOfText fault) }
 {}

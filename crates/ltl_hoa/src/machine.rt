@@ -61,7 +61,7 @@ fn fault_line(place: Place, kind: TokenKind, start: usize, last: usize) -> usize
 
 /// The line behind a byte.
 fn line_behind(line: usize, byte: u8) -> usize
-    requires { line ≤ 16_777_217 }
+    requires { line ≤ MOST_BYTES + 1 }
     ensures { result ≡ view.line_behind line byte }
 {
     if byte == b'\n' { line + 1 } else { line }
@@ -90,7 +90,7 @@ impl<'a, A: Allocator> Machine<'a, A> {
 
     /// Takes the bytes of a piece. Behind a fault only lines are counted. After an error nothing is claimed of the machine.
     pub(crate) fn take_piece(&mut self, piece: &[u8]) -> Result<(), AllocError>
-        requires { self.old.given + length piece.now ≤ 16_777_216 }
+        requires { self.old.given + length piece.now ≤ MOST_BYTES }
         ensures { (text : List ℕ) → IsAfter self.old text → OnOk result (IsAfter self.new (text ++ piece.now)) }
     {
         'bytes: for byte in piece {
@@ -101,7 +101,7 @@ impl<'a, A: Allocator> Machine<'a, A> {
 
     /// Takes a byte.
     fn take(&mut self, byte: u8) -> Result<(), AllocError>
-        requires { self.old.given < 16_777_216 }
+        requires { self.old.given < MOST_BYTES }
         ensures exact { (text : List ℕ) → IsAfter self.old text → OnOk result (IsAfter self.new (text ++ byte ∷ [])) }
         ensures given { OnOk result (self.new.given ≡ self.old.given + 1) }
     {

@@ -15,7 +15,10 @@ pub const MOST_STATES: usize = 65_536;
 pub const MOST_EDGES: usize = 1_048_576;
 
 /// The most names that an automaton may list.
-pub const MOST_NAMES: usize = 64;
+pub const MOST_NAMES: usize = 256;
+
+/// The most acceptance sets that an automaton may have.
+pub const MOST_SETS: usize = 64;
 
 /// An edge: its literals by the numbers of the automaton's names, its target, and the acceptance sets that it is in, by number.
 #[derive(Clone, Copy, Debug, PartialEq, Eq)]

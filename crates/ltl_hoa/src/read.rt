@@ -1,7 +1,7 @@
 //! Reading an automaton from a reader, piece by piece.
 
 ghost use Rattle.std.specs.Prelude.{◌≡◌, MatchResult, IsErrOf, ⊤};
-ghost use Rattle.ltl_hoa.specs.Reading.{AnswersHeld, IsOfText, TakesFewer, TakesText};
+ghost use Rattle.ltl_hoa.specs.Reading.{AnswersHeld, IsOfText, TakesFewer, TakesText, TakesUpTo};
 
 use crate::fault::{HoaFault, HoaFaultKind};
 use crate::machine::{MOST_BYTES, Machine};
@@ -13,7 +13,7 @@ use std::io::Read;
 const PIECE: usize = 4_096;
 
 /// Reads an automaton. The text is taken to its end, or up to one byte past its limit, whatever the answer is but for a failed read and
-/// want of memory; beside the automaton only the current token, what is open of a label and the names are kept.
+/// want of memory, where less of it may have been taken; beside the automaton only the current token, what is open of a label and the names are kept.
 pub fn hoa_read<'a, A: Allocator, R: Read>(
     alloc: &'a A,
     reader: &mut R,
@@ -21,6 +21,7 @@ pub fn hoa_read<'a, A: Allocator, R: Read>(
     ensures read { AnswersHeld (R.remaining reader.old) result }
     ensures taken { MatchResult result (λ _. TakesText (R.remaining reader.old) (R.remaining reader.new)) (λ fault. IsOfText fault → TakesText (R.remaining reader.old) (R.remaining reader.new)) }
     ensures failed { IsErrOf result HoaFault.CannotRead → TakesFewer (R.remaining reader.old) (R.remaining reader.new) }
+    ensures bounded { TakesUpTo (R.remaining reader.old) (R.remaining reader.new) }
 {
     let mut machine = Machine::new(alloc);
     let mut piece = [0u8; PIECE];

@@ -1,29 +1,57 @@
 //! What the three mains share: the words that the system hands over, and the files that they name.
 #![tactic(auto)]
 
-ghost use Rattle.std.specs.Prelude.{◌≡◌, false, map, string_bytes, IfOk};
-ghost use Rattle.ltl_host.specs.Sources.{holds_text, is_text};
+ghost use Rattle.std.specs.Prelude.{◌≡◌, false, map, string_bytes, IfOk, IfErr};
+ghost use Rattle.std.specs.IoError.{error_kind};
+ghost use Rattle.std.specs.Vec.Iter.{into_iter_items};
+ghost use Rattle.ltl_host.specs.Given.{HandsOver, fault_for};
+ghost use Rattle.ltl_host.specs.Sources.{holds_text, is_text, source_of};
 
 use ltl_cli::{FormulaWord, Plan, PlanFault, Source};
 use std::alloc::Allocator;
+use std::env::Args;
 use std::fs::File;
+use std::rt::{Env, Files};
 use std::{env, io};
 
 /// The words of the command line, the program's name first. A word that isn't UTF-8 is usage.
-pub fn words(rt: &HostRuntime) -> Result<Vec<String>, PlanFault> {
-    let given = match env::args(rt) {
-        Ok(given) => given,
-        Err(error) => return Err(fault_of(&error)),
-    };
-    let mut words = Vec::new(rt.alloc());
-    for word in given {
+pub fn words<R: Env + Alloc>(rt: &R) -> Result<Vec<String<R::A>, R::A>, PlanFault> {
+    handed(rt.alloc(), env::args(rt))
+}
+
+/// The words that the system gave, or why it gave none.
+fn handed<A: Allocator, B: Allocator>(
+    alloc: A,
+    given: io::Result<Args<B>>,
+) -> Result<Vec<String<B>, A>, PlanFault>
+    ensures { HandsOver given result }
+{
+    match given {
+        Ok(given) => listed(alloc, given),
+        Err(error) => Err(fault_of(&error)),
+    }
+}
+
+/// The words that are still to come.
+fn listed<A: Allocator, B: Allocator>(
+    alloc: A,
+    given: Args<B>,
+) -> Result<Vec<String<B>, A>, PlanFault>
+    ensures words { IfOk result (λ words. words.items ≡ into_iter_items given) }
+    ensures memory { IfErr result (λ fault. fault ≡ PlanFault.OutOfMemory) }
+{
+    let mut given = given;
+    let mut words = Vec::new(alloc);
+    'words: while let Some(word) = given.next() {
         words.push(word)?;
     }
     Ok(words)
 }
 
 /// Why there are no words.
-fn fault_of(error: &io::Error) -> PlanFault {
+fn fault_of(error: &io::Error) -> PlanFault
+    ensures { result ≡ fault_for (error_kind error.now) }
+{
     match error.kind() {
         io::ErrorKind::OutOfMemory => PlanFault::OutOfMemory,
         _ => PlanFault::Usage,
@@ -31,8 +59,12 @@ fn fault_of(error: &io::Error) -> PlanFault {
 }
 
 /// The words as texts.
-pub fn texts<'a, A: Allocator>(alloc: A, words: &'a [String]) -> Result<Vec<&'a str, A>, PlanFault>
-    ensures { IfOk result (λ texts. map (λ t. t.now) texts.items ≡ map string_bytes words.entry.now) }
+pub fn texts<'a, A: Allocator, B: Allocator>(
+    alloc: A,
+    words: &'a [String<B>],
+) -> Result<Vec<&'a str, A>, PlanFault>
+    ensures texts { IfOk result (λ texts. map (λ t. t.now) texts.items ≡ map string_bytes words.entry.now) }
+    ensures memory { IfErr result (λ fault. fault ≡ PlanFault.OutOfMemory) }
 {
     let mut texts = Vec::new(alloc);
     for word in words {
@@ -42,17 +74,24 @@ pub fn texts<'a, A: Allocator>(alloc: A, words: &'a [String]) -> Result<Vec<&'a 
 }
 
 /// The file of that name. Why it could not be opened isn't told.
-pub fn opened(rt: &HostRuntime, name: &str) -> Source<File>
+pub fn opened<R: Files>(rt: &R, name: &str) -> Source<R::File>
     ensures { is_text result ≡ false }
 {
-    match File::open(rt, name) {
+    tried(File::open(rt, name))
+}
+
+/// What came of opening a file.
+fn tried<F: Drop>(opened: io::Result<F>) -> Source<F>
+    ensures { result ≡ source_of opened }
+{
+    match opened {
         Ok(file) => Source::Input(file),
         Err(_) => Source::NotOpened,
     }
 }
 
 /// The source of the formula: its file, where the plan names one.
-pub fn formula_source(rt: &HostRuntime, plan: &Result<Plan<'_>, PlanFault>) -> Source<File>
+pub fn formula_source<R: Files>(rt: &R, plan: &Result<Plan<'_>, PlanFault>) -> Source<R::File>
     ensures { is_text result ≡ holds_text plan.now }
 {
     let Ok(plan) = plan else {

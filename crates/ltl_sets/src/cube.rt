@@ -47,6 +47,15 @@ impl Model for Cube {
     ghost inverse_ok = { cube_again };
 }
 
+/// No literals.
+impl Default for Cube {
+    ghost is_default = { λ c. c ≡ [] };
+
+    fn default() -> Cube {
+        Cube::empty()
+    }
+}
+
 impl Cube {
     pub fn empty() -> Cube
         ensures { result ≡ [] }

@@ -11,3 +11,4 @@ pub mod VerdictLaws
 pub mod BelowLaws
 pub mod DocumentLaws
 pub mod ContainedLaws
+pub mod GeneralizedRead

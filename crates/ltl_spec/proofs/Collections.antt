@@ -5,3 +5,4 @@ pub mod ListLaws
 pub mod MemberLaws
 pub mod Orders
 pub mod SortedSets
+pub mod SumLaws

@@ -4,6 +4,8 @@ pub mod LevelLaws
 pub mod ClimbLaws
 pub mod LevelRuns
 pub mod RenumberedRuns
+pub mod EdgeBounds
+pub mod GeneralizedBounds
 pub mod ImpliedEdges
 pub mod SetEdges
 pub mod QuotientRuns

@@ -6,4 +6,6 @@ pub mod PruningExamples
 pub mod CheckTexts
 pub mod CheckExamples
 pub mod InputTexts
+pub mod GeneralizedTexts
+pub mod LimitTexts
 pub mod ProgramTexts

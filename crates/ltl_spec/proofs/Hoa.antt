@@ -9,3 +9,8 @@ pub mod HoaLabelBack
 pub mod HoaHeaderBack
 pub mod HoaBodyBack
 pub mod HoaBackLaws
+pub mod SpelledLaws
+pub mod SpelledStates
+pub mod SpelledLabels
+pub mod GeneralizedBack
+pub mod AcceptanceLaws

@@ -8,4 +8,5 @@ pub mod Construction
 pub mod Words
 pub mod Hoa
 pub mod Checking
+pub mod Tools
 pub mod Examples

@@ -5,3 +5,5 @@ pub mod Names
 pub mod Grammar
 pub mod Fault
 pub mod Canonical
+pub mod GrammarMachine
+pub mod Outline

@@ -2,5 +2,6 @@
 pub mod HoaToken
 pub mod HoaLabel
 pub mod HoaReading
+pub mod HoaPrinted
 pub mod HoaFaultKind
 pub mod HoaFault

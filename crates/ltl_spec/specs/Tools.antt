@@ -3,3 +3,4 @@ pub mod Limits
 pub mod Refusal
 pub mod Outcome
 pub mod Programs
+pub mod Run

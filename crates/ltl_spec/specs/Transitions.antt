@@ -2,3 +2,4 @@
 pub mod Cubes
 pub mod Pairs
 pub mod RowTransitions
+pub mod Pruning

@@ -3,7 +3,8 @@
 use ltl_hoa::{HoaFault, HoaFaultKind, Marked, MarkedEdge, hoa_read};
 use ltl_sets::{Cube, RowSet};
 use refusing::Refusing;
-use std::alloc::Allocator;
+use std::alloc::{AllocError, Allocator};
+use std::fmt::InlineText;
 use std::io::{self, Read};
 use std::test::Fail;
 
@@ -130,7 +131,7 @@ const REFUSED: [(&str, usize, HoaFaultKind); 29] = [
         HoaFaultKind::NumberOutOfRange,
     ),
     (
-        "HOA: v1\nStates: 1\nStart: 0\nAP: 65\nAcceptance: 1 Inf(0)\n--BODY--\nState: 0 {0}\n[!0] 0\n--END--\n",
+        "HOA: v1\nStates: 1\nStart: 0\nAP: 257\nAcceptance: 1 Inf(0)\n--BODY--\nState: 0 {0}\n[!0] 0\n--END--\n",
         4,
         HoaFaultKind::LimitPassed,
     ),
@@ -217,6 +218,45 @@ const LABELS: [(&str, usize); 5] = [
     (
         "HOA: v1\nStates: 1\nStart: 0\nAP: 24 \"p0\" \"p1\" \"p2\" \"p3\" \"p4\" \"p5\" \"p6\" \"p7\" \"p8\" \"p9\" \"p10\" \"p11\" \"p12\" \"p13\" \"p14\" \"p15\" \"p16\" \"p17\" \"p18\" \"p19\" \"p20\" \"p21\" \"p22\" \"p23\"\nAcceptance: 1 Inf(0)\n--BODY--\nState: 0 {0}\n[(0|1)&(2|3)&(4|5)&(6|7)&(8|9)&(10|11)&(12|13)&(14|15)&(16|17)&(18|19)&(20|21)&(22|23)] 0\n--END--\n",
         4096,
+    ),
+];
+
+/// Messages, each once.
+const MESSAGES: [(HoaFaultKind, &str); 11] = [
+    (
+        HoaFaultKind::NotHoaVersion1,
+        "automaton: line 12: not HOA v1",
+    ),
+    (HoaFaultKind::BadToken, "automaton: line 12: bad token"),
+    (HoaFaultKind::ItemTwice, "automaton: line 12: item twice"),
+    (
+        HoaFaultKind::ItemMissing,
+        "automaton: line 12: item missing",
+    ),
+    (
+        HoaFaultKind::UnknownItem,
+        "automaton: line 12: unknown item",
+    ),
+    (HoaFaultKind::Unsupported, "automaton: line 12: unsupported"),
+    (
+        HoaFaultKind::NumberOutOfRange,
+        "automaton: line 12: number out of range",
+    ),
+    (
+        HoaFaultKind::BadPropositionList,
+        "automaton: line 12: bad AP list",
+    ),
+    (
+        HoaFaultKind::StateDefinedTwice,
+        "automaton: line 12: state defined twice",
+    ),
+    (
+        HoaFaultKind::TextAfterEnd,
+        "automaton: line 12: text after the end",
+    ),
+    (
+        HoaFaultKind::LimitPassed,
+        "automaton: line 12: limit passed",
     ),
 ];
 
@@ -331,6 +371,53 @@ fn refused(rt: HostRuntime) {
         assert_eq!(rt; read.err(), Some(HoaFault::AtLine(line, kind)), "{text}");
         assert!(rt; reader.rest.is_empty());
     }
+}
+
+/// The message of a fault.
+fn said(fault: HoaFault) -> InlineText<64> {
+    InlineText::of(fault)
+}
+
+#[test]
+fn messages(rt: HostRuntime) {
+    for i in 0..MESSAGES.len() {
+        let (kind, message) = MESSAGES[i];
+        assert_eq!(rt; said(HoaFault::AtLine(12, kind)).as_str(), message);
+    }
+    assert_eq!(rt; said(HoaFault::CannotRead).as_str(), "cannot read");
+    assert_eq!(rt; said(HoaFault::OutOfMemory).as_str(), "out of memory");
+}
+
+/// A text that lists 256 names of two letters. Its only edge has the last one.
+fn many_names<A: Allocator>(alloc: &A) -> Result<Vec<u8, &A>, AllocError> {
+    let mut text = Vec::new(alloc);
+    text.extend_from_slice(b"HOA: v1\nStates: 1\nStart: 0\nAP: 256")?;
+    for first in b"abcdefghijklmnop" {
+        for second in b"abcdefghijklmnop" {
+            text.extend_from_slice(&[b' ', b'"', *first, *second, b'"'])?;
+        }
+    }
+    text.extend_from_slice(b"\nAcceptance: 1 Inf(0)\n--BODY--\nState: 0\n[255] 0\n--END--\n")?;
+    Ok(text)
+}
+
+#[test]
+fn names_to_the_limit(rt: HostRuntime) -> Result<(), Fail> {
+    let alloc = rt.alloc();
+    let text = many_names(&alloc)?;
+    let mut reader = Pieces {
+        rest: text.as_slice(),
+        size: 4_096,
+        left: usize::MAX,
+    };
+    let read = hoa_read(&alloc, &mut reader);
+    assert!(rt;
+        read.is_ok_and(|automaton| {
+            automaton.names().len() == 256
+                && leads(&automaton, 0, 0, Cube::literal(255, true), 0, false)
+        })
+    );
+    Ok(())
 }
 
 #[test]

@@ -1,5 +1,4 @@
 pub mod BlockLaws
-pub mod DigitLemmas
 pub mod EdgeLaws
 pub mod HoaLaws
 pub mod LabelLaws

@@ -3,3 +3,6 @@ pub mod HoaPieces
 pub mod Names
 pub mod Options
 pub mod Sending
+pub use Rattle.ltl_hoa.specs.MarkedView
+pub use Rattle.ltl_hoa.specs.Printed
+pub use Rattle.ltl_hoa.specs.Reading

@@ -1,7 +1,9 @@
 //! Decimal numbers with no memory.
 
-ghost use Rattle.std.specs.Prelude.{◌≡◌, ◌≤◌, ◌<◌, ◌++◌, length, drop};
+ghost use Rattle.std.specs.Prelude.{◌≡◌, ◌≤◌, drop};
 ghost use Rattle.std.specs.Fmt.{decimal};
+
+use itoa::write_digits;
 
 /// The digits of a number, in a buffer of their own.
 #[derive(Clone, Copy)]
@@ -12,21 +14,16 @@ pub struct Digits {
 }
 
 impl Digits {
+    /// The digits of this number.
     pub fn of(number: u64) -> Digits
         ensures { drop result.start result.bytes ≡ decimal number }
     {
         let mut bytes = [0u8; 20];
-        let mut start = 19usize;
-        bytes[start] = b'0' + (number % 10) as u8;
-        let mut rest = number / 10;
-        'digits: while rest > 0 {
-            start -= 1;
-            bytes[start] = b'0' + (rest % 10) as u8;
-            rest /= 10;
-        }
+        let start = write_digits(number, &mut bytes, 20);
         Digits { bytes, start }
     }
 
+    /// The digits, the first one first.
     pub fn as_slice(&self) -> &[u8]
         ensures { result.now ≡ drop self.now.start self.now.bytes }
     {

@@ -12,3 +12,4 @@ mod piece;
 pub use claim::never_to;
 pub use digits::Digits;
 pub use hoa::hoa_to;
+pub use ltl_hoa::{HoaFault, HoaFaultKind, Marked, MarkedEdge, hoa_read, laws};

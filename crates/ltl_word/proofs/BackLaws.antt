@@ -8,8 +8,7 @@ use Rattle.ltl_spec.specs.Semantics.Satisfaction.{HoldsUntil}
 use Rattle.ltl_spec.proofs.Collections.CaseLaws.{left_true, right_true, false_is_true}
 use Rattle.ltl_spec.proofs.Semantics.LassoLaws.{after_add}
 use Rattle.ltl_spec.proofs.Semantics.UntilLaws.{until_first, until_now, until_later}
-use Rattle.std.proofs.Common.{List, length, ◌/◌}
-use Rattle.ltl_word.specs.Rows.{step_of, back, turned, bit_of, IsRowFrom}
+use Rattle.ltl_word.specs.Rows.{step_of, back}
 
 module _ (left right : ℕ → Bool) where
   abbrev go : ℕ → ℕ → Bool → Bool
@@ -145,37 +144,3 @@ module _ (left right : ℕ → Bool) where
             | inr r ↦ or_right (right i) _ (and_both (left i) _ r.0 (rest.1 (subst Until next r.1)))
           ],
         )
-
--- one position more
-back_step : (left right : ℕ → Bool) (count i : ℕ) (turn : Bool) → 0 < i → i ≤ count → back left right (count - (i - 1)) (i - 1) turn ≡ (right (i - 1) || left (i - 1) && back left right (count - i) i turn)
-back_step left right count i turn p l =
-    let more : count - (i - 1) ≡ suc (count - i) = omega arith in
-    let next : i - 1 + 1 ≡ i = omega arith in
-    ap (λ k. back left right k (i - 1) turn) more ∙ ap (λ j. right (i - 1) || left (i - 1) && back left right (count - i) j turn) next
-
-pub value_step : (left right : ℕ → Bool) (count i : ℕ) (turn later v : Bool) → 0 < i → i ≤ count → later ≡ back left right (count - i) i turn → v ≡ (right (i - 1) || left (i - 1) && later)
-    → v ≡ back left right (count - (i - 1)) (i - 1) turn
-value_step left right count i turn later v p l e f = f ∙ ap (λ t. right (i - 1) || left (i - 1) && t) e ∙ sym (back_step left right count i turn p l)
-
-turned_twice : (negated t : Bool) → turned negated (turned negated t) ≡ t
-turned_twice true true = refl
-turned_twice true false = refl
-turned_twice false true = refl
-turned_twice false false = refl
-
--- the row of the values
-pub until_row : (left right : ℕ → Bool) (negated : Bool) (stem count i : ℕ) (row : List ℕ) → stem < count → i ≤ 0
-    → IsRowFrom (λ j. turned negated (back left right (count - j) j (back left right (count - stem) stem false))) i count row
-    → (length row ≡ count / 64 + 1)
-    × ((j : ℕ) → j < count → Decides (turned negated (bit_of row j)) (HoldsUntil (step_of stem count) (λ k. IsTrue (left k)) (λ k. IsTrue (right k)) j))
-until_row left right negated stem count i row c z h = (
-  h.long,
-  λ j l.
-      let turn = back left right (count - stem) stem false in
-      let split : count - j ≡ suc (count - j - 1) = omega arith in
-      let place : j + suc (count - j - 1) ≡ count = omega arith in
-      let same : turned negated (bit_of row j) ≡ back left right (suc (count - j - 1)) j turn =
-      ap (turned negated) (h.done j (omega arith) l) ∙ turned_twice negated (back left right (count - j) j turn) ∙ ap (λ k. back left right k j turn) split in
-      let d = back_decides left right stem count c turn (cycle_decides left right stem count c) (count - j - 1) j place in
-      ((λ e. d.0 (sym same ∙ e)), λ u. same ∙ d.1 u),
-)

@@ -6,8 +6,9 @@ use Rattle.std.proofs.lemmas.Bool.{cases_eq}
 use Rattle.std.proofs.lemmas.List.{get_or-set_same, get_or-set_other, get_or-replicate, length-replicate}
 use Rattle.std.specs.Int.{bit_at, bit_not}
 use Rattle.std.specs.Bool.{beq}
+use Rattle.std.proofs.lemmas.Nat.{and_mask, one_shl, shr-shr}
 use Rattle.std.proofs.lemmas.Bool.Decides.{nat_tests}
-use Rattle.std.proofs.lemmas.Nat.Bits.{bit_at-lt, bit_at_or, bit_at_and, bit_at_xor, bit_at_not, bit_at-zero, bit_at_ones, bit_at_set_same, bit_at_set_other}
+use Rattle.std.proofs.lemmas.Nat.Bits.{bit_at-lt, bit_at_lowest, bit_at_or, bit_at_and, bit_at_xor, bit_at_not, bit_at-zero, bit_at_ones, bit_at-pow_same, bit_at-pow_other, bit_at_above}
 use Rattle.ltl_word.specs.Rows.{bit_of, IsRowFrom}
 
 either_one : (x y z : ℕ) → x < 2 → y < 2 → z ≡ max x y → nat_eq z 1 ≡ (nat_eq x 1 || nat_eq y 1)
@@ -59,44 +60,78 @@ push_each P (y ∷ ys) x f h (suc k) l = push_each (λ j. P (suc j)) ys x (λ j 
 pub push_count : (xs : List ℕ) (x n : ℕ) → length xs ≡ n → length (xs ++ x ∷ []) ≡ n + 1
 push_count xs x n e = let l = length-append xs (x ∷ []) in omega (arith, l, e)
 
--- the bits of a word with one more
-set_one : (n k j : ℕ) → k < 64 → one (bit_or n (1 * 2 ^ k % 18446744073709551616)) j ≡ (nat_eq j k || one n j)
-set_one n k j l = elim (cases_eq j k) [
-  | inl e ↦ ap (λ m. one (bit_or n (1 * 2 ^ k % 18446744073709551616)) m) e ∙ ap (λ b. nat_eq b 1) (bit_at_set_same w64 n k l) ∙ sym (ap (λ t. t || one n j) (same j k e))
-  | inr d ↦ ap (λ b. nat_eq b 1) (bit_at_set_other w64 n k l j d) ∙ sym (ap (λ t. t || one n j) (other j k d))
+same : (a b : ℕ) → a ≡ b → nat_eq a b ≡ true
+same a b e = grind (arith, nat_tests)
+
+apart : (a b : ℕ) → a ≢ b → nat_eq a b ≡ false
+apart a b d = grind (arith, nat_tests)
+
+-- the only bit of a word
+pub one_bit : (k j : ℕ) → k < 64 → one (1 * 2 ^ k % 18446744073709551616) j ≡ nat_eq j k
+one_bit k j l = elim (cases_eq j k) [
+  | inl e ↦ ap (λ m. one (1 * 2 ^ k % 18446744073709551616) m) e ∙ ap (λ m. one m k) (one_shl k 64 l) ∙ ap (λ b. nat_eq b 1) (bit_at-pow_same k) ∙ sym (same j k e)
+  | inr d ↦ ap (λ m. one m j) (one_shl k 64 l) ∙ ap (λ b. nat_eq b 1) (bit_at-pow_other k j d) ∙ sym (apart j k d)
 ]
-  where
-    same : (a b : ℕ) → a ≡ b → nat_eq a b ≡ true
-    same a b e = grind (arith, nat_tests)
 
-    other : (a b : ℕ) → a ≢ b → nat_eq a b ≡ false
-    other a b d = grind (arith, nat_tests)
+or_true : (s : Bool) → (s || true) ≡ true
+or_true true = refl
+or_true false = refl
 
--- the bits of a row with one more
-pub set_bit : (ws : List ℕ) (i j : ℕ) → i / 64 < length ws → bit_of (slice_set ws (i / 64) (bit_or (slice_index ws (i / 64)) (1 * 2 ^ (i % 64) % 18446744073709551616))) j ≡ (nat_eq j i || bit_of ws j)
-set_bit ws i j l = elim (cases_eq (j / 64) (i / 64)) [
+pub or_false : (s : Bool) → (s || false) ≡ s
+or_false true = refl
+or_false false = refl
+
+pub and_false : (s : Bool) → (s && false) ≡ false
+and_false true = refl
+and_false false = refl
+
+pub and_true : (s : Bool) → (s && true) ≡ s
+and_true true = refl
+and_true false = refl
+
+-- a bit that is put into a word
+pub bit_more : (n k : ℕ) → k < 64 → one (bit_or n (1 * 2 ^ k % 18446744073709551616)) k ≡ true
+bit_more n k l = one_or n (1 * 2 ^ k % 18446744073709551616) k ∙ ap (λ t. one n k || t) (one_bit k k l ∙ same k k refl) ∙ or_true (one n k)
+
+pub others_more : (n k j : ℕ) → k < 64 → j ≢ k → one (bit_or n (1 * 2 ^ k % 18446744073709551616)) j ≡ one n j
+others_more n k j l d = one_or n (1 * 2 ^ k % 18446744073709551616) j ∙ ap (λ t. one n j || t) (one_bit k j l ∙ apart j k d) ∙ or_false (one n j)
+
+bit_fits : (k : ℕ) → k < 64 → 1 * 2 ^ k % 18446744073709551616 < 2 ^ 64
+bit_fits k l = omega arith
+
+pub bit_less : (n k : ℕ) → k < 64 → one (bit_and n (bit_not w64 (1 * 2 ^ k % 18446744073709551616))) k ≡ false
+bit_less n k l =
+    one_and n (bit_not w64 (1 * 2 ^ k % 18446744073709551616)) k
+    ∙ ap (λ t. one n k && t) (one_not (1 * 2 ^ k % 18446744073709551616) k (bit_fits k l) l ∙ ap not (one_bit k k l ∙ same k k refl)) ∙ and_false (one n k)
+
+pub others_less : (n k j : ℕ) → k < 64 → j < 64 → j ≢ k → one (bit_and n (bit_not w64 (1 * 2 ^ k % 18446744073709551616))) j ≡ one n j
+others_less n k j l m d =
+    one_and n (bit_not w64 (1 * 2 ^ k % 18446744073709551616)) j
+    ∙ ap (λ t. one n j && t) (one_not (1 * 2 ^ k % 18446744073709551616) j (bit_fits k l) m ∙ ap not (one_bit k j l ∙ apart j k d)) ∙ and_true (one n j)
+
+-- the bits of a word that is shifted
+pub one_shr : (n s k : ℕ) → one (n / 2 ^ s) k ≡ one n (k + s)
+one_shr n s k = let e : s + k ≡ k + s = omega arith in ap (λ x. nat_eq (x % 2) 1) (shr-shr n s k) ∙ ap (λ i. one n i) e
+
+-- no bit is set above the others
+pub none_above : (n k : ℕ) → n < 2 ^ 64 → 64 ≤ k → one n k ≡ false
+none_above n k l m = ap (λ b. nat_eq b 1) (bit_at_above n 64 k l m)
+
+-- the bits of rows with another word
+pub put_here : (ws : List ℕ) (i word : ℕ) (value : Bool) → i / 64 < length ws → one word (i % 64) ≡ value → bit_of (slice_set ws (i / 64) word) i ≡ value
+put_here ws i word value l e = ap (λ w. one w (i % 64)) (get_or-set_same ws (i / 64) word 0 l) ∙ e
+
+pub put_others : (ws : List ℕ) (i j word : ℕ) → i / 64 < length ws → ((k : ℕ) → k < 64 → k ≢ i % 64 → one word k ≡ one (slice_index ws (i / 64)) k) → j ≢ i → bit_of (slice_set ws (i / 64) word) j ≡ bit_of ws j
+put_others ws i j word l f d = elim (cases_eq (j / 64) (i / 64)) [
   | inl e ↦
-      ap (λ m. one (slice_index (slice_set ws (i / 64) new) m) (j % 64)) e
-      ∙ ap (λ w. one w (j % 64)) (get_or-set_same ws (i / 64) new 0 l)
-      ∙ set_one (slice_index ws (i / 64)) (i % 64) (j % 64) (omega arith)
-      ∙ ap (λ t. t || one (slice_index ws (i / 64)) (j % 64)) (here j i e)
-      ∙ ap (λ m. nat_eq j i || one (slice_index ws m) (j % 64)) (sym e)
-  | inr d ↦
-      ap (λ w. one w (j % 64)) (get_or-set_other ws (i / 64) (j / 64) new 0 d)
-      ∙ sym (ap (λ t. t || bit_of ws j) (apart j i d))
+      ap (λ m. one (slice_index (slice_set ws (i / 64) word) m) (j % 64)) e
+      ∙ ap (λ w. one w (j % 64)) (get_or-set_same ws (i / 64) word 0 l)
+      ∙ f (j % 64) (omega arith) (λ q. d (omega arith))
+      ∙ ap (λ m. one (slice_index ws m) (j % 64)) (sym e)
+  | inr q ↦ ap (λ w. one w (j % 64)) (get_or-set_other ws (i / 64) (j / 64) word 0 q)
 ]
-  where
-    new : ℕ
-    new = bit_or (slice_index ws (i / 64)) (1 * 2 ^ (i % 64) % 18446744073709551616)
 
-    here : (a b : ℕ) → a / 64 ≡ b / 64 → nat_eq (a % 64) (b % 64) ≡ nat_eq a b
-    here a b e = grind (arith, nat_tests)
-
-    apart : (a b : ℕ) → a / 64 ≢ b / 64 → nat_eq a b ≡ false
-    apart a b d = grind (arith, nat_tests)
-
--- many words of one kind
-ones_at : (k : ℕ) → k < 64 → one 18446744073709551615 k ≡ true
+pub ones_at : (k : ℕ) → k < 64 → one 18446744073709551615 k ≡ true
 ones_at k l = ap (λ b. nat_eq b 1) (bit_at_ones 64 k l)
 
 zeros_at : (k : ℕ) → one 0 k ≡ false
@@ -121,46 +156,27 @@ any_default [] i d e l = absurd (omega arith)
 any_default (x ∷ xs) zero d e l = refl
 any_default (x ∷ xs) (suc i) d e l = let m : i < length xs = omega arith in any_default xs i d e m
 
-pub set_bit_at : (old ws : List ℕ) (w i j : ℕ) → old ≡ ws → i / 64 < length old → w ≡ get_or ws (i / 64) w
-    → bit_of (slice_set ws (i / 64) (bit_or w (1 * 2 ^ (i % 64) % 18446744073709551616))) j ≡ (nat_eq j i || bit_of old j)
-set_bit_at old ws w i j e m f =
-    let l : i / 64 < length ws = subst (λ v. i / 64 < length v) e m in
-    ap (λ v. bit_of (slice_set ws (i / 64) (bit_or v (1 * 2 ^ (i % 64) % 18446744073709551616))) j) (f ∙ any_default ws (i / 64) w 0 l)
-    ∙ set_bit ws i j l ∙ ap (λ v. nat_eq j i || bit_of v j) (sym e)
-
 -- rows from a position on
 
--- no bit is set yet
-pub row_begun : (f : ℕ → Bool) (count : ℕ) (bits : List ℕ) → length bits ≡ count / 64 + 1 → ((j : ℕ) → j / 64 < length bits → bit_of bits j ≡ false) → IsRowFrom f count count bits
-row_begun f count bits l e = record { long = l; done = λ j m n. absurd (omega arith); rest = λ j m. e j (omega arith) }
+-- no bit is asked for yet
+pub row_begun : (f : ℕ → Bool) (count : ℕ) (bits : List ℕ) → length bits ≡ count / 64 + 1 → IsRowFrom f count count bits
+row_begun f count bits l = record { long = l; done = λ j m n. absurd (omega arith) }
 
 -- one bit more
-pub row_more : (f : ℕ → Bool) (i count : ℕ) (old new : List ℕ) (value : Bool) → i + 1 ≤ count → IsRowFrom f (i + 1) count old → length new ≡ length old
-    → ((j : ℕ) → j / 64 < length old → bit_of new j ≡ (value && nat_eq j i || bit_of old j)) → value ≡ f i → IsRowFrom f i count new
-row_more f i count old new value w h e g v = record {
+pub row_more : (f : ℕ → Bool) (i count : ℕ) (old new : List ℕ) (value : Bool) → i + 1 ≤ count → IsRowFrom f (i + 1) count old → length new ≡ length old → bit_of new i ≡ value
+    → ((j : ℕ) → j / 64 < length old → j ≢ i → bit_of new j ≡ bit_of old j) → value ≡ f i → IsRowFrom f i count new
+row_more f i count old new value w h e here others v = record {
   long = e ∙ h.long;
   done = λ j m n. let l = h.long in let within : j / 64 < length old = omega arith in elim (cases_eq j i) [
-    | inl q ↦ g j within ∙ ap (λ t. value && t || bit_of old j) (same j i q) ∙ ap (λ b. value && true || b) (h.rest j (omega arith)) ∙ plain value ∙ v ∙ ap f (sym q)
-    | inr d ↦ g j within ∙ ap (λ t. value && t || bit_of old j) (apart j i d) ∙ none value (bit_of old j) ∙ h.done j (omega arith) n
+    | inl q ↦ ap (bit_of new) q ∙ here ∙ v ∙ ap f (sym q)
+    | inr d ↦ others j within d ∙ h.done j (omega arith) n
   ];
-  rest = λ j m. let l = h.long in let within : j / 64 < length old = omega arith in
-      g j within ∙ ap (λ t. value && t || bit_of old j) (apart j i (λ q. omega arith)) ∙ none value (bit_of old j) ∙ h.rest j (omega arith);
 }
-  where
-    plain : (s : Bool) → (s && true || false) ≡ s
-    plain true = refl
-    plain false = refl
-
-    none : (s t : Bool) → (s && false || t) ≡ t
-    none true t = refl
-    none false t = refl
-
-    same : (a b : ℕ) → a ≡ b → nat_eq a b ≡ true
-    same a b q = grind (arith, nat_tests)
-
-    apart : (a b : ℕ) → a ≢ b → nat_eq a b ≡ false
-    apart a b d = grind (arith, nat_tests)
 
 -- one row more
 pub count_push : {X : Type 0} (xs : List X) (x : X) (ys : List X) (n : ℕ) → ys ≡ xs ++ x ∷ [] → length xs ≡ n → length ys ≡ n + 1
 count_push xs x ys n e l = let m = length-append xs (x ∷ []) in let k = ap length e in omega (arith, l, m, k)
+
+-- the test of the lowest bit
+pub lowest_bit : (n : ℕ) → nat_eq (bit_and n 1) 1 ≡ one n 0
+lowest_bit n = ap (λ x. nat_eq x 1) (and_mask n 1 ∙ sym (bit_at_lowest n))

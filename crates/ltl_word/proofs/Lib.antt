@@ -1,4 +1,5 @@
 mod BackLaws
+mod BackWords
 mod BitLemmas
 mod LeastRows
 mod LetterLaws

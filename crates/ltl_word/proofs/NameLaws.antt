@@ -29,7 +29,7 @@ use Rattle.ltl_spec.specs.Semantics.Word.{Lasso}
 use Rattle.ltl_spec.specs.Words.LassoText.{names_in, with_sets}
 use Rattle.ltl_spec.proofs.Collections.CaseLaws.{left_true, right_true}
 use Rattle.ltl_spec.proofs.Collections.MemberLaws.{all_Decides, map_length}
-use Rattle.ltl_spec.proofs.Collections.ListLaws.{numbered_short, place_below, at_place, Has-first_occurrences, first_occurrences_cases}
+use Rattle.ltl_spec.proofs.Collections.ListLaws.{Has-at, numbered_short, place_below, at_place, Has-first_occurrences, first_occurrences_cases}
 use Rattle.ltl_spec.proofs.Collections.SetLaws.{append_cases, append_left, append_right, set_of_cases, Has-set_of, Has-put, irreflexive}
 use Rattle.ltl_spec.proofs.Checking.UnifiedLaws.{HasNoRepeats-unified}
 use Rattle.ltl_spec.proofs.Formulas.NameLaws.{same_name_Decides}
@@ -39,6 +39,8 @@ use Rattle.ltl_word.specs.NameView.{AreAllPlaces, IsKnown}
 use Rattle.ltl_word.specs.ReadText.{IsReadAs, IsRefusedFor, IsWritten, IsSpelled, RefusesLetters}
 use Rattle.ltl_word.specs.WrittenView.{WrittenView, letters_of}
 use Rattle.ltl_sets.specs.PlaceLaws.{less}
+use Rattle.ltl_sets.specs.declared.row_set.TheConstants.RowSet.{LIMIT}
+use Rattle.ltl_spec.specs.Tools.Limits.{stated_limits}
 
 -- one place more
 pub one_more : (P : ℕ → Type 0) (at : ℕ) → ((k : ℕ) → k < at → P k) → P at → (k : ℕ) → k < at + 1 → P k
@@ -48,6 +50,10 @@ one_more P at f h k l =
 
 pub mapped_at : {X : Type 0} (f : X → Name) (xs : List X) (x : X) (at : ℕ) → at < length xs → x ≡ slice_index_or xs at x → slice_index_or (map f xs) at [] ≡ f x
 mapped_at f xs x at l e = get_or-map f xs at x [] l ∙ ap f (sym e)
+
+-- the same at a slice of the list
+pub mapped_in : {X : Type 0} (f : X → Name) (xs ys : List X) (d : X) (at : ℕ) → ys ≡ xs → at < length xs → slice_index_or (map f xs) at [] ≡ f (slice_index_or ys at d)
+mapped_in f xs ys d at e l = get_or-map f xs at d [] l ∙ ap (λ zs. f (slice_index_or zs at d)) (sym e)
 
 ties : (n : Name) → name_cmp n n ≡ Equal
 ties n = tied_itself name_linear.total n
@@ -284,9 +290,12 @@ places_done names letter i places l h = let e : i ≡ 0 = omega arith in subst (
     all [] = refl
     all (y ∷ ys) = refl
 
--- a place in a list of few names
-pub few_places : (names : List Name) → IsRising name_cmp names → (name : Name) (at : ℕ) → FindsName name names at → AllByRecursion (Has names) (name ∷ []) → length names ≤ 64 → at < 256
-few_places names r name at h m l = let w = h.within in omega (arith, w, l)
+-- a listed name of a letter has a place in a list of few names
+pub few_places : (names letter : List Name) → IsRising name_cmp names → AllByRecursion (Has names) letter → (i : ℕ) (name : Name) (at : ℕ) → i < length letter → slice_index_or letter i [] ≡ name → FindsName name names at → length names ≤ stated_limits.propositions → at < LIMIT
+few_places names letter r known i name at b e h l =
+    let m = all_at (Has names) letter (slice_index_or letter i []) known (Has-at letter i [] b) in
+    let w = (found_place names r name at h (subst (Has names) e m)).0 in
+    omega (arith, w, l)
 
 -- all letters
 
@@ -464,17 +473,17 @@ unified_count names v = (
     up : (z : Name) → Has (names ++ names_in v) z → Has (names ++ names_in (with_sets v)) z
     up z h = elim (append_cases names (names_in v) z h) [ inl k ↦ append_left names (names_in (with_sets v)) z k | inr k ↦ append_right names (names_in (with_sets v)) z ((same_names v z).0 k) ]
 
-pub read_word : (names list : List Name) (text : List ℕ) (v : WrittenView) (w : Lasso) → length text ≤ 65536 → IsWritten text v → AddsNames [] (names ++ names_in (letters_of v)) list → w ≡ with_sets (letters_of v) → IsReadAs names text w
+pub read_word : (names list : List Name) (text : List ℕ) (v : WrittenView) (w : Lasso) → length text ≤ stated_limits.word_bytes → IsWritten text v → AddsNames [] (names ++ names_in (letters_of v)) list → w ≡ with_sets (letters_of v) → IsReadAs names text w
 read_word names list text v w l written a e =
     subst (IsReadAs names text) (sym e) (l, written.0, λ more. let c = (unified_count names (letters_of v)).0 in let f = a.1 in let g = ap length a.0 in omega (arith, c, f, g, more))
 
-pub refused_word : (names : List Name) (text : List ℕ) (v : WrittenView) (fault : WordFault) → length text ≤ 65536 → IsWritten text v → RefusesNames (length (with_names [] (names ++ names_in (letters_of v)))) fault → IsRefusedFor names text fault
+pub refused_word : (names : List Name) (text : List ℕ) (v : WrittenView) (fault : WordFault) → length text ≤ stated_limits.word_bytes → IsWritten text v → RefusesNames (length (with_names [] (names ++ names_in (letters_of v)))) fault → IsRefusedFor names text fault
 refused_word names text v TooLong l written h = absurd h
 refused_word names text v (BadWord p) l written h = absurd h
 refused_word names text v TooManyPropositions l written h = (l, (with_sets (letters_of v), written.0, let c = (unified_count names (letters_of v)).1 in omega (arith, c, h)))
 refused_word names text v OutOfMemory l written h = l
 
-pub refused_letters : (names : List Name) (text : List ℕ) (fault : WordFault) → length text ≤ 65536 → RefusesLetters text fault → IsRefusedFor names text fault
+pub refused_letters : (names : List Name) (text : List ℕ) (fault : WordFault) → length text ≤ stated_limits.word_bytes → RefusesLetters text fault → IsRefusedFor names text fault
 refused_letters names text TooLong l h = absurd h
 refused_letters names text (BadWord p) l h = (l, h)
 refused_letters names text TooManyPropositions l h = absurd h

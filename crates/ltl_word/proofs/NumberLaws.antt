@@ -6,6 +6,7 @@ use Rattle.ltl_spec.specs.Collections.Sets.{Has, put, set_of}
 use Rattle.ltl_spec.specs.Semantics.Word.{Name, name_cmp, Lasso}
 use Rattle.ltl_spec.specs.Formulas.Names.{is_proposition}
 use Rattle.ltl_spec.specs.Words.LassoText.{with_sets, names_in}
+use Rattle.ltl_spec.specs.Tools.Limits.{stated_limits}
 use Rattle.ltl_spec.proofs.Collections.SetLaws.{all_at, all_from, append_left, append_right}
 use Rattle.ltl_spec.proofs.Collections.ListLaws.{All-at_has, Has-at}
 use Rattle.ltl_spec.proofs.Collections.MemberLaws.{all_Decides, map_cases, map_length, flat_map_cases}
@@ -50,7 +51,7 @@ names_few : (ns set : List Name) → length (with_names set ns) ≤ length set +
 names_few [] set = omega arith
 names_few (n ∷ ns) set = let l = names_few ns (put name_cmp n set) in let m = put_shorter n set in omega (arith, l, m)
 
-pub listed_known : (names : List Name) (stem cycle : List (List ℕ)) → IsTrue (list_all is_proposition names) → length names ≤ 64 → All (All (λ i. i < length names)) (stem ++ cycle) → 0 < length cycle → IsKnown (with_names [] names) (listed names stem cycle)
+pub listed_known : (names : List Name) (stem cycle : List (List ℕ)) → IsTrue (list_all is_proposition names) → length names ≤ stated_limits.propositions → All (All (λ i. i < length names)) (stem ++ cycle) → 0 < length cycle → IsKnown (with_names [] names) (listed names stem cycle)
 listed_known names stem cycle p few within cycles = record {
   sorted = names_rise names [] tt;
   few = let l = names_few names [] in omega (arith, l, few);
@@ -86,7 +87,7 @@ listed_word names stem cycle = let a = both stem in let b = both cycle in λ i. 
 pub written_listed : (names : List Name) (stem cycle : List (List ℕ)) (v : WrittenView) → v.stem ≡ map (letter_of names) stem → v.cycle ≡ map (letter_of names) cycle → letters_of v ≡ listed names stem cycle
 written_listed names stem cycle v e f = λ i. record { stem = e i; cycle = f i }
 
-pub written_known : {X : Type 0} (given : List X) (names : List Name) (set : List Name) (stem cycle : List (List ℕ)) (v : WrittenView) → length names ≡ length given → IsTrue (list_all is_proposition names) → length given ≤ 64
+pub written_known : {X : Type 0} (given : List X) (names : List Name) (set : List Name) (stem cycle : List (List ℕ)) (v : WrittenView) → length names ≡ length given → IsTrue (list_all is_proposition names) → length given ≤ stated_limits.propositions
     → All (All (λ i. i < length given)) (stem ++ cycle) → 0 < length cycle → set ≡ with_names [] names → letters_of v ≡ listed names stem cycle → IsKnown set (letters_of v)
 written_known given names set stem cycle v size p few within cycles e f =
     subst (λ s. IsKnown s (letters_of v)) (sym e)

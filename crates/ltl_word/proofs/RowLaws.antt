@@ -1,5 +1,5 @@
 -- The rows of formulas by those of their operands.
-use Rattle.std.proofs.Common.{◌≡◌, ◌∙◌, ap, sym, refl, subst, ℕ, zero, suc, ◌+◌, ◌-◌, ◌/◌, ◌<◌, arith, Bool, true, false, not, ◌||◌, ◌&&◌, ◌⊎◌, ◌↔◌, inl, inr, List, [], length}
+use Rattle.std.proofs.Common.{◌≡◌, ◌∙◌, ap, sym, refl, subst, ℕ, zero, suc, ◌+◌, ◌-◌, ◌/◌, ◌<◌, ◌≤◌, arith, Bool, true, false, not, ◌||◌, ◌&&◌, ◌⊎◌, ◌↔◌, inl, inr, List, [], length}
 use Rattle.std.specs.Prelude.{IsTrue, Some, None, slice_index_or}
 use Rattle.std.specs.Bool.{Decides, beq}
 use Rattle.std.proofs.lemmas.Bool.{false≢true}
@@ -8,21 +8,21 @@ use Rattle.ltl_spec.specs.Semantics.Satisfaction.{HoldsUntil, HoldsRelease, Sati
 use Rattle.ltl_spec.specs.Formulas.Formula as spec
 use Rattle.ltl_spec.proofs.Semantics.UntilLaws.{release_from_not_until, not_release_from_until}
 use Rattle.ltl_spec.proofs.Collections.CaseLaws.{false_is_true}
-use Rattle.ltl_word.specs.declared.bits.Junction.{Junction}
-use Rattle.ltl_word.specs.declared.bits.Junction.TheVariants.{And, Or, Implies, Iff}
+use Rattle.ltl_word.specs.declared.machine_word.Junction.{Junction}
+use Rattle.ltl_word.specs.declared.machine_word.Junction.TheVariants.{And, Or, Implies, Iff}
 use Rattle.ltl_word.specs.Rows.{joined, bit_of, IsRow, step_of, turned, left_at, right_at}
 use Rattle.std.proofs.Common.{◌∷◌, ◌++◌}
 use Rattle.std.specs.Prelude.{slice_get}
 use Rattle.std.proofs.lemmas.Option.{same_Some}
 use Rattle.ltl_spec.proofs.Collections.CaseLaws.{last_or_below}
 use Rattle.ltl_formula.specs.declared.operators.Node.{Node}
-use Rattle.ltl_formula.specs.declared.operators.Node.TheVariants.{Constant, Unary, Binary}
+use Rattle.ltl_formula.specs.declared.operators.Node.TheVariants.{Constant, Proposition, Unary, Binary}
 use Rattle.ltl_formula.specs.declared.operators.UnaryOperator.{UnaryOperator}
 use Rattle.ltl_formula.specs.declared.operators.BinaryOperator.{BinaryOperator}
 use Rattle.ltl_formula.specs.FormulaView.{FormulaView, IsFormula, StandsAt, binary_of, unary_of, tree_in, tree_of, trees, whole_tree}
 use Rattle.ltl_formula.proofs.TreeLemmas.{tree_at, push_length, push_before, push_at}
-use Rattle.ltl_word.proofs.BitLemmas.{any_default}
-use Rattle.ltl_word.specs.Evaluation.{AreRows, IsRowOf, IsUntilRow, going_of}
+use Rattle.ltl_word.specs.Evaluation.{AreNameRows, AreOperandRows, AreRows, IsRowAt, IsRowOf, IsUntilRow, going_of}
+use Rattle.ltl_word.specs.Uses.{AreLastUses, IsUsedAt, KeepsLater, row_by}
 use Rattle.ltl_word.specs.LassoView.{size}
 use Rattle.ltl_word.proofs.BackLaws.{step_within, after_within}
 
@@ -182,46 +182,98 @@ get_index [] i x d e = cc
 get_index (y ∷ ys) zero x d e = (omega arith, same_Some y x e)
 get_index (y ∷ ys) (suc i) x d e = let w = get_index ys i x d e in ((let l = w.0 in omega arith), w.1)
 
--- one row more
-pub rows_push : (f : FormulaView) (w : Lasso) (rows : List (List ℕ)) (row : List ℕ) (node : Node) (i : ℕ) → IsFormula f.nodes f.names → AreRows f w rows → length rows ≡ i → slice_get f.nodes i ≡ Some node
-    → IsRowOf f.names w (tree_of (trees f.nodes) node) row → AreRows f w (rows ++ row ∷ [])
-rows_push f w rows row node i is old long found new k l =
+-- one node's uses more
+pub uses_more : (nodes : List Node) (old new : List ℕ) (node : Node) (i : ℕ) → slice_get nodes i ≡ Some node → ((j : ℕ) → j < i → IsUsedAt old j (slice_index_or nodes j (Constant false))) → IsUsedAt new i node
+    → ((k j : ℕ) → j ≤ i → j ≤ slice_index_or old k 0 → j ≤ slice_index_or new k 0) → (j : ℕ) → j < i + 1 → IsUsedAt new j (slice_index_or nodes j (Constant false))
+uses_more nodes old new node i found used here kept j l =
+    let s : i + 1 ≡ suc i = omega arith in
+    elim (last_or_below j i (subst (λ n. j < n) s l)) [
+      | inl b ↦ by (slice_index_or nodes j (Constant false)) (used j b)
+      | inr e ↦
+          let at = get_index nodes i node (Constant false) found in
+          subst (λ n. IsUsedAt new n (slice_index_or nodes n (Constant false))) (sym e) (subst (IsUsedAt new i) (sym at.1) here)
+    ]
+  where
+    by : (n : Node) → IsUsedAt old j n → IsUsedAt new j n
+    by (Constant b) u = tt
+    by (Proposition p) u = tt
+    by (Unary op a) u = kept a j (omega (arith, l)) u
+    by (Binary op a b) u = (kept a j (omega (arith, l)) u.0, kept b j (omega (arith, l)) u.1)
+
+-- the operands of a node have rows
+pub operand_rows : (f : FormulaView) (w : Lasso) (names rows : List (List ℕ)) (last_uses : List ℕ) (node : Node) (count i : ℕ) → AreLastUses f.nodes last_uses → AreRows f w names last_uses rows → length rows ≡ i
+    → slice_get f.nodes i ≡ Some node → StandsAt count i node → AreOperandRows f w names rows node
+operand_rows f w names rows last_uses node count i uses old long found =
+    let at = get_index f.nodes i node (Constant false) found in
+    by node (subst (IsUsedAt last_uses i) at.1 (uses.used i at.0))
+  where
+    one : (a : ℕ) → a < i → i ≤ slice_index_or last_uses a 0 → IsRowAt f w names rows a
+    one a l u = old a (omega (arith, l, long)) (omega (arith, u, long))
+
+    by : (n : Node) → IsUsedAt last_uses i n → StandsAt count i n → AreOperandRows f w names rows n
+    by (Constant b) u s = tt
+    by (Proposition p) u s = tt
+    by (Unary op a) u s = one a s u
+    by (Binary op a b) u s = (one a s.0 u.0, one b s.1 u.1)
+
+-- one row more, where others are given back
+pub rows_step : (f : FormulaView) (w : Lasso) (names rows new : List (List ℕ)) (last_uses row : List ℕ) (node : Node) (i : ℕ) → IsFormula f.nodes f.names → AreRows f w names last_uses rows → length rows ≡ i → slice_get f.nodes i ≡ Some node
+    → IsRowOf f.names w (tree_of (trees f.nodes) node) (row_by names row node) → KeepsLater last_uses i (rows ++ row ∷ []) new → AreRows f w names last_uses new
+rows_step f w names rows new last_uses row node i is old long found own keeps k l m =
     let longer = push_length rows row in
-    elim (last_or_below k (length rows) (subst (λ n. k < n) longer l)) [
-      | inl b ↦ subst (IsRowOf f.names w (tree_in (trees f.nodes) k)) (sym (push_before rows row k [] b)) (old k b)
+    let size = keeps.0 in
+    let later : i < slice_index_or last_uses k 0 = omega (arith, m, size, longer, long) in
+    elim (last_or_below k (length rows) (subst (λ n. k < n) (size ∙ longer) l)) [
+      | inl b ↦
+          subst (λ r. IsRowOf f.names w (tree_in (trees f.nodes) k) (row_by names r (slice_index_or f.nodes k (Constant false)))) (sym (keeps.1 k later ∙ push_before rows row k [] b))
+          (old k b (omega (arith, m, size, longer)))
       | inr e ↦
           let n = get_index f.nodes i node (Constant false) found in
           let tree : tree_in (trees f.nodes) i ≡ tree_of (trees f.nodes) node = tree_at (length f.names) f.nodes is.operands i n.0 ∙ ap (tree_of (trees f.nodes)) n.1 in
           let place : k ≡ i = e ∙ long in
-          subst (λ j. IsRowOf f.names w (tree_in (trees f.nodes) j) (slice_index_or (rows ++ row ∷ []) j [])) (sym place)
-          (subst (λ r. IsRowOf f.names w (tree_in (trees f.nodes) i) r) (sym (ap (λ j. slice_index_or (rows ++ row ∷ []) j []) (sym long) ∙ push_at rows row []))
-          (subst (λ F. IsRowOf f.names w F row) (sym tree) new))
+          let kept : slice_index_or new k [] ≡ row = keeps.1 k later ∙ ap (λ j. slice_index_or (rows ++ row ∷ []) j []) e ∙ push_at rows row [] in
+          subst (λ r. IsRowOf f.names w (tree_in (trees f.nodes) k) (row_by names r (slice_index_or f.nodes k (Constant false)))) (sym kept)
+          (subst (λ j. IsRowOf f.names w (tree_in (trees f.nodes) j) (row_by names row (slice_index_or f.nodes j (Constant false)))) (sym place)
+          (subst (λ v. IsRowOf f.names w (tree_in (trees f.nodes) i) (row_by names row v)) (sym n.1) (subst (λ F. IsRowOf f.names w F (row_by names row node)) (sym tree) own)))
     ]
 
 -- what the last row says
-pub last_row : (f : FormulaView) (w : Lasso) (rows : List (List ℕ)) (row : List ℕ) (truth : Bool) (first count : ℕ) → AreRows f w rows → length rows ≡ count → count ≡ length f.nodes → 0 < count
-    → slice_index_or rows (count - 1) row ≡ row → first ≡ 0 → first < size w → truth ≡ bit_of row first → Decides truth (Satisfies f.names w 0 (whole_tree f.nodes))
-last_row f w rows row truth first count old long same some at z l e =
-    let within : count - 1 < length rows = omega arith in
-    let is : IsRowOf f.names w (tree_in (trees f.nodes) (count - 1)) row =
-    subst (IsRowOf f.names w (tree_in (trees f.nodes) (count - 1))) (any_default rows (count - 1) [] row within ∙ at) (old (count - 1) within) in
+pub last_row : (f : FormulaView) (w : Lasso) (names rows : List (List ℕ)) (last_uses row : List ℕ) (truth : Bool) (first count : ℕ) → AreLastUses f.nodes last_uses → AreRows f w names last_uses rows → length rows ≡ count → count ≡ length f.nodes
+    → 0 < count → row ≡ row_by names (slice_index_or rows (count - 1) []) (slice_index_or f.nodes (count - 1) (Constant false)) → first ≡ 0 → first < size w → truth ≡ bit_of row first
+    → Decides truth (Satisfies f.names w 0 (whole_tree f.nodes))
+last_row f w names rows last_uses row truth first count uses old long same some at z l e =
+    let whole = uses.whole in
+    let used : length rows ≤ slice_index_or last_uses (count - 1) 0 = subst (λ n. length rows ≤ slice_index_or last_uses (n - 1) 0) (sym same) (omega (arith, whole, long, same)) in
+    let is : IsRowOf f.names w (tree_in (trees f.nodes) (count - 1)) row = subst (IsRowOf f.names w (tree_in (trees f.nodes) (count - 1))) (sym at) (old (count - 1) (omega (arith, long, some)) used) in
     let last : IsRowOf f.names w (whole_tree f.nodes) row = subst (λ n. IsRowOf f.names w (tree_in (trees f.nodes) (n - 1)) row) same is in
     same_bit truth (bit_of row 0) (e ∙ ap (bit_of row) z) (last.decides 0 (subst (λ n. n < size w) z l))
 
--- a row by that of its operand
-pub row_at : (f : FormulaView) (w : Lasso) (rows : List (List ℕ)) (row : List ℕ) (k : ℕ) → AreRows f w rows → k < length rows → slice_index_or rows k row ≡ row → IsRowOf f.names w (tree_in (trees f.nodes) k) row
-row_at f w rows row k old l e = subst (IsRowOf f.names w (tree_in (trees f.nodes) k)) (any_default rows k [] row l ∙ e) (old k l)
+pub name_answer : (f : FormulaView) (w : Lasso) (names : List (List ℕ)) (own : List ℕ) (node : Node) (p i : ℕ) → node ≡ Proposition p → StandsAt (length f.names) i node → AreNameRows f.names w names
+    → IsRowOf f.names w (tree_of (trees f.nodes) node) (row_by names own node)
+name_answer f w names own node p i e stands rows = subst (λ n. IsRowOf f.names w (tree_of (trees f.nodes) n) (row_by names own n)) (sym e) (rows.1 p (subst (StandsAt (length f.names) i) e stands))
 
-pub unary_answer : (f : FormulaView) (w : Lasso) (rows : List (List ℕ)) (row bits : List ℕ) (op : UnaryOperator) (a : ℕ) (node : Node) → node ≡ Unary op a → StandsAt (length f.names) (length rows) node → AreRows f w rows
-    → slice_index_or rows a row ≡ row → ((names : List Name) (F : spec.Formula) → IsRowOf names w F row → IsRowOf names w (spec.Unary (unary_of op) F) bits) → IsRowOf f.names w (tree_of (trees f.nodes) node) bits
-unary_answer f w rows row bits op a node e stands old at u =
-    let within : a < length rows = subst (StandsAt (length f.names) (length rows)) e stands in
-    subst (λ n. IsRowOf f.names w (tree_of (trees f.nodes) n) bits) (sym e) (u f.names (tree_in (trees f.nodes) a) (row_at f w rows row a old within at))
+pub constant_answer : (f : FormulaView) (w : Lasso) (names : List (List ℕ)) (bits : List ℕ) (node : Node) (value : Bool) → node ≡ Constant value → length bits ≡ size w / 64 + 1 → ((i : ℕ) → i / 64 < length bits → bit_of bits i ≡ value)
+    → IsRowOf f.names w (tree_of (trees f.nodes) node) (row_by names bits node)
+constant_answer f w names bits node value e l h = subst (λ n. IsRowOf f.names w (tree_of (trees f.nodes) n) (row_by names bits n)) (sym e) (constant_row f.names w value bits l h)
 
-pub binary_answer : (f : FormulaView) (w : Lasso) (rows : List (List ℕ)) (left right bits : List ℕ) (op : BinaryOperator) (a b : ℕ) (node : Node) → node ≡ Binary op a b → StandsAt (length f.names) (length rows) node → AreRows f w rows
-    → slice_index_or rows a left ≡ left → slice_index_or rows b right ≡ right
-    → ((names : List Name) (F G : spec.Formula) → IsRowOf names w F left → IsRowOf names w G right → IsRowOf names w (spec.Binary (binary_of op) F G) bits) → IsRowOf f.names w (tree_of (trees f.nodes) node) bits
-binary_answer f w rows left right bits op a b node e stands old at by u =
-    let within : (a < length rows) × (b < length rows) = subst (StandsAt (length f.names) (length rows)) e stands in
-    subst (λ n. IsRowOf f.names w (tree_of (trees f.nodes) n) bits) (sym e)
-    (u f.names (tree_in (trees f.nodes) a) (tree_in (trees f.nodes) b) (row_at f w rows left a old within.0 at) (row_at f w rows right b old within.1 by))
+module _ (f : FormulaView) (w : Lasso) (names rows : List (List ℕ)) where
+  -- the row that the code finds for a node
+  abbrev found_row : ℕ → List ℕ
+  found_row k = row_by names (slice_index_or rows k []) (slice_index_or f.nodes k (Constant false))
+
+  pub unary_operand : (op : UnaryOperator) (a : ℕ) (row : List ℕ) (node : Node) → node ≡ Unary op a → AreOperandRows f w names rows node → row ≡ found_row a → IsRowOf f.names w (tree_in (trees f.nodes) a) row
+  unary_operand op a row node e h same = subst (IsRowOf f.names w (tree_in (trees f.nodes) a)) (sym same) (subst (AreOperandRows f w names rows) e h)
+
+  pub left_operand : (op : BinaryOperator) (a b : ℕ) (row : List ℕ) (node : Node) → node ≡ Binary op a b → AreOperandRows f w names rows node → row ≡ found_row a → IsRowOf f.names w (tree_in (trees f.nodes) a) row
+  left_operand op a b row node e h same = subst (IsRowOf f.names w (tree_in (trees f.nodes) a)) (sym same) (subst (AreOperandRows f w names rows) e h).0
+
+  pub right_operand : (op : BinaryOperator) (a b : ℕ) (row : List ℕ) (node : Node) → node ≡ Binary op a b → AreOperandRows f w names rows node → row ≡ found_row b → IsRowOf f.names w (tree_in (trees f.nodes) b) row
+  right_operand op a b row node e h same = subst (IsRowOf f.names w (tree_in (trees f.nodes) b)) (sym same) (subst (AreOperandRows f w names rows) e h).1
+
+  pub unary_answer : (op : UnaryOperator) (a : ℕ) (row bits : List ℕ) (node : Node) → node ≡ Unary op a → IsRowOf f.names w (tree_in (trees f.nodes) a) row
+      → ((ns : List Name) (F : spec.Formula) → IsRowOf ns w F row → IsRowOf ns w (spec.Unary (unary_of op) F) bits) → IsRowOf f.names w (tree_of (trees f.nodes) node) (row_by names bits node)
+  unary_answer op a row bits node e h u = subst (λ n. IsRowOf f.names w (tree_of (trees f.nodes) n) (row_by names bits n)) (sym e) (u f.names (tree_in (trees f.nodes) a) h)
+
+  pub binary_answer : (op : BinaryOperator) (a b : ℕ) (left right bits : List ℕ) (node : Node) → node ≡ Binary op a b → IsRowOf f.names w (tree_in (trees f.nodes) a) left → IsRowOf f.names w (tree_in (trees f.nodes) b) right
+      → ((ns : List Name) (F G : spec.Formula) → IsRowOf ns w F left → IsRowOf ns w G right → IsRowOf ns w (spec.Binary (binary_of op) F G) bits) → IsRowOf f.names w (tree_of (trees f.nodes) node) (row_by names bits node)
+  binary_answer op a b left right bits node e h k u = subst (λ n. IsRowOf f.names w (tree_of (trees f.nodes) n) (row_by names bits n)) (sym e) (u f.names (tree_in (trees f.nodes) a) (tree_in (trees f.nodes) b) h k)

@@ -5,6 +5,7 @@ use Rattle.std.specs.Ordering.{nat_cmp}
 use Rattle.ltl_spec.specs.Collections.Sets.{IsRising, set_of}
 use Rattle.ltl_spec.specs.Formulas.Names.{is_proposition}
 use Rattle.ltl_spec.specs.Semantics.Word.{Name, name_cmp, Letter, Lasso}
+use Rattle.ltl_spec.specs.Tools.Limits.{stated_limits}
 
 -- the names that stand at these places
 abbrev pub letter_of : List Name → List ℕ → Letter
@@ -17,7 +18,7 @@ lasso_of names letters stem = record { stem = map (letter_of names) (take stem l
 -- the names are sorted, each once, and few; each letter is a set of their places where propositions stand; the cycle isn't empty
 pub record IsMade (names : List Name) (letters : List (List ℕ)) (stem : ℕ) : Type 0 where
   pub sorted : IsRising name_cmp names
-  pub few : length names ≤ 64
+  pub few : length names ≤ stated_limits.propositions
   pub sets : AllByRecursion (IsRising nat_cmp) letters
   pub within : AllByRecursion (AllByRecursion (λ i. i < length names)) letters
   pub propositions : IsTrue (list_all (λ places. list_all is_proposition (letter_of names places)) letters)

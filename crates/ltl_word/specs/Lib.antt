@@ -4,4 +4,5 @@ pub mod LeastView
 pub mod NameView
 pub mod ReadText
 pub mod Rows
+pub mod Uses
 pub mod WrittenView

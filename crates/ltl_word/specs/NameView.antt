@@ -9,7 +9,7 @@ use Rattle.ltl_spec.specs.Collections.Sets.{put, Has, IsRising, set_of}
 use Rattle.ltl_spec.specs.Words.LassoText.{names_in}
 use Rattle.ltl_word.specs.ReadText.{IsSpelled}
 use Rattle.ltl_spec.specs.Semantics.Word.{Name, Lasso, name_cmp}
-use Rattle.ltl_word.specs.declared.limits.TheConstants.{NAME_LIMIT}
+use Rattle.ltl_spec.specs.Tools.Limits.{stated_limits}
 use Rattle.ltl_word.specs.declared.fault.WordFault.{WordFault}
 use Rattle.ltl_word.specs.declared.fault.WordFault.TheVariants.{TooManyPropositions, OutOfMemory}
 
@@ -25,13 +25,13 @@ with_names set names = fold (λ s n. put name_cmp n s) set names
 
 -- there are too many names, or memory runs out
 abbrev pub RefusesNames : ℕ → WordFault → Type 0
-RefusesNames count TooManyPropositions = NAME_LIMIT < count
+RefusesNames count TooManyPropositions = stated_limits.propositions < count
 RefusesNames count OutOfMemory = Unit {0}
 RefusesNames count _ = ⊥
 
 -- the names are put to the set, and there aren't too many
 abbrev pub AddsNames : List Name → List Name → List Name → Type 0
-AddsNames old names new = (new ≡ with_names old names) × (length new ≤ NAME_LIMIT)
+AddsNames old names new = (new ≡ with_names old names) × (length new ≤ stated_limits.propositions)
 
 -- the names of letters
 abbrev pub all_names : List (List Name) → List Name
@@ -51,6 +51,6 @@ pub record AreAllPlaces (names : List Name) (letters : List (List Name)) (rows :
 -- the names are a set and few, and those of the word are among them
 pub record IsKnown (names : List Name) (w : Lasso) : Type 0 where
   pub sorted : IsRising name_cmp names
-  pub few : length names ≤ NAME_LIMIT
+  pub few : length names ≤ stated_limits.propositions
   pub known : AllByRecursion (Has names) (names_in w)
   pub spelled : IsSpelled w

@@ -4,7 +4,7 @@ use Rattle.std.specs.List.{list_all}
 use Rattle.ltl_spec.specs.Semantics.Word.{Name, Lasso}
 use Rattle.ltl_spec.specs.Formulas.Names.{is_proposition}
 use Rattle.ltl_spec.specs.Words.LassoText.{IsLassoText, IsBadWord, HasTooManyNames, with_sets}
-use Rattle.ltl_word.specs.declared.limits.TheConstants.{TEXT_LIMIT, NAME_LIMIT}
+use Rattle.ltl_spec.specs.Tools.Limits.{stated_limits}
 use Rattle.ltl_word.specs.declared.fault.WordFault.{WordFault}
 use Rattle.ltl_word.specs.declared.fault.WordFault.TheVariants.{TooLong, BadWord, TooManyPropositions, OutOfMemory}
 use Rattle.ltl_word.specs.WrittenView.{WrittenView, letters_of}
@@ -25,11 +25,11 @@ RefusesLetters text _ = ⊥
 
 -- the text is within the limits and reads as the word, which is looked at with a formula of these names
 abbrev pub IsReadAs : List Name → List ℕ → Lasso → Type 0
-IsReadAs names text w = (length text ≤ TEXT_LIMIT) × IsLassoText text w × (¬ (HasTooManyNames NAME_LIMIT names w))
+IsReadAs names text w = (length text ≤ stated_limits.word_bytes) × IsLassoText text w × (¬ (HasTooManyNames stated_limits.propositions names w))
 
 -- the text is refused: its length first, then its fault, then the number of its names and the formula's
 abbrev pub IsRefusedFor : List Name → List ℕ → WordFault → Type 0
-IsRefusedFor names text TooLong = TEXT_LIMIT < length text
-IsRefusedFor names text (BadWord place) = (length text ≤ TEXT_LIMIT) × IsBadWord text place
-IsRefusedFor names text TooManyPropositions = (length text ≤ TEXT_LIMIT) × ((w : Lasso) × IsLassoText text w × HasTooManyNames NAME_LIMIT names w)
-IsRefusedFor names text OutOfMemory = length text ≤ TEXT_LIMIT
+IsRefusedFor names text TooLong = stated_limits.word_bytes < length text
+IsRefusedFor names text (BadWord place) = (length text ≤ stated_limits.word_bytes) × IsBadWord text place
+IsRefusedFor names text TooManyPropositions = (length text ≤ stated_limits.word_bytes) × ((w : Lasso) × IsLassoText text w × HasTooManyNames stated_limits.propositions names w)
+IsRefusedFor names text OutOfMemory = length text ≤ stated_limits.word_bytes

@@ -1,13 +1,17 @@
 -- Rows of bits, one bit for each position of a word.
-use Rattle.std.specs.Prelude.{◌≡◌, ℕ, zero, suc, ◌≤◌, ◌+◌, ◌/◌, ◌%◌, ◌<◌, Bool, true, false, not, ◌&&◌, ◌||◌, if◌then◌else◌, nat_eq, nat_lt, List, length, slice_index, Option, Some, None}
+use Rattle.std.specs.Prelude.{◌≡◌, ℕ, zero, suc, ◌≤◌, ◌+◌, ◌-◌, ◌/◌, ◌%◌, ◌<◌, Bool, true, false, not, ◌&&◌, ◌||◌, if◌then◌else◌, nat_eq, nat_lt, List, length, slice_index, Option, Some, None}
 use Rattle.std.specs.Bool.{Decides, beq}
 use Rattle.std.specs.Int.{bit_at}
-use Rattle.ltl_word.specs.declared.bits.Junction.{Junction}
-use Rattle.ltl_word.specs.declared.bits.Junction.TheVariants.{And, Or, Implies, Iff}
+use Rattle.ltl_word.specs.declared.machine_word.Junction.{Junction}
+use Rattle.ltl_word.specs.declared.machine_word.Junction.TheVariants.{And, Or, Implies, Iff}
+
+-- bit k of a word
+abbrev pub is_set : ℕ → ℕ → Bool
+is_set word k = nat_eq (bit_at word k) 1
 
 -- bit i of words
 abbrev pub bit_of : List ℕ → ℕ → Bool
-bit_of words i = nat_eq (bit_at (slice_index words (i / 64)) (i % 64)) 1
+bit_of words i = is_set (slice_index words (i / 64)) (i % 64)
 
 -- what a junction makes of two truth values
 abbrev pub joined : Junction → Bool → Bool → Bool
@@ -42,8 +46,21 @@ module _ (left right : ℕ → Bool) where
   back zero i later = later
   back (suc k) i later = right i || left i && back k (i + 1) later
 
--- the bits from i on are these, of so many, and those before are not set
+-- the word has the values of f at 64 positions
+abbrev pub IsWordOf : (ℕ → Bool) → ℕ → ℕ → Type 0
+IsWordOf f start word = (j : ℕ) → j < 64 → is_set word j ≡ f (start + j)
+
+-- the word has what is found from each of 64 positions on, as far as there are so many and a value behind them
+abbrev pub IsBackWord : (ℕ → Bool) → (ℕ → Bool) → ℕ → Bool → ℕ → ℕ → Type 0
+IsBackWord left right count later start word = (j : ℕ) → j < 64 → start + j ≤ count → is_set word j ≡ back left right (count - (start + j)) (start + j) later
+
+-- the bits, or their opposites, are what is found from each of so many positions on
+abbrev pub IsBackRow : Bool → (ℕ → Bool) → (ℕ → Bool) → ℕ → Bool → List ℕ → Type 0
+IsBackRow negated left right count later bits =
+    (length bits ≡ count / 64 + 1)
+    × ((i : ℕ) → i < count → turned negated (bit_of bits i) ≡ back left right (count - i) i later)
+
+-- the bits from i on are these, of so many
 pub record IsRowFrom (f : ℕ → Bool) (i count : ℕ) (bits : List ℕ) : Type 0 where
   pub long : length bits ≡ count / 64 + 1
   pub done : (j : ℕ) → i ≤ j → j < count → bit_of bits j ≡ f j
-  pub rest : (j : ℕ) → j < i → bit_of bits j ≡ false

@@ -2,7 +2,7 @@
 use Rattle.std.specs.Prelude.{◌≡◌, ℕ, ◌+◌, ◌≤◌, Bool, List, slice_range, Option}
 use Rattle.std.specs.Option.{option_map}
 use Rattle.ltl_spec.specs.Semantics.Word.{Name, Lasso}
-use Rattle.ltl_spec.proofs.Words.LassoTextLaws as machine
+use Rattle.ltl_spec.specs.Words.LassoMachine as machine
 use Rattle.ltl_word.specs.declared.place.Place.{Place}
 use Rattle.ltl_word.specs.declared.place.Place.TheVariants.{Letter, FirstName, Name as NamePlace, InName, AfterLetter, Blank, InWord}
 

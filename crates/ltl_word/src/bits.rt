@@ -1,47 +1,18 @@
 //! Rows of bits, one bit for each position of a word.
 
-ghost use Rattle.std.specs.Prelude.{◌≡◌, ℕ, ◌<◌, ◌/◌, ◌+◌, ◌||◌, ◌&&◌, not, nat_eq, length, IfOk};
-ghost use Rattle.std.specs.Int.{bit_at};
-ghost use Rattle.ltl_word.specs.Rows.{bit_of, joined};
+ghost use Rattle.std.specs.Prelude.{◌≡◌, ◌≢◌, ℕ, ◌<◌, ◌/◌, ◌+◌, [], not, length, IfOk, slice_index, slice_set};
+ghost use Rattle.ltl_word.specs.Rows.{bit_of, is_set, joined};
 
+use crate::machine_word::{Junction, inverted, shifted, with_bit};
+use smallvec::SmallVec;
 use std::alloc::{AllocError, Allocator};
 use std::marker::Model;
 
-/// How two truth values make one.
-#[derive(Clone, Copy)]
-pub(crate) enum Junction {
-    And,
-    Or,
-    Implies,
-    Iff,
-}
-
-impl Junction {
-    /// Joins the bits of two words.
-    fn word(self, left: u64, right: u64) -> u64
-        ensures { (k : ℕ) → k < 64 → nat_eq (bit_at result k) 1 ≡ joined self (nat_eq (bit_at left k) 1) (nat_eq (bit_at right k) 1) }
-    {
-        match self {
-            Junction::And => left & right,
-            Junction::Or => left | right,
-            Junction::Implies => !left | right,
-            Junction::Iff => !(left ^ right),
-        }
-    }
-}
-
-/// The bits of a word turned over.
-#[tactic(auto, using(crate::proofs::BitLemmas::one_not))]
-fn inverted_word(word: u64) -> u64
-    ensures { (k : ℕ) → k < 64 → nat_eq (bit_at result k) 1 ≡ not (nat_eq (bit_at word k) 1) }
-{
-    !word
-}
-
-/// Bits by number, seen as words of 64 of them.
+/// Bits by number, seen as words of 64 of them. Two words need no memory: the words that people write and that the checker prints have fewer
+/// than 128 letters.
 #[derive(Drop)]
 pub(crate) struct Bits<'a, A: Allocator> {
-    words: Vec<u64, &'a A>,
+    words: SmallVec<u64, 2, &'a A>,
 }
 
 impl<'a, A: Allocator> Model for Bits<'a, A> {
@@ -53,13 +24,22 @@ impl<'a, A: Allocator> Model for Bits<'a, A> {
 }
 
 impl<'a, A: Allocator> Bits<'a, A> {
+    /// No bits.
+    pub(crate) fn none(alloc: &'a A) -> Bits<'a, A>
+        ensures { result ≡ [] }
+    {
+        Bits {
+            words: SmallVec::new(alloc),
+        }
+    }
+
     /// More than so many bits, all of this value.
     pub(crate) fn all(alloc: &'a A, count: usize, value: bool) -> Result<Bits<'a, A>, AllocError>
         ensures long { IfOk result (λ bits. length bits ≡ count / 64 + 1) }
         ensures same { IfOk result (λ bits. (i : ℕ) → i / 64 < length bits → bit_of bits i ≡ value) }
     {
         let word = if value { u64::MAX } else { 0 };
-        let mut words = Vec::new(alloc);
+        let mut words = SmallVec::with_capacity(alloc, count / 64 + 1)?;
         for _ in 0..count / 64 + 1 {
             words.push(word)?;
         }
@@ -73,25 +53,31 @@ impl<'a, A: Allocator> Bits<'a, A> {
         (self.words[i / 64] >> (i % 64)) & 1 == 1
     }
 
-    /// Sets a bit.
-    fn insert(&mut self, i: usize)
-        requires { i / 64 < length self.old }
-        ensures long { length self.new ≡ length self.old }
-        ensures bits { (j : ℕ) → j / 64 < length self.old → bit_of self.new j ≡ (nat_eq j i || bit_of self.old j) }
+    /// A word of 64 bits by its number.
+    pub(crate) fn word(&self, k: usize) -> u64
+        requires { k < length self.now }
+        ensures { result ≡ slice_index self.now k }
     {
-        let at = i / 64;
-        self.words[at] = self.words[at] | (1 << (i % 64));
+        self.words[k]
     }
 
-    /// Sets a bit, or leaves it.
-    pub(crate) fn insert_if(&mut self, i: usize, value: bool)
+    /// Puts a word of 64 bits in the place of another one.
+    pub(crate) fn set_word(&mut self, k: usize, word: u64)
+        requires { k < length self.old }
+        ensures { self.new ≡ slice_set self.old k word }
+    {
+        self.words[k] = word;
+    }
+
+    /// Puts a bit in the place of another one.
+    pub(crate) fn put(&mut self, i: usize, value: bool)
         requires { i / 64 < length self.old }
         ensures long { length self.new ≡ length self.old }
-        ensures bits { (j : ℕ) → j / 64 < length self.old → bit_of self.new j ≡ (value && nat_eq j i || bit_of self.old j) }
+        ensures here { bit_of self.new i ≡ value }
+        ensures others { (j : ℕ) → j / 64 < length self.old → j ≢ i → bit_of self.new j ≡ bit_of self.old j }
     {
-        if value {
-            self.insert(i);
-        }
+        let k = i / 64;
+        self.set_word(k, with_bit(self.word(k), i % 64, value));
     }
 
     /// The bits turned over.
@@ -99,9 +85,22 @@ impl<'a, A: Allocator> Bits<'a, A> {
         ensures long { IfOk result (λ bits. length bits ≡ length self.now) }
         ensures bits { IfOk result (λ bits. (i : ℕ) → i / 64 < length self.now → bit_of bits i ≡ not (bit_of self.now i)) }
     {
-        let mut words = Vec::new(alloc);
-        for i in 0..self.words.len() {
-            words.push(inverted_word(self.words[i]))?;
+        let mut words = SmallVec::with_capacity(alloc, self.words.len())?;
+        for k in 0..self.words.len() {
+            words.push(inverted(self.words[k]))?;
+        }
+        Ok(Bits { words })
+    }
+
+    /// The bits, each at the number before its own.
+    pub(crate) fn shifted(&self, alloc: &'a A) -> Result<Bits<'a, A>, AllocError>
+        ensures long { IfOk result (λ bits. length bits ≡ length self.now) }
+        ensures bits { IfOk result (λ bits. (i : ℕ) → (i + 1) / 64 < length self.now → bit_of bits i ≡ bit_of self.now (i + 1)) }
+    {
+        let mut words = SmallVec::with_capacity(alloc, self.words.len())?;
+        for k in 0..self.words.len() {
+            let last = k + 1 < self.words.len() && self.words[k + 1] & 1 == 1;
+            words.push(shifted(self.words[k], last))?;
         }
         Ok(Bits { words })
     }
@@ -117,9 +116,9 @@ impl<'a, A: Allocator> Bits<'a, A> {
         ensures long { IfOk result (λ bits. length bits ≡ length self.now) }
         ensures bits { IfOk result (λ bits. (i : ℕ) → i / 64 < length self.now → bit_of bits i ≡ joined junction (bit_of self.now i) (bit_of right.now i)) }
     {
-        let mut words = Vec::new(alloc);
-        for i in 0..self.words.len() {
-            words.push(junction.word(self.words[i], right.words[i]))?;
+        let mut words = SmallVec::with_capacity(alloc, self.words.len())?;
+        for k in 0..self.words.len() {
+            words.push(junction.word(self.words[k], right.words[k]))?;
         }
         Ok(Bits { words })
     }

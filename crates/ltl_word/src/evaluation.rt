@@ -1,61 +1,169 @@
 //! Whether a formula holds on a word.
 
-ghost use Rattle.std.specs.Prelude.{◌≡◌, ℕ, ◌<◌, ◌/◌, ◌+◌, List, length, IfOk, [], slice_index_or, map};
+ghost use Rattle.std.specs.Prelude.{◌≡◌, ℕ, ◌<◌, ◌/◌, ◌+◌, List, false, length, IfOk, [], slice_index_or, map};
 ghost use Rattle.std.specs.Bool.{Decides};
 ghost use Rattle.ltl_spec.specs.Semantics.Word.{Name};
 ghost use Rattle.ltl_spec.specs.Semantics.Satisfaction.{Satisfies};
 ghost use Rattle.ltl_spec.specs.Formulas.Formula as spec;
 ghost use Rattle.ltl_formula.specs.FormulaView.{StandsAt, binary_of, reading_of, tree_of, trees, unary_of};
-ghost use Rattle.ltl_word.specs.Evaluation.{AreRows, IsRowOf, going_of};
+ghost use Rattle.ltl_word.specs.Evaluation.{AreNameRows, AreOperandRows, IsRowOf, going_of};
 ghost use Rattle.ltl_word.specs.LassoView.{size};
-ghost use Rattle.ltl_word.specs.Rows.{IsRow, bit_of, step_of};
+ghost use Rattle.ltl_word.specs.Rows.{bit_of, step_of};
+ghost use Rattle.ltl_word.specs.Uses.{KeepsLater, row_by};
 
-use crate::bits::{Bits, Junction};
+use crate::bits::Bits;
 use crate::going::Going;
 use crate::lasso::Lasso;
+use crate::machine_word::Junction;
+use crate::uses::last_uses;
 use ltl_formula::{BinaryOperator, Formula, Node, UnaryOperator};
 use std::alloc::{AllocError, Allocator};
 
-/// Whether the formula holds at the beginning of the word. One bit is kept for each node of the formula and each position of the word.
-pub fn holds<'a, A: Allocator>(
+/// The rows of the propositions, by number.
+fn name_rows<'a, A: Allocator, B: Allocator, C: Allocator>(
     alloc: &'a A,
-    formula: &Formula<'_, A>,
-    word: &Lasso<'_, A>,
+    formula: &Formula<'_, B>,
+    word: &Lasso<'_, C>,
+) -> Result<Vec<Bits<'a, A>, &'a A>, AllocError>
+    ensures { IfOk result (λ rows. AreNameRows formula.now.names word.now rows.items) }
+{
+    let mut rows = Vec::new(alloc);
+    for p in 0..formula.name_count() {
+        rows.push(word.row_of_name(alloc, formula.name(p).as_bytes())?)?;
+    }
+    Ok(rows)
+}
+
+/// Whether the formula holds at the beginning of the word. One bit is kept for each position of the word and each proposition and each operator
+/// or constant that is still to be used.
+pub fn holds<'a, A: Allocator, B: Allocator, C: Allocator>(
+    alloc: &'a A,
+    formula: &Formula<'_, B>,
+    word: &Lasso<'_, C>,
 ) -> Result<bool, AllocError>
     ensures { IfOk result (λ truth. Decides truth (Satisfies formula.now.names word.now 0 (reading_of formula.now).formula)) }
 {
+    let names = name_rows(alloc, formula, word)?;
+    let uses = last_uses(alloc, formula)?;
     let mut rows = Vec::new(alloc);
     for i in 0..formula.len() {
-        let row = node_row(alloc, formula, word, rows.as_slice(), formula.node(i))?;
+        let node = formula.node(i);
+        let row = node_row(
+            alloc,
+            formula,
+            word,
+            names.as_slice(),
+            rows.as_slice(),
+            node,
+        )?;
         rows.push(row)?;
+        release(alloc, &mut rows, uses.as_slice(), i, node);
     }
-    Ok(rows[formula.len() - 1].get(word.first()))
+    let whole = operand(
+        formula,
+        names.as_slice(),
+        rows.as_slice(),
+        formula.len() - 1,
+    );
+    Ok(whole.get(word.first()))
 }
 
-/// The row of a node, by those of its operands.
-fn node_row<'a, A: Allocator>(
+/// Gives back the row of a node, if it is used for the last time.
+fn release_one<'a, A: Allocator>(
     alloc: &'a A,
-    formula: &Formula<'_, A>,
-    word: &Lasso<'_, A>,
+    rows: &mut Vec<Bits<'a, A>, &'a A>,
+    last_uses: &[usize],
+    i: usize,
+    k: usize,
+)
+    requires row { k < length rows.old.items }
+    requires known { k < length last_uses.now }
+    ensures { KeepsLater last_uses.now i rows.old.items rows.new.items }
+{
+    if last_uses[k] == i {
+        rows[k] = Bits::none(alloc);
+    }
+}
+
+/// Gives back the rows of a node's operands that are used for the last time.
+fn release<'a, A: Allocator>(
+    alloc: &'a A,
+    rows: &mut Vec<Bits<'a, A>, &'a A>,
+    last_uses: &[usize],
+    i: usize,
+    node: Node,
+)
+    requires stands { (count : ℕ) × StandsAt count i node }
+    requires rows { i < length rows.old.items }
+    requires known { i < length last_uses.now }
+    ensures { KeepsLater last_uses.now i rows.old.items rows.new.items }
+{
+    match node {
+        Node::Constant(_) | Node::Proposition(_) => {}
+        Node::Unary(_, a) => release_one(alloc, rows, last_uses, i, a),
+        Node::Binary(_, a, b) => {
+            release_one(alloc, rows, last_uses, i, a);
+            release_one(alloc, rows, last_uses, i, b);
+        }
+    }
+}
+
+/// The row of a node: its own, or that of its proposition.
+fn operand<'r, 'a, A: Allocator, B: Allocator>(
+    formula: &Formula<'_, B>,
+    names: &'r [Bits<'a, A>],
+    rows: &'r [Bits<'a, A>],
+    k: usize,
+) -> &'r Bits<'a, A>
+    requires node { k < length formula.now.nodes }
+    requires row { k < length rows.now }
+    requires names { length names.now ≡ length formula.now.names }
+    ensures { result.now ≡ row_by names.now (slice_index_or rows.now k []) (slice_index_or formula.now.nodes k (Node.Constant false)) }
+{
+    match formula.node(k) {
+        Node::Proposition(p) => &names[p],
+        Node::Constant(_) | Node::Unary(..) | Node::Binary(..) => &rows[k],
+    }
+}
+
+/// The own row of a node, by those of its operands. A proposition has none of its own.
+fn node_row<'a, A: Allocator, B: Allocator, C: Allocator>(
+    alloc: &'a A,
+    formula: &Formula<'_, B>,
+    word: &Lasso<'_, C>,
+    names: &[Bits<'a, A>],
     rows: &[Bits<'a, A>],
     node: Node,
 ) -> Result<Bits<'a, A>, AllocError>
     requires stands { StandsAt (length formula.now.names) (length rows.now) node }
-    requires rows { AreRows formula.now word.now rows.now }
-    ensures { IfOk result (IsRowOf formula.now.names word.now (tree_of (trees formula.now.nodes) node)) }
+    requires within { length rows.now < length formula.now.nodes }
+    requires names { AreNameRows formula.now.names word.now names.now }
+    requires rows { AreOperandRows formula.now word.now names.now rows.now node }
+    ensures { IfOk result (λ own. IsRowOf formula.now.names word.now (tree_of (trees formula.now.nodes) node) (row_by names.now own node)) }
 {
     match node {
         Node::Constant(value) => Bits::all(alloc, word.len(), value),
-        Node::Proposition(p) => word.row_of_name(alloc, formula.name(p).as_bytes()),
-        Node::Unary(operator, a) => unary_row(alloc, word, operator, &rows[a]),
-        Node::Binary(operator, a, b) => binary_row(alloc, word, operator, &rows[a], &rows[b]),
+        Node::Proposition(_) => Ok(Bits::none(alloc)),
+        Node::Unary(operator, a) => {
+            unary_row(alloc, word, operator, operand(formula, names, rows, a))
+        }
+        Node::Binary(operator, a, b) => {
+            let left = operand(formula, names, rows, a);
+            binary_row(
+                alloc,
+                word,
+                operator,
+                left,
+                operand(formula, names, rows, b),
+            )
+        }
     }
 }
 
 /// The row of an operator over this operand.
-fn unary_row<'a, A: Allocator>(
+fn unary_row<'a, A: Allocator, C: Allocator>(
     alloc: &'a A,
-    word: &Lasso<'_, A>,
+    word: &Lasso<'_, C>,
     operator: UnaryOperator,
     row: &Bits<'a, A>,
 ) -> Result<Bits<'a, A>, AllocError>
@@ -70,9 +178,9 @@ fn unary_row<'a, A: Allocator>(
     }
 }
 
-fn always_row<'a, A: Allocator>(
+fn always_row<'a, A: Allocator, C: Allocator>(
     alloc: &'a A,
-    word: &Lasso<'_, A>,
+    word: &Lasso<'_, C>,
     row: &Bits<'a, A>,
 ) -> Result<Bits<'a, A>, AllocError>
     requires { length row.now ≡ size word.now / 64 + 1 }
@@ -86,9 +194,9 @@ fn always_row<'a, A: Allocator>(
     going.row(alloc, word.stem_len(), word.len())
 }
 
-fn eventually_row<'a, A: Allocator>(
+fn eventually_row<'a, A: Allocator, C: Allocator>(
     alloc: &'a A,
-    word: &Lasso<'_, A>,
+    word: &Lasso<'_, C>,
     row: &Bits<'a, A>,
 ) -> Result<Bits<'a, A>, AllocError>
     requires { length row.now ≡ size word.now / 64 + 1 }
@@ -114,20 +222,15 @@ fn next_row<'a, A: Allocator>(
     ensures long { IfOk result (λ bits. length bits ≡ count / 64 + 1) }
     ensures bits { IfOk result (λ bits. (i : ℕ) → i < count → bit_of bits i ≡ bit_of row.now (step_of stem count i)) }
 {
-    let mut next = Bits::all(alloc, count, false)?;
-    let mut i = count;
-    'positions: while i > 0 {
-        i -= 1;
-        let following = if i + 1 < count { i + 1 } else { stem };
-        next.insert_if(i, row.get(following));
-    }
+    let mut next = row.shifted(alloc)?;
+    next.put(count - 1, row.get(stem));
     Ok(next)
 }
 
 /// The row of an operator over these operands.
-fn binary_row<'a, A: Allocator>(
+fn binary_row<'a, A: Allocator, C: Allocator>(
     alloc: &'a A,
-    word: &Lasso<'_, A>,
+    word: &Lasso<'_, C>,
     operator: BinaryOperator,
     left: &Bits<'a, A>,
     right: &Bits<'a, A>,
@@ -146,9 +249,9 @@ fn binary_row<'a, A: Allocator>(
     }
 }
 
-fn going_row<'a, A: Allocator>(
+fn going_row<'a, A: Allocator, C: Allocator>(
     alloc: &'a A,
-    word: &Lasso<'_, A>,
+    word: &Lasso<'_, C>,
     left: &Bits<'a, A>,
     right: &Bits<'a, A>,
     is_release: bool,

@@ -1,11 +1,12 @@
 //! The rows of `U` and `V`.
 
-ghost use Rattle.std.specs.Prelude.{◌≡◌, ◌<◌, ◌/◌, ◌||◌, ◌&&◌, ◌-◌, false, length, IfOk};
+ghost use Rattle.std.specs.Prelude.{◌≡◌, ◌≢◌, ◌<◌, ◌/◌, ◌*◌, ◌+◌, length, IfOk, ℕ};
 ghost use Rattle.std.specs.Option.{option_map};
-ghost use Rattle.ltl_word.specs.Rows.{left_at, right_at, back};
+ghost use Rattle.ltl_word.specs.Rows.{IsBackRow, IsBackWord, IsWordOf, is_set, left_at, right_at, turned};
 ghost use Rattle.ltl_word.specs.Evaluation.{IsLong, IsUntilRow};
 
 use crate::bits::Bits;
+use crate::machine_word::{inverted, until_word, with_bit};
 use std::alloc::{AllocError, Allocator};
 
 /// `left U right`, or where `negated` the opposite of the opposites, which is `left V right`. No left operand holds always, or where
@@ -18,36 +19,63 @@ pub(crate) struct Going<'r, 'a, A: Allocator> {
 }
 
 impl<'r, 'a, A: Allocator> Going<'r, 'a, A> {
-    /// The value at a position by that at the next one.
-    fn before(&self, i: usize, later: bool) -> bool
-        requires right { i / 64 < length self.now.right.now }
-        requires left { IsLong i (option_map (λ b. b.now) self.now.left) }
-        ensures { result ≡ (right_at self.now.negated self.now.right.now i || left_at self.now.negated (option_map (λ b. b.now) self.now.left) i && later) }
+    /// The bits of a word, or where `negated` their opposites.
+    fn turned(&self, word: u64) -> u64
+        ensures { (j : ℕ) → j < 64 → is_set result j ≡ turned self.now.negated (is_set word j) }
     {
-        let left = match self.left {
-            None => true,
-            Some(left) => left.get(i) != self.negated,
-        };
-        (self.right.get(i) != self.negated) || (left && later)
+        if self.negated { inverted(word) } else { word }
     }
 
-    /// The value at the beginning of the cycle, once round it.
-    fn around(&self, stem: usize, count: usize) -> bool
-        requires cycle { stem < count }
+    /// The left operand's values at 64 positions.
+    fn left_word(&self, k: usize) -> u64
+        requires { IsLong (k * 64) (option_map (λ b. b.now) self.now.left) }
+        ensures { IsWordOf (left_at self.now.negated (option_map (λ b. b.now) self.now.left)) (k * 64) result }
+    {
+        match self.left {
+            None => u64::MAX,
+            Some(left) => self.turned(left.word(k)),
+        }
+    }
+
+    /// The right operand's values at 64 positions.
+    fn right_word(&self, k: usize) -> u64
+        requires { k < length self.now.right.now }
+        ensures { IsWordOf (right_at self.now.negated self.now.right.now) (k * 64) result }
+    {
+        self.turned(self.right.word(k))
+    }
+
+    /// The values from the last whole 64 positions to the end, behind which is the value `later`.
+    fn last_word(&self, count: usize, later: bool) -> u64
         requires right { count / 64 < length self.now.right.now }
         requires left { IsLong count (option_map (λ b. b.now) self.now.left) }
-        ensures { result ≡ back (left_at self.now.negated (option_map (λ b. b.now) self.now.left)) (right_at self.now.negated self.now.right.now) (count - stem) stem false }
+        ensures { IsBackWord (left_at self.now.negated (option_map (λ b. b.now) self.now.left)) (right_at self.now.negated self.now.right.now) count later (count / 64 * 64) result }
     {
-        let mut later = false;
-        let mut i = count;
-        'positions: while i > stem {
-            i -= 1;
-            later = self.before(i, later);
-        }
-        later
+        let left = with_bit(self.left_word(count / 64), count % 64, false);
+        let right = with_bit(self.right_word(count / 64), count % 64, later);
+        until_word(left, right, false)
     }
 
-    /// The row: of the opposite, where `negated`. Each position is looked at twice at most.
+    /// The row, by the value `later` behind its end: of the opposite, where `negated`.
+    fn pass(&self, alloc: &'a A, count: usize, later: bool) -> Result<Bits<'a, A>, AllocError>
+        requires right { count / 64 < length self.now.right.now }
+        requires left { IsLong count (option_map (λ b. b.now) self.now.left) }
+        ensures { IfOk result (IsBackRow self.now.negated (left_at self.now.negated (option_map (λ b. b.now) self.now.left)) (right_at self.now.negated self.now.right.now) count later) }
+    {
+        let mut row = Bits::all(alloc, count, false)?;
+        let mut word = self.last_word(count, later);
+        let mut k = count / 64;
+        row.set_word(k, self.turned(word));
+        'words: while k > 0 {
+            k -= 1;
+            word = until_word(self.left_word(k), self.right_word(k), word & 1 == 1);
+            row.set_word(k, self.turned(word));
+        }
+        Ok(row)
+    }
+
+    /// The row: of the opposite, where `negated`. Once round the cycle with nothing behind it tells the value at its beginning, which is the
+    /// value behind its end; where that holds, the row is made once more with it.
     pub(crate) fn row(
         &self,
         alloc: &'a A,
@@ -59,14 +87,10 @@ impl<'r, 'a, A: Allocator> Going<'r, 'a, A> {
         requires left { IsLong count (option_map (λ b. b.now) self.now.left) }
         ensures { IfOk result (IsUntilRow stem count self.now.negated (option_map (λ b. b.now) self.now.left) self.now.right.now) }
     {
-        let mut later = self.around(stem, count);
-        let mut row = Bits::all(alloc, count, false)?;
-        let mut i = count;
-        'positions: while i > 0 {
-            i -= 1;
-            later = self.before(i, later);
-            row.insert_if(i, later != self.negated);
+        let row = self.pass(alloc, count, false)?;
+        if row.get(stem) == self.negated {
+            return Ok(row);
         }
-        Ok(row)
+        self.pass(alloc, count, true)
     }
 }

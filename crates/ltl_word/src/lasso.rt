@@ -1,13 +1,14 @@
 //! Ultimately periodic words.
 
 ghost use Rattle.std.specs.Prelude.{◌≡◌, ◌≢◌, ◌<◌, ◌≤◌, ℕ, IfOk, IsTrue, [], length, map, slice_index_or};
+ghost use Rattle.std.specs.Ordering.{nat_cmp};
 ghost use Rattle.ltl_spec.specs.Collections.Sets.{has};
 ghost use Rattle.ltl_spec.specs.Semantics.Word.{letter_at, name_cmp};
 ghost use Rattle.ltl_word.specs.LassoView.{size};
 ghost use Rattle.ltl_word.specs.Rows.{IsRow};
 
 use crate::bits::Bits;
-use crate::name::is_same;
+use crate::name::{OwnedName, is_same};
 use ltl_sets::RowSet;
 use std::alloc::{AllocError, Allocator};
 use std::marker::Model;
@@ -16,7 +17,7 @@ use std::marker::Model;
 /// true there.
 #[derive(Drop)]
 pub struct Lasso<'a, A: Allocator> {
-    pub(crate) names: Vec<Vec<u8, &'a A>, &'a A>,
+    pub(crate) names: Vec<OwnedName<'a, A>, &'a A>,
     pub(crate) letters: Vec<RowSet, &'a A>,
     pub(crate) stem: usize,
 }
@@ -62,11 +63,11 @@ impl<'a, A: Allocator> Lasso<'a, A> {
     }
 
     /// The row of the positions where the name is true.
-    pub(crate) fn row_of_name<'r>(
+    pub(crate) fn row_of_name<'r, B: Allocator>(
         &self,
-        alloc: &'r A,
+        alloc: &'r B,
         name: &[u8],
-    ) -> Result<Bits<'r, A>, AllocError>
+    ) -> Result<Bits<'r, B>, AllocError>
         ensures { IfOk result (IsRow (size self.now) (λ i. IsTrue (has name_cmp name.now (letter_at self.now i)))) }
     {
         let place = place_of(self.names.as_slice(), name);
@@ -74,14 +75,27 @@ impl<'a, A: Allocator> Lasso<'a, A> {
         let mut i = self.letters.len();
         'positions: while i > 0 {
             i -= 1;
-            row.insert_if(i, self.letters[i].contains(place));
+            row.put(i, holds(&self.letters[i], place));
         }
         Ok(row)
     }
 }
 
+/// Whether the name at a place is in the letter.
+#[tactic(auto, using(crate::proofs::LetterLaws::has_none_high))]
+fn holds(letter: &RowSet, place: usize) -> bool
+    ensures { result ≡ has nat_cmp place letter.now }
+{
+    letter.members_rise();
+    if place < RowSet::LIMIT {
+        letter.contains(place)
+    } else {
+        false
+    }
+}
+
 /// Where the name stands, or the length.
-fn place_of<A: Allocator>(names: &[Vec<u8, &A>], name: &[u8]) -> usize
+fn place_of<A: Allocator>(names: &[OwnedName<'_, A>], name: &[u8]) -> usize
     ensures within { result ≤ length names.now }
     ensures found { result < length names.now → slice_index_or (map (λ n. n.items) names.now) result [] ≡ name.now }
     ensures earlier { (k : ℕ) → k < result → slice_index_or (map (λ n. n.items) names.now) k [] ≢ name.now }

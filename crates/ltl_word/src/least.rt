@@ -6,7 +6,9 @@ ghost use Rattle.ltl_spec.specs.Words.LassoText.{IsLeastForm};
 ghost use Rattle.ltl_word.specs.LeastView.{Repeats, IsShortest, IsKept};
 
 use crate::lasso::Lasso;
+use crate::name::OwnedName;
 use ltl_sets::RowSet;
+use smallvec::SmallVec;
 use std::alloc::{AllocError, Allocator};
 
 /// Whether the letters are the first `d` of them, over and over.
@@ -52,13 +54,13 @@ fn kept(letters: &[RowSet], stem: usize, d: usize) -> usize
 /// The names once more.
 fn copied<'a, A: Allocator>(
     alloc: &'a A,
-    names: &[Vec<u8, &A>],
-) -> Result<Vec<Vec<u8, &'a A>, &'a A>, AllocError>
+    names: &[OwnedName<'_, A>],
+) -> Result<Vec<OwnedName<'a, A>, &'a A>, AllocError>
     ensures { IfOk result (λ copied. map (λ n. n.items) copied.items ≡ map (λ n. n.items) names.now) }
 {
     let mut copied = Vec::new(alloc);
     for i in 0..names.len() {
-        copied.push(Vec::from_slice(alloc, names[i].as_slice())?)?;
+        copied.push(SmallVec::from_slice(alloc, names[i].as_slice())?)?;
     }
     Ok(copied)
 }

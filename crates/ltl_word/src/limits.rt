@@ -1,7 +1,9 @@
 //! Limits of words.
 
+use ltl_formula::PROPOSITION_LIMIT;
+
 /// How many bytes the text of a word may have.
 pub const TEXT_LIMIT: usize = 65_536;
 
 /// How many propositions a word may have, those of a formula included.
-pub const NAME_LIMIT: usize = 64;
+pub const NAME_LIMIT: usize = PROPOSITION_LIMIT;

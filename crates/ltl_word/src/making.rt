@@ -10,21 +10,23 @@ ghost use Rattle.ltl_word.specs.WrittenView.{letters_of};
 
 use crate::lasso::Lasso;
 use crate::limits::NAME_LIMIT;
+use crate::name::OwnedName;
 use crate::name_list::NameList;
-use crate::written::Written;
+use crate::written::{Letter, Written};
 use ltl_sets::RowSet;
+use smallvec::SmallVec;
 use std::alloc::{AllocError, Allocator};
 
 /// The names, each on its own memory.
 fn owned<'a, A: Allocator>(
     alloc: &'a A,
     names: &[&[u8]],
-) -> Result<Vec<Vec<u8, &'a A>, &'a A>, AllocError>
+) -> Result<Vec<OwnedName<'a, A>, &'a A>, AllocError>
     ensures { IfOk result (λ owned. map (λ n. n.items) owned.items ≡ map (λ n. n.now) names.now) }
 {
     let mut owned = Vec::new(alloc);
     for i in 0..names.len() {
-        owned.push(Vec::from_slice(alloc, names[i])?)?;
+        owned.push(SmallVec::from_slice(alloc, names[i])?)?;
     }
     Ok(owned)
 }
@@ -33,7 +35,7 @@ fn owned<'a, A: Allocator>(
 fn all_places<'a, A: Allocator>(
     alloc: &'a A,
     names: &NameList<'_, 'a, A>,
-    letters: &[Vec<&[u8], &'a A>],
+    letters: &[Letter<'_, 'a, A>],
 ) -> Result<Vec<RowSet, &'a A>, AllocError>
     requires few { length names.now ≤ NAME_LIMIT }
     requires sorted { IsRising name_cmp names.now }

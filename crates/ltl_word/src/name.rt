@@ -8,7 +8,11 @@ ghost use Rattle.std.specs.List.{list_all};
 ghost use Rattle.ltl_spec.specs.Formulas.Tokens as tokens;
 ghost use Rattle.ltl_spec.specs.Formulas.Names as names;
 
+use smallvec::SmallVec;
 use std::cmp::Ordering;
+
+/// A name on its own memory. Up to 16 bytes need none: names of variables that people write are mostly shorter.
+pub(crate) type OwnedName<'a, A> = SmallVec<u8, 16, &'a A>;
 
 /// Whether the bytes are the same.
 #[tactic(auto, using(crate::proofs::LetterLaws::same_bytes))]

@@ -13,16 +13,17 @@ ghost use Rattle.ltl_word.specs.WrittenView.{letters_of};
 use crate::fault::WordFault;
 use crate::limits::NAME_LIMIT;
 use crate::name::{is_greater, is_same};
-use crate::written::Written;
+use crate::written::{Letter, Written};
 use ltl_formula::Formula;
 use ltl_sets::RowSet;
+use smallvec::SmallVec;
 use std::alloc::{AllocError, Allocator};
 use std::marker::Model;
 
-/// Names, sorted by their bytes, each once.
+/// Names, sorted by their bytes, each once. Up to 8 need no memory: those of a formula of the benchmark and of a word beside it.
 #[derive(Drop)]
 pub(crate) struct NameList<'t, 'a, A: Allocator> {
-    names: Vec<&'t [u8], &'a A>,
+    names: SmallVec<&'t [u8], 8, &'a A>,
 }
 
 impl<'t, 'a, A: Allocator> Model for NameList<'t, 'a, A> {
@@ -39,7 +40,7 @@ impl<'t, 'a, A: Allocator> NameList<'t, 'a, A> {
         ensures { result ≡ [] }
     {
         NameList {
-            names: Vec::new(alloc),
+            names: SmallVec::new(alloc),
         }
     }
 
@@ -103,7 +104,7 @@ impl<'t, 'a, A: Allocator> NameList<'t, 'a, A> {
     }
 
     /// Puts the names of letters.
-    fn add_letters(&mut self, letters: &[Vec<&'t [u8], &'a A>]) -> Result<(), WordFault>
+    fn add_letters(&mut self, letters: &[Letter<'t, 'a, A>]) -> Result<(), WordFault>
         requires { length self.old ≤ NAME_LIMIT }
         ensures { MatchResult result (λ _. AddsNames self.old (all_names (map (λ a. map (λ n. n.now) a.items) letters.now)) self.new)
             (RefusesNames (length (with_names self.old (all_names (map (λ a. map (λ n. n.now) a.items) letters.now))))) }
@@ -132,9 +133,9 @@ impl<'t, 'a, A: Allocator> NameList<'t, 'a, A> {
 }
 
 /// The names of a formula and of a word.
-pub(crate) fn gather<'t, 'a, A: Allocator>(
+pub(crate) fn gather<'t, 'a, A: Allocator, B: Allocator>(
     alloc: &'a A,
-    formula: &'t Formula<'_, A>,
+    formula: &'t Formula<'_, B>,
     word: &Written<'t, 'a, A>,
 ) -> Result<NameList<'t, 'a, A>, WordFault>
     ensures { MatchResult result (AddsNames [] (formula.now.names ++ names_in (letters_of word.now))) (RefusesNames (length (with_names [] (formula.now.names ++ names_in (letters_of word.now))))) }

@@ -7,9 +7,11 @@ ghost use Rattle.ltl_word.specs.LassoView.{letter_of, word_with};
 ghost use Rattle.ltl_word.specs.NameView.{with_names};
 
 use crate::lasso::Lasso;
+use crate::limits::NAME_LIMIT;
 use crate::name_list::NameList;
-use crate::written::{Letters, Written};
+use crate::written::{Letter, Letters, Written};
 use ltl_sets::RowSet;
+use smallvec::SmallVec;
 use std::alloc::{AllocError, Allocator};
 
 /// The names with these numbers.
@@ -17,11 +19,11 @@ fn names_at<'t, 'a, A: Allocator>(
     alloc: &'a A,
     names: &[&'t str],
     numbers: &RowSet,
-) -> Result<Vec<&'t [u8], &'a A>, AllocError>
+) -> Result<Letter<'t, 'a, A>, AllocError>
     requires { AllByRecursion (λ i. i < length names.now) numbers.now }
     ensures { IfOk result (λ letter. map (λ n. n.now) letter.items ≡ letter_of (map (λ n. n.now) names.now) numbers.now) }
 {
-    let mut letter = Vec::new(alloc);
+    let mut letter = SmallVec::new(alloc);
     for i in numbers.iter() {
         letter.push(names[i].as_bytes())?;
     }
@@ -67,7 +69,7 @@ impl<'a, A: Allocator> Lasso<'a, A> {
         cycle: &[RowSet],
     ) -> Result<Lasso<'a, A>, AllocError>
         requires propositions { IsTrue (list_all is_proposition (map (λ n. n.now) names.now)) }
-        requires few { length names.now ≤ 64 }
+        requires few { length names.now ≤ NAME_LIMIT }
         requires within { All (All (λ i. i < length names.now)) (stem.now ++ cycle.now) }
         requires cycles { 0 < length cycle.now }
         ensures { IfOk result (λ w. w ≡ word_with (map (λ n. n.now) names.now) stem.now cycle.now) }

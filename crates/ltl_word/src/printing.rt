@@ -9,6 +9,7 @@ ghost use Rattle.ltl_spec.specs.Words.LassoText.{lasso_text, letter_text};
 ghost use Rattle.ltl_word.specs.LassoView.{letter_of};
 
 use crate::lasso::Lasso;
+use crate::name::OwnedName;
 use ltl_formula::{WriteFault, write_whole};
 use ltl_sets::{RowSet, Rows};
 use std::alloc::Allocator;
@@ -26,7 +27,7 @@ fn next_name_to<W: Write>(name: &[u8], w: &mut W) -> Result<(), WriteFault>
 
 /// Writes the names that follow the first one.
 fn other_names_to<A: Allocator, W: Write>(
-    names: &[Vec<u8, &A>],
+    names: &[OwnedName<'_, A>],
     places: Rows,
     w: &mut W,
 ) -> Result<(), WriteFault>
@@ -42,7 +43,7 @@ fn other_names_to<A: Allocator, W: Write>(
 
 /// Writes the names of a letter.
 fn names_to<A: Allocator, W: Write>(
-    names: &[Vec<u8, &A>],
+    names: &[OwnedName<'_, A>],
     letter: &RowSet,
     w: &mut W,
 ) -> Result<(), WriteFault>
@@ -60,7 +61,7 @@ fn names_to<A: Allocator, W: Write>(
 
 /// Writes a letter.
 fn letter_to<A: Allocator, W: Write>(
-    names: &[Vec<u8, &A>],
+    names: &[OwnedName<'_, A>],
     letter: &RowSet,
     w: &mut W,
 ) -> Result<(), WriteFault>
@@ -75,7 +76,7 @@ fn letter_to<A: Allocator, W: Write>(
 
 /// Writes the letters of a stem.
 fn stem_to<A: Allocator, W: Write>(
-    names: &[Vec<u8, &A>],
+    names: &[OwnedName<'_, A>],
     letters: &[RowSet],
     w: &mut W,
 ) -> Result<(), WriteFault>
@@ -92,7 +93,7 @@ fn stem_to<A: Allocator, W: Write>(
 
 /// Writes the letters that follow the first one of a cycle.
 fn other_letters_to<A: Allocator, W: Write>(
-    names: &[Vec<u8, &A>],
+    names: &[OwnedName<'_, A>],
     letters: &[RowSet],
     w: &mut W,
 ) -> Result<(), WriteFault>
@@ -109,7 +110,7 @@ fn other_letters_to<A: Allocator, W: Write>(
 
 /// Writes the letters of a cycle.
 fn cycle_to<A: Allocator, W: Write>(
-    names: &[Vec<u8, &A>],
+    names: &[OwnedName<'_, A>],
     letters: &[RowSet],
     w: &mut W,
 ) -> Result<(), WriteFault>

@@ -13,10 +13,10 @@ use std::alloc::Allocator;
 
 impl<'a, A: Allocator> Lasso<'a, A> {
     /// Reads a word that is to be looked at with the formula. The text is gone over once, with no recursion.
-    pub fn read(
+    pub fn read<B: Allocator>(
         alloc: &'a A,
         text: &[u8],
-        formula: &Formula<'_, A>,
+        formula: &Formula<'_, B>,
     ) -> Result<Lasso<'a, A>, WordFault>
         ensures { MatchResult result (IsReadAs formula.now.names text.now) (IsRefusedFor formula.now.names text.now) }
     {

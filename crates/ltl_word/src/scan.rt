@@ -3,7 +3,7 @@
 ghost use Rattle.std.specs.Prelude.{◌≡◌, ℕ, ◌+◌, ◌<◌, ◌≤◌, List, [], ◌∷◌, ◌++◌, if◌then◌else◌, ◌==◌, length, slice_index, IfOk, IfSome, Some, None, MatchResult};
 ghost use Rattle.std.specs.Option.{option_map};
 ghost use Rattle.ltl_spec.specs.Formulas.Tokens.{is_lower};
-ghost use Rattle.ltl_spec.proofs.Words.LassoTextLaws as machine;
+ghost use Rattle.ltl_spec.specs.Words.LassoMachine as machine;
 ghost use Rattle.ltl_word.specs.WrittenView.{WrittenView, NextIs, IsInside, after, place_of};
 ghost use Rattle.ltl_word.specs.declared.place.Place.TheVariants as places;
 ghost use Rattle.ltl_word.specs.ReadText.{IsWritten, RefusesLetters};

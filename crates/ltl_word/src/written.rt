@@ -1,15 +1,20 @@
 //! Words as they are written.
 
 ghost use Rattle.std.specs.Prelude.{◌≡◌, ℕ, List, [], ◌∷◌, ◌++◌, false, true, map, OnOk, IfOk};
-ghost use Rattle.ltl_spec.proofs.Words.LassoTextLaws as machine;
+ghost use Rattle.ltl_spec.specs.Words.LassoMachine as machine;
 ghost use Rattle.ltl_word.specs.WrittenView.{WrittenView, after};
 ghost use Rattle.ltl_word.specs.declared.place.Place.TheVariants.{AfterLetter};
 
+use smallvec::SmallVec;
 use std::alloc::{AllocError, Allocator};
 use std::marker::Model;
 
-/// Letters, of each the names in any order, also repeatedly.
-pub(crate) type Letters<'t, 'a, A> = Vec<Vec<&'t [u8], &'a A>, &'a A>;
+/// The names of a letter in any order, also repeatedly. Up to 4 need no memory: formulas of the benchmark have at most 5 propositions, and few are
+/// true at once.
+pub(crate) type Letter<'t, 'a, A> = SmallVec<&'t [u8], 4, &'a A>;
+
+/// Letters. They are mostly many, and so on the heap.
+pub(crate) type Letters<'t, 'a, A> = Vec<Letter<'t, 'a, A>, &'a A>;
 
 /// What is written of a word: whether it is in its cycle, the letters of the stem and of the cycle, and the names of an open letter.
 #[derive(Drop)]
@@ -18,7 +23,7 @@ pub(crate) struct Written<'t, 'a, A: Allocator> {
     pub(crate) in_cycle: bool,
     pub(crate) stem: Letters<'t, 'a, A>,
     pub(crate) cycle: Letters<'t, 'a, A>,
-    pub(crate) letter: Vec<&'t [u8], &'a A>,
+    pub(crate) letter: Letter<'t, 'a, A>,
 }
 
 impl<'t, 'a, A: Allocator> Model for Written<'t, 'a, A> {
@@ -44,7 +49,7 @@ impl<'t, 'a, A: Allocator> Written<'t, 'a, A> {
             in_cycle: false,
             stem: Vec::new(alloc),
             cycle: Vec::new(alloc),
-            letter: Vec::new(alloc),
+            letter: SmallVec::new(alloc),
         }
     }
 
@@ -61,7 +66,7 @@ impl<'t, 'a, A: Allocator> Written<'t, 'a, A> {
             in_cycle: true,
             stem,
             cycle,
-            letter: Vec::new(alloc),
+            letter: SmallVec::new(alloc),
         }
     }
 
@@ -91,7 +96,7 @@ impl<'t, 'a, A: Allocator> Written<'t, 'a, A> {
     pub(crate) fn close(&mut self) -> Result<(), AllocError>
         ensures { OnOk result ((text : List ℕ) (at : ℕ) → after text at AfterLetter self.new ≡ machine.closed self.old.in_cycle self.old.stem self.old.cycle self.old.letter) }
     {
-        let letter = std::mem::replace(&mut self.letter, Vec::new(self.alloc));
+        let letter = std::mem::replace(&mut self.letter, SmallVec::new(self.alloc));
         if self.in_cycle {
             self.cycle.push(letter)?;
         } else {

@@ -7,6 +7,7 @@ use Rattle.std.proofs.lemmas.Option.{slice_get-get_or}
 use Rattle.ltl_spec.specs.Collections.Lists.{with_new}
 use Rattle.ltl_spec.specs.Automata.Listing.{listing, with_targets_of, IsComplete, PassesLimits}
 use Rattle.ltl_spec.proofs.Automata.ListingLaws.{fold_behind, listing_behind, listing_complete}
+pub use Rattle.ltl_spec.specs.Automata.Listing.{edges_after}
 
 -- beginnings of lists
 
@@ -41,13 +42,9 @@ module _ {K : Type 0} (same : K → K → Bool) (targets : K → List K) (start 
   abbrev pub list_after : ℕ → List K
   list_after n = listing same targets start n
 
-  -- how many targets the first n have together
-  abbrev pub edges_after : ℕ → ℕ
-  edges_after n = sum_by (λ s. length (targets s)) (take n (list_after n))
-
   -- the running numbers are too large after n things were taken
   abbrev pub IsPassedAt : ℕ → ℕ → ℕ → Type 0
-  IsPassedAt most_states most_edges n = (most_states < length (list_after n)) ⊎ (most_edges < edges_after n)
+  IsPassedAt most_states most_edges n = (most_states < length (list_after n)) ⊎ (most_edges < edges_after same targets start n)
 
   -- a later list begins with an earlier one
   pub listing_later : (m k : ℕ) → (more : List K) × (list_after (k + m) ≡ list_after m ++ more)
@@ -68,19 +65,19 @@ module _ {K : Type 0} (same : K → K → Bool) (targets : K → List K) (start 
       omega arith
 
   -- and so does that of the targets
-  pub edges_grow : (m n : ℕ) → m ≤ n → edges_after m ≤ edges_after n
+  pub edges_grow : (m n : ℕ) → m ≤ n → edges_after same targets start m ≤ edges_after same targets start n
   edges_grow m n l =
       let e : (n - m) + m ≡ n = omega arith in
       let w = listing_later m (n - m) in
       let d : list_after n ≡ list_after m ++ w.0 = ap list_after (sym e) ∙ w.1 in
-      subst (λ (xs : List K). edges_after m ≤ sum_by (λ s. length (targets s)) (take n xs)) (sym d) (sum_grows (λ s. length (targets s)) (list_after m) w.0 m n l)
+      subst (λ (xs : List K). edges_after same targets start m ≤ sum_by (λ s. length (targets s)) (take n xs)) (sym d) (sum_grows (λ s. length (targets s)) (list_after m) w.0 m n l)
 
   -- at first there is the start, and no target
-  pub edges_begin : edges_after 0 ≡ 0
+  pub edges_begin : edges_after same targets start 0 ≡ 0
   edges_begin = refl
 
   -- taking one more adds the number of its targets
-  pub edges_step : (n : ℕ) (d : K) → n < length (list_after n) → edges_after (suc n) ≡ edges_after n + length (targets (slice_index_or (list_after n) n d))
+  pub edges_step : (n : ℕ) (d : K) → n < length (list_after n) → edges_after same targets start (suc n) ≡ edges_after same targets start n + length (targets (slice_index_or (list_after n) n d))
   edges_step n d l =
       let w = listing_behind same targets start n in
       ap (λ xs. sum_by (λ s. length (targets s)) (take (suc n) xs)) w.1 ∙ sum_step (λ s. length (targets s)) (list_after n) w.0 n d l
@@ -109,7 +106,7 @@ module _ {K : Type 0} (same : K → K → Bool) (targets : K → List K) (start 
 
     -- the numbers may be tested amid the targets of the thing that is taken
     pub passed_amid : (n : ℕ) (d : K) (ts rest : List K) → n < length (list_after n) → targets (slice_index_or (list_after n) n d) ≡ ts ++ rest
-        → (most_states < length (fold (with_new same) (list_after n) ts)) ⊎ (most_edges < edges_after n + length ts) → IsPassed (suc n)
+        → (most_states < length (fold (with_new same) (list_after n) ts)) ⊎ (most_edges < edges_after same targets start n + length ts) → IsPassed (suc n)
     passed_amid n d ts rest l e (inl p) =
         let more = fold_behind same rest (fold (with_new same) (list_after n) ts) in
         let f : list_after (suc n) ≡ fold (with_new same) (list_after n) ts ++ more.0 = list_step n d l ∙ ap (fold (with_new same) (list_after n)) e ∙ fold-append (with_new same) (list_after n) ts rest ∙ more.1 in
@@ -143,5 +140,5 @@ module _ {K : Type 0} (same : K → K → Bool) (targets : K → List K) (start 
     )
 
     -- a complete listing within the limits never passes them
-    pub never_passed : (n : ℕ) → IsComplete same targets start n → length (list_after n) ≤ most_states → edges_after n ≤ most_edges → ¬ (PassesLimits same targets start most_states most_edges)
+    pub never_passed : (n : ℕ) → IsComplete same targets start n → length (list_after n) ≤ most_states → edges_after same targets start n ≤ most_edges → ¬ (PassesLimits same targets start most_states most_edges)
     never_passed n c s e w = elim ((passed_complete n c).0 w) [ inl p ↦ omega arith | inr p ↦ omega arith ]

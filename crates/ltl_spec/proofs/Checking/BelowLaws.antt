@@ -38,22 +38,12 @@ use Rattle.ltl_spec.proofs.Construction.MergingRuns.{merged_closed}
 use Rattle.ltl_spec.proofs.Construction.LevelRuns.{levels_closed}
 use Rattle.ltl_spec.proofs.Construction.RenumberedRuns.{renumbered_closed}
 use Rattle.ltl_spec.proofs.Semantics.GeneralizedLaws.{generalized_closed}
+pub use Rattle.ltl_spec.specs.Checking.Bounds.{HasLeavesBelow}
 
 module _ (n : ℕ) where
   -- formulas
 
-  -- the propositions of the normal form are below n
-  abbrev pub HasLeavesBelow : Normal → Type 0
-  HasLeavesBelow Top = Unit {0}
-  HasLeavesBelow Bottom = Unit {0}
-  HasLeavesBelow (Leaf l) = l.proposition < n
-  HasLeavesBelow (Next a) = HasLeavesBelow a
-  HasLeavesBelow (And a b) = HasLeavesBelow a × HasLeavesBelow b
-  HasLeavesBelow (Or a b) = HasLeavesBelow a × HasLeavesBelow b
-  HasLeavesBelow (Until a b) = HasLeavesBelow a × HasLeavesBelow b
-  HasLeavesBelow (Release a b) = HasLeavesBelow a × HasLeavesBelow b
-
-  normal_below : (F : Formula) → HasPropositionsBelow n F → HasLeavesBelow (normal_form true F) × HasLeavesBelow (normal_form false F)
+  normal_below : (F : Formula) → HasPropositionsBelow n F → HasLeavesBelow n (normal_form true F) × HasLeavesBelow n (normal_form false F)
   normal_below (Constant true) h = (tt, tt)
   normal_below (Constant false) h = (tt, tt)
   normal_below (Proposition p) h = (h, h)
@@ -69,27 +59,27 @@ module _ (n : ℕ) where
   normal_below (Binary Release a b) h = let v = normal_below a h.0 in let w = normal_below b h.1 in ((v.0, w.0), (v.1, w.1))
 
   -- what holds of two outcomes holds of the choice
-  chosen_below : (t : Bool) (a b : Normal) → HasLeavesBelow a → HasLeavesBelow b → HasLeavesBelow (cond t a b)
+  chosen_below : (t : Bool) (a b : Normal) → HasLeavesBelow n a → HasLeavesBelow n b → HasLeavesBelow n (cond t a b)
   chosen_below true a b h k = h
   chosen_below false a b h k = k
 
-  simple_and_below : (a b : Normal) → HasLeavesBelow a → HasLeavesBelow b → HasLeavesBelow (simple_and a b)
+  simple_and_below : (a b : Normal) → HasLeavesBelow n a → HasLeavesBelow n b → HasLeavesBelow n (simple_and a b)
   simple_and_below a b h k =
       chosen_below (same a Top) b _ k (chosen_below (same b Top) a _ h (chosen_below (same a Bottom || same b Bottom) Bottom _ tt (chosen_below (same a b) a (And a b) h (h, k))))
 
-  simple_or_below : (a b : Normal) → HasLeavesBelow a → HasLeavesBelow b → HasLeavesBelow (simple_or a b)
+  simple_or_below : (a b : Normal) → HasLeavesBelow n a → HasLeavesBelow n b → HasLeavesBelow n (simple_or a b)
   simple_or_below a b h k =
       chosen_below (same a Bottom) b _ k (chosen_below (same b Bottom) a _ h (chosen_below (same a Top || same b Top) Top _ tt (chosen_below (same a b) a (Or a b) h (h, k))))
 
-  simple_until_below : (a b : Normal) → HasLeavesBelow a → HasLeavesBelow b → HasLeavesBelow (simple_until a b)
+  simple_until_below : (a b : Normal) → HasLeavesBelow n a → HasLeavesBelow n b → HasLeavesBelow n (simple_until a b)
   simple_until_below a b h k =
       chosen_below (same b Top || same b Bottom) b _ k (chosen_below (same a Bottom || same a b) b _ k (chosen_below (same a Top && is_eventually b) b (Until a b) k (h, k)))
 
-  simple_release_below : (a b : Normal) → HasLeavesBelow a → HasLeavesBelow b → HasLeavesBelow (simple_release a b)
+  simple_release_below : (a b : Normal) → HasLeavesBelow n a → HasLeavesBelow n b → HasLeavesBelow n (simple_release a b)
   simple_release_below a b h k =
       chosen_below (same b Top || same b Bottom) b _ k (chosen_below (same a Top || same a b) b _ k (chosen_below (same a Bottom && is_always b) b (Release a b) k (h, k)))
 
-  simple_below : (F : Normal) → HasLeavesBelow F → HasLeavesBelow (simple_form F)
+  simple_below : (F : Normal) → HasLeavesBelow n F → HasLeavesBelow n (simple_form F)
   simple_below Top h = tt
   simple_below Bottom h = tt
   simple_below (Leaf l) h = h
@@ -100,37 +90,37 @@ module _ (n : ℕ) where
   simple_below (Release a b) h = simple_release_below (simple_form a) (simple_form b) (simple_below a h.0) (simple_below b h.1)
 
   -- what is translated has the formula's propositions
-  pub core_below : (F : Formula) (negate rewrite : Bool) → HasPropositionsBelow n F → HasLeavesBelow (core F negate rewrite)
+  pub core_below : (F : Formula) (negate rewrite : Bool) → HasPropositionsBelow n F → HasLeavesBelow n (core F negate rewrite)
   core_below F true true h = simple_below (normal_form false F) (normal_below F h).1
   core_below F true false h = (normal_below F h).1
   core_below F false true h = simple_below (normal_form true F) (normal_below F h).0
   core_below F false false h = (normal_below F h).0
 
   -- a part of one of two operands, or the whole
-  of_two : (ys zs : List Normal) (F x : Normal) → Has (ys ++ zs ++ F ∷ []) x → HasLeavesBelow F → (Has ys x → HasLeavesBelow x) → (Has zs x → HasLeavesBelow x) → HasLeavesBelow x
+  of_two : (ys zs : List Normal) (F x : Normal) → Has (ys ++ zs ++ F ∷ []) x → HasLeavesBelow n F → (Has ys x → HasLeavesBelow n x) → (Has zs x → HasLeavesBelow n x) → HasLeavesBelow n x
   of_two ys zs F x m h f g = elim (append_cases (ys ++ zs) (F ∷ []) x m) [
     | inl k ↦ elim (append_cases ys zs x k) [ inl o ↦ f o | inr o ↦ g o ]
-    | inr k ↦ elim k [ inl e ↦ subst HasLeavesBelow (sym e) h | inr z ↦ absurd z ]
+    | inr k ↦ elim k [ inl e ↦ subst (HasLeavesBelow n) (sym e) h | inr z ↦ absurd z ]
   ]
 
   -- so do the parts
-  part_below : (F x : Normal) → HasLeavesBelow F → Has (postorder F) x → HasLeavesBelow x
-  part_below Top x h m = elim m [ inl e ↦ subst HasLeavesBelow (sym e) h | inr z ↦ absurd z ]
-  part_below Bottom x h m = elim m [ inl e ↦ subst HasLeavesBelow (sym e) h | inr z ↦ absurd z ]
-  part_below (Leaf l) x h m = elim m [ inl e ↦ subst HasLeavesBelow (sym e) h | inr z ↦ absurd z ]
-  part_below (Next a) x h m = elim (append_cases (postorder a) (Next a ∷ []) x m) [ inl k ↦ part_below a x h k | inr k ↦ elim k [ inl e ↦ subst HasLeavesBelow (sym e) h | inr z ↦ absurd z ] ]
+  part_below : (F x : Normal) → HasLeavesBelow n F → Has (postorder F) x → HasLeavesBelow n x
+  part_below Top x h m = elim m [ inl e ↦ subst (HasLeavesBelow n) (sym e) h | inr z ↦ absurd z ]
+  part_below Bottom x h m = elim m [ inl e ↦ subst (HasLeavesBelow n) (sym e) h | inr z ↦ absurd z ]
+  part_below (Leaf l) x h m = elim m [ inl e ↦ subst (HasLeavesBelow n) (sym e) h | inr z ↦ absurd z ]
+  part_below (Next a) x h m = elim (append_cases (postorder a) (Next a ∷ []) x m) [ inl k ↦ part_below a x h k | inr k ↦ elim k [ inl e ↦ subst (HasLeavesBelow n) (sym e) h | inr z ↦ absurd z ] ]
   part_below (And a b) x h m = of_two (postorder a) (postorder b) (And a b) x m h (part_below a x h.0) (part_below b x h.1)
   part_below (Or a b) x h m = of_two (postorder a) (postorder b) (Or a b) x m h (part_below a x h.0) (part_below b x h.1)
   part_below (Until a b) x h m = of_two (postorder a) (postorder b) (Until a b) x m h (part_below a x h.0) (part_below b x h.1)
   part_below (Release a b) x h m = of_two (postorder a) (postorder b) (Release a b) x m h (part_below a x h.0) (part_below b x h.1)
 
-  row_below : (F : Normal) → HasLeavesBelow F → (i : ℕ) → HasLeavesBelow (slice_index_or (elementary_rows F) i Bottom)
+  row_below : (F : Normal) → HasLeavesBelow n F → (i : ℕ) → HasLeavesBelow n (slice_index_or (elementary_rows F) i Bottom)
   row_below F h i = elim (cases_lt i (length (elementary_rows F))) [
     | inl l ↦
         let x = slice_index_or (elementary_rows F) i Bottom in
         let m = (filter_cases (λ a. is_elementary a || same a F) (rows F) x (Has-at (elementary_rows F) i Bottom l)).0 in
         part_below F x h (first_occurrences_cases same same_Decides (postorder F) x m)
-    | inr l ↦ subst HasLeavesBelow (sym (get_or_past (elementary_rows F) i Bottom l)) tt
+    | inr l ↦ subst (HasLeavesBelow n) (sym (get_or_past (elementary_rows F) i Bottom l)) tt
   ]
 
   -- pairs and transitions
@@ -157,7 +147,7 @@ module _ (n : ℕ) where
       let (p, q, a, b, e) = join_cases ps qs r m in
       elim (union_cases literal_linear p.cube q.cube l (subst (λ (x : Pair). Has x.cube l) e o)) [ inl c ↦ h p a l c | inr c ↦ k q b l c ]
 
-  pairs_below : (place : Normal → ℕ) (F : Normal) → HasLeavesBelow F → AreBelow (pairs place F)
+  pairs_below : (place : Normal → ℕ) (F : Normal) → HasLeavesBelow n F → AreBelow (pairs place F)
   pairs_below place Top h = one_below empty_pair nothing_below
   pairs_below place Bottom h = λ p z. absurd z
   pairs_below place (Leaf l) h = one_below (record { cube = l ∷ []; targets = [] }) (λ m k. elim k [ inl e ↦ subst (λ (x : Literal). x.proposition < n) (sym e) h | inr z ↦ absurd z ])
@@ -171,7 +161,7 @@ module _ (n : ℕ) where
       join_below (pairs place b) (pairs place a ++ later_pair (place (Release a b)) ∷ []) (pairs_below place b h.1)
       (both_below (pairs place a) (later_pair (place (Release a b)) ∷ []) (pairs_below place a h.0) (one_below (later_pair (place (Release a b))) nothing_below))
 
-  module _ (core : Normal) (low : HasLeavesBelow core) where
+  module _ (core : Normal) (low : HasLeavesBelow n core) where
     abbrev t : Table
     t = table_of core
 
@@ -196,7 +186,7 @@ module _ (n : ℕ) where
         absurd (subst (λ (v : State). Has v.edges x) (get_or_past (map f list) s no_state (omega (arith, e, l))) h)
   ]
 
-  over_below : (core : Normal) → HasLeavesBelow core → (keep : Bool) (list : List RowSet) → HasNamesBelow n (automaton_over core keep list)
+  over_below : (core : Normal) → HasLeavesBelow n core → (keep : Bool) (list : List RowSet) → HasNamesBelow n (automaton_over core keep list)
   over_below core low keep list s x h = made_below (state_of core keep list) list [] each s x h
     where
       each : (e : RowSet) (y : Edge) → Has (state_of core keep list e).edges y → IsBelow y.cube
@@ -204,7 +194,7 @@ module _ (n : ℕ) where
           let (u, k, d) = map_cases (edge_to core keep list) (transitions (table_of core) keep e) y m in
           subst (λ (v : Edge). IsBelow v.cube) (sym d) (transition_below core low keep e u k)
 
-  generalized_below : (core : Normal) → HasLeavesBelow core → (keep : Bool) (A : Automaton) → IsGeneralized core keep A → HasNamesBelow n A
+  pub generalized_below : (core : Normal) → HasLeavesBelow n core → (keep : Bool) (A : Automaton) → IsGeneralized core keep A → HasNamesBelow n A
   generalized_below core low keep A (m, c, e) = subst (HasNamesBelow n) (sym e) (over_below core low keep (listing same_row_set (target_sets core keep) (root_set core keep) m))
 
   module _ (A : Automaton) (low : HasNamesBelow n A) where
@@ -234,7 +224,7 @@ module _ (n : ℕ) where
         made_below (λ u. retargeted_state (λ t'. place_of ◌==◌ t' (reached_states A)) (state_at A u)) (reached_states A) 0 (λ u. retargeted_below (λ t'. place_of ◌==◌ t' (reached_states A)) u) s x h
 
   -- the automaton of a normal form is one to search with
-  pub translation_is_buchi : (N : Normal) (o : Options) (B : Automaton) → IsTranslation N o B → HasLeavesBelow N → IsBuchi n B
+  pub translation_is_buchi : (N : Normal) (o : Options) (B : Automaton) → IsTranslation N o B → HasLeavesBelow n N → IsBuchi n B
   translation_is_buchi N o B (A, g, e) low = subst (IsBuchi n) (sym e) made
     where
       small : Automaton

@@ -5,7 +5,7 @@ use Rattle.std.specs.Bool.{Decides}
 use Rattle.std.specs.List.{list_any}
 use Rattle.std.specs.Ordering.{nat_cmp}
 use Rattle.std.proofs.lemmas.Bool.{and_from, false_from_ne_true}
-use Rattle.ltl_spec.specs.Collections.Sets.{Has, IsRising, is_subset}
+use Rattle.ltl_spec.specs.Collections.Sets.{Has, is_subset}
 use Rattle.ltl_spec.specs.Transitions.Cubes.{Literal, Cube, literal_cmp, allows}
 use Rattle.ltl_spec.specs.Automata.Automaton.{Edge, State}
 use Rattle.ltl_spec.specs.Construction.Merging.{same_edge, implies_edge, unimplied_edges, without_implied}
@@ -14,6 +14,7 @@ use Rattle.ltl_spec.proofs.Collections.Orders.{nat_linear, literal_linear}
 use Rattle.ltl_spec.proofs.Construction.RoundLaws.{same_edge_Decides}
 use Rattle.ltl_spec.proofs.Collections.CaseLaws.{false_is_true, left_true, right_true}
 use Rattle.ltl_spec.proofs.Transitions.CubeLaws.{allows_Decides}
+pub use Rattle.ltl_spec.specs.Construction.ImpliedEdges.{IsSetEdge, is_above}
 
 -- an element that none is above
 
@@ -113,11 +114,6 @@ implies_edge_Decides f e = (to, from)
     from : Covers f e → implies_edge f e ≡ true
     from c = and_from _ _ (and_from _ _ (eq-eqb f.target e.target c.target) (cubes.1 c.cube)) (sets.1 c.marks)
 
--- the literals of the edge are a set, and its marks too
-pub record IsSetEdge (e : Edge) : Type 0 where
-  pub cube : IsRising literal_cmp e.cube
-  pub marks : IsRising nat_cmp e.marks
-
 -- such edges that can stand for each other are equal
 pub covers_both : (f e : Edge) → IsSetEdge f → IsSetEdge e → Covers f e → Covers e f → f ≡ e
 covers_both f e sf se a b =
@@ -127,10 +123,6 @@ covers_both f e sf se a b =
     λ i. record { cube = c i; target = t i; marks = m i }
 
 -- what stays
-
--- f is another edge than e and implies it
-abbrev pub is_above : Edge → Edge → Bool
-is_above f e = not (same_edge f e) && implies_edge f e
 
 not_same : (f e : Edge) → not (same_edge f e) ≡ true → f ≡ e → ⊥
 not_same f e n i = false_is_true (ap not (sym ((same_edge_Decides f e).1 i)) ∙ n)

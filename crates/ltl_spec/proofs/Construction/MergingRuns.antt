@@ -32,7 +32,7 @@ module _ (A : Automaton) where
   }
 
   -- the names that merging takes
-  naming : (keep_equal : Bool) → IsNaming A (class_names A (cond keep_equal 0 count))
+  pub naming : (keep_equal : Bool) → IsNaming A (class_names A (cond keep_equal 0 count))
   naming true = first_naming
   naming false = last_naming
 

@@ -324,7 +324,7 @@ fault_long_number = refl
 fault_no_state : hoa_fault stated_limits OneSet (codes "HOA: v1\nStates: 0\nStart: 0\nAP: 1 \"p\"\nAcceptance: 1 Inf(0)\n--BODY--\nState: 0 {0}\n[!0] 0\n--END--\n") ≡ Some (record { kind = NumberOutOfRange; line = 6 })
 fault_no_state = refl
 
-fault_many_names : hoa_fault stated_limits OneSet (codes "HOA: v1\nStates: 1\nStart: 0\nAP: 65\nAcceptance: 1 Inf(0)\n--BODY--\nState: 0 {0}\n[!0] 0\n--END--\n") ≡ Some (record { kind = LimitPassed; line = 4 })
+fault_many_names : hoa_fault stated_limits OneSet (codes "HOA: v1\nStates: 1\nStart: 0\nAP: 257\nAcceptance: 1 Inf(0)\n--BODY--\nState: 0 {0}\n[!0] 0\n--END--\n") ≡ Some (record { kind = LimitPassed; line = 4 })
 fault_many_names = refl
 
 fault_open_comment : hoa_fault stated_limits OneSet (codes "HOA: v1\nStates: 1\nStart: 0\nAP: 1 \"p\"\nAcceptance: 1 Inf(0)\n--BODY--\n/*State: 0 {0}\n[!0] 0\n--END--\n") ≡ Some (record { kind = BadToken; line = 10 })
@@ -372,7 +372,7 @@ long_formula_message : message stated_limits Translator LongFormula ≡ codes "l
 unfolding digits
 long_formula_message = refl
 
-many_propositions_message : message stated_limits Translator TooManyPropositions ≡ codes "ltl2ba: limit: more than 64 propositions\n"
+many_propositions_message : message stated_limits Translator TooManyPropositions ≡ codes "ltl2ba: limit: more than 256 propositions\n"
 unfolding digits
 many_propositions_message = refl
 
@@ -380,7 +380,7 @@ many_rows_message : message stated_limits Translator TooManyRows ≡ codes "ltl2
 unfolding digits
 many_rows_message = refl
 
-many_elementary_rows_message : message stated_limits Translator TooManyElementaryRows ≡ codes "ltl2ba: limit: more than 64 elementary rows\n"
+many_elementary_rows_message : message stated_limits Translator TooManyElementaryRows ≡ codes "ltl2ba: limit: more than 256 elementary rows\n"
 unfolding digits
 many_elementary_rows_message = refl
 

@@ -2,6 +2,7 @@
 use Rattle.std.proofs.Common.{◌≡◌, ℕ, [], ◌∷◌, length, List, Ok, Err, codes, refl}
 use Rattle.ltl_spec.specs.Formulas.Formula.{Constant, Proposition, Unary, Binary, Not, Next, Always, Eventually, And, Or, Implies, Iff, Until, Release}
 use Rattle.ltl_spec.specs.Formulas.Tokens.{items}
+use Rattle.ltl_spec.specs.Formulas.Canonical.{canonical_text}
 use Rattle.ltl_spec.specs.Formulas.Fault.{UnexpectedByte, ExpectedOperand, ExpectedOperatorOrEnd, ExpectedCloseOrOperator}
 use Rattle.ltl_spec.proofs.Formulas.GrammarMachine.{Wanting}
 use Rattle.ltl_spec.proofs.Formulas.ReaderLaws.{Verdict, verdict}
@@ -60,3 +61,31 @@ closed = refl
 -- an operand too many in a bracket
 in_bracket : verdict_of (codes "(p q") ≡ Err (3, ExpectedCloseOrOperator)
 in_bracket = refl
+
+-- letters for operators: `[]<>p`, and `p V q`
+letters : verdict_of (codes "GFp") ≡ Ok (record { formula = Unary Always (Unary Eventually (Proposition 0)); names = codes "p" ∷ [] })
+letters = refl
+
+letter_between : verdict_of (codes "pRq") ≡ Ok (record { formula = Binary Release (Proposition 0) (Proposition 1); names = codes "p" ∷ codes "q" ∷ [] })
+letter_between = refl
+
+-- the same binding as the signs
+letters_bind : verdict_of (codes "Gp R q && F q U p")
+    ≡ Ok (record { formula = Binary And (Binary Release (Unary Always (Proposition 0)) (Proposition 1)) (Binary Until (Unary Eventually (Proposition 1)) (Proposition 0)); names = codes "p" ∷ codes "q" ∷ [] })
+letters_bind = refl
+
+other_letter : verdict_of (codes "p W q") ≡ Err (2, UnexpectedByte)
+other_letter = refl
+
+letter_at_end : verdict_of (codes "p R") ≡ Err (3, ExpectedOperand)
+letter_at_end = refl
+
+letter_for_binary : verdict_of (codes "p G q") ≡ Err (2, ExpectedOperatorOrEnd)
+letter_for_binary = refl
+
+-- the canonical text has the signs
+letters_printed : canonical_text (record { formula = Unary Always (Unary Eventually (Proposition 0)); names = codes "p" ∷ [] }) ≡ codes "[]<>p"
+letters_printed = refl
+
+letter_printed : canonical_text (record { formula = Binary Release (Proposition 0) (Proposition 1); names = codes "p" ∷ codes "q" ∷ [] }) ≡ codes "(p V q)"
+letter_printed = refl

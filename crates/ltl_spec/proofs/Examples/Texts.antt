@@ -2,7 +2,7 @@
 use Rattle.std.proofs.Common.{◌≡◌, ℕ, zero, suc, Bool, true, false, ap, inl, inr, List, [], ◌∷◌, refl, arith}
 use Rattle.std.specs.Prelude.{codes}
 use Rattle.ltl_spec.specs.Semantics.Word.{Lasso, next, after_steps, is_true_at}
-use Rattle.ltl_spec.specs.Formulas.Formula.{Proposition, Unary, Binary, Not, Next, Always, Eventually, And, Implies, Iff, Until, Reading}
+use Rattle.ltl_spec.specs.Formulas.Formula.{Proposition, Unary, Binary, Not, Next, Always, Eventually, And, Implies, Iff, Until, Release, Reading}
 use Rattle.ltl_spec.specs.Formulas.Tokens.{ConstantWord, NameWord, UnarySign, BinarySign, Unknown, tokens, items}
 use Rattle.ltl_spec.specs.Formulas.Grammar.{Parses, of_name, of_tighter, of_right, IsTextOf}
 use Rattle.ltl_spec.specs.Formulas.Fault.{IsFault, UnexpectedByte}
@@ -24,6 +24,13 @@ true1_tokens = refl
 
 arrows : tokens (codes "<><->->[]!X/\\&&") ≡ UnarySign Eventually ∷ BinarySign Iff ∷ BinarySign Implies ∷ UnarySign Always ∷ UnarySign Not ∷ UnarySign Next ∷ BinarySign And ∷ BinarySign And ∷ []
 arrows = refl
+
+-- `G`, `F` and `R` are other spellings of `[]`, `<>` and `V`; other upper-case letters begin no token
+letter_tokens : tokens (codes "GFpRq") ≡ UnarySign Always ∷ UnarySign Eventually ∷ NameWord (codes "p") ∷ BinarySign Release ∷ NameWord (codes "q") ∷ []
+letter_tokens = refl
+
+weak_until_items : items (codes "p W q") ≡ record { token = NameWord (codes "p"); start = 0; end = 1 } ∷ record { token = Unknown; start = 2; end = 3 } ∷ []
+weak_until_items = refl
 
 unknown_items : items (codes "p & q") ≡ record { token = NameWord (codes "p"); start = 0; end = 1 } ∷ record { token = Unknown; start = 2; end = 3 } ∷ []
 unknown_items = refl

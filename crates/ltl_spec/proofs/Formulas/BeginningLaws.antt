@@ -12,11 +12,7 @@ use Rattle.ltl_spec.specs.Formulas.Tokens.{Token, ConstantWord, NameWord, UnaryS
 use Rattle.ltl_spec.specs.Formulas.Grammar.{Parses, rank_of, name_in, names_of, Reads, IsBeginning}
 use Rattle.ltl_spec.proofs.Collections.ListLaws.{Has-first_occurrences, HasNoRepeats-first_occurrences}
 use Rattle.ltl_spec.proofs.Formulas.GrammarMachine.{Frame, Bracket, Prefix, Pending, Reader, Wanting, Having, close, left_rank, unbracketed, unopened, read_step, read_on, run, finished_if, read, Knows, read_sound, read_complete, rank_bounds}
-
--- an operand comes next, or one is complete; with the number of open brackets
-pub data Outline : Type 0 where
-  Before : ℕ → Outline
-  After : ℕ → Outline
+pub use Rattle.ltl_spec.specs.Formulas.Outline.{Outline, Before, After, brackets, outline}
 
 -- the outline with one token more, `None` where it fits nowhere
 abbrev pub walk_step : Outline → Token → Option Outline
@@ -39,18 +35,6 @@ abbrev pub walk : Option Outline → List Token → Option Outline
 walk o ts = fold walk_on o ts
 
 -- the reader and its outline
-
--- how many brackets are open
-abbrev pub brackets : List Frame → ℕ
-brackets [] = 0
-brackets (Bracket ∷ s) = suc (brackets s)
-brackets (Prefix op ∷ s) = brackets s
-brackets (Pending a op ∷ s) = brackets s
-
--- a reader's outline
-abbrev pub outline : Reader → Outline
-outline (Wanting s) = Before (brackets s)
-outline (Having F s) = After (brackets s)
 
 -- the outline of a reader that may be stuck
 abbrev pub outline_if : Option Reader → Option Outline

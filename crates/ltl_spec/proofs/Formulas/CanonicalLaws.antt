@@ -20,6 +20,7 @@ use Rattle.ltl_spec.proofs.Formulas.GrammarMachine.{of_higher, of_binary, rank_b
 use Rattle.ltl_spec.proofs.Formulas.BeginningLaws.{reads_once}
 use Rattle.ltl_spec.proofs.Formulas.TokenLaws.{tokens_from, tokens_are, IsNameWord, EndsWord, word_tokens, name_token, text_names}
 use Rattle.ltl_spec.proofs.Formulas.NameLaws.{same_place}
+pub use Rattle.ltl_spec.specs.Formulas.Names.{names_in, IsNamed}
 
 -- the tokens of the canonical text
 abbrev pub formula_tokens : List Name → Formula → List Token
@@ -27,13 +28,6 @@ formula_tokens names (Constant b) = ConstantWord b ∷ []
 formula_tokens names (Proposition p) = NameWord (slice_index_or names p []) ∷ []
 formula_tokens names (Unary op a) = UnarySign op ∷ formula_tokens names a
 formula_tokens names (Binary op a b) = Open ∷ (formula_tokens names a ++ BinarySign op ∷ formula_tokens names b) ++ Close ∷ []
-
--- the names of the propositions, each as often as it stands
-abbrev pub names_in : List Name → Formula → List Name
-names_in names (Constant b) = []
-names_in names (Proposition p) = slice_index_or names p [] ∷ []
-names_in names (Unary op a) = names_in names a
-names_in names (Binary op a b) = names_in names a ++ names_in names b
 
 -- each proposition has a name
 abbrev pub HasNames : List Name → Formula → Type 0
@@ -121,11 +115,6 @@ formula_names names (Binary op a b) =
     filter_map-append name_in (formula_tokens names a ++ BinarySign op ∷ formula_tokens names b) (Close ∷ [])
     ∙ append-nil _ ∙ filter_map-append name_in (formula_tokens names a) (BinarySign op ∷ formula_tokens names b)
     ∙ (λ i. formula_names names a i ++ formula_names names b i)
-
--- The names are proper, and they are those of the formula's propositions in the order in which they first stand
-pub record IsNamed (R : Reading) : Type 0 where
-  pub words : AllByRecursion IsNameWord R.names
-  pub numbered : R.names ≡ first_occurrences same_name (names_in R.names R.formula)
 
 -- each proposition then has a name
 proper_below : (names : List Name) (p : ℕ) → IsNameWord (slice_index_or names p []) → p < length names

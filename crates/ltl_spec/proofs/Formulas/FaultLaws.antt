@@ -9,17 +9,7 @@ use Rattle.ltl_spec.specs.Formulas.Fault.{FaultKind, UnexpectedByte, ExpectedOpe
 use Rattle.ltl_spec.proofs.Formulas.TokenLaws.{token_of}
 use Rattle.ltl_spec.proofs.Formulas.BeginningLaws.{Outline, Before, After, walk_step, walk_on, walk, walk_append, walk_none, walk_begins, begins_walk, walk_reads, reads_walk}
 use Rattle.ltl_spec.proofs.Collections.ListLaws.{get_done, get_end}
-
--- the kind of a fault by the outline before it
-abbrev pub kind_before : Outline → FaultKind
-kind_before (Before n) = ExpectedOperand
-kind_before (After zero) = ExpectedOperatorOrEnd
-kind_before (After (suc n)) = ExpectedCloseOrOperator
-
--- and by the token at the place
-abbrev pub kind_at : Outline → Token → FaultKind
-kind_at o Unknown = UnexpectedByte
-kind_at o _ = kind_before o
+pub use Rattle.ltl_spec.specs.Formulas.Outline.{kind_before, kind_at}
 
 -- the fault at the end of a text with this outline
 abbrev pub end_fault : ℕ → Outline → Option (ℕ × FaultKind)

@@ -1,6 +1,6 @@
 -- A reader with one explicit stack: it goes over the tokens once, from the left, and answers the formula.
 -- The stack's top is the head of its list.
-use Rattle.std.proofs.Common.{◌≡◌, ℕ, zero, suc, ◌<◌, ◌≤◌, true, false, cond, if◌then◌else◌, nat_le, List, [], ◌∷◌, ◌++◌, fold, Option, Some, None, slice_get, refl, sym, ◌∙◌, ap, subst, arith, le-leb, leb-true, leb-false, append_assoc, append-nil}
+use Rattle.std.proofs.Common.{◌≡◌, ℕ, zero, suc, ◌<◌, ◌≤◌, true, false, cond, nat_le, List, [], ◌∷◌, ◌++◌, fold, Option, Some, None, slice_get, refl, sym, ◌∙◌, ap, subst, arith, le-leb, leb-true, leb-false, append_assoc, append-nil}
 use Rattle.std.proofs.lemmas.Bool.{lt-leb, false≢true, true≢false}
 use Rattle.std.specs.Prelude.{⊤}
 use Rattle.std.specs.List.{AllByRecursion}
@@ -9,31 +9,12 @@ use Rattle.std.proofs.lemmas.Slice.Eq.{bytes_eq-Decides}
 use Rattle.ltl_spec.specs.Collections.Sets.{Has}
 use Rattle.ltl_spec.specs.Collections.Lists.{HasNoRepeats, place_of}
 use Rattle.ltl_spec.specs.Semantics.Word.{Name}
-use Rattle.ltl_spec.specs.Formulas.Formula.{Formula, Constant, Proposition, Unary, Binary, UnaryOperator, BinaryOperator, And, Or, Implies, Iff, Until, Release}
+use Rattle.ltl_spec.specs.Formulas.Formula.{Formula, Constant, Proposition, Unary, Binary, BinaryOperator, And, Or, Implies, Iff, Until, Release}
 use Rattle.ltl_spec.specs.Formulas.Tokens.{Token, ConstantWord, NameWord, UnarySign, BinarySign, Open, Close, same_name}
 use Rattle.ltl_spec.proofs.Collections.ListLaws.{place_below, at_place}
 use Rattle.ltl_spec.specs.Formulas.Grammar.{Parses, of_constant, of_name, of_brackets, of_unary, of_tighter, of_left, of_right, rank_of, groups_right}
 use Rattle.ltl_spec.proofs.Formulas.NameLaws.{place_only}
-
--- what is open: a bracket, a unary operator that waits for its operand, or a left operand with its binary operator
-pub data Frame : Type 0 where
-  Bracket : Frame
-  Prefix : UnaryOperator → Frame
-  Pending : Formula → BinaryOperator → Frame
-
--- an operand comes next, or one is complete
-pub data Reader : Type 0 where
-  Wanting : List Frame → Reader
-  Having : Formula → List Frame → Reader
-
--- the highest rank of a left operand
-abbrev pub left_rank : BinaryOperator → ℕ
-left_rank Until = 1
-left_rank Release = 1
-left_rank And = 2
-left_rank Or = 3
-left_rank Implies = 3
-left_rank Iff = 5
+pub use Rattle.ltl_spec.specs.Formulas.GrammarMachine.{Frame, Bracket, Prefix, Pending, Reader, Wanting, Having, left_rank, close, unbracketed, unopened, read_step, finished}
 
 -- and of a right one
 abbrev pub right_rank : BinaryOperator → ℕ
@@ -43,39 +24,6 @@ right_rank And = 1
 right_rank Or = 2
 right_rank Implies = 4
 right_rank Iff = 4
-
--- what waits on top closes over the operand: unary operators, and binary ones of at most this rank
-abbrev pub close : ℕ → Formula → List Frame → Formula × List Frame
-close n F [] = (F, [])
-close n F (Bracket ∷ s) = (F, Bracket ∷ s)
-close n F (Prefix op ∷ s) = close n (Unary op F) s
-close n F (Pending a op ∷ s) = let rest = close n (Binary op a F) s in if nat_le (rank_of op) n then rest else (F, Pending a op ∷ s)
-
--- a bracket on top goes away
-abbrev pub unbracketed : Formula → List Frame → Option Reader
-unbracketed F (Bracket ∷ s) = Some (Having F s)
-unbracketed F _ = None
-
--- nothing is open
-abbrev pub unopened : Formula → List Frame → Option Formula
-unopened F [] = Some F
-unopened F _ = None
-
--- one token more, `None` where it fits nowhere
-abbrev pub read_step : List Name → Reader → Token → Option Reader
-read_step names (Wanting s) (ConstantWord b) = Some (Having (Constant b) s)
-read_step names (Wanting s) (NameWord n) = Some (Having (Proposition (place_of same_name n names)) s)
-read_step names (Wanting s) (UnarySign op) = Some (Wanting (Prefix op ∷ s))
-read_step names (Wanting s) Open = Some (Wanting (Bracket ∷ s))
-read_step names (Wanting s) _ = None
-read_step names (Having F s) (BinarySign op) = let c = close (left_rank op) F s in Some (Wanting (Pending c.0 op ∷ c.1))
-read_step names (Having F s) Close = let c = close 5 F s in unbracketed c.0 c.1
-read_step names (Having F s) _ = None
-
--- the formula, if all is closed with it
-abbrev pub finished : Reader → Option Formula
-finished (Wanting s) = None
-finished (Having F s) = let c = close 5 F s in unopened c.0 c.1
 
 -- the same from a reader that may be stuck
 abbrev pub read_on : List Name → Option Reader → Token → Option Reader

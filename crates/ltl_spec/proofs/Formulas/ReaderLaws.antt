@@ -17,11 +17,7 @@ use Rattle.ltl_spec.proofs.Formulas.GrammarMachine.{Frame, Bracket, Prefix, Pend
 use Rattle.ltl_spec.proofs.Formulas.BeginningLaws.{Outline, After, outline, outline_if, brackets, run_outline, step_outline, outline_finished, Reads-from_read, reads_once}
 use Rattle.ltl_spec.proofs.Formulas.FaultLaws.{kind_before, kind_at, fault_at, fault_at_end, never_both}
 use Rattle.ltl_spec.proofs.Collections.CaseLaws.{false_is_true}
-
--- the names after a token
-abbrev pub with_name : List Name → Token → List Name
-with_name names (NameWord n) = with_new same_name names n
-with_name names _ = names
+pub use Rattle.ltl_spec.specs.Formulas.Names.{with_name}
 
 -- a reading, or the place and kind of a fault
 abbrev pub Verdict : Type 0

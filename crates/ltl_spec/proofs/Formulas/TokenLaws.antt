@@ -13,6 +13,7 @@ use Rattle.ltl_spec.proofs.Collections.SetLaws.{all_at}
 use Rattle.ltl_spec.specs.Semantics.Word.{Name}
 use Rattle.ltl_spec.specs.Formulas.Tokens.{Token, ConstantWord, NameWord, Unknown, Item, signs, is_blank, is_lower, is_name_byte, same_name, word_token, sign_token, first_token, item_before, items_from, items, tokens}
 use Rattle.ltl_spec.proofs.Collections.CaseLaws.{left_true}
+pub use Rattle.ltl_spec.specs.Formulas.Names.{IsNameWord}
 
 -- an item's token
 abbrev pub token_of : Item → Token
@@ -55,11 +56,6 @@ pub tokens_are : (text : List ℕ) → tokens text ≡ tokens_from 0 text
 tokens_are text = tokens_of_items 0 0 text
 
 -- words
-
--- a proposition's name: `[a-z][a-z0-9_]*`, and no constant
-abbrev pub IsNameWord : Name → Type 0
-IsNameWord [] = ⊥
-IsNameWord (b ∷ bs) = (is_lower b ≡ true) × AllByRecursion (λ c. is_name_byte c ≡ true) bs × (¬ (b ∷ bs ≡ codes "true")) × (¬ (b ∷ bs ≡ codes "false"))
 
 -- a word ends before these bytes
 abbrev pub EndsWord : List ℕ → Type 0
@@ -187,7 +183,7 @@ sign_proper p (s ∷ ss) a = elim (p s) as (λ b. IsProper (sign_token (cond b (
 
 -- no sign is a name
 signs_proper : AllByRecursion (λ s. IsProper s.1) signs
-signs_proper = (tt, (tt, (tt, (tt, (tt, (tt, (tt, (tt, (tt, (tt, (tt, (tt, (tt, (tt, tt))))))))))))))
+signs_proper = (tt, (tt, (tt, (tt, (tt, (tt, (tt, (tt, (tt, (tt, (tt, (tt, (tt, (tt, (tt, (tt, (tt, tt)))))))))))))))))
 
 -- a first token is proper
 first_proper : (b : ℕ) (bs : List ℕ) → IsProper (first_token b bs).0
@@ -237,7 +233,7 @@ first_length b bs =
     elim (is_lower b) as (λ l. is_lower b ≡ l
     → 1 ≤ (cond l (word_token (take_while is_name_byte (b ∷ bs)), length (take_while is_name_byte (b ∷ bs))) (sign_token (find (λ s. starts_with nat_eq (b ∷ bs) s.0) signs))).1) [
       | true ↦ λ l. subst (λ w. 1 ≤ length w) (sym (word_is l)) (some_byte (take_while is_name_byte bs))
-      | false ↦ λ l. sign_length (λ s. starts_with nat_eq (b ∷ bs) s.0) signs (omega arith, (omega arith, (omega arith, (omega arith, (omega arith, (omega arith, (omega arith, (omega arith, (omega arith, (omega arith, (omega arith, (omega arith, (omega arith, (omega arith, tt))))))))))))))
+      | false ↦ λ l. sign_length (λ s. starts_with nat_eq (b ∷ bs) s.0) signs (omega arith, (omega arith, (omega arith, (omega arith, (omega arith, (omega arith, (omega arith, (omega arith, (omega arith, (omega arith, (omega arith, (omega arith, (omega arith, (omega arith, (omega arith, (omega arith, (omega arith, tt)))))))))))))))))
     ] refl
   where
     word_is : is_lower b ≡ true → take_while is_name_byte (b ∷ bs) ≡ b ∷ take_while is_name_byte bs

@@ -1,6 +1,6 @@
 -- The rows of a formula collected by a walk that enters no subformula twice, over the tree and over a graph of shared nodes.
-use Rattle.std.proofs.Common.{◌≡◌, ℕ, zero, suc, ◌+◌, ◌*◌, ◌<◌, ◌≤◌, Bool, true, false, cond, eqb, ◌⊎◌, inl, inr, List, [], ◌∷◌, ◌++◌, map, length, refl, sym, ◌∙◌, ap, subst, arith, length-append}
-use Rattle.std.specs.Prelude.{All, slice_index_or, slice_set, replicate, ◌==◌, not, ◌||◌, if◌then◌else◌, filter, fold, flat_map, sum_by}
+use Rattle.std.proofs.Common.{◌≡◌, ℕ, zero, suc, ◌+◌, ◌<◌, ◌≤◌, Bool, true, false, cond, eqb, ◌⊎◌, inl, inr, List, [], ◌∷◌, ◌++◌, map, length, refl, sym, ◌∙◌, ap, subst, arith, length-append}
+use Rattle.std.specs.Prelude.{All, slice_index_or, slice_set, replicate, ◌==◌, not, ◌||◌, if◌then◌else◌, filter, fold, flat_map}
 use Rattle.std.specs.Bool.{Decides}
 use Rattle.std.specs.List.{list_any}
 use Rattle.std.proofs.lemmas.Bool.Decides.{Decides-eqb}
@@ -17,6 +17,7 @@ use Rattle.ltl_spec.proofs.Collections.ListLaws.{Has-at, any_Decides, HasNoRepea
 use Rattle.ltl_spec.proofs.Automata.ListingLaws.{fold_behind}
 use Rattle.ltl_spec.proofs.NormalForms.NormalLaws.{same_Decides}
 use Rattle.ltl_spec.proofs.Collections.MemberLaws.{Has-flat_map, flat_map_cases}
+pub use Rattle.ltl_spec.specs.NormalForms.RowsCollected.{size, collect, Task, Enter, Leave, task_number, after_task, after_tasks, task_work, work, IsTaskDone, AreFlags}
 
 -- nodes and their operands
 
@@ -83,10 +84,6 @@ postorder_self F = subst (λ l. Has l F) (sym (postorder_is F)) (append_right (f
 -- and so is each subformula of an operand
 pub postorder_operand : (F a G : Normal) → Has (operands F) a → Has (postorder a) G → Has (postorder F) G
 postorder_operand F a G h k = subst (λ l. Has l G) (sym (postorder_is F)) (append_left (flat_map postorder (operands F)) (F ∷ []) G (Has-flat_map postorder (operands F) a G h k))
-
--- the number of subformulas, each counted as often as it stands there
-abbrev pub size : Normal → ℕ
-size F = length (postorder F)
 
 -- an operand is smaller
 pub operand_smaller : (F a : Normal) → Has (operands F) a → size a < size F
@@ -158,17 +155,6 @@ fold_within (y ∷ ys) xs h =
     ap (λ l. fold (with_new same) l ys) stays ∙ fold_within ys xs (λ z k. h z (inr k))
 
 -- the walk
-
--- the list with the subformulas of F that it hasn't: nothing where it has F; else those of the left operand, then those of the right one, then F
-abbrev pub collect : List Normal → Normal → List Normal
-collect seen Top = if list_any (same Top) seen then seen else seen ++ Top ∷ []
-collect seen Bottom = if list_any (same Bottom) seen then seen else seen ++ Bottom ∷ []
-collect seen (Leaf l) = if list_any (same (Leaf l)) seen then seen else seen ++ Leaf l ∷ []
-collect seen (Next a) = if list_any (same (Next a)) seen then seen else collect seen a ++ Next a ∷ []
-collect seen (And a b) = if list_any (same (And a b)) seen then seen else collect (collect seen a) b ++ And a b ∷ []
-collect seen (Or a b) = if list_any (same (Or a b)) seen then seen else collect (collect seen a) b ++ Or a b ∷ []
-collect seen (Until a b) = if list_any (same (Until a b)) seen then seen else collect (collect seen a) b ++ Until a b ∷ []
-collect seen (Release a b) = if list_any (same (Release a b)) seen then seen else collect (collect seen a) b ++ Release a b ∷ []
 
 -- the walk in terms of the operands
 collect_cases : (seen : List Normal) (F : Normal) → collect seen F ≡ cond (list_any (same F) seen) seen (fold collect seen (operands F) ++ F ∷ [])
@@ -404,43 +390,15 @@ module _ (tree : ℕ → Normal) (parts : ℕ → List ℕ) (n : ℕ) (graph : I
 
 -- the walk by a stack
 
--- what is left to do: to enter a node, or to leave it, which lists it
-pub data Task : Type 0 where
-  Enter Leave : ℕ → Task
-
--- the number of the node
-abbrev pub task_number : Task → ℕ
-task_number (Enter k) = k
-task_number (Leave k) = k
-
 module _ (tree : ℕ → Normal) where
-  -- the list after a task
-  abbrev pub after_task : List Normal → Task → List Normal
-  after_task seen (Enter k) = collect seen (tree k)
-  after_task seen (Leave k) = seen ++ tree k ∷ []
-
-  -- the list after all tasks of the stack; the last one is the first to be done
-  abbrev pub after_tasks : List Task → List Normal → List Normal
-  after_tasks [] seen = seen
-  after_tasks (t ∷ ts) seen = after_task (after_tasks ts seen) t
-
   -- the task on top is done first
-  pub after_top : (ts : List Task) (t : Task) (seen : List Normal) → after_tasks (ts ++ t ∷ []) seen ≡ after_tasks ts (after_task seen t)
+  pub after_top : (ts : List Task) (t : Task) (seen : List Normal) → after_tasks tree (ts ++ t ∷ []) seen ≡ after_tasks tree ts (after_task tree seen t)
   after_top [] t seen = refl
-  after_top (u ∷ ts) t seen = ap (λ l. after_task l u) (after_top ts t seen)
-
-  -- what each task may cost: a node is left at once, and a tree is walked twice
-  abbrev pub task_work : Task → ℕ
-  task_work (Enter k) = 2 * size (tree k)
-  task_work (Leave k) = 1
-
-  -- this falls at each step
-  abbrev pub work : List Task → ℕ
-  work ts = sum_by task_work ts
+  after_top (u ∷ ts) t seen = ap (λ l. after_task tree l u) (after_top ts t seen)
 
   -- one more task adds its own
-  work_push : (ts : List Task) (t : Task) → work (ts ++ t ∷ []) ≡ work ts + task_work t
-  work_push ts t = sum_by_push task_work ts t
+  work_push : (ts : List Task) (t : Task) → work tree (ts ++ t ∷ []) ≡ work tree ts + task_work tree t
+  work_push ts t = sum_by_push (task_work tree) ts t
 
   -- there is always a subformula
   size_above : (F : Normal) → 0 < size F
@@ -468,13 +426,6 @@ pub record IsWalking (tree : ℕ → Normal) (n root : ℕ) (stack : List Task) 
   pub tasks : All (λ t. task_number t < n) stack
   pub numbers : All (λ k. k < n) listed
   pub result : after_tasks tree stack (map tree listed) ≡ rows (tree root)
-
--- a task from the top of a stack is done: the new stack and the new numbers bring the same list, and the end is nearer
-pub record IsTaskDone (tree : ℕ → Normal) (n : ℕ) (stack : List Task) (task : Task) (listed : List ℕ) (new_stack : List Task) (new_listed : List ℕ) : Type 0 where
-  pub tasks : All (λ t. task_number t < n) new_stack
-  pub numbers : All (λ k. k < n) new_listed
-  pub result : after_tasks tree new_stack (map tree new_listed) ≡ after_tasks tree stack (after_task tree (map tree listed) task)
-  pub less : work tree new_stack < work tree stack + task_work tree task
 
 module _ (tree : ℕ → Normal) (n root : ℕ) where
   -- at first the root is to be entered
@@ -591,11 +542,6 @@ module _ (tree : ℕ → Normal) (parts : ℕ → List ℕ) (n : ℕ) (graph : I
     })
 
 -- flags for what is listed
-
--- the flag of each number says whether it is listed
-pub record AreFlags (flags : List Bool) (listed : List ℕ) : Type 0 where
-  pub yes : (k : ℕ) (d : Bool) → k < length flags → slice_index_or flags k d ≡ true → Has listed k
-  pub no : (k : ℕ) (d : Bool) → k < length flags → slice_index_or flags k d ≡ false → ¬ (Has listed k)
 
 -- at first none is
 pub flags_begin : (n : ℕ) (flags : List Bool) (listed : List ℕ) → flags ≡ replicate n false → listed ≡ [] → AreFlags flags listed

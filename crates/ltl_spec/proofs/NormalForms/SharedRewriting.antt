@@ -1,5 +1,5 @@
 -- Rewriting over shared nodes: which number or node stands for the rewritten tree, decided by numbers alone.
-use Rattle.std.proofs.Common.{◌≡◌, ℕ, suc, ◌<◌, ◌≤◌, Bool, true, false, cond, eqb, ◌⊎◌, inl, inr, List, [], ◌∷◌, ◌++◌, map, length, refl, sym, ◌∙◌, ap, subst, arith, length-append}
+use Rattle.std.proofs.Common.{◌≡◌, ℕ, suc, ◌<◌, Bool, true, false, cond, eqb, ◌⊎◌, inl, inr, List, [], ◌∷◌, ◌++◌, map, length, refl, sym, ◌∙◌, ap, subst, arith, length-append}
 use Rattle.std.specs.Prelude.{◌==◌, ◌||◌, ◌&&◌, if◌then◌else◌, slice_index_or}
 use Rattle.std.proofs.lemmas.List.{get_or-map, get_or_append_left, map_push}
 use Rattle.ltl_spec.specs.Collections.Sets.{Has}
@@ -12,13 +12,9 @@ use Rattle.ltl_spec.specs.NormalForms.NormalForm.{core}
 use Rattle.ltl_spec.proofs.NormalForms.BothPolarities.{Both, FlatNode, made_next, made_and, made_or, made_until, made_release, both_in, both_of, both_forms, formula_in, formulas, formulas_length, built, built_is, built_push, built_core, both_unary, both_binary, FlatUnary, FlatBinary}
 use Rattle.ltl_spec.proofs.Collections.MemberLaws.{map_length}
 use Rattle.ltl_spec.proofs.Collections.CaseLaws.{last_or_below}
+pub use Rattle.ltl_spec.specs.NormalForms.SharedRewriting.{IsMore, StandsFor, Choice, Old, New, choice_tree, is_eventually_node, is_always_node, choose_next, choose_and, choose_or, choose_until, choose_release, HasConstants, Numbers, stand_for}
 
 -- more nodes
-
--- the second list has all nodes of the first, under their numbers
-pub record IsMore (nodes more : List Node) : Type 0 where
-  pub longer : length nodes ≤ length more
-  pub old : (k : ℕ) → k < length nodes → tree_at more k ≡ tree_at nodes k
 
 -- the nodes themselves
 pub more_same : (nodes : List Node) → IsMore nodes nodes
@@ -41,11 +37,6 @@ pub record IsMade (nodes more : List Node) (k : ℕ) (F : Normal) : Type 0 where
   pub keeps : IsMore nodes more
   pub inside : k < length more
   pub tree : tree_at more k ≡ F
-
--- the number is there, and stands for this tree
-pub record StandsFor (nodes : List Node) (k : ℕ) (F : Normal) : Type 0 where
-  pub inside : k < length nodes
-  pub tree : tree_at nodes k ≡ F
 
 -- among more nodes it still does
 pub stands_more : (nodes more : List Node) (k : ℕ) (F : Normal) → IsMore nodes more → StandsFor nodes k F → StandsFor more k F
@@ -82,68 +73,6 @@ module _ (nodes : List Node) (s : IsShared nodes) where
   }
 
 -- choices
-
--- what stands for a tree: a number that is there, or a node, which may be there or not
-pub data Choice : Type 0 where
-  Old : ℕ → Choice
-  New : Node → Choice
-
--- the tree that is chosen
-abbrev pub choice_tree : List Node → Choice → Normal
-choice_tree nodes (Old k) = tree_at nodes k
-choice_tree nodes (New v) = tree_of (tree_at nodes) v
-
--- `true U ..` and `false V ..`, by the number of the constant
-abbrev pub is_eventually_node : ℕ → Node → Bool
-is_eventually_node top (UntilNode i j) = i == top
-is_eventually_node top _ = false
-
--- the other one
-abbrev pub is_always_node : ℕ → Node → Bool
-is_always_node bottom (ReleaseNode i j) = i == bottom
-is_always_node bottom _ = false
-
--- the table of rewriting over numbers; v is the node of number j
-abbrev pub choose_next : ℕ → ℕ → ℕ → Choice
-choose_next top bottom i = if i == top || i == bottom then Old i else New (NextNode i)
-
--- and
-abbrev pub choose_and : ℕ → ℕ → ℕ → ℕ → Choice
-choose_and top bottom i j =
-    if i == top then Old j else
-    if j == top then Old i else
-    if i == bottom || j == bottom then Old bottom else
-    if i == j then Old i else New (AndNode i j)
-
--- or
-abbrev pub choose_or : ℕ → ℕ → ℕ → ℕ → Choice
-choose_or top bottom i j =
-    if i == bottom then Old j else
-    if j == bottom then Old i else
-    if i == top || j == top then Old top else
-    if i == j then Old i else New (OrNode i j)
-
--- `U`
-abbrev pub choose_until : ℕ → ℕ → ℕ → ℕ → Node → Choice
-choose_until top bottom i j v =
-    if j == top || j == bottom then Old j else
-    if i == bottom || i == j then Old j else
-    if i == top && is_eventually_node top v then Old j else New (UntilNode i j)
-
--- `V`
-abbrev pub choose_release : ℕ → ℕ → ℕ → ℕ → Node → Choice
-choose_release top bottom i j v =
-    if j == top || j == bottom then Old j else
-    if i == top || i == j then Old j else
-    if i == bottom && is_always_node bottom v then Old j else New (ReleaseNode i j)
-
--- the nodes are shared, and these numbers stand for the constants
-pub record HasConstants (nodes : List Node) (top bottom : ℕ) : Type 0 where
-  pub shared : IsShared nodes
-  pub top_inside : top < length nodes
-  pub bottom_inside : bottom < length nodes
-  pub top_is : tree_at nodes top ≡ Top
-  pub bottom_is : tree_at nodes bottom ≡ Bottom
 
 -- more nodes have the constants too
 pub constants_more : (nodes more : List Node) (top bottom : ℕ) → HasConstants nodes top bottom → IsMore nodes more → IsShared more → HasConstants more top bottom
@@ -327,15 +256,6 @@ module _ (nodes : List Node) (top bottom : ℕ) (c : HasConstants nodes top bott
         either_made (choose_release top bottom i j (node_at nodes j)) (New (ReleaseNode i j)) (simple_release (tree_at nodes i) (tree_at nodes j)) (release_choice nodes top bottom c i j l m)
 
 -- the loop over the nodes of a formula
-
--- the numbers of both forms of a formula
-pub record Numbers : Type 0 where
-  pub yes : ℕ
-  pub no : ℕ
-
--- what they stand for
-abbrev pub stand_for : List Node → Numbers → Both
-stand_for nodes p = record { yes = tree_at nodes p.yes; no = tree_at nodes p.no }
 
 -- what the pairs stand for, where both numbers of each are there
 pub record IsBuilt (rewrite : Bool) (nodes : List Node) (pairs : List Numbers) (flat : List FlatNode) : Type 0 where

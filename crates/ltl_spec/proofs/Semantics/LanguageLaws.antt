@@ -111,3 +111,10 @@ generalized_models F rewrite o A t names w cycles =
     let l = generalized_language (core F false rewrite) o A t names w cycles in
     let c = core_holds names w cycles F rewrite 0 in
     (λ a. c.1 (l.0 a), λ h. l.1 (c.0 h))
+
+-- and that of the negation exactly its violations
+pub generalized_violations : (F : Formula) (rewrite : Bool) (o : Options) (A : Automaton) → IsGeneralizedTranslation (core F true rewrite) o A → AcceptsViolations A F
+generalized_violations F rewrite o A t names w cycles =
+    let l = generalized_language (core F true rewrite) o A t names w cycles in
+    let c = negated_core_holds names w cycles F rewrite 0 in
+    (λ a. c.1 (l.0 a), λ h. l.1 (c.0 h))

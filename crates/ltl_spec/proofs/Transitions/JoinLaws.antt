@@ -3,17 +3,13 @@ use Rattle.std.proofs.Common.{◌≡◌, ℕ, Bool, true, false, cond, ◌⊎◌
 use Rattle.std.specs.Prelude.{filter_map, option_map}
 use Rattle.std.specs.Ordering.{nat_cmp}
 use Rattle.ltl_spec.specs.Collections.Sets.{Has, IsRising, union}
-use Rattle.ltl_spec.specs.Transitions.Cubes.{Literal, literal_cmp, is_contradictory, Cube}
+use Rattle.ltl_spec.specs.Transitions.Cubes.{literal_cmp, is_contradictory, Cube}
 use Rattle.ltl_spec.specs.NormalForms.Normal.{Normal, Top, Bottom, Leaf, Next, And, Or, Until, Release}
 use Rattle.ltl_spec.specs.Transitions.Pairs.{RowSet, Pair, join_pair, join, empty_pair, later_pair, conj, pairs}
 use Rattle.ltl_spec.proofs.Collections.SetLaws.{append_cases, union_left, union_right, IsRising-union, union_cases}
 use Rattle.ltl_spec.proofs.Collections.Orders.{nat_linear, literal_linear}
 use Rattle.ltl_spec.proofs.Collections.MemberLaws.{Has-flat_map, flat_map_cases, Has-filter_map, filter_map_cases, map_cases}
-
--- p asks for no more than r
-pub record Within (p r : Pair) : Type 0 where
-  pub cube : (l : Literal) → Has p.cube l → Has r.cube l
-  pub targets : (k : ℕ) → Has p.targets k → Has r.targets k
+pub use Rattle.ltl_spec.specs.Transitions.Pairs.{Within}
 
 -- to ask for no more is an order
 pub within_refl : (p : Pair) → Within p p

@@ -17,6 +17,7 @@ use Rattle.ltl_spec.proofs.Collections.Orders.{nat_linear, literal_linear, cube_
 use Rattle.ltl_spec.proofs.Collections.MemberLaws.{any_cases, map_cases, Has-map}
 use Rattle.ltl_spec.proofs.Transitions.JoinLaws.{within_refl, SomeWithin, join_within, AllProper, proper_join, proper_nothing, pairs_proper}
 use Rattle.ltl_spec.proofs.Collections.CaseLaws.{false_is_true, left_true, right_true}
+pub use Rattle.ltl_spec.specs.Transitions.RowTransitions.{HasSets}
 
 -- what a successor asks for
 
@@ -108,11 +109,6 @@ implies_true u t e =
       targets = (is_subset_Decides nat_linear u.targets t.targets).0 (right_true (is_subset literal_cmp u.cube t.cube) _ both);
       marks = (is_subset_Decides nat_linear t.marks u.marks).0 (right_true (is_subset literal_cmp u.cube t.cube && is_subset nat_cmp u.targets t.targets) _ e);
     }
-
--- the literals and the targets are sets
-pub record HasSets (t : Transition) : Type 0 where
-  pub cube : IsRising literal_cmp t.cube
-  pub targets : IsRising nat_cmp t.targets
 
 -- of sets of literals and of targets, each within another one: they are fewer, or they are the same
 pub fewer_or_same : (c d : Cube) (e f : RowSet) → IsRising literal_cmp c → IsRising literal_cmp d → IsRising nat_cmp e → IsRising nat_cmp f → ((l : Literal) → Has c l → Has d l)

@@ -13,6 +13,10 @@ module _ {K : Type 0} (same : K → K → Bool) (targets : K → List K) where
   listing start zero = start ∷ []
   listing start (suc n) = let list = listing start n in with_targets_of list (slice_get list n)
 
+  -- how many transitions the first n states have together
+  abbrev pub edges_after : K → ℕ → ℕ
+  edges_after start n = sum_by (λ s. length (targets s)) (take n (listing start n))
+
   -- all listed states were taken
   abbrev pub IsComplete : K → ℕ → Type 0
   IsComplete start n = n ≡ length (listing start n)
@@ -20,4 +24,4 @@ module _ {K : Type 0} (same : K → K → Bool) (targets : K → List K) where
   -- some beginning of the list, with the transitions of its states, has more than so many states or transitions
   abbrev pub PassesLimits : K → ℕ → ℕ → Type 0
   PassesLimits start most_states most_edges =
-      (n : ℕ) × ((most_states < length (listing start n)) ⊎ (most_edges < sum_by (λ s. length (targets s)) (take n (listing start n))))
+      (n : ℕ) × ((most_states < length (listing start n)) ⊎ (most_edges < edges_after start n))

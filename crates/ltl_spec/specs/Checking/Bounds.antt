@@ -4,6 +4,7 @@ use Rattle.ltl_spec.specs.Collections.Sets.{Has}
 use Rattle.ltl_spec.specs.Collections.Lists.{HasNoRepeats}
 use Rattle.ltl_spec.specs.Formulas.Formula.{Formula, Constant, Proposition, Unary, Binary}
 use Rattle.ltl_spec.specs.Transitions.Cubes.{Literal, is_contradictory}
+use Rattle.ltl_spec.specs.NormalForms.Normal.{Normal, Top, Bottom, Leaf, Next, And, Or, Until, Release}
 use Rattle.ltl_spec.specs.Automata.Automaton.{Automaton, Edge, state_at}
 use Rattle.ltl_spec.specs.Hoa.HoaReading.{MarkedAutomaton}
 
@@ -13,6 +14,17 @@ HasPropositionsBelow n (Constant b) = Unit {0}
 HasPropositionsBelow n (Proposition p) = p < n
 HasPropositionsBelow n (Unary op a) = HasPropositionsBelow n a
 HasPropositionsBelow n (Binary op a b) = HasPropositionsBelow n a × HasPropositionsBelow n b
+
+-- the propositions of the normal form are below n
+abbrev pub HasLeavesBelow : ℕ → Normal → Type 0
+HasLeavesBelow n Top = Unit {0}
+HasLeavesBelow n Bottom = Unit {0}
+HasLeavesBelow n (Leaf l) = l.proposition < n
+HasLeavesBelow n (Next a) = HasLeavesBelow n a
+HasLeavesBelow n (And a b) = HasLeavesBelow n a × HasLeavesBelow n b
+HasLeavesBelow n (Or a b) = HasLeavesBelow n a × HasLeavesBelow n b
+HasLeavesBelow n (Until a b) = HasLeavesBelow n a × HasLeavesBelow n b
+HasLeavesBelow n (Release a b) = HasLeavesBelow n a × HasLeavesBelow n b
 
 -- the propositions of the cubes are below n
 abbrev pub HasNamesBelow : ℕ → Automaton → Type 0

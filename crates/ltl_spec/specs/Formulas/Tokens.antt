@@ -24,7 +24,8 @@ pub record Item : Type 0 where
 abbrev pub signs : List (List ℕ × Token)
 signs =
     (codes "!", UnarySign Not) ∷ (codes "[]", UnarySign Always) ∷ (codes "<>", UnarySign Eventually) ∷ (codes "X", UnarySign Next)
-    ∷ (codes "U", BinarySign Until) ∷ (codes "V", BinarySign Release)
+    ∷ (codes "G", UnarySign Always) ∷ (codes "F", UnarySign Eventually)
+    ∷ (codes "U", BinarySign Until) ∷ (codes "V", BinarySign Release) ∷ (codes "R", BinarySign Release)
     ∷ (codes "&&", BinarySign And) ∷ (codes "/\\", BinarySign And) ∷ (codes "||", BinarySign Or) ∷ (codes "\\/", BinarySign Or)
     ∷ (codes "->", BinarySign Implies) ∷ (codes "<->", BinarySign Iff) ∷ (codes "(", Open) ∷ (codes ")", Close) ∷ []
 

@@ -20,6 +20,10 @@ abbrev pub is_read : AcceptanceForm → ℕ → Bool
 is_read OneSet n = n == 1
 is_read (SetsUpTo most) n = nat_le n most
 
+-- those that the programs read
+abbrev pub stated_form : AcceptanceForm
+stated_form = OneSet
+
 abbrev pub set_tokens : ℕ → List HoaToken
 set_tokens k = Identifier (codes "Inf") ∷ OpenBracket ∷ Int k ∷ CloseBracket ∷ []
 

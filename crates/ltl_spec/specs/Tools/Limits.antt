@@ -23,9 +23,9 @@ pub record Limits : Type 0 where
 abbrev pub stated_limits : Limits
 stated_limits = record {
   formula_bytes = 65_536;
-  propositions = 64;
+  propositions = 256;
   rows = 4_096;
-  elementary_rows = 64;
+  elementary_rows = 256;
   states = 65_536;
   edges = 1_048_576;
   word_bytes = 65_536;

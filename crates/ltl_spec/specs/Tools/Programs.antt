@@ -102,6 +102,13 @@ plain_options = record { keep_implied = false; keep_equal = false }
 pub data Layout : Type 0 where
   Claim Hoa Generalized : Layout
 
+-- the layout that `-H` and `-G` ask for; both together ask for none
+abbrev pub layout_of : Bool → Bool → Option Layout
+layout_of false false = Some Claim
+layout_of true false = Some Hoa
+layout_of false true = Some Generalized
+layout_of true true = None
+
 -- what the words of the translator ask for
 pub record TranslatorPlan : Type 0 where
   pub formula : FormulaWord

@@ -3,8 +3,8 @@ use Rattle.std.specs.Prelude.{ℕ, List, [], ◌∷◌, ◌++◌, map, Option, o
 use Rattle.std.specs.declared.cmp.Ordering.{Ordering}
 use Rattle.std.specs.Ordering.{nat_cmp, on, then_cmp}
 use Rattle.std.specs.Cmp.Lexicographic.{slice_cmp}
-use Rattle.ltl_spec.specs.Collections.Sets.{union}
-use Rattle.ltl_spec.specs.Transitions.Cubes.{Cube, cube_cmp, join_cubes}
+use Rattle.ltl_spec.specs.Collections.Sets.{union, Has}
+use Rattle.ltl_spec.specs.Transitions.Cubes.{Cube, cube_cmp, join_cubes, Literal}
 use Rattle.ltl_spec.specs.NormalForms.Normal.{Normal, Top, Bottom, Leaf, Next, And, Or, Until, Release}
 
 -- a set of rows, by their places among the elementary rows
@@ -66,3 +66,8 @@ module _ (place : Normal → ℕ) where
   pairs (Next a) = map (λ e. record { cube = []; targets = e }) (conj a)
   pairs (Until a b) = pairs b ++ join (pairs a) (later_pair (place (Until a b)) ∷ [])
   pairs (Release a b) = join (pairs b) (pairs a ++ later_pair (place (Release a b)) ∷ [])
+
+-- p asks for no more than r
+pub record Within (p r : Pair) : Type 0 where
+  pub cube : (l : Literal) → Has p.cube l → Has r.cube l
+  pub targets : (k : ℕ) → Has p.targets k → Has r.targets k

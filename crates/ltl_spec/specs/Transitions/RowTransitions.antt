@@ -3,7 +3,7 @@ use Rattle.std.specs.Prelude.{ℕ, Bool, not, ◌&&◌, ◌||◌, if◌then◌el
 use Rattle.std.specs.List.{list_any}
 use Rattle.std.specs.declared.cmp.Ordering.{Ordering}
 use Rattle.std.specs.Ordering.{nat_cmp, is_ne, on, then_cmp}
-use Rattle.ltl_spec.specs.Collections.Sets.{set_of, has, is_subset}
+use Rattle.ltl_spec.specs.Collections.Sets.{set_of, has, is_subset, IsRising}
 use Rattle.ltl_spec.specs.Collections.Lists.{place_of, places_where}
 use Rattle.ltl_spec.specs.Transitions.Cubes.{Cube, cube_cmp, literal_cmp}
 use Rattle.ltl_spec.specs.NormalForms.Normal.{Normal, Bottom, same}
@@ -66,3 +66,8 @@ abbrev pub transitions : Table → Bool → RowSet → List Transition
 transitions t keep_implied e =
     let ts = map (with_marks t) (successors t e) in
     if keep_implied then ts else unimplied_transitions ts
+
+-- the literals and the targets are sets
+pub record HasSets (t : Transition) : Type 0 where
+  pub cube : IsRising literal_cmp t.cube
+  pub targets : IsRising nat_cmp t.targets

@@ -1,9 +1,12 @@
-use Rattle.std.proofs.Common.{rules}
-use Rattle.std.proofs.lemmas.List.Sorted.{IsNonDecreasingBy-from_sort_by}
+use Rattle.std.proofs.Common.{sym, subst, IsPermutation}
+use Rattle.ltl_alt.specs.ImpliedView.{IsWeighed}
 use Rattle.ltl_alt.proofs.ImpliedLaws.{weighed_sorted}
+use Rattle.ltl_alt.proofs.SortLaws.{refilled}
 use Rattle.ltl_alt.proofs.implied.lightest_first.Goals as goal
 
 pub returns : goal.returns
 returns g c =
-    weighed_sorted _ _ _ c.in_ok-all.ensures c.sort_unstable_by.ensures.permutation
-    (IsNonDecreasingBy-from_sort_by (λ w. w.weight) _ c.sort_unstable_by.ensures.sorted (λ a r q k. search rules))
+    let shown = c.as_mut_slice.ensures.value in
+    let new = c.sort_by_weight.new.all in
+    subst (IsWeighed c.args.transitions.now) (sym (refilled c.in_ok-all.all.items c.as_mut_slice.result.now new shown c.sort_by_weight.ensures.len))
+    (weighed_sorted _ _ _ c.in_ok-all.ensures (subst (λ xs. IsPermutation xs new) shown c.sort_by_weight.ensures.permutation) c.sort_by_weight.ensures.rising)

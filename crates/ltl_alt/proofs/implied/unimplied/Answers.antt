@@ -17,7 +17,7 @@ transitions-preserved g c =
     let inside : i < length ts = omega arith in
     let there : Has ts t = subst (Has ts) (sym c.transition-item.is) (Has-at ts i t inside) in
     let next : take (i + 1) ts ≡ take i ts ++ t ∷ [] = take_more ts i t inside ∙ ap (λ x. take i ts ++ x ∷ []) (sym c.transition-item.is) in
-    let weighed : IsWeighed ts c.as_slice.result.now = subst (IsWeighed ts) (sym c.as_slice.ensures.value) c.in_ok-lightest_first.ensures in
+    let weighed : IsWeighed ts c.as_slice.result.now = subst (IsWeighed ts) (sym c.as_slice.ensures) c.in_ok-lightest_first.ensures in
     let tells : c.is_implied.result ≡ is_implied_by ts t = c.is_implied.ensures ts weighed c.requires there in
     elim c.if-not-is_implied.branch [
       | then-not-is_implied+in_ok-push w ↦

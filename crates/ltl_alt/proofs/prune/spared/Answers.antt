@@ -19,14 +19,14 @@ pairs-preserved g c =
     let next : take (i + 1) ms ≡ take i ms ++ m ∷ [] = take_more ms i m inside ∙ ap (λ x. take i ms ++ x ∷ []) (sym c.pair-item.is) in
     elim c.if-not-has_stand_in.branch [
       | then-not-has_stand_in+in_ok-push w ↦
-          let d = ap (λ v. v.items) w.kept-is ∙ w.in_ok-push.ensures.items in
+          let d = ap (λ v. v.items) w.kept-is ∙ w.in_ok-push.ensures.ok in
           record {
             from = from_kept r own ks c.if-not-has_stand_in.kept.items (take (i + 1) ms) (take i ms) m d next c.pairs.invariant.from;
             spared = spared_kept r own ks c.if-not-has_stand_in.kept.items (take i ms) (take (i + 1) ms) m d next c.pairs.invariant.spared;
           }
       | else-not-has_stand_in w ↦
           let e : c.if-not-has_stand_in.kept.items ≡ ks = ap (λ v. v.items) w.kept-is in
-          let stand : HasStandIn r own (map pair_of ks) m.pair = subst (λ xs. HasStandIn r own (map pair_of xs) m.pair) c.as_slice.ensures.value (c.has_stand_in.ensures w.if-not-has_stand_in.false) in
+          let stand : HasStandIn r own (map pair_of ks) m.pair = subst (λ xs. HasStandIn r own (map pair_of xs) m.pair) c.as_slice.ensures (c.has_stand_in.ensures w.if-not-has_stand_in.false) in
           record {
             from = subst (λ xs. (q : Pair) → Has (map pair_of xs) q → Has (map pair_of (take (i + 1) ms)) q) (sym e) (from_dropped r own ks (take (i + 1) ms) (take i ms) m next c.pairs.invariant.from);
             spared = subst (λ xs. AreSpared r own (map pair_of xs) (map pair_of (take (i + 1) ms))) (sym e) (spared_dropped r own ks (take i ms) (take (i + 1) ms) m next c.pairs.invariant.spared stand);

@@ -1,14 +1,19 @@
 use Rattle.std.proofs.Common.{◌≡◌, ℕ, ◌<◌, ◌≤◌, ◌+◌, ◌∙◌, ◌∷◌, [], ap, sym, subst, arith, length, map, Some, length-append}
 use Rattle.std.specs.Prelude.{slice_get}
 use Rattle.ltl_spec.specs.Automata.Generalized.{IsGeneralized, root_set}
+use Rattle.ltl_spec.specs.Tools.Limits.{stated_limits}
 use Rattle.ltl_formula.specs.TableView.{core_of, row_tree}
 use Rattle.ltl_alt.specs.RowLists.{row_place}
 use Rattle.ltl_alt.specs.GbaView.{edge_of, state_of}
 use Rattle.ltl_alt.specs.ReachView.{IsUnderWay}
+use Rattle.ltl_alt.proofs.ElementaryLaws.{root_stands}
 use Rattle.ltl_alt.proofs.TransitionLaws.{untils_count}
 use Rattle.ltl_alt.proofs.ReachLaws.{map_push}
 use Rattle.ltl_alt.proofs.GbaLaws.{under_way_begins, too_many_edges, too_many_states, under_way_next, is_generalized, is_gba, is_within_limits}
 use Rattle.ltl_alt.proofs.reach.explore.Goals as goal
+
+pub single-requires : goal.single-requires
+single-requires g c = c.place.ensures.small (root_stands c.args.table.now c.root.result c.len.ensures.table c.root.ensures.last)
 
 pub states-init : goal.states-init
 states-init g c =
@@ -33,7 +38,7 @@ returns-then-len-count-clause-large g c =
     let at : c.len-in-states-3.result ≡ n = omega arith in
     let found : slice_get ks n ≡ Some e = ap (slice_get ks) (sym at) ∙ c.index.ensures in
     let few = c.states.invariant.way.few_edges in
-    let many : 1_048_576 < c.states.count + length ts = omega arith in
+    let many : stated_limits.edges < c.states.count + length ts = omega arith in
     λ _. too_many_edges F keep n ks c.states.count _ c.states.invariant.way e found ts c.in_ok-kept.ensures.transitions many
 
 pub returns-then-len-gt-MOST_STATES-clause-large : goal.returns-then-len-gt-MOST_STATES-clause-large
@@ -47,7 +52,7 @@ returns-then-len-gt-MOST_STATES-clause-large g c =
     let ms = c.edges_of.new.states.keys in
     let at : c.len-in-states-3.result ≡ n = omega arith in
     let found : slice_get ks n ≡ Some e = ap (slice_get ks) (sym at) ∙ c.index.ensures in
-    let many : 65_536 < length ms = omega arith in
+    let many : stated_limits.states < length ms = omega arith in
     λ _. too_many_states F keep n ks c.states.count _ c.states.invariant.way e found ts (c.as_slice.ensures.value ∙ c.in_ok-kept.ensures.transitions) ms c.in_ok-edges.ensures.keys many
 
 pub states-preserved : goal.states-preserved
@@ -63,8 +68,8 @@ states-preserved g c =
     let found : slice_get ks n ≡ Some e = ap (slice_get ks) (sym at) ∙ c.index.ensures in
     let total : c.len-count.result ≡ length ts = omega (arith, ap length c.as_slice.ensures.value) in
     let before = c.states.invariant.way.few_edges in
-    let few : c.states.count + length ts ≤ 1_048_576 = omega arith in
-    let small : length ms ≤ 65_536 = omega arith in
+    let few : c.states.count + length ts ≤ stated_limits.edges = omega arith in
+    let small : length ms ≤ stated_limits.states = omega arith in
     let pushed = c.in_ok-push.ensures.items in
     let long : length c.push.new.self.items ≡ n + 1 = ap length pushed ∙ length-append c.states.made.items (c.in_ok-edges.edges ∷ []) in
     let next = ap (map (λ s. state_of s.items)) pushed ∙ map_push (λ s. state_of s.items) c.states.made.items c.in_ok-edges.edges in

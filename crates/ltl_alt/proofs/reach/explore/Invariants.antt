@@ -1,4 +1,5 @@
 use Rattle.std.proofs.Common.{◌-◌, map, length, vec_len}
+use Rattle.ltl_spec.specs.Tools.Limits.{stated_limits}
 use Rattle.ltl_formula.specs.TableView.{core_of}
 use Rattle.ltl_alt.specs.RowLists.{AreLists}
 use Rattle.ltl_alt.specs.GbaView.{state_of}
@@ -13,4 +14,4 @@ invariant-states g l = record {
 }
 
 abbrev pub decreases-states : goal.decreases-states
-decreases-states g l = 65_536 - vec_len l.made
+decreases-states g l = stated_limits.states - vec_len l.made

@@ -1,5 +1,6 @@
 use Rattle.std.proofs.Common.{◌≡◌, ◌∙◌, arith, length, map, refl, subst}
 use Rattle.std.proofs.lemmas.List.{length-map}
+use Rattle.ltl_spec.specs.Tools.Limits.{stated_limits}
 use Rattle.ltl_buchi.specs.Copies.{copy_of}
 use Rattle.ltl_buchi.specs.Numbered.{StatesWithin}
 use Rattle.ltl_buchi.proofs.CopyLaws.{copied_whole, copied_rising, copied_reached, copied_few}
@@ -29,4 +30,4 @@ pub returns-clause-few : goal.returns-clause-few
 returns-clause-few g c =
     let now = c.copies.invariant.listed in
     let long = length-map c.copies.copies.keys copy_of in
-    copied_few c.args.automaton.now c.stays_within.ensures (map copy_of c.copies.copies.keys) c.copies.made.items now.copied (omega arith) c.copies.edge_count 65_536 1_048_576 now.counted_all c.copies.invariant.few_edges (omega arith)
+    copied_few c.args.automaton.now c.stays_within.ensures (map copy_of c.copies.copies.keys) c.copies.made.items now.copied (omega arith) c.copies.edge_count stated_limits.states stated_limits.edges now.counted_all c.copies.invariant.few_edges (omega arith)

@@ -1,11 +1,12 @@
 use Rattle.std.proofs.Common.{rules, ap}
+use Rattle.ltl_spec.specs.Tools.Limits.{stated_limits}
 use Rattle.ltl_formula.specs.TableView.{core_of}
-use Rattle.ltl_buchi.proofs.TranslationLaws.{translated, fitting, copies_too_large, language, models, violations}
+use Rattle.ltl_buchi.proofs.TranslationLaws.{translated, fitting, copies_too_large, language, models, violations, named}
 use Rattle.ltl_buchi.proofs.translation.translate.Goals as goal
 
 pub returns-in_err-copies-clause-large : goal.returns-in_err-copies-clause-large
 returns-in_err-copies-clause-large g c = λ e.
-    copies_too_large (core_of c.args.table.now) c.args.options.now c.options.inside.keep_implied (ap (λ o. o.keep_implied) c.options.view_is) _ _ c.in_ok-generalized.ensures.generalized c.in_ok-small.ensures.merged 65_536 1_048_576
+    copies_too_large (core_of c.args.table.now) c.args.options.now c.options.inside.keep_implied (ap (λ o. o.keep_implied) c.options.view_is) _ _ c.in_ok-generalized.ensures.generalized c.in_ok-small.ensures.merged stated_limits.states stated_limits.edges
     (c.in_err-copies.ensures.many (search rules))
 
 pub returns-clause-definition : goal.returns-clause-definition
@@ -15,7 +16,7 @@ returns-clause-definition g c =
 
 pub returns-clause-fits : goal.returns-clause-fits
 returns-clause-fits g c =
-    fitting (core_of c.args.table.now) c.args.options.now c.options.inside.keep_implied (ap (λ o. o.keep_implied) c.options.view_is) _ _ c.in_ok-generalized.ensures.generalized c.in_ok-small.ensures.merged 65_536 1_048_576 c.renumber.result
+    fitting (core_of c.args.table.now) c.args.options.now c.options.inside.keep_implied (ap (λ o. o.keep_implied) c.options.view_is) _ _ c.in_ok-generalized.ensures.generalized c.in_ok-small.ensures.merged stated_limits.states stated_limits.edges c.renumber.result
     c.in_ok-generalized.ensures.fits c.in_ok-copies.ensures.few
 
 pub returns-clause-language : goal.returns-clause-language
@@ -26,3 +27,6 @@ returns-clause-models g c = models (core_of c.args.table.now) c.args.options.now
 
 pub returns-clause-violations : goal.returns-clause-violations
 returns-clause-violations g c = violations (core_of c.args.table.now) c.args.options.now c.renumber.result (returns-clause-definition g c)
+
+pub returns-clause-named : goal.returns-clause-named
+returns-clause-named g c = named (core_of c.args.table.now) c.args.options.now c.renumber.result (returns-clause-definition g c)

@@ -1,8 +1,17 @@
-use Rattle.std.proofs.Common.{◌*◌, ◌≤◌, sym, subst}
+use Rattle.std.proofs.Common.{◌*◌, ◌≤◌, ◌<◌, length, sym, subst, arith}
+use Rattle.std.specs.Prelude.{All}
 use Rattle.ltl_check.specs.VerdictView.{level_pairs, chosen_pairs}
 use Rattle.ltl_spec.specs.Checking.Check.{product_size}
+use Rattle.ltl_check.proofs.NameLaws.{numbers_within}
 use Rattle.ltl_check.proofs.PairSums.{steps_most, steps_least}
 use Rattle.ltl_check.proofs.checking.check.Goals as goal
+
+pub new-product-requires-clause-within : goal.new-product-requires-clause-within
+new-product-requires-clause-within g c =
+    let are = rw c.as_slice.ensures.value at c.in_ok-numbers.ensures.numbers in
+    let few : length c.in_ok-names.names.items ≤ 256 = (let l = c.len.ensures in let t = c.if-len-gt-PROPOSITION_LIMIT.false in omega (arith, l, t)) in
+    subst (λ ns. All (λ n. n < 256) ns) (sym c.as_slice-2.ensures.value)
+    (numbers_within c.args.automaton.now.names c.args.formula.now.names c.in_ok-names.names.items c.in_ok-numbers.numbers.items 256 c.in_ok-names.ensures few c.in_ok-numbers.ensures.count are)
 
 pub returns-clause-most : goal.returns-clause-most
 returns-clause-most g c =

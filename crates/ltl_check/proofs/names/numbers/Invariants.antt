@@ -1,5 +1,5 @@
 use Rattle.std.proofs.Common.{◌≡◌, ◌<◌, ℕ, [], length, map}
-use Rattle.std.specs.Prelude.{slice_index_or, All}
+use Rattle.std.specs.Prelude.{slice_index_or}
 use Rattle.ltl_spec.specs.Collections.Lists.{place_of}
 use Rattle.ltl_spec.specs.Formulas.Tokens.{same_name}
 use Rattle.ltl_check.specs.ProductView.{number_in}
@@ -9,5 +9,4 @@ abbrev pub invariant-loop-i : goal.invariant-loop-i
 invariant-loop-i g l = record {
   count : length l.numbers.items ≡ l.i;
   are : (p : ℕ) → p < l.i → number_in l.numbers.items p ≡ place_of same_name (slice_index_or l.formula.names p []) (map (λ n. n.now) l.names);
-  within : (n : ℕ) → length l.names < n → All (λ k. k < n) l.numbers.items;
 }

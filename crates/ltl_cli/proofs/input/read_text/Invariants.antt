@@ -1,12 +1,13 @@
 use Rattle.std.proofs.Common.{vec_len, ◌-◌, ◌≤◌}
 use Rattle.std.specs.Io.KnownBytes.{Consumes}
+use Rattle.ltl_cli.specs.Inputs.{most_taken}
 use Rattle.ltl_cli.proofs.input.read_text.Given as goal
 
 abbrev pub invariant-pieces : goal.invariant-pieces
 invariant-pieces g l = record {
-  in_range : vec_len l.text ≤ 65_537;
+  in_range : vec_len l.text ≤ most_taken;
   taken : Consumes (g.R.Read.remaining l.fn.reader) (g.R.Read.remaining l.reader) l.text.items;
 }
 
 abbrev pub decreases-pieces : goal.decreases-pieces
-decreases-pieces g l = 65_537 - vec_len l.text
+decreases-pieces g l = most_taken - vec_len l.text

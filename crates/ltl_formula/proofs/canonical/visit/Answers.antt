@@ -5,7 +5,7 @@ use Rattle.ltl_formula.specs.declared.operators.Node.TheVariants.{Constant, Prop
 use Rattle.std.specs.Prelude.{sum_by}
 use Rattle.ltl_formula.specs.FormulaView.{trees}
 use Rattle.ltl_formula.specs.CanonicalWork.{weight}
-use Rattle.ltl_formula.proofs.PrintLemmas.{where_taken, same_weight, leaf_text, unary_node_text, binary_node_text, proposition_within}
+use Rattle.ltl_formula.proofs.PrintLemmas.{where_ok, where_taken, same_weight, leaf_text, unary_node_text, binary_node_text, proposition_within}
 use Rattle.ltl_spec.proofs.Collections.MemberLaws.{at_map}
 use Rattle.ltl_formula.proofs.canonical.visit.Goals as goal
 
@@ -35,16 +35,16 @@ returns-in-Proposition-clause-falls g c =
 pub returns-in_ok-push-in-Unary-clause-text : goal.returns-in_ok-push-in-Unary-clause-text
 returns-in_ok-push-in-Unary-clause-text g c =
     unary_node_text (map string_bytes c.args.names.now) (length c.args.names.now) c.args.nodes.now c.requires.ordered (Visit c.args.i) c.args.i refl c.requires.within c.args.text.now.items _ c.unary_text.result.now c.args.stack.now.items _ c.in-Unary.operator c.in-Unary.operand c.in-Unary.is
-    c.unary_text.ensures c.in_ok-extend_from_slice-in-Unary.ensures.items c.in_ok-push-in-Unary.ensures.items
+    c.unary_text.ensures c.in_ok-extend_from_slice-in-Unary.ensures.items c.in_ok-push-in-Unary.ensures.ok
 
 pub returns-in_ok-push-in-Unary-clause-falls : goal.returns-in_ok-push-in-Unary-clause-falls
 returns-in_ok-push-in-Unary-clause-falls g c =
     let heavy = same_weight (map string_bytes c.args.names.now) (length c.args.names.now) c.args.nodes.now c.requires.ordered (Visit c.args.i) c.args.i refl c.requires.within (Unary c.in-Unary.operator c.in-Unary.operand) c.in-Unary.is in
-    rw c.in_ok-push-in-Unary.ensures.items (grind (arith, common_steps, heavy))
+    rw c.in_ok-push-in-Unary.ensures.ok (grind (arith, common_steps, heavy))
 
 pub returns-in_ok-push-in-Binary-clause-text : goal.returns-in_ok-push-in-Binary-clause-text
 returns-in_ok-push-in-Binary-clause-text g c =
-    where_taken c.extend_from_slice-in-Binary.result c.extend_from_slice-in-Binary.new.self.items c.args.stack.now.items (Close ∷ Visit c.in-Binary.right ∷ Middle c.in-Binary.operator ∷ Visit c.in-Binary.left ∷ []) c.extend_from_slice-in-Binary.ensures.items
+    where_ok c.extend_from_slice-in-Binary.result c.extend_from_slice-in-Binary.ensures.ok
     (binary_node_text (map string_bytes c.args.names.now) (length c.args.names.now) c.args.nodes.now c.requires.ordered (Visit c.args.i) c.args.i refl c.requires.within c.args.text.now.items _ c.args.stack.now.items _ c.in-Binary.operator c.in-Binary.left c.in-Binary.right c.in-Binary.is c.in_ok-push-in-Binary.ensures.items)
 
 pub returns-in_ok-push-in-Binary-clause-falls : goal.returns-in_ok-push-in-Binary-clause-falls
@@ -53,4 +53,4 @@ returns-in_ok-push-in-Binary-clause-falls g c =
     let more = (Close ∷ Visit c.in-Binary.right ∷ Middle c.in-Binary.operator ∷ Visit c.in-Binary.left ∷ []) in
     let lighter : c.extend_from_slice-in-Binary.new.self.items ≡ c.args.stack.now.items ++ more → sum_by (weight (trees c.args.nodes.now)) c.extend_from_slice-in-Binary.new.self.items < weight (trees c.args.nodes.now) (Visit c.args.i) + sum_by (weight (trees c.args.nodes.now)) c.args.stack.now.items =
     λ e. rw e (grind (arith, common_steps, heavy)) in
-    where_taken c.extend_from_slice-in-Binary.result c.extend_from_slice-in-Binary.new.self.items c.args.stack.now.items more c.extend_from_slice-in-Binary.ensures.items lighter
+    where_ok c.extend_from_slice-in-Binary.result c.extend_from_slice-in-Binary.ensures.ok lighter

@@ -1,23 +1,23 @@
-use Rattle.std.proofs.Common.{arith, length}
+use Rattle.std.proofs.Common.{ap, arith, length, ◌∙◌}
 use Rattle.ltl_spec.proofs.NormalForms.SharedNodes.{tree_at}
 use Rattle.std.proofs.lemmas.Grind.{common_steps}
 use Rattle.ltl_formula.proofs.OrderLemmas.{numbers_in_order}
 use Rattle.ltl_formula.proofs.WalkLemmas.{loop_begins, loop_flags, loop_goes_on, loop_pops, listed_few, walk_done}
+use Rattle.ltl_formula.proofs.StateLemmas.{none_left}
 use Rattle.ltl_formula.proofs.walk.row_numbers.Goals as goal
 
 pub work-init : goal.work-init
 work-init g c = record {
-  long = grind (arith, common_steps);
+  long = c.in_ok-flags.ensures.len ∙ c.len.ensures.count;
   few = grind (arith, common_steps);
-  flags = loop_flags _ _ _ _ _ c.new-flags.ensures.items c.new-flags.ensures.len c.in_ok-resize.ensures.items c.new-listed.ensures.items;
-  walking = loop_begins c.args.graph.now.nodes c.args.root _ _ _ c.requires c.new-stack.ensures.items c.in_ok-push.ensures.items c.new-listed.ensures.items;
+  flags = loop_flags c.len.result _ _ (c.in_ok-flags.ensures.items_if_clones_equal (λ y e. e)) c.new-listed.ensures.items;
+  walking = loop_begins c.args.graph.now.nodes c.args.root _ _ _ c.requires c.new-stack.ensures.items c.in_ok-push.ensures.ok c.new-listed.ensures.items;
 }
 
-pub step-requires-clause-task : goal.step-requires-clause-task
-step-requires-clause-task g c = let i = c.in-Some.ensures.items in let w = c.work.invariant.walking in (loop_pops c.args.graph.now.nodes c.args.root _ _ _ _ w i).1
-
-pub step-requires-clause-tasks : goal.step-requires-clause-tasks
-step-requires-clause-tasks g c = let i = c.in-Some.ensures.items in let w = c.work.invariant.walking in (loop_pops c.args.graph.now.nodes c.args.root _ _ _ _ w i).0
+pub step-requires : goal.step-requires
+step-requires g c =
+    let top = (loop_pops c.args.graph.now.nodes c.args.root _ _ _ _ c.work.invariant.walking c.in-Some.ensures.items) in
+    (omega arith, (omega arith, (omega arith, (c.len.ensures.constants.shared, (c.work.invariant.long, (c.work.invariant.flags, (top.1, (top.0, c.work.invariant.walking.numbers))))))))
 
 pub work-preserved : goal.work-preserved
 work-preserved g c =
@@ -25,7 +25,7 @@ work-preserved g c =
     let r = (loop_goes_on c.args.graph.now.nodes c.args.root _ _ _ _ _ _ c.work.invariant.walking c.in-Some.ensures.items d.done).0 in
     record {
       long = d.long;
-      few = omega (arith, c.step.new.listed.ok.0);
+      few = omega (arith, c.len-in-Some.ensures.value);
       flags = d.flags;
       walking = r;
     }
@@ -34,7 +34,7 @@ pub returns-then-len-gt-ROW_LIMIT-clause-too_many : goal.returns-then-len-gt-ROW
 returns-then-len-gt-ROW_LIMIT-clause-too_many g c = λ _.
     let r = (loop_goes_on c.args.graph.now.nodes c.args.root _ _ _ _ _ _ c.work.invariant.walking c.in-Some.ensures.items c.in_ok-step.ensures.done).0 in
     let f = listed_few (tree_at c.args.graph.now.nodes) (length c.args.graph.now.nodes) c.args.root _ _ r in
-    omega (arith, f, c.step.new.listed.ok.0)
+    omega (arith, f, c.len-in-Some.ensures.value)
 
 pub returns-clause-order : goal.returns-clause-order
-returns-clause-order g c = numbers_in_order c.args.graph.now.nodes c.args.root c.len.ensures.constants.shared c.requires c.work.listed.items c.work.invariant.walking.numbers (walk_done c.args.graph.now.nodes c.args.root c.work.stack.items c.work.listed.items (omega (arith, c.in_default.ensures.cases.0, c.work.stack.ok.0)) c.work.invariant.walking)
+returns-clause-order g c = numbers_in_order c.args.graph.now.nodes c.args.root c.len.ensures.constants.shared c.requires c.work.listed.items c.work.invariant.walking.numbers (walk_done c.args.graph.now.nodes c.args.root c.work.stack.items c.work.listed.items (ap length (none_left c.work.stack.items c.in_default.ensures.variant.1)) c.work.invariant.walking)

@@ -1,5 +1,6 @@
-use Rattle.std.proofs.Common.{◌≡◌, ◌++◌, ◌∙◌, ◌<◌, ◌+◌, ◌∷◌, [], ap, sym, subst, take, length, vec_len, arith}
+use Rattle.std.proofs.Common.{◌≡◌, ◌++◌, ◌∙◌, ◌<◌, ◌+◌, ◌∷◌, [], ap, sym, subst, take, length, arith}
 use Rattle.std.proofs.lemmas.Grind.{common_steps}
+use Rattle.ltl_spec.specs.Tools.Limits.{stated_limits}
 use Rattle.ltl_spec.specs.Collections.Sets.{set_of}
 use Rattle.ltl_spec.specs.Transitions.Cubes.{cube_cmp}
 use Rattle.ltl_hoa.proofs.CubeLists.{joined_step, joined_wide, set_again}
@@ -10,9 +11,8 @@ pub returns-then-len-gt-MOST_CUBES-2 : goal.returns-then-len-gt-MOST_CUBES-2
 returns-then-len-gt-MOST_CUBES-2 g c =
     let next : take (c.left.cube-index + 1) c.args.left.now ≡ take c.left.cube-index c.args.left.now ++ c.cube-item.result ∷ [] = grind (arith, common_steps) in
     let step = joined_step c.args.left.now c.args.right.now c.left.joined.items c.join_one.new.joined.items c.left.cube-index c.cube-item.result c.left.invariant next c.in_ok-join_one.ensures in
-    let counted : vec_len c.make_distinct.new.cubes ≡ length c.make_distinct.new.cubes.items = omega (arith, c.make_distinct.new.cubes.ok.0) in
-    let wide : 4_096 < length c.make_distinct.new.cubes.items = omega (arith, counted, c.len-then-len-gt-MOST_CUBES.ensures, c.if-len-gt-MOST_CUBES-2.true) in
-    sym (joined_wide c.args.left.now c.args.right.now c.join_one.new.joined.items (c.left.cube-index + 1) step (subst (λ l. 4_096 < length l) c.make_distinct.ensures wide))
+    let wide : stated_limits.label_cubes < length c.make_distinct.new.cubes.items = omega (arith, c.len-then-len-gt-MOST_CUBES.ensures.value, c.if-len-gt-MOST_CUBES-2.true) in
+    sym (joined_wide c.args.left.now c.args.right.now c.join_one.new.joined.items (c.left.cube-index + 1) step (subst (λ l. stated_limits.label_cubes < length l) c.make_distinct.ensures wide))
 
 pub left-preserved : goal.left-preserved
 left-preserved g c =

@@ -1,6 +1,6 @@
 use Rattle.std.proofs.Common.{arith, length-take}
 use Rattle.std.proofs.lemmas.Result.{err_from_is_err_and}
-use Rattle.ltl_hoa.proofs.StreamLaws.{read_none, read_more, end_answered, end_taken, whatever, no_answer, read_failed, past_answered, past_taken}
+use Rattle.ltl_hoa.proofs.StreamLaws.{read_none, read_more, end_answered, end_taken, whatever, no_answer, read_failed, past_answered, past_taken, taken_up_to, kept_up_to}
 use Rattle.ltl_hoa.proofs.read.hoa_read.Goals as goal
 
 pub pieces-init : goal.pieces-init
@@ -47,3 +47,25 @@ returns-in-Err-clause-read g c = read_failed _
 
 pub returns-clause-read : goal.returns-clause-read
 returns-clause-read g c = read_failed _
+
+pub returns-in-Ok-eq0-clause-bounded : goal.returns-in-Ok-eq0-clause-bounded
+returns-in-Ok-eq0-clause-bounded g c =
+    taken_up_to _ _ _ _ _ _ _ c.pieces.invariant.read c.in-Ok-eq0.ensures.bytes.0 (omega (arith, c.in-Ok-eq0.field-0-test, c.pieces.invariant.in_range))
+
+pub returns-in_err-take_piece-in-Ok-clause-bounded : goal.returns-in_err-take_piece-in-Ok-clause-bounded
+returns-in_err-take_piece-in-Ok-clause-bounded g c =
+    taken_up_to _ _ _ _ _ _ _ c.pieces.invariant.read c.in-Ok.ensures.bytes.0 (omega (arith, length-take c.min-room.result c.pieces.piece, c.in-Ok.ensures.bound))
+
+pub returns-in-Err-clause-bounded : goal.returns-in-Err-clause-bounded
+returns-in-Err-clause-bounded g c = kept_up_to _ _ _ _ _ c.pieces.invariant.read c.in-Err.ensures.bytes c.pieces.invariant.in_range
+
+pub returns-in-Ok-eq0-read-clause-bounded : goal.returns-in-Ok-eq0-read-clause-bounded
+returns-in-Ok-eq0-read-clause-bounded g c =
+    taken_up_to _ _ _ _ _ _ _ c.pieces.invariant.read c.in-Ok-eq0-read.ensures.bytes.0 (omega (arith, c.in-Ok-eq0-read.field-0-test, c.pieces.invariant.in_range))
+
+pub returns-in-Ok-read-clause-bounded : goal.returns-in-Ok-read-clause-bounded
+returns-in-Ok-read-clause-bounded g c =
+    taken_up_to _ _ _ _ _ _ _ c.pieces.invariant.read c.in-Ok-read.ensures.bytes.0 (omega (arith, c.in-Ok-read.ensures.bound, length-take 1 c.pieces.piece, c.pieces.invariant.in_range))
+
+pub returns-clause-bounded : goal.returns-clause-bounded
+returns-clause-bounded g c = kept_up_to _ _ _ _ _ c.pieces.invariant.read c.in-Err-read.ensures.bytes c.pieces.invariant.in_range

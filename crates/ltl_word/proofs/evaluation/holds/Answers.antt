@@ -1,21 +1,37 @@
-use Rattle.std.proofs.Common.{◌≡◌, ◌∙◌, ◌<◌, sym, subst, arith, length}
-use Rattle.ltl_word.specs.Evaluation.{AreRows}
+use Rattle.std.proofs.Common.{◌≡◌, ◌∙◌, ◌∷◌, ◌++◌, [], refl, sym, subst, length}
+use Rattle.ltl_word.specs.Evaluation.{AreOperandRows, IsRowOf}
+use Rattle.ltl_word.specs.Uses.{KeepsLater, row_by}
+use Rattle.ltl_formula.specs.FormulaView.{tree_of, trees}
 use Rattle.ltl_word.proofs.BitLemmas.{count_push}
-use Rattle.ltl_word.proofs.RowLaws.{rows_push, last_row}
+use Rattle.ltl_word.proofs.RowLaws.{operand_rows, rows_step}
 use Rattle.ltl_word.proofs.evaluation.holds.Goals as goal
+
+pub node_row-requires-clause-rows : goal.node_row-requires-clause-rows
+node_row-requires-clause-rows g c =
+    let f = c.args.formula.now in
+    let w = c.args.word.now in
+    let node = c.node-node.result in
+    subst (λ ns. AreOperandRows f w ns c.as_slice-in-loop-i.result.now node) (sym c.as_slice.ensures.value)
+    (subst (λ rs. AreOperandRows f w c.in_ok-names.names.items rs node) (sym c.as_slice-in-loop-i.ensures.value)
+    (operand_rows f w c.in_ok-names.names.items c.loop-i.rows.items c.in_ok-uses.uses.items node (length f.names) c.loop-i.i c.in_ok-uses.ensures c.loop-i.invariant.rows c.loop-i.invariant.count c.node-node.ensures.found c.node-node.ensures.operands))
+
+pub release-requires-clause-stands : goal.release-requires-clause-stands
+release-requires-clause-stands g c = (length c.args.formula.now.names, c.node-node.ensures.operands)
 
 pub loop-i-preserved : goal.loop-i-preserved
 loop-i-preserved g c =
+    let f = c.args.formula.now in
+    let w = c.args.word.now in
+    let node = c.node-node.result in
+    let row = c.in_ok-row.row in
+    let old = c.loop-i.rows.items in
     let pushed = c.in_ok-push.ensures.items in
+    let keeps : KeepsLater c.in_ok-uses.uses.items c.loop-i.i (old ++ row ∷ []) c.release.new.rows.items =
+    subst (λ rs. KeepsLater c.in_ok-uses.uses.items c.loop-i.i rs c.release.new.rows.items) pushed
+    (subst (λ us. KeepsLater us c.loop-i.i c.push.new.self.items c.release.new.rows.items) c.as_slice-in-loop-i-2.ensures.value c.release.ensures) in
+    let own : IsRowOf f.names w (tree_of (trees f.nodes) node) (row_by c.in_ok-names.names.items row node) =
+    subst (λ ns. IsRowOf f.names w (tree_of (trees f.nodes) node) (row_by ns row node)) c.as_slice.ensures.value c.in_ok-row.ensures in
     record {
-      count = count_push c.loop-i.rows.items c.in_ok-row.row c.push.new.self.items c.loop-i.i pushed c.loop-i.invariant.count;
-      rows = subst (AreRows c.args.formula.now c.args.word.now) (sym pushed)
-          (rows_push c.args.formula.now c.args.word.now c.loop-i.rows.items c.in_ok-row.row c.node.result c.loop-i.i c.len-i-end.ensures.formula c.loop-i.invariant.rows c.loop-i.invariant.count c.node.ensures.found c.in_ok-row.ensures);
+      count = keeps.0 ∙ count_push old row (old ++ row ∷ []) c.loop-i.i refl c.loop-i.invariant.count;
+      rows = rows_step f w c.in_ok-names.names.items old c.release.new.rows.items c.in_ok-uses.uses.items row node c.loop-i.i c.len-i-end.ensures.formula c.loop-i.invariant.rows c.loop-i.invariant.count c.node-node.ensures.found own keeps;
     }
-
-pub returns : goal.returns
-returns g c =
-    let end : c.loop-i.i ≡ length c.args.formula.now.nodes = let f = c.loop-i-test.false in let e = c.len-i-end.ensures.count in let m = c.loop-i.auto.i-end in omega (arith, f, e, m) in
-    let some : 0 < c.len.result = let e = c.len.ensures.count in let l = c.len.ensures.formula.some in omega (arith, e, l) in
-    last_row c.args.formula.now c.args.word.now c.loop-i.rows.items c.index.result.now c.get.result c.first.result c.len.result c.loop-i.invariant.rows
-    (c.loop-i.invariant.count ∙ end ∙ sym c.len.ensures.count) c.len.ensures.count some (sym c.index.ensures) c.first.ensures.first c.first.ensures.within c.get.ensures

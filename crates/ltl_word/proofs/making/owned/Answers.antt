@@ -5,7 +5,7 @@ use Rattle.ltl_word.proofs.making.owned.Goals as goal
 
 pub loop-i-preserved : goal.loop-i-preserved
 loop-i-preserved g c = record {
-  owned = owned_push (λ n. n.items) (λ n. n.now) c.loop-i.owned.items c.push.new.self.items _ c.args.names.now _ c.loop-i.i c.in_ok-push.ensures.items c.loop-i.invariant.owned c.in_ok-from_slice.ensures.items c.loop-i-test.true (get_or-map (λ n. n.now) c.args.names.now c.loop-i.i _ [] c.loop-i-test.true);
+  owned = owned_push (λ n. n.items) (λ n. n.now) c.loop-i.owned.items c.push.new.self.items _ c.args.names.now _ c.loop-i.i c.in_ok-push.ensures.items c.loop-i.invariant.owned c.in_ok-from_slice.ensures.ok c.loop-i-test.true (get_or-map (λ n. n.now) c.args.names.now c.loop-i.i _ [] c.loop-i-test.true);
 }
 
 pub returns : goal.returns

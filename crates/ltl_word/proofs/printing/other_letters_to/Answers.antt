@@ -1,4 +1,4 @@
-use Rattle.std.proofs.Common.{◌++◌, ◌+◌, ◌<◌, map, drop, length, refl, []}
+use Rattle.std.proofs.Common.{◌++◌, ◌+◌, ◌<◌, arith, map, drop, length, refl, []}
 use Rattle.std.specs.Prelude.{codes, flat_map, slice_index_or}
 use Rattle.std.specs.List.{AllByRecursion}
 use Rattle.ltl_spec.specs.Words.LassoText.{letter_text}
@@ -10,7 +10,7 @@ pub loop-i-init : goal.loop-i-init
 loop-i-init g c = flat_starts (g.W.Write.contents c.args.w.now) (λ a. codes "; " ++ letter_text a) (letter_of (map (λ n. n.items) c.args.names.now)) c.args.letters.now
 
 pub letter_to-requires : goal.letter_to-requires
-letter_to-requires g c = row_inside (AllByRecursion (λ i. i < length c.args.names.now)) c.args.letters.now c.index-letters-i.result c.loop-i.i c.requires c.loop-i-test.true c.index-letters-i.is
+letter_to-requires g c = (omega arith, row_inside (AllByRecursion (λ i. i < length c.args.names.now)) c.args.letters.now c.index-letters-i.result c.loop-i.i c.requires c.loop-i-test.true c.index-letters-i.is)
 
 pub returns-in_err-write_whole-clause-err : goal.returns-in_err-write_whole-clause-err
 returns-in_err-write_whole-clause-err g c =

@@ -1,4 +1,5 @@
 use Rattle.ltl_alt.specs.RowLists.{list_at}
+use Rattle.ltl_alt.proofs.ElementaryLaws.{kind_stands}
 use Rattle.ltl_alt.proofs.RowListLaws.{pairs_listed}
 use Rattle.ltl_alt.proofs.row_lists.RowLists.list_pairs.Goals as goal
 
@@ -7,3 +8,7 @@ returns g c =
     let r = c.row.result in
     pairs_listed c.args.table.now c.args.pruning.now.rule (list_at c.args.self.now.pairs.items) (list_at c.args.self.now.sets.items) c.place.result c.args.pruning.now.own.now c.requires.fit
     c.args.row r c.row.ensures.found c.row.ensures.operands c.place.ensures.place _ _ (c.requires.have r c.row.ensures.found) c.in_ok-all.ensures c.in_ok-pairs.ensures
+
+pub pairs_from-requires-clause-place : goal.pairs_from-requires-clause-place
+pairs_from-requires-clause-place g c =
+    λ e. c.place.ensures.small (kind_stands c.args.table.now c.args.row c.row.result c.len.ensures.table c.requires.within c.row.ensures.found c.row.ensures.operands e)

@@ -1,4 +1,4 @@
-use Rattle.std.proofs.Common.{◌≡◌, length, vec_len, arith, refl}
+use Rattle.std.proofs.Common.{refl}
 use Rattle.ltl_formula.proofs.StateLemmas.{closed_kept, closed_pop, step_popped}
 use Rattle.ltl_formula.proofs.parser.Parser.close_bracket.Goals as goal
 
@@ -13,6 +13,5 @@ invariant_of-self-2 g c =
 
 pub returns-clause-reader : goal.returns-clause-reader
 returns-clause-reader g c =
-    let counted : vec_len c.close.new.frames ≡ length c.close.new.frames.items = omega (arith, c.close.new.frames.ok.0) in
     step_popped c.args.self.now _ c.close.new.nodes.items _ c.close.new.frames.items _ _ 5 c.self.view_is c.requires c.in_ok-close.ensures.closed
-    c.pop.new.self.items c.pop.result c.is_some_and.result (vec_len c.close.new.frames) (vec_len c.pop.new.self) refl c.pop.ensures.items counted c.pop.ensures.cases c.is_some_and.ensures
+    c.pop.new.self.items c.pop.result c.is_some_and.result refl c.pop.ensures.items c.pop.ensures.variant.1 c.is_some_and.ensures

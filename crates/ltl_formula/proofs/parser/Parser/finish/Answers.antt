@@ -1,4 +1,4 @@
-use Rattle.std.proofs.Common.{rules, ◌≡◌, ◌∙◌, ◌==◌, ap, sym, true, false, length, vec_len, arith, refl}
+use Rattle.std.proofs.Common.{rules, ◌≡◌, ◌∙◌, ◌==◌, ap, sym, true, false, length, arith, refl}
 use Rattle.ltl_formula.proofs.StateLemmas.{closed_kept, empty_list, zero_from_test, finish_closed, finish_open, expects_open}
 use Rattle.ltl_formula.proofs.parser.Parser.finish.Goals as goal
 
@@ -12,12 +12,11 @@ invariant_of-self-then-not-is_empty g c =
 
 pub returns-then-not-is_empty : goal.returns-then-not-is_empty
 returns-then-not-is_empty g c =
-    let counted : vec_len c.close.new.frames ≡ length c.close.new.frames.items = omega (arith, c.close.new.frames.ok.0) in
     let has : c.self.inside.has_operand ≡ true = search rules in
-    let full : (vec_len c.close.new.frames == 0) ≡ false = search rules in
+    let full : (length c.close.new.frames.items == 0) ≡ false = search rules in
     let now_has : c.args.self.now.has_operand ≡ true = sym (ap (λ v. v.has_operand) c.self.view_is) ∙ has in
     let unfinished = finish_open c.args.self.now _ c.close.new.nodes.items _ c.close.new.frames.items _ _ 5 c.self.view_is now_has c.in_ok-close.ensures.closed refl
-    (λ e. let empty : (vec_len c.close.new.frames == 0) ≡ true = ap (λ k. k == 0) (counted ∙ ap length e) in cc) in
+    (λ e. let empty : (length c.close.new.frames.items == 0) ≡ true = ap (λ k. k == 0) (ap length e) in cc) in
     (refl, expects_open c.args.self.now now_has unfinished, unfinished)
 
 pub invariant_of-self-2 : goal.invariant_of-self-2
@@ -26,15 +25,14 @@ invariant_of-self-2 g c =
 
 pub returns : goal.returns
 returns g c =
-    let counted : vec_len c.close.new.frames ≡ length c.close.new.frames.items = omega (arith, c.close.new.frames.ok.0) in
     let has : c.self.inside.has_operand ≡ true = search rules in
     let now_has : c.args.self.now.has_operand ≡ true = sym (ap (λ v. v.has_operand) c.self.view_is) ∙ has in
-    let empty : (vec_len c.close.new.frames == 0) ≡ true = search rules in
-    let none : vec_len c.close.new.frames ≡ 0 = zero_from_test _ empty in
+    let empty : (length c.close.new.frames.items == 0) ≡ true = search rules in
+    let none : length c.close.new.frames.items ≡ 0 = zero_from_test _ empty in
     let some = c.self.invariant.some has in
     let longer = c.in_ok-close.ensures.longer in (
       finish_closed c.args.self.now _ c.close.new.nodes.items _ c.close.new.frames.items _ _ 5 c.self.view_is now_has c.in_ok-close.ensures.closed refl
-          (empty_list c.close.new.frames.items (sym counted ∙ none)),
+          (empty_list c.close.new.frames.items none),
       ap (λ v. v.names) c.self.view_is,
       omega arith,
     )

@@ -21,7 +21,7 @@ returns g c =
       own = c.self.inside.own;
     } in
     let more : List Edge = map (λ d. record { cube = d; target = c.self.inside.target; marks = c.self.inside.own }) c.self.inside.cubes.items in
-    let cubes : c.as_slice.result.now ≡ c.self.inside.cubes.items = c.as_slice.ensures.value in
+    let cubes : c.as_slice.result.now ≡ c.self.inside.cubes.items = c.as_slice.ensures in
     let put : map edge_of c.file_all.new.edges.items ≡ map edge_of c.index_mut.result.now.items ++ more =
     c.in_ok-file_all.ensures ∙ ap (λ cs. map edge_of c.index_mut.result.now.items ++ map (λ d. record { cube = d; target = c.self.inside.target; marks = c.self.inside.own }) cs) cubes in
     ap (λ es. With es inside) (filed_edges (λ s. map edge_of s.items) c.self.inside.edges.items c.self.inside.at c.self.inside.counts.states c.index_mut.result.now c.file_all.new.edges more

@@ -1,4 +1,4 @@
-use Rattle.std.proofs.Common.{rules, ◌≡◌, ◌∙◌, inl, inr, ap, sym, subst}
+use Rattle.std.proofs.Common.{rules, ◌≡◌, ◌∙◌, inl, inr, ap, sym, subst, arith}
 use Rattle.std.specs.Prelude.{None, Some}
 use Rattle.ltl_spec.specs.Hoa.HoaFaultKind as spec
 use Rattle.ltl_hoa.specs.declared.place.Place.TheVariants as place
@@ -15,7 +15,7 @@ finish-requires g c =
     let e : IsEnded w c.requires.0 = subst (λ x. IsEnded x c.requires.0) (sym c.self.view_is) c.requires.1 in
     let none : c.self.inside.fault ≡ None = search rules in
     let end : c.self.inside.parser.place ≡ place.End = search rules in
-    end_whole w c.requires.0 e none end
+    (omega arith, end_whole w c.requires.0 e none end)
 
 pub returns-in-End : goal.returns-in-End
 returns-in-End g c = λ text a.

@@ -4,9 +4,9 @@ use Rattle.std.specs.Int.{bit_at}
 use Rattle.ltl_word.specs.Rows.{joined}
 use Rattle.ltl_word.proofs.bits.Bits.with.Given as goal
 
-abbrev pub invariant-loop-i : goal.invariant-loop-i
-invariant-loop-i g l = record {
-  long : length l.words.items ≡ l.i;
+abbrev pub invariant-loop-k : goal.invariant-loop-k
+invariant-loop-k g l = record {
+  long : length l.words.items ≡ l.k;
   each : (k : ℕ) → k < length l.words.items → (j : ℕ) → j < 64
       → nat_eq (bit_at (slice_index l.words.items k) j) 1 ≡ joined l.junction (nat_eq (bit_at (slice_index l.self k) j) 1) (nat_eq (bit_at (slice_index l.right k) j) 1);
 }

@@ -8,15 +8,17 @@ use Rattle.ltl_spec.specs.Words.LassoText.{with_sets}
 use Rattle.ltl_word.proofs.NameLaws.{known_parts, made_word, made_view}
 use Rattle.ltl_word.proofs.lasso.Lasso.from_written.Goals as goal
 
-pub all_places-requires-clause-known : goal.all_places-requires-clause-known
-all_places-requires-clause-known g c =
+pub all_places-requires : goal.all_places-requires
+all_places-requires g c =
     let w = c.args.word.now in
-    subst (λ ls. AllByRecursion (Has c.args.names.now) (all_names ls)) (sym (ap (map (λ a. map (λ n. n.now) a.items)) c.as_slice.ensures.value ∙ ap (λ (v : WrittenView). v.stem) c.word.view_is)) (known_parts c.args.names.now w.stem w.cycle c.requires.known).0
+    let known = subst (λ ls. AllByRecursion (Has c.args.names.now) (all_names ls)) (sym (ap (map (λ a. map (λ n. n.now) a.items)) c.as_slice.ensures.value ∙ ap (λ (v : WrittenView). v.stem) c.word.view_is)) (known_parts c.args.names.now w.stem w.cycle c.requires.known).0 in
+    (omega arith, (c.requires.few, (c.requires.sorted, known)))
 
-pub all_places-requires-2-clause-known : goal.all_places-requires-2-clause-known
-all_places-requires-2-clause-known g c =
+pub all_places-requires-2 : goal.all_places-requires-2
+all_places-requires-2 g c =
     let w = c.args.word.now in
-    subst (λ ls. AllByRecursion (Has c.args.names.now) (all_names ls)) (sym (ap (map (λ a. map (λ n. n.now) a.items)) c.as_slice-2.ensures.value ∙ ap (λ (v : WrittenView). v.cycle) c.word.view_is)) (known_parts c.args.names.now w.stem w.cycle c.requires.known).1
+    let known = subst (λ ls. AllByRecursion (Has c.args.names.now) (all_names ls)) (sym (ap (map (λ a. map (λ n. n.now) a.items)) c.as_slice-2.ensures.value ∙ ap (λ (v : WrittenView). v.cycle) c.word.view_is)) (known_parts c.args.names.now w.stem w.cycle c.requires.known).1 in
+    (omega arith, (c.requires.few, (c.requires.sorted, known)))
 
 pub invariant_of-result : goal.invariant_of-result
 invariant_of-result g c =

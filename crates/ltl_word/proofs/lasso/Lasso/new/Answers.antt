@@ -1,4 +1,4 @@
-use Rattle.std.proofs.Common.{◌∙◌, ap, map, length}
+use Rattle.std.proofs.Common.{◌∙◌, ap, arith, map, length}
 use Rattle.std.proofs.lemmas.Result.{IfOk-weaker}
 use Rattle.ltl_spec.proofs.Collections.MemberLaws.{map_length}
 use Rattle.ltl_word.specs.WrittenView.{WrittenView}
@@ -6,10 +6,10 @@ use Rattle.ltl_word.proofs.NumberLaws.{parts_below, written_listed, written_know
 use Rattle.ltl_word.proofs.lasso.Lasso.new.Goals as goal
 
 pub letters_at-requires : goal.letters_at-requires
-letters_at-requires g c = (parts_below (length c.args.names.now) c.args.stem.now c.args.cycle.now c.requires.within).0
+letters_at-requires g c = (omega arith, (parts_below (length c.args.names.now) c.args.stem.now c.args.cycle.now c.requires.within).0)
 
 pub letters_at-requires-2 : goal.letters_at-requires-2
-letters_at-requires-2 g c = (parts_below (length c.args.names.now) c.args.stem.now c.args.cycle.now c.requires.within).1
+letters_at-requires-2 g c = (omega arith, (parts_below (length c.args.names.now) c.args.stem.now c.args.cycle.now c.requires.within).1)
 
 pub from_written-requires : goal.from_written-requires
 from_written-requires g c =

@@ -1,12 +1,13 @@
 use Rattle.std.proofs.Common.{◌≤◌, arith, length}
 use Rattle.std.proofs.lemmas.Result.{err_from_is_err_and}
+use Rattle.ltl_spec.specs.Tools.Limits.{stated_limits}
 use Rattle.ltl_word.specs.WrittenView.{letters_of}
 use Rattle.ltl_word.proofs.NameLaws.{known_names, read_word, refused_word}
 use Rattle.ltl_word.proofs.lasso.Lasso.read.Goals as goal
 
 pub returns-in_err-names : goal.returns-in_err-names
 returns-in_err-names g c =
-    let within : length c.args.text.now ≤ 65536 = let f = c.if-text-gt-TEXT_LIMIT.false in omega (arith, f) in
+    let within : length c.args.text.now ≤ stated_limits.word_bytes = let f = c.if-text-gt-TEXT_LIMIT.false in omega (arith, f) in
     let p = err_from_is_err_and c.from_residual-in_err-names.result c.from_residual-in_err-names.ensures.1 in
     rw (p.1, p.2) (refused_word c.args.formula.now.names c.args.text.now c.in_ok-word.word c.in_err-names.field-0.0 within c.in_ok-word.ensures c.in_err-names.ensures)
 
@@ -15,5 +16,5 @@ from_written-requires g c = known_names c.in_ok-names.names c.args.formula.now.n
 
 pub returns : goal.returns
 returns g c =
-    let within : length c.args.text.now ≤ 65536 = let f = c.if-text-gt-TEXT_LIMIT.false in omega (arith, f) in
+    let within : length c.args.text.now ≤ stated_limits.word_bytes = let f = c.if-text-gt-TEXT_LIMIT.false in omega (arith, f) in
     read_word c.args.formula.now.names c.in_ok-names.names c.args.text.now c.in_ok-word.word c.in_ok-from_written.field-0 within c.in_ok-word.ensures c.in_ok-names.ensures c.in_ok-from_written.ensures

@@ -19,8 +19,8 @@ positions-preserved g c =
       below = omega (arith, one);
       bits = row_more (λ j. has nat_cmp place (slice_index_or letters j [])) (c.positions.i - 1) (length letters) c.positions.row _ _ one
           (subst (λ i. IsRowFrom (λ j. has nat_cmp place (slice_index_or letters j [])) i (length letters) c.positions.row) again c.positions.invariant.bits)
-          c.insert_if.ensures.long c.insert_if.ensures.bits
-          (c.contains.ensures ∙ ap (has nat_cmp place) (c.index.ensures ∙ any_default letters (c.positions.i - 1) c.index.result.now [] (omega (arith, one))));
+          c.put.ensures.long c.put.ensures.here c.put.ensures.others
+          (c.holds.ensures ∙ ap (has nat_cmp place) (c.index.ensures ∙ any_default letters (c.positions.i - 1) c.index.result.now [] (omega (arith, one))));
     }
 
 pub returns : goal.returns

@@ -1,4 +1,4 @@
-use Rattle.std.proofs.Common.{◌∙◌, ◌<◌, ◌++◌, ap, sym, subst, refl, map, take, drop, length}
+use Rattle.std.proofs.Common.{◌∙◌, ◌<◌, ◌++◌, ap, arith, sym, subst, refl, map, take, drop, length}
 use Rattle.std.specs.Prelude.{codes}
 use Rattle.std.specs.List.{AllByRecursion}
 use Rattle.ltl_spec.specs.Words.LassoText.{lasso_text}
@@ -35,10 +35,12 @@ returns-in_err-write_whole-clause-err g c =
 pub cycle_to-requires : goal.cycle_to-requires
 cycle_to-requires g c =
     let all = c.self.inside.letters.items in
-    let at = c.self.inside.stem in
-    subst (λ rows. AllByRecursion (AllByRecursion (λ i. i < length c.as_slice-names.result.now)) rows) (sym (c.split_at.ensures.back ∙ ap (drop at) c.deref.ensures.value))
-    (subst (λ n. AllByRecursion (AllByRecursion (λ i. i < n)) (drop at all)) (map_length (λ n. n.items) c.self.inside.names.items ∙ sym (ap length c.as_slice-names.ensures.value))
-    (rest_inside (AllByRecursion (λ i. i < length (map (λ n. n.items) c.self.inside.names.items))) all at c.self.invariant.within))
+    let at = c.self.inside.stem in (
+      omega arith,
+      subst (λ rows. AllByRecursion (AllByRecursion (λ i. i < length c.as_slice-names.result.now)) rows) (sym (c.split_at.ensures.back ∙ ap (drop at) c.deref.ensures.value))
+          (subst (λ n. AllByRecursion (AllByRecursion (λ i. i < n)) (drop at all)) (map_length (λ n. n.items) c.self.inside.names.items ∙ sym (ap length c.as_slice-names.ensures.value))
+          (rest_inside (AllByRecursion (λ i. i < length (map (λ n. n.items) c.self.inside.names.items))) all at c.self.invariant.within)),
+    )
 
 pub returns-clause-ok : goal.returns-clause-ok
 returns-clause-ok g c =

@@ -12,7 +12,7 @@ returns-in_err-add_letter g c =
     let size = map_length (λ a. map (λ n. n.now) a.items) items in
     let p = err_from_is_err_and c.from_residual.result c.from_residual.ensures.1 in
     rw (p.1, p.2) (refused_letter c.args.self.now (map (λ a. map (λ n. n.now) a.items) items) c.loop-i.self (map (λ n. n.now) c.as_slice.result.now) c.loop-i.i _ (omega (arith, within, size))
-    (get_or-map (λ a. map (λ n. n.now) a.items) items c.loop-i.i c.index-letters-i.result [] within ∙ ap (λ a. map (λ n. n.now) a.items) (sym c.index-letters-i.is) ∙ ap (map (λ n. n.now)) (sym c.as_slice.ensures.value))
+    (get_or-map (λ a. map (λ n. n.now) a.items) items c.loop-i.i c.index-letters-i.result [] within ∙ ap (λ a. map (λ n. n.now) a.items) (sym c.index-letters-i.is) ∙ ap (map (λ n. n.now)) (sym c.as_slice.ensures))
     c.loop-i.invariant.added c.in_err-add_letter.ensures)
 
 pub loop-i-preserved : goal.loop-i-preserved
@@ -22,7 +22,7 @@ loop-i-preserved g c =
     let size = map_length (λ a. map (λ n. n.now) a.items) items in
     record {
       added = added_letter c.args.self.now (map (λ a. map (λ n. n.now) a.items) items) c.loop-i.self c.add_letter.new.self (map (λ n. n.now) c.as_slice.result.now) c.loop-i.i (omega (arith, within, size))
-          (get_or-map (λ a. map (λ n. n.now) a.items) items c.loop-i.i c.index-letters-i.result [] within ∙ ap (λ a. map (λ n. n.now) a.items) (sym c.index-letters-i.is) ∙ ap (map (λ n. n.now)) (sym c.as_slice.ensures.value))
+          (get_or-map (λ a. map (λ n. n.now) a.items) items c.loop-i.i c.index-letters-i.result [] within ∙ ap (λ a. map (λ n. n.now) a.items) (sym c.index-letters-i.is) ∙ ap (map (λ n. n.now)) (sym c.as_slice.ensures))
           c.loop-i.invariant.added c.in_ok-add_letter.ensures.0;
       few = c.in_ok-add_letter.ensures.1;
     }

@@ -1,0 +1,124 @@
+-- What merging and numbering leave of an automaton: what holds of the edges whatever their targets, and no more states and edges.
+use Rattle.std.proofs.Common.{◌≡◌, ℕ, suc, ◌<◌, ◌≤◌, Bool, true, false, cond, not, ◌&&◌, inl, inr, List, [], ◌∷◌, map, length, refl, sym, subst, arith}
+use Rattle.std.specs.Prelude.{slice_index, slice_index_or, ◌==◌, sum_by}
+use Rattle.std.specs.List.{list_any}
+use Rattle.std.specs.Ordering.{nat_cmp}
+use Rattle.std.specs.declared.cmp.Ordering.TheVariants.{Less}
+use Rattle.std.proofs.lemmas.List.{get_or-map}
+use Rattle.ltl_spec.specs.Collections.Sets.{Has, IsRising, set_of}
+use Rattle.ltl_spec.specs.Collections.Lists.{HasNoRepeats, place_of}
+use Rattle.ltl_spec.specs.Automata.Automaton.{Automaton, State, Edge, edge_cmp, state_at}
+use Rattle.ltl_spec.specs.Construction.Merging.{same_edge, implies_edge, retargeted_edge, retargeted_state, without_implied, class_names, quotient, merged_automaton}
+use Rattle.ltl_spec.specs.Construction.Renumbered.{reached_states, renumbered_automaton}
+use Rattle.ltl_spec.proofs.Collections.SetLaws.{all_at, set_of_cases, IsRising-set_of, irreflexive}
+use Rattle.ltl_spec.proofs.Collections.SumLaws.{set_of_length, filter_length, sum_distinct, sum_less}
+use Rattle.ltl_spec.proofs.Collections.Orders.{nat_linear}
+use Rattle.ltl_spec.proofs.Collections.MemberLaws.{map_length}
+use Rattle.ltl_spec.proofs.Automata.ListedStates.{no_state, state_inside}
+use Rattle.ltl_spec.proofs.Semantics.Runs.{IsClosed}
+use Rattle.ltl_spec.proofs.Construction.ImpliedEdges.{thin_cases}
+use Rattle.ltl_spec.proofs.Construction.QuotientRuns.{IsNaming, retarget_cases}
+use Rattle.ltl_spec.proofs.Construction.MergingRuns.{naming}
+use Rattle.ltl_spec.proofs.Construction.RenumberedRuns.{reached_within, HasNoRepeats-reached, reached_short}
+
+-- ---- what holds of the edges
+
+module _ (P : Edge → Type 0) where
+  -- all edges of the automaton are so
+  abbrev pub AreAll : Automaton → Type 0
+  AreAll A = (s : ℕ) (e : Edge) → Has (state_at A s).edges e → P e
+
+  -- what holds of the edges of each state that is made holds of all
+  pub made_all : {K : Type 0} (f : K → State) (list : List K) (d : K) → ((k : K) (e : Edge) → Has (f k).edges e → P e) → (s : ℕ) (e : Edge) → Has (slice_index_or (map f list) s no_state).edges e → P e
+  made_all f list d each s e h =
+      let long = map_length f list in
+      let l = state_inside (map f list) s e h in
+      each (slice_index_or list s d) e (subst (λ (v : State). Has v.edges e) (get_or-map f list s d no_state (omega arith)) h)
+
+  -- it doesn't depend on the target
+  module _ (keeps : (f : ℕ → ℕ) (e : Edge) → P e → P (retargeted_edge f e)) (A : Automaton) (all : AreAll A) where
+    retargeted_all : (f : ℕ → ℕ) (s : ℕ) (e : Edge) → Has (retargeted_state f (state_at A s)).edges e → P e
+    retargeted_all f s e h = let (x, k, q) = retarget_cases f (state_at A s) e h in subst P (sym q) (keeps f x (all s x k))
+
+    quotient_all : (keep : Bool) (names : List ℕ) → AreAll (quotient keep names A)
+    quotient_all keep names s e h =
+        made_all (λ c. without_implied keep (retargeted_state (λ t. place_of ◌==◌ (slice_index names t) (set_of nat_cmp names)) (state_at A c))) (set_of nat_cmp names) 0
+        (λ c x m. retargeted_all (λ t. place_of ◌==◌ (slice_index names t) (set_of nat_cmp names)) c x
+        (thin_cases keep (retargeted_state (λ t. place_of ◌==◌ (slice_index names t) (set_of nat_cmp names)) (state_at A c)) x m)) s e h
+
+    pub merged_all : (keep_implied keep_equal : Bool) → AreAll (merged_automaton keep_implied keep_equal A)
+    merged_all keep_implied keep_equal = quotient_all keep_implied (class_names A (cond keep_equal 0 (length A.states)))
+
+    pub renumbered_all : AreAll (renumbered_automaton A)
+    renumbered_all s e h =
+        made_all (λ u. retargeted_state (λ t. place_of ◌==◌ t (reached_states A)) (state_at A u)) (reached_states A) 0 (λ u. retargeted_all (λ t. place_of ◌==◌ t (reached_states A)) u) s e h
+
+-- ---- how many states and edges there are
+
+abbrev pub edge_count : Automaton → ℕ
+edge_count A = sum_by (λ s. length s.edges) A.states
+
+retargeted_length : (f : ℕ → ℕ) (s : State) → length (retargeted_state f s).edges ≤ length s.edges
+retargeted_length f s = let a = set_of_length edge_cmp (map (retargeted_edge f) s.edges) in let b = map_length (retargeted_edge f) s.edges in omega arith
+
+thin_length : (keep_implied : Bool) (s : State) → length (without_implied keep_implied s).edges ≤ length s.edges
+thin_length true s = omega arith
+thin_length false s = filter_length (λ e. not (list_any (λ f. not (same_edge f e) && implies_edge f e) s.edges)) s.edges
+
+HasNoRepeats-rising : (xs : List ℕ) → IsRising nat_cmp xs → HasNoRepeats xs
+HasNoRepeats-rising [] r = tt
+HasNoRepeats-rising (x ∷ xs) r = ((λ h. irreflexive nat_linear x x (all_at (λ z. nat_cmp x z ≡ Less) xs x r.0 h) refl), HasNoRepeats-rising xs r.1)
+
+-- states that are made of different states, each with no more edges than its own
+made_few : (A : Automaton) (f : ℕ → State) (list : List ℕ) → HasNoRepeats list → ((s : ℕ) → Has list s → s < length A.states) → ((s : ℕ) → length (f s).edges ≤ length (state_at A s).edges)
+    → sum_by (λ s. length s.edges) (map f list) ≤ edge_count A
+made_few A f list differ inside less =
+    let a = sum_less f (λ (s : State). length s.edges) (λ s. length (state_at A s).edges) less list in
+    let b = sum_distinct (λ (s : State). length s.edges) no_state A.states list differ inside in
+    omega arith
+
+module _ (A : Automaton) (keep_implied keep_equal : Bool) where
+  abbrev names : List ℕ
+  names = class_names A (cond keep_equal 0 (length A.states))
+
+  abbrev classes : List ℕ
+  classes = set_of nat_cmp names
+
+  abbrev class_state : ℕ → State
+  class_state c = without_implied keep_implied (retargeted_state (λ t. place_of ◌==◌ (slice_index names t) classes) (state_at A c))
+
+  -- what is named is a state
+  named_inside : (n : ℕ) (ns : List ℕ) → ((k : ℕ) → k < length ns → slice_index ns k < n) → (c : ℕ) → Has ns c → c < n
+  named_inside n [] l c h = absurd h
+  named_inside n (x ∷ ns) l c (inl e) = let m = l 0 (omega arith) in let q : x < n = m in omega arith
+  named_inside n (x ∷ ns) l c (inr h) = named_inside n ns (λ k m. l (suc k) (omega arith)) c h
+
+  is_naming : IsNaming A names
+  is_naming = naming A keep_equal
+
+  classes_inside : (c : ℕ) → Has classes c → c < length A.states
+  classes_inside c h =
+      let long = is_naming.long in
+      named_inside (length A.states) names (λ k l. let m : slice_index names k ≤ k = is_naming.low k (omega arith) in omega arith) c (set_of_cases nat_linear names c h)
+
+  -- merging makes no more states
+  pub merged_few : length (merged_automaton keep_implied keep_equal A).states ≤ length A.states
+  merged_few = let a = map_length class_state classes in let b = set_of_length nat_cmp names in let c = is_naming.long in omega arith
+
+  -- and no more edges
+  pub merged_few_edges : edge_count (merged_automaton keep_implied keep_equal A) ≤ edge_count A
+  merged_few_edges = made_few A class_state classes (HasNoRepeats-rising classes (IsRising-set_of nat_linear names)) classes_inside (λ c.
+      let a = thin_length keep_implied (retargeted_state (λ t. place_of ◌==◌ (slice_index names t) classes) (state_at A c)) in
+      let b = retargeted_length (λ t. place_of ◌==◌ (slice_index names t) classes) (state_at A c) in
+      omega arith)
+
+module _ (A : Automaton) (closed : IsClosed A) where
+  abbrev reached_state : ℕ → State
+  reached_state s = retargeted_state (λ t. place_of ◌==◌ t (reached_states A)) (state_at A s)
+
+  -- nor does numbering
+  pub renumbered_few : length (renumbered_automaton A).states ≤ length A.states
+  renumbered_few = let a = map_length reached_state (reached_states A) in let b = reached_short A closed in omega arith
+
+  pub renumbered_few_edges : edge_count (renumbered_automaton A) ≤ edge_count A
+  renumbered_few_edges = made_few A reached_state (reached_states A) (HasNoRepeats-reached A closed) (reached_within A closed) (λ s. retargeted_length (λ t. place_of ◌==◌ t (reached_states A)) (state_at A s))
