@@ -6,6 +6,8 @@ of what runs say that they are about; without one, all run. The last line is 'N 
 
 A run is an object: what it is `about`, `args` (the words after the program's name), `stdin`, `files` (name to text; null is a folder, which opens and cannot be
 read), `stdout`, `stderr` and `status`, which are what the run has to give. Where more than one output is right, `stdout_begins` says how it has to begin.
+An automaton that ltl2ba prints in a run that is to be `checked` is given to ltlcheck: it keeps the run's formula, and the automaton of the negated formula, printed
+with the same words, doesn't, unless the formula is `valid` (`checked` is then that word, and else `models`).
 A word that ltlcheck prints is given to ltleval: the formula of the run has to fail on it, and each formula of `word_keeps` has to hold.
 With `output` or `message` the program writes its output, or its message, to that file, as /dev/full, which takes no byte; "closed" is a stream that isn't open.
 A text is a list of strings, pairs [string, how often], objects {"each": string, "from": n, "to": m}, the string for each of these numbers, which stands for # in it,
@@ -96,17 +98,42 @@ def differences(run, program):
         found.append(f"output {wrote[:400]}, and not {text(run['stdout'])[:400]}")
     if wrote.startswith(b"violated\n"):
         found += misjudged(run, wrote.decode().split("\n")[1], program)
+    if "checked" in run:
+        found += unkept(run, wrote, program)
     return found
+
+
+def beside(program, tool):
+    """Another of the programs."""
+    own = os.path.basename(program)
+    return os.path.join(os.path.dirname(program).replace(f"{own}/out", f"{tool}/out"), tool)
+
+
+def output_of(words, given=b""):
+    return subprocess.run(words, input=given, stdout=subprocess.PIPE, stderr=subprocess.STDOUT, timeout=SECONDS).stdout
+
+
+def unkept(run, automaton, program):
+    """Whether the automaton doesn't keep its formula, or that of the negated formula keeps it."""
+    place = run["args"].index("-f") + 1
+    formula = word(run["args"][place])
+    negated = output_of([program, *map(word, run["args"][:place]), f"!({formula})"])
+    for text_of, wanted in [(automaton, b"contained\n"), (negated, b"contained\n" if run["checked"] == "valid" else b"violated\n")]:
+        verdict = output_of([beside(program, "ltlcheck"), "-f", formula], text_of)
+        if not verdict.startswith(wanted):
+            yield f"the check is {verdict[:200]}, and not {wanted}"
+        elif verdict.startswith(b"violated\n"):
+            yield from misjudged(run, verdict.decode().split("\n")[1], program)
 
 
 def misjudged(run, lasso, program):
     """Which formulas don't hold or fail on a word as they should."""
-    evaluator = os.path.join(os.path.dirname(program).replace("ltlcheck/out", "ltleval/out"), "ltleval")
+    evaluator = beside(program, "ltleval")
     formula = word(run["args"][run["args"].index("-f") + 1])
     for asked, wanted in [(formula, b"false\n"), *((it, b"true\n") for it in run.get("word_keeps", []))]:
-        ran = subprocess.run([evaluator, "-f", asked, "-w", lasso], stdout=subprocess.PIPE, stderr=subprocess.STDOUT, timeout=SECONDS)
-        if ran.stdout != wanted:
-            yield f"word {lasso}: {asked} is {ran.stdout}, and not {wanted}"
+        told = output_of([evaluator, "-f", asked, "-w", lasso])
+        if told != wanted:
+            yield f"word {lasso}: {asked} is {told}, and not {wanted}"
 
 
 def main(words):

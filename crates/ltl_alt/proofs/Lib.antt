@@ -7,7 +7,6 @@ pub mod NearLaws
 pub mod NeedsLaws
 pub mod OwnLaws
 pub mod PlaceLaws
-pub mod ReachLaws
 pub mod RowLaws
 pub mod RowListLaws
 pub mod PruneLaws

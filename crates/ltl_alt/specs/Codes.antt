@@ -4,7 +4,7 @@ use Rattle.std.specs.Coded.{Coded, code_by, coded×, coded_ℕ, coded_list}
 use Rattle.ltl_spec.specs.Transitions.Cubes.{Literal}
 use Rattle.ltl_spec.specs.Transitions.Pairs.{Pair}
 use Rattle.ltl_spec.specs.Transitions.RowTransitions.{Transition}
-use Rattle.ltl_alt.specs.GbaView.{literal_code}
+use Rattle.ltl_automaton.specs.Codes.{literal_code}
 
 abbrev pub pair_code : Coded Pair
 pair_code = code_by (List Literal × List ℕ) (coded× (coded_list literal_code) (coded_list coded_ℕ)) (λ p. (p.cube, p.targets)) (λ p. record { cube = p.0; targets = p.1 }) (λ _. refl)

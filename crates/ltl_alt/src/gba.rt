@@ -5,11 +5,11 @@ ghost use Rattle.ltl_spec.specs.Automata.Automaton.{state_at};
 ghost use Rattle.ltl_spec.specs.Automata.Generalized.{IsGeneralized, IsTooLarge};
 ghost use Rattle.ltl_spec.specs.Tools.Limits.{stated_limits};
 ghost use Rattle.ltl_formula.specs.TableView.{core_of};
-ghost use Rattle.ltl_alt.specs.GbaView.{IsGba, edge_of, state_of};
+ghost use Rattle.ltl_automaton.specs.SharedView.{automaton_of};
+ghost use Rattle.ltl_alt.specs.GbaView.{IsGba, IsAcceptingGba, edge_of};
 
-use crate::edge::GbaEdge;
-use crate::fault::AltFault;
 use crate::reach::reach;
+use ltl_automaton::{AutomatonFault as AltFault, Edge as GbaEdge, SharedStates};
 use ltl_formula::Table;
 use std::alloc::Allocator;
 use std::marker::Model;
@@ -23,22 +23,21 @@ pub const MOST_EDGES: usize = 1_048_576;
 /// A generalized Büchi automaton with acceptance on edges. State 0 is the start.
 #[derive(Drop)]
 pub struct Gba<'a, A: Allocator> {
-    sets: usize,
-    states: Vec<Vec<GbaEdge, &'a A>, &'a A>,
+    states: SharedStates<'a, A>,
 }
 
 impl<'a, A: Allocator> Model for Gba<'a, A> {
-    ghost use Rattle.std.specs.Prelude.{map, List};
     ghost use Rattle.ltl_spec.specs.Automata.Automaton.{Automaton};
-    ghost use Rattle.ltl_alt.specs.GbaView.{IsGba, state_of, automaton_code};
+    ghost use Rattle.ltl_automaton.specs.SharedView.{automaton_of};
+    ghost use Rattle.ltl_alt.specs.GbaView.{IsAcceptingGba, automaton_code};
 
     ghost Value = { Automaton };
 
     ghost coded = { automaton_code };
 
-    ghost view = { λ g. record { sets = g.sets; states = map (λ s. state_of s.items) g.states.items } };
+    ghost view = { λ g. automaton_of g.states };
 
-    ghost invariant = { λ g. IsGba (record { sets = g.sets; states = map (λ s. state_of s.items) g.states.items }) };
+    ghost invariant = { λ g. IsAcceptingGba (automaton_of g.states) };
 }
 
 impl<'a, A: Allocator> Gba<'a, A> {
@@ -56,12 +55,18 @@ impl<'a, A: Allocator> Gba<'a, A> {
         reach(alloc, table, keep_implied)
     }
 
-    /// The automaton of these states, by their edges.
-    pub fn new(sets: usize, states: Vec<Vec<GbaEdge, &'a A>, &'a A>) -> Gba<'a, A>
-        requires { IsGba (record { sets = sets; states = map (λ s. state_of s.items) states.items }) }
-        ensures { result ≡ record { sets = sets; states = map (λ s. state_of s.items) states.entry.items } }
+    pub fn new(states: SharedStates<'a, A>) -> Gba<'a, A>
+        requires { IsAcceptingGba (automaton_of states) }
+        ensures { result ≡ automaton_of states.entry }
     {
-        Gba { sets, states }
+        Gba { states }
+    }
+
+    /// The states, which share their lists of edges.
+    pub fn states(&self) -> &SharedStates<'a, A>
+        ensures { automaton_of result.now ≡ self.now }
+    {
+        &self.states
     }
 
     /// How many states there are, at least one.
@@ -75,7 +80,7 @@ impl<'a, A: Allocator> Gba<'a, A> {
     pub fn sets(&self) -> usize
         ensures count { result ≡ self.now.sets }
     {
-        self.sets
+        self.states.sets()
     }
 
     /// The edges of a state, by literals and then by the target as a set of rows.
@@ -83,7 +88,7 @@ impl<'a, A: Allocator> Gba<'a, A> {
         requires { i < length self.now.states }
         ensures { map edge_of result.now ≡ (state_at self.now i).edges }
     {
-        self.states[i].as_slice()
+        self.states.edges(i)
     }
 
     /// Hands what the type holds to callers.

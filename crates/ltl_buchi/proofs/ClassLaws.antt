@@ -1,14 +1,22 @@
 -- The steps of finding the classes of states.
-use Rattle.std.proofs.Common.{◌≡◌, ℕ, true, zero, suc, ◌+◌, ◌<◌, ◌≤◌, ◌⊎◌, inl, inr, List, [], ◌∷◌, ◌++◌, map, length, refl, sym, ◌∙◌, ap, arith, Some, None, length-append}
-use Rattle.std.specs.Prelude.{slice_index, slice_index_or, slice_get, slice_set, All}
+use Rattle.std.proofs.Common.{◌≡◌, ℕ, Bool, ◌&&◌, true, zero, suc, ◌+◌, ◌<◌, ◌≤◌, ◌⊎◌, inl, inr, List, [], ◌∷◌, ◌++◌, map, length, refl, sym, subst, ◌∙◌, ap, arith, Some, None, length-append}
+use Rattle.std.specs.Prelude.{nat_eq, slice_index, slice_index_or, slice_get, slice_set, All}
 use Rattle.std.specs.List.{range_with_len}
 use Rattle.std.proofs.lemmas.List.{get_or-map, get_or-set_same, get_or-set_other, length-map}
 use Rattle.ltl_spec.specs.Collections.Lists.{HasNoRepeats}
-use Rattle.ltl_spec.specs.Automata.Automaton.{State, state_at}
-use Rattle.ltl_spec.specs.Construction.Merging.{retargeted_state}
-use Rattle.ltl_spec.proofs.Collections.CaseLaws.{below_equal_above}
+use Rattle.ltl_spec.proofs.Collections.CaseLaws.{below_equal_above, beq_true, beq_refl}
 use Rattle.ltl_spec.proofs.Collections.ListLaws.{index_append, index_done}
-use Rattle.ltl_buchi.specs.Classes.{of_states, IsCoded, IsFirstPlaces, IsLeastPlaces}
+use Rattle.ltl_automaton.proofs.SharedLaws.{got_once}
+use Rattle.std.specs.Bool.{Decides, beq}
+use Rattle.std.specs.Cmp.{first_so, second_so}
+use Rattle.std.proofs.lemmas.Bool.Decides.{Decides-eqb}
+use Rattle.std.proofs.lemmas.Option.{get_or_from_slice_get, slice_get_within}
+use Rattle.ltl_spec.specs.Automata.Automaton.{Edge}
+use Rattle.ltl_automaton.specs.EdgeView.{edge_of}
+use Rattle.ltl_automaton.specs.declared.edge.Edge as code
+use Rattle.ltl_automaton.specs.declared.shared.Place.{Place}
+use Rattle.ltl_buchi.proofs.Within.{All_from_map}
+use Rattle.ltl_buchi.specs.Classes.{AreListsWithin, IsCoded, IsFirstPlaces, IsLeastAlike, IsLeastPlaces, coded_place, list_view, retargeted_list}
 
 -- one more number
 range_more : (a n : ℕ) → range_with_len a (suc n) ≡ range_with_len a n ++ (a + n) ∷ []
@@ -79,29 +87,26 @@ least_from codes firsts names count w e = record {
 
 -- codes
 
-module _ (states : List State) where
-  abbrev seen : List ℕ → ℕ → State
-  seen names s = retargeted_state (slice_index names) (state_at (of_states states) s)
-
-  -- the states below k have codes under the next names, the others under the names before
-  pub record IsRecoded (names next : List ℕ) (k : ℕ) (keys : List State) (codes : List ℕ) : Type 0 where
+module _ {K : Type 0} (count : ℕ) (old_view new_view : ℕ → K) where
+  -- the things below k have codes by their new views, the others by their old ones
+  pub record IsRecoded (k : ℕ) (keys : List K) (codes : List ℕ) : Type 0 where
     pub distinct : HasNoRepeats keys
-    pub new : (s : ℕ) → s < k → slice_get keys (slice_index codes s) ≡ Some (seen next s)
-    pub old : (s : ℕ) → k ≤ s → s < length codes → slice_get keys (slice_index codes s) ≡ Some (seen names s)
+    pub new : (s : ℕ) → s < k → slice_get keys (slice_index codes s) ≡ Some (new_view s)
+    pub old : (s : ℕ) → k ≤ s → s < length codes → slice_get keys (slice_index codes s) ≡ Some (old_view s)
 
-  pub recoded_none : (names next : List ℕ) (keys : List State) (codes : List ℕ) → HasNoRepeats keys → codes ≡ [] → IsRecoded names next 0 keys codes
-  recoded_none names next keys codes d e = record { distinct = d; new = λ s l. absurd (omega arith); old = λ s l m. absurd (let n = ap length e in omega arith) }
+  pub recoded_none : (keys : List K) (codes : List ℕ) → HasNoRepeats keys → codes ≡ [] → IsRecoded 0 keys codes
+  recoded_none keys codes d e = record { distinct = d; new = λ s l. absurd (omega arith); old = λ s l m. absurd (let n = ap length e in omega arith) }
 
-  pub recoded_begins : (names next : List ℕ) (keys : List State) (codes : List ℕ) → IsCoded states names keys codes → IsRecoded names next 0 keys codes
-  recoded_begins names next keys codes c = record { distinct = c.distinct; new = λ s l. absurd (omega arith); old = λ s l m. c.seen s (let n = c.long in omega arith) }
+  pub recoded_begins : (keys : List K) (codes : List ℕ) → IsCoded count old_view keys codes → IsRecoded 0 keys codes
+  recoded_begins keys codes c = record { distinct = c.distinct; new = λ s l. absurd (omega arith); old = λ s l m. c.seen s (let n = c.long in omega arith) }
 
-  pub recoded_ends : (names next : List ℕ) (k : ℕ) (keys : List State) (codes : List ℕ) → IsRecoded names next k keys codes → length codes ≡ length states → length states ≤ k → IsCoded states next keys codes
-  recoded_ends names next k keys codes w n l = record { distinct = w.distinct; long = n; seen = λ s m. w.new s (omega arith) }
+  pub recoded_ends : (k : ℕ) (keys : List K) (codes : List ℕ) → IsRecoded k keys codes → length codes ≡ count → count ≤ k → IsCoded count new_view keys codes
+  recoded_ends k keys codes w n l = record { distinct = w.distinct; long = n; seen = λ s m. w.new s (omega arith) }
 
   -- one more code
-  pub recoded_push : (names next : List ℕ) (k : ℕ) (keys more_keys : List State) (codes more_codes : List ℕ) (i : ℕ) → IsRecoded names next k keys codes → length codes ≡ k → HasNoRepeats more_keys
-      → ((more : List State) × (more_keys ≡ keys ++ more)) → more_codes ≡ codes ++ i ∷ [] → slice_get more_keys i ≡ Some (seen next k) → IsRecoded names next (k + 1) more_keys more_codes
-  recoded_push names next k keys more_keys codes more_codes i w n d grown e g = record {
+  pub recoded_push : (k : ℕ) (keys more_keys : List K) (codes more_codes : List ℕ) (i : ℕ) → IsRecoded k keys codes → length codes ≡ k → HasNoRepeats more_keys
+      → ((more : List K) × (more_keys ≡ keys ++ more)) → more_codes ≡ codes ++ i ∷ [] → slice_get more_keys i ≡ Some (new_view k) → IsRecoded (k + 1) more_keys more_codes
+  recoded_push k keys more_keys codes more_codes i w n d grown e g = record {
     distinct = d;
     new = λ s l. at s (below_equal_above s k) l;
     old = λ s l m. let a = ap length e ∙ length-append codes (i ∷ []) in absurd (omega (arith, one));
@@ -110,70 +115,98 @@ module _ (states : List State) where
       one : length (i ∷ []) ≡ 1
       one = refl
 
-      at : (s : ℕ) → (s < k) ⊎ ((s ≡ k) ⊎ (k < s)) → s < k + 1 → slice_get more_keys (slice_index more_codes s) ≡ Some (seen next s)
+      at : (s : ℕ) → (s < k) ⊎ ((s ≡ k) ⊎ (k < s)) → s < k + 1 → slice_get more_keys (slice_index more_codes s) ≡ Some (new_view s)
       at s (inl l) m =
-          ap (slice_get more_keys) (ap (λ xs. slice_index xs s) e ∙ index_append codes (i ∷ []) s 0 (omega arith)) ∙ ap (λ ks. slice_get ks (slice_index codes s)) grown.1 ∙ get_more keys grown.0 (slice_index codes s) (seen next s) (w.new s l)
+          ap (slice_get more_keys) (ap (λ xs. slice_index xs s) e ∙ index_append codes (i ∷ []) s 0 (omega arith)) ∙ ap (λ ks. slice_get ks (slice_index codes s)) grown.1 ∙ get_more keys grown.0 (slice_index codes s) (new_view s) (w.new s l)
       at s (inr (inl q)) m =
-          ap (λ t. slice_get more_keys (slice_index more_codes t)) (q ∙ sym n) ∙ ap (slice_get more_keys) (ap (λ xs. slice_index xs (length codes)) e ∙ index_done codes [] i 0) ∙ g ∙ ap (λ t. Some (seen next t)) (sym q)
+          ap (λ t. slice_get more_keys (slice_index more_codes t)) (q ∙ sym n) ∙ ap (slice_get more_keys) (ap (λ xs. slice_index xs (length codes)) e ∙ index_done codes [] i 0) ∙ g ∙ ap (λ t. Some (new_view t)) (sym q)
       at s (inr (inr q)) m = absurd (omega arith)
 
   -- another code
-  pub recoded_set : (names next : List ℕ) (k : ℕ) (keys more_keys : List State) (codes more_codes : List ℕ) (i : ℕ) → IsRecoded names next k keys codes → k < length codes → HasNoRepeats more_keys
-      → ((more : List State) × (more_keys ≡ keys ++ more)) → more_codes ≡ slice_set codes k i → length more_codes ≡ length codes → slice_get more_keys i ≡ Some (seen next k) → IsRecoded names next (k + 1) more_keys more_codes
-  recoded_set names next k keys more_keys codes more_codes i w n d grown e long g = record {
+  pub recoded_set : (k : ℕ) (keys more_keys : List K) (codes more_codes : List ℕ) (i : ℕ) → IsRecoded k keys codes → k < length codes → HasNoRepeats more_keys
+      → ((more : List K) × (more_keys ≡ keys ++ more)) → more_codes ≡ slice_set codes k i → length more_codes ≡ length codes → slice_get more_keys i ≡ Some (new_view k) → IsRecoded (k + 1) more_keys more_codes
+  recoded_set k keys more_keys codes more_codes i w n d grown e long g = record {
     distinct = d;
     new = λ s l. at s (below_equal_above s k) l;
-    old = λ s l m. other s (λ q. omega arith) ∙ ap (λ ks. slice_get ks (slice_index codes s)) grown.1 ∙ get_more keys grown.0 (slice_index codes s) (seen names s) (w.old s (omega arith) (omega arith));
+    old = λ s l m. other s (λ q. omega arith) ∙ ap (λ ks. slice_get ks (slice_index codes s)) grown.1 ∙ get_more keys grown.0 (slice_index codes s) (old_view s) (w.old s (omega arith) (omega arith));
   }
     where
       other : (s : ℕ) → (s ≡ k → ⊥) → slice_get more_keys (slice_index more_codes s) ≡ slice_get more_keys (slice_index codes s)
       other s q = ap (slice_get more_keys) (ap (λ xs. slice_index xs s) e ∙ get_or-set_other codes k s i 0 q)
 
-      at : (s : ℕ) → (s < k) ⊎ ((s ≡ k) ⊎ (k < s)) → s < k + 1 → slice_get more_keys (slice_index more_codes s) ≡ Some (seen next s)
-      at s (inl l) m = other s (λ q. omega arith) ∙ ap (λ ks. slice_get ks (slice_index codes s)) grown.1 ∙ get_more keys grown.0 (slice_index codes s) (seen next s) (w.new s l)
+      at : (s : ℕ) → (s < k) ⊎ ((s ≡ k) ⊎ (k < s)) → s < k + 1 → slice_get more_keys (slice_index more_codes s) ≡ Some (new_view s)
+      at s (inl l) m = other s (λ q. omega arith) ∙ ap (λ ks. slice_get ks (slice_index codes s)) grown.1 ∙ get_more keys grown.0 (slice_index codes s) (new_view s) (w.new s l)
       at s (inr (inl q)) m =
-          ap (λ t. slice_get more_keys (slice_index more_codes t)) q ∙ ap (slice_get more_keys) (ap (λ xs. slice_index xs k) e ∙ get_or-set_same codes k i 0 n) ∙ g ∙ ap (λ t. Some (seen next t)) (sym q)
+          ap (λ t. slice_get more_keys (slice_index more_codes t)) q ∙ ap (slice_get more_keys) (ap (λ xs. slice_index xs k) e ∙ get_or-set_same codes k i 0 n) ∙ g ∙ ap (λ t. Some (new_view t)) (sym q)
       at s (inr (inr q)) m = absurd (omega arith)
 
   -- the same code
-  pub recoded_stays : (names next : List ℕ) (k : ℕ) (keys : List State) (codes : List ℕ) → IsRecoded names next k keys codes → k < length codes → seen names k ≡ seen next k → IsRecoded names next (k + 1) keys codes
-  recoded_stays names next k keys codes w n e = record {
+  pub recoded_stays : (k : ℕ) (keys : List K) (codes : List ℕ) → IsRecoded k keys codes → k < length codes → old_view k ≡ new_view k → IsRecoded (k + 1) keys codes
+  recoded_stays k keys codes w n e = record {
     distinct = w.distinct;
     new = λ s l. elim (below_equal_above s k) [
       | inl m ↦ w.new s m
       | inr r ↦ elim r [
-        | inl q ↦ ap (λ t. slice_get keys (slice_index codes t)) q ∙ w.old k (omega arith) n ∙ ap (λ x. Some x) e ∙ ap (λ t. Some (seen next t)) (sym q)
+        | inl q ↦ ap (λ t. slice_get keys (slice_index codes t)) q ∙ w.old k (omega arith) n ∙ ap (λ x. Some x) e ∙ ap (λ t. Some (new_view t)) (sym q)
         | inr m ↦ absurd (omega arith)
       ]
     ];
     old = λ s l m. w.old s (omega arith) m;
   }
 
+  index_at : (xs : List ℕ) (k d : ℕ) → k < length xs → slice_index_or xs k d ≡ slice_index xs k
+  index_at [] k d l = absurd (omega arith)
+  index_at (x ∷ xs) zero d l = refl
+  index_at (x ∷ xs) (suc k) d l = index_at xs k d (omega arith)
+
   -- every code is the place of a key
-  pub codes_within : (names : List ℕ) (keys : List State) (codes : List ℕ) → IsCoded states names keys codes → All (λ c. c < length keys) codes
-  codes_within names keys codes c = λ k d l. let m : k < length states = let n = c.long in omega arith in below k d l (c.seen k m)
+  pub codes_within : (keys : List K) (codes : List ℕ) → IsCoded count new_view keys codes → All (λ c. c < length keys) codes
+  codes_within keys codes c = λ k d l.
+      let n = c.long in
+      let m = slice_get_within keys (slice_index codes k) (new_view k) (c.seen k (omega arith)) in
+      let q = index_at codes k d l in
+      omega arith
+
+  -- the least places of the codes are the least things that are seen as equal
+  pub least_alike : (keys : List K) (codes names : List ℕ) → IsCoded count new_view keys codes → IsLeastPlaces codes names → IsLeastAlike count new_view names
+  least_alike keys codes names c l = record {
+    long = l.long ∙ c.long;
+    low = λ s m. l.low s (here s m);
+    same = λ s m.
+        let p : slice_index names s ≤ s = l.low s (here s m) in
+        Some_injective _ _ (sym (c.seen (slice_index names s) (omega arith)) ∙ ap (slice_get keys) (l.same s (here s m)) ∙ c.seen s m);
+    once = λ s t m k e. l.once s t (here s m) (here t k) (got_once keys (slice_index codes s) (slice_index codes t) (new_view s) c.distinct (c.seen s m) (c.seen t k ∙ ap (λ x. Some x) (sym e)));
+  }
     where
-      inside : (ks : List State) (i : ℕ) (x : State) → slice_get ks i ≡ Some x → i < length ks
-      inside [] i x e = absurd (never e)
-        where
-          never : None ≡ Some x → ⊥
-          never q = cc
-      inside (y ∷ ys) zero x e = omega arith
-      inside (y ∷ ys) (suc i) x e = let l = inside ys i x e in omega arith
+      here : (s : ℕ) → s < count → s < length codes
+      here s m = let n = c.long in omega arith
 
-      same : (xs : List ℕ) (k d : ℕ) → k < length xs → slice_index_or xs k d ≡ slice_index xs k
-      same [] k d l = absurd (omega arith)
-      same (x ∷ xs) zero d l = refl
-      same (x ∷ xs) (suc k) d l = same xs k d (omega arith)
+      Some_injective : (x y : K) → Some x ≡ Some y → x ≡ y
+      Some_injective x y e = cc
 
-      below : (k d : ℕ) → k < length codes → slice_get keys (slice_index codes k) ≡ Some (seen names k) → slice_index_or codes k d < length keys
-      below k d l e = let m = inside keys (slice_index codes k) (seen names k) e in let q = same codes k d l in omega arith
+-- equal places are one place
+abbrev pub same_place : Place → Place → Bool
+same_place p q = nat_eq p.list q.list && beq p.accepting q.accepting
 
--- the state that was read at a place
-pub got_state : (states : List State) (k : ℕ) (s : State) → k < length states → s ≡ slice_index_or states k s → s ≡ state_at (of_states states) k
-got_state states k s l e = e ∙ same states k l
-  where
-    same : (xs : List State) (k : ℕ) → k < length xs → slice_index_or xs k s ≡ slice_index_or xs k (record { accepting = true; edges = [] })
-    same [] k l = absurd (omega arith)
-    same (x ∷ xs) zero l = refl
-    same (x ∷ xs) (suc k) l = same xs k (omega arith)
+pub place_Decides : (p q : Place) → Decides (same_place p q) (p ≡ q)
+place_Decides p q = (
+  (λ t.
+      let l = (Decides-eqb p.list q.list).0 (first_so _ _ t) in
+      let a = beq_true p.accepting q.accepting (second_so (nat_eq p.list q.list) _ t) in
+      λ i. let r : Place = record { list = l i; accepting = a i } in r),
+  (λ h. ap (λ b. b && beq p.accepting q.accepting) ((Decides-eqb p.list q.list).1 (ap (λ (r : Place). r.list) h)) ∙ ap (λ a. beq p.accepting a) (sym (ap (λ (r : Place). r.accepting) h)) ∙ beq_refl p.accepting),
+)
+
+-- the place that was read, by the code of its list
+pub place_coded : (places : List Place) (codes : List ℕ) (s : ℕ) (p : Place) → slice_get places s ≡ Some p → (let q : Place = record { list = slice_index codes p.list; accepting = p.accepting } in q) ≡ coded_place places codes s
+place_coded places codes s p e = ap (λ (r : Place). let q : Place = record { list = slice_index codes r.list; accepting = r.accepting } in q) (sym (get_or_from_slice_get places s p (record { list = 0; accepting = true }) e))
+
+-- the list that was read
+pub list_seen : (lists : List (List Edge)) (f : ℕ → ℕ) (k : ℕ) (es : List Edge) → slice_get lists k ≡ Some es → retargeted_list f es ≡ list_view lists f k
+list_seen lists f k es e = ap (retargeted_list f) (sym (get_or_from_slice_get lists k es [] e))
+
+-- the edges of a list lead where those of all lists do
+pub list_within : (lists : List (List Edge)) (n k : ℕ) (edges : List code.Edge) → AreListsWithin lists n → slice_get lists k ≡ Some (map edge_of edges) → All (λ e. e.target < n) edges
+list_within lists n k edges w e =
+    let P : Edge → Type 0 = λ f. f.target < n in
+    All_from_map P edge_of edges (subst (All P) (get_or_from_slice_get lists k (map edge_of edges) [] e) (w k [] (slice_get_within lists k (map edge_of edges) e)))

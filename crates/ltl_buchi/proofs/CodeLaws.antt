@@ -1,48 +1,26 @@
--- A round of merging by codes of what is seen.
-use Rattle.std.proofs.Common.{◌≡◌, ℕ, zero, suc, ◌+◌, ◌-◌, ◌<◌, ◌≤◌, inl, inr, List, [], ◌∷◌, map, length, refl, sym, ◌∙◌, ap, arith, Some, None}
-use Rattle.std.specs.Prelude.{slice_index, slice_index_or, slice_get}
+-- A round of merging by codes of lists.
+use Rattle.std.proofs.Common.{◌≡◌, ℕ, zero, suc, ◌+◌, ◌-◌, ◌<◌, ◌≤◌, Bool, true, inl, inr, List, [], ◌∷◌, ◌++◌, map, length, refl, sym, ◌∙◌, ap, subst, arith, Some}
+use Rattle.std.specs.Prelude.{slice_index, slice_index_or, slice_get, All}
+use Rattle.std.proofs.lemmas.List.{get_or-map, length-map}
+use Rattle.std.proofs.lemmas.List.Elements.{All-map}
+use Rattle.std.proofs.lemmas.Option.{get_or_from_slice_get}
 use Rattle.ltl_spec.specs.Collections.Sets.{Has, set_of}
-use Rattle.ltl_spec.specs.Collections.Lists.{HasNoRepeats, place_of}
-use Rattle.ltl_spec.specs.Automata.Automaton.{Automaton, State, Edge, edge_cmp}
+use Rattle.ltl_spec.specs.Collections.Lists.{place_of}
+use Rattle.ltl_spec.specs.Automata.Automaton.{Automaton, State, Edge, edge_cmp, state_at}
 use Rattle.ltl_spec.specs.Construction.Merging.{same_state, retargeted_edge, retargeted_state, class_names}
-use Rattle.ltl_spec.proofs.Collections.ListLaws.{place_again}
-use Rattle.ltl_spec.proofs.Automata.ListedStates.{no_state}
-use Rattle.ltl_spec.proofs.Construction.RoundLaws.{same_state_Decides}
+use Rattle.ltl_spec.proofs.Collections.ListLaws.{All-from_has, All-at_has, Has-at}
 use Rattle.ltl_spec.proofs.Construction.MergingUnique.{IsNames, IsWithin, seen_under, same_names, round_names, next_seen, next_equal}
-use Rattle.ltl_buchi.specs.Classes.{of_states, IsCoded, IsLeastPlaces}
+use Rattle.ltl_automaton.specs.EdgeView.{edge_of}
+use Rattle.ltl_automaton.specs.SharedView.{Shared, IsShared, automaton_of, state_in}
+use Rattle.ltl_automaton.specs.declared.edge.Edge as plain
+use Rattle.ltl_automaton.specs.declared.shared.Place.{Place}
+use Rattle.ltl_automaton.proofs.EdgeLaws.{map_pushed}
+use Rattle.ltl_automaton.proofs.SharedLaws.{got_once}
+use Rattle.ltl_buchi.specs.Classes.{AreListsWithin, IsCoded, IsLeastAlike, IsWithinStates, coded_place, list_view, retargeted_list}
 
--- what was read at a place stands there
-pub got : {K : Type 0} (ks : List K) (i : ℕ) (x d : K) → slice_get ks i ≡ Some x → (i < length ks) × (slice_index_or ks i d ≡ x)
-got [] i x d e = absurd (never e)
-  where
-    never : None ≡ Some x → ⊥
-    never q = cc
-got (k ∷ ks) zero x d e = (omega arith, cc)
-got (k ∷ ks) (suc i) x d e = let w = got ks i x d e in (omega (arith, w.0), w.1)
-
--- in a list without repeats a thing stands at one place
-pub got_once : (keys : List State) (i j : ℕ) (x : State) → HasNoRepeats keys → slice_get keys i ≡ Some x → slice_get keys j ≡ Some x → i ≡ j
-got_once keys i j x d e f =
-    let p = got keys i x no_state e in
-    let q = got keys j x no_state f in
-    sym (place_again same_state same_state_Decides keys i no_state d p.0)
-    ∙ ap (λ y. place_of same_state y keys) (p.1 ∙ sym q.1)
-    ∙ place_again same_state same_state_Decides keys j no_state d q.0
-
-Some_injective : (x y : State) → Some x ≡ Some y → x ≡ y
-Some_injective x y e = cc
-
--- only the states of an automaton count
-pub names_by_states : (A B : Automaton) → A.states ≡ B.states → (n : ℕ) → class_names A n ≡ class_names B n
-names_by_states A B e zero = ap (λ S. class_names (record { sets = 0; states = S }) 0) e
-names_by_states A B e (suc n) = let h = names_by_states A B e n in λ i. round_after (e i) (h i)
-  where
-    round_after : List State → List ℕ → List ℕ
-    round_after S names = map (λ s. place_of same_state s (map (retargeted_state (slice_index names)) S)) (map (retargeted_state (slice_index names)) S)
-
--- a state is seen as before where its targets keep their names
-pub seen_again : (f g : ℕ → ℕ) (s : State) → ((e : Edge) → Has s.edges e → f e.target ≡ g e.target) → retargeted_state f s ≡ retargeted_state g s
-seen_again f g s same = ap (λ es. let t : State = record { accepting = s.accepting; edges = set_of edge_cmp es } in t) (edges s.edges same)
+-- a list is seen as before where its targets keep their names
+pub seen_again : (f g : ℕ → ℕ) (es : List Edge) → ((e : Edge) → Has es e → f e.target ≡ g e.target) → retargeted_list f es ≡ retargeted_list g es
+seen_again f g es same = ap (set_of edge_cmp) (edges es same)
   where
     edges : (es : List Edge) → ((e : Edge) → Has es e → f e.target ≡ g e.target) → map (retargeted_edge f) es ≡ map (retargeted_edge g) es
     edges [] h = refl
@@ -51,23 +29,67 @@ seen_again f g s same = ap (λ es. let t : State = record { accepting = s.accept
         let rest = edges es (λ x k. h x (inr k)) in
         λ i. record e { target = here i } ∷ rest i
 
-module _ (states : List State) where
+-- a list that was looked at
+pub seen_unrenamed : (lists : List (List Edge)) (names next : List ℕ) (k : ℕ) (edges : List plain.Edge) → slice_get lists k ≡ Some (map edge_of edges) → All (λ e. slice_index names e.target ≡ slice_index next e.target) edges
+    → list_view lists (slice_index names) k ≡ list_view lists (slice_index next) k
+seen_unrenamed lists names next k edges e a =
+    let P : Edge → Type 0 = λ f. slice_index names f.target ≡ slice_index next f.target in
+    let es = get_or_from_slice_get lists k (map edge_of edges) [] e in
+    let all = subst (All P) (sym es) (All-map P edge_of edges a) in
+    seen_again (slice_index names) (slice_index next) (slice_index_or lists k []) (λ f h. All-at_has P (slice_index_or lists k []) all f h)
+
+-- one more edge with another target
+pub retargeted_next : (f : ℕ → ℕ) (made more_made : List plain.Edge) (x : plain.Edge) (taken more_taken : List plain.Edge) (e : plain.Edge) → map edge_of made ≡ map (retargeted_edge f) (map edge_of taken)
+    → edge_of x ≡ retargeted_edge f (edge_of e) → more_made ≡ made ++ x ∷ [] → more_taken ≡ taken ++ e ∷ [] → map edge_of more_made ≡ map (retargeted_edge f) (map edge_of more_taken)
+retargeted_next f made more_made x taken more_taken e w p q t =
+    map_pushed edge_of made more_made x q ∙ ap (λ l. l ++ edge_of x ∷ []) w ∙ ap (λ y. map (retargeted_edge f) (map edge_of taken) ++ y ∷ []) p
+    ∙ sym (map_pushed (retargeted_edge f) (map edge_of taken) (map edge_of more_taken) (edge_of e) (map_pushed edge_of taken more_taken e t))
+
+module _ (S : Shared) (shared : IsShared S.lists S.states) where
   abbrev A : Automaton
-  A = of_states states
+  A = automaton_of S
 
-  abbrev count : ℕ
-  count = length states
+  abbrev place : ℕ → Place
+  place s = slice_index_or S.states s (record { list = 0; accepting = true })
 
-  -- the least places of the codes are the names of the next round
-  pub next_round : (n : ℕ) (keys : List State) (codes next : List ℕ) → IsCoded states (class_names A n) keys codes → IsLeastPlaces codes next → next ≡ class_names A (suc n)
+  long : length A.states ≡ length S.states
+  long = length-map S.states (state_in S.lists)
+
+  is_at : (s : ℕ) → s < length A.states → state_at A s ≡ state_in S.lists (place s)
+  is_at s l = get_or-map (state_in S.lists) S.states s (record { list = 0; accepting = true }) (record { accepting = true; edges = [] }) (let e = long in omega arith)
+
+  has_list : (s : ℕ) → s < length A.states → (place s).list < length S.lists
+  has_list s l = shared.places s (record { list = 0; accepting = true }) (let e = long in omega arith)
+
+  -- what holds of the edges of all states holds of those of all lists
+  pub lists_within : IsWithinStates A.states → AreListsWithin S.lists (length A.states)
+  lists_within w k d l =
+      let u = shared.used k l in
+      let P : List Edge → Type 0 = λ es. All (λ e. e.target < length A.states) es in
+      let here = All-at_has (λ (s : State). P s.edges) A.states w (state_in S.lists u.0) (has_state S.states u.0 u.1) in
+      subst P (ap (λ i. slice_index_or S.lists i []) u.2 ∙ any S.lists k [] d l) here
+    where
+      has_state : (ps : List Place) (p : Place) → Has ps p → Has (map (state_in S.lists) ps) (state_in S.lists p)
+      has_state [] p h = absurd h
+      has_state (q ∷ ps) p (inl e) = inl (ap (state_in S.lists) e)
+      has_state (q ∷ ps) p (inr h) = inr (has_state ps p h)
+
+      any : (xs : List (List Edge)) (k : ℕ) (c d : List Edge) → k < length xs → slice_index_or xs k c ≡ slice_index_or xs k d
+      any [] k c d l = absurd (omega arith)
+      any (x ∷ xs) zero c d l = refl
+      any (x ∷ xs) (suc k) c d l = any xs k c d (omega arith)
+
+  -- the least states that are seen as equal are the names of the next round
+  pub next_round : (n : ℕ) (keys : List (List Edge)) (codes next : List ℕ) → IsCoded (length S.lists) (list_view S.lists (slice_index (class_names A n))) keys codes
+      → IsLeastAlike (length S.states) (coded_place S.states codes) next → next ≡ class_names A (suc n)
   next_round n keys codes next c l = same_names A next (class_names A (suc n)) names (round_names A (suc n)) to from
     where
-      inside : (s : ℕ) → s < count → s < length codes
-      inside s m = let e = c.long in omega arith
+      inside : (s : ℕ) → s < length A.states → s < length S.states
+      inside s m = let e = long in omega arith
 
       names : IsNames A next
       names = record {
-        long = l.long ∙ c.long;
+        long = l.long ∙ sym long;
         low = λ s m. l.low s (inside s m);
         twice = λ s m.
             let p : slice_index next s ≤ s = l.low s (inside s m) in
@@ -75,21 +97,37 @@ module _ (states : List State) where
             l.once (slice_index next s) s (omega arith) h (l.same s h);
       }
 
+      view : ℕ → List Edge
+      view k = list_view S.lists (slice_index (class_names A n)) k
+
+      seen : (s : ℕ) → s < length A.states → seen_under A (class_names A n) s ≡ (let t : State = record { accepting = (place s).accepting; edges = view (place s).list } in t)
+      seen s m = ap (retargeted_state (slice_index (class_names A n))) (is_at s m)
+
       to : IsWithin A next (class_names A (suc n))
       to s t m k e =
-          let f : slice_index codes s ≡ slice_index codes t = sym (l.same s (inside s m)) ∙ ap (slice_index codes) e ∙ l.same t (inside t k) in
-          next_equal A n s t m k (Some_injective _ _ (sym (c.seen s m) ∙ ap (slice_get keys) f ∙ c.seen t k))
+          let f : coded_place S.states codes s ≡ coded_place S.states codes t = sym (l.same s (inside s m)) ∙ ap (coded_place S.states codes) e ∙ l.same t (inside t k) in
+          let code = ap (λ (p : Place). p.list) f in
+          let accepting = ap (λ (p : Place). p.accepting) f in
+          let edges : view (place s).list ≡ view (place t).list = Some_injective _ _ (sym (c.seen (place s).list (has_list s m)) ∙ ap (slice_get keys) code ∙ c.seen (place t).list (has_list t k)) in
+          next_equal A n s t m k (seen s m ∙ (λ i. let u : State = record { accepting = accepting i; edges = edges i } in u) ∙ sym (seen t k))
+        where
+          Some_injective : (x y : List Edge) → Some x ≡ Some y → x ≡ y
+          Some_injective x y e = cc
 
       from : IsWithin A (class_names A (suc n)) next
       from s t m k e =
-          let f = next_seen A n s t m k e in
-          l.once s t (inside s m) (inside t k) (got_once keys (slice_index codes s) (slice_index codes t) (seen_under A (class_names A n) s) c.distinct (c.seen s m) (c.seen t k ∙ ap (λ (x : State). Some x) (sym f)))
+          let f = sym (seen s m) ∙ next_seen A n s t m k e ∙ seen t k in
+          let accepting = ap (λ (u : State). u.accepting) f in
+          let edges = ap (λ (u : State). u.edges) f in
+          let code = got_once keys (slice_index codes (place s).list) (slice_index codes (place t).list) (view (place s).list) c.distinct (c.seen (place s).list (has_list s m)) (c.seen (place t).list (has_list t k) ∙ ap (λ (es : List Edge). Some es) (sym edges)) in
+          l.once s t (inside s m) (inside t k) (λ i. let p : Place = record { list = code i; accepting = accepting i } in p)
 
+module _ (A : Automaton) where
   -- where a round changes nothing, no later one does
-  pub ends_early : (n : ℕ) → n ≤ count → class_names A (suc n) ≡ class_names A n → class_names A n ≡ class_names A count
+  pub ends_early : (n : ℕ) → n ≤ length A.states → class_names A (suc n) ≡ class_names A n → class_names A n ≡ class_names A (length A.states)
   ends_early n l e =
-      let z : (count - n) + n ≡ count = omega arith in
-      sym (after (count - n)) ∙ ap (class_names A) z
+      let z : (length A.states - n) + n ≡ length A.states = omega arith in
+      sym (after (length A.states - n)) ∙ ap (class_names A) z
     where
       round_after : List ℕ → List ℕ
       round_after names = map (λ s. place_of same_state s (map (retargeted_state (slice_index names)) A.states)) (map (retargeted_state (slice_index names)) A.states)

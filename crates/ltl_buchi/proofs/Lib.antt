@@ -1,16 +1,13 @@
 pub mod ClassLaws
 pub mod CodeLaws
 pub mod CopyLaws
-pub mod EdgeLaws
 pub mod MergeLaws
 pub mod MergedLaws
 pub mod NumberLaws
-pub mod NumberedLaws
 pub mod PlacedLaws
 pub mod QuotientLaws
 pub mod ReachedLaws
 pub mod RenumberLaws
-pub mod RowStates
 pub mod Sums
 pub mod TranslationLaws
 pub mod WeighedLaws

@@ -13,10 +13,8 @@ use Rattle.ltl_spec.proofs.Construction.RoundLaws.{names_length, name_low, name_
 use Rattle.ltl_spec.proofs.Construction.MergingUnique.{way_begins, last_alike}
 use Rattle.ltl_spec.proofs.Construction.QuotientRuns.{IsNaming, number_inside}
 use Rattle.ltl_alt.specs.GbaView as gba
-use Rattle.ltl_buchi.specs.BaView.{IsBa, edge_of}
-use Rattle.ltl_buchi.specs.declared.automaton.Edge as code
-use Rattle.ltl_buchi.specs.Classes.{IsWithinStates, of_states}
-use Rattle.ltl_buchi.proofs.MergeLaws.{merged_states}
+use Rattle.ltl_buchi.specs.BaView.{IsBa, IsPlain}
+use Rattle.ltl_buchi.specs.Classes.{IsWithinStates}
 use Rattle.ltl_buchi.proofs.Within.{edges_within, states_at}
 use Rattle.ltl_buchi.proofs.QuotientLaws.{quotient_some, quotient_few, quotient_few_edges, quotient_all, quotient_rising, quotient_reached, class_at, listed}
 
@@ -52,7 +50,7 @@ module _ (A : Automaton) where
         let w = map_cases (class_at keep_implied A names naming) (listed keep_implied A names naming) s h in
         ap (λ (t : State). t.accepting) w.2 ∙ thin_accepting keep_implied _ ∙ states_at A (λ (t : State). t.accepting ≡ true) w.0 refl a)
 
-    pub merged_unmarked : All (λ s. All (λ e. e.marks ≡ []) s.edges) A.states → All (λ s. All (λ e. e.marks ≡ []) s.edges) M.states
+    pub merged_unmarked : IsPlain A → IsPlain M
     merged_unmarked a = quotient_all keep_implied A names naming (λ (e : Edge). e.marks ≡ []) (λ s e h. of_all (λ (x : Edge). x.marks ≡ []) a s e h)
 
     pub merged_rising : All (λ s. IsRising edge_cmp s.edges) M.states
@@ -83,15 +81,5 @@ module _ (A : Automaton) where
         closed : IsClosed A
         closed = record { begins = w.some; inside = of_all (λ (e : Edge). e.target < length A.states) w.within }
 
--- edges of the code have no marks
-pub plain : (xs : List code.Edge) (es : List Edge) → map edge_of xs ≡ es → All (λ e. e.marks ≡ []) es
-plain xs es e = subst (All (λ (x : Edge). x.marks ≡ [])) e (All-map (λ (x : Edge). x.marks ≡ []) edge_of xs (λ k d l. refl))
-
--- automata with the same parts are the same
-pub automaton_is : (A B : Automaton) → A.sets ≡ B.sets → A.states ≡ B.states → A ≡ B
-automaton_is A B n e = λ i. let C : Automaton = record { sets = n i; states = e i } in C
-
--- the states that were merged are those of the merged automaton
-pub merged_of : (A : Automaton) (keep_implied keep_equal : Bool) (states merged : List State) → states ≡ A.states → merged ≡ (merged_automaton keep_implied keep_equal (of_states states)).states
-    → merged ≡ (merged_automaton keep_implied keep_equal A).states
-merged_of A keep_implied keep_equal states merged e m = m ∙ ap (λ ss. (merged_automaton keep_implied keep_equal (of_states ss)).states) e ∙ merged_states A keep_implied keep_equal
+  pub merged_accepting_gba : (keep_implied keep_equal : Bool) → gba.IsGba A → All (λ s. s.accepting ≡ true) A.states → gba.IsAcceptingGba (merged_automaton keep_implied keep_equal A)
+  merged_accepting_gba keep_implied keep_equal w a = record { inside = merged_gba keep_implied keep_equal w; accepting = merged_accepting keep_implied keep_equal a }

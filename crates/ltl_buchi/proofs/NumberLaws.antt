@@ -12,17 +12,9 @@ use Rattle.ltl_spec.proofs.Collections.SetLaws.{append_cases, append_left, appen
 use Rattle.ltl_spec.proofs.Collections.Orders.{nat_linear}
 use Rattle.ltl_spec.proofs.Collections.CaseLaws.{false_is_true, below_equal_above}
 use Rattle.ltl_spec.proofs.Collections.ListLaws.{Has-at, All-from_has}
-use Rattle.ltl_buchi.proofs.NumberedLaws.{Has_taken_at}
+use Rattle.ltl_automaton.proofs.NetLaws.{map_agree, place_kept, took}
+use Rattle.ltl_automaton.proofs.WayLaws.{Has_taken_at}
 use Rattle.ltl_buchi.specs.Classes.{number_in, IsNumbering, AreNames}
-
--- a member keeps its place where more is put behind the list
-place_kept : (x : ℕ) (xs more : List ℕ) → Has xs x → place_of ◌==◌ x (xs ++ more) ≡ place_of ◌==◌ x xs
-place_kept x [] more h = absurd h
-place_kept x (y ∷ ys) more h =
-    elim (x == y) as (λ b. Decides b (x ≡ y) → cond (not b) (1 + place_of ◌==◌ x (ys ++ more)) 0 ≡ cond (not b) (1 + place_of ◌==◌ x ys) 0) [
-      | true ↦ λ d. refl
-      | false ↦ λ d. elim h [ inl e ↦ absurd (false_is_true (d.1 e)) | inr k ↦ ap (λ n. 1 + n) (place_kept x ys more k) ]
-    ] (Decides-eqb x y)
 
 -- what is new comes to the end
 place_behind : (x : ℕ) (xs : List ℕ) → ¬ (Has xs x) → place_of ◌==◌ x (xs ++ x ∷ []) ≡ length xs
@@ -50,10 +42,6 @@ rising_push (y ∷ ys) x r l = (
 pub numbering_begins : IsNumbering [] [] []
 numbering_begins = record { listed = refl; numbered = refl }
 
-map_same : (f g : ℕ → ℕ) (xs : List ℕ) → ((x : ℕ) → Has xs x → f x ≡ g x) → map f xs ≡ map g xs
-map_same f g [] h = refl
-map_same f g (x ∷ xs) h = let a = h x (inl refl) in let b = map_same f g xs (λ y k. h y (inr k)) in λ i. a i ∷ b i
-
 module _ (names classes numbers : List ℕ) (w : IsNumbering names classes numbers) where
   has_name : (c : ℕ) → Has names c → Has classes c
   has_name c h = subst (λ cs. Has cs c) (sym w.listed) (Has-set_of nat_linear names c h)
@@ -71,7 +59,7 @@ module _ (names classes numbers : List ℕ) (w : IsNumbering names classes numbe
         (λ z h. Has-set_of nat_linear (names ++ s ∷ []) z (elim (append_cases classes (s ∷ []) z h) [ inl k ↦ append_left names (s ∷ []) z (name_of z k) | inr k ↦ append_right names (s ∷ []) z k ]))
         (λ z h. elim (append_cases names (s ∷ []) z (set_of_cases nat_linear (names ++ s ∷ []) z h)) [ inl k ↦ append_left classes (s ∷ []) z (has_name z k) | inr k ↦ append_right classes (s ∷ []) z k ]);
     numbered =
-        let old = w.numbered ∙ sym (map_same (number_in (classes ++ s ∷ [])) (number_in classes) names (λ c h. place_kept c classes (s ∷ []) (has_name c h))) in
+        let old = w.numbered ∙ sym (map_agree (number_in (classes ++ s ∷ [])) (number_in classes) names (λ c h. place_kept ◌==◌ Decides-eqb c classes (s ∷ []) (has_name c h))) in
         let last = sym (place_behind s classes (λ h. let l = above s (name_of s h) in omega arith)) in
         (λ i. old i ++ last i ∷ []) ∙ sym (map-append (number_in (classes ++ s ∷ [])) names (s ∷ []));
   }
@@ -83,9 +71,6 @@ module _ (names classes numbers : List ℕ) (w : IsNumbering names classes numbe
         (λ z k. elim (append_cases names (c ∷ []) z k) [ inl m ↦ m | inr m ↦ elim m [ inl i ↦ subst (Has names) (sym i) h | inr x ↦ absurd x ] ]);
     numbered = (λ i. w.numbered i ++ e i ∷ []) ∙ sym (map-append (number_in classes) names (c ∷ []));
   }
-
-taken_more : (xs : List ℕ) (i x : ℕ) → i < length xs → x ≡ slice_index_or xs i x → take (i + 1) xs ≡ take i xs ++ x ∷ []
-taken_more xs i x l e = take_more xs i x l ∙ ap (λ y. take i xs ++ y ∷ []) (sym e)
 
 pub index_same : (xs : List ℕ) (i d : ℕ) → i < length xs → slice_index_or xs i d ≡ slice_index xs i
 index_same [] i d l = absurd (omega arith)
@@ -113,7 +98,7 @@ length_taken (suc n) [] l = absurd (omega arith)
 length_taken (suc n) (x ∷ xs) l = let e = length_taken n xs (omega arith) in omega arith
 
 taken_next : (names : List ℕ) (s name : ℕ) → s < length names → slice_index names s ≡ name → take (s + 1) names ≡ take s names ++ name ∷ []
-taken_next names s name l e = taken_more names s name l (sym e ∙ sym (index_same names s name l))
+taken_next names s name l e = took names s name l (sym e ∙ sym (index_same names s name l))
 
 module _ (names classes numbers : List ℕ) (s : ℕ) (a : AreNames names) (w : IsNumbering (take s names) classes numbers) (l : s < length names) where
   -- a state that is its own name names a new class

@@ -1,6 +1,6 @@
 -- The places of the edges by target.
-use Rattle.std.proofs.Common.{◌≡◌, ℕ, ◌+◌, ◌<◌, Bool, true, false, cond, ◌&&◌, ◌⊎◌, inl, inr, List, [], ◌∷◌, ◌++◌, length, map, refl, sym, ◌∙◌, ap, subst, arith, IsPermutation}
-use Rattle.std.specs.Prelude.{nat_eq, slice_index_or, take}
+use Rattle.std.proofs.Common.{◌≡◌, ℕ, zero, suc, Some, length-append, ◌+◌, ◌<◌, Bool, true, false, cond, ◌&&◌, ◌⊎◌, inl, inr, List, [], ◌∷◌, ◌++◌, length, map, refl, sym, ◌∙◌, ap, subst, arith, IsPermutation}
+use Rattle.std.specs.Prelude.{nat_eq, slice_get, slice_index_or, take}
 use Rattle.std.specs.declared.cmp.Ordering.{Ordering}
 use Rattle.std.specs.declared.cmp.Ordering.TheVariants.{Less}
 use Rattle.std.specs.Bool.{Decides}
@@ -20,9 +20,13 @@ use Rattle.ltl_spec.specs.Automata.Automaton.{Edge}
 use Rattle.ltl_spec.proofs.Collections.Orders.{nat_linear, first_equal, second_equal}
 use Rattle.ltl_spec.proofs.Collections.SetLaws.{all_from, all_at, append_cases, append_left, append_right}
 use Rattle.ltl_spec.proofs.Collections.MemberLaws.{Has-map, map_cases}
-use Rattle.ltl_spec.proofs.Collections.ListLaws.{HasNoRepeats-push, Has-from_contains, Contains-from_has, Has-at}
-use Rattle.ltl_buchi.specs.BaView.{edge_of, target_at, place_cmp, IsTargetOrder}
-use Rattle.ltl_buchi.specs.declared.automaton.Edge as code
+use Rattle.ltl_spec.proofs.Collections.ListLaws.{HasNoRepeats-push, Has-from_contains, Contains-from_has, Has-at, get_done, index_append, index_done}
+use Rattle.ltl_spec.proofs.Collections.CaseLaws.{below_equal_above}
+use Rattle.std.proofs.lemmas.Option.{slice_get_within}
+use Rattle.ltl_automaton.proofs.WayLaws.{take_got}
+use Rattle.ltl_automaton.specs.EdgeView.{edge_of}
+use Rattle.ltl_buchi.specs.BaView.{target_at, place_cmp, HaveOrders, IsTargetOrder}
+use Rattle.ltl_automaton.specs.declared.edge.Edge as code
 use Rattle.ltl_buchi.specs.declared.automaton.Placed.{Placed}
 use Rattle.ltl_spec.proofs.Collections.SortedSets.{tied}
 
@@ -150,3 +154,40 @@ pub places_more : (xs : List Placed) (i : ℕ) (ps : List ℕ) (d : Placed) → 
     → ps ++ (slice_index_or xs i d).place ∷ [] ≡ map (λ (p : Placed). p.place) (take (i + 1) xs)
 places_more xs i ps d l e =
     ap (λ (w : List ℕ). w ++ (slice_index_or xs i d).place ∷ []) e ∙ sym (map_push (λ (p : Placed). p.place) (take i xs) (slice_index_or xs i d)) ∙ ap (map (λ (p : Placed). p.place)) (sym (take_more xs i d l))
+
+-- the places of one list more
+module _ (edges : List Edge) (ps : List ℕ) (o : IsTargetOrder edges ps) where
+  orders_pushed : (ls : List (List Edge)) (xs : List (List ℕ)) → HaveOrders ls xs → HaveOrders (ls ++ edges ∷ []) (xs ++ ps ∷ [])
+  orders_pushed ls xs w = record {
+    long = let a = length-append xs (ps ∷ []) in let b = length-append ls (edges ∷ []) in let c = w.long in let d = one ps in let e = one edges in omega arith;
+    orders = λ k es g. elim (below_equal_above k (length ls)) [
+      | inl l ↦
+          let before : slice_get ls k ≡ Some es = sym (get_front ls k l) ∙ g in
+          let m = w.long in
+          subst (IsTargetOrder es) (sym (index_append xs (ps ∷ []) k [] (omega arith))) (w.orders k es before)
+      | inr r ↦ elim r [
+        | inl q ↦
+            let here : Some edges ≡ Some es = sym (get_done ls [] edges) ∙ ap (slice_get (ls ++ edges ∷ [])) (sym q) ∙ g in
+            let m = w.long in
+            let at : k ≡ length xs = omega arith in
+            subst (IsTargetOrder es) (sym (ap (λ i. slice_index_or (xs ++ ps ∷ []) i []) at ∙ index_done xs [] ps [])) (subst (λ ds. IsTargetOrder ds ps) (Some_injective here) o)
+        | inr m ↦ let s = slice_get_within (ls ++ edges ∷ []) k es g in let b = length-append ls (edges ∷ []) in let e = one edges in absurd (omega arith)
+      ]
+    ];
+  }
+    where
+      one : {X : Type 0} (x : X) → length (x ∷ []) ≡ 1
+      one x = refl
+
+      Some_injective : {x y : List Edge} → Some x ≡ Some y → x ≡ y
+      Some_injective e = cc
+
+      get_front : (ys : List (List Edge)) (k : ℕ) → k < length ys → slice_get (ys ++ edges ∷ []) k ≡ slice_get ys k
+      get_front [] k l = absurd (omega arith)
+      get_front (y ∷ ys) zero l = refl
+      get_front (y ∷ ys) (suc k) l = get_front ys k (omega arith)
+
+  pub orders_next : (lists : List (List Edge)) (n : ℕ) (places more : List (List ℕ)) → HaveOrders (take n lists) places → slice_get lists n ≡ Some edges → more ≡ places ++ ps ∷ [] → HaveOrders (take (n + 1) lists) more
+  orders_next lists n places more w g e =
+      let z : suc n ≡ n + 1 = omega arith in
+      subst (λ m. HaveOrders (take m lists) more) z (subst (λ ls. HaveOrders ls more) (sym (take_got lists n edges g)) (subst (HaveOrders (take n lists ++ edges ∷ [])) (sym e) (orders_pushed (take n lists) places w)))

@@ -2,10 +2,9 @@
 use Rattle.std.proofs.Common.{◌≡◌, ℕ, zero, suc, ◌<◌, ◌≤◌, Bool, true, false, cond, not, ◌&&◌, inl, inr, List, [], ◌∷◌, map, length, refl, sym, ◌∙◌, ap, subst, arith}
 use Rattle.std.specs.Prelude.{slice_index, slice_index_or, ◌==◌, sum_by, take, All}
 use Rattle.std.specs.List.{filter, list_any}
-use Rattle.std.specs.declared.cmp.Ordering.{Ordering}
-use Rattle.std.specs.declared.cmp.Ordering.TheVariants.{Less, Equal, Greater}
+use Rattle.std.specs.declared.cmp.Ordering.TheVariants.{Less}
 use Rattle.std.specs.Ordering.{nat_cmp}
-use Rattle.ltl_spec.specs.Collections.Sets.{Has, IsRising, set_of, put, by_order}
+use Rattle.ltl_spec.specs.Collections.Sets.{Has, IsRising, set_of}
 use Rattle.ltl_spec.specs.Collections.Lists.{place_of, HasNoRepeats}
 use Rattle.ltl_spec.specs.Automata.Automaton.{Automaton, State, Edge, edge_cmp, state_at}
 use Rattle.ltl_spec.specs.Construction.Merging.{same_edge, implies_edge, retargeted_edge, retargeted_state, without_implied, quotient}
@@ -19,23 +18,11 @@ use Rattle.ltl_spec.proofs.Automata.ListedStates.{no_state}
 use Rattle.ltl_spec.proofs.Semantics.Runs.{IsClosed}
 use Rattle.ltl_spec.proofs.Construction.QuotientRuns.{IsNaming, HasSetEdges, number_inside, class_edge, number_start, edge_on}
 use Rattle.ltl_buchi.specs.BaView.{IsReached, start, along}
-use Rattle.ltl_buchi.proofs.NumberedLaws.{take_whole}
+use Rattle.ltl_automaton.proofs.ReachableLaws.{set_short}
+use Rattle.ltl_automaton.proofs.WayLaws.{take_whole}
 use Rattle.ltl_buchi.proofs.Sums.{few_all}
 
 -- sizes
-
-put_length : {K : Type 0} (cmp : K → K → Ordering) (x : K) (ys : List K) → length (put cmp x ys) ≤ suc (length ys)
-put_length cmp x [] = omega arith
-put_length cmp x (y ∷ ys) =
-    elim (cmp x y) as (λ o. length (by_order o (x ∷ y ∷ ys) (y ∷ ys) (y ∷ put cmp x ys)) ≤ suc (suc (length ys))) [
-      | Less ↦ omega arith
-      | Equal ↦ omega arith
-      | Greater ↦ let l = put_length cmp x ys in omega arith
-    ]
-
-set_of_length : {K : Type 0} (cmp : K → K → Ordering) (xs : List K) → length (set_of cmp xs) ≤ length xs
-set_of_length cmp [] = omega arith
-set_of_length cmp (x ∷ xs) = let a = put_length cmp x (set_of cmp xs) in let b = set_of_length cmp xs in omega arith
 
 filter_length : {K : Type 0} (p : K → Bool) (xs : List K) → length (filter p xs) ≤ length xs
 filter_length p [] = omega arith
@@ -56,7 +43,7 @@ thin_length false s = filter_length (λ e. not (list_any (λ f. not (same_edge f
 pub class_length : (keep_implied : Bool) (f : ℕ → ℕ) (s : State) → length (without_implied keep_implied (retargeted_state f s)).edges ≤ length s.edges
 class_length keep_implied f s =
     let a = thin_length keep_implied (retargeted_state f s) in
-    let b = set_of_length edge_cmp (map (retargeted_edge f) s.edges) in
+    let b = set_short edge_cmp (map (retargeted_edge f) s.edges) in
     let c = map_length (retargeted_edge f) s.edges in
     omega arith
 
@@ -73,7 +60,7 @@ module _ (A : Automaton) (names : List ℕ) (naming : IsNaming A names) where
   classes = set_of nat_cmp names
 
   pub classes_few : length classes ≤ length A.states
-  classes_few = let a = set_of_length nat_cmp names in let b = naming.long in omega arith
+  classes_few = let a = set_short nat_cmp names in let b = naming.long in omega arith
 
   named_inside : (n : ℕ) (ns : List ℕ) → ((k : ℕ) → k < length ns → slice_index ns k < n) → (c : ℕ) → Has ns c → c < n
   named_inside n [] l c h = absurd h

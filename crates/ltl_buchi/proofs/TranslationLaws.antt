@@ -6,15 +6,17 @@ use Rattle.ltl_spec.specs.NormalForms.Normal.{Normal}
 use Rattle.ltl_spec.specs.NormalForms.NormalForm.{core}
 use Rattle.ltl_spec.specs.Automata.Automaton.{Automaton}
 use Rattle.ltl_spec.specs.Automata.Generalized.{IsGeneralized, IsTooLarge}
+use Rattle.ltl_spec.specs.Automata.GeneralizedText.{IsGeneralizedTranslation}
 use Rattle.ltl_spec.specs.Construction.Merging.{merged_automaton}
 use Rattle.ltl_spec.specs.Construction.Levels.{level_automaton, HasTooManyCopies}
 use Rattle.ltl_spec.specs.Construction.Renumbered.{renumbered_automaton}
 use Rattle.ltl_spec.specs.Construction.Translation.{Options, IsTranslation, IsTranslationTooLarge}
 use Rattle.ltl_spec.specs.Semantics.Language.{HasLanguageOf, AcceptsModels, AcceptsViolations}
-use Rattle.ltl_spec.specs.Checking.Bounds.{HasPropositionsBelow, HasNamesBelow}
 use Rattle.ltl_spec.proofs.Automata.LimitLaws.{one_generalized}
 use Rattle.ltl_spec.proofs.Checking.BelowLaws.{HasLeavesBelow, core_below, translation_is_buchi}
+use Rattle.ltl_spec.proofs.Construction.GeneralizedBounds.{translation_below}
 use Rattle.ltl_spec.proofs.Semantics.LanguageLaws.{translation_language, translation_models, translation_violations}
+use Rattle.ltl_buchi.specs.Named.{HasNamesOf}
 
 -- A is the generalized automaton, S its merging
 module _ (F : Normal) (o : Options) (keep : Bool) (same : keep ≡ o.keep_implied) (A S : Automaton) (generalized : IsGeneralized F keep A) (small : S ≡ merged_automaton o.keep_implied o.keep_equal A) where
@@ -27,6 +29,11 @@ module _ (F : Normal) (o : Options) (keep : Bool) (same : keep ≡ o.keep_implie
   translated L M (Ok B) levels smaller numbered =
       let merged = merged_automaton o.keep_implied o.keep_equal in
       (A, found, numbered ∙ ap renumbered_automaton (smaller ∙ ap merged (levels ∙ ap level_automaton small)))
+
+  -- what is answered without levels is the merging numbered
+  pub numbered : {E : Type 0} (r : Result Automaton E) → IfOk r (λ B. B ≡ renumbered_automaton S) → IfOk r (IsGeneralizedTranslation F o)
+  numbered (Err f) e = tt
+  numbered (Ok B) e = (A, found, e ∙ ap renumbered_automaton small)
 
   -- where neither the generalized automaton nor the copies pass the limits, the translation doesn't
   both_fit : (states edges : ℕ) → ¬ (IsTooLarge F keep states edges) → ¬ (HasTooManyCopies S states edges) → ¬ (IsTranslationTooLarge F o states edges)
@@ -60,7 +67,10 @@ module _ (N : Normal) (o : Options) where
   violations (Ok B) translation = λ F rewrite e. translation_violations F rewrite o B (subst (λ (M : Normal). IsTranslation M o B) e translation)
 
   -- and its literals are of the formula's propositions
-  pub named : {E : Type 0} (r : Result Automaton E) → IfOk r (IsTranslation N o)
-      → IfOk r (λ B. (n : ℕ) (F : Formula) (negate rewrite : Bool) → HasPropositionsBelow n F → N ≡ core F negate rewrite → HasNamesBelow n B)
+  pub named : {E : Type 0} (r : Result Automaton E) → IfOk r (IsTranslation N o) → IfOk r (HasNamesOf N)
   named (Err f) translation = tt
   named (Ok B) translation = λ n F negate rewrite h e. (translation_is_buchi n N o B translation (subst (HasLeavesBelow n) (sym e) (core_below n F negate rewrite h))).propositions
+
+  pub generalized_named : {E : Type 0} (r : Result Automaton E) → IfOk r (IsGeneralizedTranslation N o) → IfOk r (HasNamesOf N)
+  generalized_named (Err f) translation = tt
+  generalized_named (Ok A) translation = λ n F negate rewrite h e. translation_below N o A translation n (subst (HasLeavesBelow n) (sym e) (core_below n F negate rewrite h))

@@ -1,13 +1,14 @@
 -- A Büchi automaton as one of the definitions, and what its type holds.
-use Rattle.std.specs.Prelude.{◌≡◌, ℕ, ◌<◌, ◌≤◌, List, [], length, sum_by, slice_index_or, All}
+use Rattle.std.specs.Prelude.{◌≡◌, ℕ, ◌<◌, ◌≤◌, List, [], length, sum_by, slice_get, slice_index_or, Some, All}
 use Rattle.std.specs.declared.cmp.Ordering.{Ordering}
 use Rattle.std.specs.Ordering.{nat_cmp, on, then_cmp}
 use Rattle.ltl_spec.specs.Collections.Sets.{Has, IsRising}
 use Rattle.ltl_spec.specs.Automata.Automaton.{Automaton, Edge, edge_cmp, state_at}
 use Rattle.ltl_spec.specs.Tools.Limits.{stated_limits}
-use Rattle.ltl_buchi.specs.declared.automaton.Edge as made
+use Rattle.ltl_automaton.specs.SharedView.{Shared, automaton_of}
+use Rattle.ltl_automaton.specs.declared.edge.Edge as made
 
--- the edges of the code as those of the definitions
+-- the edges of the code as those of an automaton without acceptance sets
 abbrev pub edge_of : made.Edge → Edge
 edge_of e = record { cube = e.cube; target = e.target; marks = [] }
 
@@ -40,3 +41,18 @@ pub record IsBa (B : Automaton) : Type 0 where
   pub within : All (λ s. All (λ e. e.target < length B.states) s.edges) B.states
   pub rising : All (λ s. IsRising edge_cmp s.edges) B.states
   pub reached : (s : ℕ) → s < length B.states → IsReached B s
+
+-- no edge has a mark
+abbrev pub IsPlain : Automaton → Type 0
+IsPlain B = All (λ s. All (λ e. e.marks ≡ []) s.edges) B.states
+
+-- for each list of edges its places by target are there
+pub record HaveOrders (lists : List (List Edge)) (places : List (List ℕ)) : Type 0 where
+  pub long : length places ≡ length lists
+  pub orders : (k : ℕ) (edges : List Edge) → slice_get lists k ≡ Some edges → IsTargetOrder edges (slice_index_or places k [])
+
+-- what the type holds
+pub record IsOrderedBa (s : Shared) (places : List (List ℕ)) : Type 0 where
+  pub inside : IsBa (automaton_of s)
+  pub plain : IsPlain (automaton_of s)
+  pub ordered : HaveOrders s.lists places

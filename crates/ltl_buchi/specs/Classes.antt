@@ -1,24 +1,48 @@
 -- Classes of states by codes: what is seen of a state has a code, and states with one code are one class, which has the name of its least state.
-use Rattle.std.specs.Prelude.{◌≡◌, ℕ, ◌<◌, ◌≤◌, List, length, map, slice_index, slice_get, Some, All, ◌==◌}
+use Rattle.std.specs.Prelude.{◌≡◌, ℕ, ◌<◌, ◌≤◌, Bool, true, if◌then◌else◌, List, [], length, map, slice_index, slice_index_or, slice_get, Some, All, ◌==◌}
 use Rattle.std.specs.Ordering.{nat_cmp}
 use Rattle.ltl_spec.specs.Collections.Sets.{set_of}
 use Rattle.ltl_spec.specs.Collections.Lists.{HasNoRepeats, place_of}
-use Rattle.ltl_spec.specs.Automata.Automaton.{Automaton, State, state_at}
-use Rattle.ltl_spec.specs.Construction.Merging.{retargeted_state}
-
--- the automaton of these states; the number of acceptance sets plays no part in merging
-abbrev pub of_states : List State → Automaton
-of_states states = record { sets = 0; states = states }
+use Rattle.ltl_spec.specs.Automata.Automaton.{Edge, State, edge_cmp}
+use Rattle.ltl_spec.specs.Construction.Merging.{retargeted_edge, unimplied_edges}
+use Rattle.ltl_automaton.specs.declared.shared.Place.{Place}
 
 -- each edge leads to a state
 abbrev pub IsWithinStates : List State → Type 0
 IsWithinStates states = All (λ s. All (λ e. e.target < length states) s.edges) states
 
--- the code of each state is the place, among different states, of what is seen of it under the names
-pub record IsCoded (states : List State) (names : List ℕ) (keys : List State) (codes : List ℕ) : Type 0 where
+-- the edges with other targets, as a set
+abbrev pub retargeted_list : (ℕ → ℕ) → List Edge → List Edge
+retargeted_list f es = set_of edge_cmp (map (retargeted_edge f) es)
+
+-- without those that others imply, unless these are kept
+abbrev pub thinned : Bool → List Edge → List Edge
+thinned keep_implied es = if keep_implied then es else unimplied_edges es
+
+-- each edge of the lists leads to one of so many states
+abbrev pub AreListsWithin : List (List Edge) → ℕ → Type 0
+AreListsWithin lists n = All (λ es. All (λ e. e.target < n) es) lists
+
+-- what is seen of a list where its targets have these names
+abbrev pub list_view : List (List Edge) → (ℕ → ℕ) → ℕ → List Edge
+list_view lists f k = retargeted_list f (slice_index_or lists k [])
+
+-- what is seen of a state where its list has this code
+abbrev pub coded_place : List Place → List ℕ → ℕ → Place
+coded_place places codes s = let p = slice_index_or places s (record { list = 0; accepting = true }) in record { list = slice_index codes p.list; accepting = p.accepting }
+
+-- the code of each of so many things is the place, among different views, of what is seen of it
+pub record IsCoded {K : Type 0} (count : ℕ) (view : ℕ → K) (keys : List K) (codes : List ℕ) : Type 0 where
   pub distinct : HasNoRepeats keys
-  pub long : length codes ≡ length states
-  pub seen : (s : ℕ) → s < length states → slice_get keys (slice_index codes s) ≡ Some (retargeted_state (slice_index names) (state_at (of_states states) s))
+  pub long : length codes ≡ count
+  pub seen : (s : ℕ) → s < count → slice_get keys (slice_index codes s) ≡ Some (view s)
+
+-- the name of each of so many things is the least one of which the same is seen
+pub record IsLeastAlike {K : Type 0} (count : ℕ) (view : ℕ → K) (names : List ℕ) : Type 0 where
+  pub long : length names ≡ count
+  pub low : (s : ℕ) → s < count → slice_index names s ≤ s
+  pub same : (s : ℕ) → s < count → view (slice_index names s) ≡ view s
+  pub once : (s t : ℕ) → s < count → t < count → view s ≡ view t → slice_index names s ≡ slice_index names t
 
 -- for each code that stands at this place or behind it, the first such place
 pub record IsFirstPlaces (codes : List ℕ) (count from : ℕ) (firsts : List ℕ) : Type 0 where

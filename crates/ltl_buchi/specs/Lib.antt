@@ -1,8 +1,9 @@
 pub mod BaView
 pub mod Classes
+pub mod CopyCodes
 pub mod Copies
 pub mod FaultOf
+pub mod Named
 pub mod Numbered
 pub mod OptionsView
-pub mod RowLaws
 pub mod Weighed

@@ -1,95 +1,20 @@
 //! Büchi automata.
 
-ghost use Rattle.std.specs.Prelude.{◌≡◌, ℕ, ◌<◌, ◌≤◌, length, map, All, IfOk};
+ghost use Rattle.std.specs.Prelude.{◌≡◌, ◌<◌, ◌≤◌, length, map, All, IfOk};
 ghost use Rattle.std.specs.List.Sorted.{IsPermutation, IsSorted};
-ghost use Rattle.ltl_spec.specs.Collections.Sets.{set_of};
-ghost use Rattle.ltl_spec.specs.Automata.Automaton.{state_at, edge_cmp};
+ghost use Rattle.ltl_spec.specs.Automata.Automaton.{state_at};
 ghost use Rattle.ltl_spec.specs.Tools.Limits.{stated_limits};
-ghost use Rattle.ltl_buchi.specs.BaView.{IsBa, IsTargetOrder, edge_of};
+ghost use Rattle.ltl_automaton.specs.EdgeView as view;
+ghost use Rattle.ltl_automaton.specs.SharedView.{automaton_of};
+ghost use Rattle.ltl_buchi.specs.BaView.{IsBa, IsPlain, IsTargetOrder, HaveOrders, edge_of};
 
-use ltl_sets::Cube;
+use ltl_automaton::{Edge, SharedStates};
 use smallvec::SmallVec;
 use std::alloc::{AllocError, Allocator};
-use std::cmp::Ordering;
 use std::marker::Model;
-
-/// An edge: its literals and its target.
-#[derive(Clone, Copy, Debug, PartialEq, Eq)]
-pub struct Edge {
-    pub cube: Cube,
-    pub target: usize,
-}
-
-impl Edge {
-    /// By the literals, then by the target.
-    pub fn cmp_list(&self, other: &Edge) -> Ordering
-        ensures { result ≡ edge_cmp (edge_of self.now) (edge_of other.now) }
-    {
-        match self.cube.cmp_list(&other.cube) {
-            Ordering::Equal => self.target.cmp(&other.target),
-            unequal => unequal,
-        }
-    }
-}
 
 /// Places of edges. Most states have few edges.
 type Places<'a, A> = SmallVec<usize, 4, &'a A>;
-
-/// A state of a Büchi automaton, with the places of its edges by target and then by place.
-#[derive(Drop)]
-pub struct State<'a, A: Allocator> {
-    accepting: bool,
-    edges: Vec<Edge, &'a A>,
-    by_target: Places<'a, A>,
-}
-
-impl<'a, A: Allocator> Model for State<'a, A> {
-    ghost use Rattle.std.specs.Prelude.{map};
-    ghost use Rattle.ltl_spec.specs.Automata.Automaton as spec;
-    ghost use Rattle.ltl_alt.specs.GbaView.{state_code};
-
-    ghost Value = { spec.State };
-
-    ghost coded = { state_code };
-
-    ghost use Rattle.ltl_buchi.specs.BaView.{edge_of, IsTargetOrder};
-
-    ghost view = { λ s. record { accepting = s.accepting; edges = map edge_of s.edges.items } };
-
-    ghost invariant = { λ s. IsTargetOrder (map edge_of s.edges.items) s.by_target.items };
-}
-
-impl<'a, A: Allocator> State<'a, A> {
-    /// The state with these edges, which are sorted and made distinct.
-    pub(crate) fn new(
-        alloc: &'a A,
-        accepting: bool,
-        mut edges: Vec<Edge, &'a A>,
-    ) -> Result<Self, AllocError>
-        ensures made { IfOk result (λ s. s ≡ record { accepting = accepting; edges = set_of edge_cmp (map edge_of edges.entry.items) }) }
-        ensures accepting { IfOk result (λ s. s.accepting ≡ accepting) }
-        ensures few { IfOk result (λ s. length s.edges ≤ length edges.entry.items) }
-        ensures within { IfOk result (λ s. (n : ℕ) → All (λ e. e.target < n) edges.entry.items → All (λ e. e.target < n) s.edges) }
-    {
-        sort_edges(&mut edges);
-        let by_target = places_by_target(alloc, edges.as_slice())?;
-        Ok(State {
-            accepting,
-            edges,
-            by_target,
-        })
-    }
-}
-
-/// Sorts the edges, and keeps each once.
-fn sort_edges<'a, A: Allocator>(edges: &mut Vec<Edge, &'a A>)
-    ensures set { map edge_of edges.new.items ≡ set_of edge_cmp (map edge_of edges.old.items) }
-    ensures few { length edges.new.items ≤ length edges.old.items }
-    ensures within { (n : ℕ) → All (λ e. e.target < n) edges.old.items → All (λ e. e.target < n) edges.new.items }
-{
-    edges.sort_unstable_by(|e, f| e.cmp_list(f));
-    edges.dedup();
-}
 
 /// An edge's target and its place.
 #[derive(Clone, Copy, Default, PartialEq, Eq, PartialOrd, Ord)]
@@ -103,7 +28,7 @@ fn places_by_target<'a, A: Allocator>(
     alloc: &'a A,
     edges: &[Edge],
 ) -> Result<Places<'a, A>, AllocError>
-    ensures order { IfOk result (λ ps. IsTargetOrder (map edge_of edges.now) ps.items) }
+    ensures order { IfOk result (λ ps. IsTargetOrder (map view.edge_of edges.now) ps.items) }
 {
     let mut placed: SmallVec<Placed, 4, &'a A> = SmallVec::with_capacity(alloc, edges.len())?;
     for (place, edge) in edges.iter().enumerate() {
@@ -137,33 +62,59 @@ fn places<'a, A: Allocator>(alloc: &'a A, placed: &[Placed]) -> Result<Places<'a
     Ok(places)
 }
 
+/// The places of the edges of each list.
+fn orders<'a, A: Allocator>(
+    alloc: &'a A,
+    states: &SharedStates<'_, A>,
+) -> Result<Vec<Places<'a, A>, &'a A>, AllocError>
+    ensures { IfOk result (λ v. HaveOrders states.now.lists (map (λ p. p.items) v.items)) }
+{
+    let mut orders = Vec::new(alloc);
+    for list in 0..states.list_count() {
+        orders.push(places_by_target(alloc, states.list_edges(list))?)?;
+    }
+    Ok(orders)
+}
+
 /// A Büchi automaton. State 0 is the start.
 #[derive(Drop)]
 pub struct Ba<'a, A: Allocator> {
-    states: Vec<State<'a, A>, &'a A>,
+    states: SharedStates<'a, A>,
+    orders: Vec<Places<'a, A>, &'a A>,
 }
 
 impl<'a, A: Allocator> Model for Ba<'a, A> {
+    ghost use Rattle.std.specs.Prelude.{map};
     ghost use Rattle.ltl_spec.specs.Automata.Automaton.{Automaton};
-    ghost use Rattle.ltl_alt.specs.GbaView.{automaton_code};
+    ghost use Rattle.ltl_automaton.specs.Codes.{automaton_code};
+    ghost use Rattle.ltl_automaton.specs.SharedView.{automaton_of};
+    ghost use Rattle.ltl_buchi.specs.BaView.{IsOrderedBa};
 
     ghost Value = { Automaton };
 
     ghost coded = { automaton_code };
 
-    ghost use Rattle.ltl_buchi.specs.BaView.{IsBa};
+    ghost view = { λ b. automaton_of b.states };
 
-    ghost view = { λ b. record { sets = 0; states = b.states.items } };
-
-    ghost invariant = { λ b. IsBa (record { sets = 0; states = b.states.items }) };
+    ghost invariant = { λ b. IsOrderedBa b.states (map (λ p. p.items) b.orders.items) };
 }
 
 impl<'a, A: Allocator> Ba<'a, A> {
-    pub(crate) fn new(states: Vec<State<'a, A>, &'a A>) -> Self
-        requires { IsBa (record { sets = 0; states = states.items }) }
-        ensures { result ≡ record { sets = 0; states = states.entry.items } }
+    pub(crate) fn new(alloc: &'a A, states: SharedStates<'a, A>) -> Result<Self, AllocError>
+        requires inside { IsBa (automaton_of states) }
+        requires plain { IsPlain (automaton_of states) }
+        ensures { IfOk result (λ b. b ≡ automaton_of states.entry) }
     {
-        Ba { states }
+        let orders = orders(alloc, &states)?;
+        Ok(Ba { states, orders })
+    }
+
+    /// The states, which share their lists of edges.
+    pub(crate) fn states(&self) -> &SharedStates<'a, A>
+        ensures same { automaton_of result.now ≡ self.now }
+        ensures plain { IsPlain self.now }
+    {
+        &self.states
     }
 
     /// How many states there are, at least one.
@@ -180,8 +131,7 @@ impl<'a, A: Allocator> Ba<'a, A> {
         requires { i < length self.now.states }
         ensures { result ≡ (state_at self.now i).accepting }
     {
-        let state = &self.states[i];
-        state.accepting
+        self.states.accepting(i)
     }
 
     /// The edges of a state: by literals, then by target.
@@ -190,8 +140,7 @@ impl<'a, A: Allocator> Ba<'a, A> {
         ensures edges { map edge_of result.now ≡ (state_at self.now i).edges }
         ensures within { All (λ e. e.target < length self.now.states) result.now }
     {
-        let state = &self.states[i];
-        state.edges.as_slice()
+        self.states.edges(i)
     }
 
     /// The places of a state's edges, by target and then by place.
@@ -199,8 +148,8 @@ impl<'a, A: Allocator> Ba<'a, A> {
         requires { i < length self.now.states }
         ensures order { IsTargetOrder (state_at self.now i).edges result.now }
     {
-        let state = &self.states[i];
-        state.by_target.as_slice()
+        let list = self.states.list(i);
+        self.orders[list].as_slice()
     }
 
     /// Hands what the type holds to callers.

@@ -1,19 +1,25 @@
 //! The classes of states that are merged.
 
-ghost use Rattle.std.specs.Prelude.{◌≡◌, ◌<◌, List, ◌++◌, length, slice_get, Some, All, IfOk, OnOk};
+ghost use Rattle.std.specs.Prelude.{◌≡◌, ◌<◌, List, ◌++◌, length, map, slice_get, slice_index, Some, All, IfOk, OnOk};
 ghost use Rattle.std.specs.List.{range_with_len};
 ghost use Rattle.ltl_spec.specs.Collections.Lists.{HasNoRepeats};
-ghost use Rattle.ltl_spec.specs.Automata.Automaton.{State};
+ghost use Rattle.ltl_spec.specs.Automata.Automaton as spec;
 ghost use Rattle.ltl_spec.specs.Construction.Merging as merging;
-ghost use Rattle.ltl_buchi.specs.Classes.{IsCoded, IsFirstPlaces, IsLeastPlaces, IsWithinStates, of_states};
+ghost use Rattle.ltl_automaton.specs.EdgeView.{edge_of};
+ghost use Rattle.ltl_automaton.specs.SharedView.{automaton_of};
+ghost use Rattle.ltl_buchi.specs.Classes.{AreListsWithin, IsCoded, IsFirstPlaces, IsLeastAlike, IsLeastPlaces, IsWithinStates, coded_place, list_view};
 
-use crate::row::Row;
+use crate::retargeting::{are_renamed, retargeted};
 use indexmap::IndexSet;
+use ltl_automaton::{Edge, EdgeList, Place, SharedStates};
 use std::alloc::{AllocError, Allocator};
 use std::hash::{BuildHasherDefault, FoldHasher};
 
-/// What was seen of states, each once.
-type Seen<'a, A> = IndexSet<Row<'a, A>, BuildHasherDefault<FoldHasher>, &'a A>;
+/// How lists of edges were seen, each once.
+type Seen<'a, A> = IndexSet<EdgeList<'a, A>, BuildHasherDefault<FoldHasher>, &'a A>;
+
+/// States by the codes of their lists, each once.
+type Places<'a, A> = IndexSet<Place, BuildHasherDefault<FoldHasher>, &'a A>;
 
 /// Each state as its own name.
 pub(crate) fn own_names<'a, A: Allocator>(
@@ -29,57 +35,57 @@ pub(crate) fn own_names<'a, A: Allocator>(
     Ok(names)
 }
 
-/// The code of what is seen of a state: its place, the next one where it has none.
-fn code<'a, A: Allocator>(seen: &mut Seen<'a, A>, row: Row<'a, A>) -> Result<usize, AllocError>
-    ensures place { IfOk result (λ i. slice_get seen.new.keys i ≡ Some row.entry) }
+/// The code of a list as it is seen: its place, the next one where it has none.
+fn code<'a, A: Allocator>(
+    seen: &mut Seen<'a, A>,
+    edges: Vec<Edge, &'a A>,
+) -> Result<usize, AllocError>
+    ensures place { IfOk result (λ i. slice_get seen.new.keys i ≡ Some (map edge_of edges.entry.items)) }
     ensures distinct { OnOk result (HasNoRepeats seen.old.keys → HasNoRepeats seen.new.keys) }
-    ensures extends { OnOk result ((more : List State) × (seen.new.keys ≡ seen.old.keys ++ more)) }
-    ensures within { IfOk result (λ i. i < length seen.new.keys) }
+    ensures extends { OnOk result ((more : List (List spec.Edge)) × (seen.new.keys ≡ seen.old.keys ++ more)) }
 {
-    let (place, _) = seen.insert_full(row)?;
+    let (place, _) = seen.insert_full(EdgeList::new(edges))?;
     Ok(place)
 }
 
-/// The codes of all states, as they are seen under these names.
+/// The codes of all lists, as they are seen under these names of their targets.
 fn first_codes<'a, A: Allocator>(
     alloc: &'a A,
     seen: &mut Seen<'a, A>,
-    rows: &[Row<'a, A>],
+    states: &SharedStates<'_, A>,
     names: &[usize],
 ) -> Result<Vec<usize, &'a A>, AllocError>
-    requires within { IsWithinStates rows.now }
-    requires long { length names.now ≡ length rows.now }
+    requires within { AreListsWithin states.now.lists (length names.now) }
     requires distinct { HasNoRepeats seen.old.keys }
-    ensures { IfOk result (λ v. IsCoded rows.now names.now seen.new.keys v.items) }
+    ensures { IfOk result (λ v. IsCoded (length states.now.lists) (list_view states.now.lists (slice_index names.now)) seen.new.keys v.items) }
 {
     let mut codes = Vec::new(alloc);
-    for row in rows {
-        let view = row.retargeted(alloc, names)?;
+    for list in 0..states.list_count() {
+        let view = retargeted(alloc, states.list_edges(list), names)?;
         codes.push(code(seen, view)?)?;
     }
     Ok(codes)
 }
 
-/// Looks again at the states that have a target with another name than before.
+/// Looks again at the lists that have a target with another name than before.
 fn recode<'a, A: Allocator>(
     alloc: &'a A,
     seen: &mut Seen<'a, A>,
     codes: &mut Vec<usize, &'a A>,
-    rows: &[Row<'a, A>],
+    states: &SharedStates<'_, A>,
     names: &[usize],
     next: &[usize],
 ) -> Result<(), AllocError>
-    requires within { IsWithinStates rows.now }
-    requires long { length names.now ≡ length rows.now }
-    requires next_long { length next.now ≡ length rows.now }
-    requires coded { IsCoded rows.now names.now seen.old.keys codes.old.items }
-    ensures { OnOk result (IsCoded rows.now next.now seen.new.keys codes.new.items) }
+    requires within { AreListsWithin states.now.lists (length names.now) }
+    requires long { length next.now ≡ length names.now }
+    requires coded { IsCoded (length states.now.lists) (list_view states.now.lists (slice_index names.now)) seen.old.keys codes.old.items }
+    ensures { OnOk result (IsCoded (length states.now.lists) (list_view states.now.lists (slice_index next.now)) seen.new.keys codes.new.items) }
 {
-    for s in 0..rows.len() {
-        let row = &rows[s];
-        if row.is_renamed(names, next) {
-            let view = row.retargeted(alloc, next)?;
-            codes[s] = code(seen, view)?;
+    for list in 0..states.list_count() {
+        let edges = states.list_edges(list);
+        if are_renamed(edges, names, next) {
+            let view = retargeted(alloc, edges, next)?;
+            codes[list] = code(seen, view)?;
         }
     }
     Ok(())
@@ -121,20 +127,68 @@ fn least_places<'a, A: Allocator>(
     Ok(names)
 }
 
+/// The code of a state: the place of what is seen of it, the next one where it has none.
+fn place_code<A: Allocator>(places: &mut Places<'_, A>, place: Place) -> Result<usize, AllocError>
+    ensures place { IfOk result (λ i. slice_get places.new.keys i ≡ Some place) }
+    ensures distinct { OnOk result (HasNoRepeats places.old.keys → HasNoRepeats places.new.keys) }
+    ensures extends { OnOk result ((more : List Place) × (places.new.keys ≡ places.old.keys ++ more)) }
+{
+    let (code, _) = places.insert_full(place)?;
+    Ok(code)
+}
+
+/// The codes of the states by those of their lists.
+fn state_codes<'a, A: Allocator>(
+    alloc: &'a A,
+    places: &mut Places<'a, A>,
+    states: &SharedStates<'_, A>,
+    list_codes: &[usize],
+) -> Result<Vec<usize, &'a A>, AllocError>
+    requires long { length list_codes.now ≡ length states.now.lists }
+    requires distinct { HasNoRepeats places.old.keys }
+    ensures { IfOk result (λ v. IsCoded (length states.now.states) (coded_place states.now.states list_codes.now) places.new.keys v.items) }
+{
+    let mut codes = Vec::new(alloc);
+    for s in 0..states.len() {
+        let place = states.place(s);
+        let coded = Place {
+            list: list_codes[place.list],
+            accepting: place.accepting,
+        };
+        codes.push(place_code(places, coded)?)?;
+    }
+    Ok(codes)
+}
+
+/// For each state the least one that is accepting where it is, and whose list has the same code.
+fn least_alike<'a, A: Allocator>(
+    alloc: &'a A,
+    states: &SharedStates<'_, A>,
+    list_codes: &[usize],
+) -> Result<Vec<usize, &'a A>, AllocError>
+    requires long { length list_codes.now ≡ length states.now.lists }
+    ensures { IfOk result (λ v. IsLeastAlike (length states.now.states) (coded_place states.now.states list_codes.now) v.items) }
+{
+    let mut places: Places<'a, A> = IndexSet::new(alloc);
+    let codes = state_codes(alloc, &mut places, states, list_codes)?;
+    least_places(alloc, codes.as_slice(), places.len())
+}
+
 /// The name of each state's class, its least state. Two states are of one class where both or neither is accepting and their edges are equal
 /// up to the classes of the targets.
 pub(crate) fn class_names<'a, A: Allocator>(
     alloc: &'a A,
-    rows: &[Row<'a, A>],
+    states: &SharedStates<'_, A>,
 ) -> Result<Vec<usize, &'a A>, AllocError>
-    requires within { IsWithinStates rows.now }
-    ensures { IfOk result (λ v. v.items ≡ merging.class_names (of_states rows.now) (length rows.now)) }
+    requires within { IsWithinStates (automaton_of states.now).states }
+    ensures { IfOk result (λ v. v.items ≡ merging.class_names (automaton_of states.now) (length (automaton_of states.now).states)) }
 {
-    let mut names = own_names(alloc, rows.len())?;
+    states.shares();
+    let mut names = own_names(alloc, states.len())?;
     let mut seen: Seen<'a, A> = IndexSet::new(alloc);
-    let mut codes = first_codes(alloc, &mut seen, rows, names.as_slice())?;
-    for round in 0..rows.len() {
-        let next = least_places(alloc, codes.as_slice(), seen.len())?;
+    let mut codes = first_codes(alloc, &mut seen, states, names.as_slice())?;
+    for round in 0..states.len() {
+        let next = least_alike(alloc, states, codes.as_slice())?;
         if next.as_slice() == names.as_slice() {
             return Ok(names);
         }
@@ -142,7 +196,7 @@ pub(crate) fn class_names<'a, A: Allocator>(
             alloc,
             &mut seen,
             &mut codes,
-            rows,
+            states,
             names.as_slice(),
             next.as_slice(),
         )?;

@@ -5,10 +5,10 @@ ghost use Rattle.std.specs.List.{list_any};
 ghost use Rattle.std.specs.List.Sorted.{IsSorted};
 ghost use Rattle.ltl_spec.specs.Construction.Merging as merging;
 ghost use Rattle.ltl_spec.specs.Construction.ImpliedEdges.{is_above};
-ghost use Rattle.ltl_alt.specs.GbaView.{edge_of};
+ghost use Rattle.ltl_automaton.specs.EdgeView.{edge_of};
 ghost use Rattle.ltl_buchi.specs.Weighed.{AreByWeight, IsWeighed, weighed_cmp, weighed_edge};
 
-use ltl_alt::GbaEdge;
+use ltl_automaton::Edge;
 use ltl_sets::RowSet;
 use std::alloc::{AllocError, Allocator};
 use std::cmp::Ordering;
@@ -17,11 +17,11 @@ use std::cmp::Ordering;
 #[derive(Clone, Copy)]
 struct Weighed {
     weight: usize,
-    edge: GbaEdge,
+    edge: Edge,
 }
 
 impl Weighed {
-    fn new(edge: &GbaEdge) -> Weighed
+    fn new(edge: &Edge) -> Weighed
         ensures weighed { IsWeighed result }
         ensures edge { result.edge ≡ edge.now }
     {
@@ -47,10 +47,7 @@ impl Weighed {
 }
 
 /// The edges, weighed.
-fn weigh<'a, A: Allocator>(
-    alloc: &'a A,
-    edges: &[GbaEdge],
-) -> Result<Vec<Weighed, &'a A>, AllocError>
+fn weigh<'a, A: Allocator>(alloc: &'a A, edges: &[Edge]) -> Result<Vec<Weighed, &'a A>, AllocError>
     ensures all { IfOk result (λ v. All IsWeighed v.items) }
     ensures edges { IfOk result (λ v. map weighed_edge v.items ≡ map edge_of edges.now) }
 {
@@ -64,7 +61,7 @@ fn weigh<'a, A: Allocator>(
 /// The edges by target and by weight.
 fn by_weight<'a, A: Allocator>(
     alloc: &'a A,
-    edges: &[GbaEdge],
+    edges: &[Edge],
 ) -> Result<Vec<Weighed, &'a A>, AllocError>
     ensures { IfOk result (λ v. AreByWeight (map edge_of edges.now) v.items) }
 {
@@ -75,7 +72,7 @@ fn by_weight<'a, A: Allocator>(
 
 /// Whether the first edge implies the second one: it has the same target, asks for no more, and is in each set that the second is in.
 #[tactic(auto, using(crate::proofs::MergeLaws::no_target, crate::proofs::MergeLaws::no_cube, crate::proofs::MergeLaws::only_marks))]
-fn implies(f: &GbaEdge, e: &GbaEdge) -> bool
+fn implies(f: &Edge, e: &Edge) -> bool
     ensures { result ≡ merging.implies_edge (edge_of f.now) (edge_of e.now) }
 {
     if f.target != e.target {
@@ -89,7 +86,7 @@ fn implies(f: &GbaEdge, e: &GbaEdge) -> bool
 
 /// Whether the first edge is another one than the second and implies it.
 #[tactic(auto, using(crate::proofs::MergeLaws::above_equal, crate::proofs::MergeLaws::above_other))]
-fn is_other_implying(f: &GbaEdge, e: &GbaEdge) -> bool
+fn is_other_implying(f: &Edge, e: &Edge) -> bool
     ensures { result ≡ is_above (edge_of f.now) (edge_of e.now) }
 {
     if *f == *e {
@@ -118,8 +115,8 @@ fn is_implied(list: &[Weighed], edge: &Weighed) -> bool
 /// The edges without those that another one with the same target implies.
 pub(crate) fn unimplied<'a, A: Allocator>(
     alloc: &'a A,
-    edges: &[GbaEdge],
-) -> Result<Vec<GbaEdge, &'a A>, AllocError>
+    edges: &[Edge],
+) -> Result<Vec<Edge, &'a A>, AllocError>
     ensures { IfOk result (λ es. map edge_of es.items ≡ merging.unimplied_edges (map edge_of edges.now)) }
 {
     let list = by_weight(alloc, edges)?;

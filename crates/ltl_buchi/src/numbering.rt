@@ -1,89 +1,111 @@
 //! Numbering breadth first.
 
-ghost use Rattle.std.specs.Prelude.{◌≡◌, ℕ, ◌<◌, ◌≤◌, ◌==◌, List, ◌+◌, ◌++◌, length, map, All, IfOk, OnOk, IsErrOf};
-ghost use Rattle.ltl_spec.specs.Collections.Lists.{HasNoRepeats, with_new, place_of};
+ghost use Rattle.std.specs.Prelude.{◌≡◌, map, All, ⊤, IfOk, IsErrOf};
+ghost use Rattle.ltl_spec.specs.Collections.Sets.{IsRising};
+ghost use Rattle.ltl_spec.specs.Automata.Automaton.{edge_cmp};
 ghost use Rattle.ltl_spec.specs.Construction.Renumbered.{renumbered_automaton};
-ghost use Rattle.ltl_buchi.specs.BaView.{edge_of};
-ghost use Rattle.ltl_buchi.specs.Numbered.{AreOrdered, IsNumbered};
+ghost use Rattle.ltl_automaton.specs.EdgeView.{edge_of};
+ghost use Rattle.ltl_automaton.specs.SharedView.{automaton_of};
+ghost use Rattle.ltl_buchi.specs.Numbered.{IsNumberable, arc_of, net_of};
 
-use crate::automaton::{Ba, Edge, State};
+use crate::automaton::Ba;
 use crate::fault::BaFault;
-use indexmap::IndexSet;
+use crate::numbered::Gen;
+use ltl_alt::{Gba, MOST_EDGES, MOST_STATES};
+use ltl_automaton::{Arc, AutomatonFault, Edge, Limits, SharedStates, Successors, explore_from};
 use std::alloc::{AllocError, Allocator};
-use std::hash::{BuildHasherDefault, FoldHasher};
 
-/// The states that were reached, in the order of their new numbers.
-type Order<'a, A> = IndexSet<usize, BuildHasherDefault<FoldHasher>, &'a A>;
-
-/// The number of a state, the next one where it has none.
-#[tactic(auto, using(crate::proofs::Within::All_inserted, crate::proofs::Within::inserted_extends, crate::proofs::Within::inserted_distinct, crate::proofs::NumberedLaws::inserted_place))]
-fn number<'a, A: Allocator>(order: &mut Order<'a, A>, state: usize) -> Result<usize, AllocError>
-    ensures keys { OnOk result (order.new.keys ≡ with_new ◌==◌ order.old.keys state) }
-    ensures place { IfOk result (λ i. i ≡ place_of ◌==◌ state order.new.keys) }
-    ensures below { OnOk result ((n : ℕ) → All (λ s. s < n) order.old.keys → state < n → All (λ s. s < n) order.new.keys) }
-    ensures extends { OnOk result ((more : List ℕ) × (order.new.keys ≡ order.old.keys ++ more)) }
-    ensures distinct { OnOk result (HasNoRepeats order.old.keys → HasNoRepeats order.new.keys) }
-    ensures within { IfOk result (λ i. i < length order.new.keys) }
-{
-    let (place, _) = order.insert_full(state)?;
-    Ok(place)
+/// The states of an automaton as things that are listed.
+#[derive(Drop)]
+struct Numbers<'b, 'a, A: Allocator> {
+    states: &'b SharedStates<'a, A>,
 }
 
-/// The edges by the new numbers of their targets. A state that was not reached before gets the next number.
-fn renumbered<'a, A: Allocator>(
-    alloc: &'a A,
-    order: &mut Order<'a, A>,
+/// The edges by the numbers of their targets.
+fn arcs_of<'c, B: Allocator>(
+    alloc: &'c B,
     edges: &[Edge],
-) -> Result<Vec<Edge, &'a A>, AllocError>
-    ensures numbered { IfOk result (λ es. IsNumbered ◌==◌ (λ e. e.cube) (λ e. e.target) order.old.keys edges.now order.new.keys (map edge_of es.items)) }
-    ensures below { OnOk result ((n : ℕ) → All (λ s. s < n) order.old.keys → All (λ e. e.target < n) edges.now → All (λ s. s < n) order.new.keys) }
-    ensures extends { OnOk result ((more : List ℕ) × (order.new.keys ≡ order.old.keys ++ more)) }
-    ensures distinct { OnOk result (HasNoRepeats order.old.keys → HasNoRepeats order.new.keys) }
-    ensures within { IfOk result (λ es. All (λ e. e.target < length order.new.keys) es.items) }
-    ensures few { IfOk result (λ es. length es.items ≡ length edges.now) }
+) -> Result<Vec<Arc<usize>, &'c B>, AllocError>
+    ensures { IfOk result (λ v. v.items ≡ map arc_of (map edge_of edges.now)) }
 {
-    let mut made = Vec::new(alloc);
+    let mut arcs = Vec::with_capacity(alloc, edges.len())?;
     for edge in edges {
-        let target = number(order, edge.target)?;
-        made.push(Edge {
+        arcs.push(Arc {
             cube: edge.cube,
-            target,
+            key: edge.target,
+            marks: edge.marks,
         })?;
     }
-    Ok(made)
+    Ok(arcs)
 }
 
-/// Makes the state that comes next, and numbers the states that it leads to.
-fn add_state<'a, A: Allocator>(
+impl<'b, 'a, A: Allocator> Successors<usize> for Numbers<'b, 'a, A> {
+    ghost net = { λ n. net_of (automaton_of n.states.now) };
+
+    ghost ready = { λ _. ⊤ };
+
+    #[tactic(auto, using(crate::proofs::RenumberLaws::accepts_past))]
+    fn accepting(&self, key: &usize) -> bool {
+        if *key < self.states.len() {
+            self.states.accepting(*key)
+        } else {
+            true
+        }
+    }
+
+    #[tactic(auto, using(crate::proofs::RenumberLaws::no_arcs_past))]
+    fn arcs<'c, B: Allocator>(
+        &mut self,
+        alloc: &'c B,
+        key: &usize,
+    ) -> Result<Vec<Arc<usize>, &'c B>, AllocError> {
+        if *key < self.states.len() {
+            arcs_of(alloc, self.states.edges(*key))
+        } else {
+            Ok(Vec::new(alloc))
+        }
+    }
+}
+
+/// The states numbered breadth first: the start is 0; states are taken in the order of their numbers, their edges by literals, target and
+/// marks, and a new target gets the next number.
+fn renumbered<'a, A: Allocator>(
     alloc: &'a A,
-    automaton: &Ba<'_, A>,
-    order: &mut Order<'a, A>,
-    made: &mut Vec<State<'a, A>, &'a A>,
-) -> Result<(), AllocError>
-    requires ordered { AreOrdered automaton.now order.old.keys made.old.items }
-    requires next { length made.old.items < length order.old.keys }
-    ensures ordered { OnOk result (AreOrdered automaton.now order.new.keys made.new.items) }
-    ensures more { OnOk result (length made.new.items ≡ 1 + length made.old.items) }
+    states: &SharedStates<'_, A>,
+) -> Result<SharedStates<'a, A>, AutomatonFault>
+    requires { IsNumberable (automaton_of states.now) }
+    ensures renumbered { IfOk result (λ s. automaton_of s ≡ renumbered_automaton (automaton_of states.now)) }
+    ensures fits { ¬ IsErrOf result AutomatonFault.TooLarge }
 {
-    automaton.stays_within();
-    let state = order[made.len()];
-    let edges = renumbered(alloc, order, automaton.edges(state))?;
-    made.push(State::new(alloc, automaton.accepting(state), edges)?)?;
-    Ok(())
+    let mut numbers = Numbers { states };
+    let limits = Limits {
+        states: MOST_STATES,
+        edges: MOST_EDGES,
+    };
+    explore_from(alloc, 0, states.sets(), &mut numbers, true, limits)
 }
 
-/// The same automaton with its states numbered breadth first: the start is 0; states are taken in the order of their numbers, their edges
-/// by literals and then by target, and a new target gets the next number.
+/// The same automaton with its states numbered breadth first.
 pub fn renumber<'a, A: Allocator>(alloc: &'a A, automaton: &Ba<'_, A>) -> Result<Ba<'a, A>, BaFault>
     ensures renumbered { IfOk result (λ b. b ≡ renumbered_automaton automaton.now) }
     ensures fits { ¬ IsErrOf result BaFault.TooLarge }
 {
     automaton.stays_within();
-    let mut order: Order<'a, A> = IndexSet::new(alloc);
-    order.insert(0)?;
-    let mut made = Vec::new(alloc);
-    'states: while made.len() < order.len() {
-        add_state(alloc, automaton, &mut order, &mut made)?;
-    }
-    Ok(Ba::new(made))
+    let states = renumbered(alloc, automaton.states())?;
+    Ok(Ba::new(alloc, states)?)
+}
+
+/// The same generalized automaton with its states numbered breadth first.
+pub(crate) fn renumber_generalized<'a, A: Allocator>(
+    alloc: &'a A,
+    automaton: &Gba<'_, A>,
+) -> Result<Gen<'a, A>, BaFault>
+    requires rising { All (λ s. IsRising edge_cmp s.edges) automaton.now.states }
+    ensures renumbered { IfOk result (λ g. g ≡ renumbered_automaton automaton.now) }
+    ensures fits { ¬ IsErrOf result BaFault.TooLarge }
+{
+    automaton.stays_within();
+    automaton.accepts_everywhere();
+    let states = renumbered(alloc, automaton.states())?;
+    Ok(Gen::new(Gba::new(states)))
 }

@@ -1,12 +1,14 @@
 //! The automaton of the classes of states.
 
-ghost use Rattle.std.specs.Prelude.{◌≡◌, ◌<◌, length, slice_index, All, IfOk};
-ghost use Rattle.ltl_spec.specs.Automata.Automaton.{state_at};
+ghost use Rattle.std.specs.Prelude.{◌≡◌, ◌<◌, length, map, slice_index, All, IfOk};
 ghost use Rattle.ltl_spec.specs.Construction.Merging as merging;
-ghost use Rattle.ltl_buchi.specs.Classes.{AreNames, IsNumbering, IsWithinStates, of_states};
+ghost use Rattle.ltl_automaton.specs.EdgeView.{edge_of};
+ghost use Rattle.ltl_automaton.specs.SharedView.{automaton_of};
+ghost use Rattle.ltl_buchi.specs.Classes.{AreNames, IsNumbering, IsWithinStates, retargeted_list, thinned};
 
 use crate::implied::unimplied;
-use crate::row::Row;
+use crate::retargeting::retargeted;
+use ltl_automaton::{Edge, SharedStates};
 use std::alloc::{AllocError, Allocator};
 
 /// The names of the classes, rising, and the number of each state's class.
@@ -39,44 +41,41 @@ fn number_classes<'a, A: Allocator>(
     Ok(Numbering { classes, numbers })
 }
 
-/// The state of a class, from the state that names it.
-fn class_row<'a, A: Allocator>(
+/// The edges of a class, from those of the state that names it.
+fn class_edges<'a, A: Allocator>(
     alloc: &'a A,
-    rows: &[Row<'a, A>],
-    class: usize,
+    edges: &[Edge],
     numbers: &[usize],
     keep_implied: bool,
-) -> Result<Row<'a, A>, AllocError>
-    requires below { class < length rows.now }
-    requires within { All (λ e. e.target < length numbers.now) (state_at (of_states rows.now) class).edges }
-    ensures { IfOk result (λ r. r ≡ merging.without_implied keep_implied (merging.retargeted_state (slice_index numbers.now) (state_at (of_states rows.now) class))) }
+) -> Result<Vec<Edge, &'a A>, AllocError>
+    requires within { All (λ e. e.target < length numbers.now) edges.now }
+    ensures { IfOk result (λ es. map edge_of es.items ≡ thinned keep_implied (retargeted_list (slice_index numbers.now) (map edge_of edges.now))) }
 {
-    let row = &rows[class];
-    let made = row.retargeted(alloc, numbers)?;
+    let made = retargeted(alloc, edges, numbers)?;
     if keep_implied {
         return Ok(made);
     }
-    let edges = unimplied(alloc, made.edges())?;
-    Ok(Row::new(made.accepting(), edges))
+    unimplied(alloc, made.as_slice())
 }
 
-/// The states of the classes, in the order of the classes' names.
+/// The automaton of the classes, in the order of the classes' names.
 pub(crate) fn quotient<'a, A: Allocator>(
     alloc: &'a A,
-    rows: &[Row<'a, A>],
+    states: &SharedStates<'_, A>,
     names: &[usize],
     keep_implied: bool,
-) -> Result<Vec<Row<'a, A>, &'a A>, AllocError>
-    requires within { IsWithinStates rows.now }
-    requires long { length names.now ≡ length rows.now }
+) -> Result<SharedStates<'a, A>, AllocError>
+    requires within { IsWithinStates (automaton_of states.now).states }
+    requires long { length names.now ≡ length (automaton_of states.now).states }
     requires names { AreNames names.now }
-    ensures { IfOk result (λ v. v.items ≡ (merging.quotient keep_implied names.now (of_states rows.now)).states) }
+    ensures { IfOk result (λ m. automaton_of m ≡ merging.quotient keep_implied names.now (automaton_of states.now)) }
 {
     let numbering = number_classes(alloc, names)?;
-    let mut made = Vec::new(alloc);
+    let mut made = SharedStates::new(alloc, states.sets());
     for class in numbering.classes.as_slice() {
         let numbers = numbering.numbers.as_slice();
-        made.push(class_row(alloc, rows, *class, numbers, keep_implied)?)?;
+        let edges = class_edges(alloc, states.edges(*class), numbers, keep_implied)?;
+        made.push(states.accepting(*class), edges)?;
     }
     Ok(made)
 }

@@ -6,3 +6,4 @@ pub mod LevelLaws
 pub mod ProductView
 pub mod PairLaws
 pub mod VerdictView
+pub mod Looks

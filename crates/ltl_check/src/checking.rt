@@ -1,6 +1,6 @@
 //! The check of an automaton that was read against a Büchi automaton.
 
-ghost use Rattle.std.specs.Prelude.{◌≡◌, ℕ, ◌+◌, ◌-◌, ◌*◌, ◌^◌, ◌<◌, ◌≤◌, ◌++◌, Bool, true, min, length, map, All, IsTrue, IfOk, IfErr, OnOk, IfSome, Ok, IsErrOf, []};
+ghost use Rattle.std.specs.Prelude.{◌≡◌, ℕ, ◌+◌, ◌*◌, ◌<◌, ◌≤◌, ◌++◌, length, map, All, IsTrue, IfOk, IfErr, OnOk, IfSome, Ok, IsErrOf, []};
 ghost use Rattle.std.specs.List.{list_all};
 ghost use Rattle.ltl_spec.specs.Collections.Lists.{HasNoRepeats};
 ghost use Rattle.ltl_spec.specs.Formulas.Names.{is_proposition, unified};
@@ -9,9 +9,12 @@ ghost use Rattle.ltl_spec.specs.Checking.Bounds.{HasNamesBelow};
 ghost use Rattle.ltl_spec.specs.Checking.Product.{unified_number};
 ghost use Rattle.ltl_spec.specs.Checking.Check.{IsVerdict, IsCommon, product_size};
 ghost use Rattle.ltl_spec.specs.Tools.Limits.{stated_limits};
-ghost use Rattle.ltl_check.specs.Explored.{IsGrown, sum_below};
+ghost use Rattle.ltl_spec.specs.Tools.Programs.{RefusesCheck};
+ghost use Rattle.ltl_spec.specs.Tools.Refusal.{TooManyPropositions, LargeProduct};
+ghost use Rattle.ltl_check.specs.Explored.{sum_below};
+ghost use Rattle.ltl_check.specs.Looks.{CoversReached, LooksAtCopies, LooksAtMost};
 ghost use Rattle.ltl_check.specs.ProductView.{number_in, pair_count, pair_at, edge_pairs};
-ghost use Rattle.ltl_check.specs.VerdictView.{verdict_of, letters_of, IsReachedCopy, level_pairs, chosen_pairs};
+ghost use Rattle.ltl_check.specs.VerdictView.{verdict_of, letters_of, level_pairs};
 ghost use Rattle.ltl_word.specs.LassoView.{word_with};
 ghost use Rattle.ltl_check.specs.declared.verdict.Outcome.TheVariants.{Contained};
 
@@ -81,9 +84,13 @@ fn search_product<'a, A: Allocator>(
     requires few { length names.now ≤ stated_limits.propositions }
     requires numbers { (p : ℕ) → p < length formula.now.names → number_in product.now.numbers.now p ≡ unified_number product.now.first.now.names formula.now.names p }
     requires fits { pair_count product.now.first.now product.now.second.now * (product.now.first.now.sets + 1 + 1) ≤ stated_limits.product }
-    ensures verdict { IfOk result (λ o. IsVerdict product.now.first.now formula.now.names product.now.second.now (IsCommon product.now.first.now formula.now.names product.now.second.now) (verdict_of o)) }
-    ensures most { (c : ℕ) × IsGrown steps.old.count steps.new.count c × (c ≤ 2 * ((product.now.first.now.sets + 1 + 1) * sum_below (λ n. edge_pairs product.now.first.now product.now.second.now (pair_at product.now.first.now product.now.second.now n)) (pair_count product.now.first.now product.now.second.now))) }
-    ensures least { IfOk result (λ o. o ≡ Contained → (c : ℕ) × IsGrown steps.old.count steps.new.count c × ((p : ℕ → Bool) → ((n : ℕ) → p n ≡ true → IsReachedCopy product.now.first.now formula.now.names product.now.second.now n) → chosen_pairs product.now.first.now product.now.second.now p (product_size product.now.first.now formula.now.names product.now.second.now) ≤ c)) }
+    ensures verdict { IfOk result (λ o. IsVerdict product.now.first.now formula.now.names product.now.second.now
+        (IsCommon product.now.first.now formula.now.names product.now.second.now) (verdict_of o)) }
+    ensures most { LooksAtMost steps.old.count steps.new.count (2 * ((product.now.first.now.sets + 1 + 1)
+        * sum_below (λ n. edge_pairs product.now.first.now product.now.second.now (pair_at product.now.first.now product.now.second.now n))
+        (pair_count product.now.first.now product.now.second.now))) }
+    ensures least { IfOk result (λ o. o ≡ Contained
+        → LooksAtCopies product.now.first.now formula.now.names product.now.second.now steps.old.count steps.new.count) }
     ensures memory { IfErr result (λ fault. fault ≡ CheckFault.OutOfMemory) }
 {
     product.first.stays_within();
@@ -119,16 +126,15 @@ pub fn check<'a, A: Allocator>(
     requires { HasNamesBelow (length formula.now.names) ba.now }
     ensures verdict { IfOk result (λ v. IsVerdict automaton.now formula.now.names ba.now (IsCommon automaton.now formula.now.names ba.now) (verdict_of v.outcome)) }
 
-    // Each pair of edges is looked at on each level at most twice, and without a common word each one that is reached at least once. `chosen` may be
-    // any choice of states on levels that are reached.
+    // Each pair of edges is looked at on each level at most twice, and without a common word each one that is reached at least once.
     ensures most { IfOk result (λ v. v.steps ≤ 2 * level_pairs automaton.now ba.now) }
-    ensures least { IfOk result (λ v. v.outcome ≡ Contained → (chosen : ℕ → Bool) → ((n : ℕ) → chosen n ≡ true → IsReachedCopy automaton.now formula.now.names ba.now n) → min (chosen_pairs automaton.now ba.now chosen (product_size automaton.now formula.now.names ba.now)) (2 ^ 128 - 1) ≤ v.steps) }
+    ensures least { IfOk result (λ v. v.outcome ≡ Contained → CoversReached automaton.now formula.now.names ba.now v.steps) }
 
     // The faults come exactly where a limit is passed, in this order. Memory may be refused at any time.
     ensures few { OnOk result (length (unified automaton.now.names formula.now.names) ≤ stated_limits.propositions) }
     ensures fits { OnOk result (product_size automaton.now formula.now.names ba.now ≤ stated_limits.product) }
-    ensures many { IsErrOf result CheckFault.TooManyPropositions → stated_limits.propositions < length (unified automaton.now.names formula.now.names) }
-    ensures large { IsErrOf result CheckFault.ProductTooLarge → (length (unified automaton.now.names formula.now.names) ≤ stated_limits.propositions) × (stated_limits.product < product_size automaton.now formula.now.names ba.now) }
+    ensures many { IsErrOf result CheckFault.TooManyPropositions → RefusesCheck stated_limits automaton.now formula.now.names ba.now TooManyPropositions }
+    ensures large { IsErrOf result CheckFault.ProductTooLarge → RefusesCheck stated_limits automaton.now formula.now.names ba.now LargeProduct }
 {
     let names = all_names(alloc, automaton, formula)?;
     if names.len() > PROPOSITION_LIMIT {

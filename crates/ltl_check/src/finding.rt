@@ -1,10 +1,11 @@
 //! A closed walk through all sets of a graph.
 
-ghost use Rattle.std.specs.Prelude.{◌≡◌, ℕ, ◌+◌, ◌*◌, ◌<◌, ◌≤◌, List, map, length, IfOk, IfErr, IfSome, Ok, None, Bool, true, cond, ◌/◌, ◌^◌};
+ghost use Rattle.std.specs.Prelude.{◌≡◌, ℕ, ◌+◌, ◌*◌, ◌<◌, ◌≤◌, List, map, length, IfOk, IfErr, IfSome, Ok, None, ◌/◌, ◌^◌};
 ghost use Rattle.ltl_spec.specs.Tools.Limits.{stated_limits};
 ghost use Rattle.ltl_check.specs.declared.walk.Taken.{Taken};
 ghost use Rattle.ltl_check.specs.Levels.{net_of, levels_net, without_level, IsFullWalk};
-ghost use Rattle.ltl_check.specs.Explored.{IsGrown, sum_below, Reached};
+ghost use Rattle.ltl_check.specs.Explored.{sum_below};
+ghost use Rattle.ltl_check.specs.Looks.{LooksAtMost, LooksAtReached};
 
 use crate::fault::CheckFault;
 use crate::graph::Graph;
@@ -51,10 +52,19 @@ pub fn find<'a, G: Graph, A: Allocator>(
     looks: &mut G::Looks,
 ) -> Result<Option<Walk<'a, A>>, CheckFault>
     requires { G.count_of graph.now * (G.sets_of graph.now + 1) ≤ stated_limits.product }
-    ensures found { IfOk result (λ r. IfSome r (λ w. IsFullWalk (net_of (G.count_of graph.now) (G.start_of graph.now) (G.number_of graph.now) (G.state_of graph.now) (G.pairs_of graph.now) (G.step_of graph.now)) (G.sets_of graph.now) w.way.items w.turn.items)) }
-    ensures none { result ≡ Ok None → (way turn : List Taken) → IsFullWalk (net_of (G.count_of graph.now) (G.start_of graph.now) (G.number_of graph.now) (G.state_of graph.now) (G.pairs_of graph.now) (G.step_of graph.now)) (G.sets_of graph.now) way turn → ⊥ }
-    ensures most { (c : ℕ) × IsGrown (G.looked_of looks.old) (G.looked_of looks.new) c × (c ≤ 2 * ((G.sets_of graph.now + 1) * sum_below (λ n. G.pairs_of graph.now (G.state_of graph.now n)) (G.count_of graph.now))) }
-    ensures least { result ≡ Ok None → (c : ℕ) × IsGrown (G.looked_of looks.old) (G.looked_of looks.new) c × ((p : ℕ → Bool) → ((n : ℕ) → p n ≡ true → Reached (levels_net (G.sets_of graph.now) (net_of (G.count_of graph.now) (G.start_of graph.now) (G.number_of graph.now) (G.state_of graph.now) (G.pairs_of graph.now) (G.step_of graph.now))) n) → sum_below (λ n. cond (p n) (G.pairs_of graph.now (G.state_of graph.now (n / (G.sets_of graph.now + 1)))) 0) (G.count_of graph.now * (G.sets_of graph.now + 1)) ≤ c) }
+    ensures found { IfOk result (λ r. IfSome r (λ w. IsFullWalk (net_of (G.count_of graph.now) (G.start_of graph.now) (G.number_of graph.now)
+        (G.state_of graph.now) (G.pairs_of graph.now) (G.step_of graph.now))
+        (G.sets_of graph.now) w.way.items w.turn.items)) }
+    ensures none { result ≡ Ok None → (way turn : List Taken) → IsFullWalk (net_of (G.count_of graph.now) (G.start_of graph.now) (G.number_of graph.now)
+        (G.state_of graph.now) (G.pairs_of graph.now) (G.step_of graph.now))
+        (G.sets_of graph.now) way turn → ⊥ }
+
+    // Each edge is looked at on each level at most twice, and where there is no such walk each one that is reached at least once.
+    ensures most { LooksAtMost (G.looked_of looks.old) (G.looked_of looks.new)
+        (2 * ((G.sets_of graph.now + 1) * sum_below (λ n. G.pairs_of graph.now (G.state_of graph.now n)) (G.count_of graph.now))) }
+    ensures least { result ≡ Ok None → LooksAtReached (levels_net (G.sets_of graph.now) (net_of (G.count_of graph.now) (G.start_of graph.now) (G.number_of graph.now)
+        (G.state_of graph.now) (G.pairs_of graph.now) (G.step_of graph.now)))
+        (G.looked_of looks.old) (G.looked_of looks.new) }
     ensures memory { IfErr result (λ fault. fault ≡ CheckFault.OutOfMemory) }
 {
     let levels = Levels::of(graph);

@@ -4,6 +4,7 @@ ghost use Rattle.std.specs.Prelude.{◌≡◌, ℕ, ◌+◌, ◌-◌, ◌<◌, �
 ghost use Rattle.ltl_check.specs.declared.walk.Taken.{Taken};
 ghost use Rattle.ltl_check.specs.declared.search.Colour.TheVariants.{New, Open, Left, Marked};
 ghost use Rattle.ltl_check.specs.Nets.{Net, IsFound, Turns};
+ghost use Rattle.ltl_check.specs.Looks.{LooksAtMost, LooksAtReached};
 ghost use Rattle.ltl_check.specs.Explored.{Each, OneOf, IsMet, IsMarkedTo, IsOpenStep, colour_at, IsExplored, IsClosed, IsOver, IsProbed, work, work_marking, to_enter, rest, cost, total, counted, IsGrown, IsBack, sum_below, Reached};
 
 use crate::graph::Step;
@@ -61,10 +62,12 @@ fn first_look<'a, N: Numbered, A: Allocator>(
     ensures sized { length colours.new.items ≡ (N.net net.now).count }
     ensures explored { OnOk result (IsExplored (N.net net.now) (colour_at colours.new.items) front.new.way.items front.new.here front.new.next) }
     ensures closed { OnOk result (IsClosed (N.net net.now) (colour_at colours.new.items)) }
-    ensures falls { OnOk result (work (N.net net.now) colours.new.items front.new.way.items front.new.here front.new.next < work (N.net net.now) colours.old.items front.old.way.items front.old.here front.old.next) }
+    ensures falls { OnOk result (work (N.net net.now) colours.new.items front.new.way.items front.new.here front.new.next
+        < work (N.net net.now) colours.old.items front.old.way.items front.old.here front.old.next) }
     ensures looked { N.looked_of looks.new ≡ counted (N.looked_of looks.old) 1 }
     ensures most { 1 + total (cost (N.net net.now)) 0 colours.old.items ≤ total (cost (N.net net.now)) 0 colours.new.items + rest (N.net net.now) front.old.way.items front.old.here front.old.next }
-    ensures costs { OnOk result (1 + rest (N.net net.now) front.new.way.items front.new.here front.new.next + total (cost (N.net net.now)) 0 colours.old.items ≡ rest (N.net net.now) front.old.way.items front.old.here front.old.next + total (cost (N.net net.now)) 0 colours.new.items) }
+    ensures costs { OnOk result (1 + rest (N.net net.now) front.new.way.items front.new.here front.new.next + total (cost (N.net net.now)) 0 colours.old.items
+        ≡ rest (N.net net.now) front.old.way.items front.old.here front.old.next + total (cost (N.net net.now)) 0 colours.new.items) }
 {
     match net.look(front.here, front.next, looks) {
         Some(step) => match colours[step.target] {
@@ -141,12 +144,16 @@ fn second_look<'a, N: Numbered, A: Allocator>(
     ensures sized { length colours.new.items ≡ (N.net net.now).count }
     ensures explored { IsExplored (N.net net.now) (colour_at colours.new.items) first.now.way.items first.now.here first.now.next }
     ensures probed { result ≡ Ok None → IsProbed (N.net net.now) (colour_at colours.new.items) first.now.here path.new.way.items path.new.here path.new.next }
-    ensures falls { result ≡ Ok None → work_marking (N.net net.now) colours.new.items path.new.way.items path.new.here path.new.next < work_marking (N.net net.now) colours.old.items path.old.way.items path.old.here path.old.next }
+    ensures falls { result ≡ Ok None → work_marking (N.net net.now) colours.new.items path.new.way.items path.new.here path.new.next
+        < work_marking (N.net net.now) colours.old.items path.old.way.items path.old.here path.old.next }
     ensures looked { N.looked_of looks.new ≡ counted (N.looked_of looks.old) 1 }
-    ensures costs { result ≡ Ok None → 1 + rest (N.net net.now) path.new.way.items path.new.here path.new.next + total (cost (N.net net.now)) 0 colours.old.items ≡ rest (N.net net.now) path.old.way.items path.old.here path.old.next + total (cost (N.net net.now)) 0 colours.new.items }
+    ensures costs { result ≡ Ok None → 1 + rest (N.net net.now) path.new.way.items path.new.here path.new.next + total (cost (N.net net.now)) 0 colours.old.items
+        ≡ rest (N.net net.now) path.old.way.items path.old.here path.old.next + total (cost (N.net net.now)) 0 colours.new.items }
     ensures most { 1 + total (cost (N.net net.now)) 0 colours.old.items ≤ total (cost (N.net net.now)) 0 colours.new.items + rest (N.net net.now) path.old.way.items path.old.here path.old.next }
     ensures enters { OnOk result (total (to_enter (N.net net.now)) 0 colours.new.items ≡ total (to_enter (N.net net.now)) 0 colours.old.items) }
-    ensures met { IfOk result (λ r. IfSome r (λ m. (colours.new.items ≡ colours.old.items) × (path.new.way.items ≡ path.old.way.items) × (m.place ≤ length first.now.way.items) × IsMet (N.net net.now) (take m.place first.now.way.items) (drop m.place first.now.way.items) first.now.here path.old.way.items m.taken)) }
+    ensures met { IfOk result (λ r. IfSome r (λ m. (colours.new.items ≡ colours.old.items)
+        × (path.new.way.items ≡ path.old.way.items) × (m.place ≤ length first.now.way.items)
+        × IsMet (N.net net.now) (take m.place first.now.way.items) (drop m.place first.now.way.items) first.now.here path.old.way.items m.taken)) }
 {
     match net.look(path.here, path.next, looks) {
         Some(step) => {
@@ -228,8 +235,10 @@ fn probe<'a, N: Numbered, A: Allocator>(
     ensures turnless { result ≡ Ok None → Turns (N.net net.now) first.now.here → ⊥ }
     ensures enters { result ≡ Ok None → total (to_enter (N.net net.now)) 0 colours.new.items ≡ total (to_enter (N.net net.now)) 0 colours.old.items }
     ensures found { IfOk result (λ r. IfSome r (λ w. (N.net net.now).accepts first.now.here ≡ true → IsFound (N.net net.now) w.way.items w.turn.items)) }
-    ensures looked { (c : ℕ) × IsGrown (N.looked_of looks.old) (N.looked_of looks.new) c × (c + total (cost (N.net net.now)) 0 colours.old.items ≤ total (cost (N.net net.now)) 0 colours.new.items + (N.net net.now).pairs first.now.here) }
-    ensures looked_all { result ≡ Ok None → (c : ℕ) × IsGrown (N.looked_of looks.old) (N.looked_of looks.new) c × (c + total (cost (N.net net.now)) 0 colours.old.items ≡ total (cost (N.net net.now)) 0 colours.new.items + (N.net net.now).pairs first.now.here) }
+    ensures looked { (c : ℕ) × IsGrown (N.looked_of looks.old) (N.looked_of looks.new) c
+        × (c + total (cost (N.net net.now)) 0 colours.old.items ≤ total (cost (N.net net.now)) 0 colours.new.items + (N.net net.now).pairs first.now.here) }
+    ensures looked_all { result ≡ Ok None → (c : ℕ) × IsGrown (N.looked_of looks.old) (N.looked_of looks.new) c
+        × (c + total (cost (N.net net.now)) 0 colours.old.items ≡ total (cost (N.net net.now)) 0 colours.new.items + (N.net net.now).pairs first.now.here) }
 {
     let mut path = Front {
         way: Vec::new(alloc),
@@ -265,8 +274,10 @@ fn settle<'a, N: Numbered, A: Allocator>(
     ensures back { result ≡ Ok None → IsBack (N.net net.now) (colour_at colours.new.items) front.now.way.items }
     ensures enters { result ≡ Ok None → total (to_enter (N.net net.now)) 0 colours.new.items ≡ total (to_enter (N.net net.now)) 0 colours.old.items }
     ensures found { IfOk result (λ r. IfSome r (λ w. IsFound (N.net net.now) w.way.items w.turn.items)) }
-    ensures most { (c : ℕ) × IsGrown (N.looked_of looks.old) (N.looked_of looks.new) c × (c + total (cost (N.net net.now)) 0 colours.old.items ≤ 2 * sum_below (N.net net.now).pairs (N.net net.now).count) }
-    ensures looked { result ≡ Ok None → (c : ℕ) × IsGrown (N.looked_of looks.old) (N.looked_of looks.new) c × (c + total (cost (N.net net.now)) 0 colours.old.items ≡ total (cost (N.net net.now)) 0 colours.new.items) }
+    ensures most { (c : ℕ) × IsGrown (N.looked_of looks.old) (N.looked_of looks.new) c
+        × (c + total (cost (N.net net.now)) 0 colours.old.items ≤ 2 * sum_below (N.net net.now).pairs (N.net net.now).count) }
+    ensures looked { result ≡ Ok None → (c : ℕ) × IsGrown (N.looked_of looks.old) (N.looked_of looks.new) c
+        × (c + total (cost (N.net net.now)) 0 colours.old.items ≡ total (cost (N.net net.now)) 0 colours.new.items) }
 {
     if !net.accepts(front.here) {
         colours[front.here] = Colour::Left;
@@ -289,8 +300,8 @@ pub fn search<'a, N: Numbered, A: Allocator>(
 ) -> Result<Option<Walk<'a, A>>, AllocError>
     ensures found { IfOk result (λ r. IfSome r (λ w. IsFound (N.net net.now) w.way.items w.turn.items)) }
     ensures none { result ≡ Ok None → (way turn : List Taken) → IsFound (N.net net.now) way turn → ⊥ }
-    ensures most { (c : ℕ) × IsGrown (N.looked_of looks.old) (N.looked_of looks.new) c × (c ≤ 2 * sum_below (N.net net.now).pairs (N.net net.now).count) }
-    ensures least { result ≡ Ok None → (c : ℕ) × IsGrown (N.looked_of looks.old) (N.looked_of looks.new) c × ((p : ℕ → Bool) → ((n : ℕ) → p n ≡ true → Reached (N.net net.now) n) → sum_below (λ n. cond (p n) ((N.net net.now).pairs n) 0) (N.net net.now).count ≤ c) }
+    ensures most { LooksAtMost (N.looked_of looks.old) (N.looked_of looks.new) (2 * sum_below (N.net net.now).pairs (N.net net.now).count) }
+    ensures least { result ≡ Ok None → LooksAtReached (N.net net.now) (N.looked_of looks.old) (N.looked_of looks.new) }
 {
     let mut colours = fresh(alloc, net.count())?;
     let start = net.start();

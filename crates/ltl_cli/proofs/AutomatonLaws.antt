@@ -2,29 +2,36 @@
 use Rattle.std.proofs.Common.{◌≡◌, ◌∙◌, ap, sym, subst, refl, ℕ, suc, ◌+◌, ◌≤◌, Bool, true, false, cond, ◌||◌, inl, inr, ◌⊎◌, List, [], ◌∷◌, filter, length, arith}
 use Rattle.std.specs.Prelude.{map, Result, Ok, Err}
 use Rattle.ltl_spec.specs.Collections.Lists.{places_from}
-use Rattle.ltl_spec.specs.Formulas.Formula.{Formula, Reading}
+use Rattle.ltl_spec.specs.Formulas.Formula.{Reading}
+use Rattle.ltl_spec.specs.Formulas.Tokens.{tokens}
+use Rattle.ltl_spec.specs.Formulas.Grammar.{IsTextOf}
 use Rattle.ltl_spec.specs.NormalForms.Normal.{Normal, same}
 use Rattle.ltl_spec.specs.NormalForms.NormalForm.{core, rows, elementary_rows, is_elementary}
 use Rattle.ltl_spec.specs.Automata.Automaton.{Automaton}
 use Rattle.ltl_spec.specs.Automata.ClaimText.{never_text}
 use Rattle.ltl_spec.specs.Automata.HoaText.{hoa_text}
+use Rattle.ltl_spec.specs.Automata.Generalized.{IsTooLarge}
+use Rattle.ltl_spec.specs.Automata.GeneralizedText.{IsGeneralizedTranslation, generalized_text}
 use Rattle.ltl_spec.specs.Construction.Translation.{Options, IsTranslation, IsTranslationTooLarge}
 use Rattle.ltl_spec.specs.Semantics.Language.{AcceptsModels}
+use Rattle.ltl_spec.specs.Checking.Bounds.{HasNamesBelow}
 use Rattle.ltl_spec.specs.Tools.Limits.{stated_limits}
 use Rattle.ltl_spec.specs.Tools.Refusal as spec
 use Rattle.ltl_spec.specs.Tools.Outcome.{Then}
-use Rattle.ltl_spec.specs.Tools.Programs.{KeepsRows, Translates, Prints}
-use Rattle.ltl_spec.specs.Tools.Run.{laid_out}
+use Rattle.ltl_spec.specs.Tools.Programs.{Layout, Claim, Hoa, Generalized, KeepsRows, Translates, TranslatesGeneralized, Prints}
 use Rattle.ltl_spec.proofs.Collections.MemberLaws.{map_length}
 use Rattle.ltl_spec.proofs.NormalForms.SharedNodes.{trees_length}
 use Rattle.ltl_formula.specs.GraphView.{node_of}
-use Rattle.ltl_spec.proofs.Semantics.LanguageLaws.{translation_models}
+use Rattle.ltl_spec.proofs.Checking.BelowLaws.{parsed_below}
+use Rattle.ltl_spec.proofs.Semantics.LanguageLaws.{generalized_models, translation_models}
 use Rattle.ltl_formula.specs.TableView.{TableView, IsTable, core_of, row_trees}
+use Rattle.ltl_buchi.specs.Named.{HasNamesOf}
 use Rattle.ltl_buchi.specs.declared.fault.BaFault.{BaFault}
 use Rattle.ltl_buchi.specs.declared.fault.BaFault.TheVariants as fault
+use Rattle.ltl_cli.specs.declared.refusal.Refusal.{Refusal}
 use Rattle.ltl_cli.specs.declared.refusal.Refusal.TheVariants.{OutOfMemory}
 use Rattle.ltl_cli.specs.Refusals.{of_translation, refusal_of}
-use Rattle.ltl_cli.specs.Words.{layout_with}
+use Rattle.ltl_cli.specs.Runs.{MakesAutomaton, MakesGeneralized, MakesText}
 
 trees_long : (t : TableView) → length (row_trees t.rows) ≡ length t.rows
 trees_long t = trees_length (map node_of t.rows) ∙ map_length node_of t.rows
@@ -68,51 +75,92 @@ pub translation_made : (t : TableView) (N : Normal) (o : Options) (B : Automaton
 translation_made t N o B h c made fits =
     inr (N, table_kept t N h c, subst (λ (M : Normal). IsTranslation M o B × ¬ (IsTranslationTooLarge M o stated_limits.states stated_limits.edges)) c (made, fits))
 
--- from the automaton to its text
+-- the same for the generalized automaton
 
-abbrev pub Translating : Normal → Options → Result Automaton spec.Refusal → Type 0
-Translating N o = Then (KeepsRows stated_limits N) (λ M. Translates stated_limits M o)
+pub generalized_refused : (t : TableView) (N : Normal) (o : Options) (e : BaFault) → IsTable t → core_of t ≡ N
+    → (◌≡◌ {A = Result Automaton BaFault} (Err e) (Err fault.TooLarge) → IsTooLarge (core_of t) o.keep_implied stated_limits.states stated_limits.edges)
+    → (of_translation e ≡ OutOfMemory) ⊎ Then (KeepsRows stated_limits N) (λ M. TranslatesGeneralized stated_limits M o) (Err (refusal_of (of_translation e)))
+generalized_refused t N o fault.TooLarge h c large =
+    inr (inr (N, table_kept t N h c, subst (λ (M : Normal). IsTooLarge M o.keep_implied stated_limits.states stated_limits.edges) c (large refl)))
+generalized_refused t N o fault.OutOfMemory h c large = inl refl
 
-abbrev pub Printing : Bool → Normal → Options → Reading → Result (List ℕ) spec.Refusal → Type 0
-Printing hoa N o R = Then (KeepsRows stated_limits N) (λ M. Prints stated_limits (layout_with hoa) M o R)
+pub generalized_made : (t : TableView) (N : Normal) (o : Options) (G : Automaton) → IsTable t → core_of t ≡ N → IsGeneralizedTranslation (core_of t) o G
+    → ¬ (IsTooLarge (core_of t) o.keep_implied stated_limits.states stated_limits.edges) → Then (KeepsRows stated_limits N) (λ M. TranslatesGeneralized stated_limits M o) (Ok G)
+generalized_made t N o G h c made fits =
+    inr (N, table_kept t N h c, subst (λ (M : Normal). IsGeneralizedTranslation M o G × ¬ (IsTooLarge M o.keep_implied stated_limits.states stated_limits.edges)) c (made, fits))
+
+-- ---- from the automaton to its text
 
 never : {A B : Type 0} (a : A) (b : B) → Err b ≡ Ok a → ⊥
 never a b e = cc
 
-prints_err : (hoa : Bool) (M : Normal) (o : Options) (R : Reading) (e : spec.Refusal) → Translates stated_limits M o (Err e) → Prints stated_limits (layout_with hoa) M o R (Err e)
-prints_err true M o R e h = inl (e, h, refl)
-prints_err false M o R e h = inl (e, h, refl)
+inside : (x y : spec.Refusal) → ◌≡◌ {A = Result (List ℕ) spec.Refusal} (Err y) (Err x) → x ≡ y
+inside x y p = cc
 
-prints_ok : (hoa : Bool) (M : Normal) (o : Options) (R : Reading) (B : Automaton) → Translates stated_limits M o (Ok B) → Prints stated_limits (layout_with hoa) M o R (Ok (laid_out (layout_with hoa) B R))
-prints_ok true M o R B h = inr (B, h, refl)
-prints_ok false M o R B h = inr (B, h, refl)
+-- a step that makes the automaton, and then the text of what it made
+module _ (N : Normal) (Makes : Normal → Result Automaton spec.Refusal → Type 0) (text : Automaton → List ℕ) where
+  abbrev Making : Result Automaton spec.Refusal → Type 0
+  Making = Then (KeepsRows stated_limits N) Makes
 
-pub printing_err : (hoa : Bool) (N : Normal) (o : Options) (R : Reading) (e : spec.Refusal) → Translating N o (Err e) → Printing hoa N o R (Err e)
-printing_err hoa N o R e (inl h) = inl (h.0, h.1, err_same e h.0 h.2)
-  where
-    err_same : (x y : spec.Refusal) → ◌≡◌ {A = Result Automaton spec.Refusal} (Err x) (Err y) → ◌≡◌ {A = Result (List ℕ) spec.Refusal} (Err x) (Err y)
-    err_same x y p = cc
-printing_err hoa N o R e (inr (M, k, h)) = inr (M, k, prints_err hoa M o R e h)
+  abbrev Texting : Result (List ℕ) spec.Refusal → Type 0
+  Texting = Then (KeepsRows stated_limits N) (λ M. Then (Makes M) (λ B r. r ≡ Ok (text B)))
 
-pub printing_ok : (hoa : Bool) (N : Normal) (o : Options) (R : Reading) (B : Automaton) → Translating N o (Ok B) → Printing hoa N o R (Ok (laid_out (layout_with hoa) B R))
-printing_ok hoa N o R B (inl h) = absurd (never B h.0 (sym h.2))
-printing_ok hoa N o R B (inr (M, k, h)) = inr (M, k, prints_ok hoa M o R B h)
+  pub text_refused : (e : spec.Refusal) → Making (Err e) → Texting (Err e)
+  text_refused e (inl h) = inl (h.0, h.1, err_same e h.0 h.2)
+    where
+      err_same : (x y : spec.Refusal) → ◌≡◌ {A = Result Automaton spec.Refusal} (Err x) (Err y) → ◌≡◌ {A = Result (List ℕ) spec.Refusal} (Err x) (Err y)
+      err_same x y p = cc
+  text_refused e (inr (M, k, h)) = inr (M, k, inl (e, h, refl))
 
--- the automaton accepts exactly the words that satisfy the formula
-pub translating_models : (F : Formula) (rewrite : Bool) (o : Options) (B : Automaton) → Translating (core F false rewrite) o (Ok B) → AcceptsModels B F
-translating_models F rewrite o B (inl h) = absurd (never B h.0 (sym h.2))
-translating_models F rewrite o B (inr (M, k, h)) = translation_models F rewrite o B (subst (λ (N : Normal). IsTranslation N o B) k.0 h.0)
+  pub text_made : (B : Automaton) → Making (Ok B) → Texting (Ok (text B))
+  text_made B (inl h) = absurd (never B h.0 (sym h.2))
+  text_made B (inr (M, k, h)) = inr (M, k, inr (B, h, refl))
+
+  -- where the step doesn't say that memory was refused, the text doesn't
+  pub text_takes : ((M : Normal) → Makes M (Err spec.OutOfMemory) → ⊥) → Texting (Err spec.OutOfMemory) → ⊥
+  text_takes takes (inl h) = subst (λ (y : spec.Refusal). KeepsRows stated_limits N (Err y)) (inside h.0 spec.OutOfMemory h.2) h.1
+  text_takes takes (inr (M, k, inl h)) = takes M (subst (λ (y : spec.Refusal). Makes M (Err y)) (inside h.0 spec.OutOfMemory h.2) h.1)
+  text_takes takes (inr (M, k, inr h)) = never (text h.0) spec.OutOfMemory h.2
+
+-- The layouts. There is no automaton, or one
+module _ (R : Reading) (rewrite : Bool) (o : Options) where
+  pub claim_refused : (e : Refusal) → (e ≡ OutOfMemory) ⊎ MakesAutomaton R false rewrite o (Err (refusal_of e)) → (e ≡ OutOfMemory) ⊎ MakesText Claim R rewrite o (Err (refusal_of e))
+  claim_refused e (inl h) = inl h
+  claim_refused e (inr h) = inr (text_refused (core R.formula false rewrite) (λ M. Translates stated_limits M o) (λ B. never_text B R) (refusal_of e) h)
+
+  pub hoa_refused : (e : Refusal) → (e ≡ OutOfMemory) ⊎ MakesAutomaton R false rewrite o (Err (refusal_of e)) → (e ≡ OutOfMemory) ⊎ MakesText Hoa R rewrite o (Err (refusal_of e))
+  hoa_refused e (inl h) = inl h
+  hoa_refused e (inr h) = inr (text_refused (core R.formula false rewrite) (λ M. Translates stated_limits M o) (λ B. hoa_text B R) (refusal_of e) h)
+
+  pub sets_refused : (e : Refusal) → (e ≡ OutOfMemory) ⊎ MakesGeneralized R rewrite o (Err (refusal_of e)) → (e ≡ OutOfMemory) ⊎ MakesText Generalized R rewrite o (Err (refusal_of e))
+  sets_refused e (inl h) = inl h
+  sets_refused e (inr h) = inr (text_refused (core R.formula false rewrite) (λ M. TranslatesGeneralized stated_limits M o) (λ G. generalized_text G R) (refusal_of e) h)
+
+  pub claim_made : (B : Automaton) → MakesAutomaton R false rewrite o (Ok B) → MakesText Claim R rewrite o (Ok (never_text B R))
+  claim_made = text_made (core R.formula false rewrite) (λ M. Translates stated_limits M o) (λ B. never_text B R)
+
+  pub hoa_made : (B : Automaton) → MakesAutomaton R false rewrite o (Ok B) → MakesText Hoa R rewrite o (Ok (hoa_text B R))
+  hoa_made = text_made (core R.formula false rewrite) (λ M. Translates stated_limits M o) (λ B. hoa_text B R)
+
+  pub sets_made : (G : Automaton) → MakesGeneralized R rewrite o (Ok G) → MakesText Generalized R rewrite o (Ok (generalized_text G R))
+  sets_made = text_made (core R.formula false rewrite) (λ M. TranslatesGeneralized stated_limits M o) (λ G. generalized_text G R)
 
 -- no step says that memory was refused
+pub making_takes : (layout : Layout) (R : Reading) (rewrite : Bool) (o : Options) → MakesText layout R rewrite o (Err spec.OutOfMemory) → ⊥
+making_takes Claim R rewrite o = text_takes (core R.formula false rewrite) (λ M. Translates stated_limits M o) (λ B. never_text B R) (λ M h. h)
+making_takes Hoa R rewrite o = text_takes (core R.formula false rewrite) (λ M. Translates stated_limits M o) (λ B. hoa_text B R) (λ M h. h)
+making_takes Generalized R rewrite o = text_takes (core R.formula false rewrite) (λ M. TranslatesGeneralized stated_limits M o) (λ G. generalized_text G R) (λ M h. h)
 
-inside : (x : spec.Refusal) → ◌≡◌ {A = Result (List ℕ) spec.Refusal} (Err spec.OutOfMemory) (Err x) → x ≡ spec.OutOfMemory
-inside x p = cc
+-- the automaton accepts exactly the words that satisfy the formula
 
-laid : (M : Normal) (o : Options) (text : Automaton → List ℕ) → Then (Translates stated_limits M o) (λ B r. r ≡ Ok (text B)) (Err spec.OutOfMemory) → ⊥
-laid M o text (inl h) = subst (λ (y : spec.Refusal). Translates stated_limits M o (Err y)) (inside h.0 h.2) h.1
-laid M o text (inr h) = never (text h.0) spec.OutOfMemory h.2
+pub translating_models : (R : Reading) (rewrite : Bool) (o : Options) (B : Automaton) → MakesAutomaton R false rewrite o (Ok B) → AcceptsModels B R.formula
+translating_models R rewrite o B (inl h) = absurd (never B h.0 (sym h.2))
+translating_models R rewrite o B (inr (M, k, h)) = translation_models R.formula rewrite o B (subst (λ (N : Normal). IsTranslation N o B) k.0 h.0)
 
-pub printing_takes : (hoa : Bool) (N : Normal) (o : Options) (R : Reading) → Printing hoa N o R (Err spec.OutOfMemory) → ⊥
-printing_takes hoa N o R (inl h) = subst (λ (y : spec.Refusal). KeepsRows stated_limits N (Err y)) (inside h.0 h.2) h.1
-printing_takes true N o R (inr (M, k, h)) = laid M o (λ B. hoa_text B R) h
-printing_takes false N o R (inr (M, k, h)) = laid M o (λ B. never_text B R) h
+pub generalizing_models : (R : Reading) (rewrite : Bool) (o : Options) (G : Automaton) → MakesGeneralized R rewrite o (Ok G) → AcceptsModels G R.formula
+generalizing_models R rewrite o G (inl h) = absurd (never G h.0 (sym h.2))
+generalizing_models R rewrite o G (inr (M, k, h)) = generalized_models R.formula rewrite o G (subst (λ (N : Normal). IsGeneralizedTranslation N o G) k.0 h.0)
+
+-- and the literals are of the formula's propositions
+pub read_named : (text : List ℕ) (R : Reading) → IsTextOf text R → (negate rewrite : Bool) (N : Normal) → N ≡ core R.formula negate rewrite → (A : Automaton) → HasNamesOf N A → HasNamesBelow (length R.names) A
+read_named text R reads negate rewrite N e A named = named (length R.names) R.formula negate rewrite (parsed_below 5 (tokens text) R.formula reads.1) e

@@ -4,15 +4,11 @@ use Rattle.std.proofs.KnownBytes.{Keeps-refl}
 use Rattle.std.proofs.lemmas.List.{append-nil}
 use Rattle.std.specs.Prelude.{Result, Ok, Err, ⊤}
 use Rattle.std.specs.Io.KnownBytes.{Appends, Keeps}
-use Rattle.ltl_spec.specs.NormalForms.NormalForm.{core}
-use Rattle.ltl_spec.specs.Automata.Automaton.{Automaton}
-use Rattle.ltl_spec.specs.Construction.Translation.{Options}
 use Rattle.ltl_spec.specs.Tools.Limits.{stated_limits}
 use Rattle.ltl_spec.specs.Tools.Refusal as spec
 use Rattle.ltl_spec.specs.Tools.Outcome as outcome
 use Rattle.ltl_spec.specs.Tools.Outcome.{Answer, Input, IsGiven, TakesNoMemory, refused, printed}
 use Rattle.ltl_spec.specs.Tools.Programs.{InputReads, TranslatorAnswers}
-use Rattle.ltl_spec.specs.Tools.Run.{laid_out}
 use Rattle.ltl_formula.specs.FormulaView.{FormulaView, reading_of}
 use Rattle.ltl_formula.specs.Streams.{AppendsBeginning}
 use Rattle.ltl_cli.specs.declared.refusal.Refusal.{Refusal}
@@ -20,15 +16,14 @@ use Rattle.ltl_cli.specs.declared.refusal.Refusal.TheVariants as code
 use Rattle.ltl_cli.specs.declared.refusal.Refusal.TheVariants.{OutOfMemory, CannotWrite, Usage}
 use Rattle.ltl_cli.specs.declared.status.Status.{Status}
 use Rattle.ltl_cli.specs.declared.request.Plan.{Plan}
-use Rattle.ltl_cli.specs.declared.request.FormulaWord.{FormulaWord}
 use Rattle.ltl_cli.specs.declared.request.PlanFault.{PlanFault}
 use Rattle.ltl_cli.specs.declared.request.PlanFault.TheVariants as fault
 use Rattle.ltl_cli.specs.Refusals.{of_plan, refusal_of}
-use Rattle.ltl_cli.specs.Plans.{formula_word, request_in}
-use Rattle.ltl_cli.specs.Words.{layout_with, translator_plan}
+use Rattle.ltl_cli.specs.Plans.{formula_word, layout_in, request_in}
+use Rattle.ltl_cli.specs.Words.{translator_plan}
 use Rattle.ltl_cli.specs.Inputs.{RefusesInput}
-use Rattle.ltl_cli.specs.Runs.{IsDone, IsKept, IsOutcome, PlanOutcome, PlanPrints, RefusesPlan, Shows, TranslatorPromises, WordsOutcome, message_with, status_with, translator_word}
-use Rattle.ltl_cli.proofs.AutomatonLaws.{Translating, printing_err, printing_ok, printing_takes}
+use Rattle.ltl_cli.specs.Runs.{IsDone, IsKept, IsOutcome, MakesText, PlanOutcome, PlanPrints, RefusesPlan, Shows, TranslatorPromises, WordsOutcome, message_with, status_with, translator_word}
+use Rattle.ltl_cli.proofs.AutomatonLaws.{making_takes}
 use Rattle.ltl_cli.proofs.InputLaws.{reads_takes}
 
 -- ---- the translator's steps
@@ -38,26 +33,16 @@ pub formula_refused : (p : Plan) (input : Input) (e : Refusal) → RefusesInput 
 formula_refused p input e (inl h) = inl h
 formula_refused p input e (inr h) = inr (inl (refusal_of e, h, refl))
 
--- what was asked for in the plan's words
-module _ (p : Plan) (input : Input) (f : FormulaView) (word : FormulaWord) (rewrite : Bool) (o : Options) (same_word : word ≡ p.formula) (same_rewrite : rewrite ≡ p.rewrite)
-    (same_options : o ≡ p.options) (reads : InputReads stated_limits (outcome.input_of (formula_word word) input) (Ok (reading_of f))) where
-  plan_reads : InputReads stated_limits (outcome.input_of (formula_word p.formula) input) (Ok (reading_of f))
-  plan_reads = subst (λ (w : FormulaWord). InputReads stated_limits (outcome.input_of (formula_word w) input) (Ok (reading_of f))) same_word reads
-
-  plan_translates : (r : Result Automaton spec.Refusal) → Translating (core (reading_of f).formula false rewrite) o r → Translating (core (reading_of f).formula false p.rewrite) p.options r
-  plan_translates r h =
-      subst (λ (x : Options). Translating (core (reading_of f).formula false p.rewrite) x r) same_options
-      (subst (λ (b : Bool). Translating (core (reading_of f).formula false b) o r) same_rewrite h)
-
+-- it was read
+module _ (p : Plan) (input : Input) (f : FormulaView) (reads : InputReads stated_limits (outcome.input_of (formula_word p.formula) input) (Ok (reading_of f))) where
   -- it has no automaton
-  pub automaton_refused : (e : Refusal) → (e ≡ OutOfMemory) ⊎ Translating (core (reading_of f).formula false rewrite) o (Err (refusal_of e)) → RefusesPlan p input e
-  automaton_refused e (inl h) = inl (h, reads_takes (formula_word p.formula) input (reading_of f) plan_reads)
-  automaton_refused e (inr h) =
-      inr (inr (reading_of f, plan_reads, printing_err p.hoa (core (reading_of f).formula false p.rewrite) p.options (reading_of f) (refusal_of e) (plan_translates (Err (refusal_of e)) h)))
+  pub text_refused : (e : Refusal) → (e ≡ OutOfMemory) ⊎ MakesText (layout_in p.layout) (reading_of f) p.rewrite p.options (Err (refusal_of e)) → RefusesPlan p input e
+  text_refused e (inl h) = inl (h, reads_takes (formula_word p.formula) input (reading_of f) reads)
+  text_refused e (inr h) = inr (inr (reading_of f, reads, h))
 
   -- it has one
-  pub automaton_prints : (B : Automaton) → Translating (core (reading_of f).formula false rewrite) o (Ok B) → PlanPrints p input (Ok (laid_out (layout_with p.hoa) B (reading_of f)))
-  automaton_prints B h = inr (reading_of f, plan_reads, printing_ok p.hoa (core (reading_of f).formula false p.rewrite) p.options (reading_of f) B (plan_translates (Ok B) h))
+  pub text_prints : (text : List ℕ) → MakesText (layout_in p.layout) (reading_of f) p.rewrite p.options (Ok text) → PlanPrints p input (Ok text)
+  text_prints text h = inr (reading_of f, reads, h)
 
 -- ---- no step says that memory was refused
 
@@ -85,7 +70,7 @@ pub plan_takes : (p : Plan) (input : Input) → PlanPrints p input (Err spec.Out
 plan_takes p input (inl (x, h, q)) =
     input_takes (outcome.input_of (formula_word p.formula) input)
     (subst (λ (y : spec.Refusal). InputReads stated_limits (outcome.input_of (formula_word p.formula) input) (Err y)) (same_refusal spec.OutOfMemory x q) h)
-plan_takes p input (inr (R, h, k)) = printing_takes p.hoa (core R.formula false p.rewrite) p.options R k
+plan_takes p input (inr (R, h, k)) = making_takes (layout_in p.layout) R p.rewrite p.options k
 
 -- ---- outcomes
 

@@ -6,7 +6,8 @@ use Rattle.clap.specs.declared.error.kind.ErrorKind.{ErrorKind}
 use Rattle.clap.proofs.OnLiterals.{clap_on_literals}
 use Rattle.ltl_spec.specs.Tools.Refusal.{Tool, Translator, Checker, Evaluator}
 use Rattle.ltl_spec.specs.Tools.Outcome.{FormulaWord}
-use Rattle.ltl_cli.specs.Words.{app_for, formula_among, lacks_word, request_for, request_if, request_of, request_of_rows, request_with}
+use Rattle.ltl_spec.specs.Tools.Programs.{Layout}
+use Rattle.ltl_cli.specs.Words.{app_for, formula_among, lacks_word, layout_among, request_for, request_if, request_of, request_of_rows, request_with}
 
 pub app_is_simple : (tool : Tool) → is_simple (app_for tool) ≡ true
 unfolding clap_on_literals
@@ -42,11 +43,17 @@ refused_means_none tool a words k e h other = elim (h (ap is_simple_and_free e �
 
 -- what the rows ask for, from what was looked up
 pub request_is : (tool : Tool) (rows : List Row) (text path : Option Text) (o : Option FormulaWord) → text ≡ first_of (codes "f") rows → path ≡ first_of (codes "F") rows
-    → o ≡ formula_among text path → request_of_rows tool rows ≡ request_for tool rows o
-request_is tool rows text path o f g h = ap (request_for tool rows) (sym (h ∙ ap₂ formula_among f g))
+    → o ≡ formula_among text path → request_of_rows tool rows ≡ request_for tool rows o (layout_among rows)
+request_is tool rows text path o f g h = ap (λ (x : Option FormulaWord). request_for tool rows x (layout_among rows)) (sym (h ∙ ap₂ formula_among f g))
 
-pub request_lacks : (tool : Tool) (rows : List Row) (formula : FormulaWord) → lacks_word tool (first_of (codes "w") rows) ≡ true → request_for tool rows (Some formula) ≡ None
-request_lacks tool rows formula e = ap (λ (b : Bool). cond b None (Some (request_with rows formula))) e
+module _ (tool : Tool) (rows : List Row) (formula : FormulaWord) where
+  -- both layouts
+  pub request_torn : (layout : Option Layout) → layout ≡ None → request_for tool rows (Some formula) layout ≡ None
+  request_torn layout e = ap (request_for tool rows (Some formula)) e
 
-pub request_stands : (tool : Tool) (rows : List Row) (formula : FormulaWord) → lacks_word tool (first_of (codes "w") rows) ≡ false → request_for tool rows (Some formula) ≡ Some (request_with rows formula)
-request_stands tool rows formula e = ap (λ (b : Bool). cond b None (Some (request_with rows formula))) e
+  module _ (shown : Layout) (layout : Option Layout) (e : layout ≡ Some shown) where
+    pub request_lacks : lacks_word tool (first_of (codes "w") rows) ≡ true → request_for tool rows (Some formula) layout ≡ None
+    request_lacks l = ap (request_for tool rows (Some formula)) e ∙ ap (λ (b : Bool). cond b None (Some (request_with rows formula shown))) l
+
+    pub request_stands : lacks_word tool (first_of (codes "w") rows) ≡ false → request_for tool rows (Some formula) layout ≡ Some (request_with rows formula shown)
+    request_stands l = ap (request_for tool rows (Some formula)) e ∙ ap (λ (b : Bool). cond b None (Some (request_with rows formula shown))) l

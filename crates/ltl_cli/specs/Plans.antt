@@ -1,11 +1,14 @@
 -- A plan as what its words ask for.
-use Rattle.std.specs.Prelude.{◌≡◌, Option, Some, None, List, [], Result, Ok, Err, MatchResult, option_map}
+use Rattle.std.specs.Prelude.{◌≡◌, Bool, true, false, Option, Some, None, List, [], Result, Ok, Err, MatchResult, option_map}
 use Rattle.ltl_spec.specs.Tools.Refusal.{Tool}
 use Rattle.ltl_spec.specs.Tools.Outcome as spec
+use Rattle.ltl_spec.specs.Tools.Programs.{Layout, Claim, Hoa, Generalized}
 use Rattle.ltl_spec.specs.Tools.Run.{PlanOf}
 use Rattle.clap.specs.Words.{Text, fault_of, found_of, matches_of, rows_of}
 use Rattle.clap.specs.declared.parser.matches.ArgMatches.{ArgMatches}
 use Rattle.ltl_cli.specs.Words.{Request, app_for, plan_of, request_of}
+use Rattle.ltl_cli.specs.declared.layout.Layout as code
+use Rattle.ltl_cli.specs.declared.layout.Layout.TheVariants as layout
 use Rattle.ltl_cli.specs.declared.request.Plan.{Plan}
 use Rattle.ltl_cli.specs.declared.request.FormulaWord.{FormulaWord}
 use Rattle.ltl_cli.specs.declared.request.FormulaWord.TheVariants as word
@@ -16,6 +19,21 @@ abbrev pub formula_word : FormulaWord → spec.FormulaWord
 formula_word (word.Given text) = spec.Given text.now
 formula_word (word.File name) = spec.File name.now
 
+abbrev pub layout_in : code.Layout → Layout
+layout_in layout.Claim = Claim
+layout_in layout.Hoa = Hoa
+layout_in layout.Generalized = Generalized
+
+-- the layout is this one
+
+abbrev pub is_hoa : Layout → Bool
+is_hoa Hoa = true
+is_hoa _ = false
+
+abbrev pub is_generalized : Layout → Bool
+is_generalized Generalized = true
+is_generalized _ = false
+
 abbrev pub request_in : Plan → Request
 request_in p = record {
   formula = formula_word p.formula;
@@ -23,7 +41,7 @@ request_in p = record {
   word = option_map (λ s. s.now) p.word;
   rewrite = p.rewrite;
   options = p.options;
-  hoa = p.hoa;
+  layout = layout_in p.layout;
 }
 
 -- what was planned for the program; nothing where its words are usage, or memory was refused

@@ -1,5 +1,5 @@
 -- What a run of a program shows.
-use Rattle.std.specs.Prelude.{◌≡◌, ◌≤◌, ℕ, Bool, List, [], ◌⊎◌, Option, Some, None, Result, Ok, Err, MatchResult, ⊤}
+use Rattle.std.specs.Prelude.{◌≡◌, ◌≤◌, ℕ, Bool, false, List, [], ◌⊎◌, Option, Some, None, Result, Ok, Err, MatchResult, ⊤}
 use Rattle.std.specs.Io.KnownBytes.{Appends, Keeps}
 use Rattle.ltl_formula.specs.FormulaView.{FormulaView, reading_of}
 use Rattle.ltl_formula.specs.Streams.{AppendsBeginning}
@@ -10,16 +10,18 @@ use Rattle.ltl_spec.specs.Construction.Translation.{Options}
 use Rattle.ltl_spec.specs.Tools.Limits.{stated_limits}
 use Rattle.ltl_spec.specs.Tools.Refusal as spec
 use Rattle.ltl_spec.specs.Tools.Outcome.{Answer, FormulaWord, Input, IsPromised, IsShortOfMemory, TakesNoMemory, Then, refused}
-use Rattle.ltl_spec.specs.Tools.Programs.{KeepsRows, TranslatorAnswers, TranslatorPrints, Translates}
+use Rattle.ltl_spec.specs.Tools.Programs.{Layout, Claim, Hoa, Generalized, KeepsRows, Prints, TranslatorAnswers, TranslatorPrints, Translates, TranslatesGeneralized}
 use Rattle.ltl_spec.specs.Tools.Run.{TellsModels, laid_out}
 use Rattle.ltl_cli.specs.declared.refusal.Refusal.{Refusal}
 use Rattle.ltl_cli.specs.declared.refusal.Refusal.TheVariants.{OutOfMemory, CannotWrite}
 use Rattle.ltl_cli.specs.declared.status.Status.{Status}
+use Rattle.ltl_cli.specs.declared.printable.Printable.{Printable}
+use Rattle.ltl_cli.specs.declared.printable.Printable.TheVariants as shown
 use Rattle.ltl_cli.specs.declared.request.Plan.{Plan}
 use Rattle.ltl_cli.specs.declared.request.PlanFault.{PlanFault}
 use Rattle.ltl_cli.specs.declared.request.PlanFault.TheVariants as fault
 use Rattle.ltl_cli.specs.Refusals.{refusal_of, status_number}
-use Rattle.ltl_cli.specs.Words.{layout_with, translator_plan}
+use Rattle.ltl_cli.specs.Words.{translator_plan}
 use Rattle.ltl_cli.specs.Plans.{planned, request_in}
 
 -- ---- before the message
@@ -103,9 +105,24 @@ TakesNone (Err fault.OutOfMemory) input = ⊥
 abbrev pub MakesAutomaton : Reading → Bool → Bool → Options → Result Automaton spec.Refusal → Type 0
 MakesAutomaton R negate rewrite o = Then (KeepsRows stated_limits (core R.formula negate rewrite)) (λ N. Translates stated_limits N o)
 
--- the text of an automaton, with `-H` or without
-abbrev pub text_with : Bool → Automaton → FormulaView → List ℕ
-text_with hoa B f = laid_out (layout_with hoa) B (reading_of f)
+-- the same for the generalized automaton
+abbrev pub MakesGeneralized : Reading → Bool → Options → Result Automaton spec.Refusal → Type 0
+MakesGeneralized R rewrite o = Then (KeepsRows stated_limits (core R.formula false rewrite)) (λ N. TranslatesGeneralized stated_limits N o)
+
+-- from a formula to the text of its automaton
+abbrev pub MakesText : Layout → Reading → Bool → Options → Result (List ℕ) spec.Refusal → Type 0
+MakesText layout R rewrite o = Then (KeepsRows stated_limits (core R.formula false rewrite)) (λ N. Prints stated_limits layout N o R)
+
+-- an automaton in its layout: the automaton, and its text
+abbrev pub automaton_in : {A : Type 0} → Printable A → Automaton
+automaton_in (shown.Claim B) = B
+automaton_in (shown.Hoa B) = B
+automaton_in (shown.Generalized G) = G
+
+abbrev pub text_of : {A : Type 0} → Printable A → FormulaView → List ℕ
+text_of (shown.Claim B) f = laid_out Claim B (reading_of f)
+text_of (shown.Hoa B) f = laid_out Hoa B (reading_of f)
+text_of (shown.Generalized G) f = laid_out Generalized G (reading_of f)
 
 -- what the definitions say of the plan and the input
 abbrev pub PlanPrints : Plan → Input → Result (List ℕ) spec.Refusal → Type 0
@@ -117,9 +134,8 @@ RefusesPlan p input e =
     (e ≡ OutOfMemory) × (¬ (TakesNoMemory stated_limits.formula_bytes (Some (translator_word p)) input)) ⊎ PlanPrints p input (Err (refusal_of e))
 
 -- a formula and its automaton, whose text the definitions say is printed, or a refusal
-abbrev pub IsTranslated : {T : Type 0} → Plan → Input → (T → FormulaView) → (T → Automaton) → Result T Refusal → Type 0
-IsTranslated p input formula automaton r =
-    MatchResult r (λ t. PlanPrints p input (Ok (text_with p.hoa (automaton t) (formula t)))) (RefusesPlan p input)
+abbrev pub IsTranslated : {T : Type 0} → Plan → Input → (T → List ℕ) → Result T Refusal → Type 0
+IsTranslated p input text r = MatchResult r (λ t. PlanPrints p input (Ok (text t))) (RefusesPlan p input)
 
 -- the outcome of a plan
 abbrev pub PlanOutcome : Plan → Input → Option (List ℕ) → Option (List ℕ) → Result Status Refusal → Type 0

@@ -7,7 +7,7 @@ use Rattle.clap.specs.declared.builder.ArgAction.TheVariants.{Set, SetTrue}
 use Rattle.ltl_spec.specs.Construction.Translation.{Options}
 use Rattle.ltl_spec.specs.Tools.Refusal.{Tool, Translator, Checker, Evaluator}
 use Rattle.ltl_spec.specs.Tools.Outcome.{FormulaWord, Given, File}
-use Rattle.ltl_spec.specs.Tools.Programs.{Layout, Claim, Hoa, TranslatorPlan, CheckerPlan, EvaluatorPlan}
+use Rattle.ltl_spec.specs.Tools.Programs.{Layout, layout_of, TranslatorPlan, CheckerPlan, EvaluatorPlan}
 use Rattle.ltl_spec.specs.Tools.Run.{PlanOf}
 
 -- a word that stands alone
@@ -18,10 +18,10 @@ flag_rule id short = record (new_rule id) { short = Some short; action = Some Se
 abbrev pub value_rule : Text → ℕ → Rule
 value_rule id short = record (new_rule id) { short = Some short; action = Some Set }
 
--- `-l`, `-o`, `-p`, `-H`, `-f formula` and `-F file`
+-- `-l`, `-o`, `-p`, `-H`, `-G`, `-f formula` and `-F file`
 abbrev pub translator_app : App
-translator_app = with_rule (with_rule (with_rule (with_rule (with_rule (with_rule (new_app (codes "ltl2ba"))
-    (flag_rule (codes "l") 108)) (flag_rule (codes "o") 111)) (flag_rule (codes "p") 112)) (flag_rule (codes "H") 72))
+translator_app = with_rule (with_rule (with_rule (with_rule (with_rule (with_rule (with_rule (new_app (codes "ltl2ba"))
+    (flag_rule (codes "l") 108)) (flag_rule (codes "o") 111)) (flag_rule (codes "p") 112)) (flag_rule (codes "H") 72)) (flag_rule (codes "G") 71))
     (value_rule (codes "f") 102)) (value_rule (codes "F") 70)
 
 -- `-f formula`, `-F file` and `-A file`
@@ -48,7 +48,7 @@ pub record Request : Type 0 where
   pub word : Option Text
   pub rewrite : Bool
   pub options : Options
-  pub hoa : Bool
+  pub layout : Layout
 
 -- exactly one of `-f` and `-F`
 abbrev pub formula_among : Option Text → Option Text → Option FormulaWord
@@ -61,22 +61,28 @@ abbrev pub lacks_word : Tool → Option Text → Bool
 lacks_word Evaluator None = true
 lacks_word _ _ = false
 
-abbrev pub request_with : List Row → FormulaWord → Request
-request_with rows formula = record {
+abbrev pub request_with : List Row → FormulaWord → Layout → Request
+request_with rows formula layout = record {
   formula = formula;
   automaton = first_of (codes "A") rows;
   word = first_of (codes "w") rows;
   rewrite = not (has_flag (codes "l") rows);
   options = record { keep_implied = has_flag (codes "o") rows; keep_equal = has_flag (codes "p") rows };
-  hoa = has_flag (codes "H") rows;
+  layout = layout;
 }
 
-abbrev pub request_for : Tool → List Row → Option FormulaWord → Option Request
-request_for tool rows None = None
-request_for tool rows (Some formula) = if lacks_word tool (first_of (codes "w") rows) then None else Some (request_with rows formula)
+-- there is a formula, and at most one layout is asked for; a program with no word for layouts has none of these
+abbrev pub request_for : Tool → List Row → Option FormulaWord → Option Layout → Option Request
+request_for tool rows None layout = None
+request_for tool rows (Some formula) None = None
+request_for tool rows (Some formula) (Some layout) = if lacks_word tool (first_of (codes "w") rows) then None else Some (request_with rows formula layout)
+
+-- the layout that `-H` and `-G` ask for
+abbrev pub layout_among : List Row → Option Layout
+layout_among rows = layout_of (has_flag (codes "H") rows) (has_flag (codes "G") rows)
 
 abbrev pub request_of_rows : Tool → List Row → Option Request
-request_of_rows tool rows = request_for tool rows (formula_among (first_of (codes "f") rows) (first_of (codes "F") rows))
+request_of_rows tool rows = request_for tool rows (formula_among (first_of (codes "f") rows) (first_of (codes "F") rows)) (layout_among rows)
 
 abbrev pub request_if : Tool → Kinds → List Row → Option Request
 request_if tool [] rows = request_of_rows tool rows
@@ -86,14 +92,10 @@ request_if tool _ rows = None
 abbrev pub request_of : Tool → List Text → Option Request
 request_of tool words = request_if tool (fault_of (app_for tool) words) (matches_of (app_for tool) words)
 
--- the layout with and without `-H`
-abbrev pub layout_with : Bool → Layout
-layout_with hoa = if hoa then Hoa else Claim
-
 -- the same in the words of each program
 
 abbrev pub translator_plan : Request → TranslatorPlan
-translator_plan r = record { formula = r.formula; rewrite = r.rewrite; options = r.options; layout = layout_with r.hoa }
+translator_plan r = record { formula = r.formula; rewrite = r.rewrite; options = r.options; layout = r.layout }
 
 abbrev pub checker_plan : Request → CheckerPlan
 checker_plan r = record { formula = r.formula; automaton = r.automaton }

@@ -1,14 +1,14 @@
-//! From a formula to its automaton.
+//! From a formula to its automata.
 
 ghost use Rattle.std.specs.Prelude.{◌≡◌, List, ℕ, length, IfOk};
 ghost use Rattle.ltl_spec.specs.Formulas.Grammar.{IsTextOf};
 ghost use Rattle.ltl_spec.specs.Checking.Bounds.{HasNamesBelow};
 ghost use Rattle.ltl_formula.specs.FormulaView.{reading_of};
 ghost use Rattle.ltl_cli.specs.Refusals.{Takes};
-ghost use Rattle.ltl_cli.specs.Runs.{MakesAutomaton};
+ghost use Rattle.ltl_cli.specs.Runs.{MakesAutomaton, MakesGeneralized};
 
 use crate::refusal::Refusal;
-use ltl_buchi::{Ba, Options, translate};
+use ltl_buchi::{Ba, Gen, Options, generalized, translate};
 use ltl_formula::{Formula, Table};
 use std::alloc::Allocator;
 
@@ -27,5 +27,22 @@ pub fn automaton_of<'a, A: Allocator>(
 {
     let table = Table::build(alloc, formula, negate, rewrite)?;
     let automaton = translate(alloc, &table, options)?;
+    Ok(automaton)
+}
+
+/// The generalized automaton of a formula, whose normal form is rewritten with `rewrite`.
+pub fn generalized_of<'a, A: Allocator>(
+    alloc: &'a A,
+    formula: &Formula<'_, A>,
+    rewrite: bool,
+    options: &Options,
+) -> Result<Gen<'a, A>, Refusal>
+    ensures step { Takes (MakesGeneralized (reading_of formula.now) rewrite options.now) (λ G. G) result }
+
+    // Each proposition in it has a name, as a formula that was read from a text has.
+    ensures named { IfOk result (λ G. (text : List ℕ) → IsTextOf text (reading_of formula.now) → HasNamesBelow (length formula.now.names) G) }
+{
+    let table = Table::build(alloc, formula, false, rewrite)?;
+    let automaton = generalized(alloc, &table, options)?;
     Ok(automaton)
 }

@@ -36,6 +36,7 @@ fn translator_command<'a>(alloc: Global) -> Result<Command<'a>, AllocError>
         .arg(flag(alloc, "o", 'o'))?
         .arg(flag(alloc, "p", 'p'))?
         .arg(flag(alloc, "H", 'H'))?
+        .arg(flag(alloc, "G", 'G'))?
         .arg(value(alloc, "f", 'f'))?
         .arg(value(alloc, "F", 'F'))
 }

@@ -33,7 +33,7 @@ fn usage(tool: Tool) -> &'static [u8]
     ensures { result.now ≡ codes "usage: " ++ spec.usage_text (tool_of tool) }
 {
     match tool {
-        Tool::Translator => b"usage: ltl2ba [-l] [-o] [-p] [-H] (-f formula | -F file)",
+        Tool::Translator => b"usage: ltl2ba [-l] [-o] [-p] [-H | -G] (-f formula | -F file)",
         Tool::Checker => b"usage: ltlcheck (-f formula | -F file) [-A file]",
         Tool::Evaluator => b"usage: ltleval (-f formula | -F file) -w lasso",
     }

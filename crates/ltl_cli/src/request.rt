@@ -2,6 +2,7 @@
 
 ghost use Rattle.std.specs.Prelude.{◌≡◌, option_map};
 
+use crate::layout::Layout;
 use ltl_buchi::Options;
 use std::alloc::{AllocError, AllocFailed};
 use thiserror::Error;
@@ -23,11 +24,11 @@ pub struct Plan<'a> {
     pub(crate) word: Option<&'a str>,
     pub(crate) rewrite: bool,
     pub(crate) options: Options,
-    pub(crate) hoa: bool,
+    pub(crate) layout: Layout,
 }
 
 impl<'a> Plan<'a> {
-    ghost use Rattle.ltl_cli.specs.Plans.{formula_word};
+    ghost use Rattle.ltl_cli.specs.Plans.{formula_word, is_generalized, is_hoa, layout_in};
 
     /// The formula, or its file.
     pub fn formula(&self) -> FormulaWord<'a>
@@ -64,11 +65,18 @@ impl<'a> Plan<'a> {
         self.options
     }
 
-    /// Whether the Hanoi Omega-Automata format is asked for, and no never claim.
+    /// Whether a Büchi automaton in the Hanoi Omega-Automata format is asked for, and no never claim.
     pub fn hoa(&self) -> bool
-        ensures { result ≡ self.now.hoa }
+        ensures { result ≡ is_hoa (layout_in self.now.layout) }
     {
-        self.hoa
+        matches!(self.layout, Layout::Hoa)
+    }
+
+    /// Whether a generalized Büchi automaton is asked for, in the Hanoi Omega-Automata format.
+    pub fn generalized(&self) -> bool
+        ensures { result ≡ is_generalized (layout_in self.now.layout) }
+    {
+        matches!(self.layout, Layout::Generalized)
     }
 }
 

@@ -8,59 +8,55 @@ ghost use Rattle.ltl_spec.specs.Tools.Outcome as spec;
 ghost use Rattle.ltl_formula.specs.FormulaView.{reading_of};
 ghost use Rattle.ltl_formula.specs.Streams.{AppendsBeginning};
 ghost use Rattle.ltl_cli.specs.Inputs.{IsInputOf};
-ghost use Rattle.ltl_cli.specs.Runs.{IsTranslated, PlanOutcome, Shows, TakesNone, TranslatorRun, WordsOutcome, text_with};
+ghost use Rattle.ltl_cli.specs.Runs.{IsTranslated, PlanOutcome, Shows, TakesNone, TranslatorRun, WordsOutcome, automaton_in, text_of};
 
-use crate::automaton::automaton_of;
 use crate::finish::{finish, flush};
 use crate::input::read_formula;
+use crate::printable::{Printable, printable_of};
 use crate::refusal::Refusal;
 use crate::request::{Plan, PlanFault};
 use crate::source::Source;
 use crate::status::Status;
 use crate::tool::Tool;
-use ltl_buchi::Ba;
 use ltl_formula::{Formula, WriteFault};
-use ltl_text::{hoa_to, never_to};
+use ltl_text::{gen_to, hoa_to, never_to};
 use std::alloc::Allocator;
 use std::io::{Read, Write};
 
-/// A formula and its automaton.
+/// A formula and its automaton in the layout that is asked for.
 #[derive(Drop)]
 struct Translation<'a, A: Allocator> {
     formula: Formula<'a, A>,
-    automaton: Ba<'a, A>,
+    automaton: Printable<'a, A>,
 }
 
-/// Writes the automaton in the layout that is asked for.
+/// Writes the automaton.
 fn put<A: Allocator, W: Write>(
     translated: &Translation<'_, A>,
-    hoa: bool,
     output: &mut W,
 ) -> Result<(), WriteFault>
-    requires { HasNamesBelow (length translated.now.formula.names) translated.now.automaton }
-    ensures ok { OnOk result (Appends (W.contents output.old) (W.contents output.new) (text_with hoa translated.now.automaton translated.now.formula)) }
-    ensures err { OnErr result (AppendsBeginning (W.contents output.old) (W.contents output.new)
-        (text_with hoa translated.now.automaton translated.now.formula)) }
+    requires { HasNamesBelow (length translated.now.formula.names) (automaton_in translated.now.automaton) }
+    ensures ok { OnOk result (Appends (W.contents output.old) (W.contents output.new) (text_of translated.now.automaton translated.now.formula)) }
+    ensures err { OnErr result (AppendsBeginning (W.contents output.old) (W.contents output.new) (text_of translated.now.automaton translated.now.formula)) }
 {
-    if hoa {
-        hoa_to(&translated.automaton, &translated.formula, output)
-    } else {
-        never_to(&translated.automaton, &translated.formula, output)
+    let formula = &translated.formula;
+    match &translated.automaton {
+        Printable::Claim(automaton) => never_to(automaton, formula, output),
+        Printable::Hoa(automaton) => hoa_to(automaton, formula, output),
+        Printable::Generalized(automaton) => gen_to(automaton, formula, output),
     }
 }
 
 /// Writes the automaton and flushes.
 fn print<A: Allocator, W: Write>(
     translated: &Translation<'_, A>,
-    hoa: bool,
     output: &mut W,
 ) -> Result<(), WriteFault>
-    requires { HasNamesBelow (length translated.now.formula.names) translated.now.automaton }
-    ensures ok { OnOk result (Appends (W.contents output.old) (W.contents output.new) (text_with hoa translated.now.automaton translated.now.formula)) }
-    ensures err { OnErr result (AppendsBeginning (W.contents output.old) (W.contents output.new)
-        (text_with hoa translated.now.automaton translated.now.formula)) }
+    requires { HasNamesBelow (length translated.now.formula.names) (automaton_in translated.now.automaton) }
+    ensures ok { OnOk result (Appends (W.contents output.old) (W.contents output.new) (text_of translated.now.automaton translated.now.formula)) }
+    ensures err { OnErr result (AppendsBeginning (W.contents output.old) (W.contents output.new) (text_of translated.now.automaton translated.now.formula)) }
 {
-    put(translated, hoa, output)?;
+    put(translated, output)?;
     flush(output)
 }
 
@@ -70,12 +66,12 @@ fn translated<'a, A: Allocator, R: Read>(
     plan: &Plan<'_>,
     source: &mut Source<R>,
 ) -> Result<Translation<'a, A>, Refusal>
-    ensures found { (input : spec.Input) × IsInputOf R.remaining source.old input × IsTranslated plan.now input (λ t. t.formula) (λ t. t.automaton) result }
-    ensures language { IfOk result (λ t. AcceptsModels t.automaton (reading_of t.formula).formula) }
-    ensures named { IfOk result (λ t. HasNamesBelow (length t.formula.names) t.automaton) }
+    ensures found { (input : spec.Input) × IsInputOf R.remaining source.old input × IsTranslated plan.now input (λ t. text_of t.automaton t.formula) result }
+    ensures language { IfOk result (λ t. AcceptsModels (automaton_in t.automaton) (reading_of t.formula).formula) }
+    ensures named { IfOk result (λ t. HasNamesBelow (length t.formula.names) (automaton_in t.automaton)) }
 {
-    let formula = read_formula(alloc, plan.formula(), source)?;
-    let automaton = automaton_of(alloc, &formula, false, plan.rewrite(), &plan.options())?;
+    let formula = read_formula(alloc, plan.formula, source)?;
+    let automaton = printable_of(alloc, &formula, plan)?;
     Ok(Translation { formula, automaton })
 }
 
@@ -90,7 +86,7 @@ fn printed<A: Allocator, R: Read, W: Write>(
         × PlanOutcome plan.now input (W.contents output.old) (W.contents output.new) result }
 {
     let translated = translated(alloc, plan, source)?;
-    print(&translated, plan.hoa(), output)?;
+    print(&translated, output)?;
     Ok(Status::Done)
 }
 

@@ -3,10 +3,12 @@
 ghost use Rattle.std.specs.Prelude.{◌≡◌, map, option_map};
 ghost use Rattle.clap.specs.Words.{found_of, rows_of};
 ghost use Rattle.ltl_cli.specs.Words.{formula_among, lacks_word, request_of_rows};
-ghost use Rattle.ltl_cli.specs.Plans.{Plans, formula_word, request_in};
+ghost use Rattle.ltl_spec.specs.Tools.Programs.{layout_of};
+ghost use Rattle.ltl_cli.specs.Plans.{Plans, formula_word, layout_in, request_in};
 ghost use Rattle.ltl_cli.specs.Refusals.{tool_of};
 
 use crate::command::{is_set, matched};
+use crate::layout::Layout;
 use crate::request::{FormulaWord, Plan, PlanFault};
 use crate::tool::Tool;
 use clap::ArgMatches;
@@ -25,6 +27,18 @@ fn one_formula<'a>(text: Option<&'a str>, path: Option<&'a str>) -> Option<Formu
     }
 }
 
+/// The layout that the two flags ask for. Together they ask for none.
+fn one_layout(hoa: bool, generalized: bool) -> Option<Layout>
+    ensures { option_map layout_in result ≡ layout_of hoa generalized }
+{
+    match (hoa, generalized) {
+        (false, false) => Some(Layout::Claim),
+        (true, false) => Some(Layout::Hoa),
+        (false, true) => Some(Layout::Generalized),
+        (true, true) => None,
+    }
+}
+
 /// Whether the tool has to have a word and was given none.
 fn lacks(tool: Tool, word: &Option<&str>) -> bool
     ensures { result ≡ lacks_word (tool_of tool) (option_map (λ s. s.now) word.now) }
@@ -36,6 +50,7 @@ fn planned<'a>(tool: Tool, matches: &ArgMatches<'a>) -> Option<Plan<'a>>
     ensures { option_map request_in result ≡ request_of_rows (tool_of tool) (rows_of (found_of matches.now)) }
 {
     let formula = one_formula(matches.get_str("f"), matches.get_str("F"))?;
+    let layout = one_layout(is_set(matches, "H"), is_set(matches, "G"))?;
     let word = matches.get_str("w");
     if lacks(tool, &word) {
         return None;
@@ -49,7 +64,7 @@ fn planned<'a>(tool: Tool, matches: &ArgMatches<'a>) -> Option<Plan<'a>>
             keep_implied: is_set(matches, "o"),
             keep_equal: is_set(matches, "p"),
         },
-        hoa: is_set(matches, "H"),
+        layout,
     })
 }
 

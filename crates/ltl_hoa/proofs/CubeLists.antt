@@ -1,20 +1,20 @@
 -- Sets of cubes that are collected piece by piece.
-use Rattle.std.proofs.Common.{◌≡◌, ℕ, suc, ◌+◌, ◌<◌, ◌≤◌, Bool, true, false, cond, inl, inr, List, [], ◌∷◌, ◌++◌, length, refl, sym, ◌∙◌, ap, subst, arith, Some, None, take, drop}
-use Rattle.std.specs.Prelude.{flat_map, filter_map, if◌then◌else◌}
+use Rattle.std.proofs.Common.{◌≡◌, ℕ, suc, ◌+◌, ◌<◌, ◌≤◌, Bool, true, false, cond, inl, inr, List, [], ◌∷◌, ◌++◌, length, refl, sym, ◌∙◌, ap, subst, arith, take, drop}
+use Rattle.std.specs.Prelude.{flat_map, filter_map, slice_index_or, insert}
 use Rattle.std.specs.List.{dedup, dedup_from, items_where_true, refill}
 use Rattle.std.specs.List.Retain.{DiffersFromLast, IsFiltered, ReturnsInTurn}
 use Rattle.std.specs.declared.cmp.Ordering.{Ordering}
 use Rattle.std.specs.declared.cmp.Ordering.TheVariants.{Less, Equal, Greater}
 use Rattle.std.proofs.Math.Seq.{take-append_seam}
-use Rattle.std.proofs.lemmas.Bool.{lt-ltb}
 use Rattle.std.proofs.lemmas.Grind.{flat_map-append}
-use Rattle.std.proofs.lemmas.List.{append-nil, take-append-drop}
+use Rattle.std.proofs.lemmas.List.{append-nil, append_assoc, take-append-drop}
 use Rattle.ltl_spec.specs.Tools.Limits.{stated_limits}
 use Rattle.ltl_spec.specs.Collections.Sets.{Has, put, set_of, by_order}
 use Rattle.ltl_spec.specs.Transitions.Cubes.{Cube, cube_cmp, join_cubes}
 use Rattle.ltl_spec.proofs.Collections.SetLaws.{append_cases, append_left, append_right, same_members, set_of_cases, Has-set_of, IsRising-set_of}
+use Rattle.ltl_spec.proofs.Collections.ListLaws.{Has-at}
 use Rattle.ltl_spec.proofs.Collections.Orders.{cube_linear}
-use Rattle.ltl_hoa.specs.CubesView.{few, joined_cubes}
+use Rattle.ltl_hoa.specs.CubesView.{joins}
 
 cube_set : List Cube → List Cube
 cube_set xs = set_of cube_cmp xs
@@ -59,29 +59,67 @@ set_longer xs ys =
     behind [] = omega arith
     behind (z ∷ zs) = let k = behind zs in let m = put_longer z (set_of cube_cmp (zs ++ xs)) in omega (arith, k, m)
 
--- where a beginning joins to too many cubes, the whole does
-pub join_wide : (left right rest : List Cube) → stated_limits.label_cubes < length (set_of cube_cmp (flat_map (λ c. filter_map (join_cubes c) right) left)) → few (joined_cubes (left ++ rest) right) ≡ None
-join_wide left right rest m =
-    let f : Cube → List Cube = λ c. filter_map (join_cubes c) right in
-    let longer = set_longer (flat_map f left) (flat_map f rest) in
-    let more = ap (λ l. length (set_of cube_cmp l)) (flat_map-append f left rest) in
-    let k : stated_limits.label_cubes < length (joined_cubes (left ++ rest) right) = omega (arith, m, longer, more) in
-    ap (λ t. if t then None else Some (joined_cubes (left ++ rest) right)) (lt-ltb _ _ k)
+-- and what stands before may be put before any list of the same set
+pub set_behind : (xs ys zs : List Cube) → set_of cube_cmp ys ≡ set_of cube_cmp zs → set_of cube_cmp (xs ++ ys) ≡ set_of cube_cmp (xs ++ zs)
+set_behind xs ys zs e =
+    same_cube_sets (xs ++ ys) (xs ++ zs)
+    (λ z h. elim (append_cases xs ys z h) [ inl k ↦ append_left xs zs z k | inr k ↦ append_right xs zs z (across ys zs e z k) ])
+    (λ z h. elim (append_cases xs zs z h) [ inl k ↦ append_left xs ys z k | inr k ↦ append_right xs ys z (across zs ys (sym e) z k) ])
+  where
+    across : (us vs : List Cube) → set_of cube_cmp us ≡ set_of cube_cmp vs → (z : Cube) → Has us z → Has vs z
+    across us vs q z k = set_of_cases cube_linear vs z (subst (λ l. Has l z) q (Has-set_of cube_linear us z k))
 
--- one cube more
-pub joined_step : (left right joined more : List Cube) (i : ℕ) (c : Cube) → set_of cube_cmp joined ≡ set_of cube_cmp (flat_map (λ d. filter_map (join_cubes d) right) (take i left))
+-- a member more often
+pub set_with_member : (xs : List Cube) (x : Cube) → Has xs x → set_of cube_cmp xs ≡ set_of cube_cmp (xs ++ x ∷ [])
+set_with_member xs x m =
+    same_cube_sets xs (xs ++ x ∷ []) (λ z h. append_left xs (x ∷ []) z h)
+    (λ z h. elim (append_cases xs (x ∷ []) z h) [ inl k ↦ k | inr (inl e) ↦ subst (Has xs) (sym e) m | inr (inr n) ↦ absurd n ])
+
+-- or somewhere else
+pub set_inserted : (xs : List Cube) (i : ℕ) (x : Cube) → set_of cube_cmp (insert xs i x) ≡ set_of cube_cmp (xs ++ x ∷ [])
+set_inserted xs i x =
+    same_cube_sets (insert xs i x) (xs ++ x ∷ [])
+    (λ z h. elim (append_cases (take i xs) (x ∷ drop i xs) z h) [
+      | inl k ↦ append_left xs (x ∷ []) z (subst (λ l. Has l z) (take-append-drop i xs) (append_left (take i xs) (drop i xs) z k))
+      | inr (inl e) ↦ append_right xs (x ∷ []) z (inl e)
+      | inr (inr k) ↦ append_left xs (x ∷ []) z (subst (λ l. Has l z) (take-append-drop i xs) (append_right (take i xs) (drop i xs) z k))
+    ])
+    (λ z h. elim (append_cases xs (x ∷ []) z h) [
+      | inl k ↦ elim (append_cases (take i xs) (drop i xs) z (subst (λ l. Has l z) (sym (take-append-drop i xs)) k)) [
+        | inl m ↦ append_left (take i xs) (x ∷ drop i xs) z m
+        | inr m ↦ append_right (take i xs) (x ∷ drop i xs) z (inr m)
+      ]
+      | inr (inl e) ↦ append_right (take i xs) (x ∷ drop i xs) z (inl e)
+      | inr (inr n) ↦ absurd n
+    ])
+
+-- a cube that compares as equal is there
+pub found_at : (xs : List Cube) (i : ℕ) (x d : Cube) → i < length xs → slice_index_or xs i d ≡ d → cube_cmp d x ≡ Equal → Has xs x
+found_at xs i x d b e q = subst (Has xs) (e ∙ cube_linear.exact d x q) (Has-at xs i d b)
+
+-- one cube more, behind those that stood before
+pub joined_step : (start left right joined more : List Cube) (i : ℕ) (c : Cube) → set_of cube_cmp joined ≡ set_of cube_cmp (start ++ flat_map (λ d. filter_map (join_cubes d) right) (take i left))
     → take (i + 1) left ≡ take i left ++ c ∷ [] → more ≡ joined ++ filter_map (join_cubes c) right
-    → set_of cube_cmp more ≡ set_of cube_cmp (flat_map (λ d. filter_map (join_cubes d) right) (take (i + 1) left))
-joined_step left right joined more i c e t m =
+    → set_of cube_cmp more ≡ set_of cube_cmp (start ++ flat_map (λ d. filter_map (join_cubes d) right) (take (i + 1) left))
+joined_step start left right joined more i c e t m =
     let f : Cube → List Cube = λ d. filter_map (join_cubes d) right in
-    ap (set_of cube_cmp) m ∙ set_append joined (flat_map f (take i left)) (f c) e
-    ∙ ap (set_of cube_cmp) (ap (λ l. flat_map f (take i left) ++ l) (sym (append-nil (f c))) ∙ sym (flat_map-append f (take i left) (c ∷ [])) ∙ ap (flat_map f) (sym t))
+    ap (set_of cube_cmp) m ∙ set_append joined (start ++ flat_map f (take i left)) (f c) e
+    ∙ ap (set_of cube_cmp)
+    (append_assoc start (flat_map f (take i left)) (f c)
+    ∙ ap (λ l. start ++ l) (ap (λ l. flat_map f (take i left) ++ l) (sym (append-nil (f c))) ∙ sym (flat_map-append f (take i left) (c ∷ [])) ∙ ap (flat_map f) (sym t)))
 
-pub joined_wide : (left right joined : List Cube) (i : ℕ) → set_of cube_cmp joined ≡ set_of cube_cmp (flat_map (λ d. filter_map (join_cubes d) right) (take i left))
-    → stated_limits.label_cubes < length (set_of cube_cmp joined) → few (joined_cubes left right) ≡ None
-joined_wide left right joined i e m =
-    subst (λ l. few (joined_cubes l right) ≡ None) (take-append-drop i left)
-    (join_wide (take i left) right (drop i left) (subst (λ l. stated_limits.label_cubes < length l) e m))
+-- where a beginning joins to too many cubes, the whole does
+pub joined_wide : (start left right joined : List Cube) (i : ℕ) → set_of cube_cmp joined ≡ set_of cube_cmp (start ++ flat_map (λ d. filter_map (join_cubes d) right) (take i left))
+    → stated_limits.label_cubes < length (set_of cube_cmp joined) → stated_limits.label_cubes < length (set_of cube_cmp (start ++ joins left right))
+joined_wide start left right joined i e m =
+    let f : Cube → List Cube = λ d. filter_map (join_cubes d) right in
+    let n : stated_limits.label_cubes < length (set_of cube_cmp (start ++ flat_map f (take i left))) = subst (λ l. stated_limits.label_cubes < length l) e m in
+    let longer = set_longer (start ++ flat_map f (take i left)) (flat_map f (drop i left)) in
+    let whole : (start ++ flat_map f (take i left)) ++ flat_map f (drop i left) ≡ start ++ joins left right =
+    append_assoc start (flat_map f (take i left)) (flat_map f (drop i left))
+    ∙ ap (λ l. start ++ l) (sym (flat_map-append f (take i left) (drop i left)) ∙ ap (flat_map f) (take-append-drop i left)) in
+    let more = ap (λ l. length (set_of cube_cmp l)) whole in
+    omega (arith, n, longer, more)
 
 -- ---- neighbours that are the same
 

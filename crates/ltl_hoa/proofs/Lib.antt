@@ -5,6 +5,7 @@ pub mod CubeLists
 pub mod EdgeLaws
 pub mod EndLaws
 pub mod ItemLaws
+pub mod JoinedLaws
 pub mod LabelLaws
 pub mod LexLaws
 pub mod MachineLaws

@@ -17,6 +17,7 @@ use Rattle.ltl_spec.proofs.Collections.ListLaws.{All-from_has}
 use Rattle.ltl_spec.proofs.Collections.SetLaws.{filter_cases}
 use Rattle.ltl_spec.proofs.Collections.MemberLaws.{map_cases, flat_map_cases, all_Decides}
 use Rattle.ltl_spec.proofs.Checking.DocumentLaws.{document_proper}
+use Rattle.ltl_spec.proofs.Hoa.AcceptanceLaws.{read_below}
 use Rattle.ltl_hoa.specs.declared.marked.TheConstants.{MOST_SETS}
 use Rattle.ltl_hoa.specs.MarkedView.{IsMarked, IsEdgeWithin}
 
@@ -127,9 +128,6 @@ module _ (form : AcceptanceForm) (A : MarkedAutomaton) (d : HoaDocument) (f : Is
 
 -- ---- all
 
-few_sets : (n : ℕ) → (n == 1) ≡ true → n ≤ MOST_SETS
-few_sets n e = let one : n ≡ 1 = eqb-true n 1 e in omega (arith, one)
-
 pub read_marked : (text : List ℕ) (A : MarkedAutomaton) → HoaReadsWithin stated_limits stated_form text A → IsMarked A
 read_marked text A r =
     let d = r.0.document in
@@ -141,7 +139,7 @@ read_marked text A r =
       few_states = w.states;
       begins = f.begins;
       few_names = w.names;
-      few_sets = few_sets A.sets f.reads;
+      few_sets = read_below MOST_SETS A.sets f.reads;
       propositions = f.propositions;
       differ = f.differ;
       within = All-from_has (λ es. All (IsEdgeWithin (length A.names) A.states A.sets) es) A.edges (λ es h. All-from_has (IsEdgeWithin (length A.names) A.states A.sets) es (λ e m. record {

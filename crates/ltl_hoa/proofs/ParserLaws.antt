@@ -240,7 +240,8 @@ places place.Count spec.AtCount v w b g t r e sh s k = by_header _ _ g v w t r p
 places place.Names (spec.AtNames left) v w b g t r e sh s k = by_header _ _ g v w t r place.Names refl (names v.header b g sh s.0 left t s.1 s.2 s.3.0 s.3.1) k
 places place.Sets spec.AtSets v w b g t r e sh s k = by_header _ _ g v w t r place.Sets refl (sets v.header b g sh s t) k
 places (place.Acceptance p) (spec.InAcceptance ts) v w b g t r e sh s k =
-    subst (λ us. StepShown (spec.in_acceptance b us t) g r w) (sym s.1) (by_header _ _ g v w t r (place.Acceptance p) refl (acceptance v.header b g sh s.0 p t) k)
+    let (n, some, few, inside, left) = s.1 in
+    subst (λ us. StepShown (spec.in_acceptance b us t) g r w) (sym left) (by_header _ _ g v w t r (place.Acceptance p) refl (acceptance v.header b g sh s.0 n some few p inside t) k)
 places (place.Body p) (spec.InBody q) v w b g t r e sh (own, f, l, s) k = in_body_shown p q v w b g t r own e sh l s (subst (λ o. TakesBody p v o t r w) f k)
 places place.End spec.AtEnd v w b g t (Ok u) e sh s k = k.0
 places place.End spec.AtEnd v w b g t (Err stop) e sh s k = k

@@ -16,19 +16,23 @@ use Rattle.ltl_spec.specs.Formulas.Names.{is_proposition, is_constant}
 use Rattle.ltl_spec.specs.Automata.Automaton.{Automaton, Edge, State, state_at}
 use Rattle.ltl_spec.specs.Automata.ClaimText.{line}
 use Rattle.ltl_spec.specs.Automata.HoaText.{quoted, state_lines, names_line, hoa_text}
+use Rattle.ltl_spec.specs.Automata.GeneralizedText.{generalized_text}
 use Rattle.ltl_spec.specs.Tools.Limits.{stated_limits}
 use Rattle.ltl_spec.specs.Hoa.HoaToken.{HoaToken, StringToken, Identifier, Header, Int, Body, End, OpenBracket, CloseBracket, hoa_tokens}
 use Rattle.ltl_spec.specs.Hoa.HoaLabel.{is_wide}
 use Rattle.ltl_spec.specs.Hoa.HoaReading.{stated_form, StatesItem, StartItem, SetsItem, NamesItem, OtherItem, WrittenEdge, WrittenState, HoaDocument, document_tokens, state_tokens, header_item_tokens, MarkedAutomaton, cube_edges, state_edges, edges_at, is_edge_inside, is_state_inside, are_sets, HoaReadsWithin}
 use Rattle.ltl_spec.proofs.Hoa.HoaLaws.{reads_without_fault}
+use Rattle.ltl_spec.specs.Hoa.HoaPrinted as generalized
+use Rattle.ltl_spec.proofs.Hoa.GeneralizedBack.{stated_usual, generalized_reads, generalized_read_back}
 use Rattle.ltl_spec.proofs.Hoa.HoaUniqueLaws.{one_automaton}
+use Rattle.ltl_hoa.specs.declared.marked.TheConstants.{MOST_SETS}
 use Rattle.ltl_hoa.specs.declared.fault.HoaFault.{HoaFault}
 use Rattle.ltl_hoa.specs.declared.fault.HoaFault.TheVariants.{AtLine, CannotRead, OutOfMemory}
 use Rattle.ltl_hoa.specs.Reading.{Answers, IsOfText, RefusesText}
 use Rattle.ltl_spec.proofs.Collections.ListLaws.{Has-at, All-at_has}
 use Rattle.ltl_spec.proofs.Collections.MemberLaws.{all_Decides, all_append, all_weaker, map_cases, map_length}
 use Rattle.ltl_spec.proofs.Collections.CaseLaws.{left_true, right_true}
-use Rattle.ltl_hoa.specs.Printed.{IsPrintedEdge, IsPrinted, marked_edge, marked_of, IsReadBack}
+use Rattle.ltl_hoa.specs.Printed.{IsPrintedEdge, IsPrinted, marked_edge, marked_of, IsAnswered, IsReadBack}
 use Rattle.ltl_hoa.proofs.PrintedTokens.{Spells, spells_all, is_clean, format_line, name_line, states_line, start_line, names_spelled, acceptance_name_line, acceptance_line, properties_line, body_line, end_line, written_edge, written_state, SmallEdge, state_spelled}
 use Rattle.ltl_hoa.proofs.PrintedLabels.{printed_cubes, printed_narrow, printed_fine}
 
@@ -441,3 +445,14 @@ answered_alone text A OutOfMemory r a = λ e. e
 pub answered_back : (B : Automaton) (F : Reading) (answer : Result MarkedAutomaton HoaFault) → IsPrinted B F → length (hoa_text B F) ≤ stated_limits.hoa_bytes → Answers (hoa_text B F) answer → IsReadBack B F answer
 answered_back B F (Ok A) p l a = one_automaton stated_form (hoa_text B F) A (marked_of B F.names) a.0 (printed_reads B F p l).0
 answered_back B F (Err fault) p l a = answered_alone (hoa_text B F) (marked_of B F.names) fault (printed_reads B F p l) a
+
+-- a generalized automaton
+
+pub generalized_printed : (B : Automaton) (F : Reading) → generalized.IsPrinted stated_limits MOST_SETS B F → length (generalized_text B F) ≤ stated_limits.hoa_bytes
+    → HoaReadsWithin stated_limits stated_form (generalized_text B F) (generalized.marked_of B F.names)
+generalized_printed B F p l = generalized_reads stated_limits MOST_SETS stated_usual B F p l
+
+pub generalized_answered : (B : Automaton) (F : Reading) (answer : Result MarkedAutomaton HoaFault) → generalized.IsPrinted stated_limits MOST_SETS B F → length (generalized_text B F) ≤ stated_limits.hoa_bytes
+    → Answers (generalized_text B F) answer → IsAnswered (generalized.marked_of B F.names) answer
+generalized_answered B F (Ok A) p l a = generalized_read_back stated_limits MOST_SETS stated_usual B F p l A a
+generalized_answered B F (Err fault) p l a = answered_alone (generalized_text B F) (generalized.marked_of B F.names) fault (generalized_printed B F p l) a

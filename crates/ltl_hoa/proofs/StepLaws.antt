@@ -1,9 +1,8 @@
 -- A token of the header takes the parser where the definition goes.
-use Rattle.std.proofs.Common.{◌≡◌, ℕ, ◌-◌, ◌≤◌, Bool, true, false, not, ◌&&◌, ◌||◌, List, [], ◌∷◌, ◌++◌, Option, Some, None, nat_eq, ◌==◌, codes, refl, sym, ◌∙◌, ap, subst, arith}
-use Rattle.std.specs.Prelude.{nat_lt, drop, if◌then◌else◌, option_map, unwrap_or, is_some, Ok, Err}
+use Rattle.std.proofs.Common.{◌≡◌, ℕ, zero, suc, ◌+◌, ◌-◌, ◌<◌, ◌≤◌, Bool, true, false, not, ◌&&◌, ◌||◌, List, [], ◌∷◌, ◌++◌, Option, Some, None, nat_eq, ◌==◌, codes, refl, sym, ◌∙◌, ap, subst, arith}
+use Rattle.std.specs.Prelude.{nat_le, nat_lt, drop, if◌then◌else◌, option_map, unwrap_or, is_some, Ok, Err}
 use Rattle.std.specs.List.{list_any}
 use Rattle.std.proofs.lemmas.Bool.Decides.{nat_tests}
-use Rattle.std.proofs.lemmas.Bool.{eqb-true}
 use Rattle.ltl_spec.specs.Semantics.Word.{Name}
 use Rattle.ltl_spec.specs.Formulas.Tokens.{same_name}
 use Rattle.ltl_spec.specs.Formulas.Names.{is_proposition}
@@ -14,6 +13,8 @@ use Rattle.ltl_spec.specs.Hoa.HoaReading.{stated_form, begins_upper, acceptance_
 use Rattle.ltl_spec.specs.Hoa.HoaFaultKind.{HoaFaultKind, UnknownItem, Unsupported, BadPropositionList, LimitPassed}
 use Rattle.ltl_spec.specs.Hoa.HoaFault as spec
 use Rattle.ltl_spec.specs.Hoa.HoaFault.{Before, HoaHeader, Step, go_to}
+use Rattle.ltl_spec.proofs.Hoa.AcceptanceLaws.{sets_begin, after_and, after_last}
+use Rattle.ltl_hoa.specs.declared.marked.TheConstants.{MOST_SETS}
 use Rattle.ltl_hoa.specs.declared.place.Place.{Place}
 use Rattle.ltl_hoa.specs.declared.place.Place.TheVariants as place
 use Rattle.ltl_hoa.specs.declared.place.ItemBefore.{ItemBefore}
@@ -24,7 +25,7 @@ use Rattle.ltl_hoa.specs.NumberView.{capped}
 use Rattle.ltl_hoa.specs.HeaderView as view
 use Rattle.ltl_hoa.specs.HeaderView.{HeaderView, Led}
 use Rattle.ltl_hoa.specs.BodyView.{BodyView}
-use Rattle.ltl_hoa.specs.Shown.{Came, Shows, ShowsHeader, ShowsItem, ShowsPlace, IsBegun, acceptance_left}
+use Rattle.ltl_hoa.specs.Shown.{Came, Shows, ShowsHeader, ShowsItem, ShowsPlace, IsBegun, IsPartOf, acceptance_left, later_sets}
 
 -- both go on to places that show each other, or meet the same fault
 abbrev pub Agrees : Led → Step → Came → Type 0
@@ -187,32 +188,85 @@ module _ (h : HeaderView) (b : Before) (g : Came) (sh : ShowsHeader h b.header) 
           (sym (ap (λ k. k == 0) e ∙ z)) (listed (ns ++ name ∷ []) (h.left - 1) (left - 1) (ap (λ k. k - 1) e))
   names left t e z ns q = broken t BadPropositionList g
 
-  pub sets : (t : HoaToken) → Agrees (view.at_sets h t) (spec.at_sets stated_form b t) g
-  sets (token.Int n) = go (n == 1) refl
+  -- behind the number of sets
+  sets_begun : (n : ℕ) → n ≤ MOST_SETS
+      → Agrees (Ok (place.Acceptance (view.first_part n), record h { sets = Some n })) (spec.expect (record b { header = record b.header { sets = Some n } }) (drop 1 (acceptance_tokens n))) g
+  sets_begun zero l = λ body. record { header = record { states = sh.states; few_states = sh.few_states; start = sh.start; names = sh.names; sets = refl }; place = (begun, (0, refl, l, refl, refl)) }
+  sets_begun (suc n) l =
+      subst (λ c. Agrees (Ok (place.Acceptance (if c then part.True else part.Inf 0), record h { sets = Some (suc n) })) (spec.expect (record b { header = record b.header { sets = Some (suc n) } }) (drop 1 (acceptance_tokens (suc n)))) g)
+      (sym (some n))
+      (λ body. record {
+        header = record { states = sh.states; few_states = sh.few_states; start = sh.start; names = sh.names; sets = refl };
+        place = (begun, (suc n, refl, l, omega arith, sets_begin (suc n) (omega arith)));
+      })
     where
-      go : (c : Bool) → (n == 1) ≡ c
-          → Agrees (if capped n == 1 then Ok (place.Acceptance part.Inf, record h { sets = Some 1 }) else Err Unsupported)
-          (if c then spec.expect (record b { header = record b.header { sets = Some n } }) (drop 1 (acceptance_tokens n)) else Err Unsupported) g
-      go true e =
-          subst (λ m. Agrees (if capped m == 1 then Ok (place.Acceptance part.Inf, record h { sets = Some 1 }) else Err Unsupported)
-          (spec.expect (record b { header = record b.header { sets = Some m } }) (drop 1 (acceptance_tokens m))) g) (sym (eqb-true n 1 e))
-          (λ body. record { header = record { states = sh.states; few_states = sh.few_states; start = sh.start; names = sh.names; sets = refl }; place = (begun, refl) })
-      go false e = subst (λ c. Agrees (if c then Ok (place.Acceptance part.Inf, record h { sets = Some 1 }) else Err Unsupported) (Err Unsupported) g) (sym (capped_same n 1 (omega arith) ∙ e)) refl
+      some : (m : ℕ) → (suc m == 0) ≡ false
+      some m = grind (arith, nat_tests)
+
+  pub sets : (t : HoaToken) → Agrees (view.at_sets h t) (spec.at_sets stated_form b t) g
+  sets (token.Int n) = subst (λ c. Agrees (made (capped n) (nat_lt MOST_SETS (capped n))) (if c then wanted n else Err LimitPassed) g) (sym (turned MOST_SETS n)) (go (nat_lt MOST_SETS n) refl)
+    where
+      turned : (m k : ℕ) → nat_le k m ≡ not (nat_lt m k)
+      turned m k = grind (arith, nat_tests)
+
+      wanted : ℕ → Step
+      wanted m = spec.expect (record b { header = record b.header { sets = Some m } }) (drop 1 (acceptance_tokens m))
+
+      made : ℕ → Bool → Led
+      made m c = if c then Err LimitPassed else Ok (place.Acceptance (view.first_part m), record h { sets = Some m })
+
+      go : (c : Bool) → nat_lt MOST_SETS n ≡ c → Agrees (made (capped n) (nat_lt MOST_SETS (capped n))) (if not c then wanted n else Err LimitPassed) g
+      go true e = subst (λ x. Agrees (made (capped n) x) (Err LimitPassed) g) (sym (capped_over MOST_SETS n (omega arith) ∙ e)) refl
+      go false e =
+          subst (λ x. Agrees (made (capped n) x) (wanted n) g) (sym (capped_over MOST_SETS n (omega arith) ∙ e))
+          (subst (λ m. Agrees (made m false) (wanted n) g) (sym (small_of MOST_SETS n (omega arith) e)) (sets_begun n (few n e)))
+        where
+          few : (m : ℕ) → nat_lt MOST_SETS m ≡ false → m ≤ MOST_SETS
+          few m q = grind (arith, nat_tests, q)
   sets t = broken t Unsupported g
 
-  pub acceptance : (p : AcceptancePart) (t : HoaToken) → Agrees (view.in_acceptance p h t) (spec.in_acceptance b (acceptance_left p) t) g
-  acceptance part.Inf (token.Identifier s) =
-      subst (λ c. Agrees (view.in_acceptance part.Inf h (token.Identifier s)) (if c then spec.expect b (acceptance_left part.Open) else Err Unsupported) g) (same_turned s (codes "Inf"))
-      (if_agrees (same_name s (codes "Inf")) _ _ _ _ g (to (place.Acceptance part.Open) (spec.InAcceptance (acceptance_left part.Open)) (λ body. (begun, refl))) refl)
-  acceptance part.Open token.OpenBracket = to (place.Acceptance part.Number) (spec.InAcceptance (acceptance_left part.Number)) (λ body. (begun, refl))
-  acceptance part.Number (token.Int n) =
-      subst (λ c. Agrees (if c then Ok (place.Acceptance part.Close, h) else Err Unsupported) (if 0 == n then spec.expect b (acceptance_left part.Close) else Err Unsupported) g) (turned n ∙ sym (capped_same n 0 (omega arith)))
-      (if_agrees (0 == n) _ _ _ _ g (to (place.Acceptance part.Close) (spec.InAcceptance (acceptance_left part.Close)) (λ body. (begun, refl))) refl)
-    where
-      turned : (m : ℕ) → (0 == m) ≡ (m == 0)
-      turned m = grind (arith, nat_tests)
-  acceptance part.Close token.CloseBracket = to (place.Item item.Acceptance) (spec.AtItem spec.Acceptance) (λ body. (begun, tt))
-  acceptance part.Inf t = broken t Unsupported g
-  acceptance part.Open t = broken t Unsupported g
-  acceptance part.Number t = broken t Unsupported g
-  acceptance part.Close t = broken t Unsupported g
+  module _ (n : ℕ) (some : h.sets ≡ Some n) (few : n ≤ MOST_SETS) where
+    part_agrees : (p : AcceptancePart) → IsPartOf n p → (t : HoaToken) → Agrees (view.part_taken n p h t) (spec.in_acceptance b (acceptance_left n p) t) g
+    part_agrees part.True inside (token.Identifier s) =
+        subst (λ c. Agrees (view.part_taken n part.True h (token.Identifier s)) (if c then spec.expect b [] else Err Unsupported) g) (same_turned s (codes "t"))
+        (if_agrees (same_name s (codes "t")) _ _ _ _ g (to (place.Item item.Acceptance) (spec.AtItem spec.Acceptance) (λ body. (begun, tt))) refl)
+    part_agrees (part.Inf k) inside (token.Identifier s) =
+        subst (λ c. Agrees (view.part_taken n (part.Inf k) h (token.Identifier s)) (if c then spec.expect b (acceptance_left n (part.Open k)) else Err Unsupported) g) (same_turned s (codes "Inf"))
+        (if_agrees (same_name s (codes "Inf")) _ _ _ _ g (to (place.Acceptance (part.Open k)) (spec.InAcceptance (acceptance_left n (part.Open k))) (λ body. (begun, (n, some, few, inside, refl)))) refl)
+    part_agrees (part.Open k) inside token.OpenBracket = to (place.Acceptance (part.Number k)) (spec.InAcceptance (acceptance_left n (part.Number k))) (λ body. (begun, (n, some, few, inside, refl)))
+    part_agrees (part.Number k) inside (token.Int m) =
+        subst (λ c. Agrees (if c then Ok (place.Acceptance (part.Close k), h) else Err Unsupported) (if k == m then spec.expect b (acceptance_left n (part.Close k)) else Err Unsupported) g)
+        (turned k m ∙ sym (capped_same m k (small k inside)))
+        (if_agrees (k == m) _ _ _ _ g (to (place.Acceptance (part.Close k)) (spec.InAcceptance (acceptance_left n (part.Close k))) (λ body. (begun, (n, some, few, inside, refl)))) refl)
+      where
+        turned : (i j : ℕ) → (i == j) ≡ (j == i)
+        turned i j = grind (arith, nat_tests)
+
+        small : (i : ℕ) → i < n → i ≤ stated_limits.hoa_edges
+        small i l = omega (arith, l, few)
+    part_agrees (part.Close k) inside token.CloseBracket = go (nat_lt k (n - 1)) refl
+      where
+        more : (i m : ℕ) → nat_lt i (m - 1) ≡ true → i + 1 < m
+        more i m e = grind (arith, nat_tests, e)
+
+        last : (i m : ℕ) → nat_lt i (m - 1) ≡ false → m ≤ i + 1
+        last i m e = grind (arith, nat_tests, e)
+
+        go : (c : Bool) → nat_lt k (n - 1) ≡ c → Agrees (Ok ((if c then place.Acceptance (part.And (k + 1)) else place.Item item.Acceptance), h)) (spec.expect b (later_sets n (k + 1))) g
+        go true e =
+            let next : later_sets n (k + 1) ≡ acceptance_left n (part.And (k + 1)) = after_and n k (more k n e) in
+            subst (λ ts. Agrees (Ok (place.Acceptance (part.And (k + 1)), h)) (spec.expect b ts) g) (sym next)
+            (to (place.Acceptance (part.And (k + 1))) (spec.InAcceptance (acceptance_left n (part.And (k + 1)))) (λ body. (begun, (n, some, few, more k n e, refl))))
+        go false e =
+            let none : later_sets n (k + 1) ≡ [] = after_last n k (last k n e) in
+            subst (λ ts. Agrees (Ok (place.Item item.Acceptance, h)) (spec.expect b ts) g) (sym none) (to (place.Item item.Acceptance) (spec.AtItem spec.Acceptance) (λ body. (begun, tt)))
+    part_agrees (part.And k) inside token.AndSign = to (place.Acceptance (part.Inf k)) (spec.InAcceptance (acceptance_left n (part.Inf k))) (λ body. (begun, (n, some, few, inside, refl)))
+    part_agrees part.True inside t = broken t Unsupported g
+    part_agrees (part.Inf k) inside t = broken t Unsupported g
+    part_agrees (part.Open k) inside t = broken t Unsupported g
+    part_agrees (part.Number k) inside t = broken t Unsupported g
+    part_agrees (part.Close k) inside t = broken t Unsupported g
+    part_agrees (part.And k) inside t = broken t Unsupported g
+
+    pub acceptance : (p : AcceptancePart) → IsPartOf n p → (t : HoaToken) → Agrees (view.in_acceptance p h t) (spec.in_acceptance b (acceptance_left n p) t) g
+    acceptance p inside t = subst (λ o. Agrees (view.part_taken (unwrap_or o 0) p h t) (spec.in_acceptance b (acceptance_left n p) t) g) (sym some) (part_agrees p inside t)

@@ -17,7 +17,7 @@ use Rattle.ltl_hoa.specs.declared.place.Place.TheVariants.{Format, Version, Item
 use Rattle.ltl_hoa.specs.declared.place.ItemBefore.{ItemBefore}
 use Rattle.ltl_hoa.specs.declared.place.ItemBefore.TheVariants as before
 use Rattle.ltl_hoa.specs.declared.place.AcceptancePart.{AcceptancePart}
-use Rattle.ltl_hoa.specs.declared.place.AcceptancePart.TheVariants.{Inf, Open, Number, Close}
+use Rattle.ltl_hoa.specs.declared.place.AcceptancePart.TheVariants.{True, Inf, Open, Number, Close, And}
 use Rattle.ltl_spec.specs.Automata.Automaton.{Edge}
 use Rattle.ltl_spec.specs.Hoa.HoaReading.{MarkedAutomaton}
 use Rattle.ltl_hoa.specs.MarkedView.{IsMarked}
@@ -131,16 +131,29 @@ abbrev pub at_names : HeaderView → HoaToken → Led
 at_names v (StringToken name) = add_name v name
 at_names v t = Err (unless_broken t BadPropositionList)
 
+abbrev pub first_part : ℕ → AcceptancePart
+first_part n = if n == 0 then True else Inf 0
+
 abbrev pub at_sets : HeaderView → HoaToken → Led
-at_sets v (Int n) = if capped n == 1 then Ok (Acceptance Inf, record v { sets = Some 1 }) else Err Unsupported
+at_sets v (Int n) = if nat_lt MOST_SETS (capped n) then Err LimitPassed else Ok (Acceptance (first_part (capped n)), record v { sets = Some (capped n) })
 at_sets v t = Err (unless_broken t Unsupported)
 
+-- where the next one of n sets stands, if there is one
+abbrev pub behind_set : ℕ → ℕ → Place
+behind_set n k = if nat_lt k (n - 1) then Acceptance (And (k + 1)) else Item before.Acceptance
+
+-- a token of the acceptance condition of n sets
+abbrev pub part_taken : ℕ → AcceptancePart → HeaderView → HoaToken → Led
+part_taken n True v (Identifier s) = if same_name s (codes "t") then Ok (Item before.Acceptance, v) else Err Unsupported
+part_taken n (Inf k) v (Identifier s) = if same_name s (codes "Inf") then Ok (Acceptance (Open k), v) else Err Unsupported
+part_taken n (Open k) v OpenBracket = Ok (Acceptance (Number k), v)
+part_taken n (Number k) v (Int m) = if capped m == k then Ok (Acceptance (Close k), v) else Err Unsupported
+part_taken n (Close k) v CloseBracket = Ok (behind_set n k, v)
+part_taken n (And k) v AndSign = Ok (Acceptance (Inf k), v)
+part_taken n part v t = Err (unless_broken t Unsupported)
+
 abbrev pub in_acceptance : AcceptancePart → HeaderView → HoaToken → Led
-in_acceptance Inf v (Identifier s) = if same_name s (codes "Inf") then Ok (Acceptance Open, v) else Err Unsupported
-in_acceptance Open v OpenBracket = Ok (Acceptance Number, v)
-in_acceptance Number v (Int n) = if capped n == 0 then Ok (Acceptance Close, v) else Err Unsupported
-in_acceptance Close v CloseBracket = Ok (Item before.Acceptance, v)
-in_acceptance part v t = Err (unless_broken t Unsupported)
+in_acceptance part v t = part_taken (unwrap_or v.sets 0) part v t
 
 -- a token at its place, but for `--BODY--` where an item may begin
 abbrev pub take : Place → HeaderView → HoaToken → Led

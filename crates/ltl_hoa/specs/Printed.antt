@@ -39,5 +39,8 @@ abbrev pub marked_of : Automaton → List Name → MarkedAutomaton
 marked_of B names = record { states = length B.states; start = 0; sets = 1; names = names; edges = map (λ s. map (marked_edge s.accepting) s.edges) B.states }
 
 -- the answer is the automaton, unless it isn't one about the text
+abbrev pub IsAnswered : MarkedAutomaton → Result MarkedAutomaton HoaFault → Type 0
+IsAnswered A answer = MatchResult answer (λ M. M ≡ A) (λ fault. ¬ (IsOfText fault))
+
 abbrev pub IsReadBack : Automaton → Reading → Result MarkedAutomaton HoaFault → Type 0
-IsReadBack B F answer = MatchResult answer (λ A. A ≡ marked_of B F.names) (λ fault. ¬ (IsOfText fault))
+IsReadBack B F answer = IsAnswered (marked_of B F.names) answer

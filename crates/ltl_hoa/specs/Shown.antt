@@ -1,7 +1,7 @@
 -- How the parser's state shows that of the definition.
-use Rattle.std.specs.Prelude.{◌≡◌, ℕ, zero, suc, ◌<◌, ◌≤◌, Bool, true, false, not, ◌==◌, nat_lt, if◌then◌else◌, List, [], ◌∷◌, ◌++◌, length, map, slice_index_or, Option, Some, None, option_map, unwrap_or, codes, ⊤}
+use Rattle.std.specs.Prelude.{◌≡◌, ℕ, zero, suc, ◌+◌, ◌-◌, ◌<◌, ◌≤◌, Bool, true, false, not, ◌==◌, nat_lt, if◌then◌else◌, List, [], ◌∷◌, ◌++◌, length, map, flat_map, slice_index_or, Option, Some, None, option_map, unwrap_or, codes, ⊤}
 use Rattle.std.specs.Bool.{beq}
-use Rattle.std.specs.List.{list_any}
+use Rattle.std.specs.List.{list_any, range_with_len}
 use Rattle.std.specs.Ordering.{nat_cmp}
 use Rattle.ltl_spec.specs.Collections.Sets.{set_of}
 use Rattle.ltl_spec.specs.Semantics.Word.{Name}
@@ -10,7 +10,8 @@ use Rattle.ltl_spec.specs.NormalForms.NormalForm.{normal_form, postorder}
 use Rattle.ltl_spec.specs.Transitions.Cubes.{Cube}
 use Rattle.ltl_spec.specs.Automata.Automaton.{Edge}
 use Rattle.ltl_spec.specs.Tools.Limits.{stated_limits}
-use Rattle.ltl_spec.specs.Hoa.HoaToken.{HoaToken, Identifier, Int, OpenBracket, CloseBracket, CloseLabel}
+use Rattle.ltl_spec.specs.Hoa.HoaToken.{HoaToken, Identifier, Int, AndSign, OpenBracket, CloseBracket, CloseLabel}
+use Rattle.ltl_spec.specs.Hoa.HoaReading.{set_tokens}
 use Rattle.ltl_spec.specs.Hoa.HoaLabel.{Label, label_formula, cubes, label_cubes}
 use Rattle.ltl_spec.specs.Hoa.HoaFault as spec
 use Rattle.ltl_spec.specs.Hoa.HoaFault.{Before, HoaHeader, LabelPart, LabelParts, whole}
@@ -117,12 +118,27 @@ ShowsItem item.Acceptance spec.Acceptance = ⊤
 ShowsItem item.Other spec.OtherItem = ⊤
 ShowsItem _ _ = ⊥
 
--- the tokens of `Inf(0)` from a part on
-abbrev pub acceptance_left : AcceptancePart → List HoaToken
-acceptance_left part.Inf = Identifier (codes "Inf") ∷ OpenBracket ∷ Int 0 ∷ CloseBracket ∷ []
-acceptance_left part.Open = OpenBracket ∷ Int 0 ∷ CloseBracket ∷ []
-acceptance_left part.Number = Int 0 ∷ CloseBracket ∷ []
-acceptance_left part.Close = CloseBracket ∷ []
+-- the sets of n from one on, each behind `&`
+abbrev pub later_sets : ℕ → ℕ → List HoaToken
+later_sets n k = flat_map (λ j. AndSign ∷ set_tokens j) (range_with_len k (n - k))
+
+-- the tokens of the acceptance condition of n sets from a part on
+abbrev pub acceptance_left : ℕ → AcceptancePart → List HoaToken
+acceptance_left n part.True = Identifier (codes "t") ∷ []
+acceptance_left n (part.Inf k) = set_tokens k ++ later_sets n (k + 1)
+acceptance_left n (part.Open k) = OpenBracket ∷ Int k ∷ CloseBracket ∷ later_sets n (k + 1)
+acceptance_left n (part.Number k) = Int k ∷ CloseBracket ∷ later_sets n (k + 1)
+acceptance_left n (part.Close k) = CloseBracket ∷ later_sets n (k + 1)
+acceptance_left n (part.And k) = AndSign ∷ set_tokens k ++ later_sets n (k + 1)
+
+-- the part is of one of n sets
+abbrev pub IsPartOf : ℕ → AcceptancePart → Type 0
+IsPartOf n part.True = n ≡ 0
+IsPartOf n (part.Inf k) = k < n
+IsPartOf n (part.Open k) = k < n
+IsPartOf n (part.Number k) = k < n
+IsPartOf n (part.Close k) = k < n
+IsPartOf n (part.And k) = k < n
 
 abbrev pub ShowsBodyPlace : BodyPlace → BodyView → spec.BodyPlace → Type 0
 ShowsBodyPlace at.State b spec.AtState = ⊤
@@ -197,7 +213,7 @@ ShowsPlace place.Start v spec.AtStart b g = IsBegun b g
 ShowsPlace place.Count v spec.AtCount b g = IsBegun b g
 ShowsPlace place.Names v (spec.AtNames left) b g = IsBegun b g × (v.header.left ≡ left) × ((left == 0) ≡ false) × ((ns : List Name) × (v.header.names ≡ Some ns))
 ShowsPlace place.Sets v spec.AtSets b g = IsBegun b g
-ShowsPlace (place.Acceptance p) v (spec.InAcceptance ts) b g = IsBegun b g × (ts ≡ acceptance_left p)
+ShowsPlace (place.Acceptance p) v (spec.InAcceptance ts) b g = IsBegun b g × ((n : ℕ) × (v.header.sets ≡ Some n) × (n ≤ MOST_SETS) × IsPartOf n p × (ts ≡ acceptance_left n p))
 ShowsPlace (place.Body p) v (spec.InBody q) b g = (body : BodyView) × (v.body ≡ Some body) × ShowsBodyPlace p body q × ShowsBody body q b g
 ShowsPlace place.End v spec.AtEnd b g = (body : BodyView) × (v.body ≡ Some body) × ShowsBody body spec.AtState b g
 ShowsPlace _ v _ b g = ⊥

@@ -1,13 +1,15 @@
 //! Sets of cubes of a label's parts, each at most of a size.
 
-ghost use Rattle.std.specs.Prelude.{◌≡◌, ◌<◌, ◌++◌, length, map, filter_map, IfOk, OnOk, option_map};
+ghost use Rattle.std.specs.Prelude.{◌≡◌, ◌<◌, ◌≤◌, ◌++◌, length, IfOk, IfErr, OnOk, option_map};
 ghost use Rattle.ltl_spec.specs.Collections.Sets as spec_sets;
 ghost use Rattle.ltl_spec.specs.Transitions.Cubes as spec_cubes;
-ghost use Rattle.ltl_hoa.specs.CubesView.{both_cubes, constant_cubes, few, joined_cubes, literal_cubes};
+ghost use Rattle.ltl_hoa.specs.CubesView.{SameCubes, both_cubes, constant_cubes, few, literal_cubes};
 
+use crate::joins::join;
 use ltl_sets::{Cube, RowSet};
 use smallvec::SmallVec;
 use std::alloc::{AllocError, Allocator};
+use std::cmp::Ordering;
 
 /// The most cubes that a part of a label may have.
 pub(crate) const MOST_CUBES: usize = 4_096;
@@ -18,8 +20,11 @@ pub(crate) type CubeList<'a, A> = SmallVec<Cube, 1, &'a A>;
 /// The cubes of a part of a label; `None` where the part, or one inside it, has more than `MOST_CUBES`.
 pub(crate) type Cubes<'a, A> = Option<CubeList<'a, A>>;
 
+/// Up to so many cubes are put into others one by one, without sorting them.
+const MOST_INSERTED: usize = 8;
+
 /// Sorts the cubes, and keeps each once.
-fn make_distinct<A: Allocator>(cubes: &mut CubeList<'_, A>)
+pub(crate) fn make_distinct<A: Allocator>(cubes: &mut CubeList<'_, A>)
     ensures { cubes.new.items ≡ spec_sets.set_of spec_cubes.cube_cmp cubes.old.items }
 {
     cubes.sort_unstable_by(|c, d| c.cmp_list(d));
@@ -27,7 +32,7 @@ fn make_distinct<A: Allocator>(cubes: &mut CubeList<'_, A>)
 }
 
 /// The cubes, unless there are too many.
-fn few<'a, A: Allocator>(cubes: CubeList<'a, A>) -> Cubes<'a, A>
+pub(crate) fn few<'a, A: Allocator>(cubes: CubeList<'a, A>) -> Cubes<'a, A>
     ensures { option_map (λ v. v.items) result ≡ few cubes.entry.items }
 {
     if cubes.len() > MOST_CUBES {
@@ -65,42 +70,34 @@ pub(crate) fn literal<'a, A: Allocator>(
     Ok(Some(cubes))
 }
 
-/// Puts the joins of a cube with each of a list behind the others.
-fn join_one<A: Allocator>(
-    joined: &mut CubeList<'_, A>,
-    left: &Cube,
-    right: &[Cube],
-) -> Result<(), AllocError>
-    ensures { OnOk result (joined.new.items ≡ joined.old.items ++ filter_map (spec_cubes.join_cubes left.now) right.now) }
+/// Where the cube stands in a rising list, or where it would. Of another list the answer may be that the cube isn't there.
+pub(crate) fn place_of(cubes: &[Cube], cube: &Cube) -> Result<usize, usize>
+    ensures found { IfOk result (λ i. spec_sets.Has cubes.now cube.now) }
+    ensures within { IfErr result (λ i. i ≤ length cubes.now) }
 {
-    'right: for cube in right {
-        if let Some(cube) = left.join(cube) {
-            joined.push(cube)?;
+    let (mut low, mut high) = (0, cubes.len());
+    'halves: while low < high {
+        let middle = low + (high - low) / 2;
+        match cubes[middle].cmp_list(cube) {
+            Ordering::Less => low = middle + 1,
+            Ordering::Equal => return Ok(middle),
+            Ordering::Greater => high = middle,
+        }
+    }
+    Err(low)
+}
+
+/// Puts each cube of a short list into the cubes.
+fn insert_each<A: Allocator>(cubes: &mut CubeList<'_, A>, more: &[Cube]) -> Result<(), AllocError>
+    ensures { OnOk result (SameCubes cubes.new.items (cubes.old.items ++ more.now)) }
+{
+    'more: for cube in more {
+        match place_of(cubes.as_slice(), cube) {
+            Ok(_) => {}
+            Err(place) => cubes.insert(place, *cube)?,
         }
     }
     Ok(())
-}
-
-/// One cube of each side joined, in every way. No more than twice as many as may be are held at a time.
-fn join<'a, A: Allocator>(
-    alloc: &'a A,
-    left: &[Cube],
-    right: &[Cube],
-) -> Result<Cubes<'a, A>, AllocError>
-    ensures { IfOk result (λ r. option_map (λ v. v.items) r ≡ few (joined_cubes left.now right.now)) }
-{
-    let mut joined = SmallVec::new(alloc);
-    'left: for cube in left {
-        join_one(&mut joined, cube, right)?;
-        if joined.len() > MOST_CUBES {
-            make_distinct(&mut joined);
-            if joined.len() > MOST_CUBES {
-                return Ok(None);
-            }
-        }
-    }
-    make_distinct(&mut joined);
-    Ok(few(joined))
 }
 
 /// The cubes of both sides.
@@ -110,7 +107,11 @@ fn unite<'a, A: Allocator>(
 ) -> Result<Cubes<'a, A>, AllocError>
     ensures { IfOk result (λ r. option_map (λ v. v.items) r ≡ few (spec_sets.set_of spec_cubes.cube_cmp (left.entry.items ++ right.now))) }
 {
-    left.extend_from_slice(right)?;
+    if right.len() <= MOST_INSERTED {
+        insert_each(&mut left, right)?;
+    } else {
+        left.extend_from_slice(right)?;
+    }
     make_distinct(&mut left);
     Ok(few(left))
 }
@@ -127,7 +128,7 @@ pub(crate) fn both<'a, A: Allocator>(
     match (left, right) {
         (Some(left), Some(right)) => {
             if meet {
-                join(alloc, left.as_slice(), right.as_slice())
+                join(alloc, left, right)
             } else {
                 unite(left, right.as_slice())
             }

@@ -96,22 +96,53 @@ fn go_on(before: ItemBefore, kind: TokenKind) -> Result<Place, Stop>
     Err(Stop::Fault(fault))
 }
 
-/// Takes a token in `Inf(0)`.
-fn in_acceptance(part: AcceptancePart, kind: TokenKind, text: &[u8]) -> Result<Place, Stop>
-    ensures { (v : view.HeaderView) → Leads (view.in_acceptance part v (token_of kind text.now)) result v }
+/// The first token behind so many sets' number.
+fn first_part(sets: usize) -> AcceptancePart
+    ensures { result ≡ view.first_part sets }
+{
+    if sets == 0 {
+        AcceptancePart::True
+    } else {
+        AcceptancePart::Inf(0)
+    }
+}
+
+/// Where the next one of so many sets stands, if there is one.
+fn behind_set(sets: usize, set: usize) -> Place
+    ensures { result ≡ view.behind_set sets set }
+{
+    if set < sets.saturating_sub(1) {
+        Place::Acceptance(AcceptancePart::And(set + 1))
+    } else {
+        Place::Item(ItemBefore::Acceptance)
+    }
+}
+
+/// Takes a token of the acceptance condition of so many sets.
+fn in_acceptance(
+    sets: usize,
+    part: AcceptancePart,
+    kind: TokenKind,
+    text: &[u8],
+) -> Result<Place, Stop>
+    ensures { (v : view.HeaderView) → Leads (view.part_taken sets part v (token_of kind text.now)) result v }
 {
     match (part, kind) {
-        (AcceptancePart::Inf, TokenKind::Identifier) if text == b"Inf".as_slice() => {
-            Ok(Place::Acceptance(AcceptancePart::Open))
-        }
-        (AcceptancePart::Open, TokenKind::OpenBracket) => {
-            Ok(Place::Acceptance(AcceptancePart::Number))
-        }
-        (AcceptancePart::Number, TokenKind::Int) if number(text) == 0 => {
-            Ok(Place::Acceptance(AcceptancePart::Close))
-        }
-        (AcceptancePart::Close, TokenKind::CloseBracket) => {
+        (AcceptancePart::True, TokenKind::Identifier) if text == b"t".as_slice() => {
             Ok(Place::Item(ItemBefore::Acceptance))
+        }
+        (AcceptancePart::Inf(set), TokenKind::Identifier) if text == b"Inf".as_slice() => {
+            Ok(Place::Acceptance(AcceptancePart::Open(set)))
+        }
+        (AcceptancePart::Open(set), TokenKind::OpenBracket) => {
+            Ok(Place::Acceptance(AcceptancePart::Number(set)))
+        }
+        (AcceptancePart::Number(set), TokenKind::Int) if number(text) == set => {
+            Ok(Place::Acceptance(AcceptancePart::Close(set)))
+        }
+        (AcceptancePart::Close(set), TokenKind::CloseBracket) => Ok(behind_set(sets, set)),
+        (AcceptancePart::And(set), TokenKind::AndSign) => {
+            Ok(Place::Acceptance(AcceptancePart::Inf(set)))
         }
         _ => Err(Stop::Fault(unless_broken(kind, HoaFaultKind::Unsupported))),
     }
@@ -164,7 +195,7 @@ impl<'a, A: Allocator> Header<'a, A> {
             Place::Count => self.at_count(kind, text),
             Place::Names => self.at_names(kind, text),
             Place::Sets => self.at_sets(kind, text),
-            Place::Acceptance(part) => in_acceptance(part, kind, text),
+            Place::Acceptance(part) => in_acceptance(self.sets.unwrap_or(0), part, kind, text),
             Place::Body(_) => Err(Stop::Fault(HoaFaultKind::BadToken)),
             Place::End => Err(Stop::Fault(HoaFaultKind::TextAfterEnd)),
         }
@@ -274,7 +305,6 @@ impl<'a, A: Allocator> Header<'a, A> {
         Ok(self.after_name())
     }
 
-    /// One set alone is read for now.
     fn at_sets(&mut self, kind: TokenKind, text: &[u8]) -> Result<Place, Stop>
         ensures { Leads (view.at_sets self.old (token_of kind text.now)) result self.new }
     {
@@ -282,11 +312,12 @@ impl<'a, A: Allocator> Header<'a, A> {
             let fault = unless_broken(kind, HoaFaultKind::Unsupported);
             return Err(Stop::Fault(fault));
         }
-        if number(text) != 1 {
-            return Err(Stop::Fault(HoaFaultKind::Unsupported));
+        let count = number(text);
+        if count > MOST_SETS {
+            return Err(Stop::Fault(HoaFaultKind::LimitPassed));
         }
-        self.sets = Some(1);
-        Ok(Place::Acceptance(AcceptancePart::Inf))
+        self.sets = Some(count);
+        Ok(Place::Acceptance(first_part(count)))
     }
 
     /// What the header counts, where nothing is missing and the start is a state.

@@ -2,21 +2,36 @@
 
 ghost use Rattle.std.specs.Prelude.{◌≡◌, ◌↔◌, ◌≤◌, ℕ, List, length, None, Ok, Err, Result};
 ghost use Rattle.ltl_spec.specs.Automata.Automaton.{Automaton};
+ghost use Rattle.ltl_spec.specs.Automata.GeneralizedText.{generalized_text};
 ghost use Rattle.ltl_spec.specs.Automata.HoaText.{hoa_text};
 ghost use Rattle.ltl_spec.specs.Formulas.Formula.{Reading};
 ghost use Rattle.ltl_spec.specs.Hoa.HoaFault.{hoa_fault};
 ghost use Rattle.ltl_spec.specs.Hoa.HoaReading.{MarkedAutomaton, stated_form, HoaReadsWithin};
 ghost use Rattle.ltl_spec.specs.Tools.Limits.{stated_limits};
-ghost use Rattle.ltl_hoa.specs.Printed.{IsPrinted, IsReadBack, marked_of};
+ghost use Rattle.ltl_spec.specs.Hoa.HoaPrinted as generalized;
+ghost use Rattle.ltl_hoa.specs.Printed.{IsAnswered, IsPrinted, IsReadBack, marked_of};
 ghost use Rattle.ltl_hoa.specs.Reading.{Answers, IsOfText};
 
 use crate::fault::HoaFault;
+use crate::marked::MOST_SETS;
 
 /// The text of an automaton, if it is within the limit, reads as that automaton, an edge being in set 0 exactly when it leaves an accepting
 /// state. So what is answered to it is that automaton, unless a read failed or memory ran out.
 pub fn printed_automata_are_read_back()
-    ensures reads { (B : Automaton) (F : Reading) → IsPrinted B F → length (hoa_text B F) ≤ stated_limits.hoa_bytes → HoaReadsWithin stated_limits stated_form (hoa_text B F) (marked_of B F.names) }
-    ensures answered { (B : Automaton) (F : Reading) (answer : Result MarkedAutomaton HoaFault) → IsPrinted B F → length (hoa_text B F) ≤ stated_limits.hoa_bytes → Answers (hoa_text B F) answer → IsReadBack B F answer }
+    ensures reads { (B : Automaton) (F : Reading) → IsPrinted B F → length (hoa_text B F) ≤ stated_limits.hoa_bytes
+        → HoaReadsWithin stated_limits stated_form (hoa_text B F) (marked_of B F.names) }
+    ensures answered { (B : Automaton) (F : Reading) (answer : Result MarkedAutomaton HoaFault) → IsPrinted B F → length (hoa_text B F) ≤ stated_limits.hoa_bytes
+        → Answers (hoa_text B F) answer → IsReadBack B F answer }
+{}
+
+/// The same of the text of a generalized automaton of at most `MOST_SETS` acceptance sets: each edge is in the sets that it is marked with.
+pub fn printed_generalized_automata_are_read_back()
+    ensures reads { (B : Automaton) (F : Reading) → generalized.IsPrinted stated_limits MOST_SETS B F
+        → length (generalized_text B F) ≤ stated_limits.hoa_bytes
+        → HoaReadsWithin stated_limits stated_form (generalized_text B F) (generalized.marked_of B F.names) }
+    ensures answered { (B : Automaton) (F : Reading) (answer : Result MarkedAutomaton HoaFault) → generalized.IsPrinted stated_limits MOST_SETS B F
+        → length (generalized_text B F) ≤ stated_limits.hoa_bytes
+        → Answers (generalized_text B F) answer → IsAnswered (generalized.marked_of B F.names) answer }
 {}
 
 /// A text reads as an automaton exactly where it has no fault, and then as one alone. So of two answers about it one can't be an automaton and

@@ -18,7 +18,7 @@ pub const MOST_EDGES: usize = 1_048_576;
 pub const MOST_NAMES: usize = 256;
 
 /// The most acceptance sets that an automaton may have.
-pub const MOST_SETS: usize = 64;
+pub const MOST_SETS: usize = 32;
 
 /// An edge: its literals by the numbers of the automaton's names, its target, and the acceptance sets that it is in, by number.
 #[derive(Clone, Copy, Debug, PartialEq, Eq)]

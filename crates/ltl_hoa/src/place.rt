@@ -10,13 +10,17 @@ pub(crate) enum ItemBefore {
     Other,
 }
 
-/// The token that comes next in `Inf(0)`.
+/// The token that comes next in `t`, or in `Inf(0)&Inf(1)`: that of the set with a number.
 #[derive(Clone, Copy)]
 pub(crate) enum AcceptancePart {
-    Inf,
-    Open,
-    Number,
-    Close,
+    /// `t`: there are no sets.
+    True,
+    Inf(usize),
+    Open(usize),
+    Number(usize),
+    Close(usize),
+    /// `&` before the set.
+    And(usize),
 }
 
 /// What may come next in the body.

@@ -1,4 +1,20 @@
 //! What the three mains share: the words that the system hands over, and the files that they name.
+//!
+//! This is the thin layer between a process and `ltl_cli`: command line, files and allocator come from a runtime (`HostRuntime` in the programs, any
+//! type with the traits `Env`, `Alloc` and `Files` in tests), so all of it but the streams of the process can be tried without one.
+//!
+//! What flows: the runtime's words, to strings (`words`), to texts (`texts`), which `ltl_cli::plan` takes; the plan, to the source of the formula
+//! (`formula_source`), which is a file where the plan names one and else a text that the plan holds; a name, to the file or to "not opened"
+//! (`opened`).
+//!
+//! ```
+//! let words = words(&rt)?;
+//! let texts = texts(rt.alloc(), words.as_slice())?;
+//! let plan = plan(rt.alloc(), Tool::Translator, texts.as_slice());
+//! let source = formula_source(&rt, &plan);
+//! ```
+//!
+//! A fault of the words is handed on like one of the plan, so the program tells of it as it tells of usage or of want of memory.
 #![tactic(auto)]
 
 ghost use Rattle.std.specs.Prelude.{◌≡◌, false, map, string_bytes, IfOk, IfErr};

@@ -52,8 +52,80 @@ const NEVER: &str =
 const ALTERNATING: &str =
     "HOA: v1\nStates: 2\nStart: 0\nAP: 1 \"p\"\nAcceptance: 1 Inf(0)\n--BODY--\nState: 0 {0}\n[0] 1\nState: 1\n[!0] 0\n--END--\n";
 
+/// It has two sets: of a state, of an edge, and of both.
+const TWO_SETS: &str =
+    "HOA: v1\nStates: 2\nStart: 0\nAP: 1 \"p\"\nAcceptance: 2 Inf(0) & /* both */ Inf(1)\n--BODY--\nState: 0 {1 0}\n[0] 1\nState: 1 {1}\n[!0] 0 {0}\n[t] 1\n--END--\n";
+
+/// It has no sets.
+const NO_SETS: &str =
+    "HOA: v1\nStates: 1\nStart: 0\nAP: 1 \"p\"\nAcceptance: 0 t\n--BODY--\nState: 0\n[!0] 0\n--END--\n";
+
+/// It has as many sets as there may be.
+const ALL_SETS: &str =
+    "HOA: v1\nStates: 1\nStart: 0\nAP: 1 \"p\"\nAcceptance: 32 Inf(0)&Inf(1)&Inf(2)&Inf(3)&Inf(4)&Inf(5)&Inf(6)&Inf(7)&Inf(8)&Inf(9)&Inf(10)&Inf(11)&Inf(12)&Inf(13)&Inf(14)&Inf(15)&Inf(16)&Inf(17)&Inf(18)&Inf(19)&Inf(20)&Inf(21)&Inf(22)&Inf(23)&Inf(24)&Inf(25)&Inf(26)&Inf(27)&Inf(28)&Inf(29)&Inf(30)&Inf(31)\n--BODY--\nState: 0 {31}\n[!0] 0\n--END--\n";
+
 /// Texts that are refused, with the fault's line and kind.
-const REFUSED: [(&str, usize, HoaFaultKind); 29] = [
+const REFUSED: [(&str, usize, HoaFaultKind); 41] = [
+    (
+        "HOA: v1\nStates: 1\nStart: 0\nAP: 1 \"p\"\nAcceptance: 33\n--BODY--\nState: 0\n[!0] 0\n--END--\n",
+        5,
+        HoaFaultKind::LimitPassed,
+    ),
+    (
+        "HOA: v1\nStates: 1\nStart: 0\nAP: 1 \"p\"\nAcceptance: 4294967296 Inf(0)\n--BODY--\nState: 0\n[!0] 0\n--END--\n",
+        5,
+        HoaFaultKind::LimitPassed,
+    ),
+    (
+        "HOA: v1\nStates: 1\nStart: 0\nAP: 1 \"p\"\nAcceptance: 2 Inf(0)\n--BODY--\nState: 0\n[!0] 0\n--END--\n",
+        6,
+        HoaFaultKind::Unsupported,
+    ),
+    (
+        "HOA: v1\nStates: 1\nStart: 0\nAP: 1 \"p\"\nAcceptance: 1 Inf(0)&Inf(1)\n--BODY--\nState: 0\n[!0] 0\n--END--\n",
+        5,
+        HoaFaultKind::Unsupported,
+    ),
+    (
+        "HOA: v1\nStates: 1\nStart: 0\nAP: 1 \"p\"\nAcceptance: 2 Inf(0)&Inf(0)\n--BODY--\nState: 0\n[!0] 0\n--END--\n",
+        5,
+        HoaFaultKind::Unsupported,
+    ),
+    (
+        "HOA: v1\nStates: 1\nStart: 0\nAP: 1 \"p\"\nAcceptance: 2 Inf(0)|Inf(1)\n--BODY--\nState: 0\n[!0] 0\n--END--\n",
+        5,
+        HoaFaultKind::Unsupported,
+    ),
+    (
+        "HOA: v1\nStates: 1\nStart: 0\nAP: 1 \"p\"\nAcceptance: 0 Inf(0)\n--BODY--\nState: 0\n[!0] 0\n--END--\n",
+        5,
+        HoaFaultKind::Unsupported,
+    ),
+    (
+        "HOA: v1\nStates: 1\nStart: 0\nAP: 1 \"p\"\nAcceptance: 1 t\n--BODY--\nState: 0\n[!0] 0\n--END--\n",
+        5,
+        HoaFaultKind::Unsupported,
+    ),
+    (
+        "HOA: v1\nStates: 1\nStart: 0\nAP: 1 \"p\"\nAcceptance: 2 Inf(0)&Inf(18446744073709551617)\n--BODY--\nState: 0\n[!0] 0\n--END--\n",
+        5,
+        HoaFaultKind::Unsupported,
+    ),
+    (
+        "HOA: v1\nStates: 1\nStart: 0\nAP: 1 \"p\"\nAcceptance: 0 t\n--BODY--\nState: 0 {0}\n[!0] 0\n--END--\n",
+        7,
+        HoaFaultKind::NumberOutOfRange,
+    ),
+    (
+        "HOA: v1\nStates: 1\nStart: 0\nAP: 1 \"p\"\nAcceptance: 2 Inf(0)&Inf(1)\n--BODY--\nState: 0 {2}\n[!0] 0\n--END--\n",
+        7,
+        HoaFaultKind::NumberOutOfRange,
+    ),
+    (
+        "HOA: v1\nStates: 1\nStart: 0\nAP: 1 \"p\"\nAcceptance: 2 Inf(0)&Inf(1)\n--BODY--\nState: 0\n[!0] 0 {2}\n--END--\n",
+        8,
+        HoaFaultKind::NumberOutOfRange,
+    ),
     (
         "HOA: v2\nStates: 1\nStart: 0\nAP: 1 \"p\"\nAcceptance: 1 Inf(0)\n--BODY--\nState: 0 {0}\n[!0] 0\n--END--\n",
         1,
@@ -70,7 +142,7 @@ const REFUSED: [(&str, usize, HoaFaultKind); 29] = [
         HoaFaultKind::ItemMissing,
     ),
     (
-        "HOA: v1\nStates: 1\nStart: 0\nAP: 1 \"p\"\nAcceptance: 2 Inf(0)&Inf(1)\n--BODY--\nState: 0 {0}\n[!0] 0\n--END--\n",
+        "HOA: v1\nStates: 1\nStart: 0\nAP: 1 \"p\"\nAcceptance: 2 Inf(1)&Inf(0)\n--BODY--\nState: 0 {0}\n[!0] 0\n--END--\n",
         5,
         HoaFaultKind::Unsupported,
     ),
@@ -301,23 +373,18 @@ fn parts_of<'t>(parts: &'t [(&'t str, usize)]) -> Repeated<'t> {
     }
 }
 
-/// Whether the edge at that place leads there, in set 0 or in none.
+/// Whether the edge at that place leads there, in these sets.
 fn leads<A: Allocator>(
     automaton: &Marked<'_, A>,
     state: usize,
     place: usize,
     cube: Cube,
     target: usize,
-    accepting: bool,
+    sets: RowSet,
 ) -> bool {
     if state >= automaton.len() {
         return false;
     }
-    let sets = if accepting {
-        RowSet::single(0)
-    } else {
-        RowSet::empty()
-    };
     match automaton.edges(state).get(place) {
         Some(edge) => *edge == MarkedEdge { cube, target, sets },
         None => false,
@@ -330,7 +397,14 @@ fn is_never<A: Allocator>(read: Result<Marked<'_, A>, HoaFault>) -> bool {
         Ok(automaton) => {
             automaton.len() == 1
                 && automaton.edges(0).len() == 1
-                && leads(&automaton, 0, 0, Cube::literal(0, false), 0, true)
+                && leads(
+                    &automaton,
+                    0,
+                    0,
+                    Cube::literal(0, false),
+                    0,
+                    RowSet::single(0),
+                )
         }
         Err(_) => false,
     }
@@ -344,10 +418,67 @@ fn is_alternating<A: Allocator>(read: Result<Marked<'_, A>, HoaFault>) -> bool {
                 && automaton.start() == 0
                 && automaton.sets() == 1
                 && automaton.names().len() == 1
-                && leads(&automaton, 0, 0, Cube::literal(0, true), 1, true)
-                && leads(&automaton, 1, 0, Cube::literal(0, false), 0, false)
+                && leads(
+                    &automaton,
+                    0,
+                    0,
+                    Cube::literal(0, true),
+                    1,
+                    RowSet::single(0),
+                )
+                && leads(
+                    &automaton,
+                    1,
+                    0,
+                    Cube::literal(0, false),
+                    0,
+                    RowSet::empty(),
+                )
         }
         Err(_) => false,
+    }
+}
+
+/// Whether it is the automaton with two sets.
+fn has_two_sets<A: Allocator>(read: Result<Marked<'_, A>, HoaFault>) -> bool {
+    let mut both = RowSet::single(0);
+    both.insert(1);
+    match read {
+        Ok(automaton) => {
+            automaton.len() == 2
+                && automaton.sets() == 2
+                && leads(&automaton, 0, 0, Cube::literal(0, true), 1, both)
+                && leads(&automaton, 1, 0, Cube::literal(0, false), 0, both)
+                && leads(&automaton, 1, 1, Cube::empty(), 1, RowSet::single(1))
+        }
+        Err(_) => false,
+    }
+}
+
+/// Whether it has so many sets, and its only edge is in these.
+fn is_in_sets<A: Allocator>(
+    read: Result<Marked<'_, A>, HoaFault>,
+    count: usize,
+    sets: RowSet,
+) -> bool {
+    match read {
+        Ok(automaton) => {
+            automaton.sets() == count && leads(&automaton, 0, 0, Cube::literal(0, false), 0, sets)
+        }
+        Err(_) => false,
+    }
+}
+
+#[test]
+fn sets_in_pieces(rt: HostRuntime) {
+    let alloc = rt.alloc();
+    let sizes: [usize; 5] = [1, 2, 3, 7, 4_096];
+    for i in 0..5 {
+        assert!(rt; has_two_sets(hoa_read(&alloc, &mut given(TWO_SETS, sizes[i]))));
+        let read = hoa_read(&alloc, &mut given(NO_SETS, sizes[i]));
+        assert!(rt; is_in_sets(read, 0, RowSet::empty()));
+        let read = hoa_read(&alloc, &mut given(ALL_SETS, sizes[i]));
+        assert!(rt; is_in_sets(read, 32, RowSet::single(31)));
     }
 }
 
@@ -414,7 +545,14 @@ fn names_to_the_limit(rt: HostRuntime) -> Result<(), Fail> {
     assert!(rt;
         read.is_ok_and(|automaton| {
             automaton.names().len() == 256
-                && leads(&automaton, 0, 0, Cube::literal(255, true), 0, false)
+                && leads(
+                    &automaton,
+                    0,
+                    0,
+                    Cube::literal(255, true),
+                    0,
+                    RowSet::empty()
+                )
         })
     );
     Ok(())

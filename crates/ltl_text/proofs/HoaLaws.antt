@@ -1,23 +1,24 @@
 -- A text in the Hanoi Omega-Automata format as what is put one after the other.
-use Rattle.std.proofs.Common.{◌≡◌, ◌∙◌, ap, ap₂, sym, refl, ℕ, ◌+◌, ◌-◌, ◌<◌, ◌≤◌, Bool, false, List, [], ◌∷◌, ◌++◌, length, map, slice_index_or, append_assoc, drop, arith}
+use Rattle.std.proofs.Common.{◌≡◌, ◌∙◌, ap, sym, refl, ℕ, zero, suc, ◌+◌, ◌-◌, ◌<◌, ◌≤◌, Bool, false, List, [], ◌∷◌, ◌++◌, length, map, slice_index_or, append_assoc, drop, arith}
 use Rattle.std.specs.Prelude.{codes, if◌then◌else◌}
 use Rattle.std.specs.Fmt.{decimal}
 use Rattle.std.specs.List.{flat_map, range_with_len}
 use Rattle.std.proofs.lemmas.List.{drop_more, drop_all}
+use Rattle.ltl_spec.specs.Collections.Lists.{joined_by}
 use Rattle.ltl_spec.specs.Semantics.Word.{Name}
 use Rattle.ltl_spec.specs.Formulas.Formula.{Reading}
 use Rattle.ltl_spec.specs.Formulas.Canonical.{canonical_text}
 use Rattle.ltl_spec.specs.Transitions.Cubes.{Literal, Cube}
 use Rattle.ltl_spec.specs.Automata.Automaton.{Automaton, Edge, state_at}
-use Rattle.ltl_spec.specs.Automata.HoaText.{edge_line, hoa_text, label_literal, label_text, names_line, state_lines}
+use Rattle.ltl_spec.specs.Automata.HoaText.{edge_line, hoa_text, label_literal, label_text, names_line, quoted, state_lines}
+use Rattle.ltl_spec.specs.Automata.GeneralizedText as acceptance
+use Rattle.ltl_spec.specs.Automata.GeneralizedText.{acceptance_name, generalized_text, marked_edge_line, marked_state_lines, marks_text}
 use Rattle.ltl_spec.specs.Automata.ClaimText.{line}
-use Rattle.ltl_buchi.specs.declared.automaton.Edge as code
-use Rattle.ltl_buchi.specs.BaView.{edge_of}
 use Rattle.ltl_sets.specs.declared.literal.Literal as made
 use Rattle.ltl_sets.specs.Literals.{literal_of, cube_of}
-use Rattle.ltl_text.specs.HoaPieces.{acceptance_text, header_text, quoted_names, states_text}
+use Rattle.ltl_text.specs.HoaPieces.{acceptance_text, condition_text, counts_text, lines_text, marked_states_text, quoted_names, set_text, state_number, states_text, step_text, title_text}
 use Rattle.ltl_text.proofs.BlockLaws.{range_step, range_end}
-use Rattle.ltl_text.proofs.TextLaws.{joined_led, led}
+use Rattle.ltl_text.proofs.TextLaws.{amid, joined_led, led, onward}
 
 -- ---- a label
 pub negative_label : (l : Literal) → l.positive ≡ false → label_literal l ≡ codes "!" ++ decimal l.proposition
@@ -45,40 +46,100 @@ pub label_ends : (rest : List made.Literal) → rest ≡ [] → led (codes "&") 
 label_ends rest e = ap (λ t. led (codes "&") (labels_of t)) e
 
 -- ---- edges and states
-pub edge_pieces : (e : Edge) → edge_line e ≡ codes "[" ++ (label_text e.cube ++ (codes "] " ++ (decimal e.target ++ 10 ∷ [])))
-edge_pieces e = regroup (codes "[") (label_text e.cube) (codes "] ") (decimal e.target) (10 ∷ [])
+step_onward : (a b c d e : List ℕ) → (((a ++ b) ++ c) ++ d) ++ e ≡ (a ++ (b ++ (c ++ d))) ++ e
+step_onward a b c d e = simp append_assoc
+
+pub edge_pieces : (e : Edge) → edge_line e ≡ step_text e.cube e.target ++ 10 ∷ []
+edge_pieces e = step_onward (codes "[") (label_text e.cube) (codes "] ") (decimal e.target) (10 ∷ [])
+
+pub marked_edge_pieces : (e : Edge) → marked_edge_line e ≡ step_text e.cube e.target ++ (marks_text e.marks ++ 10 ∷ [])
+marked_edge_pieces e = regroup (codes "[") (label_text e.cube) (codes "] ") (decimal e.target) (marks_text e.marks) (10 ∷ [])
   where
-    regroup : (a b c d f : List ℕ) → (((a ++ b) ++ c) ++ d) ++ f ≡ a ++ (b ++ (c ++ (d ++ f)))
-    regroup a b c d f = simp append_assoc
+    regroup : (a b c d m f : List ℕ) → ((((a ++ b) ++ c) ++ d) ++ m) ++ f ≡ (a ++ (b ++ (c ++ d))) ++ (m ++ f)
+    regroup a b c d m f = simp append_assoc
 
 pub state_pieces : (B : Automaton) (k : ℕ)
-    → state_lines B k ≡ codes "State: " ++ (decimal k ++ (acceptance_text (state_at B k).accepting ++ flat_map edge_line (state_at B k).edges))
-state_pieces B k = regroup (codes "State: ") (decimal k) (if (state_at B k).accepting then codes " {0}" else []) (10 ∷ []) (flat_map edge_line (state_at B k).edges)
+    → state_lines B k ≡ state_number k ++ (acceptance_text (state_at B k).accepting ++ flat_map edge_line (state_at B k).edges)
+state_pieces B k = regroup (state_number k) (if (state_at B k).accepting then codes " {0}" else []) (10 ∷ []) (flat_map edge_line (state_at B k).edges)
   where
-    regroup : (a b c d f : List ℕ) → (((a ++ b) ++ c) ++ d) ++ f ≡ a ++ (b ++ ((c ++ d) ++ f))
-    regroup a b c d f = simp append_assoc
+    regroup : (a c d f : List ℕ) → ((a ++ c) ++ d) ++ f ≡ a ++ ((c ++ d) ++ f)
+    regroup a c d f = simp append_assoc
 
-module _ (B : Automaton) where
-  -- the states from k on
+pub marked_state_pieces : (A : Automaton) (k : ℕ) → marked_state_lines A k ≡ state_number k ++ (10 ∷ [] ++ flat_map marked_edge_line (state_at A k).edges)
+marked_state_pieces A k = append_assoc (state_number k) (10 ∷ []) (flat_map marked_edge_line (state_at A k).edges)
+
+-- the states from k on, of so many
+module _ (lines : ℕ → List ℕ) (count : ℕ) where
   abbrev pub states_from : ℕ → List ℕ
-  states_from k = flat_map (state_lines B) (range_with_len k (length B.states - k))
+  states_from k = flat_map lines (range_with_len k (count - k))
 
-  pub states_begin : states_text B ≡ states_from 0
-  states_begin = let e : length B.states ≡ length B.states - 0 = omega arith in ap (λ n. flat_map (state_lines B) (range_with_len 0 n)) e
+  pub states_begin : flat_map lines (range_with_len 0 count) ≡ states_from 0
+  states_begin = let e : count ≡ count - 0 = omega arith in ap (λ n. flat_map lines (range_with_len 0 n)) e
 
-  pub states_go_on : (k : ℕ) → k < length B.states → states_from k ≡ state_lines B k ++ states_from (k + 1)
-  states_go_on k lt = ap (flat_map (state_lines B)) (range_step k (length B.states) lt)
+  pub states_go_on : (k : ℕ) → k < count → states_from k ≡ lines k ++ states_from (k + 1)
+  states_go_on k lt = ap (flat_map lines) (range_step k count lt)
 
-  pub states_end : (k : ℕ) → length B.states ≤ k → states_from k ≡ []
-  states_end k le = ap (flat_map (state_lines B)) (range_end k (length B.states) le)
+  pub states_end : (k : ℕ) → count ≤ k → states_from k ≡ []
+  states_end k le = ap (flat_map lines) (range_end k count le)
 
-pub edges_go_on : (es : List code.Edge) (i : ℕ) (e : code.Edge) → i < length es → e ≡ slice_index_or es i e
-    → flat_map edge_line (map edge_of (drop i es)) ≡ edge_line (edge_of e) ++ flat_map edge_line (map edge_of (drop (i + 1) es))
-edges_go_on es i e lt is =
-    ap (λ l. flat_map edge_line (map edge_of l)) (drop_more es i e lt) ∙ ap (λ x. edge_line (edge_of x) ++ flat_map edge_line (map edge_of (drop (i + 1) es))) (sym is)
+-- the edges from a place on
+module _ {X : Type 0} (view : X → Edge) (text : Edge → List ℕ) where
+  pub edges_go_on : (es : List X) (i : ℕ) (e : X) → i < length es → e ≡ slice_index_or es i e
+      → flat_map text (map view (drop i es)) ≡ text (view e) ++ flat_map text (map view (drop (i + 1) es))
+  edges_go_on es i e lt is =
+      ap (λ l. flat_map text (map view l)) (drop_more es i e lt) ∙ ap (λ x. text (view x) ++ flat_map text (map view (drop (i + 1) es))) (sym is)
 
-pub edges_end : (es : List code.Edge) (i : ℕ) → length es ≤ i → flat_map edge_line (map edge_of (drop i es)) ≡ []
-edges_end es i le = ap (λ l. flat_map edge_line (map edge_of l)) (drop_all i es le)
+  pub edges_end : (es : List X) (i : ℕ) → length es ≤ i → flat_map text (map view (drop i es)) ≡ []
+  edges_end es i le = ap (λ l. flat_map text (map view l)) (drop_all i es le)
+
+-- ---- the sets of an edge
+pub marks_begin : (marks rest : List ℕ) (k : ℕ) (ks : List ℕ) → rest ≡ marks → rest ≡ k ∷ ks
+    → marks_text marks ≡ codes " {" ++ (decimal k ++ (led (codes " ") (map decimal ks) ++ codes "}"))
+marks_begin marks rest k ks e f =
+    ap marks_text (sym e ∙ f) ∙ ap (λ t. (codes " {" ++ t) ++ codes "}") (joined_led (codes " ") (decimal k) (map decimal ks))
+    ∙ amid (codes " {") (decimal k) (led (codes " ") (map decimal ks)) (codes "}")
+
+pub marks_go_on : (rest : List ℕ) (k : ℕ) (ks : List ℕ) → rest ≡ k ∷ ks
+    → led (codes " ") (map decimal rest) ++ codes "}" ≡ codes " " ++ (decimal k ++ (led (codes " ") (map decimal ks) ++ codes "}"))
+marks_go_on rest k ks e =
+    ap (λ t. led (codes " ") (map decimal t) ++ codes "}") e ∙ onward (codes " ") (decimal k) (led (codes " ") (map decimal ks)) (codes "}")
+
+pub marks_end : (rest : List ℕ) → rest ≡ [] → led (codes " ") (map decimal rest) ++ codes "}" ≡ codes "}"
+marks_end rest e = ap (λ t. led (codes " ") (map decimal t) ++ codes "}") e
+
+pub no_marks : (marks rest : List ℕ) → rest ≡ marks → rest ≡ [] → marks_text marks ≡ []
+no_marks marks rest e f = ap marks_text (sym e ∙ f)
+
+-- ---- the acceptance of so many sets
+pub some_name : (sets : ℕ) → 0 < sets → acceptance_name sets ≡ codes "generalized-Buchi " ++ decimal sets
+some_name zero lt = absurd (omega arith)
+some_name (suc n) lt = refl
+
+-- the sets from k on, each behind `&`
+abbrev pub sets_from : ℕ → ℕ → List ℕ
+sets_from sets k = led (codes "&") (map set_text (range_with_len k (sets - k)))
+
+pub some_sets : (sets : ℕ) → 0 < sets → acceptance.acceptance_text sets ≡ decimal sets ++ (codes " " ++ (set_text 0 ++ sets_from sets 1))
+some_sets zero lt = absurd (omega arith)
+some_sets (suc n) lt =
+    ap (λ ts. (decimal (suc n) ++ codes " ") ++ joined_by (codes "&") ts) (all_sets (range_with_len 0 (suc n)))
+    ∙ ap (λ t. (decimal (suc n) ++ codes " ") ++ t) (joined_led (codes "&") (set_text 0) (map set_text (range_with_len 1 n)))
+    ∙ append_assoc (decimal (suc n)) (codes " ") (set_text 0 ++ led (codes "&") (map set_text (range_with_len 1 n)))
+    ∙ ap (λ m. decimal (suc n) ++ (codes " " ++ (set_text 0 ++ led (codes "&") (map set_text (range_with_len 1 m))))) others
+  where
+    others : n ≡ suc n - 1
+    others = omega arith
+
+    all_sets : (ks : List ℕ) → map (λ k. (codes "Inf(" ++ decimal k) ++ codes ")") ks ≡ map set_text ks
+    all_sets [] = refl
+    all_sets (k ∷ ks) = let a = append_assoc (codes "Inf(") (decimal k) (codes ")") in let b = all_sets ks in λ i. a i ∷ b i
+
+pub sets_go_on : (sets k : ℕ) → k < sets → sets_from sets k ≡ codes "&" ++ (set_text k ++ sets_from sets (k + 1))
+sets_go_on sets k lt =
+    ap (λ ks. led (codes "&") (map set_text ks)) (range_step k sets lt) ∙ append_assoc (codes "&") (set_text k) (sets_from sets (k + 1))
+
+pub sets_end : (sets k : ℕ) → sets ≤ k → sets_from sets k ≡ []
+sets_end sets k le = ap (λ ks. led (codes "&") (map set_text ks)) (range_end k sets le)
 
 -- ---- names
 pub names_go_on : (names : List Name) (k : ℕ) → k < length names
@@ -90,31 +151,27 @@ pub names_end : (names : List Name) (k : ℕ) → length names ≤ k → quoted_
 names_end names k le = ap quoted_names (drop_all k names le)
 
 -- ---- the whole text
-abbrev newline : List ℕ
-newline = 10 ∷ []
-
-pub header_pieces : (count n m : ℕ) (names : List Name) → n ≡ count → m ≡ length names
-    → header_text count names ≡ codes "States: " ++ (decimal n ++ ((newline ++ (line (codes "Start: 0") ++ codes "AP: ")) ++ (decimal m ++ (quoted_names names
-    ++ (newline ++ (line (codes "acc-name: Buchi") ++ (line (codes "Acceptance: 1 Inf(0)") ++ (line (codes "properties: trans-labels explicit-labels state-acc") ++ line (codes "--BODY--")))))))))
-header_pieces count n m names e f =
-    regroup (codes "States: ") (decimal count) newline (line (codes "Start: 0")) (codes "AP: ") (decimal (length names)) (quoted_names names)
-    (line (codes "acc-name: Buchi")) (line (codes "Acceptance: 1 Inf(0)")) (line (codes "properties: trans-labels explicit-labels state-acc")) (line (codes "--BODY--"))
-    ∙ ap₂ (λ a b. codes "States: " ++ (decimal a ++ ((newline ++ (line (codes "Start: 0") ++ codes "AP: ")) ++ (decimal b ++ (quoted_names names
-    ++ (newline ++ (line (codes "acc-name: Buchi") ++ (line (codes "Acceptance: 1 Inf(0)") ++ (line (codes "properties: trans-labels explicit-labels state-acc") ++ line (codes "--BODY--")))))))))) (sym e) (sym f)
+text_pieces : (R : Reading) (count : ℕ) (name condition kind states : List ℕ)
+    → line (codes "HOA: v1") ++ line (codes "name: " ++ quoted (canonical_text R)) ++ line (codes "States: " ++ decimal count) ++ line (codes "Start: 0") ++ names_line R.names
+    ++ line (codes "acc-name: " ++ name) ++ line (codes "Acceptance: " ++ condition) ++ line (codes "properties: trans-labels explicit-labels " ++ kind) ++ line (codes "--BODY--") ++ states
+    ++ line (codes "--END--")
+    ≡ title_text R ++ (counts_text count R.names ++ (lines_text name condition kind ++ (states ++ line (codes "--END--"))))
+text_pieces R count name condition kind states =
+    regroup (line (codes "HOA: v1")) (codes "name: ") (34 ∷ []) (canonical_text R) (10 ∷ []) (codes "States: ") (decimal count) (line (codes "Start: 0")) (codes "AP: ") (decimal (length R.names))
+    (quoted_names R.names) (codes "acc-name: ") name (codes "Acceptance: ") condition (codes "properties: trans-labels explicit-labels ") kind (line (codes "--BODY--")) states (line (codes "--END--"))
   where
-    regroup : (s d n t a e q w x y z : List ℕ)
-        → (((((((s ++ d) ++ n) ++ t) ++ (((a ++ e) ++ q) ++ n)) ++ w) ++ x) ++ y) ++ z ≡ s ++ (d ++ ((n ++ (t ++ a)) ++ (e ++ (q ++ (n ++ (w ++ (x ++ (y ++ z))))))))
-    regroup s d n t a e q w x y z = simp append_assoc
+    regroup : (h m q c n s d t a e f x u y v p k b r z : List ℕ)
+        → (((((((((h ++ ((m ++ ((q ++ c) ++ q)) ++ n)) ++ ((s ++ d) ++ n)) ++ t) ++ (((a ++ e) ++ f) ++ n)) ++ ((x ++ u) ++ n)) ++ ((y ++ v) ++ n)) ++ ((p ++ k) ++ n)) ++ b) ++ r) ++ z
+        ≡ ((h ++ (m ++ q)) ++ c) ++ (((q ++ (n ++ s)) ++ (d ++ ((n ++ (t ++ a)) ++ (e ++ f)))) ++ (((n ++ x) ++ (u ++ ((n ++ y) ++ (v ++ ((n ++ p) ++ (k ++ (n ++ b))))))) ++ (r ++ z)))
+    regroup h m q c n s d t a e f x u y v p k b r z = simp append_assoc
 
-pub hoa_pieces : (B : Automaton) (R : Reading)
-    → hoa_text B R ≡ (line (codes "HOA: v1") ++ (codes "name: " ++ 34 ∷ []))
-    ++ (canonical_text R ++ ((34 ∷ [] ++ newline) ++ (header_text (length B.states) R.names ++ (states_text B ++ line (codes "--END--")))))
-hoa_pieces B R =
-    regroup (line (codes "HOA: v1")) (codes "name: ") (34 ∷ []) (canonical_text R) newline (line (codes "States: " ++ decimal (length B.states))) (line (codes "Start: 0")) (names_line R.names)
-    (line (codes "acc-name: Buchi")) (line (codes "Acceptance: 1 Inf(0)")) (line (codes "properties: trans-labels explicit-labels state-acc")) (line (codes "--BODY--")) (states_text B)
-    (line (codes "--END--"))
-  where
-    regroup : (a m q c n s t u w x y z b e : List ℕ)
-        → (((((((((a ++ ((m ++ ((q ++ c) ++ q)) ++ n)) ++ s) ++ t) ++ u) ++ w) ++ x) ++ y) ++ z) ++ b) ++ e
-        ≡ (a ++ (m ++ q)) ++ (c ++ ((q ++ n) ++ (((((((s ++ t) ++ u) ++ w) ++ x) ++ y) ++ z) ++ (b ++ e))))
-    regroup a m q c n s t u w x y z b e = simp append_assoc
+module _ (A : Automaton) (R : Reading) (n : ℕ) (same : n ≡ length A.states) where
+  pub hoa_pieces : hoa_text A R ≡ title_text R ++ (counts_text n R.names ++ (lines_text (codes "Buchi") (codes "1 Inf(0)") (codes "state-acc") ++ (states_text A ++ line (codes "--END--"))))
+  hoa_pieces =
+      text_pieces R (length A.states) (codes "Buchi") (codes "1 Inf(0)") (codes "state-acc") (states_text A)
+      ∙ ap (λ k. title_text R ++ (counts_text k R.names ++ (lines_text (codes "Buchi") (codes "1 Inf(0)") (codes "state-acc") ++ (states_text A ++ line (codes "--END--"))))) (sym same)
+
+  pub generalized_pieces : (sets : ℕ) → sets ≡ A.sets → generalized_text A R ≡ title_text R ++ (counts_text n R.names ++ (condition_text sets ++ (marked_states_text A ++ line (codes "--END--"))))
+  generalized_pieces sets e =
+      text_pieces R (length A.states) (acceptance_name A.sets) (acceptance.acceptance_text A.sets) (codes "trans-acc") (marked_states_text A)
+      ∙ (λ i. title_text R ++ (counts_text (sym same i) R.names ++ (condition_text (sym e i) ++ (marked_states_text A ++ line (codes "--END--")))))

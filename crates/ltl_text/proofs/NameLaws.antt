@@ -5,7 +5,7 @@ use Rattle.ltl_spec.specs.Automata.Automaton as spec
 use Rattle.ltl_spec.specs.Checking.Bounds.{HasNamesBelow}
 use Rattle.ltl_spec.proofs.Collections.ListLaws.{Has-at}
 use Rattle.ltl_spec.proofs.Collections.MemberLaws.{Has-map}
-use Rattle.ltl_buchi.specs.declared.automaton.Edge.{Edge}
+use Rattle.ltl_automaton.specs.declared.edge.Edge.{Edge}
 use Rattle.ltl_buchi.specs.BaView.{edge_of}
 use Rattle.ltl_text.specs.Names.{AllHaveNames}
 

@@ -110,6 +110,10 @@ module _ {o m : Option (List ℕ)} where
 pub leaves_held : {o n : Option (List ℕ)} {h k j t w : List ℕ} → Leaves o h n k t w → k ≡ j → Leaves o h n j t w
 leaves_held {o} {n} {h} {k} {j} {t} {w} l e = subst (λ x. Leaves o h n x t w) e l
 
+-- one part went out, and the other is still to be sent
+pub leaves_part : {o m : Option (List ℕ)} (a b : List ℕ) → Appends o m a → Leaves o [] m b [] (a ++ b)
+leaves_part a b p = record { done = a ++ b; sends = record { sent = a; appended = p; same = refl }; same = append-nil (a ++ b) }
+
 whole_at : {T E : Type 0} {o : Option (List ℕ)} {w : List ℕ} (r : Result T E) (m n : Option (List ℕ)) (k t : List ℕ)
     → Leaves o [] m k t w → t ≡ [] → OnOk r (Appends m n k) → OnOk r (Appends o n w)
 whole_at {o = o} {w = w} (Ok x) m n k t l e p = sends_all o [] m n k w (leaves_end l e) p

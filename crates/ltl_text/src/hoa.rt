@@ -9,7 +9,7 @@ ghost use Rattle.ltl_sets.specs.Literals.{literal_of};
 ghost use Rattle.ltl_formula.specs.FormulaView.{reading_of};
 ghost use Rattle.ltl_formula.specs.Streams.{AppendsBeginning};
 ghost use Rattle.ltl_buchi.specs.BaView.{edge_of};
-ghost use Rattle.ltl_text.specs.HoaPieces.{acceptance_text, header_text, quoted_names, states_text};
+ghost use Rattle.ltl_text.specs.HoaPieces.{acceptance_text, counts_text, quoted_names, state_number, states_text, step_text, title_text};
 ghost use Rattle.ltl_text.specs.Sending.{Puts};
 
 use crate::digits::Digits;
@@ -20,7 +20,11 @@ use ltl_sets::{Cube, Literal};
 use std::alloc::Allocator;
 use std::io::Write;
 
-fn put_number<W: Write>(number: usize, piece: &mut Piece, writer: &mut W) -> Result<(), WriteFault>
+pub(crate) fn put_number<W: Write>(
+    number: usize,
+    piece: &mut Piece,
+    writer: &mut W,
+) -> Result<(), WriteFault>
     ensures { Puts result (W.contents writer.old) piece.old (W.contents writer.new) piece.new (decimal number) }
 {
     piece.put(Digits::of(number as u64).as_slice(), writer)
@@ -56,13 +60,25 @@ fn put_literals<W: Write>(cube: &Cube, piece: &mut Piece, writer: &mut W) -> Res
     Ok(())
 }
 
+/// Puts the label of an edge and its target.
+pub(crate) fn put_step<W: Write>(
+    cube: &Cube,
+    target: usize,
+    piece: &mut Piece,
+    writer: &mut W,
+) -> Result<(), WriteFault>
+    ensures { Puts result (W.contents writer.old) piece.old (W.contents writer.new) piece.new (step_text cube.now target) }
+{
+    piece.put(b"[", writer)?;
+    put_literals(cube, piece, writer)?;
+    piece.put(b"] ", writer)?;
+    put_number(target, piece, writer)
+}
+
 fn put_edge<W: Write>(edge: &Edge, piece: &mut Piece, writer: &mut W) -> Result<(), WriteFault>
     ensures { Puts result (W.contents writer.old) piece.old (W.contents writer.new) piece.new (text.edge_line (edge_of edge.now)) }
 {
-    piece.put(b"[", writer)?;
-    put_literals(&edge.cube, piece, writer)?;
-    piece.put(b"] ", writer)?;
-    put_number(edge.target, piece, writer)?;
+    put_step(&edge.cube, edge.target, piece, writer)?;
     piece.put(b"\n", writer)
 }
 
@@ -89,6 +105,18 @@ fn put_acceptance<W: Write>(
     piece.put(b"\n", writer)
 }
 
+/// Puts the beginning of a state's line.
+pub(crate) fn put_state_number<W: Write>(
+    k: usize,
+    piece: &mut Piece,
+    writer: &mut W,
+) -> Result<(), WriteFault>
+    ensures { Puts result (W.contents writer.old) piece.old (W.contents writer.new) piece.new (state_number k) }
+{
+    piece.put(b"State: ", writer)?;
+    put_number(k, piece, writer)
+}
+
 /// Puts a state's number, whether it is accepting, and its edges.
 fn put_state<A: Allocator, W: Write>(
     automaton: &Ba<'_, A>,
@@ -99,8 +127,7 @@ fn put_state<A: Allocator, W: Write>(
     requires { k < length automaton.now.states }
     ensures { Puts result (W.contents writer.old) piece.old (W.contents writer.new) piece.new (text.state_lines automaton.now k) }
 {
-    piece.put(b"State: ", writer)?;
-    put_number(k, piece, writer)?;
+    put_state_number(k, piece, writer)?;
     put_acceptance(automaton.accepting(k), piece, writer)?;
     put_edges(automaton.edges(k), piece, writer)
 }
@@ -134,24 +161,32 @@ fn put_names<A: Allocator, W: Write>(
     Ok(())
 }
 
-/// Puts the lines of the header from the count of states on.
-fn put_header<A: Allocator, B: Allocator, W: Write>(
-    automaton: &Ba<'_, A>,
-    formula: &Formula<'_, B>,
+/// Writes the first line and the formula's text in quotes, but for the last one.
+pub(crate) fn write_title<A: Allocator, W: Write>(
+    formula: &Formula<'_, A>,
+    writer: &mut W,
+) -> Result<(), WriteFault>
+    ensures ok { OnOk result (Appends (W.contents writer.old) (W.contents writer.new) (title_text (reading_of formula.now))) }
+    ensures err { OnErr result (AppendsBeginning (W.contents writer.old) (W.contents writer.new) (title_text (reading_of formula.now))) }
+{
+    write_whole(writer, b"HOA: v1\nname: \"")?;
+    text_to(formula, writer)
+}
+
+/// Puts that quote and the lines from the count of states to the names, but for the end of the last line.
+pub(crate) fn put_counts<A: Allocator, W: Write>(
+    count: usize,
+    formula: &Formula<'_, A>,
     piece: &mut Piece,
     writer: &mut W,
 ) -> Result<(), WriteFault>
-    ensures { Puts result (W.contents writer.old) piece.old (W.contents writer.new) piece.new (header_text (length automaton.now.states) formula.now.names) }
+    ensures { Puts result (W.contents writer.old) piece.old (W.contents writer.new) piece.new (counts_text count formula.now.names) }
 {
-    piece.put(b"States: ", writer)?;
-    put_number(automaton.len(), piece, writer)?;
+    piece.put(b"\"\nStates: ", writer)?;
+    put_number(count, piece, writer)?;
     piece.put(b"\nStart: 0\nAP: ", writer)?;
     put_number(formula.name_count(), piece, writer)?;
-    put_names(formula, piece, writer)?;
-    piece.put(
-        b"\nacc-name: Buchi\nAcceptance: 1 Inf(0)\nproperties: trans-labels explicit-labels state-acc\n--BODY--\n",
-        writer,
-    )
+    put_names(formula, piece, writer)
 }
 
 /// Writes the automaton in the Hanoi Omega-Automata format, version 1, with the formula's text as its name. No memory is taken, and after a
@@ -164,11 +199,13 @@ pub fn hoa_to<A: Allocator, B: Allocator, W: Write>(
     ensures ok { OnOk result (Appends (W.contents writer.old) (W.contents writer.new) (text.hoa_text automaton.now (reading_of formula.now))) }
     ensures err { OnErr result (AppendsBeginning (W.contents writer.old) (W.contents writer.new) (text.hoa_text automaton.now (reading_of formula.now))) }
 {
-    write_whole(writer, b"HOA: v1\nname: \"")?;
-    text_to(formula, writer)?;
+    write_title(formula, writer)?;
     let mut piece = Piece::new();
-    piece.put(b"\"\n", writer)?;
-    put_header(automaton, formula, &mut piece, writer)?;
+    put_counts(automaton.len(), formula, &mut piece, writer)?;
+    piece.put(
+        b"\nacc-name: Buchi\nAcceptance: 1 Inf(0)\nproperties: trans-labels explicit-labels state-acc\n--BODY--\n",
+        writer,
+    )?;
     put_states(automaton, &mut piece, writer)?;
     piece.put(b"--END--\n", writer)?;
     piece.send(writer)

@@ -1,8 +1,22 @@
 //! Automata as texts: never claims, and the Hanoi Omega-Automata format.
+//!
+//! In the field's words: the printers of a Büchi automaton as a never claim of Spin (`never_to`) and in version 1 of the Hanoi Omega-Automata format
+//! (HOA) with accepting states (`hoa_to`), and that of a generalized automaton with acceptance sets on its edges (`gen_to`). The reader of that
+//! format, `hoa_read`, stands in `ltl_hoa` and is handed out here, so that who uses texts needs this crate alone.
+//!
+//! What flows: an automaton and its formula, whose text and names go into the output; short pieces of text, which are held back up to 4 KiB; a
+//! writer. No memory is taken. A fault of the writer ends it, and a beginning of the text has gone out.
+//!
+//! ```
+//! let mut text = Vec::new(alloc);
+//! hoa_to(&automaton, &formula, &mut text)?;
+//! let same = hoa_read(&alloc, &mut text.as_slice())?;    // the automaton again, its set 0 on the edges that leave accepting states
+//! ```
 #![tactic(auto)]
 
 mod claim;
 pub mod digits;
+mod generalized;
 mod guard;
 mod hoa;
 mod label;
@@ -11,5 +25,6 @@ mod piece;
 
 pub use claim::never_to;
 pub use digits::Digits;
+pub use generalized::gen_to;
 pub use hoa::hoa_to;
 pub use ltl_hoa::{HoaFault, HoaFaultKind, Marked, MarkedEdge, hoa_read, laws};

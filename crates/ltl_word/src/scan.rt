@@ -76,7 +76,9 @@ fn end_name<'t, A: Allocator>(
     name: &'t [u8],
     byte: u8,
 ) -> Result<Option<Place>, AllocError>
-    ensures next { IfOk result (λ next. (text : List ℕ) (at : ℕ) (b : machine.WordPlace) → machine.end_name (record (after text at places.Name written.old) { place = b }) (written.old.letter ++ name.now ∷ []) byte ≡ option_map (λ p. after text (at + 1) p written.new) next) }
+    ensures next { IfOk result (λ next. (text : List ℕ) (at : ℕ) (b : machine.WordPlace)
+        → machine.end_name (record (after text at places.Name written.old) { place = b }) (written.old.letter ++ name.now ∷ []) byte
+        ≡ option_map (λ p. after text (at + 1) p written.new) next) }
     ensures inside { IfOk result (λ next. (at : ℕ) → IfSome next (IsInside at)) }
 {
     if byte == b',' {

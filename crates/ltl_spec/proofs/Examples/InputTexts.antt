@@ -388,7 +388,7 @@ large_automaton_message : message stated_limits Translator LargeAutomaton ≡ co
 unfolding digits
 large_automaton_message = refl
 
-usage_message : message stated_limits Translator Usage ≡ codes "ltl2ba: usage: ltl2ba [-l] [-o] [-p] [-H] (-f formula | -F file)\n"
+usage_message : message stated_limits Translator Usage ≡ codes "ltl2ba: usage: ltl2ba [-l] [-o] [-p] [-H | -G] (-f formula | -F file)\n"
 unfolding digits
 usage_message = refl
 

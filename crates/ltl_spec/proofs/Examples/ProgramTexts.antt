@@ -19,7 +19,7 @@ abbrev pub answer : List ℕ → List ℕ → ℕ → Answer
 answer output message status = record { output = output; message = message; status = status }
 
 -- `-f p -F x`, and no word at all
-usage_answer : TranslatorAnswers stated_limits None NotOpened (answer [] (codes "ltl2ba: usage: ltl2ba [-l] [-o] [-p] [-H] (-f formula | -F file)\n") 2)
+usage_answer : TranslatorAnswers stated_limits None NotOpened (answer [] (codes "ltl2ba: usage: ltl2ba [-l] [-o] [-p] [-H | -G] (-f formula | -F file)\n") 2)
 usage_answer = refl
 
 -- `-F x`

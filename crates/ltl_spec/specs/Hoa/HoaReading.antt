@@ -22,7 +22,7 @@ is_read (SetsUpTo most) n = nat_le n most
 
 -- those that the programs read
 abbrev pub stated_form : AcceptanceForm
-stated_form = OneSet
+stated_form = SetsUpTo 32
 
 abbrev pub set_tokens : ℕ → List HoaToken
 set_tokens k = Identifier (codes "Inf") ∷ OpenBracket ∷ Int k ∷ CloseBracket ∷ []

@@ -29,7 +29,7 @@ abbrev pub translator_usage : List ℕ → List ℕ
 translator_usage layouts = codes "ltl2ba [-l] [-o] [-p] " ++ layouts ++ codes " (-f formula | -F file)"
 
 abbrev pub usage_text : Tool → List ℕ
-usage_text Translator = translator_usage (codes "[-H]")
+usage_text Translator = translator_usage (codes "[-H | -G]")
 usage_text Checker = codes "ltlcheck (-f formula | -F file) [-A file]"
 usage_text Evaluator = codes "ltleval (-f formula | -F file) -w lasso"
 

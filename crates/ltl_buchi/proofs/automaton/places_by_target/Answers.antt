@@ -2,7 +2,8 @@ use Rattle.std.proofs.Common.{◌≡◌, sym, subst, arith, ◌∙◌, ap, lengt
 use Rattle.std.specs.Prelude.{map}
 use Rattle.std.proofs.lemmas.List.{length-map}
 use Rattle.ltl_alt.proofs.SortLaws.{refilled}
-use Rattle.ltl_buchi.specs.BaView.{edge_of, IsTargetOrder}
+use Rattle.ltl_automaton.specs.EdgeView.{edge_of}
+use Rattle.ltl_buchi.specs.BaView.{IsTargetOrder}
 use Rattle.ltl_buchi.specs.declared.automaton.Placed.{Placed}
 use Rattle.ltl_buchi.proofs.PlacedLaws.{IsPlaced, placed_none, placed_next, placed_order, placed_here}
 use Rattle.ltl_buchi.proofs.automaton.places_by_target.Goals as goal

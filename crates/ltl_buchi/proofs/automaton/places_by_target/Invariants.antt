@@ -1,5 +1,5 @@
 use Rattle.std.specs.Prelude.{map}
-use Rattle.ltl_buchi.specs.BaView.{edge_of}
+use Rattle.ltl_automaton.specs.EdgeView.{edge_of}
 use Rattle.ltl_buchi.proofs.PlacedLaws.{IsPlaced}
 use Rattle.ltl_buchi.proofs.automaton.places_by_target.Given as goal
 

@@ -1,18 +1,23 @@
-use Rattle.std.proofs.Common.{◌∙◌, ap, arith, Some}
-use Rattle.std.specs.Prelude.{slice_index}
-use Rattle.ltl_spec.specs.Automata.Automaton.{State}
-use Rattle.ltl_spec.specs.Construction.Merging.{retargeted_state}
-use Rattle.ltl_buchi.proofs.ClassLaws.{recoded_push, got_state}
+use Rattle.std.proofs.Common.{◌≡◌, ◌<◌, ℕ, List, ◌∙◌, ap, sym, subst, arith, length, map, Some}
+use Rattle.std.specs.Prelude.{slice_index, All}
+use Rattle.ltl_spec.specs.Automata.Automaton.{Edge}
+use Rattle.ltl_automaton.specs.EdgeView.{edge_of}
+use Rattle.ltl_buchi.specs.Classes.{list_view}
+use Rattle.ltl_buchi.proofs.ClassLaws.{recoded_push, list_seen, list_within}
 use Rattle.ltl_buchi.proofs.Within.{pushed_longer}
 use Rattle.ltl_buchi.proofs.classes.first_codes.Goals as goal
 
-pub loop-row-preserved : goal.loop-row-preserved
-loop-row-preserved g c =
+pub retargeted-requires : goal.retargeted-requires
+retargeted-requires g c = record { within = list_within c.args.states.now.lists (length c.args.names.now) c.loop-list.list c.list_edges.result.now c.requires.within c.list_edges.ensures }
+
+pub loop-list-preserved : goal.loop-list-preserved
+loop-list-preserved g c =
     let long = pushed_longer _ _ _ c.in_ok-push.ensures.items in
-    let row = got_state c.args.rows.now c.loop-row.row-index c.row-item.result c.loop-row-test.true c.row-item.is in
+    let lists = c.args.states.now.lists in
+    let view = list_view lists (slice_index c.args.names.now) in
+    let seen = c.in_ok-view.ensures ∙ list_seen lists (slice_index c.args.names.now) c.loop-list.list (map edge_of c.list_edges.result.now) c.list_edges.ensures in
     record {
-      long = omega (arith, long, c.loop-row.invariant.long);
-      coded = recoded_push c.args.rows.now c.args.names.now c.args.names.now c.loop-row.row-index c.loop-row.seen.keys c.code.new.seen.keys c.loop-row.codes.items c.push.new.self.items c.in_ok-code.field-0 c.loop-row.invariant.coded c.loop-row.invariant.long
-          (c.in_ok-code.ensures.distinct c.loop-row.invariant.coded.distinct) c.in_ok-code.ensures.extends c.in_ok-push.ensures.items
-          (c.in_ok-code.ensures.place ∙ ap (λ (s : State). Some s) (c.in_ok-view.ensures ∙ ap (retargeted_state (slice_index c.args.names.now)) row));
+      long = omega (arith, long, c.loop-list.invariant.long);
+      coded = recoded_push (length lists) view view c.loop-list.list c.loop-list.seen.keys c.code.new.seen.keys c.loop-list.codes.items c.push.new.self.items c.in_ok-code.field-0 c.loop-list.invariant.coded c.loop-list.invariant.long
+          (c.in_ok-code.ensures.distinct c.loop-list.invariant.coded.distinct) c.in_ok-code.ensures.extends c.in_ok-push.ensures.items (c.in_ok-code.ensures.place ∙ ap (λ (es : List Edge). Some es) seen);
     }

@@ -1,9 +1,11 @@
 use Rattle.std.proofs.Common.{◌≡◌, length}
+use Rattle.std.specs.Prelude.{slice_index}
+use Rattle.ltl_buchi.specs.Classes.{list_view}
 use Rattle.ltl_buchi.proofs.ClassLaws.{IsRecoded}
 use Rattle.ltl_buchi.proofs.classes.first_codes.Given as goal
 
-abbrev pub invariant-loop-row : goal.invariant-loop-row
-invariant-loop-row g l = record {
-  long : length l.codes.items ≡ l.row-index;
-  coded : IsRecoded l.rows l.names l.names l.row-index l.seen.keys l.codes.items;
+abbrev pub invariant-loop-list : goal.invariant-loop-list
+invariant-loop-list g l = record {
+  long : length l.codes.items ≡ l.list;
+  coded : IsRecoded (length l.states.lists) (list_view l.states.lists (slice_index l.names)) (list_view l.states.lists (slice_index l.names)) l.list l.seen.keys l.codes.items;
 }

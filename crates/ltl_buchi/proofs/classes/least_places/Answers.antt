@@ -1,7 +1,7 @@
 use Rattle.std.proofs.Common.{◌∙◌, ap}
 use Rattle.std.specs.Prelude.{map, slice_index}
 use Rattle.ltl_buchi.proofs.ClassLaws.{least_from}
-use Rattle.ltl_buchi.proofs.NumberedLaws.{take_whole}
+use Rattle.ltl_automaton.proofs.WayLaws.{take_whole}
 use Rattle.ltl_buchi.proofs.classes.least_places.Goals as goal
 
 pub returns : goal.returns

@@ -1,13 +1,8 @@
-use Rattle.std.proofs.Common.{◌≡◌, ℕ, ◌<◌, length}
-use Rattle.std.specs.Prelude.{All}
+use Rattle.std.proofs.Common.{◌≡◌}
 use Rattle.std.specs.Prelude.{map, take}
 use Rattle.ltl_alt.specs.GbaView as gba
-use Rattle.ltl_buchi.specs.Copies.{IsCopyBelow, copy_edge_of, lifted_edge}
+use Rattle.ltl_buchi.specs.Copies.{copy_edge_of, lifted_edge}
 use Rattle.ltl_buchi.proofs.copies.copy_edges.Given as goal
 
 abbrev pub invariant-loop-edge : goal.invariant-loop-edge
-invariant-loop-edge g l = record {
-  lifted : map copy_edge_of l.copied.items ≡ map (lifted_edge l.sets l.level) (map gba.edge_of (take l.edge-index l.edges));
-  few : length l.copied.items ≡ l.edge-index;
-  states : (n : ℕ) → All (λ e. e.target < n) l.edges → All (λ e. IsCopyBelow n l.sets e.copy) l.copied.items;
-}
+invariant-loop-edge g l = map copy_edge_of l.copied.items ≡ map (lifted_edge l.sets l.level) (map gba.edge_of (take l.edge-index l.edges))

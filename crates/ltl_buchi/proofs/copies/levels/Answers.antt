@@ -1,33 +1,38 @@
-use Rattle.std.proofs.Common.{◌≡◌, ◌∙◌, arith, length, map, refl, subst}
-use Rattle.std.proofs.lemmas.List.{length-map}
-use Rattle.ltl_spec.specs.Tools.Limits.{stated_limits}
-use Rattle.ltl_buchi.specs.Copies.{copy_of}
-use Rattle.ltl_buchi.specs.Numbered.{StatesWithin}
-use Rattle.ltl_buchi.proofs.CopyLaws.{copied_whole, copied_rising, copied_reached, copied_few}
+use Rattle.std.proofs.Common.{◌≡◌, ◌∙◌, ap, sym, subst, Result, Err}
+use Rattle.std.specs.Result.{IsErrOf, IsErrAnd}
+use Rattle.ltl_automaton.specs.SharedView.{automaton_of}
+use Rattle.ltl_automaton.specs.declared.fault.AutomatonFault.{AutomatonFault}
+use Rattle.ltl_automaton.specs.declared.fault.AutomatonFault.TheVariants as listed
+use Rattle.ltl_buchi.specs.FaultOf.{fault_of}
+use Rattle.ltl_buchi.specs.declared.fault.BaFault.{BaFault}
+use Rattle.ltl_buchi.specs.declared.fault.BaFault.TheVariants.{TooLarge, OutOfMemory}
+use Rattle.ltl_buchi.proofs.CopyLaws.{is_ba, is_plain, is_leveled, is_too_large, is_not_too_large}
 use Rattle.ltl_buchi.proofs.copies.levels.Goals as goal
+
+passed_on : {T : Type 0} (r : Result T BaFault) (P : BaFault → Type 0) → IsErrAnd r P → IsErrOf r TooLarge → P TooLarge
+passed_on r P a e = subst (λ q. IsErrAnd q P) e a
+
+too_large : (f : AutomatonFault) → TooLarge ≡ fault_of f → f ≡ listed.TooLarge
+too_large listed.TooLarge e = λ i. listed.TooLarge
+too_large listed.OutOfMemory e = absurd (never e)
+  where
+    never : TooLarge ≡ OutOfMemory → ⊥
+    never q = cc
+
+pub returns-in_err-states-clause-many : goal.returns-in_err-states-clause-many
+returns-in_err-states-clause-many g c = λ e. is_too_large c.args.automaton.now (c.in_err-states.ensures.large (ap (λ (f : AutomatonFault). Err f) (too_large _ (passed_on _ _ c.from_residual.ensures.1 e))))
 
 pub new-requires : goal.new-requires
 new-requires g c =
-    let now = c.copies.invariant.listed in
-    let same : length c.copies.copies.keys ≡ length c.copies.made.items = omega (arith, now.taken) in
-    let long = length-map c.copies.copies.keys copy_of in
+    let A = c.args.automaton.now in
+    let B = automaton_of c.in_ok-states.states in
     record {
-      no_sets = refl;
-      some = omega arith;
-      few_states = omega arith;
-      few_edges = omega (arith, now.counted);
-      within = subst (λ n. StatesWithin n c.copies.made.items) same now.within;
-      rising = copied_rising c.args.automaton.now c.stays_within.ensures (map copy_of c.copies.copies.keys) c.copies.made.items now.copied (omega arith);
-      reached = copied_reached c.args.automaton.now c.stays_within.ensures (map copy_of c.copies.copies.keys) c.copies.made.items now.copied (omega arith);
+      inside = is_ba A c.stays_within.ensures B c.in_ok-states.ensures.reachable c.in_ok-states.ensures.bounded;
+      plain = is_plain A c.stays_within.ensures B c.in_ok-states.ensures.reachable;
     }
 
 pub returns-clause-copies : goal.returns-clause-copies
-returns-clause-copies g c =
-    let long = length-map c.copies.copies.keys copy_of in
-    c.new.ensures ∙ copied_whole c.args.automaton.now c.stays_within.ensures (map copy_of c.copies.copies.keys) c.copies.made.items c.copies.invariant.listed.copied (omega arith)
+returns-clause-copies g c = c.in_ok-new.ensures ∙ is_leveled c.args.automaton.now c.stays_within.ensures (automaton_of c.in_ok-states.states) c.in_ok-states.ensures.reachable
 
 pub returns-clause-few : goal.returns-clause-few
-returns-clause-few g c =
-    let now = c.copies.invariant.listed in
-    let long = length-map c.copies.copies.keys copy_of in
-    copied_few c.args.automaton.now c.stays_within.ensures (map copy_of c.copies.copies.keys) c.copies.made.items now.copied (omega arith) c.copies.edge_count stated_limits.states stated_limits.edges now.counted_all c.copies.invariant.few_edges (omega arith)
+returns-clause-few g c = is_not_too_large c.args.automaton.now c.in_ok-states.ensures.fits

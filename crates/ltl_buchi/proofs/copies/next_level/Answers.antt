@@ -3,10 +3,7 @@ use Rattle.ltl_spec.proofs.Construction.LevelLaws.{climb_on, climb_stop}
 use Rattle.ltl_buchi.proofs.copies.next_level.Goals as goal
 
 pub climb-preserved : goal.climb-preserved
-climb-preserved c = record {
-  most = omega arith;
-  level = sym (climb_on c.args.sets c.climb.reached c.args.marks.now c.climb-test.true (sym c.contains.ensures ∙ c.if-contains.true)) ∙ c.climb.invariant.level;
-}
+climb-preserved c = sym (climb_on c.args.sets c.climb.reached c.args.marks.now c.climb-test.true (sym c.contains.ensures ∙ c.if-contains.true)) ∙ c.climb.invariant
 
-pub returns-else-contains-clause-level : goal.returns-else-contains-clause-level
-returns-else-contains-clause-level c = sym (climb_stop (c.args.sets - c.climb.reached) c.climb.reached c.args.marks.now (sym c.contains.ensures ∙ c.if-contains.false)) ∙ c.climb.invariant.level
+pub returns-else-contains : goal.returns-else-contains
+returns-else-contains c = record { level = sym (climb_stop (c.args.sets - c.climb.reached) c.climb.reached c.args.marks.now (sym c.contains.ensures ∙ c.if-contains.false)) ∙ c.climb.invariant }

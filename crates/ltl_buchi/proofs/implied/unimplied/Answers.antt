@@ -3,10 +3,10 @@ use Rattle.std.specs.Prelude.{map, take}
 use Rattle.std.specs.List.{list_any}
 use Rattle.ltl_spec.specs.Automata.Automaton.{Edge}
 use Rattle.ltl_spec.proofs.Construction.ImpliedEdges.{is_above}
-use Rattle.ltl_alt.specs.GbaView.{edge_of}
-use Rattle.ltl_alt.specs.declared.edge.GbaEdge.{GbaEdge}
+use Rattle.ltl_automaton.specs.EdgeView.{edge_of}
+use Rattle.ltl_automaton.specs.declared.edge.Edge as made
 use Rattle.ltl_buchi.specs.Weighed.{weighed_edge}
-use Rattle.ltl_buchi.proofs.NumberedLaws.{took}
+use Rattle.ltl_automaton.proofs.NetLaws.{took}
 use Rattle.ltl_buchi.proofs.MergeLaws.{kept_next, dropped_next}
 use Rattle.ltl_buchi.proofs.implied.unimplied.Goals as goal
 use Rattle.ltl_buchi.proofs.implied.unimplied.Goals.{then-not-is_implied+in_ok-push, else-not-is_implied}
@@ -25,5 +25,5 @@ loop-edge-preserved g c =
           kept_next q c.loop-edge.kept.items c.if-not-is_implied.kept.items (take c.loop-edge.edge-index c.args.edges.now) _ c.edge-item.result c.loop-edge.invariant stays ((λ i. (w.kept-is i).items) ∙ w.in_ok-push.ensures.items) taken
       | else-not-is_implied w ↦
           let goes : q (edge_of c.edge-item.result) ≡ false = ap not (sym same ∙ w.if-not-is_implied.false) in
-          ap (λ (es : List GbaEdge). map edge_of es) (λ i. (w.kept-is i).items) ∙ dropped_next q c.loop-edge.kept.items (take c.loop-edge.edge-index c.args.edges.now) _ c.edge-item.result c.loop-edge.invariant goes taken
+          ap (λ (es : List made.Edge). map edge_of es) (λ i. (w.kept-is i).items) ∙ dropped_next q c.loop-edge.kept.items (take c.loop-edge.edge-index c.args.edges.now) _ c.edge-item.result c.loop-edge.invariant goes taken
     ]

@@ -2,7 +2,7 @@ use Rattle.std.proofs.Common.{◌≡◌, not}
 use Rattle.std.specs.Prelude.{map, take}
 use Rattle.std.specs.List.{list_any, filter}
 use Rattle.ltl_spec.proofs.Construction.ImpliedEdges.{is_above}
-use Rattle.ltl_alt.specs.GbaView.{edge_of}
+use Rattle.ltl_automaton.specs.EdgeView.{edge_of}
 use Rattle.ltl_buchi.proofs.implied.unimplied.Given as goal
 
 abbrev pub invariant-loop-edge : goal.invariant-loop-edge

@@ -1,6 +1,6 @@
 use Rattle.std.proofs.Common.{◌≡◌, map}
 use Rattle.std.specs.Prelude.{All, take}
-use Rattle.ltl_alt.specs.GbaView.{edge_of}
+use Rattle.ltl_automaton.specs.EdgeView.{edge_of}
 use Rattle.ltl_buchi.specs.Weighed.{IsWeighed, weighed_edge}
 use Rattle.ltl_buchi.proofs.implied.weigh.Given as goal
 

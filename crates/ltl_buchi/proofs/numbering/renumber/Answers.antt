@@ -1,32 +1,20 @@
-use Rattle.std.proofs.Common.{◌≡◌, ◌∙◌, arith, length, refl, subst}
-use Rattle.ltl_buchi.specs.Numbered.{StatesWithin}
-use Rattle.ltl_buchi.proofs.Within.{few_below}
-use Rattle.ltl_buchi.proofs.Sums.{few_all}
-use Rattle.ltl_buchi.proofs.RenumberLaws.{renumbered_rising, renumbered_reached, renumbered_whole}
+use Rattle.std.proofs.Common.{◌≡◌, ◌∙◌, ap, sym, subst}
+use Rattle.ltl_spec.specs.Construction.Renumbered.{renumbered_automaton}
+use Rattle.ltl_buchi.specs.BaView.{IsBa, IsPlain}
+use Rattle.ltl_buchi.specs.Numbered.{IsNumberable}
+use Rattle.ltl_buchi.proofs.RenumberLaws.{ba_numberable, numbered_ba, renumbered_unmarked}
 use Rattle.ltl_buchi.proofs.numbering.renumber.Goals as goal
 
-pub states-smaller : goal.states-smaller
-states-smaller g c =
-    let now = c.states.invariant.ordered in
-    let l = few_below (length c.args.automaton.now.states) c.states.order.keys now.distinct now.below in
-    let n = c.in_ok-add_state.ensures.more in
-    omega (arith, now.taken)
+pub renumbered-requires : goal.renumbered-requires
+renumbered-requires g c = subst IsNumberable (sym c.states.ensures.same) (ba_numberable c.args.automaton.now c.stays_within.ensures)
 
 pub new-requires : goal.new-requires
 new-requires g c =
-    let now = c.states.invariant.ordered in
-    let l = few_below (length c.args.automaton.now.states) c.states.order.keys now.distinct now.below in
-    let same : length c.states.order.keys ≡ length c.states.made.items = omega (arith, now.taken) in
-    let e = few_all c.args.automaton.now c.states.order.keys c.states.made.items now.distinct now.below now.few in
+    let e = c.in_ok-states.ensures.renumbered ∙ ap renumbered_automaton c.states.ensures.same in
     record {
-      some = omega arith;
-      few_states = omega arith;
-      few_edges = omega arith;
-      within = subst (λ n. StatesWithin n c.states.made.items) same now.within;
-      no_sets = refl;
-      rising = renumbered_rising c.args.automaton.now c.stays_within.ensures c.states.order.keys c.states.made.items now.renumbered (omega arith);
-      reached = renumbered_reached c.args.automaton.now c.stays_within.ensures c.states.order.keys c.states.made.items now.renumbered (omega arith);
+      inside = subst IsBa (sym e) (numbered_ba c.args.automaton.now c.stays_within.ensures);
+      plain = subst IsPlain (sym e) (renumbered_unmarked c.args.automaton.now c.states.ensures.plain);
     }
 
 pub returns-clause-renumbered : goal.returns-clause-renumbered
-returns-clause-renumbered g c = c.new.ensures ∙ renumbered_whole c.args.automaton.now c.stays_within.ensures c.states.order.keys c.states.made.items c.states.invariant.ordered.renumbered (omega arith)
+returns-clause-renumbered g c = c.in_ok-new.ensures ∙ c.in_ok-states.ensures.renumbered ∙ ap renumbered_automaton c.states.ensures.same

@@ -1,8 +1,4 @@
-use Rattle.std.proofs.Common.{Bool, subst}
 use Rattle.std.proofs.lemmas.Result.{err_from_is_err_and}
-use Rattle.std.specs.Io.KnownBytes.{Appends}
-use Rattle.ltl_formula.specs.Streams.{AppendsBeginning}
-use Rattle.ltl_cli.specs.Runs.{text_with}
 use Rattle.ltl_cli.proofs.RunLaws.{plan_broken, plan_done, plan_refused}
 use Rattle.ltl_cli.proofs.translate.printed.Goals as goal
 
@@ -16,13 +12,9 @@ pub returns-in_err-print : goal.returns-in_err-print
 returns-in_err-print g c =
     let (input, s, h) = c.in_ok-translated.ensures.found in
     let p = err_from_is_err_and c.from_residual-in_err-print.result c.from_residual-in_err-print.ensures.1 in
-    let t = c.in_ok-translated.translated in
-    let w = subst (λ (b : Bool). AppendsBeginning (g.W.Write.contents c.args.output.now) (g.W.Write.contents c.print.new.output) (text_with b t.automaton t.formula)) c.hoa.ensures c.in_err-print.ensures.err in
-    (input, s, rw p.1 (plan_broken c.args.plan.now input _ _ _ p.0 h p.2 w))
+    (input, s, rw p.1 (plan_broken c.args.plan.now input _ _ _ p.0 h p.2 c.in_err-print.ensures.err))
 
 pub returns : goal.returns
 returns g c =
     let (input, s, h) = c.in_ok-translated.ensures.found in
-    let t = c.in_ok-translated.translated in
-    let w = subst (λ (b : Bool). Appends (g.W.Write.contents c.args.output.now) (g.W.Write.contents c.print.new.output) (text_with b t.automaton t.formula)) c.hoa.ensures c.in_ok-print.ensures.ok in
-    (input, s, plan_done c.args.plan.now input _ _ _ h w)
+    (input, s, plan_done c.args.plan.now input _ _ _ h c.in_ok-print.ensures.ok)

@@ -1,3 +1,5 @@
+use Rattle.std.proofs.Common.{length}
+use Rattle.ltl_spec.specs.Automata.HoaText.{state_lines}
 use Rattle.ltl_text.specs.HoaPieces.{states_text}
 use Rattle.ltl_text.proofs.SendLaws.{Leaves}
 use Rattle.ltl_text.proofs.HoaLaws.{states_from}
@@ -5,4 +7,4 @@ use Rattle.ltl_text.proofs.hoa.put_states.Given as goal
 
 abbrev pub invariant-loop-k : goal.invariant-loop-k
 invariant-loop-k g l =
-    Leaves (g.W.Write.contents l.fn.writer) l.fn.piece (g.W.Write.contents l.writer) l.piece (states_from l.automaton l.k) (states_text l.automaton)
+    Leaves (g.W.Write.contents l.fn.writer) l.fn.piece (g.W.Write.contents l.writer) l.piece (states_from (state_lines l.automaton) (length l.automaton.states) l.k) (states_text l.automaton)

@@ -1,12 +1,20 @@
-use Rattle.std.proofs.Common.{◌≡◌, ◌<◌, length, map, arith}
-use Rattle.std.proofs.lemmas.Grind.{common_steps}
-use Rattle.ltl_spec.specs.Automata.Automaton.{Edge, state_at}
-use Rattle.ltl_buchi.specs.BaView.{IsBa, edge_of}
-use Rattle.ltl_buchi.proofs.Within.{seen_within}
+use Rattle.std.proofs.Common.{◌≡◌, [], ◌<◌, ◌∙◌, ap, sym, subst, length, map}
+use Rattle.std.specs.Prelude.{All}
+use Rattle.ltl_spec.specs.Automata.Automaton.{Automaton, Edge, state_at}
+use Rattle.ltl_automaton.specs.EdgeView.{edge_of}
+use Rattle.ltl_automaton.specs.SharedView.{automaton_of}
+use Rattle.ltl_automaton.specs.declared.edge.Edge as code
+use Rattle.ltl_buchi.proofs.Within.{edges_within, plain_edges, seen_within}
 use Rattle.ltl_buchi.proofs.automaton.Ba.edges.Goals as goal
+
+pub returns-clause-edges : goal.returns-clause-edges
+returns-clause-edges g c =
+    let A = automaton_of c.self.inside.states in
+    let P : Edge → Type 0 = λ e. e.marks ≡ [] in
+    plain_edges c.edges.result.now (subst (All P) (sym c.edges.ensures) (edges_within A P c.args.i c.self.invariant.plain)) ∙ c.edges.ensures ∙ ap (λ (B : Automaton). (state_at B c.args.i).edges) c.self.view_is
 
 pub returns-clause-within : goal.returns-clause-within
 returns-clause-within g c =
-    let inside : IsBa c.args.self.now = rw (← c.self.view_is) c.self.invariant in
-    let seen : map edge_of c.as_slice.result.now ≡ (state_at c.args.self.now c.args.i).edges = grind (arith, common_steps) in
-    seen_within edge_of c.args.self.now (λ (e : Edge). e.target < length c.args.self.now.states) c.args.i c.as_slice.result.now seen inside.within
+    let A = automaton_of c.self.inside.states in
+    subst (λ (B : Automaton). All (λ (e : code.Edge). e.target < length B.states) c.edges.result.now) c.self.view_is
+    (seen_within edge_of A (λ (e : Edge). e.target < length A.states) c.args.i c.edges.result.now c.edges.ensures c.self.invariant.inside.within)

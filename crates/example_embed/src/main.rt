@@ -1,0 +1,53 @@
+//! The libraries in a program of one's own: a formula is read, its automaton is printed and read back, and a property of its words is checked.
+#![tactic(auto)]
+
+ghost use Rattle.std.specs.Prelude.{length, IfOk};
+ghost use Rattle.ltl_spec.specs.Checking.Bounds.{HasNamesBelow};
+
+use anyhow::Result;
+use ltl_buchi::{Ba, Options, translate};
+use ltl_check::{Outcome, check};
+use ltl_formula::{Formula, Table, read};
+use ltl_text::{hoa_read, hoa_to};
+use ltl_word::holds;
+use std::alloc::Global;
+use std::io::{self, Write};
+
+/// The formula of a text, and the automaton of the words that satisfy it or, with `negate`, that violate it.
+fn translated<'a>(
+    alloc: &'a Global,
+    text: &str,
+    negate: bool,
+) -> Result<(Formula<'a, Global>, Ba<'a, Global>)>
+    ensures { IfOk result (λ r. HasNamesBelow (length r.0.names) r.1) }
+{
+    let formula = read(alloc, text.as_bytes())?;
+    let table = Table::build(alloc, &formula, negate, true)?;
+    let options = Options {
+        keep_implied: false,
+        keep_equal: false,
+    };
+    let automaton = translate(alloc, &table, &options)?;
+    Ok((formula, automaton))
+}
+
+fn main(rt: HostRuntime) -> Result<()> {
+    let alloc = rt.alloc();
+    let mut output = io::writer(&rt);
+    let (formula, automaton) = translated(&alloc, "p && X[]!p", false)?;
+    let mut text = Vec::new(alloc);
+    hoa_to(&automaton, &formula, &mut text)?;
+    output.write_all(&text)?;
+
+    let read_back = hoa_read(&alloc, &mut text.as_slice())?;
+    let (property, violations) = translated(&alloc, "[]<>p", true)?;
+    let verdict = check(&alloc, &read_back, &violations, &property)?;
+    match verdict.outcome() {
+        Outcome::Contained => println!(rt; "every word satisfies it")?,
+        Outcome::Violated(word) => {
+            word.text_to(&mut output)?;
+            println!(rt; " violates it: {}", !holds(&alloc, &property, word)?)?;
+        }
+    }
+    Ok(())
+}

@@ -1,0 +1,160 @@
+//! Numbers by which values are told apart, made without memory.
+
+use ltl_alt::{Gba, GbaEdge, PairSet};
+use ltl_buchi::{Ba, Gen};
+use ltl_formula::{Formula, Table, text_to};
+use ltl_hoa::Marked;
+use ltl_sets::{Cube, RowSet};
+use ltl_word::Lasso;
+use std::alloc::Allocator;
+use std::io;
+use std::io::Write;
+
+/// A number of what was taken, in its order.
+#[derive(Clone, Copy, PartialEq, Eq)]
+pub struct Digest {
+    sum: u64,
+}
+
+impl Write for Digest {
+    fn write(&mut self, buf: &[u8]) -> io::Result<usize> {
+        for byte in buf {
+            self.take(*byte as usize);
+        }
+        Ok(buf.len())
+    }
+
+    fn flush(&mut self) -> io::Result<()> {
+        Ok(())
+    }
+}
+
+impl Digest {
+    pub fn new() -> Digest {
+        Digest {
+            sum: 0xcbf2_9ce4_8422_2325,
+        }
+    }
+
+    pub fn take(&mut self, number: usize) {
+        self.sum = (self.sum ^ number as u64).wrapping_mul(0x0100_0000_01b3);
+    }
+
+    pub fn with(mut self, other: Digest) -> Digest {
+        self.take(other.sum as usize);
+        self
+    }
+
+    fn cube(&mut self, cube: &Cube) {
+        for literal in cube.iter() {
+            self.take(literal.proposition);
+            self.take(literal.positive as usize);
+        }
+        self.take(usize::MAX);
+    }
+
+    fn rows(&mut self, rows: &RowSet) {
+        for row in rows.iter() {
+            self.take(row);
+        }
+        self.take(usize::MAX);
+    }
+
+    fn edges(&mut self, edges: &[GbaEdge]) {
+        for edge in edges {
+            self.cube(&edge.cube);
+            self.take(edge.target);
+            self.rows(&edge.marks);
+        }
+        self.take(usize::MAX);
+    }
+}
+
+pub fn of_formula<A: Allocator>(formula: &Formula<'_, A>) -> Digest {
+    let mut digest = Digest::new();
+    let written = text_to(formula, &mut digest).is_ok();
+    digest.take(written as usize);
+    digest.take(formula.len());
+    digest.take(formula.name_count());
+    digest
+}
+
+pub fn of_table<A: Allocator>(table: &Table<'_, A>) -> Digest {
+    let mut digest = Digest::new();
+    digest.take(table.len());
+    for row in table.untils() {
+        digest.take(*row);
+    }
+    for row in table.elementary() {
+        digest.take(*row);
+    }
+    digest
+}
+
+pub fn of_pairs<A: Allocator>(pairs: &PairSet<'_, A>) -> Digest {
+    let mut digest = Digest::new();
+    for pair in pairs.as_slice() {
+        digest.cube(&pair.cube);
+        digest.rows(&pair.targets);
+    }
+    digest
+}
+
+pub fn of_gba<A: Allocator>(automaton: &Gba<'_, A>) -> Digest {
+    let mut digest = Digest::new();
+    digest.take(automaton.sets());
+    for i in 0..automaton.len() {
+        digest.edges(automaton.edges(i));
+    }
+    digest
+}
+
+pub fn of_gen<A: Allocator>(automaton: &Gen<'_, A>) -> Digest {
+    let mut digest = Digest::new();
+    digest.take(automaton.sets());
+    for i in 0..automaton.len() {
+        digest.edges(automaton.edges(i));
+    }
+    digest
+}
+
+pub fn of_ba<A: Allocator>(automaton: &Ba<'_, A>) -> Digest {
+    let mut digest = Digest::new();
+    for i in 0..automaton.len() {
+        digest.take(automaton.accepting(i) as usize);
+        for edge in automaton.edges(i) {
+            digest.cube(&edge.cube);
+            digest.take(edge.target);
+        }
+        digest.take(usize::MAX);
+    }
+    digest
+}
+
+pub fn of_marked<A: Allocator>(automaton: &Marked<'_, A>) -> Digest {
+    let mut digest = Digest::new();
+    digest.take(automaton.start());
+    digest.take(automaton.sets());
+    for name in automaton.names() {
+        for byte in name.as_bytes() {
+            digest.take(*byte as usize);
+        }
+        digest.take(usize::MAX);
+    }
+    for i in 0..automaton.len() {
+        for edge in automaton.edges(i) {
+            digest.cube(&edge.cube);
+            digest.take(edge.target);
+            digest.rows(&edge.sets);
+        }
+        digest.take(usize::MAX);
+    }
+    digest
+}
+
+pub fn of_word<A: Allocator>(word: &Lasso<'_, A>) -> Digest {
+    let mut digest = Digest::new();
+    let written = word.text_to(&mut digest).is_ok();
+    digest.take(written as usize);
+    digest
+}

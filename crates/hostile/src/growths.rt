@@ -1,0 +1,277 @@
+//! The calls of the libraries, with each growth refused in turn.
+
+ghost use Rattle.std.specs.Prelude.{◌<◌, length};
+
+use crate::digest::{
+    Digest, of_ba, of_formula, of_gba, of_gen, of_marked, of_pairs, of_table, of_word,
+};
+use crate::inputs::Case;
+use crate::streams::Given;
+use ltl_alt::{AltFault, Gba, pairs};
+use ltl_buchi::{Ba, BaFault, Options, generalized, levels, merge, merge_ba, renumber, translate};
+use ltl_formula::{BuildFault, Formula, ReadFault, Table, read};
+use ltl_hoa::{HoaFault, Marked, hoa_read};
+use ltl_sets::RowSet;
+use ltl_word::{Lasso, WordFault, holds};
+use refusing::Refusing;
+use std::alloc::{Allocator, Global};
+
+/// More growths than any case makes.
+const MOST_GROWTHS: u64 = 100_000;
+
+/// The value of a call. A call in which the growth is refused has to answer that memory was short and to leave its input as it was, and is made once
+/// more; a call in which none is refused has to answer a value.
+macro_rules! made {
+    ($alloc:ident, $input:expr, $memory:pat, $call:expr) => {{
+        let was_refused = $alloc.has_refused();
+        let before = $input;
+        let first = $call;
+        let is_refused = $alloc.has_refused() && !was_refused;
+        match first {
+            Ok(value) => {
+                if is_refused {
+                    return None;
+                }
+                value
+            }
+            Err(fault) => {
+                if !is_refused || $input != before || !matches!(fault, $memory) {
+                    return None;
+                }
+                let Ok(value) = $call else {
+                    return None;
+                };
+                value
+            }
+        }
+    }};
+}
+
+type Memory<B> = Refusing<B>;
+
+const OPTIONS: Options = Options {
+    keep_implied: false,
+    keep_equal: false,
+};
+
+type Read<'a, B> = Formula<'a, Memory<B>>;
+
+type Rows<'a, B> = Table<'a, Memory<B>>;
+
+fn formula<'a, B: Allocator>(alloc: &'a Memory<B>, text: &str) -> Option<Read<'a, B>> {
+    Some(made!(
+        alloc,
+        Digest::new(),
+        ReadFault::OutOfMemory,
+        read(alloc, text.as_bytes())
+    ))
+}
+
+fn table<'a, B: Allocator>(
+    alloc: &'a Memory<B>,
+    formula: &Read<'a, B>,
+    negate: bool,
+) -> Option<Rows<'a, B>> {
+    Some(made!(
+        alloc,
+        of_formula(formula),
+        BuildFault::OutOfMemory,
+        Table::build(alloc, formula, negate, true)
+    ))
+}
+
+fn pairs_of<B: Allocator>(alloc: &Memory<B>, table: &Rows<'_, B>, row: usize) -> Option<Digest>
+    requires { row < length table.now.rows }
+{
+    let found = made!(alloc, of_table(table), _, pairs(alloc, table, row));
+    Some(of_pairs(&found))
+}
+
+fn reached<'a, B: Allocator>(
+    alloc: &'a Memory<B>,
+    table: &Rows<'a, B>,
+) -> Option<Gba<'a, Memory<B>>> {
+    Some(made!(
+        alloc,
+        of_table(table),
+        AltFault::OutOfMemory,
+        Gba::reach(alloc, table, false)
+    ))
+}
+
+fn merged<'a, B: Allocator>(
+    alloc: &'a Memory<B>,
+    gba: &Gba<'a, Memory<B>>,
+) -> Option<Gba<'a, Memory<B>>> {
+    Some(made!(
+        alloc,
+        of_gba(gba),
+        BaFault::OutOfMemory,
+        merge(alloc, gba, &OPTIONS)
+    ))
+}
+
+fn copied<'a, B: Allocator>(
+    alloc: &'a Memory<B>,
+    gba: &Gba<'a, Memory<B>>,
+) -> Option<Ba<'a, Memory<B>>> {
+    Some(made!(alloc, of_gba(gba), BaFault::OutOfMemory, levels(alloc, gba)))
+}
+
+fn merged_again<'a, B: Allocator>(
+    alloc: &'a Memory<B>,
+    ba: &Ba<'a, Memory<B>>,
+) -> Option<Ba<'a, Memory<B>>> {
+    Some(made!(
+        alloc,
+        of_ba(ba),
+        BaFault::OutOfMemory,
+        merge_ba(alloc, ba, &OPTIONS)
+    ))
+}
+
+fn numbered<'a, B: Allocator>(
+    alloc: &'a Memory<B>,
+    ba: &Ba<'a, Memory<B>>,
+) -> Option<Ba<'a, Memory<B>>> {
+    Some(made!(alloc, of_ba(ba), BaFault::OutOfMemory, renumber(alloc, ba)))
+}
+
+fn translated<B: Allocator>(alloc: &Memory<B>, table: &Rows<'_, B>) -> Option<Digest> {
+    let found = made!(
+        alloc,
+        of_table(table),
+        BaFault::OutOfMemory,
+        translate(alloc, table, &OPTIONS)
+    );
+    Some(of_ba(&found))
+}
+
+fn generalized_of<B: Allocator>(alloc: &Memory<B>, table: &Rows<'_, B>) -> Option<Digest> {
+    let found = made!(
+        alloc,
+        of_table(table),
+        BaFault::OutOfMemory,
+        generalized(alloc, table, &OPTIONS)
+    );
+    Some(of_gen(&found))
+}
+
+/// What the automata of a table are.
+fn automata<'a, B: Allocator>(alloc: &'a Memory<B>, table: &Rows<'a, B>) -> Option<Digest> {
+    let gba = reached(alloc, table)?;
+    let merged = merged(alloc, &gba)?;
+    let ba = copied(alloc, &merged)?;
+    let merged_ba = merged_again(alloc, &ba)?;
+    let numbered = numbered(alloc, &merged_ba)?;
+    let digest = of_gba(&gba).with(of_gba(&merged)).with(of_ba(&ba));
+    Some(digest.with(of_ba(&merged_ba)).with(of_ba(&numbered)))
+}
+
+/// What is made of a table is.
+fn made_of_table<'a, B: Allocator>(alloc: &'a Memory<B>, table: &Rows<'a, B>) -> Option<Digest> {
+    let mut digest = of_table(table);
+    for row in 0..table.len() {
+        digest = digest.with(pairs_of(alloc, table, row)?);
+    }
+    digest = digest.with(automata(alloc, table)?);
+    digest = digest.with(translated(alloc, table)?);
+    Some(digest.with(generalized_of(alloc, table)?))
+}
+
+fn word<'a, B: Allocator>(
+    alloc: &'a Memory<B>,
+    formula: &Read<'a, B>,
+    text: &str,
+) -> Option<Lasso<'a, Memory<B>>> {
+    Some(made!(
+        alloc,
+        of_formula(formula),
+        WordFault::OutOfMemory,
+        Lasso::read(alloc, text.as_bytes(), formula)
+    ))
+}
+
+fn least<'a, B: Allocator>(alloc: &'a Memory<B>, word: &Lasso<'a, Memory<B>>) -> Option<Digest> {
+    let found = made!(alloc, of_word(word), _, word.least(alloc));
+    Some(of_word(&found))
+}
+
+fn truth<'a, B: Allocator>(
+    alloc: &'a Memory<B>,
+    formula: &Read<'a, B>,
+    word: &Lasso<'a, Memory<B>>,
+) -> Option<bool> {
+    Some(made!(
+        alloc,
+        of_formula(formula).with(of_word(word)),
+        _,
+        holds(alloc, formula, word)
+    ))
+}
+
+fn word_of_numbers<B: Allocator>(alloc: &Memory<B>) -> Option<Digest> {
+    let cycle = [RowSet::single(1), RowSet::empty()];
+    let found = made!(
+        alloc,
+        Digest::new(),
+        _,
+        Lasso::new(alloc, &["q", "p"], &[], &cycle)
+    );
+    Some(of_word(&found))
+}
+
+/// What the words are, and the formula's truth on one of them.
+fn words<'a, B: Allocator>(
+    alloc: &'a Memory<B>,
+    formula: &Read<'a, B>,
+    text: &str,
+) -> Option<Digest> {
+    let word = word(alloc, formula, text)?;
+    let mut digest = of_word(&word).with(least(alloc, &word)?);
+    digest.take(truth(alloc, formula, &word)? as usize);
+    Some(digest.with(word_of_numbers(alloc)?))
+}
+
+fn automaton<'a, B: Allocator>(alloc: &'a Memory<B>, text: &str) -> Option<Marked<'a, Memory<B>>> {
+    Some(made!(
+        alloc,
+        Digest::new(),
+        HoaFault::OutOfMemory,
+        hoa_read(alloc, &mut Given::of(text))
+    ))
+}
+
+/// What all that is made of a case is; none where a call answers otherwise than it has to.
+fn all_of<B: Allocator>(alloc: &Memory<B>, case: &Case<'_>) -> Option<Digest> {
+    let formula = formula(alloc, case.formula)?;
+    let digest = of_formula(&formula).with(of_marked(&automaton(alloc, case.automaton)?));
+    let digest = digest.with(words(alloc, &formula, case.word)?);
+    let plain = table(alloc, &formula, false)?;
+    let digest = digest.with(made_of_table(alloc, &plain)?);
+    let negated = table(alloc, &formula, true)?;
+    Some(digest.with(made_of_table(alloc, &negated)?))
+}
+
+/// What came of refusing each growth of a case.
+pub fn told(memory: Global, case: &Case<'_>) -> &'static str {
+    let Some(wanted) = all_of(&Refusing::new(memory, u64::MAX), case) else {
+        return "a call fails with memory";
+    };
+    for n in 1..MOST_GROWTHS {
+        let alloc = Refusing::new(memory, n);
+        match all_of(&alloc, case) {
+            None =>
+                return "a refused growth is answered otherwise than by want of memory, or leaves something changed",
+            Some(found) => {
+                if found != wanted {
+                    return "behind a refused growth something else is made";
+                }
+            }
+        }
+        if !alloc.has_refused() {
+            return "each growth refused, each call made again";
+        }
+    }
+    "more growths than were refused"
+}

@@ -1,0 +1,5 @@
+pub mod EdgeLaws
+pub mod NetLaws
+pub mod ReachableLaws
+pub mod SharedLaws
+pub mod WayLaws

@@ -1,0 +1,115 @@
+-- One more state, whose list may be new.
+use Rattle.std.proofs.Common.{◌≡◌, ℕ, Bool, true, false, cond, ◌⊎◌, inl, inr, zero, suc, ◌<◌, ◌≤◌, List, [], ◌∷◌, ◌++◌, length, refl, sym, ◌∙◌, ap, subst, arith, length-append, Some, None}
+use Rattle.std.specs.Prelude.{slice_get, slice_index_or}
+use Rattle.std.proofs.lemmas.List.{map-append}
+use Rattle.std.proofs.lemmas.List.Elements.{All-head, All-tail, All-weaker, All-push}
+use Rattle.ltl_spec.specs.Automata.Automaton.{Automaton, State, Edge}
+use Rattle.ltl_spec.proofs.Collections.ListLaws.{index_append, get_done, slice_get_has}
+use Rattle.ltl_spec.proofs.Collections.SetLaws.{append_left, append_right}
+use Rattle.ltl_spec.specs.Collections.Sets.{Has}
+use Rattle.std.specs.List.{list_any}
+use Rattle.indexmap.specs.IndexSet.{insert_key}
+use Rattle.ltl_spec.specs.Collections.Lists.{HasNoRepeats}
+use Rattle.ltl_spec.proofs.Collections.ListLaws.{HasNoRepeats-with_new}
+use Rattle.ltl_spec.proofs.Automata.ListingLaws.{with_new_behind}
+use Rattle.ltl_automaton.specs.EdgeView.{same_edges, edges_Decides}
+use Rattle.ltl_automaton.specs.SharedView.{Shared, state_in, states_in, automaton_of, ArePlaces, IsShared, with_state}
+use Rattle.ltl_automaton.specs.declared.shared.Place.{Place}
+
+-- states have lists where more lists are put behind
+places_longer : (lists new : List (List Edge)) (ps qs : List Place) → (more : List (List Edge)) × (new ≡ lists ++ more) → qs ≡ ps → ArePlaces lists ps → ArePlaces new qs
+places_longer lists new ps qs w e a =
+    let l = ap length w.1 ∙ length-append lists w.0 in
+    subst (ArePlaces new) (sym e) (All-weaker (λ (p : Place). p.list < length lists) (λ (p : Place). p.list < length new) (λ p h. omega arith) ps a)
+
+-- also with one more state
+places_pushed : (lists new : List (List Edge)) (ps qs : List Place) (p : Place) → (more : List (List Edge)) × (new ≡ lists ++ more) → qs ≡ ps ++ p ∷ [] → p.list < length new → ArePlaces lists ps → ArePlaces new qs
+places_pushed lists new ps qs p w e l a = subst (ArePlaces new) (sym e) (All-push (λ (q : Place). q.list < length new) ps p (places_longer lists new ps ps w refl a) l)
+
+-- and have the same edges
+states_stay : (lists more : List (List Edge)) (ps : List Place) → ArePlaces lists ps → states_in (lists ++ more) ps ≡ states_in lists ps
+states_stay lists more [] a = refl
+states_stay lists more (p ∷ ps) a =
+    let first = index_append lists more p.list [] (All-head (λ (q : Place). q.list < length lists) p ps a) in
+    let rest = states_stay lists more ps (All-tail (λ (q : Place). q.list < length lists) p ps a) in
+    λ i. (let s : State = record { accepting = p.accepting; edges = first i } in s) ∷ rest i
+
+index_there : {K : Type 0} (xs : List K) (i : ℕ) (x d : K) → slice_get xs i ≡ Some x → (i < length xs) × (slice_index_or xs i d ≡ x)
+index_there [] i x d e = absurd (never e)
+  where
+    never : None ≡ Some x → ⊥
+    never q = cc
+index_there (y ∷ ys) zero x d e = (omega arith, cc)
+index_there (y ∷ ys) (suc i) x d e = let w = index_there ys i x d e in (omega (arith, w.0), w.1)
+
+-- what was found stands within the lists
+pub found_within : (new : List (List Edge)) (i : ℕ) (edges : List Edge) → slice_get new i ≡ Some edges → i < length new
+found_within new i edges e = (index_there new i edges [] e).0
+
+pub shared_pushed : (sets : ℕ) (lists new : List (List Edge)) (ps qs : List Place) (p : Place) (edges : List Edge) (old : Shared) → (more : List (List Edge)) × (new ≡ lists ++ more) → qs ≡ ps ++ p ∷ []
+    → slice_get new p.list ≡ Some edges → ArePlaces lists ps → (let s : Shared = record { sets = sets; lists = lists; states = ps } in s) ≡ old
+    → automaton_of (record { sets = sets; lists = new; states = qs }) ≡ with_state (automaton_of old) p.accepting edges
+shared_pushed sets lists new ps qs p edges old w e f a o =
+    let last : state_in new p ≡ (let s : State = record { accepting = p.accepting; edges = edges } in s) =
+    ap (λ es. let s : State = record { accepting = p.accepting; edges = es } in s) (index_there new p.list edges [] f).1 in
+    let all : states_in new qs ≡ states_in lists ps ++ record { accepting = p.accepting; edges = edges } ∷ [] =
+    ap (states_in new) e ∙ map-append (state_in new) ps (p ∷ []) ∙ (λ i. (ap (λ ls. states_in ls ps) w.1 ∙ states_stay lists w.0 ps a) i ++ last i ∷ []) in
+    (λ i. let A : Automaton = record { sets = sets; states = all i } in A) ∙ ap (λ s. with_state (automaton_of s) p.accepting edges) o
+
+below_or_from : (k q : ℕ) → (k < q) ⊎ (q ≤ k)
+below_or_from k q = grind arith
+
+-- in a list without repeats a thing stands at one place
+pub got_once : {K : Type 0} (keys : List K) (i j : ℕ) (x : K) → HasNoRepeats keys → slice_get keys i ≡ Some x → slice_get keys j ≡ Some x → i ≡ j
+got_once [] i j x d e f = absurd (never e)
+  where
+    never : None ≡ Some x → ⊥
+    never q = cc
+got_once (y ∷ ys) zero zero x d e f = refl
+got_once (y ∷ ys) zero (suc j) x d e f = let p : y ≡ x = cc in absurd (d.0 (subst (Has ys) (sym p) (slice_get_has ys j x f)))
+got_once (y ∷ ys) (suc i) zero x d e f = let p : y ≡ x = cc in absurd (d.0 (subst (Has ys) (sym p) (slice_get_has ys i x e)))
+got_once (y ∷ ys) (suc i) (suc j) x d e f = ap (λ n. suc n) (got_once ys i j x d.1 e f)
+
+-- a list was put in, which may have been there
+module _ (lists new : List (List Edge)) (x : List Edge) (e : new ≡ insert_key same_edges lists x) where
+  abbrev grown : (more : List (List Edge)) × (new ≡ lists ++ more)
+  grown = let w = with_new_behind same_edges lists x in (w.0, e ∙ w.1)
+
+  distinct : HasNoRepeats lists → HasNoRepeats new
+  distinct d = subst HasNoRepeats (sym e) (HasNoRepeats-with_new same_edges edges_Decides lists x d)
+
+  module _ (p : Place) (edges : List Edge) (is : x ≡ edges) (found : (k : List Edge) × (slice_get new p.list ≡ Some k) × (same_edges x k ≡ true)) where
+    there : slice_get new p.list ≡ Some edges
+    there = found.1 ∙ ap (λ (es : List Edge). Some es) (sym ((edges_Decides x found.0).0 found.2) ∙ is)
+
+    pub shared_more : (ps qs : List Place) → qs ≡ ps ++ p ∷ [] → IsShared lists ps → IsShared new qs
+    shared_more ps qs q w = record {
+      places = places_pushed lists new ps qs p grown q (found_within new p.list edges there) w.places;
+      distinct = distinct w.distinct;
+      used = λ k l. subst (λ xs. (r : Place) × Has xs r × (r.list ≡ k)) (sym q) (elim (below_or_last k l) [
+        | inl m ↦ let u = w.used k m in (u.0, append_left ps (p ∷ []) u.0 u.1, u.2)
+        | inr m ↦ (p, append_right ps (p ∷ []) p (inl refl), got_once new p.list k edges (distinct w.distinct) there m)
+      ]);
+    }
+      where
+        -- a list that wasn't there is the new one
+        below_or_last : (k : ℕ) → k < length new → (k < length lists) ⊎ (slice_get new k ≡ Some edges)
+        below_or_last k l = behind (list_any (same_edges x) lists) e
+          where
+            behind : (b : Bool) → new ≡ cond b lists (lists ++ x ∷ []) → (k < length lists) ⊎ (slice_get new k ≡ Some edges)
+            behind true f = let m = ap length f in inl (omega arith)
+            behind false f =
+                let m = ap length f ∙ length-append lists (x ∷ []) in
+                elim (below_or_from k (length lists)) [
+                  | inl b ↦ inl b
+                  | inr b ↦
+                      let here : k ≡ length lists = omega (arith, m, one) in
+                      inr ((λ i. slice_get (f i) (here i)) ∙ get_done lists [] x ∙ ap (λ (es : List Edge). Some es) is)
+                ]
+              where
+                one : length (x ∷ []) ≡ 1
+                one = refl
+
+    pub shared_is : (sets : ℕ) (ps qs : List Place) (old : Shared) → qs ≡ ps ++ p ∷ [] → IsShared lists ps → (let s : Shared = record { sets = sets; lists = lists; states = ps } in s) ≡ old
+        → automaton_of (record { sets = sets; lists = new; states = qs }) ≡ with_state (automaton_of old) p.accepting edges
+    shared_is sets ps qs old q w o = shared_pushed sets lists new ps qs p edges old grown q there w.places o

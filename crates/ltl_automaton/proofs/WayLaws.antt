@@ -1,0 +1,147 @@
+-- The automaton of a net while it is listed.
+use Rattle.std.proofs.Common.{◌≡◌, ℕ, zero, suc, ◌+◌, ◌<◌, ◌≤◌, Bool, inl, inr, List, [], ◌∷◌, ◌++◌, length, map, refl, sym, ◌∙◌, ap, subst, arith, length-append, Some, None}
+use Rattle.std.specs.Prelude.{fold, slice_get, slice_index_or, take, sum_by}
+use Rattle.std.specs.Bool.{Decides}
+use Rattle.std.proofs.lemmas.Option.{get_or_from_slice_get, slice_get_within}
+use Rattle.std.proofs.lemmas.List.{map-append, length-map}
+use Rattle.ltl_spec.specs.Collections.Sets.{Has}
+use Rattle.ltl_spec.specs.Collections.Lists.{with_new}
+use Rattle.ltl_spec.specs.Automata.Automaton.{Automaton, Edge, State}
+use Rattle.ltl_spec.specs.Automata.Listing.{listing, with_targets_of, IsComplete, PassesLimits}
+use Rattle.ltl_spec.proofs.Automata.ListingLaws.{fold_behind}
+use Rattle.ltl_spec.proofs.Automata.ListingReach.{listed_targets}
+use Rattle.ltl_spec.proofs.Automata.CountsLaws.{sum_step, never_passed}
+use Rattle.ltl_automaton.specs.Listed.{Listed}
+use Rattle.ltl_automaton.specs.Net.{Net, key_of, targets_of, edges_in, state_of, IsReachable, IsUnderWay}
+use Rattle.ltl_automaton.specs.SharedView.{with_state}
+use Rattle.ltl_automaton.proofs.NetLaws.{map_agree, state_stays}
+
+-- the elements of a beginning stand at places before its end
+pub Has_taken_at : {K : Type 0} (n : ℕ) (xs : List K) (x : K) → Has (take n xs) x → (i : ℕ) × (i < n) × (i < length xs) × (slice_index_or xs i x ≡ x)
+Has_taken_at zero xs x h = absurd h
+Has_taken_at (suc n) [] x h = absurd h
+Has_taken_at (suc n) (y ∷ ys) x (inl e) = (0, omega arith, omega arith, sym e)
+Has_taken_at (suc n) (y ∷ ys) x (inr h) = let w = Has_taken_at n ys x h in (suc w.0, omega (arith, w.1), omega (arith, w.2), w.3)
+
+-- one more of a list
+pub take_got : {K : Type 0} (xs : List K) (n : ℕ) (x : K) → slice_get xs n ≡ Some x → take (suc n) xs ≡ take n xs ++ x ∷ []
+take_got [] n x e = absurd (never e)
+  where
+    never : None ≡ Some x → ⊥
+    never q = cc
+take_got (y ∷ ys) zero x e = let p : y ≡ x = cc in λ i. p i ∷ []
+take_got (y ∷ ys) (suc n) x e = ap (λ l. y ∷ l) (take_got ys n x e)
+
+-- what is put behind a list leaves its beginnings
+take_behind : {K : Type 0} (n : ℕ) (xs more : List K) → n ≤ length xs → take n (xs ++ more) ≡ take n xs
+take_behind zero xs more l = refl
+take_behind (suc n) [] more l = absurd (omega arith)
+take_behind (suc n) (x ∷ xs) more l = ap (λ l. x ∷ l) (take_behind n xs more (omega arith))
+
+pub take_whole : {K : Type 0} (n : ℕ) (xs : List K) → length xs ≤ n → take n xs ≡ xs
+take_whole zero [] l = refl
+take_whole zero (x ∷ xs) l = absurd (omega arith)
+take_whole (suc n) [] l = refl
+take_whole (suc n) (x ∷ xs) l = ap (λ l. x ∷ l) (take_whole n xs (omega arith))
+
+-- there is nothing past the end alone
+past : {K : Type 0} (xs : List K) (n : ℕ) → slice_get xs n ≡ None → length xs ≤ n
+past [] n e = omega arith
+past (x ∷ xs) zero e = absurd (never e)
+  where
+    never : Some x ≡ None → ⊥
+    never q = cc
+past (x ∷ xs) (suc n) e = let l = past xs n e in omega arith
+
+module _ {K : Type 0} (same : K → K → Bool) (decides : (x y : K) → Decides (same x y) (x ≡ y)) (sorted : Bool) (net : Net K) (start : K) (sets : ℕ) where
+  abbrev IsOnWay : Listed K → ℕ → Automaton → Type 0
+  IsOnWay l count A = IsUnderWay same sorted net start sets l count A
+
+  abbrev T : K → List K
+  T = targets_of net
+
+  abbrev st : List K → K → State
+  st keys k = state_of same sorted net keys k
+
+  pub begins : (l : Listed K) (A : Automaton) → l ≡ record { keys = start ∷ []; taken = 0 } → A ≡ record { sets = sets; states = [] } → IsOnWay l 0 A
+  begins l A e a = subst (λ m. IsOnWay m 0 A) (sym e) (record { listed = refl; states = a; counted = refl; within = omega arith })
+
+  module _ (l : Listed K) (count : ℕ) (A : Automaton) (w : IsOnWay l count A) where
+    module _ (k : K) (f : slice_get l.keys l.taken ≡ Some k) where
+      abbrev next : List K
+      next = fold (with_new same) l.keys (T k)
+
+      inside : l.taken < length l.keys
+      inside = slice_get_within l.keys l.taken k f
+
+      listed_next : next ≡ listing same T start (suc l.taken)
+      listed_next = ap (λ ks. fold (with_new same) ks (T k)) w.listed ∙ sym (ap (with_targets_of same T (listing same T start l.taken)) (ap (λ ks. slice_get ks l.taken) (sym w.listed) ∙ f))
+
+      counted_next : count + length (net.arcs k) ≡ sum_by (λ s. length (T s)) (take (suc l.taken) next)
+      counted_next =
+          let behind = fold_behind same (T k) l.keys in
+          let step = ap (λ ks. sum_by (λ s. length (T s)) (take (suc l.taken) ks)) behind.1 ∙ sum_step (λ s. length (T s)) l.keys behind.0 l.taken k inside in
+          let here : length (T (slice_index_or l.keys l.taken k)) ≡ length (net.arcs k) = ap (λ s. length (T s)) (get_or_from_slice_get l.keys l.taken k k f) ∙ length-map (net.arcs k) key_of in
+          let old = w.counted in
+          omega arith
+
+      states_next : map (st next) (take (suc l.taken) next) ≡ map (st l.keys) (take l.taken l.keys) ++ st next k ∷ []
+      states_next =
+          let behind = fold_behind same (T k) l.keys in
+          let grown : next ≡ l.keys ++ behind.0 = behind.1 in
+          let m = inside in
+          let there : (y : K) → Has (take l.taken l.keys) y → (z : K) → Has (T y) z → Has l.keys z = λ y h z t.
+          let q = Has_taken_at l.taken l.keys y h in
+          subst (λ ks. Has ks z) (sym w.listed)
+          (listed_targets same decides T start l.taken q.0 y z q.1 (subst (λ ks. q.0 < length ks) w.listed q.2)
+          (subst (λ v. Has (T v) z) (sym (ap (λ ks. slice_index_or ks q.0 y) (sym w.listed) ∙ q.3)) t)) in
+          let old : map (st next) (take l.taken l.keys) ≡ map (st l.keys) (take l.taken l.keys) =
+          ap (λ ks. map (st ks) (take l.taken l.keys)) grown ∙ map_agree (st (l.keys ++ behind.0)) (st l.keys) (take l.taken l.keys) (λ y h. state_stays same decides sorted net l.keys behind.0 y (there y h)) in
+          let taken : take (suc l.taken) next ≡ take l.taken l.keys ++ k ∷ [] = ap (take (suc l.taken)) grown ∙ take_behind (suc l.taken) l.keys behind.0 (omega arith) ∙ take_got l.keys l.taken k f in
+          ap (map (st next)) taken ∙ map-append (st next) (take l.taken l.keys) (k ∷ []) ∙ ap (λ ss. ss ++ st next k ∷ []) old
+
+      grown_longer : length l.keys ≤ length next
+      grown_longer = let b = fold_behind same (T k) l.keys in let e = ap length b.1 ∙ length-append l.keys b.0 in omega arith
+
+      -- one more was taken
+      pub goes_on : (m : Listed K) (more : ℕ) (edges : List Edge) (B : Automaton) → m.keys ≡ next → m.taken ≡ l.taken + 1 → more ≡ count + length (net.arcs k) → edges ≡ edges_in same sorted m.keys (net.arcs k)
+          → B ≡ with_state A (net.accepts k) edges → IsOnWay m more B
+      goes_on m more edges B g t c e b =
+          let n : m.taken ≡ suc l.taken = omega arith in
+          let is : m ≡ (let x : Listed K = record { keys = next; taken = suc l.taken } in x) = λ i. let x : Listed K = record { keys = g i; taken = n i } in x in
+          let last : edges ≡ edges_in same sorted next (net.arcs k) = e ∙ ap (λ ks. edges_in same sorted ks (net.arcs k)) g in
+          let long = grown_longer in
+          let short = inside in
+          subst (λ x. IsOnWay x more B) (sym is) (record {
+            listed = listed_next;
+            states = b ∙ (λ i. with_state (w.states i) (net.accepts k) (last i)) ∙ ap (λ ss. let X : Automaton = record { sets = sets; states = ss } in X) (sym states_next);
+            counted = c ∙ counted_next;
+            within = omega arith;
+          })
+
+      -- there are too many edges
+      pub too_many_edges : (most_states most_edges : ℕ) → most_edges < count + length (net.arcs k) → PassesLimits same T start most_states most_edges
+      too_many_edges ms me p = (suc l.taken, inr (subst (λ s. me < s) (counted_next ∙ ap (λ ks. sum_by (λ s. length (T s)) (take (suc l.taken) ks)) listed_next) p))
+
+      -- there are too many states
+      pub too_many_states : (most_states most_edges : ℕ) (keys : List K) → keys ≡ next → most_states < length keys → PassesLimits same T start most_states most_edges
+      too_many_states ms me keys g p = (suc l.taken, inl (subst (λ (ks : List K). ms < length ks) (g ∙ listed_next) p))
+
+    module _ (f : slice_get l.keys l.taken ≡ None) where
+      all : l.taken ≡ length l.keys
+      all = let a = past l.keys l.taken f in let b = w.within in omega arith
+
+      complete : IsComplete same T start l.taken
+      complete = all ∙ ap length w.listed
+
+      -- all were taken
+      pub arrives : IsReachable same sorted net start sets A
+      arrives =
+          let whole = take_whole l.taken l.keys (past l.keys l.taken f) in
+          (l.taken, complete, w.states ∙ ap (λ ss. let X : Automaton = record { sets = sets; states = ss } in X) (ap (map (st l.keys)) whole ∙ ap (λ ks. map (st ks) ks) w.listed))
+
+      -- and no limit was passed
+      pub fits_within : (most_states most_edges : ℕ) → length l.keys ≤ most_states → count ≤ most_edges → PassesLimits same T start most_states most_edges → ⊥
+      fits_within ms me p q =
+          never_passed same T start ms me l.taken complete (subst (λ (ks : List K). length ks ≤ ms) w.listed p)
+          (subst (λ s. s ≤ me) (w.counted ∙ ap (λ ks. sum_by (λ s. length (T s)) (take l.taken ks)) w.listed) q)

@@ -1,0 +1,13 @@
+use Rattle.std.proofs.Common.{◌≡◌, take, map}
+use Rattle.std.specs.Prelude.{fold}
+use Rattle.ltl_spec.specs.Collections.Lists.{with_new}
+use Rattle.ltl_automaton.specs.EdgeView.{edge_of}
+use Rattle.ltl_automaton.specs.Net.{edge_in, key_of}
+use Rattle.ltl_automaton.proofs.explore.numbered.Given as goal
+
+abbrev pub invariant-loop-arc : goal.invariant-loop-arc
+invariant-loop-arc g l = record {
+  keys : l.listing.keys ≡ fold (with_new g.K.PartialEq.eq) l.fn.listing.keys (map key_of (take l.arc-index l.arcs));
+  taken : l.listing.taken ≡ l.fn.listing.taken;
+  edges : map edge_of l.edges.items ≡ map (edge_in g.K.PartialEq.eq l.listing.keys) (take l.arc-index l.arcs);
+}

@@ -1,0 +1,103 @@
+//! Automata listed breadth first.
+
+ghost use Rattle.std.specs.Prelude.{◌≡◌, ◌<◌, ◌+◌, fold, map, slice_get, Some, length, IfOk, OnOk, IsErrOf, if◌then◌else◌};
+ghost use Rattle.ltl_spec.specs.Collections.Lists.{with_new};
+ghost use Rattle.ltl_spec.specs.Automata.Listing.{PassesLimits};
+ghost use Rattle.ltl_automaton.specs.Net.{edge_in, edges_in, key_of, targets_of, IsReachable};
+ghost use Rattle.ltl_automaton.specs.Bounds.{IsBounded};
+ghost use Rattle.ltl_automaton.specs.EdgeView.{edge_of};
+ghost use Rattle.ltl_automaton.specs.SharedView.{automaton_of};
+
+use crate::arc::Arc;
+use crate::edge::Edge;
+use crate::fault::AutomatonFault;
+use crate::listing::{Key, Listing};
+use crate::shared::SharedStates;
+use crate::sorting::sort_edges;
+use crate::successors::Successors;
+use std::alloc::{AllocError, Allocator};
+
+/// The edges by the numbers of their targets. A target that isn't listed gets the next number.
+fn numbered<'a, K: Key, A: Allocator>(
+    alloc: &'a A,
+    listing: &mut Listing<'a, K, A>,
+    arcs: &[Arc<K>],
+) -> Result<Vec<Edge, &'a A>, AllocError>
+    ensures keys { OnOk result (listing.new.keys ≡ fold (with_new K.eq) listing.old.keys (map key_of arcs.now)) }
+    ensures taken { listing.new.taken ≡ listing.old.taken }
+    ensures edges { IfOk result (λ es. map edge_of es.items ≡ map (edge_in K.eq listing.new.keys) arcs.now) }
+{
+    let mut edges = Vec::new(alloc);
+    edges.reserve(arcs.len())?;
+    for arc in arcs {
+        let target = listing.number(arc.key)?;
+        edges.push(Edge {
+            cube: arc.cube,
+            target,
+            marks: arc.marks,
+        })?;
+    }
+    Ok(edges)
+}
+
+/// The edges by the numbers of their targets, sorted and distinct if this is asked.
+fn numbered_by<'a, K: Key, A: Allocator>(
+    alloc: &'a A,
+    listing: &mut Listing<'a, K, A>,
+    arcs: &[Arc<K>],
+    sorted: bool,
+) -> Result<Vec<Edge, &'a A>, AllocError>
+    ensures keys { OnOk result (listing.new.keys ≡ fold (with_new K.eq) listing.old.keys (map key_of arcs.now)) }
+    ensures taken { listing.new.taken ≡ listing.old.taken }
+    ensures edges { IfOk result (λ es. map edge_of es.items ≡ edges_in K.eq sorted listing.new.keys arcs.now) }
+{
+    let mut edges = numbered(alloc, listing, arcs)?;
+    if sorted {
+        sort_edges(&mut edges);
+    }
+    Ok(edges)
+}
+
+/// The most states and edges that an automaton may have.
+#[derive(Clone, Copy)]
+pub struct Limits {
+    pub states: usize,
+    pub edges: usize,
+}
+
+/// The automaton of the things that are reached from the start, which is state 0. The edges of a state stand as they come, or sorted and
+/// distinct if this is asked.
+pub fn explore_from<'a, K: Key, S: Successors<K>, A: Allocator>(
+    alloc: &'a A,
+    start: K,
+    sets: usize,
+    net: &mut S,
+    sorted: bool,
+    limits: Limits,
+) -> Result<SharedStates<'a, A>, AutomatonFault>
+    requires some { 0 < limits.states }
+    requires ready { S.ready net.old }
+    ensures reachable { IfOk result (λ s. IsReachable K.eq sorted (S.net net.old) start sets (automaton_of s)) }
+    ensures bounded { IfOk result (λ s. IsBounded limits.states limits.edges (automaton_of s)) }
+
+    // The fault comes exactly where a limit is passed. Memory may be refused at any time.
+    ensures fits { OnOk result (¬ (PassesLimits K.eq (targets_of (S.net net.old)) start limits.states limits.edges)) }
+    ensures large { IsErrOf result AutomatonFault.TooLarge → PassesLimits K.eq (targets_of (S.net net.old)) start limits.states limits.edges }
+{
+    let mut listing = Listing::new(alloc, start)?;
+    let mut made = SharedStates::new(alloc, sets);
+    let mut count = 0usize;
+    'things: while let Some(key) = listing.take() {
+        let arcs = net.arcs(alloc, &key)?;
+        if arcs.len() > limits.edges - count {
+            return Err(AutomatonFault::TooLarge);
+        }
+        count += arcs.len();
+        let edges = numbered_by(alloc, &mut listing, arcs.as_slice(), sorted)?;
+        if listing.len() > limits.states {
+            return Err(AutomatonFault::TooLarge);
+        }
+        made.push(net.accepting(&key), edges)?;
+    }
+    Ok(made)
+}

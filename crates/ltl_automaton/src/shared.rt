@@ -1,0 +1,134 @@
+//! Automata whose states share their lists of edges.
+
+ghost use Rattle.std.specs.Prelude.{◌≡◌, ◌<◌, [], length, map, slice_get, Some, OnOk};
+ghost use Rattle.ltl_spec.specs.Automata.Automaton.{state_at};
+ghost use Rattle.ltl_automaton.specs.EdgeView.{edge_of};
+ghost use Rattle.ltl_automaton.specs.SharedView.{automaton_of, with_state, IsShared};
+
+use crate::edge::Edge;
+use crate::edge_list::EdgeList;
+use indexmap::IndexSet;
+use std::alloc::{AllocError, Allocator};
+use std::hash::{BuildHasherDefault, FoldHasher};
+use std::marker::Model;
+
+/// The different lists, by number.
+type Lists<'a, A> = IndexSet<EdgeList<'a, A>, BuildHasherDefault<FoldHasher>, &'a A>;
+
+/// A state: the number of its list of edges, and whether it is accepting.
+#[derive(Clone, Copy, Debug, PartialEq, Eq, Hash)]
+pub struct Place {
+    pub list: usize,
+    pub accepting: bool,
+}
+
+/// An automaton that grows. Its states share lists of edges, each of which stands once.
+#[derive(Drop)]
+pub struct SharedStates<'a, A: Allocator> {
+    sets: usize,
+    lists: Lists<'a, A>,
+    states: Vec<Place, &'a A>,
+}
+
+impl<'a, A: Allocator> Model for SharedStates<'a, A> {
+    ghost use Rattle.ltl_automaton.specs.SharedView.{Shared, IsShared};
+
+    ghost Value = { Shared };
+
+    ghost view = { λ s. record { sets = s.sets; lists = s.lists.keys; states = s.states.items } };
+
+    ghost invariant = { λ s. IsShared s.lists.keys s.states.items };
+}
+
+impl<'a, A: Allocator> SharedStates<'a, A> {
+    /// No state, and so many acceptance sets.
+    pub fn new(alloc: &'a A, sets: usize) -> Self
+        ensures { result ≡ record { sets = sets; lists = []; states = [] } }
+    {
+        SharedStates {
+            sets,
+            lists: IndexSet::new(alloc),
+            states: Vec::new(alloc),
+        }
+    }
+
+    /// How many states there are.
+    pub fn len(&self) -> usize
+        ensures { result ≡ length (automaton_of self.now).states }
+    {
+        self.states.len()
+    }
+
+    /// How many acceptance sets there are.
+    pub fn sets(&self) -> usize
+        ensures { result ≡ (automaton_of self.now).sets }
+    {
+        self.sets
+    }
+
+    /// How many lists there are.
+    pub fn list_count(&self) -> usize
+        ensures { result ≡ length self.now.lists }
+    {
+        self.lists.len()
+    }
+
+    /// The list with this number.
+    pub fn list_edges(&self, list: usize) -> &[Edge]
+        requires { list < length self.now.lists }
+        ensures { slice_get self.now.lists list ≡ Some (map edge_of result.now) }
+    {
+        self.lists[list].as_slice()
+    }
+
+    /// Whether a state is accepting.
+    pub fn accepting(&self, i: usize) -> bool
+        requires { i < length (automaton_of self.now).states }
+        ensures { result ≡ (state_at (automaton_of self.now) i).accepting }
+    {
+        self.states[i].accepting
+    }
+
+    /// A state, with the number of its list.
+    pub fn place(&self, i: usize) -> Place
+        requires { i < length (automaton_of self.now).states }
+        ensures place { slice_get self.now.states i ≡ Some result }
+        ensures within { result.list < length self.now.lists }
+    {
+        self.states[i]
+    }
+
+    /// The number of a state's list. States with equal numbers have equal edges, and those with other numbers have others.
+    pub fn list(&self, i: usize) -> usize
+        requires { i < length (automaton_of self.now).states }
+        ensures within { result < length self.now.lists }
+        ensures edges { slice_get self.now.lists result ≡ Some (state_at (automaton_of self.now) i).edges }
+    {
+        self.states[i].list
+    }
+
+    /// The edges of a state.
+    pub fn edges(&self, i: usize) -> &[Edge]
+        requires { i < length (automaton_of self.now).states }
+        ensures { map edge_of result.now ≡ (state_at (automaton_of self.now) i).edges }
+    {
+        self.list_edges(self.list(i))
+    }
+
+    /// Hands to callers that each list stands once, and is the list of a state.
+    pub fn shares(&self)
+        ensures { IsShared self.now.lists self.now.states }
+    {
+        let _ = &self.states;
+    }
+
+    /// Puts a state behind the others.
+    pub fn push(&mut self, accepting: bool, edges: Vec<Edge, &'a A>) -> Result<(), AllocError>
+        ensures ok { OnOk result (automaton_of self.new ≡ with_state (automaton_of self.old) accepting (map edge_of edges.entry.items)) }
+    {
+        self.states.reserve(1)?;
+        let (list, _) = self.lists.insert_full(EdgeList::new(edges))?;
+        self.states.push(Place { list, accepting })?;
+        Ok(())
+    }
+}

@@ -1,0 +1,55 @@
+//! The automaton that a plan asks for.
+
+ghost use Rattle.std.specs.Prelude.{List, ℕ, length, IfOk};
+ghost use Rattle.ltl_spec.specs.Checking.Bounds.{HasNamesBelow};
+ghost use Rattle.ltl_spec.specs.Formulas.Grammar.{IsTextOf};
+ghost use Rattle.ltl_spec.specs.Semantics.Language.{AcceptsModels};
+ghost use Rattle.ltl_formula.specs.FormulaView.{reading_of};
+ghost use Rattle.ltl_cli.specs.Plans.{layout_in};
+ghost use Rattle.ltl_cli.specs.Refusals.{Takes};
+ghost use Rattle.ltl_cli.specs.Runs.{MakesText, automaton_in, text_of};
+
+use crate::automaton::{automaton_of, generalized_of};
+use crate::layout::Layout;
+use crate::refusal::Refusal;
+use crate::request::Plan;
+use ltl_buchi::{Ba, Gen};
+use ltl_formula::Formula;
+use std::alloc::Allocator;
+
+/// An automaton in its layout.
+#[derive(Drop)]
+pub enum Printable<'a, A: Allocator> {
+    /// A never claim of this.
+    Claim(Ba<'a, A>),
+    /// The text of this in the Hanoi Omega-Automata format.
+    Hoa(Ba<'a, A>),
+    /// The text of this in the Hanoi Omega-Automata format.
+    Generalized(Gen<'a, A>),
+}
+
+/// The automaton that the plan asks for, of its formula.
+pub fn printable_of<'a, A: Allocator>(
+    alloc: &'a A,
+    formula: &Formula<'_, A>,
+    plan: &Plan<'_>,
+) -> Result<Printable<'a, A>, Refusal>
+    ensures step { Takes (MakesText (layout_in plan.now.layout) (reading_of formula.now) plan.now.rewrite plan.now.options) (λ t. text_of t formula.now) result }
+    ensures models { IfOk result (λ t. AcceptsModels (automaton_in t) (reading_of formula.now).formula) }
+    ensures named { IfOk result (λ t. (text : List ℕ) → IsTextOf text (reading_of formula.now) → HasNamesBelow (length formula.now.names) (automaton_in t)) }
+{
+    match plan.layout {
+        Layout::Claim => {
+            let automaton = automaton_of(alloc, formula, false, plan.rewrite, &plan.options)?;
+            Ok(Printable::Claim(automaton))
+        }
+        Layout::Hoa => {
+            let automaton = automaton_of(alloc, formula, false, plan.rewrite, &plan.options)?;
+            Ok(Printable::Hoa(automaton))
+        }
+        Layout::Generalized => {
+            let automaton = generalized_of(alloc, formula, plan.rewrite, &plan.options)?;
+            Ok(Printable::Generalized(automaton))
+        }
+    }
+}

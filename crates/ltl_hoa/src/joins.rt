@@ -1,0 +1,190 @@
+//! Joins of two sets of cubes. Large sets are parted by a literal, so that most cubes that contradict each other, or that make what others
+//! make, are never joined.
+
+ghost use Rattle.std.specs.Prelude.{◌≡◌, ◌++◌, ◌+◌, length, flat_map, filter_map, IfOk, OnOk, option_map};
+ghost use Rattle.std.specs.Bool.{beq};
+ghost use Rattle.std.specs.List.{filter};
+ghost use Rattle.ltl_spec.specs.Collections.Sets as spec_sets;
+ghost use Rattle.ltl_spec.specs.Transitions.Cubes as spec_cubes;
+ghost use Rattle.ltl_hoa.specs.CubesView.{HasFew, SameCubes, few, joined_cubes, joins};
+
+use crate::cubes::{CubeList, Cubes, MOST_CUBES, few, make_distinct, place_of};
+use crate::parting::parting_literal;
+use ltl_sets::Cube;
+use smallvec::SmallVec;
+use std::alloc::{AllocError, Allocator};
+
+/// How often sets are parted for one join.
+const MOST_PARTINGS: usize = 16_384;
+
+/// How many joins may wait at a time.
+const MOST_WAITING: usize = 64;
+
+/// Two sets of cubes, of which each cube of the one is to be joined with each of the other.
+#[derive(Drop)]
+struct Sides<'a, A: Allocator> {
+    left: CubeList<'a, A>,
+    right: CubeList<'a, A>,
+}
+
+/// Puts the joins of a cube with each of a list behind the others.
+fn join_one<A: Allocator>(
+    joined: &mut CubeList<'_, A>,
+    left: &Cube,
+    right: &[Cube],
+) -> Result<(), AllocError>
+    ensures { OnOk result (joined.new.items ≡ joined.old.items ++ filter_map (spec_cubes.join_cubes left.now) right.now) }
+{
+    'right: for cube in right {
+        if let Some(cube) = left.join(cube) {
+            joined.push(cube)?;
+        }
+    }
+    Ok(())
+}
+
+/// Puts one cube of each side joined, in every way, behind the others; false where there are too many. No more than twice as many as may be are
+/// held at a time.
+fn join_each<A: Allocator>(
+    joined: &mut CubeList<'_, A>,
+    left: &[Cube],
+    right: &[Cube],
+) -> Result<bool, AllocError>
+    ensures { IfOk result (λ is_few. HasFew (joined.old.items ++ joins left.now right.now) is_few joined.new.items) }
+{
+    'left: for cube in left {
+        join_one(joined, cube, right)?;
+        if joined.len() > MOST_CUBES {
+            make_distinct(joined);
+            if joined.len() > MOST_CUBES {
+                return Ok(false);
+            }
+        }
+    }
+    Ok(true)
+}
+
+/// The cubes that have all of these literals, or else those that don't.
+fn having<'a, A: Allocator>(
+    alloc: &'a A,
+    cubes: &[Cube],
+    literals: &Cube,
+    all: bool,
+) -> Result<CubeList<'a, A>, AllocError>
+    ensures { IfOk result (λ r. r.items ≡ filter (λ c. beq (spec_sets.is_subset spec_cubes.literal_cmp literals.now c) all) cubes.now) }
+{
+    let mut found = SmallVec::new(alloc);
+    'cubes: for cube in cubes {
+        if literals.implies_of(cube) == all {
+            found.push(*cube)?;
+        }
+    }
+    Ok(found)
+}
+
+/// What the cubes join to with these literals and isn't among the others.
+fn widened<'a, A: Allocator>(
+    alloc: &'a A,
+    cubes: &[Cube],
+    literals: &Cube,
+    others: &[Cube],
+) -> Result<CubeList<'a, A>, AllocError>
+    ensures { IfOk result (λ r. SameCubes (others.now ++ r.items) (others.now ++ filter_map (λ c. spec_cubes.join_cubes c literals.now) cubes.now)) }
+{
+    let mut made = SmallVec::new(alloc);
+    'cubes: for cube in cubes {
+        if let Some(cube) = cube.join(literals) {
+            match place_of(others, &cube) {
+                Ok(_) => {}
+                Err(_) => made.push(cube)?,
+            }
+        }
+    }
+    Ok(made)
+}
+
+/// For proofs: each cube is a set of literals.
+fn cubes_rise(cubes: &[Cube])
+    ensures { (c : spec_cubes.Cube) → spec_sets.Has cubes.now c → spec_sets.IsRising spec_cubes.literal_cmp c }
+{
+    'cubes: for cube in cubes {
+        cube.literals_rise();
+    }
+}
+
+/// Parts both sides by whether their cubes have these literals. Whatever joins to a cube with them is joined with them before.
+fn part<'a, A: Allocator>(
+    alloc: &'a A,
+    sides: &Sides<'a, A>,
+    literals: &Cube,
+    waiting: &mut Vec<Sides<'a, A>, &'a A>,
+) -> Result<(), AllocError>
+    ensures joins { OnOk result (SameCubes (flat_map (λ s. joins s.left.items s.right.items) waiting.new.items) (flat_map (λ s. joins s.left.items s.right.items) waiting.old.items ++ joins sides.now.left.items sides.now.right.items)) }
+    ensures three { OnOk result (length waiting.new.items ≡ length waiting.old.items + 3) }
+{
+    literals.literals_rise();
+    cubes_rise(sides.right.as_slice());
+    let left_with = having(alloc, sides.left.as_slice(), literals, true)?;
+    let left_without = having(alloc, sides.left.as_slice(), literals, false)?;
+    let right_with = having(alloc, sides.right.as_slice(), literals, true)?;
+    let right_without = having(alloc, sides.right.as_slice(), literals, false)?;
+    let mut left_made = widened(
+        alloc,
+        left_without.as_slice(),
+        literals,
+        left_with.as_slice(),
+    )?;
+    let right_made = widened(
+        alloc,
+        right_without.as_slice(),
+        literals,
+        right_with.as_slice(),
+    )?;
+    make_distinct(&mut left_made);
+    let mut right_widened = SmallVec::new(alloc);
+    right_widened.extend_from_slice(right_with.as_slice())?;
+    right_widened.extend_from_slice(right_made.as_slice())?;
+    make_distinct(&mut right_widened);
+    waiting.push(Sides {
+        left: left_without,
+        right: right_without,
+    })?;
+    waiting.push(Sides {
+        left: left_made,
+        right: right_with,
+    })?;
+    waiting.push(Sides {
+        left: left_with,
+        right: right_widened,
+    })?;
+    Ok(())
+}
+
+/// One cube of each side joined, in every way.
+pub(crate) fn join<'a, A: Allocator>(
+    alloc: &'a A,
+    left: CubeList<'a, A>,
+    right: CubeList<'a, A>,
+) -> Result<Cubes<'a, A>, AllocError>
+    ensures { IfOk result (λ r. option_map (λ v. v.items) r ≡ few (joined_cubes left.entry.items right.entry.items)) }
+{
+    let mut joined = SmallVec::new(alloc);
+    let mut waiting = Vec::new(alloc);
+    waiting.push(Sides { left, right })?;
+    let mut partings = MOST_PARTINGS;
+    'sides: while let Some(sides) = waiting.pop() {
+        match parting_literal(sides.left.as_slice(), sides.right.as_slice()) {
+            Some(literal) if 0 < partings && waiting.len() < MOST_WAITING => {
+                part(alloc, &sides, &literal, &mut waiting)?;
+                partings -= 1;
+            }
+            _ => {
+                if !join_each(&mut joined, sides.left.as_slice(), sides.right.as_slice())? {
+                    return Ok(None);
+                }
+            }
+        }
+    }
+    make_distinct(&mut joined);
+    Ok(few(joined))
+}

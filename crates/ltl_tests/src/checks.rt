@@ -1,0 +1,52 @@
+//! Checks: how much is looked at.
+
+ghost use Rattle.std.specs.Prelude.{length, IfOk};
+ghost use Rattle.ltl_spec.specs.Checking.Bounds.{HasNamesBelow};
+
+use ltl_buchi::{Ba, Options, translate};
+use ltl_check::{Outcome, check};
+use ltl_cli::Refusal;
+use ltl_formula::{Formula, Table, read};
+use ltl_hoa::hoa_read;
+use std::alloc::Global;
+
+/// Its only word has `p` in each second letter, from the first on.
+const ALTERNATING: &str =
+    "HOA: v1\nStates: 2\nStart: 0\nAP: 1 \"p\"\nAcceptance: 1 Inf(0)\n--BODY--\nState: 0 {0}\n[0] 1\nState: 1\n[!0] 0\n--END--\n";
+
+/// A formula, and the automaton of its negation.
+fn violations<'a>(
+    alloc: &'a Global,
+    text: &str,
+) -> Result<(Formula<'a, Global>, Ba<'a, Global>), Refusal>
+    ensures { IfOk result (λ r. HasNamesBelow (length r.0.names) r.1) }
+{
+    let formula = read(alloc, text.as_bytes())?;
+    let table = Table::build(alloc, &formula, true, true)?;
+    let options = Options {
+        keep_implied: false,
+        keep_equal: false,
+    };
+    let automaton = translate(alloc, &table, &options)?;
+    Ok((formula, automaton))
+}
+
+/// Two states, one acceptance set and so three levels, on which each pair of edges is looked at twice at most.
+#[test]
+fn looks_within_the_bound(rt: HostRuntime) {
+    let alloc = rt.alloc();
+    let (formula, automaton) = violations(&alloc, "[]p").expect(&rt, "an automaton");
+    let given = hoa_read(&alloc, &mut ALTERNATING.as_bytes()).expect(&rt, "an automaton");
+    let verdict = check(&alloc, &given, &automaton, &formula).expect(&rt, "a verdict");
+    let mut edges = 0u128;
+    for i in 0..automaton.len() {
+        edges = edges.saturating_add(automaton.edges(i).len() as u128);
+    }
+    assert_eq!(rt; edges, 3);
+    assert!(rt; 0 < verdict.steps() && verdict.steps() <= 2 * 2 * edges * 3);
+    let is_violated = match verdict.outcome() {
+        Outcome::Violated(_) => true,
+        Outcome::Contained => false,
+    };
+    assert!(rt; is_violated);
+}
