@@ -2,7 +2,8 @@
 
 use ltl_alt::{Gba, GbaEdge, PairSet};
 use ltl_buchi::{Ba, Gen};
-use ltl_formula::{Formula, Table, text_to};
+use ltl_check::{Outcome, Taken, Verdict, Walk};
+use ltl_formula::{Formula, Row, Table, text_to};
 use ltl_hoa::Marked;
 use ltl_sets::{Cube, RowSet};
 use ltl_word::Lasso;
@@ -60,6 +61,32 @@ impl Digest {
         self.take(usize::MAX);
     }
 
+    /// A row of a table.
+    fn row(&mut self, row: Row) {
+        let (kind, first, second) = match row {
+            Row::True => (0, 0, 0),
+            Row::False => (1, 0, 0),
+            Row::Literal(literal) => (2, literal.proposition, literal.positive as usize),
+            Row::Next(operand) => (3, operand, 0),
+            Row::And(left, right) => (4, left, right),
+            Row::Or(left, right) => (5, left, right),
+            Row::Until(left, right) => (6, left, right),
+            Row::Release(left, right) => (7, left, right),
+        };
+        self.take(kind);
+        self.take(first);
+        self.take(second);
+    }
+
+    fn steps(&mut self, steps: &[Taken]) {
+        for step in steps {
+            self.take(step.state);
+            self.take(step.pick);
+            self.rows(&step.letter);
+        }
+        self.take(usize::MAX);
+    }
+
     fn edges(&mut self, edges: &[GbaEdge]) {
         for edge in edges {
             self.cube(&edge.cube);
@@ -81,7 +108,10 @@ pub fn of_formula<A: Allocator>(formula: &Formula<'_, A>) -> Digest {
 
 pub fn of_table<A: Allocator>(table: &Table<'_, A>) -> Digest {
     let mut digest = Digest::new();
-    digest.take(table.len());
+    for i in 0..table.len() {
+        digest.row(table.row(i));
+    }
+    digest.take(usize::MAX);
     for row in table.untils() {
         digest.take(*row);
     }
@@ -156,5 +186,23 @@ pub fn of_word<A: Allocator>(word: &Lasso<'_, A>) -> Digest {
     let mut digest = Digest::new();
     let written = word.text_to(&mut digest).is_ok();
     digest.take(written as usize);
+    digest
+}
+
+pub fn of_verdict<A: Allocator>(verdict: &Verdict<'_, A>) -> Digest {
+    let mut digest = match verdict.outcome() {
+        Outcome::Contained => Digest::new(),
+        Outcome::Violated(word) => of_word(word),
+    };
+    digest.take((verdict.steps() % 0x1_0000_0000) as usize);
+    digest
+}
+
+pub fn of_walk<A: Allocator>(walk: &Option<Walk<'_, A>>) -> Digest {
+    let mut digest = Digest::new();
+    if let Some(walk) = walk {
+        digest.steps(&walk.way);
+        digest.steps(&walk.turn);
+    }
     digest
 }

@@ -1,14 +1,17 @@
 //! The calls of the libraries, with each growth refused in turn.
 
-ghost use Rattle.std.specs.Prelude.{◌<◌, length};
+ghost use Rattle.std.specs.Prelude.{◌<◌, length, IfSome};
+ghost use Rattle.ltl_spec.specs.Checking.Bounds.{HasNamesBelow};
 
 use crate::digest::{
-    Digest, of_ba, of_formula, of_gba, of_gen, of_marked, of_pairs, of_table, of_word,
+    Digest, of_ba, of_formula, of_gba, of_gen, of_marked, of_pairs, of_table, of_verdict, of_walk,
+    of_word,
 };
 use crate::inputs::Case;
 use crate::streams::Given;
 use ltl_alt::{AltFault, Gba, pairs};
 use ltl_buchi::{Ba, BaFault, Options, generalized, levels, merge, merge_ba, renumber, translate};
+use ltl_check::{CheckFault, Graph, PRODUCT_LIMIT, Product, Steps, check, find};
 use ltl_formula::{BuildFault, Formula, ReadFault, Table, read};
 use ltl_hoa::{HoaFault, Marked, hoa_read};
 use ltl_sets::RowSet;
@@ -242,25 +245,111 @@ fn automaton<'a, B: Allocator>(alloc: &'a Memory<B>, text: &str) -> Option<Marke
     ))
 }
 
-/// What all that is made of a case is; none where a call answers otherwise than it has to.
-fn all_of<B: Allocator>(alloc: &Memory<B>, case: &Case<'_>) -> Option<Digest> {
+/// A formula and the automaton of the words that violate it.
+fn violations<'a, B: Allocator>(
+    alloc: &'a Memory<B>,
+    text: &str,
+) -> Option<(Read<'a, B>, Ba<'a, Memory<B>>)>
+    ensures { IfSome result (λ r. HasNamesBelow (length r.0.names) r.1) }
+{
+    let Ok(formula) = read(alloc, text.as_bytes()) else {
+        return None;
+    };
+    let Ok(table) = Table::build(alloc, &formula, true, true) else {
+        return None;
+    };
+    let Ok(automaton) = translate(alloc, &table, &OPTIONS) else {
+        return None;
+    };
+    Some((formula, automaton))
+}
+
+fn checked<'a, B: Allocator>(
+    alloc: &'a Memory<B>,
+    automaton: &Marked<'a, Memory<B>>,
+    ba: &Ba<'a, Memory<B>>,
+    formula: &Read<'a, B>,
+) -> Option<Digest>
+    requires { HasNamesBelow (length formula.now.names) ba.now }
+{
+    let found = made!(
+        alloc,
+        of_marked(automaton)
+            .with(of_ba(ba))
+            .with(of_formula(formula)),
+        CheckFault::OutOfMemory,
+        check(alloc, automaton, ba, formula)
+    );
+    Some(of_verdict(&found))
+}
+
+/// A walk through the product, in which each proposition of the formula has its own number.
+fn walked<'a, B: Allocator>(
+    alloc: &'a Memory<B>,
+    automaton: &Marked<'a, Memory<B>>,
+    ba: &Ba<'a, Memory<B>>,
+    formula: &Read<'a, B>,
+) -> Option<Digest>
+    requires { HasNamesBelow (length formula.now.names) ba.now }
+{
+    let numbers = [0usize, 1, 2, 3, 4, 5, 6, 7];
+    if formula.name_count() > numbers.len() {
+        return None;
+    }
+    let product = Product::new(automaton, ba, &numbers[..formula.name_count()]);
+    let levels = product.sets().saturating_add(1);
+    if product.count().saturating_mul(levels) > PRODUCT_LIMIT {
+        return None;
+    }
+    let mut steps = Steps::new();
+    let found = made!(
+        alloc,
+        of_marked(automaton).with(of_ba(ba)),
+        CheckFault::OutOfMemory,
+        find(alloc, &product, &mut steps)
+    );
+    Some(of_walk(&found))
+}
+
+/// What a check finds, where the automata and the formula stand in other memory.
+fn checks<'a, B: Allocator>(
+    alloc: &'a Memory<B>,
+    calm: &'a Memory<B>,
+    case: &Case<'_>,
+) -> Option<Digest> {
+    let (formula, ba) = violations(calm, case.formula)?;
+    let Ok(automaton) = hoa_read(calm, &mut Given::of(case.automaton)) else {
+        return None;
+    };
+    let digest = checked(alloc, &automaton, &ba, &formula)?;
+    Some(digest.with(walked(alloc, &automaton, &ba, &formula)?))
+}
+
+/// What all that is made of a case is; none where a call answers otherwise than it has to. No growth of the calm memory is refused.
+fn all_of<'a, B: Allocator>(
+    alloc: &'a Memory<B>,
+    calm: &'a Memory<B>,
+    case: &Case<'_>,
+) -> Option<Digest> {
     let formula = formula(alloc, case.formula)?;
     let digest = of_formula(&formula).with(of_marked(&automaton(alloc, case.automaton)?));
     let digest = digest.with(words(alloc, &formula, case.word)?);
     let plain = table(alloc, &formula, false)?;
     let digest = digest.with(made_of_table(alloc, &plain)?);
     let negated = table(alloc, &formula, true)?;
-    Some(digest.with(made_of_table(alloc, &negated)?))
+    let digest = digest.with(made_of_table(alloc, &negated)?);
+    Some(digest.with(checks(alloc, calm, case)?))
 }
 
 /// What came of refusing each growth of a case.
 pub fn told(memory: Global, case: &Case<'_>) -> &'static str {
-    let Some(wanted) = all_of(&Refusing::new(memory, u64::MAX), case) else {
+    let calm = Refusing::new(memory, u64::MAX);
+    let Some(wanted) = all_of(&calm, &calm, case) else {
         return "a call fails with memory";
     };
     for n in 1..MOST_GROWTHS {
         let alloc = Refusing::new(memory, n);
-        match all_of(&alloc, case) {
+        match all_of(&alloc, &calm, case) {
             None =>
                 return "a refused growth is answered otherwise than by want of memory, or leaves something changed",
             Some(found) => {

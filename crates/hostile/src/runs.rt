@@ -51,115 +51,105 @@ fn tells(run: &Run<'_>, message: &Taken, text: &str) -> bool {
     rest == text.as_bytes()
 }
 
-/// What came of refusing each growth of a run.
-pub fn told(memory: Global, run: &Run<'_>) -> &'static str {
-    let mut wanted = Taken::new();
-    let status = ended(
-        memory,
-        &memory,
-        run,
-        Given::of(run.input),
-        &mut wanted,
-        &mut Taken::new(),
-    );
-    for n in 1..MOST_GROWTHS {
-        let alloc = Refusing::new(memory, n);
-        let (mut output, mut message) = (Taken::new(), Taken::new());
-        let found = ended(
-            memory,
-            &alloc,
-            run,
-            Given::of(run.input),
-            &mut output,
-            &mut message,
-        );
-        if !alloc.has_refused() {
-            let is_same = found == status
-                && output.bytes() == wanted.bytes()
-                && message.bytes().is_empty();
-            return if is_same {
-                "each growth refused, and the run without one is as ever"
-            } else {
-                "another run"
-            };
-        }
-        if found != 4
-            || !output.bytes().is_empty()
-            || output.flushes() != 0
-            || !tells(run, &message, ": out of memory\n")
-        {
-            return "a refused growth is answered otherwise than by want of memory";
-        }
-    }
-    "more growths than were refused"
+/// The run with all its memory and input, over these writers.
+fn calm(memory: Global, run: &Run<'_>, output: &mut Taken, message: &mut Taken) -> u8 {
+    ended(memory, &memory, run, Given::of(run.input), output, message)
 }
 
-/// What came of writers that fail.
-pub fn told_of_output(memory: Global, run: &Run<'_>) -> &'static str {
-    let mut wanted = Taken::new();
-    let status = ended(
-        memory,
-        &memory,
-        run,
-        Given::of(run.input),
-        &mut wanted,
-        &mut Taken::new(),
-    );
-    if wanted.flushes() != 1 || wanted.is_late() {
-        return "not flushed once, behind the last byte";
-    }
-    for k in 0..wanted.bytes().len() {
-        for way in WAYS {
-            let mut output = Taken::with_room(k, way);
-            let mut message = Taken::new();
-            let found = ended(
-                memory,
-                &memory,
-                run,
-                Given::of(run.input),
-                &mut output,
-                &mut message,
-            );
-            let is_beginning = wanted.bytes().starts_with(output.bytes())
-                && output.bytes().len() == k;
-            if found != 5
-                || !is_beginning
-                || output.is_late()
-                || output.flushes() != 0
-                || !tells(run, &message, ": cannot write\n")
-            {
-                return "a failed write is answered otherwise, or something is written behind it";
-            }
-            let mut again = Taken::with_room(k, way);
-            let mut full = Taken::with_room(k % 5, way);
-            let found = ended(
-                memory,
-                &memory,
-                run,
-                Given::of(run.input),
-                &mut again,
-                &mut full,
-            );
-            if found != 5 || again.bytes() != output.bytes() {
-                return "a writer of messages that fails changes the run";
-            }
-        }
-    }
-    let mut output = Taken::unflushed();
-    let mut message = Taken::new();
+/// What came of a run with this growth refused; none where it is answered by want of memory.
+fn refused(
+    memory: Global,
+    run: &Run<'_>,
+    n: u64,
+    status: u8,
+    wanted: &Taken,
+) -> Option<&'static str> {
+    let alloc = Refusing::new(memory, n);
+    let (mut output, mut message) = (Taken::new(), Taken::new());
     let found = ended(
         memory,
-        &memory,
+        &alloc,
         run,
         Given::of(run.input),
         &mut output,
         &mut message,
     );
-    if found != 5
-        || output.bytes() != wanted.bytes()
-        || output.flushes() != 1
-        || !tells(run, &message, ": cannot write\n")
-    {
+    if !alloc.has_refused() {
+        let is_same = found == status
+            && output.bytes() == wanted.bytes()
+            && message.bytes().is_empty();
+        return Some(if is_same {
+            "each growth refused, and the run without one is as ever"
+        } else {
+            "another run"
+        });
+    }
+    let is_silent = output.bytes().is_empty() && output.flushes() == 0;
+    if found == 4 && is_silent && tells(run, &message, ": out of memory\n") {
+        None
+    } else {
+        Some("a refused growth is answered otherwise than by want of memory")
+    }
+}
+
+/// What came of refusing each growth of a run.
+pub fn told(memory: Global, run: &Run<'_>) -> &'static str {
+    let mut wanted = Taken::new();
+    let status = calm(memory, run, &mut wanted, &mut Taken::new());
+    for n in 1..MOST_GROWTHS {
+        if let Some(told) = refused(memory, run, n, status, &wanted) {
+            return told;
+        }
+    }
+    "more growths than were refused"
+}
+
+/// Whether a writer that fails behind so many bytes gets a beginning and no more, and the fault is told.
+fn cut(memory: Global, run: &Run<'_>, k: usize, way: Failing, wanted: &Taken) -> bool {
+    let mut output = Taken::with_room(k, way);
+    let mut message = Taken::new();
+    let found = calm(memory, run, &mut output, &mut message);
+    let is_beginning = wanted.bytes().starts_with(output.bytes()) && output.bytes().len() == k;
+    let is_still = !output.is_late() && output.flushes() == 0;
+    found == 5 && is_beginning && is_still && tells(run, &message, ": cannot write\n")
+}
+
+/// Whether the same comes of it where the writer of messages fails too.
+fn cut_twice(memory: Global, run: &Run<'_>, k: usize, way: Failing, wanted: &Taken) -> bool {
+    let mut output = Taken::with_room(k, way);
+    let mut full = Taken::with_room(k % 5, way);
+    let found = calm(memory, run, &mut output, &mut full);
+    let is_beginning = wanted.bytes().starts_with(output.bytes()) && output.bytes().len() == k;
+    found == 5 && is_beginning
+}
+
+/// Whether a flush that fails comes once, behind the last byte, and is told.
+fn unflushed(memory: Global, run: &Run<'_>, wanted: &Taken) -> bool {
+    let mut output = Taken::unflushed();
+    let mut message = Taken::new();
+    let found = calm(memory, run, &mut output, &mut message);
+    let is_whole = output.bytes() == wanted.bytes() && output.flushes() == 1;
+    found == 5 && is_whole && tells(run, &message, ": cannot write\n")
+}
+
+/// What came of writers that fail.
+pub fn told_of_output(memory: Global, run: &Run<'_>) -> &'static str {
+    let mut wanted = Taken::new();
+    let status = calm(memory, run, &mut wanted, &mut Taken::new());
+    if wanted.flushes() != 1 || wanted.is_late() {
+        return "not flushed once, behind the last byte";
+    }
+    for k in 0..wanted.bytes().len() {
+        for way in WAYS {
+            if !cut(memory, run, k, way, &wanted) {
+                return "a failed write is answered otherwise, or something is written behind it";
+            }
+            if !cut_twice(memory, run, k, way, &wanted) {
+                return "a writer of messages that fails changes the run";
+            }
+        }
+    }
+    if !unflushed(memory, run, &wanted) {
         return "a failed flush is answered otherwise";
     }
     if status > 1 {
@@ -169,28 +159,41 @@ pub fn told_of_output(memory: Global, run: &Run<'_>) -> &'static str {
     }
 }
 
-/// What came of readers that fail, and of those that give few bytes a call.
-pub fn told_of_input(memory: Global, run: &Run<'_>) -> &'static str {
-    let mut wanted = Taken::new();
-    let status = ended(
+/// Whether the run is as ever where the reader gives so few bytes a call.
+fn in_pieces(memory: Global, run: &Run<'_>, size: usize, status: u8, wanted: &Taken) -> bool {
+    let mut output = Taken::new();
+    let found = ended(
         memory,
         &memory,
         run,
-        Given::of(run.input),
-        &mut wanted,
+        Given::in_pieces(run.input, size),
+        &mut output,
         &mut Taken::new(),
     );
+    found == status && output.bytes() == wanted.bytes()
+}
+
+/// Whether a reader that fails behind so many bytes is told, and nothing is written.
+fn unread(memory: Global, run: &Run<'_>, k: usize, way: Failing) -> bool {
+    let (mut output, mut message) = (Taken::new(), Taken::new());
+    let found = ended(
+        memory,
+        &memory,
+        run,
+        Given::failing(run.input, k, way),
+        &mut output,
+        &mut message,
+    );
+    let is_silent = output.bytes().is_empty() && output.flushes() == 0;
+    found == 5 && is_silent && tells(run, &message, ": cannot read\n")
+}
+
+/// What came of readers that fail, and of those that give few bytes a call.
+pub fn told_of_input(memory: Global, run: &Run<'_>) -> &'static str {
+    let mut wanted = Taken::new();
+    let status = calm(memory, run, &mut wanted, &mut Taken::new());
     for size in SIZES {
-        let mut output = Taken::new();
-        let found = ended(
-            memory,
-            &memory,
-            run,
-            Given::in_pieces(run.input, size),
-            &mut output,
-            &mut Taken::new(),
-        );
-        if found != status || output.bytes() != wanted.bytes() {
+        if !in_pieces(memory, run, size, status, &wanted) {
             return "another run where the input is given otherwise";
         }
     }
@@ -199,20 +202,7 @@ pub fn told_of_input(memory: Global, run: &Run<'_>) -> &'static str {
     }
     for k in 0..run.input.len() {
         for way in [Failing::Always, Failing::Once] {
-            let (mut output, mut message) = (Taken::new(), Taken::new());
-            let found = ended(
-                memory,
-                &memory,
-                run,
-                Given::failing(run.input, k, way),
-                &mut output,
-                &mut message,
-            );
-            if found != 5
-                || !output.bytes().is_empty()
-                || output.flushes() != 0
-                || !tells(run, &message, ": cannot read\n")
-            {
+            if !unread(memory, run, k, way) {
                 return "a failed read is answered otherwise";
             }
         }

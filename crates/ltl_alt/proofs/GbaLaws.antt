@@ -1,5 +1,5 @@
 -- The automaton that was listed from the root is the automaton of the formula.
-use Rattle.std.proofs.Common.{◌≡◌, ℕ, ◌+◌, ◌<◌, ◌≤◌, Bool, true, false, not, inl, inr, List, [], ◌∷◌, length, map, refl, sym, ◌∙◌, ap, subst, arith, All}
+use Rattle.std.proofs.Common.{◌≡◌, ℕ, ◌<◌, ◌≤◌, Bool, true, false, not, List, [], ◌∷◌, length, map, refl, sym, ◌∙◌, ap, subst, arith, All}
 use Rattle.std.specs.List.{list_any}
 use Rattle.ltl_spec.specs.Collections.Sets.{Has}
 use Rattle.ltl_spec.specs.NormalForms.Normal.{Normal, Bottom}
@@ -15,7 +15,7 @@ use Rattle.ltl_spec.proofs.Collections.ListLaws.{All-from_has, All-at_has, place
 use Rattle.ltl_spec.proofs.Collections.MemberLaws.{map_cases}
 use Rattle.ltl_automaton.specs.Bounds.{IsBounded}
 use Rattle.ltl_automaton.specs.Net as net
-use Rattle.ltl_alt.specs.GbaView.{IsGba, IsEdgeWithin, IsAcceptingGba}
+use Rattle.ltl_alt.specs.GbaView.{IsEdgeWithin, IsAcceptingGba}
 use Rattle.ltl_alt.specs.ReachView.{arc_of, net_of}
 
 module _ (F : Normal) (keep : Bool) where

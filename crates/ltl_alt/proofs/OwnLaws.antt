@@ -26,13 +26,13 @@ own_listed t i k at xs ys w e d listed y =
     subst (λ F. IsEnough (own_pairs (table_at t) F) ys) (sym f)
     (subst (IsEnough (own_pairs (table_at t) (row_tree t k))) (sym (y ∙ ap (λ j. filter (λ m. not (has nat_cmp j m.targets)) xs) d)) (own_enough (table_at t) (row_tree t k) xs enough))
 
-at_last : {K : Type 0} (xs : List K) (y d : K) (i : ℕ) → i ≡ length xs → slice_index_or (xs ++ y ∷ []) i d ≡ y
+pub at_last : {K : Type 0} (xs : List K) (y d : K) (i : ℕ) → i ≡ length xs → slice_index_or (xs ++ y ∷ []) i d ≡ y
 at_last [] y d zero e = refl
 at_last [] y d (suc i) e = absurd (omega arith)
 at_last (x ∷ xs) y d zero e = absurd (omega arith)
 at_last (x ∷ xs) y d (suc i) e = at_last xs y d i (omega arith)
 
-at_before : {K : Type 0} (xs ys : List K) (d : K) (i : ℕ) → i < length xs → slice_index_or (xs ++ ys) i d ≡ slice_index_or xs i d
+pub at_before : {K : Type 0} (xs ys : List K) (d : K) (i : ℕ) → i < length xs → slice_index_or (xs ++ ys) i d ≡ slice_index_or xs i d
 at_before [] ys d i l = absurd (omega arith)
 at_before (x ∷ xs) ys d zero l = refl
 at_before (x ∷ xs) ys d (suc i) l = at_before xs ys d i (omega arith)

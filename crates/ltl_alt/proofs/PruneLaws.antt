@@ -1,99 +1,99 @@
--- Lists from which pairs are dropped, step by step.
-use Rattle.std.proofs.Common.{◌≡◌, ℕ, true, ◌⊎◌, inl, inr, List, [], ◌∷◌, ◌++◌, length, map, take, refl, sym, ◌∙◌, ap, subst}
-use Rattle.std.specs.List.Sorted.{IsPermutation}
-use Rattle.std.proofs.lemmas.List.Sorted.{Contains-permutation, IsPermutation-sym}
-use Rattle.ltl_spec.specs.Collections.Sets.{Has, set_of}
+-- The least of some pairs, each other one of which has smaller ones that stand for it.
+use Rattle.std.proofs.Common.{◌≡◌, ℕ, zero, suc, ◌<◌, Bool, true, false, not, cond, nat_lt, ◌&&◌, List, [], ◌∷◌, ◌++◌, map, refl, sym, ◌∙◌, ap, subst, arith}
+use Rattle.std.specs.List.{list_any, filter}
+use Rattle.std.specs.declared.cmp.Ordering.TheVariants.{Less}
+use Rattle.std.proofs.lemmas.Bool.Decides.{nat_tests}
+use Rattle.std.proofs.lemmas.List.{append-nil}
+use Rattle.ltl_spec.specs.Collections.Sets.{Has, IsRising, set_of}
 use Rattle.ltl_spec.specs.Transitions.Pairs.{Pair, pair_cmp}
-use Rattle.ltl_spec.proofs.Collections.ListLaws.{Has-from_contains, Contains-from_has}
-use Rattle.ltl_spec.proofs.Collections.MemberLaws.{Has-map, map_cases}
+use Rattle.ltl_spec.proofs.Collections.CaseLaws.{left_true, right_true}
+use Rattle.ltl_spec.proofs.Collections.MemberLaws.{Has-map, map_cases, any_cases}
 use Rattle.ltl_spec.proofs.Collections.Orders.{pair_linear}
-use Rattle.ltl_spec.proofs.Collections.SetLaws.{append_cases, append_left, append_right, set_of_cases, Has-set_of, IsRising-set_of}
-use Rattle.ltl_alt.specs.StandIns.{HaveSame, may_drop, HasStandIn, AreSpared, IsPruned, pair_of}
+use Rattle.ltl_spec.proofs.Collections.SetLaws.{all_at, all_from, filter_cases, Has-filter, set_of_cases, Has-set_of, IsRising-set_of}
+use Rattle.ltl_alt.specs.StandIns.{may_drop, asks_less, is_spare, least_of, HasStandIn, IsPruned, pair_of}
 use Rattle.ltl_alt.specs.declared.prune.Measured as made
 use Rattle.ltl_alt.specs.declared.rule.Rule.{Rule}
 
--- sorting keeps the pairs
-pub sorted_same : (ms ns : List made.Measured) (ps : List Pair) → map pair_of ms ≡ ps → IsPermutation ms ns → HaveSame ps (map pair_of ns)
-sorted_same ms ns ps e p = record {
-  there = λ q h.
-      let (m, k, d) = map_cases pair_of ms q (subst (λ xs. Has xs q) (sym e) h) in
-      subst (Has (map pair_of ns)) (sym d) (Has-map pair_of ns m (Has-from_contains ns m (Contains-permutation ms ns m p (Contains-from_has ms m k))));
-  back = λ q h.
-      let (m, k, d) = map_cases pair_of ns q h in
-      subst (λ xs. Has xs q) e (subst (Has (map pair_of ms)) (sym d) (Has-map pair_of ms m (Has-from_contains ms m (Contains-permutation ns ms m (IsPermutation-sym ms ns p) (Contains-from_has ns m k)))));
-}
-
--- one of the measured pairs may be listed in place of t
-pub stand_in_here : (r : Rule) (own : List (List Pair)) (ms : List made.Measured) (m : made.Measured) (t : Pair) → Has ms m → may_drop r own t m.pair ≡ true → HasStandIn r own (map pair_of ms) t
-stand_in_here r own ms m t h e = (m.pair, Has-map pair_of ms m h, e)
+smaller : (m n : ℕ) → nat_lt m n ≡ true → m < n
+smaller m n e = grind (arith, nat_tests)
 
 module _ (r : Rule) (own : List (List Pair)) where
-  -- more stays
-  spared_more : (qs rs : List Pair) → ((q : Pair) → Has qs q → Has rs q) → (ps : List Pair) → AreSpared r own qs ps → AreSpared r own rs ps
-  spared_more qs rs f ps a t h = elim (a t h) [ inl k ↦ inl (f t k) | inr s ↦ let (u, k, e) = s in inr (u, f u k, e) ]
+  -- for which of all there is no spare
+  abbrev pub stays_among : List made.Measured → made.Measured → Bool
+  stays_among all n = not (list_any (λ m. is_spare r own m n && asks_less m n) all)
 
-  spared_push : (qs ps : List Pair) (p : Pair) → AreSpared r own qs ps → Has qs p ⊎ HasStandIn r own qs p → AreSpared r own qs (ps ++ p ∷ [])
-  spared_push qs ps p a s t h = elim (append_cases ps (p ∷ []) t h) [
-    | inl k ↦ a t k
-    | inr k ↦ elim k [ inl e ↦ subst (λ x. Has qs x ⊎ HasStandIn r own qs x) (sym e) s | inr x ↦ absurd x ]
-  ]
+  -- a pair that goes has a smaller one, which stays or has one
+  climb : (all : List made.Measured) (fuel : ℕ) (t : made.Measured) → t.size < fuel → Has all t → HasStandIn r own (map pair_of (least_of r own all all)) t.pair
+  climb all zero t l h = absurd (omega arith)
+  climb all (suc fuel) t l h =
+      elim (list_any (λ m. is_spare r own m t && asks_less m t) all) as (λ b. list_any (λ m. is_spare r own m t && asks_less m t) all ≡ b → HasStandIn r own (map pair_of (least_of r own all all)) t.pair) [
+        | false ↦ λ e. ([], t.pair, Has-map pair_of (least_of r own all all) t (Has-filter (stays_among all) all t h (ap not e)), refl)
+        | true ↦ λ e.
+            let (m, k, f) = any_cases (λ m. is_spare r own m t && asks_less m t) all e in
+            let spare = left_true (is_spare r own m t) (asks_less m t) f in
+            let less = smaller m.size t.size (left_true (nat_lt m.size t.size) (may_drop r own t.pair m.pair) spare) in
+            let (us, v, j, c) = climb all fuel m (omega arith) k in
+            (m.pair ∷ us, v, j, (right_true (nat_lt m.size t.size) (may_drop r own t.pair m.pair) spare, c))
+      ] refl
 
-  map_push : (ms : List made.Measured) (m : made.Measured) → map pair_of (ms ++ m ∷ []) ≡ map pair_of ms ++ m.pair ∷ []
-  map_push [] m = refl
-  map_push (n ∷ ms) m = ap (λ l. n.pair ∷ l) (map_push ms m)
-
-  -- the next pair stays
-  pub spared_kept : (ks js ms ns : List made.Measured) (m : made.Measured) → js ≡ ks ++ m ∷ [] → ns ≡ ms ++ m ∷ [] → AreSpared r own (map pair_of ks) (map pair_of ms) → AreSpared r own (map pair_of js) (map pair_of ns)
-  spared_kept ks js ms ns m d e a =
-      let f = ap (map pair_of) d ∙ map_push ks m in
-      let g = ap (map pair_of) e ∙ map_push ms m in
-      subst (λ xs. AreSpared r own xs (map pair_of ns)) (sym f) (subst (AreSpared r own (map pair_of ks ++ m.pair ∷ [])) (sym g)
-      (spared_push (map pair_of ks ++ m.pair ∷ []) (map pair_of ms) m.pair
-      (spared_more (map pair_of ks) (map pair_of ks ++ m.pair ∷ []) (λ q h. append_left (map pair_of ks) (m.pair ∷ []) q h) (map pair_of ms) a)
-      (inl (append_right (map pair_of ks) (m.pair ∷ []) m.pair (inl refl)))))
-
-  -- or it is dropped
-  pub spared_dropped : (ks ms ns : List made.Measured) (m : made.Measured) → ns ≡ ms ++ m ∷ [] → AreSpared r own (map pair_of ks) (map pair_of ms) → HasStandIn r own (map pair_of ks) m.pair → AreSpared r own (map pair_of ks) (map pair_of ns)
-  spared_dropped ks ms ns m e a s =
-      subst (AreSpared r own (map pair_of ks)) (sym (ap (map pair_of) e ∙ map_push ms m)) (spared_push (map pair_of ks) (map pair_of ms) m.pair a (inr s))
-
-  -- what stays was there
-  pub from_kept : (ks js ns ms : List made.Measured) (m : made.Measured) → js ≡ ks ++ m ∷ [] → ns ≡ ms ++ m ∷ []
-      → ((q : Pair) → Has (map pair_of ks) q → Has (map pair_of ms) q) → (q : Pair) → Has (map pair_of js) q → Has (map pair_of ns) q
-  from_kept ks js ns ms m d e f q h =
-      subst (λ xs. Has xs q) (sym (ap (map pair_of) e ∙ map_push ms m))
-      (elim (append_cases (map pair_of ks) (m.pair ∷ []) q (subst (λ xs. Has xs q) (ap (map pair_of) d ∙ map_push ks m) h)) [
-        | inl k ↦ append_left (map pair_of ms) (m.pair ∷ []) q (f q k)
-        | inr k ↦ append_right (map pair_of ms) (m.pair ∷ []) q k
-      ])
-
-  pub from_dropped : (ks ns ms : List made.Measured) (m : made.Measured) → ns ≡ ms ++ m ∷ []
-      → ((q : Pair) → Has (map pair_of ks) q → Has (map pair_of ms) q) → (q : Pair) → Has (map pair_of ks) q → Has (map pair_of ns) q
-  from_dropped ks ns ms m e f q h = subst (λ xs. Has xs q) (sym (ap (map pair_of) e ∙ map_push ms m)) (append_left (map pair_of ms) (m.pair ∷ []) q (f q h))
+  -- what stays of a rising list rises
+  rising_kept : (q : made.Measured → Bool) (ms : List made.Measured) → IsRising pair_cmp (map pair_of ms) → IsRising pair_cmp (map pair_of (filter q ms))
+  rising_kept q [] up = tt
+  rising_kept q (m ∷ ms) up =
+      let rest = rising_kept q ms up.1 in
+      elim (q m) as (λ b. IsRising pair_cmp (map pair_of (cond b (m ∷ filter q ms) (filter q ms)))) [
+        | true ↦ (
+          all_from (λ p. pair_cmp m.pair p ≡ Less) (map pair_of (filter q ms)) (λ p h.
+              let (n, k, e) = map_cases pair_of (filter q ms) p h in
+              all_at (λ p. pair_cmp m.pair p ≡ Less) (map pair_of ms) p up.0 (subst (Has (map pair_of ms)) (sym e) (Has-map pair_of ms n (filter_cases q ms n k).0))),
+          rest,
+        )
+        | false ↦ rest
+      ]
 
   -- repeated ones alone are dropped
   pub pruned_equal : (ps qs : List Pair) → qs ≡ set_of pair_cmp ps → IsPruned r own ps qs
   pruned_equal ps qs e = subst (IsPruned r own ps) (sym e) (record {
     from = set_of_cases pair_linear ps;
-    spared = λ t h. inl (Has-set_of pair_linear ps t h);
+    spared = λ t h. ([], t, Has-set_of pair_linear ps t h, refl);
     rising = IsRising-set_of pair_linear ps;
   })
 
-  -- the whole way
-  pub pruned_whole : (ps ds ms ks bs qs : List Pair) → ds ≡ set_of pair_cmp ps → HaveSame ds ms → ((q : Pair) → Has ks q → Has ms q) → AreSpared r own ks ms → bs ≡ ks → qs ≡ set_of pair_cmp bs → IsPruned r own ps qs
-  pruned_whole ps ds ms ks bs qs d s f a b e = subst (IsPruned r own ps) (sym (e ∙ ap (set_of pair_cmp) b)) (record {
-    from = λ q h. set_of_cases pair_linear ps q (subst (λ xs. Has xs q) d (s.back q (f q (set_of_cases pair_linear ks q h))));
-    spared = λ t h. elim (a t (s.there t (subst (λ xs. Has xs t) (sym d) (Has-set_of pair_linear ps t h)))) [
-      | inl k ↦ inl (Has-set_of pair_linear ks t k)
-      | inr w ↦ let (u, k, g) = w in inr (u, Has-set_of pair_linear ks u k, g)
-    ];
-    rising = IsRising-set_of pair_linear ks;
-  })
+  -- the least of all are left
+  pub pruned_least : (ps ds qs : List Pair) (ms : List made.Measured) → ds ≡ set_of pair_cmp ps → map pair_of ms ≡ ds → qs ≡ map pair_of (least_of r own ms ms) → IsPruned r own ps qs
+  pruned_least ps ds qs ms d e f =
+      let whole : map pair_of ms ≡ set_of pair_cmp ps = e ∙ d in
+      subst (IsPruned r own ps) (sym f) (record {
+        from = λ p h.
+            let (m, k, i) = map_cases pair_of (least_of r own ms ms) p h in
+            set_of_cases pair_linear ps p (subst (λ xs. Has xs p) whole (subst (Has (map pair_of ms)) (sym i) (Has-map pair_of ms m (filter_cases (stays_among ms) ms m k).0)));
+        spared = λ p h.
+            let (m, k, i) = map_cases pair_of ms p (subst (λ xs. Has xs p) (sym whole) (Has-set_of pair_linear ps p h)) in
+            subst (HasStandIn r own (map pair_of (least_of r own ms ms))) (sym i) (climb ms (suc m.size) m (omega arith) k);
+        rising = rising_kept (stays_among ms) ms (subst (IsRising pair_cmp) (sym whole) (IsRising-set_of pair_linear ps));
+      })
 
-  -- all pairs were looked at
-  pub spared_end : (ms ns : List made.Measured) (i : ℕ) → i ≡ length ns → AreSpared r own (map pair_of ms) (map pair_of (take i ns)) → AreSpared r own (map pair_of ms) (map pair_of ns)
-  spared_end ms ns i e a = subst (λ xs. AreSpared r own (map pair_of ms) (map pair_of xs)) (ap (λ j. take j ns) e ∙ take_whole ns) a
+  -- one more was looked at
+  least_append : (all ms : List made.Measured) (m : made.Measured) → map pair_of (least_of r own all (ms ++ m ∷ [])) ≡ map pair_of (least_of r own all ms) ++ cond (stays_among all m) (m.pair ∷ []) []
+  least_append all [] m = by (stays_among all m)
     where
-      take_whole : (xs : List made.Measured) → take (length xs) xs ≡ xs
-      take_whole [] = refl
-      take_whole (x ∷ xs) = ap (λ ys. x ∷ ys) (take_whole xs)
+      by : (b : Bool) → map pair_of (cond b (m ∷ []) []) ≡ cond b (m.pair ∷ []) []
+      by true = refl
+      by false = refl
+  least_append all (n ∷ ms) m =
+      elim (stays_among all n) as (λ b. map pair_of (cond b (n ∷ least_of r own all (ms ++ m ∷ [])) (least_of r own all (ms ++ m ∷ []))) ≡ map pair_of (cond b (n ∷ least_of r own all ms) (least_of r own all ms)) ++ cond (stays_among all m) (m.pair ∷ []) []) [
+        | true ↦ ap (λ l. n.pair ∷ l) (least_append all ms m)
+        | false ↦ least_append all ms m
+      ]
+
+  pub least_stays : (all taken more : List made.Measured) (m : made.Measured) (ps qs : List Pair) → more ≡ taken ++ m ∷ [] → list_any (λ u. is_spare r own u m && asks_less u m) all ≡ false → qs ≡ ps ++ m.pair ∷ []
+      → ps ≡ map pair_of (least_of r own all taken) → qs ≡ map pair_of (least_of r own all more)
+  least_stays all taken more m ps qs e f g h =
+      g ∙ ap (λ l. l ++ m.pair ∷ []) h ∙ ap (λ b. map pair_of (least_of r own all taken) ++ cond (not b) (m.pair ∷ []) []) (sym f)
+      ∙ sym (least_append all taken m) ∙ ap (λ l. map pair_of (least_of r own all l)) (sym e)
+
+  pub least_goes : (all taken more : List made.Measured) (m : made.Measured) (ps qs : List Pair) → more ≡ taken ++ m ∷ [] → list_any (λ u. is_spare r own u m && asks_less u m) all ≡ true → qs ≡ ps
+      → ps ≡ map pair_of (least_of r own all taken) → qs ≡ map pair_of (least_of r own all more)
+  least_goes all taken more m ps qs e f g h =
+      g ∙ h ∙ sym (append-nil (map pair_of (least_of r own all taken))) ∙ ap (λ b. map pair_of (least_of r own all taken) ++ cond (not b) (m.pair ∷ []) []) (sym f)
+      ∙ sym (least_append all taken m) ∙ ap (λ l. map pair_of (least_of r own all l)) (sym e)

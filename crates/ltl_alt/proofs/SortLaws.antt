@@ -1,5 +1,5 @@
 -- A short list that was sorted in place.
-use Rattle.std.proofs.Common.{◌≡◌, ℕ, List, [], ◌∷◌, ◌++◌, length, take, drop, refl, sym, ◌∙◌, ap}
+use Rattle.std.proofs.Common.{◌≡◌, List, [], ◌∷◌, ◌++◌, length, take, drop, refl, sym, ◌∙◌, ap}
 use Rattle.std.specs.List.{refill}
 
 take_front : {K : Type 0} (xs ys : List K) → take (length xs) (xs ++ ys) ≡ xs

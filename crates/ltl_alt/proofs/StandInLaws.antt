@@ -18,7 +18,7 @@ use Rattle.ltl_spec.proofs.Transitions.LeastPairs.{is_within_Decides, enough_bel
 use Rattle.ltl_spec.proofs.Transitions.Pruning.{is_within, asks_beyond, own_pairs, IsSafeToDrop, IsKept}
 use Rattle.ltl_spec.proofs.Transitions.SafeLaws.{consistent_within, united_within, safe_refl, safe_trans, safe_join}
 use Rattle.ltl_spec.proofs.Transitions.SafeTests.{AsksBeyond, asks_beyond_Decides, safe_if_beyond}
-use Rattle.ltl_alt.specs.StandIns.{IsKeptBy, IsListed, StandsFor, AreOwn, IsFit, is_as_near, may_drop, IsPruned, rule_of}
+use Rattle.ltl_alt.specs.StandIns.{IsKeptBy, IsListed, StandsFor, AreOwn, IsFit, is_as_near, may_drop, IsChain, IsPruned, rule_of}
 use Rattle.ltl_alt.specs.declared.rule.Rule.{Rule}
 use Rattle.ltl_alt.specs.declared.rule.Rule.TheVariants as rule
 
@@ -158,15 +158,17 @@ drop_stands T rule.Equal own fit t u e = false_is_true e
 drop_stands T rule.Contained own fit t u e = (is_within_Decides u t).0 e
 drop_stands T rule.Safe own fit t u e = safe_by_test T own fit t u e
 
+-- so do those that stand in one after another
+chain_stands : (T : Table) (r : Rule) (own : List (List Pair)) → IsFit T r own → (us : List Pair) (t v : Pair) → IsChain r own t us v → StandsFor T r t v
+chain_stands T r own fit [] t v e = subst (StandsFor T r t) e ((stands_in T r).itself t)
+chain_stands T r own fit (u ∷ us) t v c = (stands_in T r).on t u v (drop_stands T r own fit t u c.0) (chain_stands T r own fit us u v c.1)
+
 -- what was pruned is listed
 pub pruned_listed : (T : Table) (r : Rule) (own : List (List Pair)) (ps qs : List Pair) → IsFit T r own → IsPruned r own ps qs → IsListed (StandsFor T r) ps qs
 pruned_listed T r own ps qs fit w = record {
   kept = record {
     from = w.from;
-    covers = λ p h. elim (w.spared p h) [
-      | inl k ↦ (p, k, (stands_in T r).itself p)
-      | inr s ↦ let (u, k, e) = s in (u, k, drop_stands T r own fit p u e)
-    ];
+    covers = λ p h. let (us, v, k, c) = w.spared p h in (v, k, chain_stands T r own fit us p v c);
   };
   rising = w.rising;
 }

@@ -1,7 +1,10 @@
+pub mod AskedView
 pub mod Codes
 pub mod GbaView
-pub mod ImpliedView
+pub mod GroupView
 pub mod NeedsView
+pub mod PartView
+pub mod ProductView
 pub mod ReachView
 pub mod RowLists
 pub mod StandIns

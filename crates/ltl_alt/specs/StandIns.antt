@@ -1,7 +1,8 @@
 -- Pairs that may be listed in place of others.
-use Rattle.std.specs.Prelude.{◌≡◌, ℕ, ◌<◌, Bool, true, false, ◌&&◌, ◌||◌, ◌⊎◌, List, [], length, slice_index_or}
-use Rattle.std.specs.List.{list_any, list_all}
-use Rattle.ltl_spec.specs.Collections.Sets.{Has, IsRising, union}
+use Rattle.std.specs.Prelude.{◌≡◌, ℕ, ◌<◌, Bool, true, false, not, ◌&&◌, ◌||◌, nat_lt, List, [], ◌∷◌, length, slice_index_or}
+use Rattle.std.specs.List.{list_any, list_all, filter}
+use Rattle.std.specs.Ordering.{nat_cmp}
+use Rattle.ltl_spec.specs.Collections.Sets.{Has, IsRising, union, has}
 use Rattle.ltl_spec.specs.Transitions.Cubes.{literal_cmp, is_contradictory}
 use Rattle.ltl_spec.specs.NormalForms.Normal.{Bottom}
 use Rattle.ltl_spec.specs.Transitions.Pairs.{Pair, pair_cmp}
@@ -11,11 +12,6 @@ use Rattle.ltl_spec.specs.Transitions.Pruning.{is_within, asks_beyond, IsEnough,
 use Rattle.ltl_alt.specs.declared.prune.Measured as made
 use Rattle.ltl_alt.specs.declared.rule.Rule.{Rule}
 use Rattle.ltl_alt.specs.declared.rule.Rule.TheVariants as rule
-
--- two lists have the same pairs
-pub record HaveSame (ps qs : List Pair) : Type 0 where
-  pub there : (p : Pair) → Has ps p → Has qs p
-  pub back : (p : Pair) → Has qs p → Has ps p
 
 -- of all these pairs those were kept, and each other one has one that stands for it
 pub record IsKeptBy (S : Pair → Pair → Type 0) (ps qs : List Pair) : Type 0 where
@@ -54,13 +50,18 @@ may_drop rule.Equal own t u = false
 may_drop rule.Contained own t u = is_within u t
 may_drop rule.Safe own t u = is_within u t && list_all (is_as_near t u) own
 
--- one of these pairs may be listed in place of t
-abbrev pub HasStandIn : Rule → List (List Pair) → List Pair → Pair → Type 0
-HasStandIn r own qs t = (u : Pair) × Has qs u × (may_drop r own t u ≡ true)
+-- v is t, or may be listed in its place by way of these pairs, one after another
+abbrev pub IsChain : Rule → List (List Pair) → Pair → List Pair → Pair → Type 0
+IsChain r own t [] v = t ≡ v
+IsChain r own t (u ∷ us) v = (may_drop r own t u ≡ true) × IsChain r own u us v
 
--- each of the pairs is among these, or one of these may be listed in its place
+-- one of these pairs stands for t so
+abbrev pub HasStandIn : Rule → List (List Pair) → List Pair → Pair → Type 0
+HasStandIn r own qs t = (us : List Pair) × (v : Pair) × Has qs v × IsChain r own t us v
+
+-- one of these stands for each of the pairs
 abbrev pub AreSpared : Rule → List (List Pair) → List Pair → List Pair → Type 0
-AreSpared r own qs ps = (t : Pair) → Has ps t → Has qs t ⊎ HasStandIn r own qs t
+AreSpared r own qs ps = (t : Pair) → Has ps t → HasStandIn r own qs t
 
 -- some of the pairs were dropped
 pub record IsPruned (r : Rule) (own : List (List Pair)) (ps qs : List Pair) : Type 0 where
@@ -76,3 +77,19 @@ rule_of false = rule.Safe
 -- a pair with its size as it was listed
 abbrev pub pair_of : made.Measured → Pair
 pair_of m = m.pair
+
+-- what both pairs ask for
+abbrev pub common_pair : Pair → Pair → Pair
+common_pair t u = record { cube = filter (λ l. has literal_cmp l u.cube) t.cube; targets = filter (λ k. has nat_cmp k u.targets) t.targets }
+
+-- m asks for no more than n
+abbrev pub asks_less : made.Measured → made.Measured → Bool
+asks_less m n = is_within m.pair n.pair
+
+-- m is smaller, and may be listed in place of n
+abbrev pub is_spare : Rule → List (List Pair) → made.Measured → made.Measured → Bool
+is_spare r own m n = nat_lt m.size n.size && may_drop r own n.pair m.pair
+
+-- those of the pairs for which there is none among all
+abbrev pub least_of : Rule → List (List Pair) → List made.Measured → List made.Measured → List made.Measured
+least_of r own all ms = filter (λ n. not (list_any (λ m. is_spare r own m n && asks_less m n) all)) ms

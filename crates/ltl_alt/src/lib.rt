@@ -6,10 +6,16 @@
 //! row unless it puts the row off, which is to promise it again without a pair that fulfils it. A transition that another one implies goes, unless it
 //! is asked to stay: the other's literals and targets are among its own, and the other is in every set that it is in.
 //!
-//! What flows: a table of rows; for each row its pairs, once they are asked for (`row_lists`); for each set of rows that is met its transitions
-//! (`transitions`), where pairs that stay implied whatever comes are dropped while rows are joined, or else the joins would grow beyond all bounds
-//! (`rule`, `near`); and the sets that are targets, numbered as they are met (`reach`): a `Gba`. That dropping early is safe is subtle: to ask for
-//! less isn't enough, since the transition that asks for less may put off an until row that the other one fulfils.
+//! What flows: a table of rows; for each row that is met its pairs (`row_lists`), which are one part (`parts`), with what they ask for and what
+//! fulfils the until rows that they put off (`asked`). Parts that may have to do with each other are linked, and the parts of a set of rows fall into
+//! groups that are closed under links (`transitions`). For each group this is done once, as many sets have it (`groups`): its parts are joined, where
+//! pairs that stay implied whatever comes are dropped on the way (`prune`, `rule`, `near`), the joins get their marks (`marks`), and implied ones go (`implied`).
+//! The transitions of the set are the products, one transition of each group at once; they are counted before they are made, then made and sorted
+//! (`product`). The sets that are targets are numbered as they are met (`reach`): a `Gba`.
+//!
+//! Two things here are subtle. To ask for less isn't enough to drop a pair early, since the pair that asks for less may put off an until row that the
+//! other one fulfils. And products need no test for implied ones across groups only because groups are apart: no proposition and no target is in two
+//! of them, and none asks for what could fulfil an until row that another one puts off. docs/PRUNING.md has the rule, and examples of both.
 //!
 //! The rows of `p U q` are `p`, `q` and `p U q`. `pairs` of the last one are `q`, with nothing left to hold, and `p` with itself as target. So
 //!
@@ -19,15 +25,21 @@
 //! ```
 #![tactic(auto)]
 
+mod asked;
+pub mod elements;
 pub mod gba;
+mod groups;
 mod implied;
 mod lists;
+mod marks;
 mod near;
 mod needs;
 mod own;
 pub mod pair;
 pub mod pair_set;
+mod parts;
 mod place;
+mod product;
 mod prune;
 mod reach;
 mod row_lists;

@@ -4,6 +4,7 @@ ghost use Rattle.std.specs.Prelude.{◌≡◌, ◌<◌, [], ◌∷◌};
 ghost use Rattle.ltl_sets.specs.Literals.{literal_of};
 ghost use Rattle.ltl_spec.specs.Transitions.Pairs.{pair_cmp, join_pair, empty_pair};
 ghost use Rattle.ltl_spec.specs.Transitions.Pruning.{is_within};
+ghost use Rattle.ltl_alt.specs.StandIns.{common_pair};
 
 use ltl_sets::{Cube, Literal, RowSet};
 use std::alloc::AllocError;
@@ -71,6 +72,16 @@ impl Pair {
             cube,
             targets: self.targets.union(&other.targets),
         })
+    }
+
+    /// What both ask for.
+    pub(crate) fn common(&self, other: &Pair) -> Pair
+        ensures { result ≡ common_pair self.now other.now }
+    {
+        Pair {
+            cube: self.cube.common(&other.cube),
+            targets: self.targets.common(&other.targets),
+        }
     }
 
     /// Whether this pair asks for no more than the other one.

@@ -4,7 +4,9 @@ ghost use Rattle.ltl_alt.specs.RowLists.{row_place};
 ghost use Rattle.ltl_spec.specs.Tools.Limits.{stated_limits};
 ghost use Rattle.ltl_formula.specs.TableView.{row_tree};
 ghost use Rattle.ltl_spec.specs.Collections.Sets.{Has};
-ghost use Rattle.std.specs.Prelude.{position, ◌==◌, ◌≡◌, ◌≤◌, ◌<◌, length, slice_get, Some, IfSome};
+ghost use Rattle.ltl_spec.specs.Collections.Sets.{put};
+ghost use Rattle.std.specs.Ordering.{nat_cmp};
+ghost use Rattle.std.specs.Prelude.{position, ◌==◌, ◌≡◌, ◌≤◌, ◌<◌, length, slice_get, Some, IfSome, if◌then◌else◌};
 
 use ltl_formula::Table;
 use ltl_sets::RowSet;
@@ -65,4 +67,14 @@ pub(crate) fn elementary_row<A: Allocator>(table: &Table<'_, A>, place: usize) -
 {
     let _ = table.len();
     elementary_at(table, place)
+}
+
+/// Puts a number among others, if this is asked.
+pub(crate) fn put_if(numbers: &mut RowSet, number: usize, is_asked: bool)
+    requires { number < RowSet.LIMIT }
+    ensures { numbers.new ≡ (if is_asked then put nat_cmp number numbers.old else numbers.old) }
+{
+    if is_asked {
+        numbers.insert(number);
+    }
 }

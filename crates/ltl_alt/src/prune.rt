@@ -1,24 +1,20 @@
 //! Lists of pairs without those that need not stand there.
 
-ghost use Rattle.std.specs.Prelude.{◌≡◌, IfOk, OnOk, length, map, true};
-ghost use Rattle.std.specs.List.Sorted.{IsPermutation};
-ghost use Rattle.ltl_spec.specs.Collections.Sets.{Has};
-ghost use Rattle.ltl_spec.specs.Transitions.Pairs as spec;
-ghost use Rattle.ltl_alt.specs.StandIns.{pair_of, HasStandIn, AreSpared, IsPruned, HaveSame};
+ghost use Rattle.std.specs.Prelude.{◌≡◌, IfOk, OnOk, map};
+ghost use Rattle.ltl_alt.specs.StandIns.{IsPruned, least_of, pair_of};
 
+use crate::elements::{has_literal, has_row, tally_literals, tally_rows};
 use crate::lists::make_distinct;
 use crate::pair::Pair;
 use crate::rule::{Pruning, Rule};
-use ltl_sets::{Cube, RowSet};
+use least::{Below, Counting, Lookup};
 use smallvec::SmallVec;
 use std::alloc::{AllocError, Allocator};
 
-/// A pair, how many literals and rows it asks for, and which: a bit for each row, and one for the literals of several propositions.
+/// A pair, and how many literals and rows it asks for.
 #[derive(Clone, Copy)]
 struct Measured {
     size: usize,
-    literals: u64,
-    rows: u64,
     pair: Pair,
 }
 
@@ -29,58 +25,50 @@ impl Default for Measured {
     fn default() -> Measured {
         Measured {
             size: 0,
-            literals: 0,
-            rows: 0,
             pair: Pair::empty(),
         }
     }
 }
 
-impl Measured {
-    /// A quick look whether the pair can be within the other one.
-    fn can_be_within(&self, other: &Measured) -> bool {
-        self.literals & !other.literals == 0 && self.rows & !other.rows == 0
+/// A pair is below those that ask for all that it asks for.
+impl Below for Measured {
+    ghost use Rattle.ltl_spec.proofs.Transitions.LeastPairs.{is_within_transitive};
+    ghost use Rattle.ltl_alt.specs.StandIns.{asks_less};
+
+    ghost below = { asks_less };
+
+    fn is_below(&self, other: &Measured) -> bool {
+        self.pair.is_within(&other.pair)
     }
-}
 
-/// A bit for each literal. Propositions whose numbers differ by 32 share theirs.
-fn literal_bits(cube: &Cube) -> u64 {
-    let mut bits = 0u64;
-    for literal in cube.iter() {
-        let place = literal.proposition % 32;
-        let bit = if literal.positive { place } else { place + 32 };
-        bits |= 1 << bit;
+    fn common(&self, other: &Measured) -> Measured {
+        Measured {
+            size: 0,
+            pair: self.pair.common(&other.pair),
+        }
     }
-    bits
-}
 
-/// A bit for each row. Rows whose places differ by 64 share theirs.
-fn row_bits(rows: &RowSet) -> u64 {
-    let mut bits = 0u64;
-    for row in rows.iter() {
-        bits |= 1 << (row % 64);
+    fn has(&self, element: usize) -> bool {
+        has_literal(&self.pair.cube, element) || has_row(&self.pair.targets, element)
     }
-    bits
+
+    fn tally(&self, counts: &mut [u32]) {
+        tally_literals(&self.pair.cube, counts);
+        tally_rows(&self.pair.targets, counts);
+    }
+
+    ghost transitive = { λ m n o. is_within_transitive m.pair n.pair o.pair };
 }
 
-/// The pairs with their sizes, the smaller ones first.
-fn by_size<'a, A: Allocator>(
-    alloc: &'a A,
-    pairs: &[Pair],
-) -> Result<MeasuredPairs<'a, A>, AllocError>
-    ensures { IfOk result (λ v. HaveSame pairs.now (map pair_of v.items)) }
-{
-    let mut measured = measure(alloc, pairs)?;
-    sort_by_size(measured.as_mut_slice());
-    Ok(measured)
-}
+/// A smaller pair counts that may be listed in place of the other one.
+impl<'b, 'a, A: Allocator> Counting<Measured> for Pruning<'b, 'a, A> {
+    ghost use Rattle.ltl_alt.specs.StandIns.{is_spare};
 
-/// Puts the smaller ones first.
-fn sort_by_size(measured: &mut [Measured])
-    ensures permutation { IsPermutation measured.old measured.new }
-    ensures len { length measured.new ≡ length measured.old }
-{
-    measured.sort_unstable_by(|m, n| m.size.cmp(&n.size));
+    ghost counts = { λ p m n. is_spare p.rule p.own.now m n };
+
+    fn counts(&self, other: &Measured, item: &Measured) -> bool {
+        other.size < item.size && self.may_drop(&item.pair, &other.pair)
+    }
 }
 
 /// The pairs with their sizes.
@@ -94,62 +82,31 @@ fn measure<'a, A: Allocator>(
     'pairs: for pair in pairs {
         measured.push(Measured {
             size: pair.size(),
-            literals: literal_bits(&pair.cube),
-            rows: row_bits(&pair.targets),
             pair: *pair,
         })?;
     }
     Ok(measured)
 }
 
-/// Whether a smaller pair of the list may be listed in place of this one. The list rises by size.
-fn has_stand_in<A: Allocator>(
-    pruning: &Pruning<'_, '_, A>,
-    kept: &[Measured],
-    pair: &Measured,
-) -> bool
-    ensures { result ≡ true → HasStandIn pruning.now.rule pruning.now.own.now (map pair_of kept.now) pair.now.pair }
-{
-    'kept: for other in kept {
-        if other.size >= pair.size {
-            return false;
-        }
-        let is_near = other.can_be_within(pair);
-        if is_near && pruning.may_drop(&pair.pair, &other.pair) {
-            return true;
-        }
-    }
-    false
+/// Whether all are of that size. Of pairs of one size none is smaller than another one.
+fn are_of_size(measured: &[Measured], size: usize) -> bool {
+    measured.iter().all(|m| m.size == size)
 }
 
-/// The pairs without those in whose place others may be listed.
-fn spared<'a, A: Allocator>(
-    alloc: &'a A,
-    pruning: &Pruning<'_, '_, A>,
-    pairs: &[Measured],
-) -> Result<MeasuredPairs<'a, A>, AllocError>
-    ensures from { IfOk result (λ v. (q : spec.Pair) → Has (map pair_of v.items) q → Has (map pair_of pairs.now) q) }
-    ensures spared { IfOk result (λ v. AreSpared pruning.now.rule pruning.now.own.now (map pair_of v.items) (map pair_of pairs.now)) }
-{
-    let mut kept: MeasuredPairs<'a, A> = SmallVec::new(alloc);
-    'pairs: for pair in pairs {
-        if !has_stand_in(pruning, kept.as_slice(), pair) {
-            kept.push(*pair)?;
-        }
-    }
-    Ok(kept)
-}
-
-/// Puts the pairs alone where others stood.
-fn put_bare<A: Allocator>(
+/// Puts those of the pairs where others stood in whose place no smaller one may be listed.
+fn put_least<A: Allocator>(
     pairs: &mut Vec<Pair, &A>,
+    lookup: &Lookup<'_, '_, Measured, A>,
+    pruning: &Pruning<'_, '_, A>,
     measured: &[Measured],
 ) -> Result<(), AllocError>
-    ensures { OnOk result (pairs.new.items ≡ map pair_of measured.now) }
+    ensures { OnOk result (pairs.new.items ≡ map pair_of (least_of pruning.now.rule pruning.now.own.now lookup.now measured.now)) }
 {
     pairs.clear();
     'measured: for m in measured {
-        pairs.push(m.pair)?;
+        if !lookup.has_lesser(pruning, m) {
+            pairs.push(m.pair)?;
+        }
     }
     Ok(())
 }
@@ -169,9 +126,12 @@ pub(crate) fn prune<'a, A: Allocator>(
     if pruning.rule == Rule::Equal {
         return Ok(pairs);
     }
-    let measured = by_size(alloc, pairs.as_slice())?;
-    let kept = spared(alloc, pruning, measured.as_slice())?;
-    put_bare(&mut pairs, kept.as_slice())?;
-    make_distinct(&mut pairs);
+    let size = pairs[0].size();
+    let measured = measure(alloc, pairs.as_slice())?;
+    if are_of_size(measured.as_slice(), size) {
+        return Ok(pairs);
+    }
+    let lookup = Lookup::new(alloc, measured.as_slice())?;
+    put_least(&mut pairs, &lookup, pruning, measured.as_slice())?;
     Ok(pairs)
 }

@@ -7,24 +7,29 @@ ghost use Rattle.ltl_formula.specs.TableView.{core_of};
 ghost use Rattle.ltl_alt.specs.ReachView.{IsPrepared, arc_of, net_of};
 
 use crate::gba::{Gba, MOST_EDGES, MOST_STATES};
+use crate::groups::Groups;
 use crate::own::all_own;
 use crate::pair_set::PairSet;
-use crate::place::{place, until_count};
+use crate::parts::Parts;
+use crate::place::{elementary_row, place, until_count};
 use crate::row_lists::RowLists;
+use crate::rule::{Pruning, Rule};
 use crate::transition::Transition;
 use crate::transitions::transitions;
 use ltl_automaton::{Arc, AutomatonFault as AltFault, Limits, Successors, explore_from};
-use ltl_formula::Table;
+use ltl_formula::{Row, Table};
 use ltl_sets::RowSet;
 use std::alloc::{AllocError, Allocator};
 
-/// Sets of rows as the states of the automaton of a table's formula, with what was listed of the rows.
+/// Sets of rows as the states of the automaton of a table's formula, with what was listed of the rows, their parts and groups.
 #[derive(Drop)]
 struct RowSets<'t, 's, 'a, A: Allocator> {
     alloc: &'a A,
     table: &'t Table<'s, A>,
     lists: RowLists<'a, A>,
     own: Vec<PairSet<'a, A>, &'a A>,
+    parts: Parts<'a, A>,
+    groups: Groups<'a, A>,
     keep_implied: bool,
 }
 
@@ -49,28 +54,56 @@ fn arcs_of<'c, B: Allocator>(
 impl<'t, 's, 'a, A: Allocator> Successors<RowSet> for RowSets<'t, 's, 'a, A> {
     ghost net = { λ n. net_of (core_of n.table.now) n.keep_implied };
 
-    ghost ready = { λ n. IsPrepared n.table.now n.keep_implied n.lists.pairs.items n.lists.sets.items n.own.items };
+    ghost ready = { λ n. IsPrepared n.table.now n.keep_implied n.lists.pairs.items n.lists.sets.items n.own.items n.parts.made n.parts.owners.items n.parts.lists.items n.parts.demands.items n.parts.links.items n.groups.keys.keys n.groups.lists.items };
 
     fn accepting(&self, _key: &RowSet) -> bool {
         true
+    }
+
+    fn twin(&mut self, _key: &RowSet) -> Result<Option<RowSet>, AllocError> {
+        Ok(None)
     }
 
     fn arcs<'c, B: Allocator>(
         &mut self,
         alloc: &'c B,
         key: &RowSet,
-    ) -> Result<Vec<Arc<RowSet>, &'c B>, AllocError> {
+        most: usize,
+    ) -> Result<Vec<Arc<RowSet>, &'c B>, AltFault> {
         let own = self.own.as_slice();
         let kept = transitions(
             self.alloc,
             self.table,
             &mut self.lists,
+            &mut self.parts,
+            &mut self.groups,
             own,
             self.keep_implied,
             key,
+            most,
         )?;
-        arcs_of(alloc, kept.as_slice())
+        Ok(arcs_of(alloc, kept.as_slice())?)
     }
+}
+
+/// Whether an until or a release row stands at a place among the elementary rows.
+fn is_temporal<A: Allocator>(table: &Table<'_, A>, place: usize) -> bool {
+    let _ = table.len();
+    match elementary_row(table, place) {
+        Some(row) => matches!(table.row(row), Row::Until(_, _) | Row::Release(_, _)),
+        None => false,
+    }
+}
+
+/// The places of the until and release rows.
+fn temporal_rows<A: Allocator>(table: &Table<'_, A>) -> RowSet {
+    let mut places = RowSet::empty();
+    for place in 0..RowSet::LIMIT {
+        if is_temporal(table, place) {
+            places.insert(place);
+        }
+    }
+    places
 }
 
 /// The automaton of a table's formula.
@@ -84,11 +117,24 @@ pub(crate) fn reach<'a, A: Allocator>(
     ensures large { IsErrOf result AltFault.TooLarge → IsTooLarge (core_of table.now) keep_implied stated_limits.states stated_limits.edges }
 {
     let _ = table.len();
+    let mut lists = RowLists::new(alloc, table)?;
+    let own = all_own(alloc, table)?;
+    let groups = Groups::new(alloc);
+    let mut parts = Parts::new(alloc);
+    let pruning = Pruning {
+        rule: Rule::of(keep_implied),
+        own: own.as_slice(),
+    };
+
+    // Parts are joined in the order of their numbers. A row beside its operands joins best.
+    parts.prepare(alloc, table, &mut lists, &pruning, &temporal_rows(table))?;
     let mut row_sets = RowSets {
         alloc,
         table,
-        lists: RowLists::new(alloc, table)?,
-        own: all_own(alloc, table)?,
+        lists,
+        own,
+        parts,
+        groups,
         keep_implied,
     };
     let root = RowSet::single(place(table, table.root()));

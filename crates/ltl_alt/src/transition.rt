@@ -1,9 +1,12 @@
 //! Transitions of sets of rows.
 
-ghost use Rattle.std.specs.Prelude.{◌≡◌, ◌+◌, ◌&&◌, length};
+ghost use Rattle.std.specs.Prelude.{◌≡◌, ◌+◌, length};
 ghost use Rattle.std.specs.Ordering.{is_ne};
 ghost use Rattle.ltl_spec.specs.Transitions.RowTransitions.{implies, transition_cmp};
+ghost use Rattle.ltl_alt.specs.ProductView.{join_transitions};
 
+use crate::elements::{has_literal, has_row, tally_literals, tally_rows};
+use least::{Below, Counting};
 use ltl_sets::{Cube, RowSet};
 use std::alloc::AllocError;
 use std::cmp::Ordering;
@@ -37,6 +40,18 @@ impl Transition {
         self.targets
     }
 
+    /// Both at once, unless their literals contradict each other.
+    pub(crate) fn at_once(&self, other: &Transition) -> Option<Transition>
+        ensures { result ≡ join_transitions self.now other.now }
+    {
+        let cube = self.cube.join(&other.cube)?;
+        Some(Transition {
+            cube,
+            targets: self.targets.union(&other.targets),
+            marks: self.marks.common(&other.marks),
+        })
+    }
+
     /// Whether this transition asks for no more than the other, and is in each acceptance set that the other is in.
     fn implies(&self, other: &Transition) -> bool
         ensures { result ≡ implies self.now other.now }
@@ -47,7 +62,7 @@ impl Transition {
     }
 
     /// By the literals, then by the targets, each compared as a sorted list.
-    fn cmp_list(&self, other: &Transition) -> Ordering
+    pub(crate) fn cmp_list(&self, other: &Transition) -> Ordering
         ensures { result ≡ transition_cmp self.now other.now }
     {
         match self.cube.cmp_list(&other.cube) {
@@ -63,18 +78,56 @@ impl Transition {
         self.cube.iter().count() + self.targets.iter().count()
     }
 
-    /// Whether this is another transition and implies the other one.
-    pub(crate) fn replaces(&self, other: &Transition) -> bool
-        ensures { result ≡ (implies self.now other.now && is_ne (transition_cmp self.now other.now)) }
-    {
-        self.implies(other) && self.differs(other)
-    }
-
     /// Whether the two differ in their literals or in their target.
     fn differs(&self, other: &Transition) -> bool
         ensures { result ≡ is_ne (transition_cmp self.now other.now) }
     {
         self.cmp_list(other).is_ne()
+    }
+}
+
+/// A transition is below those that it implies.
+impl Below for Transition {
+    ghost use Rattle.ltl_spec.specs.Transitions.RowTransitions.{implies};
+    ghost use Rattle.ltl_spec.proofs.Transitions.TransitionLaws.{implies_transitive};
+
+    ghost below = { implies };
+
+    fn is_below(&self, other: &Transition) -> bool {
+        self.implies(other)
+    }
+
+    fn common(&self, other: &Transition) -> Transition {
+        Transition {
+            cube: self.cube.common(&other.cube),
+            targets: self.targets.common(&other.targets),
+            marks: self.marks.union(&other.marks),
+        }
+    }
+
+    fn has(&self, element: usize) -> bool {
+        has_literal(&self.cube, element) || has_row(&self.targets, element)
+    }
+
+    fn tally(&self, counts: &mut [u32]) {
+        tally_literals(&self.cube, counts);
+        tally_rows(&self.targets, counts);
+    }
+
+    ghost transitive = { implies_transitive };
+}
+
+/// Another transition counts.
+pub(crate) struct Differing;
+
+impl Counting<Transition> for Differing {
+    ghost use Rattle.std.specs.Ordering.{is_ne};
+    ghost use Rattle.ltl_spec.specs.Transitions.RowTransitions.{transition_cmp};
+
+    ghost counts = { λ _ u t. is_ne (transition_cmp u t) };
+
+    fn counts(&self, other: &Transition, item: &Transition) -> bool {
+        other.differs(item)
     }
 }
 

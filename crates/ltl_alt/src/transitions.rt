@@ -1,174 +1,119 @@
-//! The transitions of a set of rows.
+//! The transitions of a set of rows, by groups of parts that have nothing to do with each other.
 
-ghost use Rattle.std.specs.Prelude.{◌≡◌, ◌<◌, ◌||◌, not, length, map, OnOk, IfOk, if◌then◌else◌};
-ghost use Rattle.std.specs.Ordering.{nat_cmp};
-ghost use Rattle.ltl_spec.specs.Collections.Sets.{has, put};
-ghost use Rattle.std.specs.List.{list_any};
-ghost use Rattle.ltl_spec.specs.Transitions.Pairs as spec_pairs;
+ghost use Rattle.std.specs.Prelude.{◌≡◌, ℕ, ◌<◌, [], length, map, MatchOption, OnOk, IfOk, IsErrOf};
+ghost use Rattle.std.specs.List.Sorted.{IsPermutation, IsSorted};
+ghost use Rattle.ltl_spec.specs.Collections.Sets.{Has};
 ghost use Rattle.ltl_spec.specs.Transitions.RowTransitions as spec;
-ghost use Rattle.ltl_spec.specs.Transitions.Pruning.{is_within};
-ghost use Rattle.ltl_alt.specs.RowLists.{AreLists};
-ghost use Rattle.ltl_alt.specs.StandIns.{IsFit, IsListed, StandsFor, AreOwn, rule_of};
-ghost use Rattle.ltl_alt.specs.TransitionView.{table_at, all_joined, is_marked_at};
+ghost use Rattle.ltl_spec.proofs.Transitions.ApartTests.{own_at};
+ghost use Rattle.ltl_spec.proofs.Transitions.FactorLaws.{AreTakenOut};
+ghost use Rattle.ltl_alt.specs.GroupView.{AreGroups, AreGroupsOf, key_of};
+ghost use Rattle.ltl_alt.specs.PartView.{AreLinked, part_of};
+ghost use Rattle.ltl_alt.specs.ReachView.{IsPrepared};
+ghost use Rattle.ltl_alt.specs.StandIns.{AreOwn, rule_of};
+ghost use Rattle.ltl_alt.specs.TransitionView.{table_at};
 
-use crate::implied::unimplied;
-use crate::lists::join;
-use crate::pair::Pair;
+use crate::groups::Groups;
 use crate::pair_set::PairSet;
-use crate::place::{elementary_row, place, until_count, until_row};
-use crate::prune::prune;
+use crate::parts::Parts;
+use crate::product::{all_products, are_more};
 use crate::row_lists::RowLists;
 use crate::rule::{Pruning, Rule};
 use crate::transition::Transition;
+use ltl_automaton::AutomatonFault as AltFault;
 use ltl_formula::Table;
 use ltl_sets::RowSet;
+use smallvec::SmallVec;
 use std::alloc::{AllocError, Allocator};
 
-/// The pairs with those of the elementary row at a place at once.
-fn with_row<'a, A: Allocator>(
+/// Numbers of groups. Most sets of rows have few.
+type GroupNumbers<'a, A> = SmallVec<usize, 16, &'a A>;
+
+/// A group with more transitions is forgotten behind its state, so is the one group of a state that has no other one.
+const MOST_REMEMBERED: usize = 16;
+
+/// The first member of a set.
+fn first(rows: &RowSet) -> Option<usize>
+    ensures { MatchOption result (rows.now ≡ []) (λ i. Has rows.now i) }
+{
+    let mut members = rows.iter();
+    members.next()
+}
+
+/// The numbers of the groups of these parts.
+fn group_numbers<'a, A: Allocator>(
     alloc: &'a A,
     table: &Table<'_, A>,
-    lists: &mut RowLists<'a, A>,
+    parts: &Parts<'a, A>,
+    groups: &mut Groups<'a, A>,
     pruning: &Pruning<'_, 'a, A>,
-    pairs: &[Pair],
-    place: usize,
-) -> Result<Vec<Pair, &'a A>, AllocError>
-    requires lists { AreLists table.now pruning.now.rule lists.old.pairs.items lists.old.sets.items }
-    requires fit { IsFit (table_at table.now) pruning.now.rule pruning.now.own.now }
-    ensures lists { OnOk result (AreLists table.now pruning.now.rule lists.new.pairs.items lists.new.sets.items) }
-    ensures pairs { IfOk result (λ v. IsListed (StandsFor (table_at table.now) pruning.now.rule) (spec_pairs.join pairs.now (spec.pairs_at (table_at table.now) place)) v.items) }
+    keep_implied: bool,
+    all: &RowSet,
+) -> Result<GroupNumbers<'a, A>, AllocError>
+    requires rule { pruning.now.rule ≡ rule_of keep_implied }
+    requires own { AreOwn (table_at table.now) pruning.now.own.now }
+    requires linked { AreLinked (table_at table.now) pruning.now.own.now parts.now.lists.items parts.now.demands.items parts.now.links.items }
+    requires groups { AreGroups (table_at table.now) keep_implied parts.now.lists.items groups.old.keys.keys groups.old.lists.items }
+    requires inside { (k : ℕ) → Has all.now k → k < length parts.now.lists.items }
+    ensures groups { OnOk result (AreGroups (table_at table.now) keep_implied parts.now.lists.items groups.new.keys.keys groups.new.lists.items) }
+    ensures numbers { IfOk result (λ v. AreGroupsOf (table_at table.now) pruning.now.own.now parts.now.lists.items groups.new.keys.keys all.now v.items []) }
 {
-    let _ = table.len();
-    let Some(row) = elementary_row(table, place) else {
-        return Ok(Vec::new(alloc));
-    };
-    lists.prepare(alloc, table, pruning, row)?;
-    let joined = join(alloc, pairs, lists.pairs(row))?;
-    let pruned = prune(alloc, pruning, joined)?;
-    Ok(pruned)
-}
-
-/// All rows of the set at once.
-fn successors<'a, A: Allocator>(
-    alloc: &'a A,
-    table: &Table<'_, A>,
-    lists: &mut RowLists<'a, A>,
-    pruning: &Pruning<'_, 'a, A>,
-    state: &RowSet,
-) -> Result<Vec<Pair, &'a A>, AllocError>
-    requires lists { AreLists table.now pruning.now.rule lists.old.pairs.items lists.old.sets.items }
-    requires fit { IsFit (table_at table.now) pruning.now.rule pruning.now.own.now }
-    ensures lists { OnOk result (AreLists table.now pruning.now.rule lists.new.pairs.items lists.new.sets.items) }
-    ensures pairs { IfOk result (λ v. IsListed (StandsFor (table_at table.now) pruning.now.rule) (all_joined (table_at table.now) state.now) v.items) }
-{
-    let mut pairs = Vec::from_slice(alloc, &[Pair::empty()])?;
-    let mut rest = state.iter();
-    'members: while let Some(place) = rest.next() {
-        pairs = with_row(alloc, table, lists, pruning, pairs.as_slice(), place)?;
+    let mut numbers: GroupNumbers<'a, A> = SmallVec::new(alloc);
+    let mut rest = *all;
+    'groups: while let Some(part) = first(&rest) {
+        rest.members_rise();
+        let group = parts.group(part, &rest);
+        group.members_rise();
+        numbers.push(groups.number(alloc, table, parts, pruning, keep_implied, &group)?)?;
+        rest = rest.without(&group);
     }
-    Ok(pairs)
+    Ok(numbers)
 }
 
-/// Whether one of the pairs asks for no more than this one.
-fn has_within(pairs: &[Pair], pair: &Pair) -> bool
-    ensures { result ≡ list_any (λ m. is_within m pair.now) pairs.now }
+/// Sorts transitions by literals, and then by targets.
+fn sort<A: Allocator>(transitions: &mut Vec<Transition, &A>)
+    ensures permutation { IsPermutation transitions.old.items transitions.new.items }
+    ensures sorted { IsSorted spec.transition_cmp transitions.new.items }
 {
-    pairs.iter().any(|other| other.is_within(pair))
+    transitions.sort_unstable_by(|t, u| t.cmp_list(u));
 }
 
-/// Whether the pair does not put off the until row at a place, which these pairs fulfil.
-fn is_kept_up(place: usize, own: &[Pair], pair: &Pair) -> bool
-    requires { place < RowSet.LIMIT }
-    ensures { result ≡ (not (has nat_cmp place pair.now.targets) || list_any (λ m. is_within m pair.now) own.now) }
-{
-    !pair.targets.contains(place) || has_within(own, pair)
-}
-
-/// Whether the pair does not put the until row of that number off.
-fn is_marked<A: Allocator>(
-    table: &Table<'_, A>,
-    own: &[PairSet<'_, A>],
-    pair: &Pair,
-    number: usize,
-) -> bool
-    requires own { AreOwn (table_at table.now) own.now }
-    requires listed { number < length own.now }
-    requires within { number < length table.now.untils }
-    ensures { result ≡ is_marked_at table.now pair.now number }
-{
-    let _ = table.len();
-    let row = until_row(table, number);
-    is_kept_up(place(table, row), own[number].as_slice(), pair)
-}
-
-/// Puts a number among the marks, if it is one.
-fn mark_if(marks: &mut RowSet, number: usize, is_mark: bool)
-    requires { number < RowSet.LIMIT }
-    ensures { marks.new ≡ (if is_mark then put nat_cmp number marks.old else marks.old) }
-{
-    if is_mark {
-        marks.insert(number);
-    }
-}
-
-/// The places of the until rows that the pair does not put off.
-fn marks<A: Allocator>(table: &Table<'_, A>, own: &[PairSet<'_, A>], pair: &Pair) -> RowSet
-    requires { AreOwn (table_at table.now) own.now }
-    ensures { result ≡ (spec.with_marks (table_at table.now) pair.now).marks }
-{
-    let _ = table.len();
-    let mut marks = RowSet::empty();
-    'untils: for number in 0..until_count(table) {
-        let is_mark = is_marked(table, own, pair, number);
-        mark_if(&mut marks, number, is_mark);
-    }
-    marks
-}
-
-/// The pairs as transitions.
-fn marked<'a, A: Allocator>(
-    alloc: &'a A,
-    table: &Table<'_, A>,
-    own: &[PairSet<'_, A>],
-    pairs: &[Pair],
-) -> Result<Vec<Transition, &'a A>, AllocError>
-    requires { AreOwn (table_at table.now) own.now }
-    ensures { IfOk result (λ v. v.items ≡ map (spec.with_marks (table_at table.now)) pairs.now) }
-{
-    let mut all = Vec::with_capacity(alloc, pairs.len())?;
-    'pairs: for pair in pairs {
-        all.push(Transition {
-            cube: pair.cube,
-            targets: pair.targets,
-            marks: marks(table, own, pair),
-        })?;
-    }
-    Ok(all)
-}
-
-/// The transitions of a set of rows, rising by literals and then by targets.
+/// The transitions of a set of rows, rising by literals and then by targets. Where they are more than `most` they may be refused, which is known
+/// before they are made.
 pub(crate) fn transitions<'a, A: Allocator>(
     alloc: &'a A,
     table: &Table<'_, A>,
-    lists: &mut RowLists<'a, A>,
+    rows: &mut RowLists<'a, A>,
+    parts: &mut Parts<'a, A>,
+    groups: &mut Groups<'a, A>,
     own: &[PairSet<'a, A>],
     keep_implied: bool,
     state: &RowSet,
-) -> Result<Vec<Transition, &'a A>, AllocError>
-    requires lists { AreLists table.now (rule_of keep_implied) lists.old.pairs.items lists.old.sets.items }
-    requires own { AreOwn (table_at table.now) own.now }
-    ensures lists { OnOk result (AreLists table.now (rule_of keep_implied) lists.new.pairs.items lists.new.sets.items) }
+    most: usize,
+) -> Result<Vec<Transition, &'a A>, AltFault>
+    requires prepared { IsPrepared table.now keep_implied rows.old.pairs.items rows.old.sets.items own.now parts.old.made parts.old.owners.items parts.old.lists.items parts.old.demands.items parts.old.links.items groups.old.keys.keys groups.old.lists.items }
+    ensures prepared { OnOk result (IsPrepared table.now keep_implied rows.new.pairs.items rows.new.sets.items own.now parts.new.made parts.new.owners.items parts.new.lists.items parts.new.demands.items parts.new.links.items groups.new.keys.keys groups.new.lists.items) }
     ensures transitions { IfOk result (λ v. v.items ≡ spec.transitions (table_at table.now) keep_implied state.now) }
+    ensures large { IsErrOf result AltFault.TooLarge → most < length (spec.transitions (table_at table.now) keep_implied state.now) }
 {
     let pruning = Pruning {
         rule: Rule::of(keep_implied),
         own,
     };
-    let pairs = successors(alloc, table, lists, &pruning, state)?;
-    let all = marked(alloc, table, own, pairs.as_slice())?;
-    if keep_implied {
-        return Ok(all);
+    parts.prepare(alloc, table, rows, &pruning, state)?;
+    state.members_rise();
+    let all = parts.numbers(state);
+    let remembered = groups.len();
+    let numbers = group_numbers(alloc, table, parts, groups, &pruning, keep_implied, &all)?;
+    if are_more(groups, numbers.as_slice(), most) {
+        return Err(AltFault::TooLarge);
     }
-    let kept = unimplied(alloc, all.as_slice())?;
-    Ok(kept)
+    let mut products = all_products(alloc, table, own, groups, numbers.as_slice())?;
+    let most = if numbers.len() > 1 {
+        MOST_REMEMBERED
+    } else {
+        0
+    };
+    groups.forget(remembered, most);
+    sort(&mut products);
+    Ok(products)
 }

@@ -1,7 +1,7 @@
 -- One more state, whose list may be new.
 use Rattle.std.proofs.Common.{◌≡◌, ℕ, Bool, true, false, cond, ◌⊎◌, inl, inr, zero, suc, ◌<◌, ◌≤◌, List, [], ◌∷◌, ◌++◌, length, refl, sym, ◌∙◌, ap, subst, arith, length-append, Some, None}
 use Rattle.std.specs.Prelude.{slice_get, slice_index_or}
-use Rattle.std.proofs.lemmas.List.{map-append}
+use Rattle.std.proofs.lemmas.List.{map-append, append-nil}
 use Rattle.std.proofs.lemmas.List.Elements.{All-head, All-tail, All-weaker, All-push}
 use Rattle.ltl_spec.specs.Automata.Automaton.{Automaton, State, Edge}
 use Rattle.ltl_spec.proofs.Collections.ListLaws.{index_append, get_done, slice_get_has}
@@ -55,6 +55,18 @@ shared_pushed sets lists new ps qs p edges old w e f a o =
     let all : states_in new qs ≡ states_in lists ps ++ record { accepting = p.accepting; edges = edges } ∷ [] =
     ap (states_in new) e ∙ map-append (state_in new) ps (p ∷ []) ∙ (λ i. (ap (λ ls. states_in ls ps) w.1 ∙ states_stay lists w.0 ps a) i ++ last i ∷ []) in
     (λ i. let A : Automaton = record { sets = sets; states = all i } in A) ∙ ap (λ s. with_state (automaton_of s) p.accepting edges) o
+
+-- one more state with the list of another
+pub shared_again : (lists : List (List Edge)) (ps qs : List Place) (p : Place) → qs ≡ ps ++ p ∷ [] → p.list < length lists → IsShared lists ps → IsShared lists qs
+shared_again lists ps qs p q l w = record {
+  places = subst (ArePlaces lists) (sym q) (All-push (λ (r : Place). r.list < length lists) ps p w.places l);
+  distinct = w.distinct;
+  used = λ k m. let u = w.used k m in (u.0, subst (λ xs. Has xs u.0) (sym q) (append_left ps (p ∷ []) u.0 u.1), u.2);
+}
+
+pub again_is : (sets : ℕ) (lists : List (List Edge)) (ps qs : List Place) (p : Place) (edges : List Edge) (old : Shared) → qs ≡ ps ++ p ∷ [] → slice_get lists p.list ≡ Some edges → IsShared lists ps
+    → (let s : Shared = record { sets = sets; lists = lists; states = ps } in s) ≡ old → automaton_of (record { sets = sets; lists = lists; states = qs }) ≡ with_state (automaton_of old) p.accepting edges
+again_is sets lists ps qs p edges old q e w o = shared_pushed sets lists lists ps qs p edges old ([], sym (append-nil lists)) q e w.places o
 
 below_or_from : (k q : ℕ) → (k < q) ⊎ (q ≤ k)
 below_or_from k q = grind arith

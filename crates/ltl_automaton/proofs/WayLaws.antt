@@ -1,20 +1,20 @@
 -- The automaton of a net while it is listed.
-use Rattle.std.proofs.Common.{◌≡◌, ℕ, zero, suc, ◌+◌, ◌<◌, ◌≤◌, Bool, inl, inr, List, [], ◌∷◌, ◌++◌, length, map, refl, sym, ◌∙◌, ap, subst, arith, length-append, Some, None}
+use Rattle.std.proofs.Common.{◌≡◌, ℕ, zero, suc, ◌+◌, ◌<◌, ◌≤◌, Bool, true, inl, inr, List, [], ◌∷◌, ◌++◌, length, map, refl, sym, ◌∙◌, ap, subst, arith, length-append, Some, None}
 use Rattle.std.specs.Prelude.{fold, slice_get, slice_index_or, take, sum_by}
 use Rattle.std.specs.Bool.{Decides}
 use Rattle.std.proofs.lemmas.Option.{get_or_from_slice_get, slice_get_within}
-use Rattle.std.proofs.lemmas.List.{map-append, length-map}
+use Rattle.std.proofs.lemmas.List.{map-append, length-map, get_or-map, get_or-take, length-take-le}
 use Rattle.ltl_spec.specs.Collections.Sets.{Has}
 use Rattle.ltl_spec.specs.Collections.Lists.{with_new}
-use Rattle.ltl_spec.specs.Automata.Automaton.{Automaton, Edge, State}
+use Rattle.ltl_spec.specs.Automata.Automaton.{Automaton, Edge, State, state_at}
 use Rattle.ltl_spec.specs.Automata.Listing.{listing, with_targets_of, IsComplete, PassesLimits}
 use Rattle.ltl_spec.proofs.Automata.ListingLaws.{fold_behind}
 use Rattle.ltl_spec.proofs.Automata.ListingReach.{listed_targets}
 use Rattle.ltl_spec.proofs.Automata.CountsLaws.{sum_step, never_passed}
 use Rattle.ltl_automaton.specs.Listed.{Listed}
-use Rattle.ltl_automaton.specs.Net.{Net, key_of, targets_of, edges_in, state_of, IsReachable, IsUnderWay}
+use Rattle.ltl_automaton.specs.Net.{Net, key_of, targets_of, HasArcsOf, lengths_of, edges_in, state_of, IsReachable, IsUnderWay}
 use Rattle.ltl_automaton.specs.SharedView.{with_state}
-use Rattle.ltl_automaton.proofs.NetLaws.{map_agree, state_stays}
+use Rattle.ltl_automaton.proofs.NetLaws.{map_agree, state_stays, fold_within}
 
 -- the elements of a beginning stand at places before its end
 pub Has_taken_at : {K : Type 0} (n : ℕ) (xs : List K) (x : K) → Has (take n xs) x → (i : ℕ) × (i < n) × (i < length xs) × (slice_index_or xs i x ≡ x)
@@ -44,6 +44,10 @@ take_whole zero (x ∷ xs) l = absurd (omega arith)
 take_whole (suc n) [] l = refl
 take_whole (suc n) (x ∷ xs) l = ap (λ l. x ∷ l) (take_whole n xs (omega arith))
 
+-- a thing with the same edges, seen alike
+pub twin_here : {K : Type 0} (M N : Net K) (ks ls : List K) (i : ℕ) (k : K) → M ≡ N → ks ≡ ls → HasArcsOf M ks i k → HasArcsOf N ls i k
+twin_here {K = K} M N ks ls i k p q t = subst (λ (n : Net K). HasArcsOf n ls i k) p (subst (λ xs. HasArcsOf M xs i k) q t)
+
 -- there is nothing past the end alone
 past : {K : Type 0} (xs : List K) (n : ℕ) → slice_get xs n ≡ None → length xs ≤ n
 past [] n e = omega arith
@@ -63,10 +67,20 @@ module _ {K : Type 0} (same : K → K → Bool) (decides : (x y : K) → Decides
   abbrev st : List K → K → State
   st keys k = state_of same sorted net keys k
 
+  abbrev arc_count : K → ℕ
+  arc_count k = length (net.arcs k)
+
   pub begins : (l : Listed K) (A : Automaton) → l ≡ record { keys = start ∷ []; taken = 0 } → A ≡ record { sets = sets; states = [] } → IsOnWay l 0 A
   begins l A e a = subst (λ m. IsOnWay m 0 A) (sym e) (record { listed = refl; states = a; counted = refl; within = omega arith })
 
   module _ (l : Listed K) (count : ℕ) (A : Automaton) (w : IsOnWay l count A) where
+    -- there is a state for each thing that was taken, and a length
+    pub states_count : length A.states ≡ l.taken
+    states_count = ap (λ (X : Automaton). length X.states) w.states ∙ length-map (take l.taken l.keys) (st l.keys) ∙ length-take-le l.taken l.keys w.within
+
+    pub lengths_count : (ns : List ℕ) → ns ≡ lengths_of net l → length ns ≡ l.taken
+    lengths_count ns e = ap length e ∙ length-map (take l.taken l.keys) arc_count ∙ length-take-le l.taken l.keys w.within
+
     module _ (k : K) (f : slice_get l.keys l.taken ≡ Some k) where
       abbrev next : List K
       next = fold (with_new same) l.keys (T k)
@@ -85,11 +99,16 @@ module _ {K : Type 0} (same : K → K → Bool) (decides : (x y : K) → Decides
           let old = w.counted in
           omega arith
 
+      taken_next : take (suc l.taken) next ≡ take l.taken l.keys ++ k ∷ []
+      taken_next =
+          let behind = fold_behind same (T k) l.keys in
+          let m = inside in
+          ap (take (suc l.taken)) behind.1 ∙ take_behind (suc l.taken) l.keys behind.0 (omega arith) ∙ take_got l.keys l.taken k f
+
       states_next : map (st next) (take (suc l.taken) next) ≡ map (st l.keys) (take l.taken l.keys) ++ st next k ∷ []
       states_next =
           let behind = fold_behind same (T k) l.keys in
           let grown : next ≡ l.keys ++ behind.0 = behind.1 in
-          let m = inside in
           let there : (y : K) → Has (take l.taken l.keys) y → (z : K) → Has (T y) z → Has l.keys z = λ y h z t.
           let q = Has_taken_at l.taken l.keys y h in
           subst (λ ks. Has ks z) (sym w.listed)
@@ -97,8 +116,44 @@ module _ {K : Type 0} (same : K → K → Bool) (decides : (x y : K) → Decides
           (subst (λ v. Has (T v) z) (sym (ap (λ ks. slice_index_or ks q.0 y) (sym w.listed) ∙ q.3)) t)) in
           let old : map (st next) (take l.taken l.keys) ≡ map (st l.keys) (take l.taken l.keys) =
           ap (λ ks. map (st ks) (take l.taken l.keys)) grown ∙ map_agree (st (l.keys ++ behind.0)) (st l.keys) (take l.taken l.keys) (λ y h. state_stays same decides sorted net l.keys behind.0 y (there y h)) in
-          let taken : take (suc l.taken) next ≡ take l.taken l.keys ++ k ∷ [] = ap (take (suc l.taken)) grown ∙ take_behind (suc l.taken) l.keys behind.0 (omega arith) ∙ take_got l.keys l.taken k f in
-          ap (map (st next)) taken ∙ map-append (st next) (take l.taken l.keys) (k ∷ []) ∙ ap (λ ss. ss ++ st next k ∷ []) old
+          ap (map (st next)) taken_next ∙ map-append (st next) (take l.taken l.keys) (k ∷ []) ∙ ap (λ ss. ss ++ st next k ∷ []) old
+
+      -- also the lengths of its lists of edges
+      pub lengths_next : (m : Listed K) (n : ℕ) (ns more : List ℕ) → m.keys ≡ next → m.taken ≡ l.taken + 1 → ns ≡ lengths_of net l → n ≡ length (net.arcs k) → more ≡ ns ++ n ∷ [] → more ≡ lengths_of net m
+      lengths_next m n ns more g t e q h =
+          let one : m.taken ≡ suc l.taken = omega arith in
+          let all : take m.taken m.keys ≡ take l.taken l.keys ++ k ∷ [] = (λ i. take (one i) (g i)) ∙ taken_next in
+          h ∙ (λ i. e i ++ q i ∷ []) ∙ sym (map-append arc_count (take l.taken l.keys) (k ∷ [])) ∙ ap (map arc_count) (sym all)
+
+      -- a thing that was taken has the same edges
+      module _ (i : ℕ) (less : i < l.taken) (t : HasArcsOf net l.keys i k) where
+        within_keys : i < length l.keys
+        within_keys = slice_get_within l.keys i t.0 t.1
+
+        twin_at : (d : K) → slice_index_or (take l.taken l.keys) i d ≡ t.0
+        twin_at d = get_or-take l.taken l.keys i d less ∙ get_or_from_slice_get l.keys i t.0 d t.1
+
+        within_taken : i < length (take l.taken l.keys)
+        within_taken = let a = length-take-le l.taken l.keys w.within in omega (arith, less)
+
+        -- so its targets are there
+        there_all : (z : K) → Has (T k) z → Has l.keys z
+        there_all z h =
+            subst (λ ks. Has ks z) (sym w.listed)
+            (listed_targets same decides T start l.taken i k z less (subst (λ ks. i < length ks) w.listed within_keys)
+            (subst (λ v. Has (T v) z) (sym (ap (λ ks. slice_index_or ks i k) (sym w.listed) ∙ get_or_from_slice_get l.keys i t.0 k t.1)) (subst (λ xs. Has (map key_of xs) z) (sym t.2) h)))
+
+        pub keys_stay : next ≡ l.keys
+        keys_stay = fold_within same decides (T k) l.keys there_all
+
+        pub length_at : (ns : List ℕ) (d : ℕ) → ns ≡ lengths_of net l → slice_index_or ns i d ≡ length (net.arcs k)
+        length_at ns d e = ap (λ xs. slice_index_or xs i d) e ∙ get_or-map arc_count (take l.taken l.keys) i k d within_taken ∙ ap arc_count (twin_at k) ∙ ap length t.2
+
+        edges_at : (state_at A i).edges ≡ edges_in same sorted l.keys (net.arcs k)
+        edges_at =
+            ap (λ (X : Automaton). (state_at X i).edges) w.states
+            ∙ ap (λ (s : State). s.edges) (get_or-map (st l.keys) (take l.taken l.keys) i k (record { accepting = true; edges = [] }) within_taken ∙ ap (st l.keys) (twin_at k))
+            ∙ ap (edges_in same sorted l.keys) t.2
 
       grown_longer : length l.keys ≤ length next
       grown_longer = let b = fold_behind same (T k) l.keys in let e = ap length b.1 ∙ length-append l.keys b.0 in omega arith
@@ -118,6 +173,11 @@ module _ {K : Type 0} (same : K → K → Bool) (decides : (x y : K) → Decides
             counted = c ∙ counted_next;
             within = omega arith;
           })
+
+      -- by a thing that was taken
+      pub goes_on_like : (i : ℕ) (m : Listed K) (more : ℕ) (B : Automaton) → i < l.taken → HasArcsOf net l.keys i k → m.keys ≡ l.keys → m.taken ≡ l.taken + 1 → more ≡ count + length (net.arcs k)
+          → B ≡ with_state A (net.accepts k) (state_at A i).edges → IsOnWay m more B
+      goes_on_like i m more B less t g n c b = goes_on m more (state_at A i).edges B (g ∙ sym (keys_stay i less t)) n c (edges_at i less t ∙ ap (λ ks. edges_in same sorted ks (net.arcs k)) (sym g)) b
 
       -- there are too many edges
       pub too_many_edges : (most_states most_edges : ℕ) → most_edges < count + length (net.arcs k) → PassesLimits same T start most_states most_edges

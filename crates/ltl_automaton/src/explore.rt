@@ -1,9 +1,9 @@
 //! Automata listed breadth first.
 
-ghost use Rattle.std.specs.Prelude.{◌≡◌, ◌<◌, ◌+◌, fold, map, slice_get, Some, length, IfOk, OnOk, IsErrOf, if◌then◌else◌};
+ghost use Rattle.std.specs.Prelude.{◌≡◌, ◌<◌, ◌≤◌, ◌+◌, fold, map, slice_get, Some, length, IfOk, IfSome, OnOk, IsErrOf, if◌then◌else◌};
 ghost use Rattle.ltl_spec.specs.Collections.Lists.{with_new};
 ghost use Rattle.ltl_spec.specs.Automata.Listing.{PassesLimits};
-ghost use Rattle.ltl_automaton.specs.Net.{edge_in, edges_in, key_of, targets_of, IsReachable};
+ghost use Rattle.ltl_automaton.specs.Net.{edge_in, edges_in, key_of, targets_of, HasArcsOf, IsReachable};
 ghost use Rattle.ltl_automaton.specs.Bounds.{IsBounded};
 ghost use Rattle.ltl_automaton.specs.EdgeView.{edge_of};
 ghost use Rattle.ltl_automaton.specs.SharedView.{automaton_of};
@@ -40,22 +40,41 @@ fn numbered<'a, K: Key, A: Allocator>(
     Ok(edges)
 }
 
-/// The edges by the numbers of their targets, sorted and distinct if this is asked.
+/// The edges by the numbers of their targets, sorted and distinct if this is asked, unless more things are listed then than may be.
 fn numbered_by<'a, K: Key, A: Allocator>(
     alloc: &'a A,
     listing: &mut Listing<'a, K, A>,
     arcs: &[Arc<K>],
     sorted: bool,
-) -> Result<Vec<Edge, &'a A>, AllocError>
+    most: usize,
+) -> Result<Vec<Edge, &'a A>, AutomatonFault>
     ensures keys { OnOk result (listing.new.keys ≡ fold (with_new K.eq) listing.old.keys (map key_of arcs.now)) }
     ensures taken { listing.new.taken ≡ listing.old.taken }
     ensures edges { IfOk result (λ es. map edge_of es.items ≡ edges_in K.eq sorted listing.new.keys arcs.now) }
+    ensures fits { OnOk result (length listing.new.keys ≤ most) }
+    ensures large { IsErrOf result AutomatonFault.TooLarge → most < length (fold (with_new K.eq) listing.old.keys (map key_of arcs.now)) }
 {
     let mut edges = numbered(alloc, listing, arcs)?;
+    if listing.len() > most {
+        return Err(AutomatonFault::TooLarge);
+    }
     if sorted {
         sort_edges(&mut edges);
     }
     Ok(edges)
+}
+
+/// How many edges there are with so many more, unless this passes the limit.
+fn counted(count: usize, more: usize, most: usize) -> Result<usize, AutomatonFault>
+    requires { count ≤ most }
+    ensures sum { IfOk result (λ n. n ≡ count + more) }
+    ensures fits { IfOk result (λ n. n ≤ most) }
+    ensures large { IsErrOf result AutomatonFault.TooLarge → most < count + more }
+{
+    if more > most - count {
+        return Err(AutomatonFault::TooLarge);
+    }
+    Ok(count + more)
 }
 
 /// The most states and edges that an automaton may have.
@@ -63,6 +82,27 @@ fn numbered_by<'a, K: Key, A: Allocator>(
 pub struct Limits {
     pub states: usize,
     pub edges: usize,
+}
+
+/// The number of a thing among the first `states` whose edges are those of this one, if one is known.
+fn known_place<'a, K: Key, S: Successors<K>, A: Allocator>(
+    net: &mut S,
+    listing: &Listing<'a, K, A>,
+    key: &K,
+    states: usize,
+) -> Result<Option<usize>, AllocError>
+    requires ready { S.ready net.old }
+    ensures place { IfOk result (λ p. IfSome p (λ i. i < states × HasArcsOf (S.net net.old) listing.now.keys i key.now)) }
+    ensures same { OnOk result (S.net net.new ≡ S.net net.old) }
+    ensures ready { OnOk result (S.ready net.new) }
+{
+    let Some(twin) = net.twin(key)? else {
+        return Ok(None);
+    };
+    match listing.place(twin) {
+        Some(place) if place < states => Ok(Some(place)),
+        _ => Ok(None),
+    }
 }
 
 /// The automaton of the things that are reached from the start, which is state 0. The edges of a state stand as they come, or sorted and
@@ -86,18 +126,21 @@ pub fn explore_from<'a, K: Key, S: Successors<K>, A: Allocator>(
 {
     let mut listing = Listing::new(alloc, start)?;
     let mut made = SharedStates::new(alloc, sets);
+    let mut lengths = Vec::new(alloc);
     let mut count = 0usize;
     'things: while let Some(key) = listing.take() {
-        let arcs = net.arcs(alloc, &key)?;
-        if arcs.len() > limits.edges - count {
-            return Err(AutomatonFault::TooLarge);
+        if let Some(place) = known_place(net, &listing, &key, made.len())? {
+            let length = lengths[place];
+            count = counted(count, length, limits.edges)?;
+            lengths.push(length)?;
+            made.push_like(net.accepting(&key), place)?;
+        } else {
+            let arcs = net.arcs(alloc, &key, limits.edges - count)?;
+            count = counted(count, arcs.len(), limits.edges)?;
+            lengths.push(arcs.len())?;
+            let edges = numbered_by(alloc, &mut listing, arcs.as_slice(), sorted, limits.states)?;
+            made.push(net.accepting(&key), edges)?;
         }
-        count += arcs.len();
-        let edges = numbered_by(alloc, &mut listing, arcs.as_slice(), sorted)?;
-        if listing.len() > limits.states {
-            return Err(AutomatonFault::TooLarge);
-        }
-        made.push(net.accepting(&key), edges)?;
     }
     Ok(made)
 }

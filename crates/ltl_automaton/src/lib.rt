@@ -6,8 +6,9 @@
 //!
 //! What flows: a start, and a type with the trait `Successors`, which answers for each thing that can be a state, as a set of rows or a state on a
 //! level, whether it accepts, and its `Arc`s, which are edges to things that have no numbers yet; a `Listing`, which numbers things as they are met;
-//! `explore_from`, which takes one after the other until none is left or a limit is passed: a `SharedStates`. So sets of rows are listed in
-//! `ltl_alt`, and in `ltl_buchi` copies on levels and, to number them anew, the states of an automaton that stands.
+//! `explore_from`, which takes one after the other until none is left or a limit is passed: a `SharedStates`. A thing whose twin was taken, one with
+//! the same edges, gets the list that is there, and its edges aren't made again. So sets of rows are listed in `ltl_alt`, and in `ltl_buchi` copies
+//! on levels and, to number them anew, the states of an automaton that stands.
 //!
 //! The generalized automaton of `[]<>p` is listed from the set of the root alone; from there `p` leads back to it, in set 0, and every letter to the
 //! root with `<>p` put off, whose edges are the same:

@@ -131,4 +131,14 @@ impl<'a, A: Allocator> SharedStates<'a, A> {
         self.states.push(Place { list, accepting })?;
         Ok(())
     }
+
+    /// Puts a state behind the others that has the list of one of them.
+    pub fn push_like(&mut self, accepting: bool, i: usize) -> Result<(), AllocError>
+        requires { i < length (automaton_of self.old).states }
+        ensures ok { OnOk result (automaton_of self.new ≡ with_state (automaton_of self.old) accepting (state_at (automaton_of self.old) i).edges) }
+    {
+        let list = self.list(i);
+        self.states.push(Place { list, accepting })?;
+        Ok(())
+    }
 }

@@ -1,9 +1,10 @@
 //! What leads on from a thing that is listed.
 
-ghost use Rattle.std.specs.Prelude.{◌≡◌, IfOk, OnOk};
+ghost use Rattle.std.specs.Prelude.{◌≡◌, ◌<◌, length, IfOk, IfSome, OnOk, IsErrOf};
 ghost use Rattle.ltl_automaton.specs.Net.{Net};
 
 use crate::arc::Arc;
+use crate::fault::AutomatonFault;
 use crate::listing::Key;
 use std::alloc::{AllocError, Allocator};
 
@@ -18,14 +19,23 @@ pub trait Successors<K: Key> {
     fn accepting(&self, key: &K) -> bool
         ensures { result ≡ (net self.now).accepts key.now };
 
-    /// The edges of the state of a thing.
+    /// A thing that was asked for before and has the same edges, if one is known.
+    fn twin(&mut self, key: &K) -> Result<Option<K>, AllocError>
+        requires { ready self.old }
+        ensures twin { IfOk result (λ t. IfSome t (λ k. (net self.old).arcs k ≡ (net self.old).arcs key.now)) }
+        ensures same { OnOk result (net self.new ≡ net self.old) }
+        ensures ready { OnOk result (ready self.new) };
+
+    /// The edges of the state of a thing. Where they are more than `most` they may be refused, and needn't be made.
     fn arcs<'a, A: Allocator>(
         &mut self,
         alloc: &'a A,
         key: &K,
-    ) -> Result<Vec<Arc<K>, &'a A>, AllocError>
+        most: usize,
+    ) -> Result<Vec<Arc<K>, &'a A>, AutomatonFault>
         requires { ready self.old }
         ensures arcs { IfOk result (λ v. v.items ≡ (net self.old).arcs key.now) }
+        ensures large { IsErrOf result AutomatonFault.TooLarge → most < length ((net self.old).arcs key.now) }
         ensures same { OnOk result (net self.new ≡ net self.old) }
         ensures ready { OnOk result (ready self.new) };
 }

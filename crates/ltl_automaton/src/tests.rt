@@ -1,8 +1,15 @@
-//! What no clause says: that equal lists stand once.
+//! What no clause says: that equal lists stand once, and that edges which a twin has are not made again.
 
+ghost use Rattle.std.specs.Prelude.{◌∷◌, [], true, ⊤};
+
+use crate::arc::Arc;
 use crate::edge::Edge;
+use crate::explore::{Limits, explore_from};
+use crate::fault::AutomatonFault;
 use crate::shared::SharedStates;
+use crate::successors::Successors;
 use ltl_sets::{Cube, RowSet};
+use std::alloc::{AllocError, Allocator};
 use std::test::Fail;
 
 #[test]
@@ -26,5 +33,72 @@ fn equal_lists_stand_once(rt: HostRuntime) -> Result<(), Fail> {
     automaton.push(true, Vec::from_slice(&alloc, &[there, here])?)?;
     assert_eq!(rt; automaton.len(), 5);
     assert_eq!(rt; automaton.list_count(), 3);
+    Ok(())
+}
+
+/// Two things with the same edges, and whether these were made, and made again.
+#[derive(Drop)]
+struct Two {
+    made: bool,
+    again: bool,
+}
+
+impl Successors<usize> for Two {
+    ghost net = { λ _. record { arcs = λ _. record { cube = []; key = 0; marks = [] } ∷ record { cube = []; key = 1; marks = [] } ∷ []; accepts = λ _. true } };
+
+    ghost ready = { λ _. ⊤ };
+
+    fn accepting(&self, _key: &usize) -> bool {
+        true
+    }
+
+    fn twin(&mut self, _key: &usize) -> Result<Option<usize>, AllocError> {
+        Ok(Some(0))
+    }
+
+    fn arcs<'a, A: Allocator>(
+        &mut self,
+        alloc: &'a A,
+        _key: &usize,
+        _most: usize,
+    ) -> Result<Vec<Arc<usize>, &'a A>, AutomatonFault> {
+        self.again = self.made;
+        self.made = true;
+        let here = Arc {
+            cube: Cube::empty(),
+            key: 0usize,
+            marks: RowSet::empty(),
+        };
+        let there = Arc {
+            cube: Cube::empty(),
+            key: 1usize,
+            marks: RowSet::empty(),
+        };
+        Ok(Vec::from_slice(alloc, &[here, there])?)
+    }
+}
+
+#[test]
+fn edges_of_a_twin_are_not_made(rt: HostRuntime) -> Result<(), Fail> {
+    let alloc = rt.alloc();
+    let mut two = Two {
+        made: false,
+        again: false,
+    };
+    let limits = Limits {
+        states: 2,
+        edges: 4,
+    };
+    let automaton = explore_from(&alloc, 0usize, 0, &mut two, true, limits)?;
+    assert!(rt; two.made && !two.again);
+    assert_eq!(rt; automaton.len(), 2);
+    assert_eq!(rt; automaton.list_count(), 1);
+    assert_eq!(rt; automaton.edges(1).len(), 2);
+    let few = Limits {
+        states: 2,
+        edges: 3,
+    };
+    let refused = explore_from(&alloc, 0usize, 0, &mut two, true, few);
+    assert!(rt; matches!(refused, Err(AutomatonFault::TooLarge)));
     Ok(())
 }

@@ -1,5 +1,5 @@
 -- A round of merging by codes of lists.
-use Rattle.std.proofs.Common.{◌≡◌, ℕ, zero, suc, ◌+◌, ◌-◌, ◌<◌, ◌≤◌, Bool, true, inl, inr, List, [], ◌∷◌, ◌++◌, map, length, refl, sym, ◌∙◌, ap, subst, arith, Some}
+use Rattle.std.proofs.Common.{◌≡◌, ℕ, zero, suc, ◌+◌, ◌-◌, ◌<◌, ◌≤◌, true, inl, inr, List, [], ◌∷◌, ◌++◌, map, length, refl, sym, ◌∙◌, ap, subst, arith, Some}
 use Rattle.std.specs.Prelude.{slice_index, slice_index_or, slice_get, All}
 use Rattle.std.proofs.lemmas.List.{get_or-map, length-map}
 use Rattle.std.proofs.lemmas.List.Elements.{All-map}
@@ -8,7 +8,7 @@ use Rattle.ltl_spec.specs.Collections.Sets.{Has, set_of}
 use Rattle.ltl_spec.specs.Collections.Lists.{place_of}
 use Rattle.ltl_spec.specs.Automata.Automaton.{Automaton, State, Edge, edge_cmp, state_at}
 use Rattle.ltl_spec.specs.Construction.Merging.{same_state, retargeted_edge, retargeted_state, class_names}
-use Rattle.ltl_spec.proofs.Collections.ListLaws.{All-from_has, All-at_has, Has-at}
+use Rattle.ltl_spec.proofs.Collections.ListLaws.{All-at_has}
 use Rattle.ltl_spec.proofs.Construction.MergingUnique.{IsNames, IsWithin, seen_under, same_names, round_names, next_seen, next_equal}
 use Rattle.ltl_automaton.specs.EdgeView.{edge_of}
 use Rattle.ltl_automaton.specs.SharedView.{Shared, IsShared, automaton_of, state_in}

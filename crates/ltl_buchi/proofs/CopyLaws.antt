@@ -1,6 +1,6 @@
 -- The copies that were listed are those of the definitions.
-use Rattle.std.proofs.Common.{◌≡◌, ℕ, ◌<◌, ◌≤◌, Bool, true, ◌&&◌, List, [], ◌∷◌, ◌++◌, length, map, refl, sym, ◌∙◌, ap, subst, arith}
-use Rattle.std.specs.Prelude.{slice_index_or, ◌==◌, All}
+use Rattle.std.proofs.Common.{◌≡◌, ℕ, ◌<◌, ◌≤◌, Bool, true, ◌&&◌, List, [], ◌∷◌, ◌++◌, length, map, refl, sym, ◌∙◌, ap, subst, arith, Some}
+use Rattle.std.specs.Prelude.{◌-◌, slice_get, slice_index_or, ◌==◌, All}
 use Rattle.std.specs.Bool.{Decides}
 use Rattle.std.specs.Cmp.{first_so, second_so}
 use Rattle.std.proofs.lemmas.List.{get_or_past}
@@ -9,7 +9,7 @@ use Rattle.ltl_spec.specs.Collections.Sets.{Has, IsRising, set_of}
 use Rattle.ltl_spec.specs.Collections.Lists.{place_of}
 use Rattle.ltl_spec.specs.Automata.Automaton.{Automaton, State, Edge, edge_cmp, state_at}
 use Rattle.ltl_spec.specs.Automata.Listing.{listing, IsComplete, PassesLimits}
-use Rattle.ltl_spec.specs.Construction.Levels.{Copy, CopyEdge, same_copy, start_copy, copy_edge, copy_edge_cmp, copy_edges, copy_targets, edge_to_copy, copy_state, level_automaton, HasTooManyCopies}
+use Rattle.ltl_spec.specs.Construction.Levels.{Copy, CopyEdge, same_copy, start_copy, climb, copy_edge, copy_edge_cmp, copy_edges, copy_targets, edge_to_copy, copy_state, level_automaton, HasTooManyCopies}
 use Rattle.ltl_spec.specs.Tools.Limits.{stated_limits}
 use Rattle.ltl_spec.proofs.Collections.Orders.{edge_linear}
 use Rattle.ltl_spec.proofs.Collections.SetLaws.{IsRising-set_of, Has-set_of, set_of_cases}
@@ -20,11 +20,12 @@ use Rattle.ltl_spec.proofs.Semantics.Runs.{IsClosed}
 use Rattle.ltl_sets.specs.CubeEq.{same_cube, cube_Decides}
 use Rattle.ltl_automaton.specs.Bounds.{IsBounded}
 use Rattle.ltl_automaton.specs.Net.{key_of, targets_of, edge_in, state_of, IsReachable}
+use Rattle.ltl_automaton.specs.SharedView.{Shared, automaton_of}
 use Rattle.ltl_automaton.specs.declared.edge.Edge as plain
 use Rattle.ltl_automaton.proofs.EdgeLaws.{map_pushed}
 use Rattle.ltl_alt.specs.GbaView as gba
 use Rattle.ltl_buchi.specs.BaView.{IsBa, IsPlain, IsReached}
-use Rattle.ltl_buchi.specs.Copies.{arc_of, copy_edge_of, level_net, lifted_edge}
+use Rattle.ltl_buchi.specs.Copies.{IsListOf, arc_of, copy_edge_of, from_level, level_net, lifted_edge}
 use Rattle.ltl_buchi.specs.declared.copies.CopyEdge as code
 use Rattle.ltl_buchi.proofs.MergedLaws.{gba_within}
 use Rattle.ltl_buchi.proofs.ReachedLaws.{listed_reached}
@@ -65,6 +66,21 @@ pub made_arcs : (A : Automaton) (sets : ℕ) (p : Copy) (edges : List plain.Edge
     → map copy_edge_of xs ≡ set_of copy_edge_cmp (map (lifted_edge sets p.level) (map gba.edge_of edges)) → ys ≡ xs → map arc_of (map copy_edge_of ys) ≡ map arc_of (copy_edges A p)
 made_arcs A sets p edges xs ys n e h y =
     ap (λ zs. map arc_of (map copy_edge_of zs)) y ∙ ap (map arc_of) (h ∙ ap (λ m. set_of copy_edge_cmp (map (lifted_edge m p.level) (map gba.edge_of edges))) n ∙ ap (λ es. set_of copy_edge_cmp (map (lifted_edge A.sets p.level) es)) e)
+
+-- copies with the same list on the same level have the same edges
+pub same_arcs : (A : Automaton) (s : Shared) (p q l m : Copy) → automaton_of s ≡ A → IsListOf s p l → IsListOf s q m → m ≡ l → map arc_of (copy_edges A q) ≡ map arc_of (copy_edges A p)
+same_arcs A s p q l m a v w e =
+    let B = automaton_of s in
+    let edges : (state_at B q.state).edges ≡ (state_at B p.state).edges = one_thing _ _ (sym w.list ∙ ap (λ (c : Copy). slice_get s.lists c.state) e ∙ v.list) in
+    let levels : from_level s.sets q.level ≡ from_level s.sets p.level = sym w.level ∙ ap (λ (c : Copy). c.level) e ∙ v.level in
+    let here : map arc_of (copy_edges B q) ≡ map arc_of (copy_edges B p) = λ i. map arc_of (set_of copy_edge_cmp (map (climbing s.sets (levels i)) (edges i))) in
+    ap (λ X. map arc_of (copy_edges X q)) (sym a) ∙ here ∙ ap (λ X. map arc_of (copy_edges X p)) a
+  where
+    climbing : ℕ → ℕ → Edge → CopyEdge
+    climbing sets from e = record { cube = e.cube; copy = record { state = e.target; level = climb (sets - from) e.marks from } }
+
+    one_thing : (x y : List Edge) → Some x ≡ Some y → x ≡ y
+    one_thing x y h = cc
 
 module _ (A : Automaton) where
   all_targets : targets_of (level_net A) ≡ copy_targets A

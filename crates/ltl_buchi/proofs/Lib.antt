@@ -1,3 +1,4 @@
+pub mod AskedLaws
 pub mod ClassLaws
 pub mod CodeLaws
 pub mod CopyLaws
@@ -10,5 +11,5 @@ pub mod ReachedLaws
 pub mod RenumberLaws
 pub mod Sums
 pub mod TranslationLaws
-pub mod WeighedLaws
+pub mod WeightLaws
 pub mod Within

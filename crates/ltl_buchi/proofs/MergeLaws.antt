@@ -1,26 +1,20 @@
 -- The steps of reading and making the states of automata that are merged.
-use Rattle.std.proofs.Common.{◌≡◌, ℕ, zero, suc, ◌+◌, ◌<◌, Bool, true, false, ◌||◌, ◌&&◌, not, cond, List, [], ◌∷◌, ◌++◌, map, length, refl, sym, ◌∙◌, ap, subst, arith}
-use Rattle.std.specs.Prelude.{slice_index, slice_index_or, take}
+use Rattle.std.proofs.Common.{◌≡◌, ℕ, zero, suc, ◌+◌, ◌<◌, Bool, true, false, cond, List, [], ◌∷◌, ◌++◌, map, length, refl, sym, ◌∙◌, ap, subst, arith}
+use Rattle.std.specs.Prelude.{slice_index, slice_index_or}
 use Rattle.std.specs.Ordering.{nat_cmp}
 use Rattle.std.specs.Prelude.{nat_eq}
-use Rattle.std.specs.List.{list_any, filter}
+use Rattle.std.specs.List.{filter}
 use Rattle.std.specs.Cmp.Lexicographic.{pointwise, pointwise_decides}
-use Rattle.std.proofs.lemmas.Bool.{or_parts, false_from_ne_true, false≢true}
-use Rattle.ltl_spec.proofs.Construction.ImpliedEdges.{is_above}
 use Rattle.ltl_automaton.specs.EdgeView.{edge_of}
 use Rattle.ltl_automaton.specs.SharedView.{Shared, IsShared, automaton_of, with_state}
 use Rattle.ltl_automaton.specs.declared.edge.Edge as made
-use Rattle.ltl_automaton.proofs.EdgeLaws.{same_code, edge_Decides, edge_exact, map_pushed}
+use Rattle.ltl_automaton.proofs.EdgeLaws.{map_pushed}
 use Rattle.std.proofs.lemmas.Bool.Decides.{Decides-eqb}
-use Rattle.ltl_spec.proofs.Collections.ListLaws.{Has-at}
-use Rattle.ltl_spec.proofs.Collections.MemberLaws.{Has-map, any_true}
 use Rattle.std.proofs.lemmas.List.{get_or-map, append-nil}
-use Rattle.ltl_spec.specs.Collections.Sets.{Has, IsRising, set_of}
-use Rattle.ltl_spec.specs.Automata.Automaton.{Automaton, State, Edge, edge_cmp}
-use Rattle.ltl_spec.specs.Construction.Merging.{same_edge, implies_edge, retargeted_state, without_implied, class_names, quotient, merged_automaton}
-use Rattle.ltl_spec.proofs.Collections.SetLaws.{set_of_same}
-use Rattle.ltl_spec.proofs.Collections.Orders.{edge_linear}
-use Rattle.ltl_spec.proofs.Construction.RoundLaws.{same_edge_Decides, names_length, name_low, name_twice}
+use Rattle.ltl_spec.specs.Collections.Sets.{Has, set_of}
+use Rattle.ltl_spec.specs.Automata.Automaton.{Automaton, State, Edge}
+use Rattle.ltl_spec.specs.Construction.Merging.{retargeted_state, without_implied, class_names}
+use Rattle.ltl_spec.proofs.Construction.RoundLaws.{names_length, name_low, name_twice}
 use Rattle.ltl_buchi.specs.Classes.{number_in, IsNumbering, AreNames, IsCoded, IsLeastAlike, coded_place, list_view, retargeted_list, thinned}
 use Rattle.ltl_buchi.proofs.CodeLaws.{seen_again, next_round, ends_early}
 
@@ -97,22 +91,3 @@ module _ (S : Shared) (shared : IsShared S.lists S.states) where
 
 pub same_list : (xs ys : List ℕ) → pointwise nat_eq xs ys ≡ true → xs ≡ ys
 same_list xs ys t = (pointwise_decides Decides-eqb xs ys).0 t
-
--- what implies an edge
-pub no_target : (a b c : Bool) → a ≡ false → (a && b && c) ≡ false
-no_target a b c e = ap (λ x. x && b && c) e
-
-pub no_cube : (a b c : Bool) → b ≡ false → (a && b && c) ≡ false
-no_cube true b c e = ap (λ x. x && c) e
-no_cube false b c e = refl
-
-pub only_marks : (a b c : Bool) → a ≡ true → b ≡ true → (a && b && c) ≡ c
-only_marks a b c e f = ap (λ x. x && b && c) e ∙ ap (λ x. x && c) f
-
-pub above_equal : (f e : made.Edge) → same_code f e ≡ true → is_above (edge_of f) (edge_of e) ≡ false
-above_equal f e t = ap (λ b. not b && implies_edge (edge_of f) (edge_of e)) ((same_edge_Decides (edge_of f) (edge_of e)).1 (ap edge_of ((edge_Decides f e).0 t)))
-
-pub above_other : (f e : made.Edge) → same_code f e ≡ false → is_above (edge_of f) (edge_of e) ≡ implies_edge (edge_of f) (edge_of e)
-above_other f e n =
-    ap (λ b. not b && implies_edge (edge_of f) (edge_of e))
-    (false_from_ne_true (same_edge (edge_of f) (edge_of e)) (λ t. false≢true (sym n ∙ (edge_Decides f e).1 (edge_exact f e ((same_edge_Decides (edge_of f) (edge_of e)).0 t)))))

@@ -1,7 +1,7 @@
 -- The merged automaton has what its type holds.
-use Rattle.std.proofs.Common.{◌≡◌, ℕ, ◌<◌, Bool, true, false, cond, List, [], map, length, refl, ◌∙◌, ap, subst, arith}
+use Rattle.std.proofs.Common.{◌≡◌, ℕ, ◌<◌, Bool, true, false, cond, List, [], length, refl, ◌∙◌, ap, arith}
 use Rattle.std.specs.Prelude.{All}
-use Rattle.std.proofs.lemmas.List.Elements.{All-weaker, All-map}
+use Rattle.std.proofs.lemmas.List.Elements.{All-weaker}
 use Rattle.ltl_spec.specs.Collections.Sets.{Has, IsRising}
 use Rattle.ltl_spec.specs.Automata.Automaton.{Automaton, State, Edge, edge_cmp, state_at}
 use Rattle.ltl_spec.specs.Construction.Merging.{class_names, merged_automaton}

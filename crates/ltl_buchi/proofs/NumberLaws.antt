@@ -2,7 +2,7 @@
 use Rattle.std.proofs.Common.{◌≡◌, ℕ, zero, suc, ◌+◌, ◌<◌, ◌≤◌, true, false, cond, not, ◌⊎◌, inl, inr, List, [], ◌∷◌, ◌++◌, map, length, refl, sym, ◌∙◌, ap, subst, arith}
 use Rattle.std.specs.Prelude.{slice_index, slice_index_or, ◌==◌, take, All}
 use Rattle.std.specs.Ordering.{nat_cmp}
-use Rattle.std.proofs.lemmas.List.{map-append, take_more, get_or-map}
+use Rattle.std.proofs.lemmas.List.{map-append, get_or-map}
 use Rattle.std.specs.declared.cmp.Ordering.TheVariants.{Less}
 use Rattle.std.specs.Bool.{Decides}
 use Rattle.std.proofs.lemmas.Bool.Decides.{Decides-eqb}
@@ -10,7 +10,7 @@ use Rattle.ltl_spec.specs.Collections.Sets.{Has, IsRising, set_of}
 use Rattle.ltl_spec.specs.Collections.Lists.{place_of}
 use Rattle.ltl_spec.proofs.Collections.SetLaws.{append_cases, append_left, append_right, same_members, set_of_alike, set_of_cases, Has-set_of, IsRising-set_of, all_at, all_from}
 use Rattle.ltl_spec.proofs.Collections.Orders.{nat_linear}
-use Rattle.ltl_spec.proofs.Collections.CaseLaws.{false_is_true, below_equal_above}
+use Rattle.ltl_spec.proofs.Collections.CaseLaws.{below_equal_above}
 use Rattle.ltl_spec.proofs.Collections.ListLaws.{Has-at, All-from_has}
 use Rattle.ltl_automaton.proofs.NetLaws.{map_agree, place_kept, took}
 use Rattle.ltl_automaton.proofs.WayLaws.{Has_taken_at}

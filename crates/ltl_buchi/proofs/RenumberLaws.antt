@@ -1,6 +1,6 @@
 -- An automaton that is listed from its own states is the renumbered one, and what an automaton keeps when it is numbered.
-use Rattle.std.proofs.Common.{◌≡◌, ℕ, zero, suc, ◌<◌, ◌≤◌, Bool, true, inl, inr, List, [], ◌∷◌, length, map, refl, sym, ◌∙◌, ap, subst, arith}
-use Rattle.std.specs.Prelude.{slice_index_or, sum_by, take, ◌==◌, All}
+use Rattle.std.proofs.Common.{◌≡◌, ℕ, ◌<◌, ◌≤◌, true, inl, inr, List, [], ◌∷◌, length, map, refl, sym, ◌∙◌, ap, subst, arith, Some}
+use Rattle.std.specs.Prelude.{slice_get, slice_index_or, sum_by, take, ◌==◌, All}
 use Rattle.std.proofs.lemmas.Bool.Decides.{Decides-eqb}
 use Rattle.std.proofs.lemmas.List.{length-map, get_or_past}
 use Rattle.std.proofs.lemmas.List.Sums.{sum_by-cons}
@@ -16,12 +16,12 @@ use Rattle.ltl_spec.proofs.Collections.Orders.{edge_linear}
 use Rattle.ltl_spec.proofs.Collections.SetLaws.{set_of_same, IsRising-set_of, Has-set_of}
 use Rattle.ltl_spec.proofs.Collections.MemberLaws.{Has-map, map_cases}
 use Rattle.ltl_spec.proofs.Collections.ListLaws.{All-at_has, All-from_has, Has-at}
-use Rattle.ltl_spec.proofs.Automata.ListedStates.{no_state}
 use Rattle.ltl_spec.proofs.Automata.ListingReach.{listed_within, listed_short, HasNoRepeats-listed}
 use Rattle.ltl_spec.proofs.Construction.EdgeBounds.{AreAll, renumbered_all, renumbered_few, renumbered_few_edges}
 use Rattle.ltl_spec.proofs.Construction.RenumberedRuns.{ordered_targets_cases, complete_reached, reached_short, renumbered_closed}
 use Rattle.ltl_spec.proofs.Semantics.Runs.{IsClosed}
 use Rattle.ltl_automaton.specs.Net.{Net, key_of, targets_of, edge_in, state_of, IsReachable}
+use Rattle.ltl_automaton.specs.SharedView.{Shared, automaton_of}
 use Rattle.ltl_automaton.proofs.NetLaws.{map_agree}
 use Rattle.ltl_automaton.proofs.WayLaws.{Has_taken_at, take_whole}
 use Rattle.ltl_alt.specs.GbaView as gba
@@ -38,6 +38,14 @@ accepts_past A s l = ap (λ (t : State). t.accepting) (sym (get_or_past A.states
 
 pub no_arcs_past : (A : Automaton) (s : ℕ) → length A.states ≤ s → [] ≡ map arc_of (state_at A s).edges
 no_arcs_past A s l = ap (λ (t : State). map arc_of t.edges) (sym (get_or_past A.states s (record { accepting = true; edges = [] }) l))
+
+-- states with one list have the same edges
+pub same_arcs : (s : Shared) (p q l m : ℕ) → slice_get s.lists l ≡ Some (state_at (automaton_of s) p).edges → slice_get s.lists m ≡ Some (state_at (automaton_of s) q).edges → m ≡ l
+    → (net_of (automaton_of s)).arcs q ≡ (net_of (automaton_of s)).arcs p
+same_arcs s p q l m v w e = ap (map arc_of) (one_thing _ _ (sym w ∙ ap (slice_get s.lists) e ∙ v))
+  where
+    one_thing : (x y : List Edge) → Some x ≡ Some y → x ≡ y
+    one_thing x y h = cc
 
 targets_plain : (es : List Edge) → map key_of (map arc_of es) ≡ map (λ (e : Edge). e.target) es
 targets_plain [] = refl

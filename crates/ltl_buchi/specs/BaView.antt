@@ -46,6 +46,11 @@ pub record IsBa (B : Automaton) : Type 0 where
 abbrev pub IsPlain : Automaton → Type 0
 IsPlain B = All (λ s. All (λ e. e.marks ≡ []) s.edges) B.states
 
+-- both
+pub record IsPlainBa (B : Automaton) : Type 0 where
+  pub inside : IsBa B
+  pub plain : IsPlain B
+
 -- for each list of edges its places by target are there
 pub record HaveOrders (lists : List (List Edge)) (places : List (List ℕ)) : Type 0 where
   pub long : length places ≡ length lists

@@ -1,13 +1,23 @@
 -- The copies of an automaton's states as things that are listed.
-use Rattle.std.specs.Prelude.{◌==◌, ℕ, [], map}
-use Rattle.ltl_spec.specs.Automata.Automaton.{Automaton, Edge}
+use Rattle.std.specs.Prelude.{◌≡◌, ◌==◌, ℕ, if◌then◌else◌, [], map, slice_get, Some}
+use Rattle.ltl_spec.specs.Automata.Automaton.{Automaton, Edge, state_at}
 use Rattle.ltl_spec.specs.Construction.Levels.{Copy, CopyEdge, copy_edges, next_level}
 use Rattle.ltl_automaton.specs.Net.{Net}
+use Rattle.ltl_automaton.specs.SharedView.{Shared, automaton_of}
 use Rattle.ltl_automaton.specs.declared.arc.Arc.{Arc}
 use Rattle.ltl_buchi.specs.declared.copies.CopyEdge as code
 
 abbrev pub copy_edge_of : code.CopyEdge → CopyEdge
 copy_edge_of e = record { cube = e.cube; copy = e.copy }
+
+-- the level from which the edges of a copy climb: from the last one as from the first
+abbrev pub from_level : ℕ → ℕ → ℕ
+from_level sets level = if level == sets then 0 else level
+
+-- the number of the list of a copy's state, on the level from which its edges climb
+pub record IsListOf (s : Shared) (p l : Copy) : Type 0 where
+  pub list : slice_get s.lists l.state ≡ Some (state_at (automaton_of s) p.state).edges
+  pub level : l.level ≡ from_level s.sets p.level
 
 -- the edge of a copy on this level, with so many acceptance sets
 abbrev pub lifted_edge : ℕ → ℕ → Edge → CopyEdge

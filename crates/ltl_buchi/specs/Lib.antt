@@ -1,3 +1,4 @@
+pub mod Asked
 pub mod BaView
 pub mod Classes
 pub mod CopyCodes
@@ -6,4 +7,3 @@ pub mod FaultOf
 pub mod Named
 pub mod Numbered
 pub mod OptionsView
-pub mod Weighed

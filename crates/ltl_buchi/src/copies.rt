@@ -1,20 +1,23 @@
 //! Levels: from acceptance sets on edges to accepting states. Each state has a copy for each number of sets met in turn.
 
-ghost use Rattle.std.specs.Prelude.{◌≡◌, ◌≤◌, map, ⊤, IfOk, OnOk, IsErrOf};
+ghost use Rattle.std.specs.Prelude.{◌≡◌, ◌≤◌, map, IfOk, IfSome, OnOk, IsErrOf};
 ghost use Rattle.ltl_spec.specs.Collections.Sets.{set_of};
 ghost use Rattle.ltl_spec.specs.Construction.Levels as levels_of;
 ghost use Rattle.ltl_spec.specs.Tools.Limits.{stated_limits};
+ghost use Rattle.ltl_automaton.specs.SharedView.{automaton_of};
 ghost use Rattle.ltl_alt.specs.GbaView as gba;
-ghost use Rattle.ltl_buchi.specs.Copies.{arc_of, copy_edge_of, level_net, lifted_edge};
+ghost use Rattle.ltl_buchi.specs.BaView.{IsPlainBa};
+ghost use Rattle.ltl_buchi.specs.Copies.{IsListOf, arc_of, copy_edge_of, level_net, lifted_edge};
 
 use crate::automaton::Ba;
 use crate::fault::BaFault;
+use indexmap::IndexSet;
 use ltl_alt::{Gba, GbaEdge, MOST_EDGES, MOST_STATES};
-use ltl_automaton::{Arc, Key, Limits, Successors, explore_from};
+use ltl_automaton::{Arc, AutomatonFault, Key, Limits, SharedStates, Successors, explore_from};
 use ltl_sets::{Cube, RowSet};
 use std::alloc::{AllocError, Allocator};
 use std::cmp::Ordering;
-use std::hash::{Hash, Hasher};
+use std::hash::{BuildHasherDefault, FoldHasher, Hash, Hasher};
 use std::marker::Model;
 
 /// A state on a level.
@@ -147,7 +150,7 @@ fn copy_edges<'a, A: Allocator>(
     requires few { sets ≤ RowSet.LIMIT }
     ensures set { IfOk result (λ es. map copy_edge_of es.items ≡ set_of levels_of.copy_edge_cmp (map (lifted_edge sets level) (map gba.edge_of edges.now))) }
 {
-    let mut copied = Vec::new(alloc);
+    let mut copied = Vec::with_capacity(alloc, edges.len())?;
     for edge in edges {
         copied.push(copy_edge(sets, edge, level))?;
     }
@@ -181,19 +184,59 @@ fn arcs_of<'c, B: Allocator>(
     Ok(arcs)
 }
 
-/// The copies of an automaton's states as things that are listed.
-#[derive(Drop)]
-struct Copies<'b, 'a, A: Allocator> {
-    automaton: &'b Gba<'a, A>,
+/// Lists on levels, by number.
+type Lists<'a, A> = IndexSet<Copied, BuildHasherDefault<FoldHasher>, &'a A>;
+
+/// The number of a copy's list of edges in place of its state, and the level from which these climb. Copies that agree on this have the same
+/// edges.
+fn list_of<A: Allocator>(states: &SharedStates<'_, A>, copy: &Copied) -> Option<Copied>
+    ensures { IfSome result (IsListOf states.now copy.now) }
+{
+    if copy.state >= states.len() {
+        return None;
+    }
+    let last = copy.level == states.sets();
+    Some(Copied {
+        state: states.list(copy.state),
+        level: if last { 0 } else { copy.level },
+    })
 }
 
-impl<'b, 'a, A: Allocator> Successors<Copied> for Copies<'b, 'a, A> {
+/// The copies of an automaton's states as things that are listed, and for each list on a level the copy that was first asked for with it.
+#[derive(Drop)]
+struct Copies<'b, 'g, 'a, A: Allocator> {
+    automaton: &'b Gba<'g, A>,
+    states: &'b SharedStates<'g, A>,
+    lists: Lists<'a, A>,
+    firsts: Vec<Copied, &'a A>,
+}
+
+impl<'b, 'g, 'a, A: Allocator> Successors<Copied> for Copies<'b, 'g, 'a, A> {
     ghost net = { λ n. level_net n.automaton.now };
 
-    ghost ready = { λ _. ⊤ };
+    ghost ready = { λ n. automaton_of n.states.now ≡ n.automaton.now };
 
     fn accepting(&self, key: &Copied) -> bool {
         key.level == self.automaton.sets()
+    }
+
+    /// The copy that was first asked for with this list. That it has the list is tested, so nothing has to hold of what is noted.
+    #[tactic(auto, using(crate::proofs::CopyLaws::same_arcs))]
+    fn twin(&mut self, key: &Copied) -> Result<Option<Copied>, AllocError> {
+        let states = self.states;
+        let Some(list) = list_of(states, key) else {
+            return Ok(None);
+        };
+        let (place, _) = self.lists.insert_full(list)?;
+        if place >= self.firsts.len() {
+            self.firsts.push(*key)?;
+            return Ok(None);
+        }
+        let first = self.firsts[place];
+        match list_of(states, &first) {
+            Some(other) if other == list => Ok(Some(first)),
+            _ => Ok(None),
+        }
     }
 
     #[tactic(auto, using(crate::proofs::CopyLaws::no_arcs_past, crate::proofs::CopyLaws::made_arcs))]
@@ -201,22 +244,27 @@ impl<'b, 'a, A: Allocator> Successors<Copied> for Copies<'b, 'a, A> {
         &mut self,
         alloc: &'c B,
         key: &Copied,
-    ) -> Result<Vec<Arc<Copied>, &'c B>, AllocError> {
+        _most: usize,
+    ) -> Result<Vec<Arc<Copied>, &'c B>, AutomatonFault> {
         let automaton = self.automaton;
         automaton.stays_within();
         if key.state < automaton.len() {
             let edges = automaton.edges(key.state);
             let copied = copy_edges(alloc, automaton.sets(), edges, key.level)?;
-            arcs_of(alloc, copied.as_slice())
+            Ok(arcs_of(alloc, copied.as_slice())?)
         } else {
             Ok(Vec::new(alloc))
         }
     }
 }
 
-/// The Büchi automaton of the copies that are reached from the start on level 0; those on the last level are accepting.
-pub fn levels<'a, A: Allocator>(alloc: &'a A, automaton: &Gba<'_, A>) -> Result<Ba<'a, A>, BaFault>
-    ensures copies { IfOk result (λ b. b ≡ levels_of.level_automaton automaton.now) }
+/// The states of the Büchi automaton of the copies that are reached from the start on level 0; those on the last level are accepting.
+pub(crate) fn level_states<'a, A: Allocator>(
+    alloc: &'a A,
+    automaton: &Gba<'_, A>,
+) -> Result<SharedStates<'a, A>, BaFault>
+    ensures copies { IfOk result (λ s. automaton_of s ≡ levels_of.level_automaton automaton.now) }
+    ensures plain { IfOk result (λ s. IsPlainBa (automaton_of s)) }
 
     // The fault comes exactly where a limit is passed. Memory may be refused at any time.
     ensures few { OnOk result (¬ levels_of.HasTooManyCopies automaton.now stated_limits.states stated_limits.edges) }
@@ -228,6 +276,24 @@ pub fn levels<'a, A: Allocator>(alloc: &'a A, automaton: &Gba<'_, A>) -> Result<
         states: MOST_STATES,
         edges: MOST_EDGES,
     };
-    let states = explore_from(alloc, start, 0, &mut Copies { automaton }, true, limits)?;
+    let mut copies = Copies {
+        automaton,
+        states: automaton.states(),
+        lists: IndexSet::new(alloc),
+        firsts: Vec::new(alloc),
+    };
+    let states = explore_from(alloc, start, 0, &mut copies, true, limits)?;
+    Ok(states)
+}
+
+/// The Büchi automaton of the copies that are reached from the start on level 0; those on the last level are accepting.
+pub fn levels<'a, A: Allocator>(alloc: &'a A, automaton: &Gba<'_, A>) -> Result<Ba<'a, A>, BaFault>
+    ensures copies { IfOk result (λ b. b ≡ levels_of.level_automaton automaton.now) }
+
+    // The fault comes exactly where a limit is passed. Memory may be refused at any time.
+    ensures few { OnOk result (¬ levels_of.HasTooManyCopies automaton.now stated_limits.states stated_limits.edges) }
+    ensures many { IsErrOf result BaFault.TooLarge → levels_of.HasTooManyCopies automaton.now stated_limits.states stated_limits.edges }
+{
+    let states = level_states(alloc, automaton)?;
     Ok(Ba::new(alloc, states)?)
 }

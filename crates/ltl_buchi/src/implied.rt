@@ -1,115 +1,156 @@
 //! Edges that others imply.
 
-ghost use Rattle.std.specs.Prelude.{◌≡◌, All, map, IfOk};
-ghost use Rattle.std.specs.List.{list_any};
-ghost use Rattle.std.specs.List.Sorted.{IsSorted};
+ghost use Rattle.std.specs.Prelude.{◌≡◌, map, IfOk, true};
 ghost use Rattle.ltl_spec.specs.Construction.Merging as merging;
-ghost use Rattle.ltl_spec.specs.Construction.ImpliedEdges.{is_above};
 ghost use Rattle.ltl_automaton.specs.EdgeView.{edge_of};
-ghost use Rattle.ltl_buchi.specs.Weighed.{AreByWeight, IsWeighed, weighed_cmp, weighed_edge};
+ghost use Rattle.ltl_buchi.specs.Asked.{AreAsked, AreOfWeight, IsAsked, IsOfWeight};
 
+use least::{Below, Counting, Lookup};
+use ltl_alt::elements::{LITERALS, count, has_literal, tally_literals};
 use ltl_automaton::Edge;
-use ltl_sets::RowSet;
+use ltl_sets::{Cube, RowSet};
+use smallvec::SmallVec;
 use std::alloc::{AllocError, Allocator};
-use std::cmp::Ordering;
 
-/// An edge and how much it asks for: how many literals it has, and how many sets it isn't in. An edge that implies another one asks for less.
+/// An edge, with the ones and the zeros of its target's number, each as the bits of a word. What two edges have in common is such a thing too: it has
+/// those digits that both targets have, and the target of its edge plays no part.
 #[derive(Clone, Copy)]
-struct Weighed {
-    weight: usize,
+struct Asked {
+    ones: usize,
+    zeros: usize,
     edge: Edge,
 }
 
-impl Weighed {
-    fn new(edge: &Edge) -> Weighed
-        ensures weighed { IsWeighed result }
+/// Edges with the digits of their targets. Most lists are short.
+type AskedEdges<'a, A> = SmallVec<Asked, 4, &'a A>;
+
+impl Default for Asked {
+    fn default() -> Asked {
+        Asked {
+            ones: 0,
+            zeros: 0,
+            edge: Edge {
+                cube: Cube::empty(),
+                target: 0,
+                marks: RowSet::empty(),
+            },
+        }
+    }
+}
+
+impl Asked {
+    fn of(edge: &Edge) -> Asked
+        ensures asked { IsAsked result }
         ensures edge { result.edge ≡ edge.now }
     {
-        edge.cube.literals_rise();
-        edge.marks.members_rise();
-        let literals = edge.cube.iter().count();
-        let marks = edge.marks.iter().count();
-        Weighed {
-            weight: literals + (RowSet::LIMIT - marks),
+        Asked {
+            ones: edge.target,
+            zeros: !edge.target,
             edge: *edge,
         }
     }
 
-    /// By the target, and then by the weight.
-    fn cmp_weight(&self, other: &Weighed) -> Ordering
-        ensures { result ≡ weighed_cmp self.now other.now }
-    {
-        match self.edge.target.cmp(&other.edge.target) {
-            Ordering::Equal => self.weight.cmp(&other.weight),
-            unequal => unequal,
+    /// Whether the target has a one at that place.
+    fn has_one(&self, place: usize) -> bool {
+        place < 64 && (self.ones >> (place % 64)) & 1 == 1
+    }
+}
+
+/// An edge is below those that it implies: it has the same target, asks for no more, and is in each set that the other one is in.
+impl Below for Asked {
+    ghost use Rattle.ltl_buchi.specs.Asked.{is_below, below_transitive};
+
+    ghost below = { is_below };
+
+    fn is_below(&self, other: &Asked) -> bool {
+        self.ones | other.ones == other.ones
+            && self.zeros | other.zeros == other.zeros
+            && self.edge.cube.implies_of(&other.edge.cube)
+            && other.edge.marks.is_subset(&self.edge.marks)
+    }
+
+    fn common(&self, other: &Asked) -> Asked {
+        Asked {
+            ones: self.ones & other.ones,
+            zeros: self.zeros & other.zeros,
+            edge: Edge {
+                cube: self.edge.cube.common(&other.edge.cube),
+                target: self.edge.target,
+                marks: self.edge.marks.union(&other.edge.marks),
+            },
         }
     }
-}
 
-/// The edges, weighed.
-fn weigh<'a, A: Allocator>(alloc: &'a A, edges: &[Edge]) -> Result<Vec<Weighed, &'a A>, AllocError>
-    ensures all { IfOk result (λ v. All IsWeighed v.items) }
-    ensures edges { IfOk result (λ v. map weighed_edge v.items ≡ map edge_of edges.now) }
-{
-    let mut weighed = Vec::new(alloc);
-    for edge in edges {
-        weighed.push(Weighed::new(edge))?;
-    }
-    Ok(weighed)
-}
-
-/// The edges by target and by weight.
-fn by_weight<'a, A: Allocator>(
-    alloc: &'a A,
-    edges: &[Edge],
-) -> Result<Vec<Weighed, &'a A>, AllocError>
-    ensures { IfOk result (λ v. AreByWeight (map edge_of edges.now) v.items) }
-{
-    let mut weighed = weigh(alloc, edges)?;
-    weighed.sort_unstable_by(|m, n| m.cmp_weight(n));
-    Ok(weighed)
-}
-
-/// Whether the first edge implies the second one: it has the same target, asks for no more, and is in each set that the second is in.
-#[tactic(auto, using(crate::proofs::MergeLaws::no_target, crate::proofs::MergeLaws::no_cube, crate::proofs::MergeLaws::only_marks))]
-fn implies(f: &Edge, e: &Edge) -> bool
-    ensures { result ≡ merging.implies_edge (edge_of f.now) (edge_of e.now) }
-{
-    if f.target != e.target {
-        return false;
-    }
-    if !f.cube.implies_of(&e.cube) {
-        return false;
-    }
-    e.marks.is_subset(&f.marks)
-}
-
-/// Whether the first edge is another one than the second and implies it.
-#[tactic(auto, using(crate::proofs::MergeLaws::above_equal, crate::proofs::MergeLaws::above_other))]
-fn is_other_implying(f: &Edge, e: &Edge) -> bool
-    ensures { result ≡ is_above (edge_of f.now) (edge_of e.now) }
-{
-    if *f == *e {
-        return false;
-    }
-    implies(f, e)
-}
-
-/// Whether another edge of the list implies this one. Only those with its target that ask for less are looked at.
-fn is_implied(list: &[Weighed], edge: &Weighed) -> bool
-    requires list { All IsWeighed list.now }
-    requires edge { IsWeighed edge.now }
-    requires sorted { IsSorted weighed_cmp list.now }
-    ensures { result ≡ list_any (λ m. is_above (weighed_edge m) (weighed_edge edge.now)) list.now }
-{
-    let start = list.partition_point(|m| m.edge.target < edge.edge.target);
-    let end = list.partition_point(|m| m.cmp_weight(edge).is_lt());
-    for i in start..end {
-        if is_other_implying(&list[i].edge, &edge.edge) {
-            return true;
+    fn has(&self, element: usize) -> bool {
+        if element < LITERALS {
+            has_literal(&self.edge.cube, element)
+        } else {
+            self.has_one(element - LITERALS)
         }
     }
-    false
+
+    fn tally(&self, counts: &mut [u32]) {
+        tally_literals(&self.edge.cube, counts);
+        'places: for place in 0..64usize {
+            if self.has_one(place) {
+                count(counts, LITERALS + place);
+            }
+        }
+    }
+
+    ghost transitive = { below_transitive };
+}
+
+/// Another edge counts.
+struct Differing;
+
+impl Counting<Asked> for Differing {
+    ghost use Rattle.ltl_buchi.specs.Asked.{is_other};
+
+    ghost counts = { λ _ k l. is_other k l };
+
+    #[tactic(auto, using(crate::proofs::AskedLaws::same_test))]
+    fn counts(&self, other: &Asked, item: &Asked) -> bool {
+        !(other.edge == item.edge)
+    }
+}
+
+/// The edges with the digits of their targets.
+fn ask_all<'a, A: Allocator>(alloc: &'a A, edges: &[Edge]) -> Result<AskedEdges<'a, A>, AllocError>
+    ensures { IfOk result (λ v. AreAsked (map edge_of edges.now) v.items) }
+{
+    let mut all: AskedEdges<'a, A> = SmallVec::with_capacity(alloc, edges.len())?;
+    'edges: for edge in edges {
+        all.push(Asked::of(edge))?;
+    }
+    Ok(all)
+}
+
+/// How much an edge asks for: how many literals it has, and how many of as many sets as there may be it isn't in.
+fn weight(edge: &Edge) -> usize
+    ensures { IsOfWeight result (edge_of edge.now) }
+{
+    edge.cube.literals_rise();
+    edge.marks.members_rise();
+    let literals = edge.cube.iter().count();
+    let marks = edge.marks.iter().count();
+    literals + (RowSet::LIMIT - marks)
+}
+
+/// Whether all ask for as much as the first one. An edge that implies another one with its target asks for less.
+fn are_of_one_weight(edges: &[Edge]) -> bool
+    ensures { result ≡ true → AreOfWeight edges.now }
+{
+    let Some(first) = edges.first() else {
+        return true;
+    };
+    let first_weight = weight(first);
+    'edges: for edge in edges {
+        if weight(edge) != first_weight {
+            return false;
+        }
+    }
+    true
 }
 
 /// The edges without those that another one with the same target implies.
@@ -119,12 +160,21 @@ pub(crate) fn unimplied<'a, A: Allocator>(
 ) -> Result<Vec<Edge, &'a A>, AllocError>
     ensures { IfOk result (λ es. map edge_of es.items ≡ merging.unimplied_edges (map edge_of edges.now)) }
 {
-    let list = by_weight(alloc, edges)?;
-    let mut kept = Vec::new(alloc);
+    if are_of_one_weight(edges) {
+        let all = Vec::from_slice(alloc, edges)?;
+        return Ok(all);
+    }
+    let asked = ask_all(alloc, edges)?;
+    let lookup = Lookup::new(alloc, asked.as_slice())?;
+    let mut kept = Vec::with_capacity(alloc, edges.len())?;
     for edge in edges {
-        if !is_implied(list.as_slice(), &Weighed::new(edge)) {
+        if !lookup.has_lesser(&Differing, &Asked::of(edge)) {
             kept.push(*edge)?;
         }
     }
-    Ok(kept)
+    if kept.len() == edges.len() {
+        return Ok(kept);
+    }
+    let exact = Vec::from_slice(alloc, kept.as_slice())?;
+    Ok(exact)
 }

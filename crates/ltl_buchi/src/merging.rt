@@ -6,6 +6,7 @@ ghost use Rattle.ltl_spec.specs.Construction.Merging.{merged_automaton};
 ghost use Rattle.ltl_spec.specs.Construction.ImpliedEdges.{IsSetEdge};
 ghost use Rattle.ltl_automaton.specs.EdgeView.{edge_of};
 ghost use Rattle.ltl_automaton.specs.SharedView.{automaton_of};
+ghost use Rattle.ltl_buchi.specs.BaView.{IsPlainBa};
 ghost use Rattle.ltl_buchi.specs.Classes.{IsWithinStates};
 
 use crate::automaton::Ba;
@@ -80,6 +81,23 @@ pub fn merge<'a, A: Allocator>(
     Ok(Gba::new(states))
 }
 
+/// The states of the automaton with equal ones merged and the edges left out that another one with the same target implies, as the options
+/// ask. Only want of memory is refused.
+pub(crate) fn merged_states<'a, A: Allocator>(
+    alloc: &'a A,
+    states: &SharedStates<'_, A>,
+    options: &Options,
+) -> Result<SharedStates<'a, A>, BaFault>
+    requires plain { IsPlainBa (automaton_of states.now) }
+    ensures merged { IfOk result (λ m. automaton_of m ≡ merged_automaton options.now.keep_implied options.now.keep_equal (automaton_of states.now)) }
+    ensures plain { IfOk result (λ m. IsPlainBa (automaton_of m)) }
+    ensures fault { IfErr result (λ f. f ≡ BaFault.OutOfMemory) }
+{
+    all_are_sets(states);
+    let small = merged(alloc, states, options)?;
+    Ok(small)
+}
+
 /// The automaton with equal states merged and the edges left out that another one with the same target implies, as the options ask.
 /// Only want of memory is refused.
 pub fn merge_ba<'a, A: Allocator>(
@@ -91,7 +109,6 @@ pub fn merge_ba<'a, A: Allocator>(
     ensures fault { IfErr result (λ f. f ≡ BaFault.OutOfMemory) }
 {
     ba.stays_within();
-    all_are_sets(ba.states());
-    let states = merged(alloc, ba.states(), options)?;
+    let states = merged_states(alloc, ba.states(), options)?;
     Ok(Ba::new(alloc, states)?)
 }

@@ -1,11 +1,12 @@
 //! Numbering breadth first.
 
-ghost use Rattle.std.specs.Prelude.{◌≡◌, map, All, ⊤, IfOk, IsErrOf};
+ghost use Rattle.std.specs.Prelude.{◌≡◌, length, map, All, IfOk, IsErrOf};
 ghost use Rattle.ltl_spec.specs.Collections.Sets.{IsRising};
 ghost use Rattle.ltl_spec.specs.Automata.Automaton.{edge_cmp};
 ghost use Rattle.ltl_spec.specs.Construction.Renumbered.{renumbered_automaton};
 ghost use Rattle.ltl_automaton.specs.EdgeView.{edge_of};
 ghost use Rattle.ltl_automaton.specs.SharedView.{automaton_of};
+ghost use Rattle.ltl_buchi.specs.BaView.{IsPlainBa};
 ghost use Rattle.ltl_buchi.specs.Numbered.{IsNumberable, arc_of, net_of};
 
 use crate::automaton::Ba;
@@ -15,10 +16,11 @@ use ltl_alt::{Gba, MOST_EDGES, MOST_STATES};
 use ltl_automaton::{Arc, AutomatonFault, Edge, Limits, SharedStates, Successors, explore_from};
 use std::alloc::{AllocError, Allocator};
 
-/// The states of an automaton as things that are listed.
+/// The states of an automaton as things that are listed, and for each list of edges a state: the first that was asked for with it.
 #[derive(Drop)]
-struct Numbers<'b, 'a, A: Allocator> {
-    states: &'b SharedStates<'a, A>,
+struct Numbers<'b, 's, 'a, A: Allocator> {
+    states: &'b SharedStates<'s, A>,
+    firsts: Vec<usize, &'a A>,
 }
 
 /// The edges by the numbers of their targets.
@@ -39,10 +41,10 @@ fn arcs_of<'c, B: Allocator>(
     Ok(arcs)
 }
 
-impl<'b, 'a, A: Allocator> Successors<usize> for Numbers<'b, 'a, A> {
+impl<'b, 's, 'a, A: Allocator> Successors<usize> for Numbers<'b, 's, 'a, A> {
     ghost net = { λ n. net_of (automaton_of n.states.now) };
 
-    ghost ready = { λ _. ⊤ };
+    ghost ready = { λ n. length n.firsts.items ≡ length n.states.now.lists };
 
     #[tactic(auto, using(crate::proofs::RenumberLaws::accepts_past))]
     fn accepting(&self, key: &usize) -> bool {
@@ -53,14 +55,31 @@ impl<'b, 'a, A: Allocator> Successors<usize> for Numbers<'b, 'a, A> {
         }
     }
 
+    /// The state that was first asked for with this list. That it has the list is tested, since 0 stands where none was asked for.
+    #[tactic(auto, using(crate::proofs::RenumberLaws::same_arcs))]
+    fn twin(&mut self, key: &usize) -> Result<Option<usize>, AllocError> {
+        let states = self.states;
+        if *key >= states.len() {
+            return Ok(None);
+        }
+        let list = states.list(*key);
+        let first = self.firsts[list];
+        if first < states.len() && states.list(first) == list {
+            return Ok(Some(first));
+        }
+        self.firsts[list] = *key;
+        Ok(None)
+    }
+
     #[tactic(auto, using(crate::proofs::RenumberLaws::no_arcs_past))]
     fn arcs<'c, B: Allocator>(
         &mut self,
         alloc: &'c B,
         key: &usize,
-    ) -> Result<Vec<Arc<usize>, &'c B>, AllocError> {
+        _most: usize,
+    ) -> Result<Vec<Arc<usize>, &'c B>, AutomatonFault> {
         if *key < self.states.len() {
-            arcs_of(alloc, self.states.edges(*key))
+            Ok(arcs_of(alloc, self.states.edges(*key))?)
         } else {
             Ok(Vec::new(alloc))
         }
@@ -77,12 +96,28 @@ fn renumbered<'a, A: Allocator>(
     ensures renumbered { IfOk result (λ s. automaton_of s ≡ renumbered_automaton (automaton_of states.now)) }
     ensures fits { ¬ IsErrOf result AutomatonFault.TooLarge }
 {
-    let mut numbers = Numbers { states };
+    let mut firsts = Vec::new(alloc);
+    firsts.resize(states.list_count(), 0)?;
+    let mut numbers = Numbers { states, firsts };
     let limits = Limits {
         states: MOST_STATES,
         edges: MOST_EDGES,
     };
     explore_from(alloc, 0, states.sets(), &mut numbers, true, limits)
+}
+
+/// The states of the same automaton, numbered breadth first.
+pub(crate) fn renumbered_states<'a, A: Allocator>(
+    alloc: &'a A,
+    states: &SharedStates<'_, A>,
+) -> Result<SharedStates<'a, A>, BaFault>
+    requires plain { IsPlainBa (automaton_of states.now) }
+    ensures renumbered { IfOk result (λ s. automaton_of s ≡ renumbered_automaton (automaton_of states.now)) }
+    ensures plain { IfOk result (λ s. IsPlainBa (automaton_of s)) }
+    ensures fits { ¬ IsErrOf result BaFault.TooLarge }
+{
+    let numbered = renumbered(alloc, states)?;
+    Ok(numbered)
 }
 
 /// The same automaton with its states numbered breadth first.
@@ -91,7 +126,7 @@ pub fn renumber<'a, A: Allocator>(alloc: &'a A, automaton: &Ba<'_, A>) -> Result
     ensures fits { ¬ IsErrOf result BaFault.TooLarge }
 {
     automaton.stays_within();
-    let states = renumbered(alloc, automaton.states())?;
+    let states = renumbered_states(alloc, automaton.states())?;
     Ok(Ba::new(alloc, states)?)
 }
 

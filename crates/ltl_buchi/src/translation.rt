@@ -13,11 +13,11 @@ ghost use Rattle.ltl_formula.specs.TableView.{core_of};
 ghost use Rattle.ltl_buchi.specs.Named.{HasNamesOf};
 
 use crate::automaton::Ba;
-use crate::copies::levels;
+use crate::copies::level_states;
 use crate::fault::BaFault;
-use crate::merging::{merge, merge_ba};
+use crate::merging::{merge, merged_states};
 use crate::numbered::Gen;
-use crate::numbering::{renumber, renumber_generalized};
+use crate::numbering::{renumber_generalized, renumbered_states};
 use crate::options::Options;
 use ltl_alt::Gba;
 use ltl_formula::Table;
@@ -48,11 +48,13 @@ pub fn translate<'a, A: Allocator>(
     let generalized = Gba::reach(alloc, table, options.keep_implied)?;
     let small = merge(alloc, &generalized, options)?;
     drop(generalized);
-    let copies = levels(alloc, &small)?;
+    let copies = level_states(alloc, &small)?;
     drop(small);
-    let smaller = merge_ba(alloc, &copies, options)?;
+    let smaller = merged_states(alloc, &copies, options)?;
     drop(copies);
-    renumber(alloc, &smaller)
+    let numbered = renumbered_states(alloc, &smaller)?;
+    drop(smaller);
+    Ok(Ba::new(alloc, numbered)?)
 }
 
 /// The generalized Büchi automaton of a table's formula, merged and numbered: the words that it accepts are those that satisfy the formula,

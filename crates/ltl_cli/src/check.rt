@@ -25,7 +25,7 @@ use crate::status::Status;
 use crate::tool::Tool;
 use ltl_buchi::{Ba, Options};
 use ltl_check::{Outcome, Verdict, check};
-use ltl_formula::{Formula, WriteFault, write_whole};
+use ltl_formula::{Formula, Piece, WriteFault, write_whole};
 use ltl_hoa::{Marked, hoa_read};
 use ltl_word::Lasso;
 use std::alloc::Allocator;
@@ -110,9 +110,11 @@ fn put_word<A: Allocator, W: Write>(word: &Lasso<'_, A>, output: &mut W) -> Resu
     ensures ok { OnOk result (Appends (W.contents output.old) (W.contents output.new) (line (codes "violated") ++ line (lasso_text word.now))) }
     ensures err { OnErr result (AppendsBeginning (W.contents output.old) (W.contents output.new) (line (codes "violated") ++ line (lasso_text word.now))) }
 {
-    write_whole(output, b"violated\n")?;
-    word.text_to(output)?;
-    write_whole(output, b"\n")
+    let mut piece = Piece::new();
+    piece.put(b"violated\n", output)?;
+    word.put(&mut piece, output)?;
+    piece.put(b"\n", output)?;
+    piece.send(output)
 }
 
 /// Writes what was found.

@@ -8,6 +8,7 @@ pub mod ParserLemmas
 pub mod PlacesLemmas
 mod PrintLemmas
 mod ReadLemmas
+pub mod SendLaws
 mod SmallLemmas
 mod StateLemmas
 pub mod StreamLemmas

@@ -1,6 +1,6 @@
 -- Joins of two lists of cubes, parted by whether cubes have some literals.
 use Rattle.std.proofs.Common.{◌≡◌, ◌<◌, ◌⊎◌, Bool, true, false, cond, inl, inr, List, [], ◌∷◌, ◌++◌, length, Some, None, refl, sym, ◌∙◌, ap, subst, arith}
-use Rattle.std.specs.Prelude.{flat_map, filter_map, if◌then◌else◌}
+use Rattle.std.specs.Prelude.{flat_map, filter_map, if◌then◌else◌, IfOk, Result, Ok, Err}
 use Rattle.std.specs.List.{cons_option}
 use Rattle.std.proofs.lemmas.List.Elements.{filter_map-append}
 use Rattle.std.specs.Bool.{beq}
@@ -12,7 +12,7 @@ use Rattle.ltl_spec.proofs.Collections.SetLaws.{append_cases, append_left, appen
 use Rattle.ltl_spec.proofs.Collections.MemberLaws.{Has-flat_map, flat_map_cases, Has-filter_map, filter_map_cases, any_cases, any_true}
 use Rattle.ltl_spec.proofs.Transitions.CubeLaws.{join_cubes_is}
 use Rattle.ltl_hoa.specs.CubesView.{joins, few, joined_cubes, HasFew}
-use Rattle.ltl_hoa.proofs.CubeLists.{set_append, set_behind, set_longer, set_with_member, same_cube_sets}
+use Rattle.ltl_hoa.proofs.CubeLists.{set_again, set_append, set_behind, set_longer, set_with_member, same_cube_sets}
 use Rattle.std.proofs.lemmas.Grind.{flat_map-append}
 use Rattle.std.proofs.lemmas.List.{append-nil, append_assoc}
 use Rattle.std.proofs.lemmas.Bool.{lt-ltb}
@@ -331,6 +331,32 @@ module _ {X : Type 0} (old rest : List X) (last : X) (f : X → List Cube) (p : 
 -- the same of lists that are these
 pub held_by : (start left right xs ys after : List Cube) (b : Bool) → HasFew (start ++ joins xs ys) b after → xs ≡ left → ys ≡ right → HasFew (start ++ joins left right) b after
 held_by start left right xs ys after b h e f = subst (λ l. HasFew (start ++ l) b after) (λ i. joins (e i) (f i)) h
+
+-- what was joined by itself, put behind what was there before
+pub wide_behind : (start left right xs ys held after : List Cube) (b : Bool) → HasFew (held ++ joins xs ys) b after → b ≡ false → held ≡ [] → xs ≡ left → ys ≡ right
+    → stated_limits.label_cubes < length (set_of cube_cmp (start ++ joins left right))
+wide_behind start left right xs ys held after b h f n d e =
+    let whole = joins left right in
+    let m : stated_limits.label_cubes < length (set_of cube_cmp whole) = subst (λ k. HasFew whole k after) f (held_by [] left right xs ys after b (subst (λ l. HasFew (l ++ joins xs ys) b after) n h) d e) in
+    let longer = set_longer whole start in
+    let same = ap length (swapped [] whole start) in
+    omega (arith, m, longer, same)
+
+behind_by : (start made whole after : List Cube) (b : Bool) → set_of cube_cmp made ≡ set_of cube_cmp whole → HasFew (start ++ made) b after → HasFew (start ++ whole) b after
+behind_by start made whole after true e h = h ∙ set_behind start made whole e
+behind_by start made whole after false e h = subst (λ s. stated_limits.label_cubes < length s) (set_behind start made whole e) h
+
+pub few_behind : {E : Type 0} (r : Result Bool E) (start made whole after : List Cube) → set_of cube_cmp made ≡ set_of cube_cmp whole
+    → IfOk r (λ b. HasFew (start ++ made) b after) → IfOk r (λ b. HasFew (start ++ whole) b after)
+few_behind (Ok b) start made whole after e h = behind_by start made whole after b e h
+few_behind (Err x) start made whole after e h = tt
+
+-- what one list of sides joins to, once distinct
+pub joined_once : (left right xs ys held after made : List Cube) (b : Bool) → HasFew (held ++ joins xs ys) b after → b ≡ true → held ≡ [] → xs ≡ left → ys ≡ right
+    → made ≡ set_of cube_cmp after → set_of cube_cmp made ≡ set_of cube_cmp (joins left right)
+joined_once left right xs ys held after made b h f n d e m =
+    ap (set_of cube_cmp) m ∙ set_again after
+    ∙ subst (λ k. HasFew (joins left right) k after) f (held_by [] left right xs ys after b (subst (λ l. HasFew (l ++ joins xs ys) b after) n h) d e)
 
 -- ---- what isn't among others
 

@@ -87,6 +87,19 @@ pub(crate) fn place_of(cubes: &[Cube], cube: &Cube) -> Result<usize, usize>
     Err(low)
 }
 
+/// The same, looking first at the place where the cube is likely to stand.
+pub(crate) fn place_near(cubes: &[Cube], likely: usize, cube: &Cube) -> Result<usize, usize>
+    ensures found { IfOk result (λ i. spec_sets.Has cubes.now cube.now) }
+    ensures within { IfErr result (λ i. i ≤ length cubes.now) }
+{
+    if likely < cubes.len() {
+        if let Ordering::Equal = cubes[likely].cmp_list(cube) {
+            return Ok(likely);
+        }
+    }
+    place_of(cubes, cube)
+}
+
 /// Puts each cube of a short list into the cubes.
 fn insert_each<A: Allocator>(cubes: &mut CubeList<'_, A>, more: &[Cube]) -> Result<(), AllocError>
     ensures { OnOk result (SameCubes cubes.new.items (cubes.old.items ++ more.now)) }

@@ -1,4 +1,4 @@
-//! Joins of two sets of cubes. Large sets are parted by a literal, so that most cubes that contradict each other, or that make what others
+//! Joins of two sets of cubes. Large sets are parted by literals, so that most cubes that contradict each other, or that make what others
 //! make, are never joined.
 
 ghost use Rattle.std.specs.Prelude.{◌≡◌, ◌++◌, ◌+◌, length, flat_map, filter_map, IfOk, OnOk, option_map};
@@ -8,8 +8,8 @@ ghost use Rattle.ltl_spec.specs.Collections.Sets as spec_sets;
 ghost use Rattle.ltl_spec.specs.Transitions.Cubes as spec_cubes;
 ghost use Rattle.ltl_hoa.specs.CubesView.{HasFew, SameCubes, few, joined_cubes, joins};
 
-use crate::cubes::{CubeList, Cubes, MOST_CUBES, few, make_distinct, place_of};
-use crate::parting::parting_literal;
+use crate::cubes::{CubeList, Cubes, MOST_CUBES, few, make_distinct, place_near};
+use crate::parting::parting_literals;
 use ltl_sets::Cube;
 use smallvec::SmallVec;
 use std::alloc::{AllocError, Allocator};
@@ -64,6 +64,40 @@ fn join_each<A: Allocator>(
     Ok(true)
 }
 
+/// Puts the cubes behind the others; false where there are too many.
+fn put_behind<A: Allocator>(joined: &mut CubeList<'_, A>, made: &[Cube]) -> Result<bool, AllocError>
+    ensures { IfOk result (λ is_few. HasFew (joined.old.items ++ made.now) is_few joined.new.items) }
+{
+    joined.extend_from_slice(made)?;
+    if joined.len() > 2 * MOST_CUBES {
+        make_distinct(joined);
+        if joined.len() > MOST_CUBES {
+            return Ok(false);
+        }
+    }
+    Ok(true)
+}
+
+/// Puts one cube of each side joined, in every way, behind the others; false where there are too many. Behind others each comes once, so that these
+/// are seldom sorted.
+fn join_sides<'a, A: Allocator>(
+    alloc: &'a A,
+    joined: &mut CubeList<'_, A>,
+    sides: &Sides<'a, A>,
+) -> Result<bool, AllocError>
+    ensures { IfOk result (λ is_few. HasFew (joined.old.items ++ joins sides.now.left.items sides.now.right.items) is_few joined.new.items) }
+{
+    if joined.is_empty() {
+        return join_each(joined, sides.left.as_slice(), sides.right.as_slice());
+    }
+    let mut made = SmallVec::new(alloc);
+    if !join_each(&mut made, sides.left.as_slice(), sides.right.as_slice())? {
+        return Ok(false);
+    }
+    make_distinct(&mut made);
+    put_behind(joined, made.as_slice())
+}
+
 /// The cubes that have all of these literals, or else those that don't.
 fn having<'a, A: Allocator>(
     alloc: &'a A,
@@ -82,7 +116,7 @@ fn having<'a, A: Allocator>(
     Ok(found)
 }
 
-/// What the cubes join to with these literals and isn't among the others.
+/// What the cubes join to with these literals and isn't among the others. As a rule the others stand in the order in which they are found.
 fn widened<'a, A: Allocator>(
     alloc: &'a A,
     cubes: &[Cube],
@@ -92,10 +126,11 @@ fn widened<'a, A: Allocator>(
     ensures { IfOk result (λ r. SameCubes (others.now ++ r.items) (others.now ++ filter_map (λ c. spec_cubes.join_cubes c literals.now) cubes.now)) }
 {
     let mut made = SmallVec::new(alloc);
+    let mut likely = 0usize;
     'cubes: for cube in cubes {
         if let Some(cube) = cube.join(literals) {
-            match place_of(others, &cube) {
-                Ok(_) => {}
+            match place_near(others, likely, &cube) {
+                Ok(place) => likely = place.saturating_add(1),
                 Err(_) => made.push(cube)?,
             }
         }
@@ -173,13 +208,13 @@ pub(crate) fn join<'a, A: Allocator>(
     waiting.push(Sides { left, right })?;
     let mut partings = MOST_PARTINGS;
     'sides: while let Some(sides) = waiting.pop() {
-        match parting_literal(sides.left.as_slice(), sides.right.as_slice()) {
-            Some(literal) if 0 < partings && waiting.len() < MOST_WAITING => {
-                part(alloc, &sides, &literal, &mut waiting)?;
+        match parting_literals(sides.left.as_slice(), sides.right.as_slice()) {
+            Some(literals) if 0 < partings && waiting.len() < MOST_WAITING => {
+                part(alloc, &sides, &literals, &mut waiting)?;
                 partings -= 1;
             }
             _ => {
-                if !join_each(&mut joined, sides.left.as_slice(), sides.right.as_slice())? {
+                if !join_sides(alloc, &mut joined, &sides)? {
                     return Ok(None);
                 }
             }

@@ -1,4 +1,5 @@
-//! The literal that parts two sets of cubes best, by a few cubes of each. Whichever it is, the joins are the same.
+//! The literals that part two sets of cubes best: one by a few cubes of each, and what all cubes that have it share. Whichever they are, the joins
+//! are the same.
 
 ghost use Rattle.std.specs.Prelude.{◌<◌};
 
@@ -55,6 +56,13 @@ impl Counts {
         }
     }
 
+    /// Whether a cube that was looked at has the proposition.
+    fn names(&self, proposition: usize) -> bool
+        requires { proposition < RowSet.LIMIT }
+    {
+        0 < self.positive[proposition] || 0 < self.negative[proposition]
+    }
+
     fn share(&self, proposition: usize, sign: bool) -> Share
         requires { proposition < RowSet.LIMIT }
     {
@@ -86,15 +94,15 @@ fn pairs_left(left: Share, right: Share) -> u32 {
     with.saturating_add(made).saturating_add(without)
 }
 
-/// The literal by which the two sets are best parted, unless that would help nothing.
-pub(crate) fn parting_literal(left: &[Cube], right: &[Cube]) -> Option<Cube> {
-    if left.len().min(right.len()) <= 1 || left.len().saturating_mul(right.len()) <= FEW_PAIRS {
-        return None;
-    }
+/// The literal by which the two sets are best parted, unless that would help nothing. One of a proposition that the cubes of a side lack never helps.
+fn best_literal(left: &[Cube], right: &[Cube]) -> Option<Cube> {
     let (left, right) = (Counts::of(left), Counts::of(right));
     let mut least = SAMPLE * SAMPLE;
     let mut best = None;
     for proposition in 0..RowSet::LIMIT {
+        if !left.names(proposition) || !right.names(proposition) {
+            continue;
+        }
         for sign in [true, false] {
             let pairs = pairs_left(
                 left.share(proposition, sign),
@@ -107,4 +115,48 @@ pub(crate) fn parting_literal(left: &[Cube], right: &[Cube]) -> Option<Cube> {
         }
     }
     best
+}
+
+/// The literals that both cubes have.
+fn common(cube: &Cube, other: &Cube) -> Cube {
+    if cube.implies_of(other) {
+        return *cube;
+    }
+    let mut common = Cube::empty();
+    for literal in cube.iter() {
+        if literal.proposition < RowSet::LIMIT {
+            let one = Cube::literal(literal.proposition, literal.positive);
+            if one.implies_of(other) {
+                common = common.join(&one).unwrap_or(common);
+            }
+        }
+    }
+    common
+}
+
+/// What all of the cubes with these literals have, if there is such a cube.
+fn shared(cubes: &[Cube], literals: &Cube) -> Option<Cube> {
+    let mut shared = None;
+    for cube in cubes {
+        if literals.implies_of(cube) {
+            shared = match shared {
+                Some(before) => Some(common(&before, cube)),
+                None => Some(*cube),
+            };
+        }
+    }
+    shared
+}
+
+/// The literals by which the two sets are best parted, unless that would help nothing. With a literal go all that the cubes of one side have
+/// beside it: what is joined with one of these has them all, so that many cubes of the other side get equal at once.
+pub(crate) fn parting_literals(left: &[Cube], right: &[Cube]) -> Option<Cube> {
+    if left.len().min(right.len()) <= 1 || left.len().saturating_mul(right.len()) <= FEW_PAIRS {
+        return None;
+    }
+    let best = best_literal(left, right)?;
+    Some(match shared(left, &best) {
+        Some(literals) => literals,
+        None => shared(right, &best).unwrap_or(best),
+    })
 }

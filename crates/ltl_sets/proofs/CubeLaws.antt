@@ -12,9 +12,9 @@ use Rattle.ltl_spec.specs.Transitions.Cubes.{Literal, literal_cmp, opposite, is_
 use Rattle.ltl_spec.proofs.Collections.SetLaws.{filter_cases, Has-filter}
 use Rattle.ltl_spec.proofs.Collections.MemberLaws.{all_Decides, any_cases, any_true}
 use Rattle.ltl_spec.proofs.Collections.Orders.{literal_linear}
-use Rattle.ltl_sets.specs.Words.{IsWords, bit_in, HasNone, IsApart, places, members, literals_from, signed_places, literal_in, literals, letter_of}
+use Rattle.ltl_sets.specs.Words.{IsWords, bit_in, HasNone, IsApart, places, members, literals_from, signed_places, literal_in, literals, letter_of, forbidden_of}
 use Rattle.ltl_sets.specs.CubeEq.{same_cube, cube_Decides}
-use Rattle.ltl_sets.specs.SubsetLaws.{filter_none, union_tests, put_test, subset_tests}
+use Rattle.ltl_sets.specs.SubsetLaws.{filter_none, union_tests, common_tests, put_test, subset_tests}
 use Rattle.ltl_sets.specs.WordLaws.{IsWords-or, IsWords-and, IsWords-xor, IsWords-without, bit_in-or, bit_in-and, bit_in-xor, bit_in-without, bit_in-empty, same_words}
 use Rattle.ltl_sets.specs.PlaceLaws.{literal, signed_rise, Has-signed, signed_below, has_members, has_literals}
 use Rattle.ltl_sets.proofs.RowSetLaws.{told_equal, equal_told, never, false_if}
@@ -68,6 +68,29 @@ module _ (ps ns qs ms : List ℕ) (p1 : IsWords ps) (n1 : IsWords ns) (p2 : IsWo
   literals_union =
       union_tests literal_linear signed_places signed_rise (literal_in ps ns) (literal_in qs ms) (literal_in (zip2 bit_or ps qs) (zip2 bit_or ns ms))
       (λ l h. or_signs l.positive _ _ _ _ _ _ (bit_in-or ps qs p1 p2 l.proposition (signed_below l h)) (bit_in-or ns ms n1 n2 l.proposition (signed_below l h)))
+
+  -- ---- the literals of both
+
+  and_signs : (s a b c d x y : Bool) → x ≡ (a && c) → y ≡ (b && d) → cond s x y ≡ (cond s a b && cond s c d)
+  and_signs true a b c d x y e f = e
+  and_signs false a b c d x y e f = f
+
+  pub literals_common : literals (zip2 bit_and ps qs) (zip2 bit_and ns ms) ≡ filter (λ l. has literal_cmp l (literals qs ms)) (literals ps ns)
+  unfolding literals
+  literals_common =
+      common_tests literal_linear signed_places signed_rise (literal_in ps ns) (literal_in qs ms) (literal_in (zip2 bit_and ps qs) (zip2 bit_and ns ms))
+      (λ l h. and_signs l.positive _ _ _ _ _ _ (bit_in-and ps qs p1 p2 l.proposition (signed_below l h)) (bit_in-and ns ms n1 n2 l.proposition (signed_below l h)))
+
+  both_apart : (a b c d x y : Bool) → x ≡ (a && c) → y ≡ (b && d) → (a && b) ≡ false → (x && y) ≡ false
+  both_apart true b c d x y e f g = ap (λ z. x && z) (f ∙ ap (λ z. z && d) g) ∙ ends x
+    where
+      ends : (z : Bool) → (z && false) ≡ false
+      ends true = refl
+      ends false = refl
+  both_apart false b c d x y e f g = ap (λ z. z && y) e
+
+  pub IsApart-common : IsApart ps ns → IsApart (zip2 bit_and ps qs) (zip2 bit_and ns ms)
+  IsApart-common apart i h = both_apart (bit_in ps i) (bit_in ns i) (bit_in qs i) (bit_in ms i) _ _ (bit_in-and ps qs p1 p2 i h) (bit_in-and ns ms n1 n2 i h) (apart i h)
 
   -- no literal of the first is lacking in the second
   lacking : List ℕ
@@ -219,6 +242,23 @@ letter_from ps ns a (suc n) =
 pub letter_literals : (ps ns : List ℕ) → members ps ≡ letter_of (literals ps ns)
 unfolding members literals places signed_places
 letter_literals ps ns = sym (letter_from ps ns 0 256)
+
+forbidden_step : (b c : Bool) (a : ℕ) (ls : List Literal)
+    → forbidden_of (cond b (literal a true ∷ cond c (literal a false ∷ ls) ls) (cond c (literal a false ∷ ls) ls)) ≡ cond c (a ∷ forbidden_of ls) (forbidden_of ls)
+forbidden_step true true a ls = refl
+forbidden_step true false a ls = refl
+forbidden_step false true a ls = refl
+forbidden_step false false a ls = refl
+
+forbidden_from : (ps ns : List ℕ) (a n : ℕ) → forbidden_of (filter (literal_in ps ns) (literals_from a n)) ≡ filter (bit_in ns) (range_with_len a n)
+forbidden_from ps ns a zero = refl
+forbidden_from ps ns a (suc n) =
+    forbidden_step (bit_in ps a) (bit_in ns a) a (filter (literal_in ps ns) (literals_from (a + 1) n))
+    ∙ ap (λ is. cond (bit_in ns a) (a ∷ is) is) (forbidden_from ps ns (a + 1) n)
+
+pub forbidden_literals : (ps ns : List ℕ) → members ns ≡ forbidden_of (literals ps ns)
+unfolding members literals places signed_places
+forbidden_literals ps ns = sym (forbidden_from ps ns 0 256)
 
 module _ (ps ns ts : List ℕ) (p1 : IsWords ps) (n1 : IsWords ns) (t1 : IsWords ts) where
   pub IsWords-failing : IsWords (zip2 bit_or (zip2 bit_and ps (map (bit_not w64) ts)) (zip2 bit_and ns ts))

@@ -6,7 +6,7 @@ use Rattle.std.specs.Bool.{Decides, beq}
 use Rattle.std.specs.Simd.Lanes.{zip2}
 use Rattle.std.specs.declared.cmp.Ordering.TheVariants.{Less, Equal, Greater}
 use Rattle.std.specs.Ordering.{nat_cmp, ordering_reverse}
-use Rattle.std.specs.List.{filter, range_with_len}
+use Rattle.std.specs.List.{filter, list_any, range_with_len}
 use Rattle.std.specs.Iterator.{YieldsFirst, MakesProgress, item_count}
 use Rattle.std.specs.Iterator.Runs.{YieldsInOrder}
 use Rattle.std.proofs.iter.runs.Sources.{from_front, as_is}
@@ -17,8 +17,8 @@ use Rattle.std.proofs.lemmas.Cmp.{tied_itself}
 use Rattle.ltl_spec.specs.Collections.Sets.{put, union, has, is_subset}
 use Rattle.ltl_spec.proofs.Collections.Orders.{nat_linear, row_set_linear}
 use Rattle.ltl_sets.specs.Words.{IsWords, bit_in, HasNone, Reaches, IsLowest, FindsLowest, LosesBit, places, members}
-use Rattle.ltl_sets.specs.SubsetLaws.{filter_none, union_tests, put_test, subset_tests, first_taken, cmp_goes_on, cmp_ends, either_true, left_or, right_or}
-use Rattle.ltl_sets.specs.WordLaws.{bit_in-or, bit_in-xor, bit_in-without, bit_in-empty, same_words}
+use Rattle.ltl_sets.specs.SubsetLaws.{filter_none, same_filter, union_tests, common_tests, put_test, subset_tests, first_taken, cmp_goes_on, cmp_ends, either_true, left_or, right_or}
+use Rattle.ltl_sets.specs.WordLaws.{bit_in-or, bit_in-and, bit_in-xor, bit_in-without, bit_in-empty, same_words}
 use Rattle.ltl_sets.specs.PlaceLaws.{less, below, places_rise, Has-places, places_below, has_members}
 
 -- ---- numbers and tests
@@ -73,6 +73,61 @@ pub members_union : (ws us : List ℕ) → IsWords ws → IsWords us → members
 unfolding members
 members_union ws us one two =
     union_tests nat_linear places places_rise (bit_in ws) (bit_in us) (bit_in (zip2 bit_or ws us)) (λ z h. bit_in-or ws us one two z (places_below z h))
+
+-- the members of a set that pass a test
+tested : (ws us : List ℕ) (p : ℕ → Bool) → ((z : ℕ) → z < 256 → bit_in us z ≡ (bit_in ws z && p z)) → members us ≡ filter p (members ws)
+unfolding members
+tested ws us p f =
+    same_filter (bit_in us) (λ z. bit_in ws z && p z) places (λ z h. f z (places_below z h))
+    ∙ filter_filter (bit_in ws) p places
+  where
+    filter_filter : (p q : ℕ → Bool) (xs : List ℕ) → filter (λ z. p z && q z) xs ≡ filter q (filter p xs)
+    filter_filter p q [] = refl
+    filter_filter p q (x ∷ xs) = at (p x) (q x) refl (filter_filter p q xs)
+      where
+        at : (a b : Bool) → q x ≡ b → filter (λ z. p z && q z) xs ≡ filter q (filter p xs)
+            → cond (a && b) (x ∷ filter (λ z. p z && q z) xs) (filter (λ z. p z && q z) xs) ≡ filter q (cond a (x ∷ filter p xs) (filter p xs))
+        at true b e d = ap (cond b (x ∷ filter (λ z. p z && q z) xs)) d ∙ ap (λ ys. cond b (x ∷ ys) (filter q (filter p xs))) d ∙ ap (λ c. cond c (x ∷ filter q (filter p xs)) (filter q (filter p xs))) (sym e)
+        at false b e d = d
+
+pub members_common : (ws us : List ℕ) → IsWords ws → IsWords us → members (zip2 bit_and ws us) ≡ filter (λ i. has nat_cmp i (members us)) (members ws)
+unfolding members
+members_common ws us one two =
+    common_tests nat_linear places places_rise (bit_in ws) (bit_in us) (bit_in (zip2 bit_and ws us)) (λ z h. bit_in-and ws us one two z (places_below z h))
+
+pub members_without : (ws us : List ℕ) → IsWords ws → IsWords us → members (zip2 bit_and ws (map (bit_not w64) us)) ≡ filter (λ i. not (has nat_cmp i (members us))) (members ws)
+members_without ws us one two =
+    tested ws (zip2 bit_and ws (map (bit_not w64) us)) (λ i. not (has nat_cmp i (members us)))
+    (λ z l. bit_in-without ws us one two z l ∙ ap (λ b. bit_in ws z && not b) (sym (has_members us z l)))
+
+-- none of a list passes where the list of those that do is empty
+any_filter : (p : ℕ → Bool) (xs : List ℕ) → Decides (list_any p xs) (filter p xs ≡ [] → ⊥)
+any_filter p [] = ((λ e. never (sym e)), (λ f. absurd (f refl)))
+any_filter p (x ∷ xs) = at (p x) (any_filter p xs)
+  where
+    some : (ys : List ℕ) → x ∷ ys ≡ [] → ⊥
+    some ys e = cc
+
+    at : (b : Bool) → Decides (list_any p xs) (filter p xs ≡ [] → ⊥) → Decides (b || list_any p xs) (cond b (x ∷ filter p xs) (filter p xs) ≡ [] → ⊥)
+    at true d = ((λ e. some (filter p xs)), (λ f. refl))
+    at false d = d
+
+pub meets_Decides : (ws us : List ℕ) → IsWords ws → IsWords us → (r : Bool) → Decides r (HasNone (zip2 bit_and ws us)) → not r ≡ list_any (λ i. has nat_cmp i (members us)) (members ws)
+meets_Decides ws us one two r d =
+    same_from_decides (not r) (list_any p (members ws)) (at r d) (any_filter p (members ws))
+  where
+    p : ℕ → Bool
+    p i = has nat_cmp i (members us)
+
+    same : members (zip2 bit_and ws us) ≡ filter p (members ws)
+    same = members_common ws us one two
+
+    bits : filter p (members ws) ≡ [] → HasNone (zip2 bit_and ws us)
+    bits e i l = sym (has_members (zip2 bit_and ws us) i l) ∙ ap (has nat_cmp i) (same ∙ e)
+
+    at : (b : Bool) → Decides b (HasNone (zip2 bit_and ws us)) → Decides (not b) (filter p (members ws) ≡ [] → ⊥)
+    at true d = ((λ e. never (sym e)), (λ f. absurd (f (sym same ∙ members_none (zip2 bit_and ws us) (d.0 refl)))))
+    at false d = ((λ e n. never (sym (d.1 (bits n)))), (λ f. refl))
 
 lacks_none : (a b : Bool) → (a && not b) ≡ false → a ≡ true → b ≡ true
 lacks_none true true e f = refl

@@ -1,5 +1,5 @@
 -- The sets of those members of a fixed set that pass a test: what the operations on sets do to the tests.
-use Rattle.std.proofs.Common.{◌≡◌, Bool, true, false, cond, ◌||◌, ◌⊎◌, inl, inr, List, [], ◌∷◌, refl, sym, ◌∙◌, ap, subst}
+use Rattle.std.proofs.Common.{◌≡◌, Bool, true, false, cond, ◌||◌, ◌&&◌, ◌⊎◌, inl, inr, List, [], ◌∷◌, refl, sym, ◌∙◌, ap, subst}
 use Rattle.std.specs.declared.cmp.Ordering.{Ordering}
 use Rattle.std.specs.declared.cmp.Ordering.TheVariants.{Less, Equal, Greater}
 use Rattle.std.specs.Bool.{Decides}
@@ -15,6 +15,15 @@ use Rattle.ltl_spec.proofs.Collections.SetLaws.{all_at, put_cases, Has-put, unio
 pub same_filter : {K : Type 0} (p q : K → Bool) (us : List K) → ((z : K) → Has us z → p z ≡ q z) → filter p us ≡ filter q us
 same_filter p q [] f = refl
 same_filter p q (u ∷ us) f = λ i. cond (f u (inl refl) i) (u ∷ same_filter p q us (λ z h. f z (inr h)) i) (same_filter p q us (λ z h. f z (inr h)) i)
+
+-- a test of those that pass is a test of all
+filter_twice : {K : Type 0} (p q : K → Bool) (us : List K) → filter (λ z. p z && q z) us ≡ filter q (filter p us)
+filter_twice p q [] = refl
+filter_twice p q (u ∷ us) = ap (λ ws. cond (p u && q u) (u ∷ ws) ws) (filter_twice p q us) ∙ by (p u)
+  where
+    by : (b : Bool) → cond (b && q u) (u ∷ filter q (filter p us)) (filter q (filter p us)) ≡ filter q (cond b (u ∷ filter p us) (filter p us))
+    by true = refl
+    by false = refl
 
 pub filter_none : {K : Type 0} (p : K → Bool) (us : List K) → ((z : K) → Has us z → p z ≡ false) → filter p us ≡ []
 filter_none p [] f = refl
@@ -74,6 +83,11 @@ module _ {K : Type 0} {cmp : K → K → Ordering} (o : IsLinearOrder cmp) (us :
   has_test x p here =
       same_from_decides (has cmp x (filter p us)) (p x) (has_Decides o x (filter p us))
       (Decides-like (p x) (λ e. Has-filter p us x here e) (λ h. (filter_cases p us x h).1) (itself (p x)))
+
+  pub common_tests : (p q r : K → Bool) → ((z : K) → Has us z → r z ≡ (p z && q z)) → filter r us ≡ filter (λ z. has cmp z (filter q us)) (filter p us)
+  common_tests p q r f =
+      same_filter r (λ z. p z && has cmp z (filter q us)) us (λ z m. f z m ∙ ap (λ b. p z && b) (sym (has_test z q m)))
+      ∙ filter_twice p (λ z. has cmp z (filter q us)) us
 
   pub subset_tests : (p q : K → Bool) → Decides (is_subset cmp (filter p us) (filter q us)) ((z : K) → Has us z → p z ≡ true → q z ≡ true)
   subset_tests p q =

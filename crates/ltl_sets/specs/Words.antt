@@ -100,6 +100,10 @@ pub record IsCubeWords (positive negative : List ℕ) : Type 0 where
 abbrev pub letter_of : Cube → List ℕ
 letter_of c = map (λ l. l.proposition) (filter (λ l. l.positive) c)
 
+-- the propositions of the negative ones
+abbrev pub forbidden_of : Cube → List ℕ
+forbidden_of c = map (λ l. l.proposition) (filter (λ l. not l.positive) c)
+
 -- what hashing four words feeds a hasher
 abbrev pub hash_of : List ℕ → List (List ℕ)
 hash_of words = le_bytes 8 (slice_index words 0) ∷ le_bytes 8 (slice_index words 1) ∷ le_bytes 8 (slice_index words 2) ∷ le_bytes 8 (slice_index words 3) ∷ []

@@ -1,7 +1,7 @@
 //! Sets of literals without contradiction.
 
 ghost use Rattle.std.specs.Prelude.{◌≡◌, ◌<◌, ◌≤◌, false, [], ◌∷◌, length};
-ghost use Rattle.std.specs.List.{AllByRecursion};
+ghost use Rattle.std.specs.List.{AllByRecursion, filter};
 ghost use Rattle.std.specs.Ordering.{nat_cmp};
 ghost use Rattle.std.specs.Iterator.{YieldsFirst, item_count};
 ghost use Rattle.std.specs.Iterator.Runs.{YieldsInOrder};
@@ -9,7 +9,7 @@ ghost use Rattle.ltl_sets.specs.declared.literal.Literal as made;
 ghost use Rattle.ltl_spec.specs.Collections.Sets as sets;
 ghost use Rattle.ltl_spec.specs.Transitions.Cubes as cubes;
 ghost use Rattle.ltl_sets.specs.Literals.{cube_of};
-ghost use Rattle.ltl_sets.specs.Words.{letter_of};
+ghost use Rattle.ltl_sets.specs.Words.{letter_of, forbidden_of};
 
 use crate::lanes;
 use crate::literal::Literal;
@@ -98,6 +98,16 @@ impl Cube {
         }
     }
 
+    /// The literals that both have.
+    pub fn common(&self, other: &Cube) -> Cube
+        ensures { result ≡ filter (λ l. sets.has cubes.literal_cmp l other.now) self.now }
+    {
+        Cube {
+            positive: self.positive & other.positive,
+            negative: self.negative & other.negative,
+        }
+    }
+
     /// Whether the literals are among those of the other cube, so that the other one implies this.
     pub fn implies_of(&self, other: &Cube) -> bool
         ensures { result ≡ sets.is_subset cubes.literal_cmp self.now other.now }
@@ -120,6 +130,15 @@ impl Cube {
     {
         RowSet {
             lanes: self.positive,
+        }
+    }
+
+    /// The propositions that have to be false.
+    pub fn forbidden(&self) -> RowSet
+        ensures { result ≡ forbidden_of self.now }
+    {
+        RowSet {
+            lanes: self.negative,
         }
     }
 

@@ -1,7 +1,7 @@
 //! Sets of numbers below `RowSet::LIMIT`.
 
-ghost use Rattle.std.specs.Prelude.{◌≡◌, ℕ, ◌<◌, ◌≤◌, List, [], ◌∷◌, length};
-ghost use Rattle.std.specs.List.{AllByRecursion};
+ghost use Rattle.std.specs.Prelude.{◌≡◌, ℕ, ◌<◌, ◌≤◌, List, [], ◌∷◌, length, not};
+ghost use Rattle.std.specs.List.{AllByRecursion, filter, list_any};
 ghost use Rattle.std.specs.Ordering.{nat_cmp};
 ghost use Rattle.std.specs.Cmp.Lexicographic.{slice_cmp};
 ghost use Rattle.std.specs.Iterator.{YieldsFirst, item_count};
@@ -84,6 +84,31 @@ impl RowSet {
         RowSet {
             lanes: self.lanes | other.lanes,
         }
+    }
+
+    /// The members of both.
+    pub fn common(&self, other: &RowSet) -> RowSet
+        ensures { result ≡ filter (λ i. sets.has nat_cmp i other.now) self.now }
+    {
+        RowSet {
+            lanes: self.lanes & other.lanes,
+        }
+    }
+
+    /// The members that aren't in the other set.
+    pub fn without(&self, other: &RowSet) -> RowSet
+        ensures { result ≡ filter (λ i. not (sets.has nat_cmp i other.now)) self.now }
+    {
+        RowSet {
+            lanes: self.lanes & !other.lanes,
+        }
+    }
+
+    /// Whether a member is in both.
+    pub fn meets(&self, other: &RowSet) -> bool
+        ensures { result ≡ list_any (λ i. sets.has nat_cmp i other.now) self.now }
+    {
+        !lanes::is_zero(self.lanes & other.lanes)
     }
 
     pub fn is_subset(&self, other: &RowSet) -> bool

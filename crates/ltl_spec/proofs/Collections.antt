@@ -6,3 +6,5 @@ pub mod MemberLaws
 pub mod Orders
 pub mod SortedSets
 pub mod SumLaws
+pub mod ProductLists
+pub mod SortedOnce

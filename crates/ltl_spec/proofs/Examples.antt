@@ -3,6 +3,7 @@ pub mod Claims
 pub mod Texts
 pub mod ReaderTexts
 pub mod PruningExamples
+pub mod FactorExamples
 pub mod CheckTexts
 pub mod CheckExamples
 pub mod InputTexts

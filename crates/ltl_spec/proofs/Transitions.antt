@@ -9,3 +9,17 @@ pub mod LeastPairs
 pub mod SafeLaws
 pub mod SafeTests
 pub mod PruningLaws
+pub mod SameJoins
+pub mod ApartPairs
+pub mod ApartMarks
+pub mod ProductTransitions
+pub mod PartJoins
+pub mod FactorLaws
+pub mod RowSetFactors
+pub mod JoinedLists
+pub mod RowPartLaws
+pub mod PartSets
+pub mod ApartTests
+pub mod ApartExact
+pub mod LinkLaws
+pub mod FactoredTransitions

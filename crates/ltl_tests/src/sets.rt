@@ -45,6 +45,13 @@ fn each_word_of_a_set(rt: HostRuntime) -> Result<(), AllocError> {
             let two = one.union(&RowSet::single(j));
             assert!(rt; one.is_subset(&two) && RowSet::empty().is_subset(&one));
             assert_eq!(rt; two.is_subset(&one), i == j);
+            assert!(rt; one.common(&two) == one && two.common(&one) == one);
+            assert_eq!(rt; one.common(&RowSet::single(j)) == one, i == j);
+            assert_eq!(rt; one.common(&RowSet::single(j)) == RowSet::empty(), i != j);
+            assert_eq!(rt; one.meets(&RowSet::single(j)), i == j);
+            assert!(rt; two.meets(&one) && !two.meets(&RowSet::empty()));
+            assert_eq!(rt; one.without(&RowSet::single(j)) == one, i != j);
+            assert_eq!(rt; two.without(&one) == RowSet::empty(), i == j);
             assert_eq!(rt; one.cmp_list(&RowSet::single(j)), i.cmp(&j));
             let members: Vec<usize> = two.iter().collect(rt.alloc())?;
             let wanted = if i == j {
@@ -87,6 +94,23 @@ fn each_word_of_a_cube(rt: HostRuntime) -> Result<(), AllocError> {
                 ]?
         );
     }
+    Ok(())
+}
+
+#[test]
+fn what_two_cubes_share(rt: HostRuntime) -> Result<(), AllocError> {
+    let one = cube(&[(0, true), (63, false), (64, true), (255, false)]);
+    let two = cube(&[(0, false), (63, false), (64, true), (128, true)]);
+    let both = cube(&[(63, false), (64, true)]);
+    let (Some(one), Some(two), Some(both)) = (one, two, both) else {
+        assert!(rt; false);
+        return Ok(());
+    };
+    assert!(rt; one.common(&two) == both && two.common(&one) == both);
+    assert!(rt; one.common(&one) == one);
+    assert!(rt; one.common(&Cube::empty()) == Cube::empty());
+    assert!(rt; both.implies_of(&one) && both.implies_of(&two));
+    assert!(rt; both.letter() == RowSet::single(64) && both.forbidden() == RowSet::single(63));
     Ok(())
 }
 

@@ -4,5 +4,4 @@ pub mod HoaLaws
 pub mod LabelLaws
 pub mod NameLaws
 pub mod OptionLaws
-pub mod SendLaws
 pub mod TextLaws

@@ -2,7 +2,6 @@ pub mod Blocks
 pub mod HoaPieces
 pub mod Names
 pub mod Options
-pub mod Sending
 pub use Rattle.ltl_hoa.specs.MarkedView
 pub use Rattle.ltl_hoa.specs.Printed
 pub use Rattle.ltl_hoa.specs.Reading

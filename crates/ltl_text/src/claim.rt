@@ -7,13 +7,12 @@ ghost use Rattle.ltl_spec.specs.Checking.Bounds.{HasNamesBelow};
 ghost use Rattle.ltl_formula.specs.FormulaView.{reading_of};
 ghost use Rattle.ltl_formula.specs.Streams.{AppendsBeginning};
 ghost use Rattle.ltl_text.specs.Blocks.{blocks_text, others_text};
-ghost use Rattle.ltl_text.specs.Sending.{Puts};
+ghost use Rattle.ltl_formula.specs.Sending.{Puts};
 
 use crate::label::{put_label, skip_state};
 use crate::options::put_options;
-use crate::piece::Piece;
 use ltl_buchi::Ba;
-use ltl_formula::{Formula, WriteFault, text_to, write_whole};
+use ltl_formula::{Formula, Piece, WriteFault, text_to, write_whole};
 use std::alloc::Allocator;
 use std::io::Write;
 

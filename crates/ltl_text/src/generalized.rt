@@ -8,13 +8,12 @@ ghost use Rattle.ltl_formula.specs.FormulaView.{reading_of};
 ghost use Rattle.ltl_formula.specs.Streams.{AppendsBeginning};
 ghost use Rattle.ltl_alt.specs.GbaView.{edge_of};
 ghost use Rattle.ltl_text.specs.HoaPieces.{condition_text, marked_states_text, set_text};
-ghost use Rattle.ltl_text.specs.Sending.{Puts};
+ghost use Rattle.ltl_formula.specs.Sending.{Puts};
 
 use crate::hoa::{put_counts, put_number, put_state_number, put_step, write_title};
-use crate::piece::Piece;
 use ltl_alt::GbaEdge;
 use ltl_buchi::Gen;
-use ltl_formula::{Formula, WriteFault};
+use ltl_formula::{Formula, Piece, WriteFault};
 use ltl_sets::RowSet;
 use std::alloc::Allocator;
 use std::io::Write;

@@ -4,10 +4,9 @@ ghost use Rattle.std.specs.Prelude.{◌<◌, length};
 ghost use Rattle.ltl_spec.specs.Automata.ClaimText.{cube_text, literal_text};
 ghost use Rattle.ltl_sets.specs.Literals.{literal_of};
 ghost use Rattle.ltl_text.specs.Names.{HasNames};
-ghost use Rattle.ltl_text.specs.Sending.{Puts};
+ghost use Rattle.ltl_formula.specs.Sending.{Puts};
 
-use crate::piece::Piece;
-use ltl_formula::{Formula, WriteFault};
+use ltl_formula::{Formula, Piece, WriteFault};
 use ltl_sets::{Cube, Literal};
 use std::alloc::Allocator;
 use std::io::Write;

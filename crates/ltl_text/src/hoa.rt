@@ -10,12 +10,11 @@ ghost use Rattle.ltl_formula.specs.FormulaView.{reading_of};
 ghost use Rattle.ltl_formula.specs.Streams.{AppendsBeginning};
 ghost use Rattle.ltl_buchi.specs.BaView.{edge_of};
 ghost use Rattle.ltl_text.specs.HoaPieces.{acceptance_text, counts_text, quoted_names, state_number, states_text, step_text, title_text};
-ghost use Rattle.ltl_text.specs.Sending.{Puts};
+ghost use Rattle.ltl_formula.specs.Sending.{Puts};
 
 use crate::digits::Digits;
-use crate::piece::Piece;
 use ltl_buchi::{Ba, Edge};
-use ltl_formula::{Formula, WriteFault, text_to, write_whole};
+use ltl_formula::{Formula, Piece, WriteFault, text_to, write_whole};
 use ltl_sets::{Cube, Literal};
 use std::alloc::Allocator;
 use std::io::Write;

@@ -7,12 +7,11 @@ ghost use Rattle.ltl_spec.specs.Automata.ClaimText as claim;
 ghost use Rattle.ltl_spec.specs.Construction.Merging.{same_edge};
 ghost use Rattle.ltl_buchi.specs.BaView.{edge_of};
 ghost use Rattle.ltl_text.specs.Options.{is_empty};
-ghost use Rattle.ltl_text.specs.Sending.{Puts};
+ghost use Rattle.ltl_formula.specs.Sending.{Puts};
 
 use crate::digits::Digits;
-use crate::piece::Piece;
 use ltl_buchi::{Ba, Edge};
-use ltl_formula::WriteFault;
+use ltl_formula::{Piece, WriteFault};
 use ltl_sets::Cube;
 use std::alloc::Allocator;
 use std::io::Write;

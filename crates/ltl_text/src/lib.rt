@@ -21,7 +21,6 @@ mod guard;
 mod hoa;
 mod label;
 mod options;
-mod piece;
 
 pub use claim::never_to;
 pub use digits::Digits;

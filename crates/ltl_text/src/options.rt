@@ -8,13 +8,12 @@ ghost use Rattle.ltl_spec.specs.Checking.Bounds.{HasNamesBelow};
 ghost use Rattle.ltl_buchi.specs.BaView.{edge_of, target_at};
 ghost use Rattle.ltl_text.specs.Names.{AllHaveNames};
 ghost use Rattle.ltl_text.specs.Options.{guards_text, options_text};
-ghost use Rattle.ltl_text.specs.Sending.{Puts};
+ghost use Rattle.ltl_formula.specs.Sending.{Puts};
 
 use crate::guard::put_guard;
 use crate::label::put_label;
-use crate::piece::Piece;
 use ltl_buchi::{Ba, Edge};
-use ltl_formula::{Formula, WriteFault};
+use ltl_formula::{Formula, Piece, WriteFault};
 use std::alloc::Allocator;
 use std::io::Write;
 

@@ -1,10 +1,8 @@
 -- Texts that go out piece by piece.
-use Rattle.std.proofs.Common.{◌≡◌, ◌∙◌, ap, ap₂, sym, refl, subst, ℕ, zero, suc, ◌+◌, ◌<◌, ◌≤◌, arith, List, [], ◌∷◌, ◌++◌, length, map, take, drop, append_assoc, Option, Some, None}
-use Rattle.std.specs.Prelude.{Result, Ok, Err, OnOk, OnErr, slice_index_or, codes, flat_map}
-use Rattle.std.specs.Io.KnownBytes.{Appends}
+use Rattle.std.proofs.Common.{◌≡◌, ◌∙◌, ap, ap₂, sym, refl, subst, ℕ, zero, suc, ◌+◌, ◌<◌, ◌≤◌, arith, List, [], ◌∷◌, ◌++◌, length, map, take, drop, append_assoc, Option}
+use Rattle.std.specs.Prelude.{slice_index_or, codes, flat_map}
 use Rattle.std.proofs.lemmas.List.{append-nil}
-use Rattle.ltl_formula.specs.Streams.{AppendsBeginning}
-use Rattle.ltl_formula.proofs.StreamLemmas.{on_err, appends_trans, beginning_of_first, beginning_after}
+use Rattle.ltl_formula.proofs.SendLaws.{Leaves, leaves_all}
 use Rattle.ltl_spec.specs.Collections.Lists.{joined_by}
 use Rattle.ltl_spec.specs.Words.LassoText.{letter_text, lasso_text}
 use Rattle.ltl_word.specs.LassoView.{letter_of, lasso_of}
@@ -12,73 +10,6 @@ use Rattle.ltl_spec.specs.Semantics.Word.{Name, Lasso}
 use Rattle.std.specs.List.{AllByRecursion}
 use Rattle.ltl_spec.proofs.Collections.SetLaws.{all_at}
 use Rattle.ltl_spec.proofs.Collections.ListLaws.{Has-at}
-
--- two pieces
-
-module _ {T E : Type 0} (r : Result T E) (o m n : Option (List ℕ)) (a b : List ℕ) where
-  pub first_stops : AppendsBeginning o n a → OnErr r (AppendsBeginning o n (a ++ b))
-  first_stops h = on_err r (beginning_of_first o n a b h)
-
-  pub second_stops : Appends o m a → AppendsBeginning m n b → OnErr r (AppendsBeginning o n (a ++ b))
-  second_stops h k = on_err r (beginning_after o m n a b h k)
-
-  pub both_sent : Appends o m a → OnOk r (Appends m n b) → OnOk r (Appends o n (a ++ b))
-  both_sent = at r
-    where
-      at : (s : Result T E) → Appends o m a → OnOk s (Appends m n b) → OnOk s (Appends o n (a ++ b))
-      at (Ok x) h k = appends_trans o m n a b h k
-      at (Err x) h k = tt
-
-  pub both_stop : Appends o m a → OnErr r (AppendsBeginning m n b) → OnErr r (AppendsBeginning o n (a ++ b))
-  both_stop = at r
-    where
-      at : (s : Result T E) → Appends o m a → OnErr s (AppendsBeginning m n b) → OnErr s (AppendsBeginning o n (a ++ b))
-      at (Ok x) h k = tt
-      at (Err x) h k = beginning_after o m n a b h k
-
--- what is left of the whole
-
-pub record Leaves (old new : Option (List ℕ)) (rest whole : List ℕ) : Type 0 where
-  pub done : List ℕ
-  pub appended : Appends old new done
-  pub same : done ++ rest ≡ whole
-
-nothing : (o : Option (List ℕ)) → Appends o o []
-nothing None = tt
-nothing (Some x) = sym (append-nil x)
-
-pub leaves_all : (o : Option (List ℕ)) (whole : List ℕ) → Leaves o o whole whole
-leaves_all o whole = record { done = []; appended = nothing o; same = refl }
-
-module _ {o m : Option (List ℕ)} {left whole : List ℕ} (h : Leaves o m left whole) where
-  pub leaves_step : (n : Option (List ℕ)) (piece rest : List ℕ) → left ≡ piece ++ rest → Appends m n piece → Leaves o n rest whole
-  leaves_step n piece rest e a = record {
-    done = h.done ++ piece;
-    appended = appends_trans o m n h.done piece h.appended a;
-    same = append_assoc h.done piece rest ∙ ap (λ t. h.done ++ t) (sym e) ∙ h.same;
-  }
-
-  pub leaves_stops : {T E : Type 0} (r : Result T E) (n : Option (List ℕ)) (piece rest : List ℕ) → left ≡ piece ++ rest → AppendsBeginning m n piece → OnErr r (AppendsBeginning o n whole)
-  leaves_stops r n piece rest e b =
-      on_err r (subst (AppendsBeginning o n) (append_assoc h.done piece rest ∙ ap (λ t. h.done ++ t) (sym e) ∙ h.same) (beginning_of_first o n (h.done ++ piece) rest (beginning_after o m n h.done piece h.appended b)))
-
-  pub leaves_done : left ≡ [] → Appends o m whole
-  leaves_done e = subst (Appends o m) (sym (append-nil h.done) ∙ ap (λ t. h.done ++ t) (sym e) ∙ h.same) h.appended
-
-  -- the last piece
-  pub leaves_ok : {T E : Type 0} (r : Result T E) (n : Option (List ℕ)) → OnOk r (Appends m n left) → OnOk r (Appends o n whole)
-  leaves_ok {T = T} {E = E} r n = at r
-    where
-      at : (s : Result T E) → OnOk s (Appends m n left) → OnOk s (Appends o n whole)
-      at (Ok x) a = subst (Appends o n) h.same (appends_trans o m n h.done left h.appended a)
-      at (Err x) a = tt
-
-  pub leaves_err : {T E : Type 0} (r : Result T E) (n : Option (List ℕ)) → OnErr r (AppendsBeginning m n left) → OnErr r (AppendsBeginning o n whole)
-  leaves_err {T = T} {E = E} r n = at r
-    where
-      at : (s : Result T E) → OnErr s (AppendsBeginning m n left) → OnErr s (AppendsBeginning o n whole)
-      at (Ok x) a = tt
-      at (Err x) a = subst (AppendsBeginning o n) h.same (beginning_after o m n h.done left h.appended a)
 
 -- the texts
 
@@ -132,8 +63,8 @@ first_name names places p ps name e f =
 pub row_inside : (P : List ℕ → Type 0) (rows : List (List ℕ)) (row : List ℕ) (i : ℕ) → AllByRecursion P rows → i < length rows → row ≡ slice_index_or rows i row → P row
 row_inside P rows row i h l e = subst P (sym e) (all_at P rows (slice_index_or rows i row) h (Has-at rows i row l))
 
-pub flat_starts : (o : Option (List ℕ)) (f : List Name → List ℕ) (g : List ℕ → List Name) (rows : List (List ℕ)) → Leaves o o (flat_map (λ r. f (g r)) (drop 0 rows)) (flat_map f (map g rows))
-flat_starts o f g rows = subst (λ t. Leaves o o t (flat_map f (map g rows))) (flat_mapped f g rows ∙ flat_begun (λ r. f (g r)) rows) (leaves_all o (flat_map f (map g rows)))
+pub flat_starts : (o : Option (List ℕ)) (h : List ℕ) (f : List Name → List ℕ) (g : List ℕ → List Name) (rows : List (List ℕ)) → Leaves o h o h (flat_map (λ r. f (g r)) (drop 0 rows)) (flat_map f (map g rows))
+flat_starts o h f g rows = subst (λ t. Leaves o h o h t (flat_map f (map g rows))) (flat_mapped f g rows ∙ flat_begun (λ r. f (g r)) rows) (leaves_all o h (flat_map f (map g rows)))
 
 pub two_pieces : (f : List ℕ → List ℕ) (rows : List (List ℕ)) (row : List ℕ) (i : ℕ) (a b : List ℕ) → f row ≡ a ++ b → i < length rows → row ≡ slice_index_or rows i row → flat_map f (drop i rows) ≡ a ++ (b ++ flat_map f (drop (i + 1) rows))
 two_pieces f rows row i a b q l e = flat_drop f rows i row row l (sym e) ∙ ap (λ t. t ++ flat_map f (drop (i + 1) rows)) q ∙ append_assoc a b (flat_map f (drop (i + 1) rows))

@@ -178,7 +178,7 @@ module _ (table : Table) where
   safe_implies t u c s = marked_implies t u (safe_within table s) (safe_marked t u c s)
 
   -- transitions stand in the order of their pairs
-  transitions_rise : (ps : List Pair) → IsRising pair_cmp ps → IsRising transition_cmp (map (with_marks table) ps)
+  pub transitions_rise : (ps : List Pair) → IsRising pair_cmp ps → IsRising transition_cmp (map (with_marks table) ps)
   transitions_rise [] r = tt
   transitions_rise (p ∷ ps) r = (
     all_from (λ u. transition_cmp (with_marks table p) u ≡ Less) (map (with_marks table) ps)

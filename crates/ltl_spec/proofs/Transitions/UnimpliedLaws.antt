@@ -56,7 +56,7 @@ same_in_rising o (z ∷ xs) x y r (inr h) (inr k) e = same_in_rising o xs x y r.
 -- an order of all transitions
 
 -- by the literals, the targets and the marks
-abbrev marks_too_cmp : Transition → Transition → Ordering
+abbrev pub marks_too_cmp : Transition → Transition → Ordering
 marks_too_cmp = then_cmp transition_cmp (on (λ t. t.marks) row_set_cmp)
 
 -- the comparison of transitions is an order
@@ -64,7 +64,7 @@ pub transition_total : IsTotalOrder transition_cmp
 transition_total = then_total (on_total (λ (t : Transition). t.cube) cube_linear.total) (on_total (λ (t : Transition). t.targets) row_set_linear.total)
 
 -- with the marks it is a linear order
-marks_too_linear : IsLinearOrder marks_too_cmp
+pub marks_too_linear : IsLinearOrder marks_too_cmp
 marks_too_linear = record {
   total = then_total transition_total (on_total (λ (t : Transition). t.marks) row_set_linear.total);
   exact = λ t u h.
@@ -76,7 +76,7 @@ marks_too_linear = record {
 }
 
 -- what rises by literals and targets rises by those and the marks
-rises_too : (ts : List Transition) → IsRising transition_cmp ts → IsRising marks_too_cmp ts
+pub rises_too : (ts : List Transition) → IsRising transition_cmp ts → IsRising marks_too_cmp ts
 rises_too [] r = tt
 rises_too (t ∷ ts) r = (
   all_from (λ u. marks_too_cmp t u ≡ Less) ts (λ u h. ap (λ a. ordering_then a (row_set_cmp t.marks u.marks)) (all_at (λ v. transition_cmp t v ≡ Less) ts u r.0 h)),

@@ -1,6 +1,6 @@
-use Rattle.std.proofs.Common.{◌∙◌, ap, map, sym, subst}
-use Rattle.ltl_alt.specs.StandIns.{pair_of, HaveSame}
-use Rattle.ltl_alt.proofs.PruneLaws.{pruned_equal, pruned_whole}
+use Rattle.std.proofs.Common.{◌∙◌, map}
+use Rattle.ltl_alt.specs.StandIns.{least_of, pair_of}
+use Rattle.ltl_alt.proofs.PruneLaws.{pruned_equal, pruned_least}
 use Rattle.ltl_alt.proofs.prune.prune.Goals as goal
 
 pub returns-then-len-lt2 : goal.returns-then-len-lt2
@@ -9,8 +9,13 @@ returns-then-len-lt2 g c = pruned_equal _ _ _ _ c.make_distinct.ensures
 pub returns-then-eq : goal.returns-then-eq
 returns-then-eq g c = pruned_equal _ _ _ _ c.make_distinct.ensures
 
+pub returns-then-are_of_size : goal.returns-then-are_of_size
+returns-then-are_of_size g c = pruned_equal _ _ _ _ c.make_distinct.ensures
+
 pub returns : goal.returns
 returns g c =
-    pruned_whole c.args.pruning.now.rule c.args.pruning.now.own.now c.args.pairs.items c.as_slice.result.now (map pair_of c.as_slice-2.result.now) (map pair_of c.in_ok-kept.kept.items) c.put_bare.new.pairs.items _
-    (c.as_slice.ensures.value ∙ c.make_distinct.ensures) (subst (λ xs. HaveSame c.as_slice.result.now (map pair_of xs)) (sym c.as_slice-2.ensures) c.in_ok-measured.ensures)
-    c.in_ok-kept.ensures.from c.in_ok-kept.ensures.spared (c.in_ok-put_bare.ensures ∙ ap (map pair_of) c.as_slice-3.ensures) c.make_distinct-2.ensures
+    let r = c.args.pruning.now.rule in
+    let own = c.args.pruning.now.own.now in
+    let ms = c.in_ok-measured.measured.items in
+    pruned_least r own c.args.pairs.items c.as_slice.result.now c.put_least.new.pairs.items ms (c.as_slice.ensures.value ∙ c.make_distinct.ensures) c.in_ok-measured.ensures
+    (c.in_ok-put_least.ensures ∙ (λ i. map pair_of (least_of r own ((c.in_ok-lookup.ensures ∙ c.as_slice-3.ensures) i) (c.as_slice-4.ensures i))))

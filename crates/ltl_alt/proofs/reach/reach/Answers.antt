@@ -1,4 +1,4 @@
-use Rattle.std.proofs.Common.{◌≡◌, ℕ, List, ◌∷◌, [], ◌∙◌, ap, sym, subst, Result, Err, false}
+use Rattle.std.proofs.Common.{◌≡◌, ℕ, ◌∷◌, [], ◌∙◌, ap, sym, subst, Result, Err, false}
 use Rattle.std.specs.Result.{IsErrOf, IsErrAnd}
 use Rattle.ltl_spec.specs.Transitions.Pairs.{RowSet}
 use Rattle.ltl_spec.specs.Automata.Listing.{PassesLimits}
@@ -10,8 +10,10 @@ use Rattle.ltl_automaton.specs.SharedView.{automaton_of}
 use Rattle.ltl_automaton.specs.declared.fault.AutomatonFault.{AutomatonFault}
 use Rattle.ltl_automaton.specs.declared.fault.AutomatonFault.TheVariants.{TooLarge}
 use Rattle.ltl_alt.specs.ReachView.{net_of}
-use Rattle.ltl_alt.specs.RowLists.{row_place}
+use Rattle.ltl_alt.specs.PartView.{AreParts}
+use Rattle.ltl_alt.specs.RowLists.{row_place, AreLists}
 use Rattle.ltl_alt.specs.StandIns.{rule_of}
+use Rattle.ltl_alt.specs.TransitionView.{table_at}
 use Rattle.ltl_alt.proofs.ElementaryLaws.{root_stands}
 use Rattle.ltl_alt.proofs.GbaLaws.{is_generalized, is_gba, is_too_large, is_not_too_large}
 use Rattle.ltl_alt.proofs.TransitionLaws.{untils_count}
@@ -23,8 +25,24 @@ passed_on r P a e = subst (λ q. IsErrAnd q P) e a
 pub single-root-requires : goal.single-root-requires
 single-root-requires g c = c.place.ensures.small (root_stands c.args.table.now c.root.result c.len.ensures.table c.root.ensures.last)
 
+pub prepare-requires-clause-lists : goal.prepare-requires-clause-lists
+prepare-requires-clause-lists g c = c.in_ok-lists.ensures c.of.result
+
+pub prepare-requires-clause-parts : goal.prepare-requires-clause-parts
+prepare-requires-clause-parts g c = record { linked = c.new-parts.ensures.linked (table_at c.args.table.now) c.as_slice.result.now; rows = c.new-parts.ensures.made (table_at c.args.table.now) c.of.result }
+
 pub explore_from-requires-clause-ready : goal.explore_from-requires-clause-ready
-explore_from-requires-clause-ready g c = record { lists = c.in_ok-new.ensures (rule_of c.args.keep_implied); own_pairs = c.in_ok-all_own.ensures }
+explore_from-requires-clause-ready g c =
+    let T = table_at c.args.table.now in
+    let new = c.prepare.new.self in
+    let rows = c.prepare.new.rows in
+    let own = c.in_ok-own.own.items in
+    record {
+      lists = subst (λ r. AreLists c.args.table.now r rows.pairs.items rows.sets.items) c.of.ensures c.in_ok-prepare.ensures.lists;
+      own_pairs = c.in_ok-own.ensures;
+      parts = subst (λ r. AreParts T r own new.made new.owners.items new.lists.items new.demands.items new.links.items) c.of.ensures (subst (λ x. AreParts T c.of.result x new.made new.owners.items new.lists.items new.demands.items new.links.items) c.as_slice.ensures.value c.in_ok-prepare.ensures.parts);
+      groups = c.new-groups.ensures T c.args.keep_implied new.lists.items;
+    }
 
 pub returns-in_err-states-clause-large : goal.returns-in_err-states-clause-large
 returns-in_err-states-clause-large g c = λ e.

@@ -1,46 +1,95 @@
-use Rattle.std.proofs.Common.{◌≡◌, ◌∙◌, ap, map, sym, subst, true, false}
+use Rattle.std.proofs.Common.{◌<◌, ◌∙◌, [], ap, arith, drop, length, map, sym, subst}
 use Rattle.ltl_spec.specs.Transitions.RowTransitions as spec
+use Rattle.ltl_spec.proofs.Transitions.FactorLaws.{all_products, product_size}
+use Rattle.ltl_alt.specs.GroupView.{made_of, key_of, AreGroupsOf}
+use Rattle.ltl_alt.specs.PartView.{part_of, AreParts}
+use Rattle.ltl_alt.specs.ProductView.{AreConsistent}
 use Rattle.ltl_alt.specs.RowLists.{AreLists}
-use Rattle.ltl_alt.specs.TransitionView.{table_at, all_joined}
-use Rattle.ltl_alt.specs.StandIns.{IsListed, StandsFor, rule_of}
-use Rattle.ltl_alt.proofs.StandInLaws.{own_fit}
-use Rattle.ltl_alt.proofs.TransitionLaws.{all_successors, enough_successors, listed_sets}
+use Rattle.ltl_alt.specs.TransitionView.{table_at}
+use Rattle.ltl_alt.proofs.ProductLaws.{groups_longer, numbers_inside, lists_are, suffix_consistent, factored, factored_count}
 use Rattle.ltl_alt.proofs.transitions.transitions.Goals as goal
 
-pub successors-requires-clause-lists : goal.successors-requires-clause-lists
-successors-requires-clause-lists g c = subst (λ r. AreLists c.args.table.now r c.args.lists.now.pairs.items c.args.lists.now.sets.items) (sym c.of.ensures) c.requires.lists
-
-pub successors-requires-clause-fit : goal.successors-requires-clause-fit
-successors-requires-clause-fit g c = own_fit (table_at c.args.table.now) c.args.keep_implied c.of.result c.args.own.now c.of.ensures c.requires.own
-
-pub returns-then-keep_implied-clause-lists : goal.returns-then-keep_implied-clause-lists
-returns-then-keep_implied-clause-lists g c = subst (λ r. AreLists c.args.table.now r c.successors.new.lists.pairs.items c.successors.new.lists.sets.items) c.of.ensures c.in_ok-pairs.ensures.lists
-
-pub returns-then-keep_implied-clause-transitions : goal.returns-then-keep_implied-clause-transitions
-returns-then-keep_implied-clause-transitions g c =
+pub group_numbers-requires : goal.group_numbers-requires
+group_numbers-requires g c =
     let T = table_at c.args.table.now in
-    let e = c.args.state.now in
-    let ps = c.in_ok-pairs.pairs.items in
-    let k : c.args.keep_implied ≡ true = c.if-keep_implied.true in
-    let listed : IsListed (StandsFor T (rule_of true)) (all_joined T e) ps = subst (λ r. IsListed (StandsFor T r) (all_joined T e) ps) (c.of.ensures ∙ ap rule_of k) c.in_ok-pairs.ensures.pairs in
-    let all = all_successors T e ps c.in_ok-all.all.items listed (c.in_ok-all.ensures ∙ ap (map (spec.with_marks T)) c.as_slice.ensures.value) in
-    all ∙ ap (λ b. spec.transitions T b e) (sym k)
+    let parts = c.in_ok-prepare.ensures.parts in
+    let old = c.args.parts.now.lists.items in
+    let new = c.prepare.new.self.lists.items in (
+      omega arith,
+      (
+        c.of.ensures,
+        (
+          c.requires.prepared.own_pairs,
+          (
+            parts.linked,
+            (
+              groups_longer T c.args.keep_implied old new c.args.groups.now.keys.keys c.args.groups.now.lists.items c.in_ok-prepare.ensures.longer c.requires.prepared.groups,
+              numbers_inside c.prepare.new.self.owners.items new c.args.state.now c.numbers-all.result parts.rows.owner_count c.numbers-all.ensures,
+            ),
+          ),
+        ),
+      ),
+    )
 
-pub unimplied-requires : goal.unimplied-requires
-unimplied-requires g c =
+pub all_products-requires-clause-consistent : goal.all_products-requires-clause-consistent
+all_products-requires-clause-consistent g c = λ k.
     let T = table_at c.args.table.now in
-    listed_sets T c.of.result c.args.state.now c.in_ok-pairs.pairs.items c.as_slice-2.result.now c.in_ok-pairs.ensures.pairs (c.as_slice-2.ensures.value ∙ c.in_ok-all.ensures ∙ ap (map (spec.with_marks T)) c.as_slice.ensures.value)
-
-pub returns-clause-lists : goal.returns-clause-lists
-returns-clause-lists g c = subst (λ r. AreLists c.args.table.now r c.successors.new.lists.pairs.items c.successors.new.lists.sets.items) c.of.ensures c.in_ok-pairs.ensures.lists
+    let keep = c.args.keep_implied in
+    let parts = c.prepare.new.self.lists.items in
+    let keys = c.group_numbers.new.groups.keys.keys in
+    let lists = c.group_numbers.new.groups.lists.items in
+    let numbers = c.in_ok-numbers.numbers.items in
+    let groups = c.in_ok-numbers.ensures.numbers in
+    let same = ap (map (made_of lists)) c.as_slice-2.ensures ∙ lists_are T keep parts keys lists numbers c.in_ok-numbers.ensures.groups groups.within in
+    subst (λ x. AreConsistent (all_products T (drop k x))) (sym same)
+    (suffix_consistent T c.args.own.now c.requires.prepared.own_pairs (part_of parts) c.in_ok-prepare.ensures.parts.linked.sound keep c.numbers-all.result (map (key_of keys) numbers) k groups.taken)
 
 pub returns-clause-transitions : goal.returns-clause-transitions
 returns-clause-transitions g c =
     let T = table_at c.args.table.now in
-    let e = c.args.state.now in
-    let ps = c.in_ok-pairs.pairs.items in
-    let k : c.args.keep_implied ≡ false = c.if-keep_implied.false in
-    let listed : IsListed (StandsFor T (rule_of false)) (all_joined T e) ps = subst (λ r. IsListed (StandsFor T r) (all_joined T e) ps) (c.of.ensures ∙ ap rule_of k) c.in_ok-pairs.ensures.pairs in
-    let few = enough_successors T e ps c.as_slice-2.result.now c.in_ok-kept.kept.items listed
-    (c.as_slice-2.ensures.value ∙ c.in_ok-all.ensures ∙ ap (map (spec.with_marks T)) c.as_slice.ensures.value) c.in_ok-kept.ensures in
-    few ∙ ap (λ b. spec.transitions T b e) (sym k)
+    let keep = c.args.keep_implied in
+    let own = c.args.own.now in
+    let new = c.prepare.new.self in
+    let keys = c.group_numbers.new.groups.keys.keys in
+    let lists = c.group_numbers.new.groups.lists.items in
+    let numbers = c.in_ok-numbers.numbers.items in
+    let groups = subst (λ all. AreGroupsOf T own new.lists.items keys all numbers []) c.numbers-all.ensures c.in_ok-numbers.ensures.numbers in
+    let parts = subst (λ r. AreParts T r own new.made new.owners.items new.lists.items new.demands.items new.links.items) c.of.ensures c.in_ok-prepare.ensures.parts in
+    factored T own keep new.made new.owners.items new.lists.items new.demands.items new.links.items keys lists c.args.state.now numbers c.in_ok-products.products.items c.sort.new.transitions.items c.requires.prepared.own_pairs parts
+    c.in_ok-numbers.ensures.groups c.members_rise.ensures.rising c.in_ok-prepare.ensures.made groups.taken groups.within (c.in_ok-products.ensures ∙ ap (λ ns. all_products T (map (made_of lists) ns)) c.as_slice-2.ensures)
+    c.sort.ensures.permutation c.sort.ensures.sorted
+
+pub prepare-requires-clause-lists : goal.prepare-requires-clause-lists
+prepare-requires-clause-lists g c = subst (λ r. AreLists c.args.table.now r c.args.rows.now.pairs.items c.args.rows.now.sets.items) (sym c.of.ensures) c.requires.prepared.lists
+
+pub prepare-requires-clause-parts : goal.prepare-requires-clause-parts
+prepare-requires-clause-parts g c =
+    let old = c.args.parts.now in
+    subst (λ r. AreParts (table_at c.args.table.now) r c.args.own.now old.made old.owners.items old.lists.items old.demands.items old.links.items) (sym c.of.ensures) c.requires.prepared.parts
+
+pub returns-then-are_more-clause-large : goal.returns-then-are_more-clause-large
+returns-then-are_more-clause-large g c = λ _.
+    let T = table_at c.args.table.now in
+    let keep = c.args.keep_implied in
+    let own = c.args.own.now in
+    let new = c.prepare.new.self in
+    let keys = c.group_numbers.new.groups.keys.keys in
+    let lists = c.group_numbers.new.groups.lists.items in
+    let numbers = c.in_ok-numbers.numbers.items in
+    let groups = subst (λ all. AreGroupsOf T own new.lists.items keys all numbers []) c.numbers-all.ensures c.in_ok-numbers.ensures.numbers in
+    let parts = subst (λ r. AreParts T r own new.made new.owners.items new.lists.items new.demands.items new.links.items) c.of.ensures c.in_ok-prepare.ensures.parts in
+    let count = factored_count T own keep new.made new.owners.items new.lists.items new.demands.items new.links.items keys lists c.args.state.now numbers c.requires.prepared.own_pairs parts
+    c.in_ok-numbers.ensures.groups c.members_rise.ensures.rising c.in_ok-prepare.ensures.made groups.taken groups.within in
+    let more = subst (λ ns. c.args.most < product_size (map (made_of lists) ns)) c.as_slice.ensures (c.are_more.ensures c.if-are_more.true) in
+    subst (λ n. c.args.most < n) (sym count) more
+
+pub returns-clause-prepared : goal.returns-clause-prepared
+returns-clause-prepared g c =
+    let T = table_at c.args.table.now in
+    let new = c.prepare.new.self in
+    record {
+      lists = subst (λ r. AreLists c.args.table.now r c.prepare.new.rows.pairs.items c.prepare.new.rows.sets.items) c.of.ensures c.in_ok-prepare.ensures.lists;
+      own_pairs = c.requires.prepared.own_pairs;
+      parts = subst (λ r. AreParts T r c.args.own.now new.made new.owners.items new.lists.items new.demands.items new.links.items) c.of.ensures c.in_ok-prepare.ensures.parts;
+      groups = c.forget.ensures T c.args.keep_implied new.lists.items c.in_ok-numbers.ensures.groups;
+    }

@@ -1,11 +1,12 @@
 use Rattle.std.proofs.Common.{◌≡◌, ◌≤◌, ◌-◌, length}
-use Rattle.ltl_automaton.specs.Net.{IsUnderWay}
+use Rattle.ltl_automaton.specs.Net.{IsUnderWay, lengths_of}
 use Rattle.ltl_automaton.specs.SharedView.{automaton_of}
 use Rattle.ltl_automaton.proofs.explore.explore_from.Given as goal
 
 abbrev pub invariant-things : goal.invariant-things
 invariant-things g l = record {
   way : IsUnderWay g.K.PartialEq.eq l.sorted (g.S.Successors.net l.fn.net) l.fn.start l.sets l.listing l.count (automaton_of l.made);
+  lengths : l.lengths.items ≡ lengths_of (g.S.Successors.net l.fn.net) l.listing;
   net : g.S.Successors.net l.net ≡ g.S.Successors.net l.fn.net;
   ready : g.S.Successors.ready l.net;
   few_states : length l.listing.keys ≤ l.limits.states;

@@ -1,4 +1,4 @@
-use Rattle.std.proofs.Common.{◌≡◌, length, map, take}
+use Rattle.std.proofs.Common.{map, take}
 use Rattle.ltl_buchi.specs.BaView.{HaveOrders}
 use Rattle.ltl_buchi.proofs.automaton.orders.Given as goal
 

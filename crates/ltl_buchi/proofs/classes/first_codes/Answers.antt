@@ -1,5 +1,5 @@
-use Rattle.std.proofs.Common.{◌≡◌, ◌<◌, ℕ, List, ◌∙◌, ap, sym, subst, arith, length, map, Some}
-use Rattle.std.specs.Prelude.{slice_index, All}
+use Rattle.std.proofs.Common.{List, ◌∙◌, ap, arith, length, map, Some}
+use Rattle.std.specs.Prelude.{slice_index}
 use Rattle.ltl_spec.specs.Automata.Automaton.{Edge}
 use Rattle.ltl_automaton.specs.EdgeView.{edge_of}
 use Rattle.ltl_buchi.specs.Classes.{list_view}

@@ -1,5 +1,4 @@
-use Rattle.std.proofs.Common.{◌≡◌, subst, sym, length, arith, ◌<◌}
-use Rattle.std.specs.Prelude.{All}
+use Rattle.std.proofs.Common.{subst, length}
 use Rattle.std.proofs.lemmas.Result.{IfOk-weaker}
 use Rattle.ltl_buchi.specs.Classes.{IsLeastAlike, IsLeastPlaces, coded_place}
 use Rattle.ltl_buchi.proofs.ClassLaws as laws

@@ -4,7 +4,7 @@ use Rattle.std.proofs.lemmas.List.{length-set}
 use Rattle.ltl_spec.specs.Automata.Automaton.{Edge}
 use Rattle.ltl_spec.specs.Collections.Lists.{HasNoRepeats}
 use Rattle.ltl_automaton.specs.EdgeView.{edge_of}
-use Rattle.ltl_buchi.specs.Classes.{list_view, retargeted_list}
+use Rattle.ltl_buchi.specs.Classes.{list_view}
 use Rattle.ltl_buchi.proofs.ClassLaws.{IsRecoded, recoded_set, recoded_stays, list_seen, list_within}
 use Rattle.ltl_buchi.proofs.CodeLaws.{seen_unrenamed}
 use Rattle.ltl_buchi.proofs.classes.recode.Goals as goal

@@ -1,4 +1,4 @@
-use Rattle.std.proofs.Common.{sym, ◌∙◌, ◌-◌, arith}
+use Rattle.std.proofs.Common.{sym, ◌∙◌, ◌-◌}
 use Rattle.ltl_spec.proofs.Construction.LevelLaws.{climb_on, climb_stop}
 use Rattle.ltl_buchi.proofs.copies.next_level.Goals as goal
 

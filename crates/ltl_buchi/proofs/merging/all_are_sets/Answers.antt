@@ -1,4 +1,4 @@
-use Rattle.std.proofs.Common.{◌≡◌, length, subst, sym, arith}
+use Rattle.std.proofs.Common.{subst, sym, arith}
 use Rattle.std.specs.Prelude.{All}
 use Rattle.ltl_spec.specs.Automata.Automaton.{State}
 use Rattle.ltl_spec.specs.Construction.ImpliedEdges.{IsSetEdge}

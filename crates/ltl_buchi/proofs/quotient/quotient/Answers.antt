@@ -1,9 +1,9 @@
-use Rattle.std.proofs.Common.{◌≡◌, ◌<◌, ◌∙◌, ap, arith, sym, subst, length, map, ℕ, List}
+use Rattle.std.proofs.Common.{◌≡◌, ◌<◌, ◌∙◌, ap, arith, sym, subst, length, map, ℕ}
 use Rattle.std.specs.Prelude.{All, take, slice_index, slice_index_or}
 use Rattle.std.specs.Ordering.{nat_cmp}
 use Rattle.std.proofs.lemmas.List.{length-map}
 use Rattle.ltl_spec.specs.Collections.Sets.{Has, set_of}
-use Rattle.ltl_spec.specs.Automata.Automaton.{Automaton, Edge, State, state_at}
+use Rattle.ltl_spec.specs.Automata.Automaton.{Edge, State, state_at}
 use Rattle.ltl_spec.specs.Construction.Merging.{without_implied, retargeted_state}
 use Rattle.ltl_automaton.specs.EdgeView.{edge_of}
 use Rattle.ltl_automaton.specs.SharedView.{automaton_of}

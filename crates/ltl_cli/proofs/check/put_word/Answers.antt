@@ -1,21 +1,34 @@
-use Rattle.std.proofs.Common.{◌∷◌, [], append_assoc, codes}
+use Rattle.std.proofs.Common.{[], append-nil, codes, refl, sym}
 use Rattle.ltl_spec.specs.Automata.ClaimText.{line}
 use Rattle.ltl_spec.specs.Words.LassoText.{lasso_text}
-use Rattle.ltl_cli.proofs.MessageLaws.{all_went, first_failed, second_failed, third_failed}
+use Rattle.ltl_formula.proofs.SendLaws.{begun, leaves_all, leaves_held, leaves_step, some_sent, whole_sent}
 use Rattle.ltl_cli.proofs.check.put_word.Goals as goal
 
-pub returns-in_err-write_whole-clause-err : goal.returns-in_err-write_whole-clause-err
-returns-in_err-write_whole-clause-err g c =
-    first_failed _ _ _ (line (codes "violated")) (lasso_text c.args.word.now) (10 ∷ []) _ (append_assoc (line (codes "violated")) (lasso_text c.args.word.now) (10 ∷ [])) c.in_err-write_whole.ensures.err
+pub returns-in_err-put-clause-err : goal.returns-in_err-put-clause-err
+returns-in_err-put-clause-err g c =
+    begun _ (line (lasso_text c.args.word.now)) (leaves_held (leaves_all _ _ _) (sym c.new-piece.ensures)) refl c.in_err-put.ensures
 
-pub returns-in_err-text_to-clause-err : goal.returns-in_err-text_to-clause-err
-returns-in_err-text_to-clause-err g c =
-    second_failed _ _ _ _ (line (codes "violated")) (lasso_text c.args.word.now) (10 ∷ []) _ (append_assoc (line (codes "violated")) (lasso_text c.args.word.now) (10 ∷ [])) c.in_ok-write_whole.ensures.ok c.in_err-text_to.ensures.err
+pub returns-in_err-put-2-clause-err : goal.returns-in_err-put-2-clause-err
+returns-in_err-put-2-clause-err g c =
+    let first = leaves_step (leaves_held (leaves_all _ _ _) (sym c.new-piece.ensures)) (line (lasso_text c.args.word.now)) refl c.in_ok-put.ensures in
+    begun _ (codes "\n") first refl c.in_err-put-2.ensures
+
+pub returns-in_err-put-3-clause-err : goal.returns-in_err-put-3-clause-err
+returns-in_err-put-3-clause-err g c =
+    let first = leaves_step (leaves_held (leaves_all _ _ _) (sym c.new-piece.ensures)) (line (lasso_text c.args.word.now)) refl c.in_ok-put.ensures in
+    let second = leaves_step first (codes "\n") refl c.in_ok-put-2.ensures in
+    begun _ [] second (sym (append-nil _)) c.in_err-put-3.ensures
 
 pub returns-clause-ok : goal.returns-clause-ok
 returns-clause-ok g c =
-    all_went _ _ _ _ _ (line (codes "violated")) (lasso_text c.args.word.now) (10 ∷ []) _ (append_assoc (line (codes "violated")) (lasso_text c.args.word.now) (10 ∷ [])) c.in_ok-write_whole.ensures.ok c.in_ok-text_to.ensures.ok c.write_whole-2.ensures.ok
+    let first = leaves_step (leaves_held (leaves_all _ _ _) (sym c.new-piece.ensures)) (line (lasso_text c.args.word.now)) refl c.in_ok-put.ensures in
+    let second = leaves_step first (codes "\n") refl c.in_ok-put-2.ensures in
+    let third = leaves_step second [] (sym (append-nil _)) c.in_ok-put-3.ensures in
+    whole_sent _ _ third refl c.send.ensures.sent
 
 pub returns-clause-err : goal.returns-clause-err
 returns-clause-err g c =
-    third_failed _ _ _ _ _ (line (codes "violated")) (lasso_text c.args.word.now) (10 ∷ []) _ (append_assoc (line (codes "violated")) (lasso_text c.args.word.now) (10 ∷ [])) c.in_ok-write_whole.ensures.ok c.in_ok-text_to.ensures.ok c.write_whole-2.ensures.err
+    let first = leaves_step (leaves_held (leaves_all _ _ _) (sym c.new-piece.ensures)) (line (lasso_text c.args.word.now)) refl c.in_ok-put.ensures in
+    let second = leaves_step first (codes "\n") refl c.in_ok-put-2.ensures in
+    let third = leaves_step second [] (sym (append-nil _)) c.in_ok-put-3.ensures in
+    some_sent _ _ third refl c.send.ensures.failed

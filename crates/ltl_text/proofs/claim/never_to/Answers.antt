@@ -1,7 +1,7 @@
 use Rattle.std.proofs.Common.{[], append-nil, refl, sym}
 use Rattle.ltl_formula.specs.FormulaView.{reading_of}
 use Rattle.ltl_text.proofs.BlockLaws.{claim_pieces}
-use Rattle.ltl_text.proofs.SendLaws.{begun, leaves_all, leaves_held, leaves_step, sends_straight, some_sent, stops_straight, whole_sent}
+use Rattle.ltl_formula.proofs.SendLaws.{begun, leaves_all, leaves_held, leaves_step, sends_straight, some_sent, stops_straight, whole_sent}
 use Rattle.ltl_text.proofs.claim.never_to.Goals as goal
 
 pub returns-in_err-write_whole-clause-err : goal.returns-in_err-write_whole-clause-err

@@ -1,6 +1,6 @@
 use Rattle.std.proofs.Common.{refl}
 use Rattle.ltl_text.proofs.BlockLaws.{block_pieces}
-use Rattle.ltl_text.proofs.SendLaws.{leaves_all, leaves_fails, leaves_puts, leaves_step}
+use Rattle.ltl_formula.proofs.SendLaws.{leaves_all, leaves_fails, leaves_puts, leaves_step}
 use Rattle.ltl_text.proofs.claim.put_block.Goals as goal
 
 pub returns-in_err-put_label : goal.returns-in_err-put_label

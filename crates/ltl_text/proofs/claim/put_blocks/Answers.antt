@@ -1,7 +1,7 @@
 use Rattle.std.proofs.Common.{◌≡◌, ◌≤◌, ◌<◌, arith, length, sym, refl, subst}
 use Rattle.ltl_spec.specs.Automata.ClaimText.{block, skip_state}
 use Rattle.ltl_text.proofs.BlockLaws.{blocks_are, last_is, no_last}
-use Rattle.ltl_text.proofs.SendLaws.{leaves_all, leaves_fails, leaves_puts, leaves_step, sends_as, sends_nothing}
+use Rattle.ltl_formula.proofs.SendLaws.{leaves_all, leaves_fails, leaves_puts, leaves_step, sends_as, sends_nothing}
 use Rattle.ltl_text.proofs.claim.put_blocks.Goals as goal
 
 pub returns-in_err-put_others : goal.returns-in_err-put_others

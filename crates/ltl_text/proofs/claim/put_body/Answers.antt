@@ -1,7 +1,7 @@
 use Rattle.std.proofs.Common.{◌∙◌, length, refl, sym}
 use Rattle.ltl_text.proofs.BlockLaws.{body_some}
 use Rattle.ltl_text.proofs.EdgeLaws.{some_by_test, some_edges}
-use Rattle.ltl_text.proofs.SendLaws.{leaves_all, leaves_fails, leaves_puts, leaves_step}
+use Rattle.ltl_formula.proofs.SendLaws.{leaves_all, leaves_fails, leaves_puts, leaves_step}
 use Rattle.ltl_text.proofs.claim.put_body.Goals as goal
 
 pub returns-in_err-put : goal.returns-in_err-put

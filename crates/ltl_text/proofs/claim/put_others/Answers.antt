@@ -1,6 +1,6 @@
 use Rattle.std.proofs.Common.{◌∙◌, arith, sym, ◌<◌, length}
 use Rattle.ltl_text.proofs.BlockLaws.{others_begin, others_end, others_put, others_skip}
-use Rattle.ltl_text.proofs.SendLaws.{leaves_all, leaves_end, leaves_fails, leaves_step, sends_nothing}
+use Rattle.ltl_formula.proofs.SendLaws.{leaves_all, leaves_end, leaves_fails, leaves_step, sends_nothing}
 use Rattle.ltl_text.proofs.claim.put_others.Goals as goal
 
 pub loop-k-init : goal.loop-k-init

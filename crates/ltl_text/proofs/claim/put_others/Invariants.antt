@@ -1,6 +1,6 @@
 use Rattle.ltl_text.specs.Blocks.{others_text}
 use Rattle.ltl_text.proofs.BlockLaws.{others_from}
-use Rattle.ltl_text.proofs.SendLaws.{Leaves}
+use Rattle.ltl_formula.proofs.SendLaws.{Leaves}
 use Rattle.ltl_text.proofs.claim.put_others.Given as goal
 
 abbrev pub invariant-loop-k : goal.invariant-loop-k

@@ -1,5 +1,5 @@
 use Rattle.std.proofs.Common.{arith, refl}
-use Rattle.ltl_text.proofs.SendLaws.{leaves_all, leaves_fails, leaves_step}
+use Rattle.ltl_formula.proofs.SendLaws.{leaves_all, leaves_fails, leaves_step}
 use Rattle.ltl_text.proofs.HoaLaws.{sets_go_on, some_sets}
 use Rattle.ltl_text.proofs.generalized.put_acceptance.Goals as goal
 

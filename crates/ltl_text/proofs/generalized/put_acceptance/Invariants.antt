@@ -1,5 +1,5 @@
 use Rattle.ltl_spec.specs.Automata.GeneralizedText.{acceptance_text}
-use Rattle.ltl_text.proofs.SendLaws.{Leaves}
+use Rattle.ltl_formula.proofs.SendLaws.{Leaves}
 use Rattle.ltl_text.proofs.HoaLaws.{sets_from}
 use Rattle.ltl_text.proofs.generalized.put_acceptance.Given as goal
 

@@ -1,5 +1,5 @@
 use Rattle.std.proofs.Common.{arith}
-use Rattle.ltl_text.proofs.SendLaws.{leaves_all, leaves_fails, leaves_puts, leaves_step}
+use Rattle.ltl_formula.proofs.SendLaws.{leaves_all, leaves_fails, leaves_puts, leaves_step}
 use Rattle.ltl_text.proofs.HoaLaws.{some_name}
 use Rattle.ltl_text.proofs.generalized.put_acceptance_name.Goals as goal
 

@@ -1,6 +1,6 @@
 use Rattle.std.proofs.Common.{refl}
 use Rattle.ltl_alt.specs.GbaView.{edge_of}
-use Rattle.ltl_text.proofs.SendLaws.{leaves_all, leaves_fails, leaves_puts, leaves_step}
+use Rattle.ltl_formula.proofs.SendLaws.{leaves_all, leaves_fails, leaves_puts, leaves_step}
 use Rattle.ltl_text.proofs.HoaLaws.{marked_edge_pieces}
 use Rattle.ltl_text.proofs.generalized.put_edge.Goals as goal
 

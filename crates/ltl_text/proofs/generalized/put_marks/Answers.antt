@@ -1,5 +1,5 @@
 use Rattle.std.proofs.Common.{refl}
-use Rattle.ltl_text.proofs.SendLaws.{leaves_all, leaves_fails, leaves_puts, leaves_step, sends_nothing}
+use Rattle.ltl_formula.proofs.SendLaws.{leaves_all, leaves_fails, leaves_puts, leaves_step, sends_nothing}
 use Rattle.ltl_text.proofs.HoaLaws.{marks_begin, marks_end, marks_go_on}
 use Rattle.ltl_text.proofs.generalized.put_marks.Goals as goal
 

@@ -2,7 +2,7 @@ use Rattle.std.proofs.Common.{◌++◌, map}
 use Rattle.std.specs.Prelude.{codes}
 use Rattle.std.specs.Fmt.{decimal}
 use Rattle.ltl_spec.specs.Automata.GeneralizedText.{marks_text}
-use Rattle.ltl_text.proofs.SendLaws.{Leaves}
+use Rattle.ltl_formula.proofs.SendLaws.{Leaves}
 use Rattle.ltl_text.proofs.TextLaws.{led}
 use Rattle.ltl_text.proofs.generalized.put_marks.Given as goal
 

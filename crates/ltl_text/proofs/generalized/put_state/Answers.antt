@@ -1,7 +1,7 @@
 use Rattle.std.proofs.Common.{ap, refl, sym}
 use Rattle.std.specs.List.{flat_map}
 use Rattle.ltl_spec.specs.Automata.GeneralizedText.{marked_edge_line}
-use Rattle.ltl_text.proofs.SendLaws.{leaves_all, leaves_fails, leaves_puts, leaves_step, sends_nothing}
+use Rattle.ltl_formula.proofs.SendLaws.{leaves_all, leaves_fails, leaves_puts, leaves_step, sends_nothing}
 use Rattle.ltl_text.proofs.HoaLaws.{marked_state_pieces}
 use Rattle.ltl_text.proofs.generalized.put_state.Goals as goal
 

@@ -1,5 +1,5 @@
 use Rattle.std.proofs.Common.{refl}
-use Rattle.ltl_text.proofs.SendLaws.{leaves_all, leaves_fails, leaves_puts, leaves_step, sends_nothing}
+use Rattle.ltl_formula.proofs.SendLaws.{leaves_all, leaves_fails, leaves_puts, leaves_step, sends_nothing}
 use Rattle.ltl_text.proofs.TextLaws.{first_name, guard_begins, guard_ends, guard_goes_on, has_names, other_names}
 use Rattle.ltl_text.proofs.guard.put_guard.Goals as goal
 

@@ -3,7 +3,7 @@ use Rattle.std.specs.Prelude.{codes}
 use Rattle.ltl_spec.specs.Automata.ClaimText.{cube_text}
 use Rattle.ltl_sets.specs.Literals.{cube_of}
 use Rattle.ltl_text.specs.Names.{HasNames}
-use Rattle.ltl_text.proofs.SendLaws.{Leaves}
+use Rattle.ltl_formula.proofs.SendLaws.{Leaves}
 use Rattle.ltl_text.proofs.TextLaws.{led, texts_of}
 use Rattle.ltl_text.proofs.guard.put_guard.Given as goal
 

@@ -1,7 +1,7 @@
 use Rattle.std.proofs.Common.{◌++◌, ap, refl, sym}
 use Rattle.std.specs.Fmt.{decimal}
 use Rattle.ltl_text.specs.HoaPieces.{quoted_names}
-use Rattle.ltl_text.proofs.SendLaws.{leaves_all, leaves_fails, leaves_puts, leaves_step}
+use Rattle.ltl_formula.proofs.SendLaws.{leaves_all, leaves_fails, leaves_puts, leaves_step}
 use Rattle.ltl_text.proofs.hoa.put_counts.Goals as goal
 
 pub returns-in_err-put : goal.returns-in_err-put

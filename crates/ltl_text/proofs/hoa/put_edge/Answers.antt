@@ -1,5 +1,5 @@
 use Rattle.ltl_buchi.specs.BaView.{edge_of}
-use Rattle.ltl_text.proofs.SendLaws.{leaves_all, leaves_fails, leaves_puts, leaves_step}
+use Rattle.ltl_formula.proofs.SendLaws.{leaves_all, leaves_fails, leaves_puts, leaves_step}
 use Rattle.ltl_text.proofs.HoaLaws.{edge_pieces}
 use Rattle.ltl_text.proofs.hoa.put_edge.Goals as goal
 

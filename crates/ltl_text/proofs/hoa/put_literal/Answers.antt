@@ -1,5 +1,5 @@
 use Rattle.ltl_sets.specs.Literals.{literal_of}
-use Rattle.ltl_text.proofs.SendLaws.{leaves_all, leaves_fails, leaves_puts, leaves_step}
+use Rattle.ltl_formula.proofs.SendLaws.{leaves_all, leaves_fails, leaves_puts, leaves_step}
 use Rattle.ltl_text.proofs.HoaLaws.{negative_label}
 use Rattle.ltl_text.proofs.hoa.put_literal.Goals as goal
 

@@ -1,5 +1,5 @@
 use Rattle.std.proofs.Common.{refl}
-use Rattle.ltl_text.proofs.SendLaws.{leaves_all, leaves_fails, leaves_step}
+use Rattle.ltl_formula.proofs.SendLaws.{leaves_all, leaves_fails, leaves_step}
 use Rattle.ltl_text.proofs.HoaLaws.{label_begins, label_goes_on}
 use Rattle.ltl_text.proofs.hoa.put_literals.Goals as goal
 

@@ -1,6 +1,6 @@
 use Rattle.std.specs.Prelude.{codes}
 use Rattle.ltl_spec.specs.Automata.HoaText.{label_text}
-use Rattle.ltl_text.proofs.SendLaws.{Leaves}
+use Rattle.ltl_formula.proofs.SendLaws.{Leaves}
 use Rattle.ltl_text.proofs.TextLaws.{led}
 use Rattle.ltl_text.proofs.HoaLaws.{labels_of}
 use Rattle.ltl_text.proofs.hoa.put_literals.Given as goal

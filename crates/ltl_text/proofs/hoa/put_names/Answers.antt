@@ -1,7 +1,7 @@
 use Rattle.std.proofs.Common.{◌∙◌, ◌<◌, ◌+◌, ◌++◌, ap, arith, drop, length, refl, sym}
 use Rattle.std.specs.Prelude.{codes}
 use Rattle.ltl_text.specs.HoaPieces.{quoted_names}
-use Rattle.ltl_text.proofs.SendLaws.{leaves_fails, leaves_step}
+use Rattle.ltl_formula.proofs.SendLaws.{leaves_fails, leaves_step}
 use Rattle.ltl_text.proofs.HoaLaws.{names_go_on}
 use Rattle.ltl_text.proofs.hoa.put_names.Goals as goal
 

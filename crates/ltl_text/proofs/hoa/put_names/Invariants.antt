@@ -1,6 +1,6 @@
 use Rattle.std.proofs.Common.{drop}
 use Rattle.ltl_text.specs.HoaPieces.{quoted_names}
-use Rattle.ltl_text.proofs.SendLaws.{Leaves}
+use Rattle.ltl_formula.proofs.SendLaws.{Leaves}
 use Rattle.ltl_text.proofs.hoa.put_names.Given as goal
 
 abbrev pub invariant-loop-k : goal.invariant-loop-k

@@ -3,7 +3,7 @@ use Rattle.std.specs.List.{flat_map}
 use Rattle.ltl_spec.specs.Automata.Automaton.{state_at}
 use Rattle.ltl_spec.specs.Automata.HoaText.{edge_line}
 use Rattle.ltl_text.specs.HoaPieces.{acceptance_text}
-use Rattle.ltl_text.proofs.SendLaws.{leaves_all, leaves_fails, leaves_puts, leaves_step, sends_nothing}
+use Rattle.ltl_formula.proofs.SendLaws.{leaves_all, leaves_fails, leaves_puts, leaves_step, sends_nothing}
 use Rattle.ltl_text.proofs.HoaLaws.{state_pieces}
 use Rattle.ltl_text.proofs.hoa.put_state.Goals as goal
 

@@ -1,6 +1,6 @@
 use Rattle.std.proofs.Common.{◌<◌, arith, length}
 use Rattle.ltl_spec.specs.Automata.HoaText.{state_lines}
-use Rattle.ltl_text.proofs.SendLaws.{leaves_fails, leaves_step}
+use Rattle.ltl_formula.proofs.SendLaws.{leaves_fails, leaves_step}
 use Rattle.ltl_text.proofs.HoaLaws.{states_go_on}
 use Rattle.ltl_text.proofs.hoa.put_states.Goals as goal
 

@@ -1,7 +1,7 @@
 use Rattle.std.proofs.Common.{length}
 use Rattle.ltl_spec.specs.Automata.HoaText.{state_lines}
 use Rattle.ltl_text.specs.HoaPieces.{states_text}
-use Rattle.ltl_text.proofs.SendLaws.{Leaves}
+use Rattle.ltl_formula.proofs.SendLaws.{Leaves}
 use Rattle.ltl_text.proofs.HoaLaws.{states_from}
 use Rattle.ltl_text.proofs.hoa.put_states.Given as goal
 

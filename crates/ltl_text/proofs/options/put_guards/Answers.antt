@@ -2,7 +2,7 @@ use Rattle.std.proofs.Common.{arith, ◌<◌, ℕ, refl, map, length}
 use Rattle.std.proofs.lemmas.List.{drop_more}
 use Rattle.ltl_buchi.specs.BaView.{edge_of}
 use Rattle.ltl_text.proofs.EdgeLaws.{cube_is}
-use Rattle.ltl_text.proofs.SendLaws.{leaves_all, leaves_fails, leaves_step}
+use Rattle.ltl_formula.proofs.SendLaws.{leaves_all, leaves_fails, leaves_step}
 use Rattle.ltl_text.proofs.TextLaws.{first_all, guards_begin, guards_go_on, others_all}
 use Rattle.ltl_text.proofs.options.put_guards.Goals as goal
 

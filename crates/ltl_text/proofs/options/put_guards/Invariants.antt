@@ -2,7 +2,7 @@ use Rattle.std.proofs.Common.{◌<◌, length, map}
 use Rattle.std.specs.Prelude.{codes, drop, All}
 use Rattle.ltl_buchi.specs.BaView.{edge_of}
 use Rattle.ltl_text.specs.Options.{guards_text}
-use Rattle.ltl_text.proofs.SendLaws.{Leaves}
+use Rattle.ltl_formula.proofs.SendLaws.{Leaves}
 use Rattle.ltl_text.proofs.TextLaws.{led, guards_of}
 use Rattle.ltl_text.proofs.options.put_guards.Given as goal
 

@@ -5,7 +5,7 @@ use Rattle.ltl_buchi.specs.BaView.{edge_of, target_at}
 use Rattle.ltl_text.proofs.EdgeLaws.{places_within, target_there}
 use Rattle.ltl_text.proofs.NameLaws.{all_have_names}
 use Rattle.ltl_text.proofs.OptionLaws.{entries_whole, options_fall, options_rise, options_step, options_within, place_cmp}
-use Rattle.ltl_text.proofs.SendLaws.{leaves_all, leaves_fails, leaves_step, sends_nothing}
+use Rattle.ltl_formula.proofs.SendLaws.{leaves_all, leaves_fails, leaves_step, sends_nothing}
 use Rattle.ltl_text.proofs.TextLaws.{first_all}
 use Rattle.ltl_text.proofs.options.put_options.Goals as goal
 

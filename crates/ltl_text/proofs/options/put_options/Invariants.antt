@@ -5,7 +5,7 @@ use Rattle.ltl_spec.specs.Automata.Automaton.{state_at}
 use Rattle.ltl_buchi.specs.BaView.{edge_of, target_at}
 use Rattle.ltl_text.specs.Options.{option_text, options_text}
 use Rattle.ltl_text.proofs.OptionLaws.{entries, place_cmp}
-use Rattle.ltl_text.proofs.SendLaws.{Leaves}
+use Rattle.ltl_formula.proofs.SendLaws.{Leaves}
 use Rattle.ltl_text.proofs.options.put_options.Given as goal
 
 abbrev pub invariant-options : goal.invariant-options

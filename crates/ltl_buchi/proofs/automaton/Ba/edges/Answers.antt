@@ -1,4 +1,4 @@
-use Rattle.std.proofs.Common.{◌≡◌, [], ◌<◌, ◌∙◌, ap, sym, subst, length, map}
+use Rattle.std.proofs.Common.{◌≡◌, [], ◌<◌, ◌∙◌, ap, sym, subst, length}
 use Rattle.std.specs.Prelude.{All}
 use Rattle.ltl_spec.specs.Automata.Automaton.{Automaton, Edge, state_at}
 use Rattle.ltl_automaton.specs.EdgeView.{edge_of}

@@ -1,0 +1,27 @@
+//! The least ones.
+
+ghost use Rattle.std.specs.Prelude.{◌≡◌, ◌&&◌, not, IfOk};
+ghost use Rattle.std.specs.List.{list_any, filter};
+
+use crate::below::Below;
+use crate::counting::Counting;
+use crate::lookup::Lookup;
+use std::alloc::{AllocError, Allocator};
+
+/// The items that none below them counts for, in the order given.
+pub fn least<'a, T: Below, C: Counting<T>, A: Allocator>(
+    alloc: &'a A,
+    counting: &C,
+    items: &[T],
+) -> Result<Vec<T, &'a A>, AllocError>
+    ensures { IfOk result (λ v. v.items ≡ filter (λ t. not (list_any (λ u. C.counts counting.now u t && T.below u t) items.now)) items.now) }
+{
+    let lookup = Lookup::new(alloc, items)?;
+    let mut kept = Vec::new(alloc);
+    'items: for item in items {
+        if !lookup.has_lesser(counting, item) {
+            kept.push(*item)?;
+        }
+    }
+    Ok(kept)
+}

@@ -1,0 +1,74 @@
+//! Items that are asked whether one of them is below another one.
+
+ghost use Rattle.std.specs.Prelude.{◌≡◌, ◌&&◌, IfOk};
+ghost use Rattle.std.specs.List.{list_any};
+
+use crate::below::Below;
+use crate::counting::Counting;
+use crate::index::{index_of, is_above_one};
+use crate::node::Node;
+use std::alloc::{AllocError, Allocator};
+use std::marker::Model;
+
+/// So many items are looked at one by one.
+const FEW: usize = 256;
+
+/// Items, seen as the list of them, and where there are many an index of them.
+#[derive(Drop)]
+pub struct Lookup<'b, 'a, T: Below, A: Allocator> {
+    items: &'b [T],
+    index: Vec<Node<T>, &'a A>,
+}
+
+impl<'b, 'a, T: Below, A: Allocator> Model for Lookup<'b, 'a, T, A> {
+    ghost use Rattle.std.specs.Prelude.{List};
+    ghost use Rattle.least.specs.Indexes.{IsIndexed};
+
+    ghost Value = { List T };
+
+    ghost view = { λ l. l.items.now };
+
+    ghost invariant = { λ l. IsIndexed T.below l.items.now l.index.items };
+}
+
+impl<'b, 'a, T: Below, A: Allocator> Lookup<'b, 'a, T, A> {
+    /// The items, ready to be asked. For few items no memory is taken.
+    pub fn new(alloc: &'a A, items: &'b [T]) -> Result<Lookup<'b, 'a, T, A>, AllocError>
+        ensures { IfOk result (λ l. l ≡ items.now) }
+    {
+        let index = if items.len() <= FEW {
+            Vec::new(alloc)
+        } else {
+            index_of(alloc, items)?
+        };
+        Ok(Lookup { items, index })
+    }
+
+    /// Whether one of the items is below this one and counts.
+    pub fn has_lesser<C: Counting<T>>(&self, counting: &C, item: &T) -> bool
+        ensures { result ≡ list_any (λ u. C.counts counting.now u item.now && T.below u item.now) self.now }
+    {
+        if self.index.len() == 0 {
+            return is_above_any(self.items, counting, item);
+        }
+        is_above_one(self.index.as_slice(), counting, item)
+    }
+}
+
+/// Whether one of the items is below this one and counts, by looking at each.
+fn is_above_any<T: Below, C: Counting<T>>(items: &[T], counting: &C, item: &T) -> bool
+    ensures { result ≡ list_any (λ u. C.counts counting.now u item.now && T.below u item.now) items.now }
+{
+    items.iter().any(|other| is_lesser(other, counting, item))
+}
+
+/// Whether the first item is below the second and counts.
+#[tactic(auto, using(crate::proofs::LookupLaws::not_below, crate::proofs::LookupLaws::is_below))]
+fn is_lesser<T: Below, C: Counting<T>>(other: &T, counting: &C, item: &T) -> bool
+    ensures { result ≡ (C.counts counting.now other.now item.now && T.below other.now item.now) }
+{
+    if !other.is_below(item) {
+        return false;
+    }
+    counting.counts(other, item)
+}

@@ -1,0 +1,91 @@
+-- What lists of pairs ask for, step by step.
+use Rattle.std.proofs.Common.{◌≡◌, ℕ, ◌+◌, ◌<◌, Bool, true, false, cond, not, inl, inr, List, [], ◌∷◌, ◌++◌, length, map, refl, sym, ◌∙◌, ap, subst, arith}
+use Rattle.std.specs.Prelude.{slice_get, slice_index_or, Some, filter}
+use Rattle.std.specs.Bool.{beq}
+use Rattle.std.specs.Ordering.{nat_cmp}
+use Rattle.ltl_spec.specs.Collections.Sets.{Has, has}
+use Rattle.ltl_spec.specs.Transitions.Cubes.{Literal}
+use Rattle.ltl_spec.specs.NormalForms.Normal.{Bottom}
+use Rattle.ltl_spec.specs.Transitions.Pairs.{RowSet, Pair}
+use Rattle.ltl_spec.specs.Transitions.RowTransitions.{Table, place}
+use Rattle.ltl_spec.proofs.Collections.SetLaws.{has_Decides}
+use Rattle.ltl_spec.proofs.Collections.Orders.{nat_linear}
+use Rattle.ltl_spec.proofs.Transitions.ApartTests.{Asked, names_in, asked_by, together, IsWithinAsked, Covers, covers_one, covers_append, covers_more, within_together_left, within_together_right, awaits_at}
+use Rattle.ltl_sets.specs.Words.{letter_of, forbidden_of}
+use Rattle.ltl_formula.specs.TableView.{TableView, IsTable, row_tree}
+use Rattle.ltl_alt.specs.AskedView.{IsAdded, AwaitsAll, Demands}
+use Rattle.ltl_alt.specs.RowLists.{row_place}
+use Rattle.ltl_alt.specs.TransitionView.{table_at}
+use Rattle.ltl_alt.proofs.NeedsLaws.{same_or_other}
+use Rattle.ltl_alt.proofs.TransitionLaws.{until_tree, index_same}
+
+-- ---- one pair
+
+letter_names : (ls : List Literal) → letter_of ls ≡ names_in true ls
+letter_names [] = refl
+letter_names (l ∷ ls) = at l.positive (letter_names ls)
+  where
+    at : (b : Bool) → letter_of ls ≡ names_in true ls
+        → map (λ (m : Literal). m.proposition) (cond b (l ∷ filter (λ m. m.positive) ls) (filter (λ m. m.positive) ls)) ≡ cond (beq true b) (l.proposition ∷ names_in true ls) (names_in true ls)
+    at true e = ap (λ ns. l.proposition ∷ ns) e
+    at false e = e
+
+forbidden_names : (ls : List Literal) → forbidden_of ls ≡ names_in false ls
+forbidden_names [] = refl
+forbidden_names (l ∷ ls) = at l.positive (forbidden_names ls)
+  where
+    at : (b : Bool) → forbidden_of ls ≡ names_in false ls
+        → map (λ (m : Literal). m.proposition) (cond (not b) (l ∷ filter (λ m. not m.positive) ls) (filter (λ m. not m.positive) ls)) ≡ cond (beq false b) (l.proposition ∷ names_in false ls) (names_in false ls)
+    at true e = e
+    at false e = ap (λ ns. l.proposition ∷ ns) e
+
+pub asked_by_is : (p : Pair) (ps ns ts : List ℕ) → ps ≡ letter_of p.cube → ns ≡ forbidden_of p.cube → ts ≡ p.targets → record { positive = ps; negative = ns; targets = ts } ≡ asked_by p
+asked_by_is p ps ns ts d e f =
+    let positive = d ∙ letter_names p.cube in
+    let negative = e ∙ forbidden_names p.cube in
+    λ i. record { positive = positive i; negative = negative i; targets = f i }
+
+-- ---- lists
+
+-- one pair more
+pub covers_step : (a b c : Asked) (ps : List Pair) (p : Pair) (qs : List Pair) → Covers a ps → b ≡ asked_by p → c ≡ together a b → qs ≡ ps ++ p ∷ [] → Covers c qs
+covers_step a b c ps p qs w d e f =
+    subst (Covers c) (sym f) (subst (λ x. Covers x (ps ++ p ∷ [])) (sym e) (covers_append a b ps (p ∷ []) w (subst (λ x. Covers x (p ∷ [])) (sym d) (covers_one p))))
+
+within_itself : (a : Asked) → IsWithinAsked a a
+within_itself a = record { positive = λ n h. h; negative = λ n h. h; targets = λ n h. h }
+
+pub added_own : (a b c : Asked) (own : List Pair) (o : Bool) → Covers b own → c ≡ together a b → IsAdded a own o c
+added_own a b c own o w e = subst (IsAdded a own o) (sym e) (record {
+  more = within_together_left a b;
+  own_pairs = λ t. covers_more b (together a b) own (within_together_right a b) w;
+})
+
+pub added_nothing : (a : Asked) (own : List Pair) (o : Bool) → o ≡ false → IsAdded a own o a
+added_nothing a own o e = record { more = within_itself a; own_pairs = λ t. absurd (differ (sym t ∙ e)) }
+  where
+    differ : true ≡ false → ⊥
+    differ d = cc
+
+-- ---- until rows
+
+pub awaits_none : (T : Table) (own : List (List Pair)) (targets : RowSet) (w : Asked) → AwaitsAll T own targets 0 w
+awaits_none T own targets w i l h = absurd (omega arith)
+
+pub awaits_step : (t : TableView) (own : List (List Pair)) (targets : RowSet) (n k at : ℕ) (ms : List Pair) (o : Bool) (a b : Asked) → IsTable t → slice_get t.untils n ≡ Some k → at ≡ row_place t (row_tree t k)
+    → n < length own → ms ≡ slice_index_or own n ms → o ≡ has nat_cmp at targets → AwaitsAll (table_at t) own targets n a → IsAdded a ms o b → AwaitsAll (table_at t) own targets (n + 1) b
+awaits_step t own targets n k at ms o a b w found d l own_is test all added i less h = elim (same_or_other i n) [
+  | inl e ↦
+      let f = until_tree t n k w found in
+      let here : Has targets at = subst (Has targets) (sym (d ∙ ap (row_place t) (sym f))) (subst (λ j. Has targets (place (table_at t) (slice_index_or (table_at t).untils j Bottom))) e h) in
+      subst (λ j. Covers b (slice_index_or own j [])) (sym e)
+      (subst (Covers b) (own_is ∙ index_same own n ms [] l) (added.own_pairs (test ∙ (has_Decides nat_linear at targets).1 here)))
+  | inr e ↦ let before : i < n = omega arith in covers_more a b (slice_index_or own i []) added.more (all i before h)
+]
+
+-- the demand of a list
+pub demands : (T : Table) (own : List (List Pair)) (ps : List Pair) (a w : Asked) → Covers a ps → AwaitsAll T own a.targets (length T.untils) w → Demands T own ps (record { asked = a; awaited = w })
+demands T own ps a w c all = record {
+  asked = c;
+  awaited = awaits_at T own w ps (λ i l h. all i l (c.rows (place T (slice_index_or T.untils i Bottom)) h));
+}

@@ -1,0 +1,422 @@
+-- Parts of rows, one after another.
+use Rattle.std.proofs.Common.{◌≡◌, ◌≢◌, ℕ, zero, suc, ◌+◌, ◌<◌, ◌≤◌, ◌⊎◌, Bool, true, false, cond, not, inl, inr, List, [], ◌∷◌, ◌++◌, length, refl, sym, ◌∙◌, ap, subst, arith}
+use Rattle.std.specs.Prelude.{slice_get, slice_index_or, slice_set, nat_eq, Some, None, filter}
+use Rattle.std.specs.List.{AllByRecursion}
+use Rattle.std.proofs.lemmas.Bool.Decides.{nat_tests}
+use Rattle.std.proofs.lemmas.Bool.{cases_lt}
+use Rattle.std.specs.Ordering.{nat_cmp}
+use Rattle.std.proofs.lemmas.List.{length-append, get_or_past, append-nil, append_assoc}
+use Rattle.ltl_spec.specs.Collections.Sets.{Has, has, put, union}
+use Rattle.ltl_spec.specs.Collections.Lists.{HasNoRepeats, places_where, places_from}
+use Rattle.ltl_spec.specs.NormalForms.Normal.{Bottom}
+use Rattle.ltl_spec.specs.NormalForms.NormalForm as normal
+use Rattle.ltl_spec.specs.Transitions.Pairs.{RowSet, Pair, join, empty_pair, pairs}
+use Rattle.ltl_formula.specs.TableView.{TableView, IsTable, core_of}
+use Rattle.ltl_spec.specs.Transitions.RowTransitions.{Table, pairs_at}
+use Rattle.ltl_spec.proofs.Collections.SetLaws.{has_Decides, put_cases, Has-put, append_cases, all_at, union_left, union_right, union_cases, filter_cases, Has-filter}
+use Rattle.ltl_spec.proofs.Collections.ListLaws.{places_cases, numbered_short}
+use Rattle.ltl_spec.proofs.Collections.ProductLists.{HasNoRepeats-append}
+use Rattle.ltl_spec.proofs.Collections.CaseLaws.{false_is_true}
+use Rattle.ltl_spec.proofs.Collections.Orders.{nat_linear}
+use Rattle.ltl_spec.proofs.Transitions.PartJoins.{join_of, rows_sound}
+use Rattle.ltl_spec.proofs.Transitions.SameJoins.{AreAlike, alike_sym, AreSound, sound_some, join_nothing}
+use Rattle.ltl_alt.specs.declared.asked.Demand.{Demand}
+use Rattle.ltl_alt.specs.AskedView.{Demands}
+use Rattle.ltl_alt.specs.PartView.{part_of, demand_of, links_of, tells_apart, numbers_of, IsLinked, AreLinked, AreMade, HasMade, IsLonger, IsGroup}
+use Rattle.ltl_alt.specs.declared.rule.Rule.{Rule}
+use Rattle.ltl_alt.specs.RowLists.{row_place, IsListedRow}
+use Rattle.ltl_alt.specs.StandIns.{IsKeptBy, IsListed, StandsFor}
+use Rattle.ltl_alt.specs.TransitionView.{table_at}
+use Rattle.ltl_alt.proofs.PlaceLaws.{elementary_tree, no_elementary_tree}
+use Rattle.ltl_alt.proofs.StandInLaws.{IsStandIn, stands_in, kept_on, kept_all}
+use Rattle.ltl_alt.proofs.TransitionLaws.{places_push}
+use Rattle.ltl_alt.proofs.NeedsLaws.{same_or_other}
+use Rattle.ltl_alt.proofs.OwnLaws.{at_last, at_before}
+
+-- ---- sets of numbers
+
+-- what isn't in the larger set isn't in the smaller one
+has_not : (i n : ℕ) (ns : List ℕ) → has nat_cmp i (put nat_cmp n ns) ≡ false → has nat_cmp i ns ≡ false
+has_not i n ns e = at (has nat_cmp i ns) refl
+  where
+    at : (b : Bool) → has nat_cmp i ns ≡ b → has nat_cmp i ns ≡ false
+    at false d = d
+    at true d = absurd (false_is_true (sym e ∙ (has_Decides nat_linear i (put nat_cmp n ns)).1 (Has-put nat_linear n ns i (inr ((has_Decides nat_linear i ns).0 d)))))
+
+has_put : (n : ℕ) (ns : List ℕ) → has nat_cmp n (put nat_cmp n ns) ≡ true
+has_put n ns = (has_Decides nat_linear n (put nat_cmp n ns)).1 (Has-put nat_linear n ns n (inl refl))
+
+-- ---- places of a list
+
+set_same : {K : Type 0} (xs : List K) (k : ℕ) (x d : K) → k < length xs → slice_index_or (slice_set xs k x) k d ≡ x
+set_same [] k x d l = absurd (omega arith)
+set_same (y ∷ xs) zero x d l = refl
+set_same (y ∷ xs) (suc k) x d l = set_same xs k x d (omega arith)
+
+set_other : {K : Type 0} (xs : List K) (k i : ℕ) (x d : K) → i ≢ k → slice_index_or (slice_set xs k x) i d ≡ slice_index_or xs i d
+set_other [] k i x d n = refl
+set_other (y ∷ xs) zero zero x d n = absurd (n refl)
+set_other (y ∷ xs) zero (suc i) x d n = refl
+set_other (y ∷ xs) (suc k) zero x d n = refl
+set_other (y ∷ xs) (suc k) (suc i) x d n = set_other xs k i x d (λ e. n (ap suc e))
+
+set_length : {K : Type 0} (xs : List K) (k : ℕ) (x : K) → length (slice_set xs k x) ≡ length xs
+set_length [] k x = refl
+set_length (y ∷ xs) zero x = refl
+set_length (y ∷ xs) (suc k) x = ap suc (set_length xs k x)
+
+-- ---- links
+
+-- no part was looked at yet
+pub linked_none : (demands : List Demand) (d : Demand) (n : ℕ) (old : List RowSet) (own : RowSet) → own ≡ n ∷ [] → IsLinked demands d n 0 old old own
+linked_none demands d n old own e = record {
+  count = refl;
+  kept = λ i j h. h;
+  told = λ i l h. absurd (omega arith);
+  own_told = λ i l h. absurd (omega arith);
+  itself = (has_Decides nat_linear n own).1 (subst (λ xs. Has xs n) (sym e) (inl refl));
+}
+
+-- with a number or without it
+less_by : (b : Bool) (n : ℕ) (ns : List ℕ) (j : ℕ) → has nat_cmp j (cond b (put nat_cmp n ns) ns) ≡ false → has nat_cmp j ns ≡ false
+less_by true n ns j e = has_not j n ns e
+less_by false n ns j e = e
+
+more_by : (b : Bool) (n : ℕ) (ns : List ℕ) (j : ℕ) → has nat_cmp j ns ≡ true → has nat_cmp j (cond b (put nat_cmp n ns) ns) ≡ true
+more_by true n ns j e = (has_Decides nat_linear j (put nat_cmp n ns)).1 (Has-put nat_linear n ns j (inr ((has_Decides nat_linear j ns).0 e)))
+more_by false n ns j e = e
+
+-- a number that wasn't put in was told to be apart
+told_by : (b t : Bool) (n : ℕ) (ns : List ℕ) → b ≡ not t → has nat_cmp n (cond b (put nat_cmp n ns) ns) ≡ false → t ≡ true
+told_by b true n ns e h = refl
+told_by true false n ns e h = absurd (false_is_true (sym h ∙ has_put n ns))
+told_by false false n ns e h = absurd (false_is_true e)
+
+-- one part more
+pub linked_step : (demands : List Demand) (d : Demand) (n k : ℕ) (old new more : List RowSet) (own other : RowSet) (b t : Bool) → IsLinked demands d n k old new own → k < length old
+    → t ≡ tells_apart d (demand_of demands k) → b ≡ not t → more ≡ slice_set new k (cond b (put nat_cmp n (links_of new k)) (links_of new k)) → other ≡ cond b (put nat_cmp k own) own
+    → IsLinked demands d n (k + 1) old more other
+linked_step demands d n k old new more own other b t w l tell turn e f = record {
+  count = ap length e ∙ set_length new k line ∙ w.count;
+  kept = λ i j h. elim (same_or_other i k) [
+    | inl o ↦ w.kept i j (subst (λ m. has nat_cmp j (links_of new m) ≡ false) (sym o) (less_by b n (links_of new k) j (sym (ap (has nat_cmp j) (ap (λ x. links_of more x) o ∙ here)) ∙ h)))
+    | inr o ↦ w.kept i j (sym (ap (has nat_cmp j) (there i o)) ∙ h)
+  ];
+  told = λ i m h. elim (same_or_other i k) [
+    | inl o ↦ subst (λ x. tells_apart d (demand_of demands x) ≡ true) (sym o) (sym tell ∙ told_by b t n (links_of new k) turn (sym (ap (has nat_cmp n) (ap (λ x. links_of more x) o ∙ here)) ∙ h))
+    | inr o ↦ w.told i (omega arith) (sym (ap (has nat_cmp n) (there i o)) ∙ h)
+  ];
+  own_told = λ i m h. elim (same_or_other i k) [
+    | inl o ↦ subst (λ x. tells_apart d (demand_of demands x) ≡ true) (sym o) (sym tell ∙ told_by b t k own turn (subst (λ x. has nat_cmp x (cond b (put nat_cmp k own) own) ≡ false) o (sym (ap (has nat_cmp i) f) ∙ h)))
+    | inr o ↦ w.own_told i (omega arith) (less_by b k own i (sym (ap (has nat_cmp i) f) ∙ h))
+  ];
+  itself = ap (has nat_cmp n) f ∙ more_by b k own n w.itself;
+}
+  where
+    line : RowSet
+    line = cond b (put nat_cmp n (links_of new k)) (links_of new k)
+
+    inside : k < length new
+    inside = let c = w.count in omega arith
+
+    here : links_of more k ≡ line
+    here = ap (λ x. links_of x k) e ∙ set_same new k line [] inside
+
+    there : (i : ℕ) → i ≢ k → links_of more i ≡ links_of new i
+    there i o = ap (λ x. links_of x i) e ∙ set_other new k i line [] o
+
+-- ---- parts
+
+nothing_sound : AreSound []
+nothing_sound = record { proper = λ r h. absurd h; consistent = λ r h. absurd h }
+
+-- the parts so far, with one more behind them
+pub linked_push : (T : Table) (own lists : List (List Pair)) (demands : List Demand) (links new : List RowSet) (more : List (List Pair)) (more_demands : List Demand) (more_links : List RowSet)
+    (ps : List Pair) (d : Demand) (line : RowSet) → AreLinked T own lists demands links → AreSound ps → Demands T own ps d → IsLinked demands d (length lists) (length lists) links new line
+    → more ≡ lists ++ ps ∷ [] → more_demands ≡ demands ++ d ∷ [] → more_links ≡ new ++ line ∷ [] → AreLinked T own more more_demands more_links
+linked_push T own lists demands links new more more_demands more_links ps d line w s a l e f g =
+    subst (λ x. AreLinked T own x more_demands more_links) (sym e) (subst (λ x. AreLinked T own (lists ++ ps ∷ []) x more_links) (sym f) (subst (AreLinked T own (lists ++ ps ∷ []) (demands ++ d ∷ [])) (sym g) (record {
+      demand_count = longer demands lists d ps w.demand_count;
+      link_count = longer new lists line ps (l.count ∙ w.link_count);
+      sound = λ k. sound k;
+      demanded = λ k m. elim (same_or_other k n) [
+        | inl o ↦ subst (λ x. Demands T own (part_of (lists ++ ps ∷ []) x) (demand_of (demands ++ d ∷ []) x)) (sym o)
+            (subst (λ x. Demands T own x (demand_of (demands ++ d ∷ []) n)) (sym part_last) (subst (Demands T own ps) (sym demand_last) a))
+        | inr o ↦ subst (λ x. Demands T own x (demand_of (demands ++ d ∷ []) k)) (sym (part_before k (before k m o))) (subst (Demands T own (part_of lists k)) (sym (demand_before k (before k m o))) (w.demanded k (before k m o)))
+      ];
+      linked = λ i j m o h. linked i j (same_or_other i n) (same_or_other j n) m o h;
+    })))
+  where
+    n : ℕ
+    n = length lists
+
+    longer : {X Y : Type 0} (xs : List X) (ys : List Y) (x : X) (y : Y) → length xs ≡ length ys → length (xs ++ x ∷ []) ≡ length (ys ++ y ∷ [])
+    longer xs ys x y e = length-append xs (x ∷ []) ∙ ap (λ m. m + 1) e ∙ sym (length-append ys (y ∷ []))
+
+    before : (k : ℕ) → k < length (lists ++ ps ∷ []) → k ≢ n → k < n
+    before k m o = let c = length-append lists (ps ∷ []) in omega arith
+
+    demand_count : length demands ≡ n
+    demand_count = w.demand_count
+
+    link_count : length new ≡ n
+    link_count = l.count ∙ w.link_count
+
+    part_last : part_of (lists ++ ps ∷ []) n ≡ ps
+    part_last = at_last lists ps [] n refl
+
+    demand_last : demand_of (demands ++ d ∷ []) n ≡ d
+    demand_last = at_last demands d _ n (sym demand_count)
+
+    links_last : links_of (new ++ line ∷ []) n ≡ line
+    links_last = at_last new line [] n (sym link_count)
+
+    part_before : (k : ℕ) → k < n → part_of (lists ++ ps ∷ []) k ≡ part_of lists k
+    part_before k m = at_before lists (ps ∷ []) [] k m
+
+    demand_before : (k : ℕ) → k < n → demand_of (demands ++ d ∷ []) k ≡ demand_of demands k
+    demand_before k m = let c = demand_count in at_before demands (d ∷ []) _ k (omega arith)
+
+    links_before : (k : ℕ) → k < n → links_of (new ++ line ∷ []) k ≡ links_of new k
+    links_before k m = let c = link_count in at_before new (line ∷ []) [] k (omega arith)
+
+    past : (k : ℕ) → k ≢ n → n ≤ k → length (lists ++ ps ∷ []) ≤ k
+    past k o m = let c = length-append lists (ps ∷ []) in omega arith
+
+    sound : (k : ℕ) → AreSound (part_of (lists ++ ps ∷ []) k)
+    sound k = elim (same_or_other k n) [
+      | inl o ↦ subst (λ x. AreSound (part_of (lists ++ ps ∷ []) x)) (sym o) (subst AreSound (sym part_last) s)
+      | inr o ↦ elim (cases_lt k n) [
+        | inl m ↦ subst AreSound (sym (part_before k m)) (w.sound k)
+        | inr m ↦ subst AreSound (sym (get_or_past (lists ++ ps ∷ []) k [] (past k o m))) nothing_sound
+      ]
+    ]
+
+    demand_is : (i : ℕ) → i ≡ n → demand_of (demands ++ d ∷ []) i ≡ d
+    demand_is i o = ap (demand_of (demands ++ d ∷ [])) o ∙ demand_last
+
+    links_is : (i : ℕ) → i ≡ n → links_of (new ++ line ∷ []) i ≡ line
+    links_is i o = ap (links_of (new ++ line ∷ [])) o ∙ links_last
+
+    linked : (i j : ℕ) → (i ≡ n) ⊎ (i ≢ n) → (j ≡ n) ⊎ (j ≢ n) → i < length (lists ++ ps ∷ []) → j < length (lists ++ ps ∷ []) → has nat_cmp j (links_of (new ++ line ∷ []) i) ≡ false
+        → (tells_apart (demand_of (demands ++ d ∷ []) i) (demand_of (demands ++ d ∷ []) j) ≡ true) ⊎ (tells_apart (demand_of (demands ++ d ∷ []) j) (demand_of (demands ++ d ∷ []) i) ≡ true)
+    linked i j (inl o) (inl q) m p h = absurd (false_is_true (sym h ∙ ap (has nat_cmp j) (links_is i o) ∙ ap (λ x. has nat_cmp x line) q ∙ l.itself))
+    linked i j (inl o) (inr q) m p h =
+        let first = demand_is i o in
+        let second = demand_before j (before j p q) in
+        inl ((λ k. tells_apart (first k) (second k)) ∙ l.own_told j (before j p q) (sym (ap (has nat_cmp j) (links_is i o)) ∙ h))
+    linked i j (inr o) (inl q) m p h =
+        let first = demand_is j q in
+        let second = demand_before i (before i m o) in
+        inr ((λ k. tells_apart (first k) (second k)) ∙ l.told i (before i m o) (sym (ap (λ x. has nat_cmp x (links_of new i)) q) ∙ sym (ap (has nat_cmp j) (links_before i (before i m o))) ∙ h))
+    linked i j (inr o) (inr q) m p h =
+        let first = demand_before i (before i m o) in
+        let second = demand_before j (before j p q) in
+        let old = l.kept i j (sym (ap (has nat_cmp j) (links_before i (before i m o))) ∙ h) in
+        elim (w.linked i j (before i m o) (before j p q) old) [
+          | inl t ↦ inl ((λ k. tells_apart (first k) (second k)) ∙ t)
+          | inr t ↦ inr ((λ k. tells_apart (second k) (first k)) ∙ t)
+        ]
+
+-- ---- rows
+
+-- the parts before others are the same
+part_same : (lists more : List (List Pair)) (k : ℕ) → k < length lists → part_of (lists ++ more) k ≡ part_of lists k
+part_same lists more k l = at_before lists more [] k l
+
+pub join_same : (lists more : List (List Pair)) (ns : List ℕ) → ((k : ℕ) → Has ns k → k < length lists) → join_of (part_of (lists ++ more)) ns ≡ join_of (part_of lists) ns
+join_same lists more [] f = refl
+join_same lists more (k ∷ ns) f =
+    let first = part_same lists more k (f k (inl refl)) in
+    let rest = join_same lists more ns (λ j h. f j (inr h)) in
+    λ i. join (first i) (rest i)
+
+none_where : (p : ℕ → Bool) (n : ℕ) (xs : List ℕ) → ((x : ℕ) → Has xs x → p x ≡ false) → places_from p n xs ≡ []
+none_where p n [] f = refl
+none_where p n (x ∷ xs) f = ap (λ b. cond b (n ∷ places_from p (n + 1) xs) (places_from p (n + 1) xs)) (f x (inl refl)) ∙ none_where p (n + 1) xs (λ y h. f y (inr h))
+
+eq_itself : (i : ℕ) → nat_eq i i ≡ true
+eq_itself i = grind (arith, nat_tests)
+
+eq_other : (i j : ℕ) → i ≢ j → nat_eq i j ≡ false
+eq_other i j n = grind (arith, nat_tests)
+
+-- the numbers of a row's parts are below the number of parts
+pub numbers_below : (p : ℕ → Bool) (owners : List ℕ) (k : ℕ) → Has (places_where p owners) k → k < length owners
+numbers_below p owners k h = let c = (places_cases p 0 owners 0 k h).1 in omega arith
+
+-- no row was taken apart yet
+pub made_none : (T : Table) (r : Rule) → AreMade T r [] [] []
+made_none T r = record { owner_count = refl; owned = λ o h. h; once = tt; listed = λ i h. absurd h }
+
+pub linked_nothing : (T : Table) (own : List (List Pair)) → AreLinked T own [] [] []
+linked_nothing T own = record {
+  demand_count = refl;
+  link_count = refl;
+  sound = λ k. nothing_sound;
+  demanded = λ k l. absurd (omega arith);
+  linked = λ i j l m h. absurd (omega arith);
+}
+
+-- lists with the same pairs keep each other's
+kept_same : (S : Pair → Pair → Type 0) → IsStandIn S → (ps qs : List Pair) → AreAlike ps qs → IsKeptBy S ps qs
+kept_same S o ps qs a = record { from = a.back; covers = λ p h. (p, a.there p h, o.itself p) }
+
+-- a row that is one part
+pub made_one : (T : Table) (r : Rule) (made owners more_made more_owners : List ℕ) (lists more : List (List Pair)) (i : ℕ) (ps : List Pair) → AreMade T r made owners lists → (Has made i → ⊥) → AreSound ps
+    → IsKeptBy (StandsFor T r) (pairs_at T i) ps → more_made ≡ put nat_cmp i made → more_owners ≡ owners ++ i ∷ [] → more ≡ lists ++ ps ∷ [] → AreMade T r more_made more_owners more
+made_one T r made owners more_made more_owners lists more i ps w new s k d e f =
+    subst (λ x. AreMade T r x more_owners more) (sym d) (subst (λ x. AreMade T r (put nat_cmp i made) x more) (sym e) (subst (AreMade T r (put nat_cmp i made) (owners ++ i ∷ [])) (sym f) (record {
+      owner_count = longer w.owner_count (length-append owners (i ∷ [])) (length-append lists (ps ∷ []));
+      owned = λ o h. elim (append_cases owners (i ∷ []) o h) [
+        | inl m ↦ Has-put nat_linear i made o (inr (w.owned o m))
+        | inr m ↦ elim m [ inl q ↦ Has-put nat_linear i made o (inl q) | inr z ↦ absurd z ]
+      ];
+      once = HasNoRepeats-append owners (i ∷ []) w.once ((λ h. h), tt) (λ z h m. elim m [ inl q ↦ no_owner (subst (Has owners) q h) | inr z0 ↦ absurd z0 ]);
+      listed = λ j h. elim (put_cases nat_cmp i made j h) [
+        | inl q ↦ subst (λ x. IsKeptBy (StandsFor T r) (pairs_at T x) (join_of (part_of (lists ++ ps ∷ [])) (numbers_of (owners ++ i ∷ []) x))) (sym q) here
+        | inr m ↦ there j m
+      ];
+    })))
+  where
+    n : ℕ
+    n = length lists
+
+    longer : length owners ≡ length lists → length (owners ++ i ∷ []) ≡ length owners + 1 → length (lists ++ ps ∷ []) ≡ length lists + 1 → length (owners ++ i ∷ []) ≡ length (lists ++ ps ∷ [])
+    longer c a b = omega arith
+
+    no_owner : Has owners i → ⊥
+    no_owner h = new (w.owned i h)
+
+    zero_more : 0 + length owners ≡ length owners
+    zero_more = omega arith
+
+    own_numbers : numbers_of (owners ++ i ∷ []) i ≡ n ∷ []
+    own_numbers =
+        places_push (λ o. nat_eq o i) 0 owners i
+        ∙ ap (λ ns. ns ++ cond (nat_eq i i) ((0 + length owners) ∷ []) []) (none_where (λ o. nat_eq o i) 0 owners (λ o h. eq_other o i (λ q. no_owner (subst (Has owners) q h))))
+        ∙ ap (λ b. cond b ((0 + length owners) ∷ []) []) (eq_itself i)
+        ∙ ap (λ m. m ∷ []) (zero_more ∙ w.owner_count)
+
+    last : part_of (lists ++ ps ∷ []) n ≡ ps
+    last = at_last lists ps [] n refl
+
+    here : IsKeptBy (StandsFor T r) (pairs_at T i) (join_of (part_of (lists ++ ps ∷ [])) (numbers_of (owners ++ i ∷ []) i))
+    here = subst (λ ns. IsKeptBy (StandsFor T r) (pairs_at T i) (join_of (part_of (lists ++ ps ∷ [])) ns)) (sym own_numbers)
+        (subst (λ qs. IsKeptBy (StandsFor T r) (pairs_at T i) (join qs (empty_pair ∷ []))) (sym last)
+        (kept_on (stands_in T r) (pairs_at T i) ps (join ps (empty_pair ∷ [])) k (kept_same (StandsFor T r) (stands_in T r) ps (join ps (empty_pair ∷ [])) (alike_sym (join ps (empty_pair ∷ [])) ps (join_nothing ps s)))))
+
+    nothing_behind : (b : Bool) (ns : List ℕ) (m : ℕ) → b ≡ false → ns ++ cond b (m ∷ []) [] ≡ ns
+    nothing_behind b ns m e = ap (λ c. ns ++ cond c (m ∷ []) []) e ∙ append-nil ns
+
+    old_numbers : (j : ℕ) → Has made j → numbers_of (owners ++ i ∷ []) j ≡ numbers_of owners j
+    old_numbers j m =
+        places_push (λ o. nat_eq o j) 0 owners i
+        ∙ nothing_behind (nat_eq i j) (numbers_of owners j) (0 + length owners) (eq_other i j (λ q. new (subst (Has made) (sym q) m)))
+
+    there : (j : ℕ) → Has made j → IsKeptBy (StandsFor T r) (pairs_at T j) (join_of (part_of (lists ++ ps ∷ [])) (numbers_of (owners ++ i ∷ []) j))
+    there j m = subst (λ ns. IsKeptBy (StandsFor T r) (pairs_at T j) (join_of (part_of (lists ++ ps ∷ [])) ns)) (sym (old_numbers j m))
+        (subst (IsKeptBy (StandsFor T r) (pairs_at T j)) (sym (join_same lists (ps ∷ []) (numbers_of owners j) (λ k h. let l = numbers_below (λ o. nat_eq o j) owners k h in let c = w.owner_count in omega arith))) (w.listed j m))
+
+-- what was listed of a row is sound
+pub row_sound : (T : Table) (r : Rule) (i : ℕ) (ps : List Pair) → IsKeptBy (StandsFor T r) (pairs_at T i) ps → AreSound ps
+row_sound T r i ps k = sound_some (pairs_at T i) ps k.from (rows_sound T i)
+
+-- there is a number for one row more
+pub room_left : (made owners : List ℕ) (i : ℕ) → HasNoRepeats owners → ((o : ℕ) → Has owners o → Has made o) → AllByRecursion (λ x. x < 256) made → i < 256 → (Has made i → ⊥) → length owners < 256
+room_left made owners i once owned below l new =
+    let c = numbered_short (i ∷ owners) (λ x. x) 256 ((λ h. new (owned i h)), once)
+    (λ x h. elim h [ inl q ↦ subst (λ y. y < 256) (sym q) l | inr m ↦ all_at (λ x. x < 256) made x below (owned x m) ]) (λ x y h k e. e) in
+    omega arith
+
+-- and so no more than there are numbers
+pub room_kept : (made owners : List ℕ) → HasNoRepeats owners → ((o : ℕ) → Has owners o → Has made o) → AllByRecursion (λ x. x < 256) made → length owners ≤ 256
+room_kept made owners once owned below = numbered_short owners (λ x. x) 256 once (λ x h. all_at (λ x. x < 256) made x below (owned x h)) (λ x y h k e. e)
+
+pub longer_none : (lists : List (List Pair)) → IsLonger lists lists
+longer_none lists = ([], sym (append-nil lists))
+
+pub longer_on : (a b c : List (List Pair)) → IsLonger a b → IsLonger b c → IsLonger a c
+longer_on a b c (x, e) (y, f) = (x ++ y, f ∙ ap (λ z. z ++ y) e ∙ append_assoc a x y)
+
+-- the list of an elementary row
+pub no_row_listed : (t : TableView) (r : Rule) (qs : List Pair) (i : ℕ) → IsTable t → slice_get t.elementary i ≡ None → qs ≡ [] → IsListed (StandsFor (table_at t) r) (pairs_at (table_at t) i) qs
+no_row_listed t r qs i w e n =
+    let d : slice_index_or (normal.elementary_rows (core_of t)) i Bottom ≡ Bottom = no_elementary_tree t i w e in
+    subst (IsListed (StandsFor (table_at t) r) (pairs_at (table_at t) i)) (sym n)
+    (subst (λ xs. IsListed (StandsFor (table_at t) r) xs []) (sym (ap (λ F. pairs (row_place t) F) d)) (record { kept = kept_all (stands_in (table_at t) r) []; rising = tt }))
+
+pub row_listed : (t : TableView) (r : Rule) (qs : List Pair) (i k : ℕ) → IsTable t → slice_get t.elementary i ≡ Some k → IsListedRow t r k qs → IsListed (StandsFor (table_at t) r) (pairs_at (table_at t) i) qs
+row_listed t r qs i k w e listed = subst (λ F. IsListed (StandsFor (table_at t) r) (pairs (row_place t) F) qs) (sym (elementary_tree t i k w e)) listed
+
+-- ---- members
+
+pub none_left : (made state rest : List ℕ) → rest ≡ state → (i : ℕ) → Has state i → Has made i ⊎ Has rest i
+none_left made state rest e i h = inr (subst (λ xs. Has xs i) (sym e) h)
+
+pub one_made : (made more state rest left : List ℕ) (k : ℕ) → rest ≡ k ∷ left → ((i : ℕ) → Has state i → Has made i ⊎ Has rest i) → HasMade k made more → (i : ℕ) → Has state i → Has more i ⊎ Has left i
+one_made made more state rest left k e f m i h = elim (f i h) [
+  | inl x ↦ inl (m.1 i x)
+  | inr x ↦ elim (subst (λ xs. Has xs i) e x) [ inl q ↦ inl (subst (Has more) (sym q) m.0) | inr y ↦ inr y ]
+]
+
+pub all_made : (made state rest : List ℕ) → rest ≡ [] → ((i : ℕ) → Has state i → Has made i ⊎ Has rest i) → (i : ℕ) → Has state i → Has made i
+all_made made state rest e f i h = elim (f i h) [ inl x ↦ x | inr x ↦ absurd (subst (λ xs. Has xs i) e x) ]
+
+-- ---- groups
+
+pub linked_more : (links : List RowSet) (inside rest left linked more : RowSet) (k : ℕ) → rest ≡ k ∷ left → ((i j : ℕ) → Has inside i → Has (links_of links i) j → Has linked j ⊎ Has rest i) → more ≡ union nat_cmp linked (links_of links k)
+    → (i j : ℕ) → Has inside i → Has (links_of links i) j → Has more j ⊎ Has left i
+linked_more links inside rest left linked more k e f g i j h m = elim (f i j h m) [
+  | inl x ↦ inl (subst (λ xs. Has xs j) (sym g) (union_left nat_linear linked (links_of links k) j x))
+  | inr x ↦ elim (subst (λ xs. Has xs i) e x) [
+    | inl q ↦ inl (subst (λ xs. Has xs j) (sym g) (union_right nat_linear linked (links_of links k) j (subst (λ y. Has (links_of links y) j) q m)))
+    | inr y ↦ inr y
+  ]
+]
+
+pub linked_past : (links : List RowSet) (inside rest left linked : RowSet) (k : ℕ) → rest ≡ k ∷ left → ((i j : ℕ) → Has inside i → Has (links_of links i) j → Has linked j ⊎ Has rest i) → slice_get links k ≡ None
+    → (i j : ℕ) → Has inside i → Has (links_of links i) j → Has linked j ⊎ Has left i
+linked_past links inside rest left linked k e f g i j h m = elim (f i j h m) [
+  | inl x ↦ inl x
+  | inr x ↦ elim (subst (λ xs. Has xs i) e x) [
+    | inl q ↦ absurd (subst (λ xs. Has xs j) (nothing_there links k g) (subst (λ y. Has (links_of links y) j) q m))
+    | inr y ↦ inr y
+  ]
+]
+  where
+    nothing_there : (xs : List RowSet) (k : ℕ) → slice_get xs k ≡ None → slice_index_or xs k [] ≡ []
+    nothing_there [] k g = refl
+    nothing_there (x ∷ xs) zero g = cc
+    nothing_there (x ∷ xs) (suc k) g = nothing_there xs k g
+
+pub links_at : (xs : List RowSet) (k : ℕ) (x : RowSet) → slice_get xs k ≡ Some x → links_of xs k ≡ x
+links_at [] k x e = cc
+links_at (y ∷ xs) zero x e = cc
+links_at (y ∷ xs) (suc k) x e = links_at xs k x e
+
+pub linked_end : (links : List RowSet) (inside rest linked : RowSet) → rest ≡ [] → ((i j : ℕ) → Has inside i → Has (links_of links i) j → Has linked j ⊎ Has rest i) → (i j : ℕ) → Has inside i → Has (links_of links i) j → Has linked j
+linked_end links inside rest linked e f i j h m = elim (f i j h m) [ inl x ↦ x | inr x ↦ absurd (subst (λ xs. Has xs i) e x) ]
+
+-- the whole rest is a group
+pub group_whole : (links : List RowSet) (first : ℕ) (rest : RowSet) → Has rest first → IsGroup links first rest rest
+group_whole links first rest h = record { there = h; some = λ i k. k; closed = λ i k j m n. m }
+
+-- so is what doesn't grow any more
+pub group_grown : (links : List RowSet) (first : ℕ) (rest inside linked more : RowSet) → Has inside first → ((i : ℕ) → Has inside i → Has rest i) → ((i j : ℕ) → Has inside i → Has (links_of links i) j → Has linked j)
+    → more ≡ union nat_cmp inside (filter (λ i. has nat_cmp i linked) rest) → more ≡ inside → IsGroup links first rest inside
+group_grown links first rest inside linked more h some all e d = record {
+  there = h;
+  some = some;
+  closed = λ i k j m n. subst (λ xs. Has xs j) (sym e ∙ d)
+      (union_right nat_linear inside (filter (λ x. has nat_cmp x linked) rest) j (Has-filter (λ x. has nat_cmp x linked) rest j m ((has_Decides nat_linear j linked).1 (all i j k n))));
+}
+
+pub more_inside : (rest inside linked more : RowSet) → ((i : ℕ) → Has inside i → Has rest i) → more ≡ union nat_cmp inside (filter (λ i. has nat_cmp i linked) rest) → (i : ℕ) → Has more i → Has rest i
+more_inside rest inside linked more some e i h = elim (union_cases nat_linear inside (filter (λ x. has nat_cmp x linked) rest) i (subst (λ xs. Has xs i) e h)) [
+  | inl k ↦ some i k
+  | inr k ↦ (filter_cases (λ x. has nat_cmp x linked) rest i k).0
+]
+
+pub more_there : (first : ℕ) (rest inside linked more : RowSet) → Has inside first → more ≡ union nat_cmp inside (filter (λ i. has nat_cmp i linked) rest) → Has more first
+more_there first rest inside linked more h e = subst (λ xs. Has xs first) (sym e) (union_left nat_linear inside (filter (λ x. has nat_cmp x linked) rest) first h)

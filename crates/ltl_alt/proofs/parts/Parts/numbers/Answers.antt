@@ -1,0 +1,33 @@
+use Rattle.std.proofs.Common.{◌<◌, ◌∙◌, ap, arith, sym, subst, length}
+use Rattle.std.specs.Ordering.{nat_cmp}
+use Rattle.ltl_spec.specs.Collections.Sets.{Has, has}
+use Rattle.ltl_spec.proofs.Collections.ListLaws.{Has-at}
+use Rattle.ltl_spec.proofs.Collections.SetLaws.{all_at}
+use Rattle.ltl_alt.proofs.PartLaws.{room_kept}
+use Rattle.ltl_alt.proofs.TransitionLaws.{marks_step}
+use Rattle.ltl_alt.proofs.parts.Parts.numbers.Goals as goal
+
+pub contains-requires : goal.contains-requires
+contains-requires g c =
+    let owners = c.args.self.now.owners.items in
+    let long = c.len-k-end.ensures in
+    let test = c.parts-test.true in
+    let inside : c.parts.k < length owners = omega arith in
+    let there = subst (Has owners) (sym c.index.ensures) (Has-at owners c.parts.k c.index.result.now inside) in
+    all_at (λ x. x < 256) c.args.self.now.made c.index.result.now c.members_rise.ensures.below (c.requires.owned c.index.result.now there)
+
+pub put_if-requires : goal.put_if-requires
+put_if-requires g c =
+    let long = c.len-k-end.ensures in
+    let test = c.parts-test.true in
+    let few = room_kept c.args.self.now.made c.args.self.now.owners.items c.requires.once c.requires.owned c.members_rise.ensures.below in
+    omega arith
+
+pub parts-preserved : goal.parts-preserved
+parts-preserved g c =
+    let owners = c.args.self.now.owners.items in
+    let state = c.args.state.now in
+    let long = c.len-k-end.ensures in
+    let test = c.parts-test.true in
+    let inside : c.parts.k < length owners = omega arith in
+    c.put_if.ensures ∙ marks_step (λ o. has nat_cmp o state) c.index.result.now owners c.parts.k c.contains.result c.parts.numbers inside (c.contains.ensures ∙ ap (λ o. has nat_cmp o state) c.index.ensures) c.parts.invariant

@@ -1,0 +1,23 @@
+use Rattle.std.proofs.Common.{◌≡◌, ◌<◌, ◌+◌, ◌∷◌, ◌++◌, [], ◌∙◌, ap, sym, arith, length, take}
+use Rattle.std.proofs.lemmas.List.{take_more}
+use Rattle.ltl_alt.proofs.PruneLaws.{least_stays, least_goes}
+use Rattle.ltl_alt.proofs.prune.put_least.Goals as goal
+use Rattle.ltl_alt.proofs.prune.put_least.Goals.{then-not-has_lesser+in_ok-push, else-not-has_lesser}
+
+pub measured-preserved : goal.measured-preserved
+measured-preserved g c =
+    let r = c.args.pruning.now.rule in
+    let own = c.args.pruning.now.own.now in
+    let all = c.args.lookup.now in
+    let ms = c.args.measured.now in
+    let i = c.measured.m-index in
+    let m = c.m-item.result in
+    let inside : i < length ms = omega arith in
+    let next : take (i + 1) ms ≡ take i ms ++ m ∷ [] = take_more ms i m inside ∙ ap (λ x. take i ms ++ x ∷ []) (sym c.m-item.is) in
+    elim c.if-not-has_lesser.branch [
+      | then-not-has_lesser+in_ok-push w ↦
+          least_stays r own all (take i ms) (take (i + 1) ms) m c.measured.pairs.items c.if-not-has_lesser.pairs.items next (sym c.has_lesser.ensures ∙ w.if-not-has_lesser.true)
+          (ap (λ v. v.items) w.pairs-is ∙ w.in_ok-push.ensures.items) c.measured.invariant
+      | else-not-has_lesser w ↦
+          least_goes r own all (take i ms) (take (i + 1) ms) m c.measured.pairs.items c.if-not-has_lesser.pairs.items next (sym c.has_lesser.ensures ∙ w.if-not-has_lesser.false) (ap (λ v. v.items) w.pairs-is) c.measured.invariant
+    ]

@@ -1,7 +1,0 @@
-use Rattle.std.proofs.Common.{◌≡◌, take, map}
-use Rattle.ltl_spec.specs.Transitions.RowTransitions as spec
-use Rattle.ltl_alt.specs.TransitionView.{table_at}
-use Rattle.ltl_alt.proofs.transitions.marked.Given as goal
-
-abbrev pub invariant-pairs : goal.invariant-pairs
-invariant-pairs g l = l.all.items ≡ map (spec.with_marks (table_at l.table)) (take l.pair-index l.pairs)

@@ -1,0 +1,24 @@
+-- Transitions at once.
+use Rattle.std.specs.Prelude.{◌≡◌, ◌<◌, false, List, [], ◌∷◌, length, Option, option_map, flat_map, filter_map}
+use Rattle.std.specs.Ordering.{nat_cmp}
+use Rattle.ltl_spec.specs.Collections.Sets.{Has, union}
+use Rattle.ltl_spec.specs.Transitions.Cubes.{Cube, join_cubes, is_contradictory}
+use Rattle.ltl_spec.specs.Transitions.RowTransitions.{Transition}
+use Rattle.ltl_spec.proofs.Transitions.ApartMarks.{common}
+
+-- both transitions at once, unless their literals contradict each other
+abbrev pub join_transitions : Transition → Transition → Option Transition
+join_transitions a b = option_map (λ (c : Cube). record { cube = c; targets = union nat_cmp a.targets b.targets; marks = common nat_cmp a.marks b.marks }) (join_cubes a.cube b.cube)
+
+-- one of each list, in every way
+abbrev pub joined_products : List Transition → List Transition → List Transition
+joined_products ts us = flat_map (λ a. filter_map (join_transitions a) us) ts
+
+-- none contradicts itself
+abbrev pub AreConsistent : List Transition → Type 0
+AreConsistent ts = (t : Transition) → Has ts t → is_contradictory t.cube ≡ false
+
+-- each list has a transition
+abbrev pub AreNonempty : List (List Transition) → Type 0
+AreNonempty [] = Unit {0}
+AreNonempty (ts ∷ tss) = (0 < length ts) × AreNonempty tss

@@ -1,0 +1,232 @@
+//! The rows of a table taken apart into parts, and which parts have to do with each other.
+
+ghost use Rattle.std.specs.Prelude.{◌≡◌, slice_get, ℕ, ◌<◌, ◌≤◌, ◌++◌, ◌∷◌, [], List, length, OnOk, IfOk};
+ghost use Rattle.ltl_spec.specs.Collections.Lists.{HasNoRepeats};
+ghost use Rattle.ltl_spec.specs.Collections.Sets.{Has};
+ghost use Rattle.ltl_spec.specs.Transitions.Pairs as spec_pairs;
+ghost use Rattle.ltl_spec.specs.Transitions.RowTransitions as spec;
+ghost use Rattle.ltl_spec.proofs.Transitions.SameJoins.{AreSound};
+ghost use Rattle.ltl_alt.specs.declared.rule.Rule as made_rule;
+ghost use Rattle.ltl_alt.specs.PartView.{AreLinked, AreMade, AreParts, HasMade, IsGroup, IsLinked, IsLonger, links_of, numbers_in, part_of};
+ghost use Rattle.ltl_alt.specs.RowLists.{AreLists};
+ghost use Rattle.ltl_alt.specs.StandIns.{AreOwn, IsListed, StandsFor};
+ghost use Rattle.ltl_alt.specs.TransitionView.{table_at};
+
+use crate::asked::Demand;
+use crate::pair::Pair;
+use crate::pair_set::PairSet;
+use crate::place::{elementary_row, put_if};
+use crate::row_lists::RowLists;
+use crate::rule::Pruning;
+use ltl_formula::Table;
+use ltl_sets::RowSet;
+use std::alloc::{AllocError, Allocator};
+
+/// Parts of rows by number. The pairs of a row are those of its parts at once.
+#[derive(Drop)]
+pub(crate) struct Parts<'a, A: Allocator> {
+    /// The place of the row that a part belongs to.
+    pub(crate) owners: Vec<usize, &'a A>,
+    pub(crate) lists: Vec<PairSet<'a, A>, &'a A>,
+    pub(crate) demands: Vec<Demand, &'a A>,
+    /// The parts that may have to do with a part.
+    pub(crate) links: Vec<RowSet, &'a A>,
+    /// The places of the rows that were taken apart.
+    pub(crate) made: RowSet,
+}
+
+/// Links a new part with those that may have to do with it. Answers its own links.
+fn link<A: Allocator>(links: &mut Vec<RowSet, &A>, demands: &[Demand], demand: &Demand) -> RowSet
+    requires few { length links.old.items < RowSet.LIMIT }
+    requires count { length demands.now ≡ length links.old.items }
+    ensures { IsLinked demands.now demand.now (length links.old.items) (length links.old.items) links.old.items links.new.items result }
+{
+    let number = links.len();
+    let mut own = RowSet::single(number);
+    'parts: for k in 0..number {
+        let is_linked = !demand.is_apart(&demands[k]);
+        put_if(&mut links[k], number, is_linked);
+        put_if(&mut own, k, is_linked);
+    }
+    own
+}
+
+impl<'a, A: Allocator> Parts<'a, A> {
+    /// No row was taken apart yet.
+    pub(crate) fn new(alloc: &'a A) -> Self
+        ensures linked { (T : spec.Table) → (own : List (List spec_pairs.Pair)) → AreLinked T own result.lists.items result.demands.items result.links.items }
+        ensures made { (T : spec.Table) → (r : made_rule.Rule) → AreMade T r result.made result.owners.items result.lists.items }
+    {
+        Parts {
+            owners: Vec::new(alloc),
+            lists: Vec::new(alloc),
+            demands: Vec::new(alloc),
+            links: Vec::new(alloc),
+            made: RowSet::empty(),
+        }
+    }
+
+    /// One part more, of the row at a place.
+    fn push(
+        &mut self,
+        table: &Table<'_, A>,
+        own: &[PairSet<'a, A>],
+        place: usize,
+        pairs: PairSet<'a, A>,
+    ) -> Result<(), AllocError>
+        requires own { AreOwn (table_at table.now) own.now }
+        requires linked { AreLinked (table_at table.now) own.now self.old.lists.items self.old.demands.items self.old.links.items }
+        requires few { length self.old.lists.items < RowSet.LIMIT }
+        requires sound { AreSound pairs }
+        ensures linked { OnOk result (AreLinked (table_at table.now) own.now self.new.lists.items self.new.demands.items self.new.links.items) }
+        ensures owners { OnOk result (self.new.owners.items ≡ self.old.owners.items ++ place ∷ []) }
+        ensures lists { OnOk result (self.new.lists.items ≡ self.old.lists.items ++ pairs.entry ∷ []) }
+        ensures made { self.new.made ≡ self.old.made }
+    {
+        let demand = Demand::of(table, own, pairs.as_slice());
+        let links = link(&mut self.links, self.demands.as_slice(), &demand);
+        self.links.push(links)?;
+        self.demands.push(demand)?;
+        self.owners.push(place)?;
+        self.lists.push(pairs)?;
+        Ok(())
+    }
+
+    /// Takes the row at a place apart, unless this was done before.
+    fn add(
+        &mut self,
+        alloc: &'a A,
+        table: &Table<'_, A>,
+        rows: &mut RowLists<'a, A>,
+        pruning: &Pruning<'_, 'a, A>,
+        place: usize,
+    ) -> Result<(), AllocError>
+        requires lists { AreLists table.now pruning.now.rule rows.old.pairs.items rows.old.sets.items }
+        requires own { AreOwn (table_at table.now) pruning.now.own.now }
+        requires parts { AreParts (table_at table.now) pruning.now.rule pruning.now.own.now self.old.made self.old.owners.items self.old.lists.items self.old.demands.items self.old.links.items }
+        requires place { place < RowSet.LIMIT }
+        ensures lists { OnOk result (AreLists table.now pruning.now.rule rows.new.pairs.items rows.new.sets.items) }
+        ensures parts { OnOk result (AreParts (table_at table.now) pruning.now.rule pruning.now.own.now self.new.made self.new.owners.items self.new.lists.items self.new.demands.items self.new.links.items) }
+        ensures made { OnOk result (HasMade place self.old.made self.new.made) }
+        ensures longer { OnOk result (IsLonger self.old.lists.items self.new.lists.items) }
+    {
+        if self.made.contains(place) {
+            return Ok(());
+        }
+        let pairs = row_pairs(alloc, table, rows, pruning, place)?;
+        self.made.members_rise();
+        self.push(table, pruning.own, place, pairs)?;
+        self.made.insert(place);
+        Ok(())
+    }
+
+    /// Takes the rows of a set apart.
+    pub(crate) fn prepare(
+        &mut self,
+        alloc: &'a A,
+        table: &Table<'_, A>,
+        rows: &mut RowLists<'a, A>,
+        pruning: &Pruning<'_, 'a, A>,
+        state: &RowSet,
+    ) -> Result<(), AllocError>
+        requires lists { AreLists table.now pruning.now.rule rows.old.pairs.items rows.old.sets.items }
+        requires own { AreOwn (table_at table.now) pruning.now.own.now }
+        requires parts { AreParts (table_at table.now) pruning.now.rule pruning.now.own.now self.old.made self.old.owners.items self.old.lists.items self.old.demands.items self.old.links.items }
+        ensures lists { OnOk result (AreLists table.now pruning.now.rule rows.new.pairs.items rows.new.sets.items) }
+        ensures parts { OnOk result (AreParts (table_at table.now) pruning.now.rule pruning.now.own.now self.new.made self.new.owners.items self.new.lists.items self.new.demands.items self.new.links.items) }
+        ensures made { OnOk result ((i : ℕ) → Has state.now i → Has self.new.made i) }
+        ensures longer { OnOk result (IsLonger self.old.lists.items self.new.lists.items) }
+    {
+        state.members_rise();
+        let mut rest = state.iter();
+        'members: while let Some(place) = rest.next() {
+            self.add(alloc, table, rows, pruning, place)?;
+        }
+        Ok(())
+    }
+
+    /// The pairs of the part with that number.
+    pub(crate) fn pairs(&self, number: usize) -> &[Pair]
+        requires { number < length self.now.lists.items }
+        ensures { result.now ≡ part_of self.now.lists.items number }
+    {
+        self.lists[number].as_slice()
+    }
+
+    /// The numbers of the parts of the rows of a set.
+    pub(crate) fn numbers(&self, state: &RowSet) -> RowSet
+        requires owned { (o : ℕ) → Has self.now.owners.items o → Has self.now.made o }
+        requires once { HasNoRepeats self.now.owners.items }
+        ensures { result ≡ numbers_in self.now.owners.items state.now }
+    {
+        self.made.members_rise();
+        let mut numbers = RowSet::empty();
+        'parts: for k in 0..self.owners.len() {
+            put_if(&mut numbers, k, state.contains(self.owners[k]));
+        }
+        numbers
+    }
+
+    /// The parts that may have to do with the one of that number.
+    fn links(&self, number: usize) -> Option<RowSet>
+        ensures { result ≡ slice_get self.now.links.items number }
+    {
+        self.links.get(number).copied()
+    }
+
+    /// The parts that may have to do with one of these.
+    fn linked_with(&self, inside: &RowSet) -> RowSet
+        ensures { (i j : ℕ) → Has inside.now i → Has (links_of self.now.links.items i) j → Has result j }
+    {
+        let mut linked = RowSet::empty();
+        let mut rest = inside.iter();
+        'members: while let Some(number) = rest.next() {
+            if let Some(links) = self.links(number) {
+                linked = linked.union(&links);
+            }
+        }
+        linked
+    }
+
+    /// Of the rest, the parts that may have to do with the first one, with those that may have to do with them, and so on.
+    pub(crate) fn group(&self, first: usize, rest: &RowSet) -> RowSet
+        requires first { first < RowSet.LIMIT }
+        requires there { Has rest.now first }
+        ensures { IsGroup self.now.links.items first rest.now result }
+    {
+        let mut inside = RowSet::single(first);
+        'rounds: for _round in 0..RowSet::LIMIT {
+            let linked = self.linked_with(&inside);
+            let more = inside.union(&rest.common(&linked));
+            if more == inside {
+                return inside;
+            }
+            inside = more;
+        }
+        *rest
+    }
+}
+
+/// The pairs of the elementary row at a place, as far as they are needed.
+fn row_pairs<'a, A: Allocator>(
+    alloc: &'a A,
+    table: &Table<'_, A>,
+    rows: &mut RowLists<'a, A>,
+    pruning: &Pruning<'_, 'a, A>,
+    place: usize,
+) -> Result<PairSet<'a, A>, AllocError>
+    requires lists { AreLists table.now pruning.now.rule rows.old.pairs.items rows.old.sets.items }
+    requires own { AreOwn (table_at table.now) pruning.now.own.now }
+    ensures lists { OnOk result (AreLists table.now pruning.now.rule rows.new.pairs.items rows.new.sets.items) }
+    ensures pairs { IfOk result (IsListed (StandsFor (table_at table.now) pruning.now.rule) (spec.pairs_at (table_at table.now) place)) }
+{
+    let _ = table.len();
+    let Some(row) = elementary_row(table, place) else {
+        return Ok(PairSet {
+            pairs: Vec::new(alloc),
+        });
+    };
+    rows.prepare(alloc, table, pruning, row)?;
+    let pairs = Vec::from_slice(alloc, rows.pairs(row))?;
+    Ok(PairSet { pairs })
+}

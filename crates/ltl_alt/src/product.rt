@@ -1,0 +1,109 @@
+//! One transition of each of some groups at once, in every way.
+
+ghost use Rattle.std.specs.Prelude.{◌≡◌, ℕ, ◌<◌, ◌≤◌, ◌++◌, true, false, filter_map, length, map, drop, IfOk, OnOk};
+ghost use Rattle.ltl_spec.specs.Collections.Sets.{Has};
+ghost use Rattle.ltl_spec.specs.Transitions.RowTransitions as spec;
+ghost use Rattle.ltl_spec.proofs.Transitions.FactorLaws.{all_products, product_size};
+ghost use Rattle.ltl_alt.specs.GroupView.{made_of};
+ghost use Rattle.ltl_alt.specs.ProductView.{AreConsistent, AreNonempty, join_transitions, joined_products};
+ghost use Rattle.ltl_alt.specs.StandIns.{AreOwn};
+ghost use Rattle.ltl_alt.specs.TransitionView.{table_at};
+
+use crate::groups::Groups;
+use crate::marks::marked;
+use crate::pair::Pair;
+use crate::pair_set::PairSet;
+use crate::transition::Transition;
+use ltl_formula::Table;
+use std::alloc::{AllocError, Allocator};
+
+/// Puts what a transition and each of a list are at once behind the others.
+fn product_one<A: Allocator>(
+    products: &mut Vec<Transition, &A>,
+    left: &Transition,
+    right: &[Transition],
+) -> Result<(), AllocError>
+    ensures { OnOk result (products.new.items ≡ products.old.items ++ filter_map (join_transitions left.now) right.now) }
+{
+    'right: for other in right {
+        if let Some(transition) = left.at_once(other) {
+            products.push(transition)?;
+        }
+    }
+    Ok(())
+}
+
+/// One transition of each side at once, in every way.
+fn product<'a, A: Allocator>(
+    alloc: &'a A,
+    left: &[Transition],
+    right: &[Transition],
+) -> Result<Vec<Transition, &'a A>, AllocError>
+    ensures { IfOk result (λ v. v.items ≡ joined_products left.now right.now) }
+{
+    let mut products = Vec::with_capacity(alloc, left.len().saturating_mul(right.len()))?;
+    'left: for transition in left {
+        product_one(&mut products, transition, right)?;
+    }
+    Ok(products)
+}
+
+/// One transition of each of these groups at once, in every way.
+pub(crate) fn all_products<'a, A: Allocator>(
+    alloc: &'a A,
+    table: &Table<'_, A>,
+    own: &[PairSet<'a, A>],
+    groups: &Groups<'a, A>,
+    numbers: &[usize],
+) -> Result<Vec<Transition, &'a A>, AllocError>
+    requires own { AreOwn (table_at table.now) own.now }
+    requires within { (k : ℕ) → Has numbers.now k → k < length groups.now.lists.items }
+    requires consistent { (k : ℕ) → AreConsistent (all_products (table_at table.now) (drop k (map (made_of groups.now.lists.items) numbers.now))) }
+    ensures { IfOk result (λ v. v.items ≡ all_products (table_at table.now) (map (made_of groups.now.lists.items) numbers.now)) }
+{
+    let mut products = marked(alloc, table, own, &[Pair::empty()])?;
+    let mut left = numbers.len();
+    'groups: while left > 0 {
+        left -= 1;
+        products = product(
+            alloc,
+            groups.transitions(numbers[left]),
+            products.as_slice(),
+        )?;
+    }
+    Ok(products)
+}
+
+/// Whether one of these groups has no transition.
+fn has_empty<A: Allocator>(groups: &Groups<'_, A>, numbers: &[usize]) -> bool
+    requires within { (k : ℕ) → Has numbers.now k → k < length groups.now.lists.items }
+    ensures { result ≡ false → AreNonempty (map (made_of groups.now.lists.items) numbers.now) }
+{
+    'groups: for number in numbers {
+        if groups.transitions(*number).is_empty() {
+            return true;
+        }
+    }
+    false
+}
+
+/// Whether there are more than so many combinations of one transition of each of these groups, if this is known before they are made.
+pub(crate) fn are_more<A: Allocator>(groups: &Groups<'_, A>, numbers: &[usize], most: usize) -> bool
+    requires within { (k : ℕ) → Has numbers.now k → k < length groups.now.lists.items }
+    ensures { result ≡ true → most < product_size (map (made_of groups.now.lists.items) numbers.now) }
+{
+    if has_empty(groups, numbers) {
+        return false;
+    }
+    let mut count = 1usize;
+    let mut left = numbers.len();
+    'groups: while left > 0 {
+        left -= 1;
+        let len = groups.transitions(numbers[left]).len();
+        if len > most / count {
+            return true;
+        }
+        count *= len;
+    }
+    false
+}

@@ -1,0 +1,9 @@
+use Rattle.ltl_sets.specs.WordLaws.{IsWords-without}
+use Rattle.ltl_sets.proofs.RowSetLaws.{members_without}
+use Rattle.ltl_sets.proofs.row_set.RowSet.without.Goals as goal
+
+pub invariant_of-result : goal.invariant_of-result
+invariant_of-result c = IsWords-without c.self.inside.lanes c.other.inside.lanes c.self.invariant c.other.invariant
+
+pub returns : goal.returns
+returns c = rw (← c.self.view_is, ← c.other.view_is) (members_without c.self.inside.lanes c.other.inside.lanes c.self.invariant c.other.invariant)
