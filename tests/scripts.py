@@ -15,9 +15,14 @@ PROGRAMS = "ltl2ba", "ltlcheck", "ltleval"
 RT = r"""#!/usr/bin/env bash
 name=$(basename "$PWD")
 echo "begin $1 $name" >>"$CALLS"
+for it in ../*; do
+    [ "$it" = "../$name" ] || [ -f "$it/out/rlib/stamp" ] || echo "lacks $name $it" >>"$CALLS"
+done
 case $1 in
-check)
+lib)
     echo "checked $name::some::function, 1 of 2"
+    echo "room $name $(ls .. | tr '\n' ' ')" >>"$CALLS"
+    mkdir -p out/rlib && echo kept >>out/rlib/stamp
     [ "$name" != "${FAILS:-}" ] || { echo "src/lib.rt:1:1: error[open-goal]: not proved"; exit 1; }
     ;;
 run)
@@ -60,7 +65,7 @@ class Tree:
         for head in TOP.glob("crates/*/src/*.rt"):
             if head.name in ("main.rt", "lib.rt"):
                 self.put(head.relative_to(TOP), "")
-        for place in "run", "build", "install", "crates.txt":
+        for place in "run", "build", "install", "crates.txt", "HANDLES":
             shutil.copy(TOP / place, self.top / place)
         shutil.copytree(TOP / "docs/man", self.top / "docs/man")
         self.put("formula", "p U q")
@@ -138,20 +143,24 @@ def try_build(tree):
     shown, told, status = tree.run("./build")
     tree.expect("the last line", (shown.split("\n")[-2].split(" in ")[0], told, status), ("built ltl2ba, ltlcheck, ltleval", "", 0))
     stands, seen, calls = below(tree), set(), tree.calls.read_text(encoding="ascii").split("\n")[:-1]
-    for kind, verb, name in map(str.split, calls):
+    for kind, verb, name in (it.split()[:3] for it in calls):
         if kind == "begin":
-            tree.expect(f"{name} after what it stands on", [it for it in stands[name] if f"end check {it}" not in calls[: calls.index(f"begin {verb} {name}")]], [])
+            tree.expect(f"{name} after what it stands on", [it for it in stands[name] if f"end lib {it}" not in calls[: calls.index(f"begin {verb} {name}")]], [])
             seen.add((verb, name))
     wanted, left = set(), list(PROGRAMS)
     while left:
         name = left.pop()
-        wanted.add(("run" if name in PROGRAMS else "check", name))
+        wanted.add(("run" if name in PROGRAMS else "lib", name))
         left += stands[name]
+    tree.expect("what a room lacks", [it for it in calls if it.startswith("lacks ")], [])
+    tree.expect("what a room has", [it for it in calls if it.startswith("room ltl_sets ")], ["room ltl_sets ltl_sets ltl_spec "])
+    tree.expect("what is kept", (tree.top / "crates/ltl_sets/out/rlib/stamp").read_text(encoding="ascii"), "kept\n")
     tree.expect("what is proved", seen, wanted)
     tree.expect("lines on crates", sorted(it.split()[-3] for it in shown.split("\n") if it.endswith((" is proved", " is built"))), sorted(name for _, name in wanted))
     tree.expect("built is run", tree.run("./run", "ltleval", has_rt=False), ("built\n", "", 0))
     shown, told, status = tree.run("./build", FAILS="ltl_alt")
     tree.expect("a proof fails", (shown.split("\n")[-3:-1], status), (["src/lib.rt:1:1: error[open-goal]: not proved", "build: ltl_alt is not proved; rt check in crates/ltl_alt tells more"], 1))
+    tree.expect("what is kept again", (tree.top / "crates/ltl_sets/out/rlib/stamp").read_text(encoding="ascii"), "kept\nkept\n")
     tree.expect("nothing above it", "ltl_buchi" in tree.calls.read_text(encoding="ascii"), False)
 
 

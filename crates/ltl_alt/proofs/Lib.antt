@@ -9,11 +9,13 @@ pub mod NearLaws
 pub mod NeedsLaws
 pub mod OwnLaws
 pub mod PartLaws
+pub mod PieceLaws
 pub mod PlaceLaws
 pub mod RowLaws
 pub mod RowListLaws
 pub mod ProductLaws
 pub mod PruneLaws
+pub mod ShapeLaws
 pub mod SortLaws
 pub mod StandInLaws
 pub mod TransitionLaws

@@ -1,35 +1,34 @@
 -- Parts of rows, one after another.
-use Rattle.std.proofs.Common.{◌≡◌, ◌≢◌, ℕ, zero, suc, ◌+◌, ◌<◌, ◌≤◌, ◌⊎◌, Bool, true, false, cond, not, inl, inr, List, [], ◌∷◌, ◌++◌, length, refl, sym, ◌∙◌, ap, subst, arith}
-use Rattle.std.specs.Prelude.{slice_get, slice_index_or, slice_set, nat_eq, Some, None, filter}
-use Rattle.std.specs.List.{AllByRecursion}
+use Rattle.std.proofs.Common.{map, ◌≡◌, ◌≢◌, ℕ, zero, suc, ◌+◌, ◌-◌, ◌<◌, ◌≤◌, ◌⊎◌, Bool, true, false, cond, not, inl, inr, List, [], ◌∷◌, ◌++◌, length, refl, sym, ◌∙◌, ap, subst, arith}
+use Rattle.std.specs.Prelude.{slice_get, slice_index_or, slice_set, nat_eq, Some, None, filter, min}
 use Rattle.std.proofs.lemmas.Bool.Decides.{nat_tests}
 use Rattle.std.proofs.lemmas.Bool.{cases_lt}
 use Rattle.std.specs.Ordering.{nat_cmp}
 use Rattle.std.proofs.lemmas.List.{length-append, get_or_past, append-nil, append_assoc}
 use Rattle.ltl_spec.specs.Collections.Sets.{Has, has, put, union}
-use Rattle.ltl_spec.specs.Collections.Lists.{HasNoRepeats, places_where, places_from}
-use Rattle.ltl_spec.specs.NormalForms.Normal.{Bottom}
-use Rattle.ltl_spec.specs.NormalForms.NormalForm as normal
-use Rattle.ltl_spec.specs.Transitions.Pairs.{RowSet, Pair, join, empty_pair, pairs}
-use Rattle.ltl_formula.specs.TableView.{TableView, IsTable, core_of}
+use Rattle.ltl_spec.specs.Collections.Lists.{places_where, places_from}
+use Rattle.ltl_spec.specs.Transitions.Pairs.{RowSet, Pair, join, empty_pair, later_pair, pairs}
+use Rattle.ltl_formula.specs.TableView.{TableView}
 use Rattle.ltl_spec.specs.Transitions.RowTransitions.{Table, pairs_at}
-use Rattle.ltl_spec.proofs.Collections.SetLaws.{has_Decides, put_cases, Has-put, append_cases, all_at, union_left, union_right, union_cases, filter_cases, Has-filter}
-use Rattle.ltl_spec.proofs.Collections.ListLaws.{places_cases, numbered_short}
-use Rattle.ltl_spec.proofs.Collections.ProductLists.{HasNoRepeats-append}
+use Rattle.ltl_spec.proofs.Collections.SetLaws.{has_Decides, put_cases, Has-put, append_cases, union_left, union_right, union_cases, filter_cases, Has-filter}
+use Rattle.ltl_spec.proofs.Collections.ListLaws.{places_cases}
 use Rattle.ltl_spec.proofs.Collections.CaseLaws.{false_is_true}
+use Rattle.ltl_spec.proofs.Collections.SumLaws.{filter_length}
 use Rattle.ltl_spec.proofs.Collections.Orders.{nat_linear}
-use Rattle.ltl_spec.proofs.Transitions.PartJoins.{join_of, rows_sound}
-use Rattle.ltl_spec.proofs.Transitions.SameJoins.{AreAlike, alike_sym, AreSound, sound_some, join_nothing}
+use Rattle.ltl_spec.proofs.Transitions.PartJoins.{join_all, join_of}
+use Rattle.ltl_spec.proofs.Transitions.SameJoins.{AreAlike, AreSound, sound_some}
 use Rattle.ltl_alt.specs.declared.asked.Demand.{Demand}
 use Rattle.ltl_alt.specs.AskedView.{Demands}
-use Rattle.ltl_alt.specs.PartView.{part_of, demand_of, links_of, tells_apart, numbers_of, IsLinked, AreLinked, AreMade, HasMade, IsLonger, IsGroup}
+use Rattle.ltl_alt.specs.PartView.{part_of, demand_of, links_of, tells_apart, numbers_of, IsLinked, AreAdded, AreKeptBy, AreLinked, AreMade, HasMade, HasRoom, IsLonger, IsGroup, unmade}
 use Rattle.ltl_alt.specs.declared.rule.Rule.{Rule}
 use Rattle.ltl_alt.specs.RowLists.{row_place, IsListedRow}
-use Rattle.ltl_alt.specs.StandIns.{IsKeptBy, IsListed, StandsFor}
+use Rattle.ltl_alt.specs.PieceView.{piece_pairs}
+use Rattle.ltl_alt.specs.declared.pieces.Piece.TheVariants as piece
+use Rattle.ltl_alt.specs.declared.rule.Rule.TheVariants as rule
+use Rattle.ltl_formula.specs.TableView.{row_tree}
+use Rattle.ltl_alt.specs.StandIns.{AreOwn, IsFit, IsKeptBy, IsListed, IsPruned, StandsFor}
 use Rattle.ltl_alt.specs.TransitionView.{table_at}
-use Rattle.ltl_alt.proofs.PlaceLaws.{elementary_tree, no_elementary_tree}
-use Rattle.ltl_alt.proofs.StandInLaws.{IsStandIn, stands_in, kept_on, kept_all}
-use Rattle.ltl_alt.proofs.TransitionLaws.{places_push}
+use Rattle.ltl_alt.proofs.StandInLaws.{IsStandIn, stands_in, kept_on, kept_all, kept_join, kept_append, pruned_of}
 use Rattle.ltl_alt.proofs.NeedsLaws.{same_or_other}
 use Rattle.ltl_alt.proofs.OwnLaws.{at_last, at_before}
 
@@ -247,7 +246,7 @@ numbers_below p owners k h = let c = (places_cases p 0 owners 0 k h).1 in omega 
 
 -- no row was taken apart yet
 pub made_none : (T : Table) (r : Rule) → AreMade T r [] [] []
-made_none T r = record { owner_count = refl; owned = λ o h. h; once = tt; listed = λ i h. absurd h }
+made_none T r = record { owner_count = refl; owned = λ o h. h; few = omega arith; listed = λ i h. absurd h }
 
 pub linked_nothing : (T : Table) (own : List (List Pair)) → AreLinked T own [] [] []
 linked_nothing T own = record {
@@ -262,76 +261,141 @@ linked_nothing T own = record {
 kept_same : (S : Pair → Pair → Type 0) → IsStandIn S → (ps qs : List Pair) → AreAlike ps qs → IsKeptBy S ps qs
 kept_same S o ps qs a = record { from = a.back; covers = λ p h. (p, a.there p h, o.itself p) }
 
--- a row that is one part
-pub made_one : (T : Table) (r : Rule) (made owners more_made more_owners : List ℕ) (lists more : List (List Pair)) (i : ℕ) (ps : List Pair) → AreMade T r made owners lists → (Has made i → ⊥) → AreSound ps
-    → IsKeptBy (StandsFor T r) (pairs_at T i) ps → more_made ≡ put nat_cmp i made → more_owners ≡ owners ++ i ∷ [] → more ≡ lists ++ ps ∷ [] → AreMade T r more_made more_owners more
-made_one T r made owners more_made more_owners lists more i ps w new s k d e f =
-    subst (λ x. AreMade T r x more_owners more) (sym d) (subst (λ x. AreMade T r (put nat_cmp i made) x more) (sym e) (subst (AreMade T r (put nat_cmp i made) (owners ++ i ∷ [])) (sym f) (record {
-      owner_count = longer w.owner_count (length-append owners (i ∷ [])) (length-append lists (ps ∷ []));
-      owned = λ o h. elim (append_cases owners (i ∷ []) o h) [
+-- of each list what was kept, and of all at once
+kept_lists : (T : Table) (r : Rule) (pss qss : List (List Pair)) → AreKeptBy (StandsFor T r) pss qss → IsKeptBy (StandsFor T r) (join_all pss) (join_all qss)
+kept_lists T r [] [] k = kept_all (stands_in T r) (empty_pair ∷ [])
+kept_lists T r [] (qs ∷ qss) k = absurd k
+kept_lists T r (ps ∷ pss) [] k = absurd k
+kept_lists T r (ps ∷ pss) (qs ∷ qss) k = kept_join (stands_in T r) ps qs (join_all pss) (join_all qss) k.0 (kept_lists T r pss qss k.1)
+
+kept_behind : (S : Pair → Pair → Type 0) (pss qss : List (List Pair)) (ps qs : List Pair) → AreKeptBy S pss qss → IsKeptBy S ps qs → AreKeptBy S (pss ++ ps ∷ []) (qss ++ qs ∷ [])
+kept_behind S [] [] ps qs k m = (m, tt)
+kept_behind S [] (xs ∷ qss) ps qs k m = absurd k
+kept_behind S (xs ∷ pss) [] ps qs k m = absurd k
+kept_behind S (xs ∷ pss) (ys ∷ qss) ps qs k m = (k.0, kept_behind S pss qss ps qs k.1 m)
+
+pub map_behind : {X Y : Type 0} (h : X → Y) (xs : List X) (x : X) → map h (xs ++ x ∷ []) ≡ map h xs ++ h x ∷ []
+map_behind h [] x = refl
+map_behind h (y ∷ xs) x = ap (λ ys. h y ∷ ys) (map_behind h xs x)
+
+-- no part was added yet
+pub added_none : (T : Table) (r : Rule) (i : ℕ) (pss : List (List Pair)) (owners : List ℕ) (lists : List (List Pair)) → pss ≡ [] → AreAdded T r i pss owners owners lists lists
+added_none T r i pss owners lists e = record {
+  parts = [];
+  kept = subst (λ xs. AreKeptBy (StandsFor T r) xs []) (sym e) tt;
+  lists_are = sym (append-nil lists);
+  owners_are = sym (append-nil owners);
+}
+
+-- one part more
+pub added_more : (T : Table) (r : Rule) (i : ℕ) (pss more : List (List Pair)) (owners now new : List ℕ) (lists now_lists new_lists : List (List Pair)) (ps qs : List Pair) → AreAdded T r i pss owners now lists now_lists
+    → IsKeptBy (StandsFor T r) ps qs → more ≡ pss ++ ps ∷ [] → new ≡ now ++ i ∷ [] → new_lists ≡ now_lists ++ qs ∷ [] → AreAdded T r i more owners new lists new_lists
+added_more T r i pss more owners now new lists now_lists new_lists ps qs w k e f d = record {
+  parts = w.parts ++ qs ∷ [];
+  kept = subst (λ xs. AreKeptBy (StandsFor T r) xs (w.parts ++ qs ∷ [])) (sym e) (kept_behind (StandsFor T r) pss w.parts ps qs w.kept k);
+  lists_are = d ∙ ap (λ xs. xs ++ qs ∷ []) w.lists_are ∙ append_assoc lists w.parts (qs ∷ []);
+  owners_are = f ∙ ap (λ xs. xs ++ i ∷ []) w.owners_are ∙ append_assoc owners (map (λ (xs : List Pair). i) w.parts) (i ∷ []) ∙ ap (λ xs. owners ++ xs) (sym (map_behind (λ (xs : List Pair). i) w.parts qs));
+}
+
+-- how many were added
+pub added_count : (T : Table) (r : Rule) (i : ℕ) (pss : List (List Pair)) (owners new : List ℕ) (lists new_lists : List (List Pair)) → AreAdded T r i pss owners new lists new_lists → length new_lists ≡ length lists + length pss
+added_count T r i pss owners new lists new_lists w = ap length w.lists_are ∙ length-append lists w.parts ∙ ap (λ n. length lists + n) (same pss w.parts w.kept)
+  where
+    same : (ps qs : List (List Pair)) → AreKeptBy (StandsFor T r) ps qs → length qs ≡ length ps
+    same [] [] k = refl
+    same [] (q ∷ qs) k = absurd k
+    same (p ∷ ps) [] k = absurd k
+    same (p ∷ ps) (q ∷ qs) k = ap suc (same ps qs k.1)
+
+-- places in lists in a row
+places_append : (p : ℕ → Bool) (n : ℕ) (xs ys : List ℕ) → places_from p n (xs ++ ys) ≡ places_from p n xs ++ places_from p (n + length xs) ys
+places_append p n [] ys = let e : n ≡ n + 0 = omega arith in ap (λ m. places_from p m ys) e
+places_append p n (x ∷ xs) ys = at (p x) (places_append p (n + 1) xs ys ∙ ap (λ m. places_from p (n + 1) xs ++ places_from p m ys) same)
+  where
+    same : n + 1 + length xs ≡ n + length (x ∷ xs)
+    same = omega arith
+
+    at : (b : Bool) → places_from p (n + 1) (xs ++ ys) ≡ places_from p (n + 1) xs ++ places_from p (n + length (x ∷ xs)) ys
+        → cond b (n ∷ places_from p (n + 1) (xs ++ ys)) (places_from p (n + 1) (xs ++ ys)) ≡ cond b (n ∷ places_from p (n + 1) xs) (places_from p (n + 1) xs) ++ places_from p (n + length (x ∷ xs)) ys
+    at true e = ap (λ l. n ∷ l) e
+    at false e = e
+
+all_same : (i o : ℕ) (qss : List (List Pair)) → Has (map (λ (qs : List Pair). i) qss) o → o ≡ i
+all_same i o [] h = absurd h
+all_same i o (qs ∷ qss) (inl e) = e
+all_same i o (qs ∷ qss) (inr h) = all_same i o qss h
+
+length_same : (i : ℕ) (qss : List (List Pair)) → length (map (λ (qs : List Pair). i) qss) ≡ length qss
+length_same i [] = refl
+length_same i (qs ∷ qss) = ap suc (length_same i qss)
+
+-- the parts behind others at once
+join_behind : (i n : ℕ) (lists qss : List (List Pair)) → n ≡ length lists → join_of (part_of (lists ++ qss)) (places_from (λ o. nat_eq o i) n (map (λ (qs : List Pair). i) qss)) ≡ join_all qss
+join_behind i n lists [] e = refl
+join_behind i n lists (qs ∷ qss) e =
+    let rest = places_from (λ o. nat_eq o i) (n + 1) (map (λ (xs : List Pair). i) qss) in
+    let whole : (lists ++ qs ∷ []) ++ qss ≡ lists ++ qs ∷ qss = append_assoc lists (qs ∷ []) qss in
+    let long : n + 1 ≡ length (lists ++ qs ∷ []) = (let c = length-append lists (qs ∷ []) in omega arith) in
+    let here : part_of (lists ++ qs ∷ qss) n ≡ qs = ap (λ xs. part_of xs n) (sym whole) ∙ at_before (lists ++ qs ∷ []) qss [] n (omega arith) ∙ at_last lists qs [] n e in
+    let there : join_of (part_of (lists ++ qs ∷ qss)) rest ≡ join_all qss = ap (λ xs. join_of (part_of xs) rest) (sym whole) ∙ join_behind i (n + 1) (lists ++ qs ∷ []) qss long in
+    ap (λ b. join_of (part_of (lists ++ qs ∷ qss)) (cond b (n ∷ rest) rest)) (eq_itself i) ∙ (λ k. join (here k) (there k))
+
+-- a row that was taken apart
+pub made_more : (T : Table) (r : Rule) (made owners new_made new : List ℕ) (lists new_lists : List (List Pair)) (i : ℕ) (pss : List (List Pair)) → AreMade T r made owners lists → (Has made i → ⊥)
+    → AreAlike (pairs_at T i) (join_all pss) → AreAdded T r i pss owners new lists new_lists → length new_lists ≤ 256 → new_made ≡ put nat_cmp i made → AreMade T r new_made new new_lists
+made_more T r made owners new_made new lists new_lists i pss w new_row alike a few d =
+    subst (λ x. AreMade T r x new new_lists) (sym d) (subst (λ x. AreMade T r (put nat_cmp i made) x new_lists) (sym a.owners_are) (subst (AreMade T r (put nat_cmp i made) (owners ++ own)) (sym a.lists_are) (record {
+      owner_count = counts;
+      owned = λ o h. elim (append_cases owners own o h) [
         | inl m ↦ Has-put nat_linear i made o (inr (w.owned o m))
-        | inr m ↦ elim m [ inl q ↦ Has-put nat_linear i made o (inl q) | inr z ↦ absurd z ]
+        | inr m ↦ Has-put nat_linear i made o (inl (all_same i o a.parts m))
       ];
-      once = HasNoRepeats-append owners (i ∷ []) w.once ((λ h. h), tt) (λ z h m. elim m [ inl q ↦ no_owner (subst (Has owners) q h) | inr z0 ↦ absurd z0 ]);
+      few = (let c = ap length a.lists_are in let e = counts in omega arith);
       listed = λ j h. elim (put_cases nat_cmp i made j h) [
-        | inl q ↦ subst (λ x. IsKeptBy (StandsFor T r) (pairs_at T x) (join_of (part_of (lists ++ ps ∷ [])) (numbers_of (owners ++ i ∷ []) x))) (sym q) here
+        | inl q ↦ subst (λ x. IsKeptBy (StandsFor T r) (pairs_at T x) (join_of (part_of (lists ++ a.parts)) (numbers_of (owners ++ own) x))) (sym q) here
         | inr m ↦ there j m
       ];
     })))
   where
-    n : ℕ
-    n = length lists
+    own : List ℕ
+    own = map (λ (qs : List Pair). i) a.parts
 
-    longer : length owners ≡ length lists → length (owners ++ i ∷ []) ≡ length owners + 1 → length (lists ++ ps ∷ []) ≡ length lists + 1 → length (owners ++ i ∷ []) ≡ length (lists ++ ps ∷ [])
-    longer c a b = omega arith
+    counts : length (owners ++ own) ≡ length (lists ++ a.parts)
+    counts = length-append owners own ∙ (λ k. w.owner_count k + length_same i a.parts k) ∙ sym (length-append lists a.parts)
 
-    no_owner : Has owners i → ⊥
-    no_owner h = new (w.owned i h)
+    no_owner : (o : ℕ) → Has owners o → nat_eq o i ≡ false
+    no_owner o h = eq_other o i (λ q. new_row (subst (Has made) q (w.owned o h)))
 
     zero_more : 0 + length owners ≡ length owners
     zero_more = omega arith
 
-    own_numbers : numbers_of (owners ++ i ∷ []) i ≡ n ∷ []
+    own_numbers : numbers_of (owners ++ own) i ≡ places_from (λ o. nat_eq o i) (length owners) own
     own_numbers =
-        places_push (λ o. nat_eq o i) 0 owners i
-        ∙ ap (λ ns. ns ++ cond (nat_eq i i) ((0 + length owners) ∷ []) []) (none_where (λ o. nat_eq o i) 0 owners (λ o h. eq_other o i (λ q. no_owner (subst (Has owners) q h))))
-        ∙ ap (λ b. cond b ((0 + length owners) ∷ []) []) (eq_itself i)
-        ∙ ap (λ m. m ∷ []) (zero_more ∙ w.owner_count)
+        places_append (λ o. nat_eq o i) 0 owners own
+        ∙ ap (λ ns. ns ++ places_from (λ o. nat_eq o i) (0 + length owners) own) (none_where (λ o. nat_eq o i) 0 owners no_owner)
+        ∙ ap (λ m. places_from (λ o. nat_eq o i) m own) zero_more
 
-    last : part_of (lists ++ ps ∷ []) n ≡ ps
-    last = at_last lists ps [] n refl
+    here : IsKeptBy (StandsFor T r) (pairs_at T i) (join_of (part_of (lists ++ a.parts)) (numbers_of (owners ++ own) i))
+    here = subst (IsKeptBy (StandsFor T r) (pairs_at T i)) (sym (ap (join_of (part_of (lists ++ a.parts))) own_numbers ∙ join_behind i (length owners) lists a.parts w.owner_count))
+        (kept_on (stands_in T r) (pairs_at T i) (join_all pss) (join_all a.parts) (kept_same (StandsFor T r) (stands_in T r) (pairs_at T i) (join_all pss) alike) (kept_lists T r pss a.parts a.kept))
 
-    here : IsKeptBy (StandsFor T r) (pairs_at T i) (join_of (part_of (lists ++ ps ∷ [])) (numbers_of (owners ++ i ∷ []) i))
-    here = subst (λ ns. IsKeptBy (StandsFor T r) (pairs_at T i) (join_of (part_of (lists ++ ps ∷ [])) ns)) (sym own_numbers)
-        (subst (λ qs. IsKeptBy (StandsFor T r) (pairs_at T i) (join qs (empty_pair ∷ []))) (sym last)
-        (kept_on (stands_in T r) (pairs_at T i) ps (join ps (empty_pair ∷ [])) k (kept_same (StandsFor T r) (stands_in T r) ps (join ps (empty_pair ∷ [])) (alike_sym (join ps (empty_pair ∷ [])) ps (join_nothing ps s)))))
-
-    nothing_behind : (b : Bool) (ns : List ℕ) (m : ℕ) → b ≡ false → ns ++ cond b (m ∷ []) [] ≡ ns
-    nothing_behind b ns m e = ap (λ c. ns ++ cond c (m ∷ []) []) e ∙ append-nil ns
-
-    old_numbers : (j : ℕ) → Has made j → numbers_of (owners ++ i ∷ []) j ≡ numbers_of owners j
+    old_numbers : (j : ℕ) → Has made j → numbers_of (owners ++ own) j ≡ numbers_of owners j
     old_numbers j m =
-        places_push (λ o. nat_eq o j) 0 owners i
-        ∙ nothing_behind (nat_eq i j) (numbers_of owners j) (0 + length owners) (eq_other i j (λ q. new (subst (Has made) (sym q) m)))
+        places_append (λ o. nat_eq o j) 0 owners own
+        ∙ ap (λ ns. numbers_of owners j ++ ns) (none_where (λ o. nat_eq o j) (0 + length owners) own (λ o h. eq_other o j (λ q. new_row (subst (Has made) (sym q ∙ all_same i o a.parts h) m))))
+        ∙ append-nil (numbers_of owners j)
 
-    there : (j : ℕ) → Has made j → IsKeptBy (StandsFor T r) (pairs_at T j) (join_of (part_of (lists ++ ps ∷ [])) (numbers_of (owners ++ i ∷ []) j))
-    there j m = subst (λ ns. IsKeptBy (StandsFor T r) (pairs_at T j) (join_of (part_of (lists ++ ps ∷ [])) ns)) (sym (old_numbers j m))
-        (subst (IsKeptBy (StandsFor T r) (pairs_at T j)) (sym (join_same lists (ps ∷ []) (numbers_of owners j) (λ k h. let l = numbers_below (λ o. nat_eq o j) owners k h in let c = w.owner_count in omega arith))) (w.listed j m))
+    there : (j : ℕ) → Has made j → IsKeptBy (StandsFor T r) (pairs_at T j) (join_of (part_of (lists ++ a.parts)) (numbers_of (owners ++ own) j))
+    there j m = subst (λ ns. IsKeptBy (StandsFor T r) (pairs_at T j) (join_of (part_of (lists ++ a.parts)) ns)) (sym (old_numbers j m))
+        (subst (IsKeptBy (StandsFor T r) (pairs_at T j)) (sym (join_same lists a.parts (numbers_of owners j) (λ k h. let l = numbers_below (λ o. nat_eq o j) owners k h in let c = w.owner_count in omega arith))) (w.listed j m))
 
--- what was listed of a row is sound
-pub row_sound : (T : Table) (r : Rule) (i : ℕ) (ps : List Pair) → IsKeptBy (StandsFor T r) (pairs_at T i) ps → AreSound ps
-row_sound T r i ps k = sound_some (pairs_at T i) ps k.from (rows_sound T i)
+-- what was kept of sound pairs is sound
+pub kept_sound : (T : Table) (r : Rule) (ps qs : List Pair) → AreSound ps → IsKeptBy (StandsFor T r) ps qs → AreSound qs
+kept_sound T r ps qs s k = sound_some ps qs k.from s
 
--- there is a number for one row more
-pub room_left : (made owners : List ℕ) (i : ℕ) → HasNoRepeats owners → ((o : ℕ) → Has owners o → Has made o) → AllByRecursion (λ x. x < 256) made → i < 256 → (Has made i → ⊥) → length owners < 256
-room_left made owners i once owned below l new =
-    let c = numbered_short (i ∷ owners) (λ x. x) 256 ((λ h. new (owned i h)), once)
-    (λ x h. elim h [ inl q ↦ subst (λ y. y < 256) (sym q) l | inr m ↦ all_at (λ x. x < 256) made x below (owned x m) ]) (λ x y h k e. e) in
-    omega arith
-
--- and so no more than there are numbers
-pub room_kept : (made owners : List ℕ) → HasNoRepeats owners → ((o : ℕ) → Has owners o → Has made o) → AllByRecursion (λ x. x < 256) made → length owners ≤ 256
-room_kept made owners once owned below = numbered_short owners (λ x. x) 256 once (λ x h. all_at (λ x. x < 256) made x below (owned x h)) (λ x y h k e. e)
+-- where nothing was taken apart there is room for each set
+pub room_for_all : (made state : RowSet) (lists : List (List Pair)) → lists ≡ [] → length state ≤ 256 → HasRoom made lists state
+room_for_all made state lists e l = let n = ap length e in let f = filter_length (λ i. not (has nat_cmp i made)) state in omega arith
 
 pub longer_none : (lists : List (List Pair)) → IsLonger lists lists
 longer_none lists = ([], sym (append-nil lists))
@@ -339,20 +403,14 @@ longer_none lists = ([], sym (append-nil lists))
 pub longer_on : (a b c : List (List Pair)) → IsLonger a b → IsLonger b c → IsLonger a c
 longer_on a b c (x, e) (y, f) = (x ++ y, f ∙ ap (λ z. z ++ y) e ∙ append_assoc a x y)
 
--- the list of an elementary row
-pub no_row_listed : (t : TableView) (r : Rule) (qs : List Pair) (i : ℕ) → IsTable t → slice_get t.elementary i ≡ None → qs ≡ [] → IsListed (StandsFor (table_at t) r) (pairs_at (table_at t) i) qs
-no_row_listed t r qs i w e n =
-    let d : slice_index_or (normal.elementary_rows (core_of t)) i Bottom ≡ Bottom = no_elementary_tree t i w e in
-    subst (IsListed (StandsFor (table_at t) r) (pairs_at (table_at t) i)) (sym n)
-    (subst (λ xs. IsListed (StandsFor (table_at t) r) xs []) (sym (ap (λ F. pairs (row_place t) F) d)) (record { kept = kept_all (stands_in (table_at t) r) []; rising = tt }))
-
-pub row_listed : (t : TableView) (r : Rule) (qs : List Pair) (i k : ℕ) → IsTable t → slice_get t.elementary i ≡ Some k → IsListedRow t r k qs → IsListed (StandsFor (table_at t) r) (pairs_at (table_at t) i) qs
-row_listed t r qs i k w e listed = subst (λ F. IsListed (StandsFor (table_at t) r) (pairs (row_place t) F) qs) (sym (elementary_tree t i k w e)) listed
-
 -- ---- members
 
-pub none_left : (made state rest : List ℕ) → rest ≡ state → (i : ℕ) → Has state i → Has made i ⊎ Has rest i
-none_left made state rest e i h = inr (subst (λ xs. Has xs i) (sym e) h)
+pub none_left : (made state rest : List ℕ) → rest ≡ unmade made state → (i : ℕ) → Has state i → Has made i ⊎ Has rest i
+none_left made state rest e i h = at (has nat_cmp i made) refl
+  where
+    at : (b : Bool) → has nat_cmp i made ≡ b → Has made i ⊎ Has rest i
+    at true d = inl ((has_Decides nat_linear i made).0 d)
+    at false d = inr (subst (λ xs. Has xs i) (sym e) (Has-filter (λ k. not (has nat_cmp k made)) state i h (ap not d)))
 
 pub one_made : (made more state rest left : List ℕ) (k : ℕ) → rest ≡ k ∷ left → ((i : ℕ) → Has state i → Has made i ⊎ Has rest i) → HasMade k made more → (i : ℕ) → Has state i → Has more i ⊎ Has left i
 one_made made more state rest left k e f m i h = elim (f i h) [
@@ -420,3 +478,34 @@ more_inside rest inside linked more some e i h = elim (union_cases nat_linear in
 
 pub more_there : (first : ℕ) (rest inside linked more : RowSet) → Has inside first → more ≡ union nat_cmp inside (filter (λ i. has nat_cmp i linked) rest) → Has more first
 more_there first rest inside linked more h e = subst (λ xs. Has xs first) (sym e) (union_left nat_linear inside (filter (λ x. has nat_cmp x linked) rest) first h)
+
+-- ---- pieces
+
+-- what a rule takes, of own pairs that are as they should be
+fit_of : (T : Table) (r : Rule) (own : List (List Pair)) → AreOwn T own → IsFit T r own
+fit_of T rule.Equal own w = tt
+fit_of T rule.Contained own w = tt
+fit_of T rule.Safe own w = w
+
+-- the pairs of a row with the one that asks for another row later
+pub released_listed : (t : TableView) (r : Rule) (own : List (List Pair)) (i k at : ℕ) (now all qs : List Pair) → AreOwn (table_at t) own → IsListedRow t r i now → at ≡ row_place t (row_tree t k) → all ≡ now ++ later_pair at ∷ []
+    → IsPruned r own all qs → IsListed (StandsFor (table_at t) r) (piece_pairs t (piece.Released i k)) qs
+released_listed t r own i k at now all qs fit w e d p =
+    let T = table_at t in
+    let one = later_pair (row_place t (row_tree t k)) ∷ [] in
+    let both = kept_append (stands_in T r) (pairs (row_place t) (row_tree t i)) now one one w.kept (kept_all (stands_in T r) one) in
+    let kept = subst (IsKeptBy (StandsFor T r) (piece_pairs t (piece.Released i k))) (sym (d ∙ ap (λ m. now ++ later_pair m ∷ []) e)) both in
+    pruned_of T r own (piece_pairs t (piece.Released i k)) all qs (fit_of T r own fit) kept p
+
+-- no pairs at all
+pub never_listed : (t : TableView) (r : Rule) (qs : List Pair) → qs ≡ [] → IsListed (StandsFor (table_at t) r) (piece_pairs t piece.Never) qs
+never_listed t r qs e = subst (IsListed (StandsFor (table_at t) r) []) (sym e) (record { kept = kept_all (stands_in (table_at t) r) []; rising = tt })
+
+-- ---- room
+
+pub rest_shorter : (rest left : List ℕ) (k : ℕ) → rest ≡ k ∷ left → length rest ≡ length left + 1
+rest_shorter rest left k e = ap length e ∙ (let c : length (k ∷ left) ≡ length left + 1 = omega arith in c)
+
+-- after one row there still is a number for each that is left
+pub room_after : (old new rest left n most taken : ℕ) → n ≡ old → left ≡ rest + 1 → old + (rest + 1) ≤ 256 → new ≤ old + taken → taken ≡ min (256 - n - (left - 1)) most → new + rest ≤ 256
+room_after old new rest left n most taken e f l m d = omega arith

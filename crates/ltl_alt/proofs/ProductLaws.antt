@@ -20,11 +20,11 @@ use Rattle.ltl_spec.proofs.Transitions.ApartMarks.{common, at_once}
 use Rattle.ltl_spec.proofs.Transitions.ApartPairs.{apart_sym}
 use Rattle.ltl_spec.proofs.Transitions.ApartTests.{own_at, enough_at, apart_by_test}
 use Rattle.ltl_spec.proofs.Transitions.FactorLaws.{AreTakenOut, all_products, product_size, group_transitions, factors_law}
-use Rattle.ltl_spec.proofs.Transitions.FactoredTransitions.{AreListedFor, sorted_by_factors, count_by_factors}
+use Rattle.ltl_spec.proofs.Transitions.FactoredTransitions.{AreListedFor, sorted_by_factors, count_by_factors, transitions_by_factors}
 use Rattle.ltl_spec.proofs.Transitions.LinkLaws.{LinksTell, without, taken_closed}
 use Rattle.ltl_spec.proofs.Transitions.PartJoins.{join_of, sound_join_of}
 use Rattle.ltl_spec.proofs.Transitions.PartSets.{ArePartsOf}
-use Rattle.ltl_spec.proofs.Transitions.ProductTransitions.{transitions_of, product, transitions_of_cases}
+use Rattle.ltl_spec.proofs.Transitions.ProductTransitions.{transitions_of, product, transitions_of_cases, in_order}
 use Rattle.ltl_spec.proofs.Transitions.SameJoins.{AreSound}
 use Rattle.ltl_spec.proofs.Transitions.UnimpliedLaws.{marks_too_linear}
 use Rattle.ltl_alt.specs.declared.asked.Demand.{Demand}
@@ -337,3 +337,14 @@ factored_count T own keep made owners parts demands links keys lists state numbe
     (λ i h. listed_for T keep (pairs_at T i) (join_of (part_of parts) (numbers_of owners i)) (w.rows.listed i (there i h)))
     (map (key_of keys) numbers) taken
     ∙ ap product_size (sym (lists_are T keep parts keys lists numbers groups within))
+
+-- the transitions of a set of rows are those of its groups at once, in every way, in order
+pub shaped : (T : Table) (own : List (List Pair)) (keep : Bool) (made owners : List ℕ) (parts : List (List Pair)) (demands : List Demand) (links : List RowSet) (keys : List RowSet) (lists : List (List Transition))
+    (state all numbers : List ℕ) → AreOwn T own → AreParts T (rule_of keep) own made owners parts demands links → AreGroups T keep parts keys lists → IsRising nat_cmp state
+    → ((i : ℕ) → Has state i → Has made i) → all ≡ numbers_in owners state → AreGroupsOf T own parts keys all numbers [] → transitions T keep state ≡ in_order (all_products T (map (made_of lists) numbers))
+shaped T own keep made owners parts demands links keys lists state all numbers fit w groups rising there e taken =
+    let found = subst (λ x. AreGroupsOf T own parts keys x numbers []) e taken in
+    transitions_by_factors T (own_at T own) (enough_at T own fit.enough) (part_of parts) w.linked.sound keep (numbers_of owners) state (numbers_in owners state) (parts_of_state owners state rising)
+    (λ i h. listed_for T keep (pairs_at T i) (join_of (part_of parts) (numbers_of owners i)) (w.rows.listed i (there i h)))
+    (map (key_of keys) numbers) found.taken
+    ∙ ap (λ x. in_order (all_products T x)) (sym (lists_are T keep parts keys lists numbers groups found.within))

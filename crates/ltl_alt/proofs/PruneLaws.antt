@@ -23,16 +23,16 @@ module _ (r : Rule) (own : List (List Pair)) where
   stays_among all n = not (list_any (λ m. is_spare r own m n && asks_less m n) all)
 
   -- a pair that goes has a smaller one, which stays or has one
-  climb : (all : List made.Measured) (fuel : ℕ) (t : made.Measured) → t.size < fuel → Has all t → HasStandIn r own (map pair_of (least_of r own all all)) t.pair
-  climb all zero t l h = absurd (omega arith)
-  climb all (suc fuel) t l h =
-      elim (list_any (λ m. is_spare r own m t && asks_less m t) all) as (λ b. list_any (λ m. is_spare r own m t && asks_less m t) all ≡ b → HasStandIn r own (map pair_of (least_of r own all all)) t.pair) [
-        | false ↦ λ e. ([], t.pair, Has-map pair_of (least_of r own all all) t (Has-filter (stays_among all) all t h (ap not e)), refl)
+  climb : (all ms : List made.Measured) → ((m : made.Measured) → Has all m → Has ms m) → (fuel : ℕ) (t : made.Measured) → t.size < fuel → Has ms t → HasStandIn r own (map pair_of (least_of r own all ms)) t.pair
+  climb all ms inside zero t l h = absurd (omega arith)
+  climb all ms inside (suc fuel) t l h =
+      elim (list_any (λ m. is_spare r own m t && asks_less m t) all) as (λ b. list_any (λ m. is_spare r own m t && asks_less m t) all ≡ b → HasStandIn r own (map pair_of (least_of r own all ms)) t.pair) [
+        | false ↦ λ e. ([], t.pair, Has-map pair_of (least_of r own all ms) t (Has-filter (stays_among all) ms t h (ap not e)), refl)
         | true ↦ λ e.
             let (m, k, f) = any_cases (λ m. is_spare r own m t && asks_less m t) all e in
             let spare = left_true (is_spare r own m t) (asks_less m t) f in
             let less = smaller m.size t.size (left_true (nat_lt m.size t.size) (may_drop r own t.pair m.pair) spare) in
-            let (us, v, j, c) = climb all fuel m (omega arith) k in
+            let (us, v, j, c) = climb all ms inside fuel m (omega arith) (inside m k) in
             (m.pair ∷ us, v, j, (right_true (nat_lt m.size t.size) (may_drop r own t.pair m.pair) spare, c))
       ] refl
 
@@ -59,18 +59,18 @@ module _ (r : Rule) (own : List (List Pair)) where
     rising = IsRising-set_of pair_linear ps;
   })
 
-  -- the least of all are left
-  pub pruned_least : (ps ds qs : List Pair) (ms : List made.Measured) → ds ≡ set_of pair_cmp ps → map pair_of ms ≡ ds → qs ≡ map pair_of (least_of r own ms ms) → IsPruned r own ps qs
-  pruned_least ps ds qs ms d e f =
+  -- those are left that none of some of them may stand in for
+  pub pruned_least : (ps ds qs : List Pair) (all ms : List made.Measured) → ((m : made.Measured) → Has all m → Has ms m) → ds ≡ set_of pair_cmp ps → map pair_of ms ≡ ds → qs ≡ map pair_of (least_of r own all ms) → IsPruned r own ps qs
+  pruned_least ps ds qs all ms inside d e f =
       let whole : map pair_of ms ≡ set_of pair_cmp ps = e ∙ d in
       subst (IsPruned r own ps) (sym f) (record {
         from = λ p h.
-            let (m, k, i) = map_cases pair_of (least_of r own ms ms) p h in
-            set_of_cases pair_linear ps p (subst (λ xs. Has xs p) whole (subst (Has (map pair_of ms)) (sym i) (Has-map pair_of ms m (filter_cases (stays_among ms) ms m k).0)));
+            let (m, k, i) = map_cases pair_of (least_of r own all ms) p h in
+            set_of_cases pair_linear ps p (subst (λ xs. Has xs p) whole (subst (Has (map pair_of ms)) (sym i) (Has-map pair_of ms m (filter_cases (stays_among all) ms m k).0)));
         spared = λ p h.
             let (m, k, i) = map_cases pair_of ms p (subst (λ xs. Has xs p) (sym whole) (Has-set_of pair_linear ps p h)) in
-            subst (HasStandIn r own (map pair_of (least_of r own ms ms))) (sym i) (climb ms (suc m.size) m (omega arith) k);
-        rising = rising_kept (stays_among ms) ms (subst (IsRising pair_cmp) (sym whole) (IsRising-set_of pair_linear ps));
+            subst (HasStandIn r own (map pair_of (least_of r own all ms))) (sym i) (climb all ms inside (suc m.size) m (omega arith) k);
+        rising = rising_kept (stays_among all) ms (subst (IsRising pair_cmp) (sym whole) (IsRising-set_of pair_linear ps));
       })
 
   -- one more was looked at

@@ -4,8 +4,10 @@ pub mod GbaView
 pub mod GroupView
 pub mod NeedsView
 pub mod PartView
+pub mod PieceView
 pub mod ProductView
 pub mod ReachView
 pub mod RowLists
+pub mod ShapeView
 pub mod StandIns
 pub mod TransitionView

@@ -1,8 +1,8 @@
 -- Rows taken apart into parts, and which parts have to do with each other.
-use Rattle.std.specs.Prelude.{◌≡◌, ℕ, ◌<◌, ◌⊎◌, Bool, true, false, List, [], ◌++◌, length, slice_index_or, nat_eq}
+use Rattle.std.specs.Prelude.{◌≡◌, ℕ, ◌+◌, ◌<◌, ◌≤◌, ◌⊎◌, Bool, true, false, not, List, [], ◌∷◌, ◌++◌, length, map, filter, slice_index_or, nat_eq}
 use Rattle.std.specs.Ordering.{nat_cmp}
 use Rattle.ltl_spec.specs.Collections.Sets.{Has, has}
-use Rattle.ltl_spec.specs.Collections.Lists.{HasNoRepeats, places_where}
+use Rattle.ltl_spec.specs.Collections.Lists.{places_where}
 use Rattle.ltl_spec.specs.Transitions.Pairs.{RowSet, Pair}
 use Rattle.ltl_spec.specs.Transitions.RowTransitions.{Table, pairs_at}
 use Rattle.ltl_spec.proofs.Transitions.ApartTests.{ask_nothing, is_apart}
@@ -55,7 +55,7 @@ pub record AreLinked (T : Table) (own lists : List (List Pair)) (demands : List 
 pub record AreMade (T : Table) (r : Rule) (made owners : List ℕ) (lists : List (List Pair)) : Type 0 where
   pub owner_count : length owners ≡ length lists
   pub owned : (o : ℕ) → Has owners o → Has made o
-  pub once : HasNoRepeats owners
+  pub few : length owners ≤ 256
   pub listed : (i : ℕ) → Has made i → IsKeptBy (StandsFor T r) (pairs_at T i) (join_of (part_of lists) (numbers_of owners i))
 
 -- both
@@ -67,9 +67,40 @@ pub record AreParts (T : Table) (r : Rule) (own : List (List Pair)) (made owners
 abbrev pub HasMade : ℕ → List ℕ → List ℕ → Type 0
 HasMade i old new = Has new i × ((j : ℕ) → Has old j → Has new j)
 
+-- of each of these lists some pairs were kept
+abbrev pub AreKeptBy : (Pair → Pair → Type 0) → List (List Pair) → List (List Pair) → Type 0
+AreKeptBy S [] [] = Unit {0}
+AreKeptBy S [] (qs ∷ qss) = ⊥
+AreKeptBy S (ps ∷ pss) [] = ⊥
+AreKeptBy S (ps ∷ pss) (qs ∷ qss) = IsKeptBy S ps qs × AreKeptBy S pss qss
+
+-- what was kept of each of these lists stands behind the others, as parts of the row at a place
+pub record AreAdded (T : Table) (r : Rule) (place : ℕ) (pss : List (List Pair)) (owners new_owners : List ℕ) (lists new_lists : List (List Pair)) : Type 0 where
+  pub parts : List (List Pair)
+  pub kept : AreKeptBy (StandsFor T r) pss parts
+  pub lists_are : new_lists ≡ lists ++ parts
+  pub owners_are : new_owners ≡ owners ++ map (λ (qs : List Pair). place) parts
+
 -- some parts more stand behind the others
 abbrev pub IsLonger : List (List Pair) → List (List Pair) → Type 0
 IsLonger old new = (more : List (List Pair)) × (new ≡ old ++ more)
+
+-- the row at a place may get so many numbers
+abbrev pub IsRoom : ℕ → ℕ → List (List Pair) → Type 0
+IsRoom place most lists = (place < 256) × (0 < most) × (length lists + most ≤ 256)
+
+-- it was taken apart into no more parts, and none was forgotten
+pub record IsTaken (place most : ℕ) (made new_made : RowSet) (lists new_lists : List (List Pair)) : Type 0 where
+  pub made_more : HasMade place made new_made
+  pub longer : IsLonger lists new_lists
+  pub few : length new_lists ≤ length lists + most
+
+-- the rows of a set that weren't taken apart, and that there is a number for each of them
+abbrev pub unmade : RowSet → RowSet → RowSet
+unmade made state = filter (λ i. not (has nat_cmp i made)) state
+
+abbrev pub HasRoom : RowSet → List (List Pair) → RowSet → Type 0
+HasRoom made lists state = length lists + length (unmade made state) ≤ 256
 
 -- of the rest, the parts that have to do with the first one, with those that have to do with them, and so on
 pub record IsGroup (links : List RowSet) (first : ℕ) (rest inside : RowSet) : Type 0 where

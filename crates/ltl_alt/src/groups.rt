@@ -1,6 +1,6 @@
 //! The transitions of groups of parts, made when a group is first met.
 
-ghost use Rattle.std.specs.Prelude.{◌≡◌, ℕ, ◌<◌, [], ◌∷◌, Bool, List, fold, length, OnOk, IfOk};
+ghost use Rattle.std.specs.Prelude.{◌≡◌, ℕ, ◌<◌, [], ◌∷◌, Bool, List, fold, length, OnOk, IfOk, IfSome};
 ghost use Rattle.ltl_spec.specs.Collections.Sets.{Has};
 ghost use Rattle.ltl_spec.specs.Transitions.Pairs as spec_pairs;
 ghost use Rattle.ltl_spec.specs.Transitions.RowTransitions as spec;
@@ -30,7 +30,7 @@ use std::marker::Model;
 /// Transitions in their order.
 #[derive(Drop)]
 pub(crate) struct TransitionList<'a, A: Allocator> {
-    transitions: Vec<Transition, &'a A>,
+    pub(crate) transitions: Vec<Transition, &'a A>,
 }
 
 impl<'a, A: Allocator> Model for TransitionList<'a, A> {
@@ -48,7 +48,7 @@ impl<'a, A: Allocator> Model for TransitionList<'a, A> {
 
 impl<'a, A: Allocator> TransitionList<'a, A> {
     /// The transitions in their order.
-    fn as_slice(&self) -> &[Transition]
+    pub(crate) fn as_slice(&self) -> &[Transition]
         ensures { result.now ≡ self.now }
     {
         self.transitions.as_slice()
@@ -139,6 +139,13 @@ impl<'a, A: Allocator> Groups<'a, A> {
         ensures { result.now ≡ made_of self.now.lists.items number }
     {
         self.lists[number].as_slice()
+    }
+
+    /// The number of a group, if it is remembered.
+    pub(crate) fn find(&self, group: &RowSet) -> Option<usize>
+        ensures { IfSome result (IsKeyAt self.now.keys.keys group.now) }
+    {
+        self.keys.get_index_of(group)
     }
 
     /// How many groups are remembered.

@@ -6,8 +6,8 @@
 //! row unless it puts the row off, which is to promise it again without a pair that fulfils it. A transition that another one implies goes, unless it
 //! is asked to stay: the other's literals and targets are among its own, and the other is in every set that it is in.
 //!
-//! What flows: a table of rows; for each row that is met its pairs (`row_lists`), which are one part (`parts`), with what they ask for and what
-//! fulfils the until rows that they put off (`asked`). Parts that may have to do with each other are linked, and the parts of a set of rows fall into
+//! What flows: a table of rows; for each row that is met the pieces that it is made of (`pieces`), whose pairs (`row_lists`) are a part each
+//! (`parts`, `room`), with what they ask for and what fulfils the until rows that they put off (`asked`). Parts that may have to do with each other are linked, and the parts of a set of rows fall into
 //! groups that are closed under links (`transitions`). For each group this is done once, as many sets have it (`groups`): its parts are joined, where
 //! pairs that stay implied whatever comes are dropped on the way (`prune`, `rule`, `near`), the joins get their marks (`marks`), and implied ones go (`implied`).
 //! The transitions of the set are the products, one transition of each group at once; they are counted before they are made, then made and sorted
@@ -38,14 +38,18 @@ mod own;
 pub mod pair;
 pub mod pair_set;
 mod parts;
+mod pieces;
 mod place;
 mod product;
 mod prune;
 mod reach;
+mod room;
 mod row_lists;
 mod rule;
+mod shapes;
 mod transition;
 mod transitions;
+mod twins;
 
 pub use gba::{Gba, MOST_EDGES, MOST_STATES};
 pub use ltl_automaton::{AutomatonFault as AltFault, Edge as GbaEdge};

@@ -1,26 +1,33 @@
 //! The rows of a table taken apart into parts, and which parts have to do with each other.
 
-ghost use Rattle.std.specs.Prelude.{◌≡◌, slice_get, ℕ, ◌<◌, ◌≤◌, ◌++◌, ◌∷◌, [], List, length, OnOk, IfOk};
-ghost use Rattle.ltl_spec.specs.Collections.Lists.{HasNoRepeats};
+ghost use Rattle.std.specs.Prelude.{◌≡◌, slice_get, ℕ, ◌<◌, ◌≤◌, ◌++◌, ◌∷◌, [], List, length, map, OnOk, IfOk};
 ghost use Rattle.ltl_spec.specs.Collections.Sets.{Has};
 ghost use Rattle.ltl_spec.specs.Transitions.Pairs as spec_pairs;
 ghost use Rattle.ltl_spec.specs.Transitions.RowTransitions as spec;
 ghost use Rattle.ltl_spec.proofs.Transitions.SameJoins.{AreSound};
+ghost use Rattle.ltl_alt.specs.declared.pieces.Piece.TheVariants as made_piece;
 ghost use Rattle.ltl_alt.specs.declared.rule.Rule as made_rule;
-ghost use Rattle.ltl_alt.specs.PartView.{AreLinked, AreMade, AreParts, HasMade, IsGroup, IsLinked, IsLonger, links_of, numbers_in, part_of};
-ghost use Rattle.ltl_alt.specs.RowLists.{AreLists};
+ghost use Rattle.ltl_alt.specs.PartView.{AreAdded, AreLinked, AreMade, AreParts, HasRoom, IsGroup, IsLinked, IsLonger, IsRoom, IsTaken, links_of, numbers_in, part_of};
+ghost use Rattle.ltl_alt.specs.PieceView.{AreFew, IsPiece, piece_pairs};
+ghost use Rattle.ltl_alt.specs.RowLists.{AreLists, IsListedRow};
 ghost use Rattle.ltl_alt.specs.StandIns.{AreOwn, IsListed, StandsFor};
 ghost use Rattle.ltl_alt.specs.TransitionView.{table_at};
 
 use crate::asked::Demand;
+use crate::lists::both;
 use crate::pair::Pair;
 use crate::pair_set::PairSet;
-use crate::place::{elementary_row, put_if};
+use crate::pieces::{Piece, piece_at, pieces};
+use crate::place::{place, put_if};
+use crate::prune::prune;
 use crate::row_lists::RowLists;
 use crate::rule::Pruning;
 use ltl_formula::Table;
 use ltl_sets::RowSet;
 use std::alloc::{AllocError, Allocator};
+
+/// So often all rows are taken apart anew, as there were no numbers left. From then on each row is one part.
+const MOST_RESTARTS: usize = 8;
 
 /// Parts of rows by number. The pairs of a row are those of its parts at once.
 #[derive(Drop)]
@@ -33,6 +40,8 @@ pub(crate) struct Parts<'a, A: Allocator> {
     pub(crate) links: Vec<RowSet, &'a A>,
     /// The places of the rows that were taken apart.
     pub(crate) made: RowSet,
+    /// How often parts were forgotten.
+    restarts: usize,
 }
 
 /// Links a new part with those that may have to do with it. Answers its own links.
@@ -56,6 +65,7 @@ impl<'a, A: Allocator> Parts<'a, A> {
     pub(crate) fn new(alloc: &'a A) -> Self
         ensures linked { (T : spec.Table) → (own : List (List spec_pairs.Pair)) → AreLinked T own result.lists.items result.demands.items result.links.items }
         ensures made { (T : spec.Table) → (r : made_rule.Rule) → AreMade T r result.made result.owners.items result.lists.items }
+        ensures lists { result.lists.items ≡ [] }
     {
         Parts {
             owners: Vec::new(alloc),
@@ -63,7 +73,36 @@ impl<'a, A: Allocator> Parts<'a, A> {
             demands: Vec::new(alloc),
             links: Vec::new(alloc),
             made: RowSet::empty(),
+            restarts: 0,
         }
+    }
+
+    /// How many parts there are.
+    pub(crate) fn len(&self) -> usize
+        ensures { result ≡ length self.now.lists.items }
+    {
+        self.lists.len()
+    }
+
+    /// The most parts that a row may get.
+    pub(crate) fn most(&self) -> usize
+        ensures some { 0 < result }
+    {
+        if self.restarts < MOST_RESTARTS {
+            RowSet::LIMIT
+        } else {
+            1
+        }
+    }
+
+    /// Forgets all parts.
+    pub(crate) fn forget(&mut self, alloc: &'a A)
+        ensures parts { (T : spec.Table) → (r : made_rule.Rule) → (own : List (List spec_pairs.Pair)) → AreParts T r own self.new.made self.new.owners.items self.new.lists.items self.new.demands.items self.new.links.items }
+        ensures lists { self.new.lists.items ≡ [] }
+    {
+        let restarts = self.restarts.saturating_add(1);
+        *self = Parts::new(alloc);
+        self.restarts = restarts;
     }
 
     /// One part more, of the row at a place.
@@ -92,7 +131,33 @@ impl<'a, A: Allocator> Parts<'a, A> {
         Ok(())
     }
 
-    /// Takes the row at a place apart, unless this was done before.
+    /// Puts the pieces of the row at a place behind the other parts.
+    fn push_pieces(
+        &mut self,
+        alloc: &'a A,
+        table: &Table<'_, A>,
+        rows: &mut RowLists<'a, A>,
+        pruning: &Pruning<'_, 'a, A>,
+        place: usize,
+        pieces: &[Piece],
+    ) -> Result<(), AllocError>
+        requires lists { AreLists table.now pruning.now.rule rows.old.pairs.items rows.old.sets.items }
+        requires own { AreOwn (table_at table.now) pruning.now.own.now }
+        requires linked { AreLinked (table_at table.now) pruning.now.own.now self.old.lists.items self.old.demands.items self.old.links.items }
+        requires pieces { AreFew table.now pieces.now (length self.old.lists.items) }
+        ensures lists { OnOk result (AreLists table.now pruning.now.rule rows.new.pairs.items rows.new.sets.items) }
+        ensures linked { OnOk result (AreLinked (table_at table.now) pruning.now.own.now self.new.lists.items self.new.demands.items self.new.links.items) }
+        ensures added { OnOk result (AreAdded (table_at table.now) pruning.now.rule place (map (piece_pairs table.now) pieces.now) self.old.owners.items self.new.owners.items self.old.lists.items self.new.lists.items) }
+        ensures made { OnOk result (self.new.made ≡ self.old.made) }
+    {
+        'pieces: for piece in pieces {
+            let pairs = piece_pairs(alloc, table, rows, pruning, *piece)?;
+            self.push(table, pruning.own, place, pairs)?;
+        }
+        Ok(())
+    }
+
+    /// Takes the row at a place apart, into no more than `most` parts, unless this was done before.
     fn add(
         &mut self,
         alloc: &'a A,
@@ -100,27 +165,26 @@ impl<'a, A: Allocator> Parts<'a, A> {
         rows: &mut RowLists<'a, A>,
         pruning: &Pruning<'_, 'a, A>,
         place: usize,
+        most: usize,
     ) -> Result<(), AllocError>
         requires lists { AreLists table.now pruning.now.rule rows.old.pairs.items rows.old.sets.items }
         requires own { AreOwn (table_at table.now) pruning.now.own.now }
         requires parts { AreParts (table_at table.now) pruning.now.rule pruning.now.own.now self.old.made self.old.owners.items self.old.lists.items self.old.demands.items self.old.links.items }
-        requires place { place < RowSet.LIMIT }
+        requires room { IsRoom place most self.old.lists.items }
         ensures lists { OnOk result (AreLists table.now pruning.now.rule rows.new.pairs.items rows.new.sets.items) }
         ensures parts { OnOk result (AreParts (table_at table.now) pruning.now.rule pruning.now.own.now self.new.made self.new.owners.items self.new.lists.items self.new.demands.items self.new.links.items) }
-        ensures made { OnOk result (HasMade place self.old.made self.new.made) }
-        ensures longer { OnOk result (IsLonger self.old.lists.items self.new.lists.items) }
+        ensures taken { OnOk result (IsTaken place most self.old.made self.new.made self.old.lists.items self.new.lists.items) }
     {
         if self.made.contains(place) {
             return Ok(());
         }
-        let pairs = row_pairs(alloc, table, rows, pruning, place)?;
-        self.made.members_rise();
-        self.push(table, pruning.own, place, pairs)?;
+        let pieces = pieces(alloc, table, piece_at(table, place), most)?;
+        self.push_pieces(alloc, table, rows, pruning, place, pieces.as_slice())?;
         self.made.insert(place);
         Ok(())
     }
 
-    /// Takes the rows of a set apart.
+    /// Takes the rows of a set apart, for each of which there is a number.
     pub(crate) fn prepare(
         &mut self,
         alloc: &'a A,
@@ -132,15 +196,20 @@ impl<'a, A: Allocator> Parts<'a, A> {
         requires lists { AreLists table.now pruning.now.rule rows.old.pairs.items rows.old.sets.items }
         requires own { AreOwn (table_at table.now) pruning.now.own.now }
         requires parts { AreParts (table_at table.now) pruning.now.rule pruning.now.own.now self.old.made self.old.owners.items self.old.lists.items self.old.demands.items self.old.links.items }
+        requires room { HasRoom self.old.made self.old.lists.items state.now }
         ensures lists { OnOk result (AreLists table.now pruning.now.rule rows.new.pairs.items rows.new.sets.items) }
         ensures parts { OnOk result (AreParts (table_at table.now) pruning.now.rule pruning.now.own.now self.new.made self.new.owners.items self.new.lists.items self.new.demands.items self.new.links.items) }
         ensures made { OnOk result ((i : ℕ) → Has state.now i → Has self.new.made i) }
         ensures longer { OnOk result (IsLonger self.old.lists.items self.new.lists.items) }
     {
-        state.members_rise();
-        let mut rest = state.iter();
+        let unmade = state.without(&self.made);
+        unmade.members_rise();
+        let mut left = count(&unmade);
+        let mut rest = unmade.iter();
         'members: while let Some(place) = rest.next() {
-            self.add(alloc, table, rows, pruning, place)?;
+            left -= 1;
+            let most = (RowSet::LIMIT - self.len() - left).min(self.most());
+            self.add(alloc, table, rows, pruning, place, most)?;
         }
         Ok(())
     }
@@ -156,7 +225,7 @@ impl<'a, A: Allocator> Parts<'a, A> {
     /// The numbers of the parts of the rows of a set.
     pub(crate) fn numbers(&self, state: &RowSet) -> RowSet
         requires owned { (o : ℕ) → Has self.now.owners.items o → Has self.now.made o }
-        requires once { HasNoRepeats self.now.owners.items }
+        requires few { length self.now.owners.items ≤ RowSet.LIMIT }
         ensures { result ≡ numbers_in self.now.owners.items state.now }
     {
         self.made.members_rise();
@@ -207,26 +276,78 @@ impl<'a, A: Allocator> Parts<'a, A> {
     }
 }
 
-/// The pairs of the elementary row at a place, as far as they are needed.
+/// How many members a set has.
+fn count(rows: &RowSet) -> usize
+    ensures { result ≡ length rows.now }
+{
+    let mut count = 0usize;
+    let mut rest = rows.iter();
+    'members: while let Some(_) = rest.next() {
+        count += 1;
+    }
+    count
+}
+
+/// The pairs of a row, as far as they are needed.
 fn row_pairs<'a, A: Allocator>(
     alloc: &'a A,
     table: &Table<'_, A>,
     rows: &mut RowLists<'a, A>,
     pruning: &Pruning<'_, 'a, A>,
-    place: usize,
+    row: usize,
 ) -> Result<PairSet<'a, A>, AllocError>
     requires lists { AreLists table.now pruning.now.rule rows.old.pairs.items rows.old.sets.items }
     requires own { AreOwn (table_at table.now) pruning.now.own.now }
+    requires within { row < length table.now.rows }
     ensures lists { OnOk result (AreLists table.now pruning.now.rule rows.new.pairs.items rows.new.sets.items) }
-    ensures pairs { IfOk result (IsListed (StandsFor (table_at table.now) pruning.now.rule) (spec.pairs_at (table_at table.now) place)) }
+    ensures pairs { IfOk result (IsListedRow table.now pruning.now.rule row) }
 {
-    let _ = table.len();
-    let Some(row) = elementary_row(table, place) else {
-        return Ok(PairSet {
-            pairs: Vec::new(alloc),
-        });
-    };
     rows.prepare(alloc, table, pruning, row)?;
     let pairs = Vec::from_slice(alloc, rows.pairs(row))?;
     Ok(PairSet { pairs })
+}
+
+/// The pairs of a row, with the one that asks for another row later, as far as they are needed.
+fn released_pairs<'a, A: Allocator>(
+    alloc: &'a A,
+    table: &Table<'_, A>,
+    rows: &mut RowLists<'a, A>,
+    pruning: &Pruning<'_, 'a, A>,
+    left: usize,
+    row: usize,
+) -> Result<PairSet<'a, A>, AllocError>
+    requires lists { AreLists table.now pruning.now.rule rows.old.pairs.items rows.old.sets.items }
+    requires own { AreOwn (table_at table.now) pruning.now.own.now }
+    requires piece { IsPiece table.now (made_piece.Released left row) }
+    ensures lists { OnOk result (AreLists table.now pruning.now.rule rows.new.pairs.items rows.new.sets.items) }
+    ensures pairs { IfOk result (IsListed (StandsFor (table_at table.now) pruning.now.rule) (piece_pairs table.now (made_piece.Released left row))) }
+{
+    rows.prepare(alloc, table, pruning, left)?;
+    let later = [Pair::later(RowSet::single(place(table, row)))];
+    let all = both(alloc, rows.pairs(left), &later)?;
+    let pairs = prune(alloc, pruning, all)?;
+    Ok(PairSet { pairs })
+}
+
+/// The pairs of a piece, as far as they are needed.
+fn piece_pairs<'a, A: Allocator>(
+    alloc: &'a A,
+    table: &Table<'_, A>,
+    rows: &mut RowLists<'a, A>,
+    pruning: &Pruning<'_, 'a, A>,
+    piece: Piece,
+) -> Result<PairSet<'a, A>, AllocError>
+    requires lists { AreLists table.now pruning.now.rule rows.old.pairs.items rows.old.sets.items }
+    requires own { AreOwn (table_at table.now) pruning.now.own.now }
+    requires piece { IsPiece table.now piece }
+    ensures lists { OnOk result (AreLists table.now pruning.now.rule rows.new.pairs.items rows.new.sets.items) }
+    ensures pairs { IfOk result (IsListed (StandsFor (table_at table.now) pruning.now.rule) (piece_pairs table.now piece)) }
+{
+    match piece {
+        Piece::Never => Ok(PairSet {
+            pairs: Vec::new(alloc),
+        }),
+        Piece::Whole(row) => row_pairs(alloc, table, rows, pruning, row),
+        Piece::Released(left, row) => released_pairs(alloc, table, rows, pruning, left, row),
+    }
 }

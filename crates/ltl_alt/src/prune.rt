@@ -1,7 +1,9 @@
 //! Lists of pairs without those that need not stand there.
 
 ghost use Rattle.std.specs.Prelude.{◌≡◌, IfOk, OnOk, map};
+ghost use Rattle.ltl_spec.specs.Collections.Sets.{Has};
 ghost use Rattle.ltl_alt.specs.StandIns.{IsPruned, least_of, pair_of};
+ghost use Rattle.ltl_alt.specs.declared.prune.Measured as made;
 
 use crate::elements::{has_literal, has_row, tally_literals, tally_rows};
 use crate::lists::make_distinct;
@@ -88,9 +90,30 @@ fn measure<'a, A: Allocator>(
     Ok(measured)
 }
 
-/// Whether all are of that size. Of pairs of one size none is smaller than another one.
-fn are_of_size(measured: &[Measured], size: usize) -> bool {
-    measured.iter().all(|m| m.size == size)
+/// The greatest size.
+fn largest(measured: &[Measured]) -> usize {
+    let mut most = 0;
+    'measured: for m in measured {
+        most = most.max(m.size);
+    }
+    most
+}
+
+/// Those of less than the greatest size. No other one is smaller than one of the pairs.
+fn smaller<'a, A: Allocator>(
+    alloc: &'a A,
+    measured: &[Measured],
+) -> Result<MeasuredPairs<'a, A>, AllocError>
+    ensures { IfOk result (λ v. (m : made.Measured) → Has v.items m → Has measured.now m) }
+{
+    let most = largest(measured);
+    let mut smaller: MeasuredPairs<'a, A> = SmallVec::new(alloc);
+    'measured: for m in measured {
+        if m.size < most {
+            smaller.push(*m)?;
+        }
+    }
+    Ok(smaller)
 }
 
 /// Puts those of the pairs where others stood in whose place no smaller one may be listed.
@@ -119,19 +142,19 @@ pub(crate) fn prune<'a, A: Allocator>(
 ) -> Result<Vec<Pair, &'a A>, AllocError>
     ensures { IfOk result (λ v. IsPruned pruning.now.rule pruning.now.own.now pairs.entry.items v.items) }
 {
-    make_distinct(&mut pairs);
+    make_distinct(&mut pairs)?;
     if pairs.len() < 2 {
         return Ok(pairs);
     }
     if pruning.rule == Rule::Equal {
         return Ok(pairs);
     }
-    let size = pairs[0].size();
     let measured = measure(alloc, pairs.as_slice())?;
-    if are_of_size(measured.as_slice(), size) {
+    let smaller = smaller(alloc, measured.as_slice())?;
+    if smaller.is_empty() {
         return Ok(pairs);
     }
-    let lookup = Lookup::new(alloc, measured.as_slice())?;
+    let lookup = Lookup::new(alloc, smaller.as_slice())?;
     put_least(&mut pairs, &lookup, pruning, measured.as_slice())?;
     Ok(pairs)
 }

@@ -5,6 +5,8 @@ ghost use Rattle.ltl_spec.specs.Automata.Generalized.{IsGeneralized, IsTooLarge}
 ghost use Rattle.ltl_spec.specs.Tools.Limits.{stated_limits};
 ghost use Rattle.ltl_formula.specs.TableView.{core_of};
 ghost use Rattle.ltl_alt.specs.ReachView.{IsPrepared, arc_of, net_of};
+ghost use Rattle.ltl_alt.specs.ShapeView.{AreShapes};
+ghost use Rattle.ltl_alt.specs.TransitionView.{table_at};
 
 use crate::gba::{Gba, MOST_EDGES, MOST_STATES};
 use crate::groups::Groups;
@@ -12,10 +14,13 @@ use crate::own::all_own;
 use crate::pair_set::PairSet;
 use crate::parts::Parts;
 use crate::place::{elementary_row, place, until_count};
+use crate::room::prepare;
 use crate::row_lists::RowLists;
 use crate::rule::{Pruning, Rule};
+use crate::shapes::Shapes;
 use crate::transition::Transition;
 use crate::transitions::transitions;
+use crate::twins::twin;
 use ltl_automaton::{Arc, AutomatonFault as AltFault, Limits, Successors, explore_from};
 use ltl_formula::{Row, Table};
 use ltl_sets::RowSet;
@@ -30,6 +35,7 @@ struct RowSets<'t, 's, 'a, A: Allocator> {
     own: Vec<PairSet<'a, A>, &'a A>,
     parts: Parts<'a, A>,
     groups: Groups<'a, A>,
+    shapes: Shapes<'a, A>,
     keep_implied: bool,
 }
 
@@ -54,14 +60,25 @@ fn arcs_of<'c, B: Allocator>(
 impl<'t, 's, 'a, A: Allocator> Successors<RowSet> for RowSets<'t, 's, 'a, A> {
     ghost net = { λ n. net_of (core_of n.table.now) n.keep_implied };
 
-    ghost ready = { λ n. IsPrepared n.table.now n.keep_implied n.lists.pairs.items n.lists.sets.items n.own.items n.parts.made n.parts.owners.items n.parts.lists.items n.parts.demands.items n.parts.links.items n.groups.keys.keys n.groups.lists.items };
+    ghost ready = { λ n. IsPrepared n.table.now n.keep_implied n.lists.pairs.items n.lists.sets.items n.own.items n.parts.made n.parts.owners.items n.parts.lists.items n.parts.demands.items n.parts.links.items n.groups.keys.keys n.groups.lists.items
+        × AreShapes (table_at n.table.now) n.keep_implied n.shapes.shapes.items n.shapes.states.items };
 
     fn accepting(&self, _key: &RowSet) -> bool {
         true
     }
 
-    fn twin(&mut self, _key: &RowSet) -> Result<Option<RowSet>, AllocError> {
-        Ok(None)
+    fn twin(&mut self, key: &RowSet) -> Result<Option<RowSet>, AllocError> {
+        twin(
+            self.alloc,
+            self.table,
+            &mut self.lists,
+            &mut self.parts,
+            &mut self.groups,
+            &mut self.shapes,
+            self.own.as_slice(),
+            self.keep_implied,
+            key,
+        )
     }
 
     fn arcs<'c, B: Allocator>(
@@ -119,7 +136,8 @@ pub(crate) fn reach<'a, A: Allocator>(
     let _ = table.len();
     let mut lists = RowLists::new(alloc, table)?;
     let own = all_own(alloc, table)?;
-    let groups = Groups::new(alloc);
+    let mut groups = Groups::new(alloc);
+    let shapes = Shapes::new(alloc);
     let mut parts = Parts::new(alloc);
     let pruning = Pruning {
         rule: Rule::of(keep_implied),
@@ -127,7 +145,16 @@ pub(crate) fn reach<'a, A: Allocator>(
     };
 
     // Parts are joined in the order of their numbers. A row beside its operands joins best.
-    parts.prepare(alloc, table, &mut lists, &pruning, &temporal_rows(table))?;
+    let temporal = temporal_rows(table);
+    prepare(
+        alloc,
+        table,
+        &mut lists,
+        &mut parts,
+        &mut groups,
+        &pruning,
+        &temporal,
+    )?;
     let mut row_sets = RowSets {
         alloc,
         table,
@@ -135,6 +162,7 @@ pub(crate) fn reach<'a, A: Allocator>(
         own,
         parts,
         groups,
+        shapes,
         keep_implied,
     };
     let root = RowSet::single(place(table, table.root()));

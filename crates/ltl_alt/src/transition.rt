@@ -1,6 +1,6 @@
 //! Transitions of sets of rows.
 
-ghost use Rattle.std.specs.Prelude.{◌≡◌, ◌+◌, length};
+ghost use Rattle.std.specs.Prelude.{◌≡◌, ◌+◌, true, length};
 ghost use Rattle.std.specs.Ordering.{is_ne};
 ghost use Rattle.ltl_spec.specs.Transitions.RowTransitions.{implies, transition_cmp};
 ghost use Rattle.ltl_alt.specs.ProductView.{join_transitions};
@@ -50,6 +50,14 @@ impl Transition {
             targets: self.targets.union(&other.targets),
             marks: self.marks.common(&other.marks),
         })
+    }
+
+    /// Whether the two are equal.
+    #[tactic(auto, using(crate::proofs::ShapeLaws::same_transition))]
+    pub(crate) fn is_same(&self, other: &Transition) -> bool
+        ensures { result ≡ true → self.now ≡ other.now }
+    {
+        self.cube == other.cube && self.targets == other.targets && self.marks == other.marks
     }
 
     /// Whether this transition asks for no more than the other, and is in each acceptance set that the other is in.

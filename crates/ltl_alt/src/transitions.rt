@@ -16,6 +16,7 @@ use crate::groups::Groups;
 use crate::pair_set::PairSet;
 use crate::parts::Parts;
 use crate::product::{all_products, are_more};
+use crate::room::prepare;
 use crate::row_lists::RowLists;
 use crate::rule::{Pruning, Rule};
 use crate::transition::Transition;
@@ -26,13 +27,13 @@ use smallvec::SmallVec;
 use std::alloc::{AllocError, Allocator};
 
 /// Numbers of groups. Most sets of rows have few.
-type GroupNumbers<'a, A> = SmallVec<usize, 16, &'a A>;
+pub(crate) type GroupNumbers<'a, A> = SmallVec<usize, 16, &'a A>;
 
 /// A group with more transitions is forgotten behind its state, so is the one group of a state that has no other one.
 const MOST_REMEMBERED: usize = 16;
 
 /// The first member of a set.
-fn first(rows: &RowSet) -> Option<usize>
+pub(crate) fn first(rows: &RowSet) -> Option<usize>
     ensures { MatchOption result (rows.now ≡ []) (λ i. Has rows.now i) }
 {
     let mut members = rows.iter();
@@ -99,7 +100,7 @@ pub(crate) fn transitions<'a, A: Allocator>(
         rule: Rule::of(keep_implied),
         own,
     };
-    parts.prepare(alloc, table, rows, &pruning, state)?;
+    prepare(alloc, table, rows, parts, groups, &pruning, state)?;
     state.members_rise();
     let all = parts.numbers(state);
     let remembered = groups.len();

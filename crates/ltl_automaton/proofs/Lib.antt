@@ -1,3 +1,4 @@
+pub mod DistinctLaws
 pub mod EdgeLaws
 pub mod NetLaws
 pub mod ReachableLaws

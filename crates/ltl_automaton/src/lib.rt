@@ -20,6 +20,7 @@
 #![tactic(auto)]
 
 pub mod arc;
+pub mod distinct;
 pub mod edge;
 pub mod edge_list;
 pub mod explore;
@@ -33,6 +34,7 @@ pub mod successors;
 mod tests;
 
 pub use arc::Arc;
+pub use distinct::Distinct;
 pub use edge::Edge;
 pub use edge_list::EdgeList;
 pub use explore::{Limits, explore_from};

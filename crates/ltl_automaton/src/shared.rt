@@ -5,15 +5,14 @@ ghost use Rattle.ltl_spec.specs.Automata.Automaton.{state_at};
 ghost use Rattle.ltl_automaton.specs.EdgeView.{edge_of};
 ghost use Rattle.ltl_automaton.specs.SharedView.{automaton_of, with_state, IsShared};
 
+use crate::distinct::Distinct;
 use crate::edge::Edge;
 use crate::edge_list::EdgeList;
-use indexmap::IndexSet;
 use std::alloc::{AllocError, Allocator};
-use std::hash::{BuildHasherDefault, FoldHasher};
 use std::marker::Model;
 
 /// The different lists, by number.
-type Lists<'a, A> = IndexSet<EdgeList<'a, A>, BuildHasherDefault<FoldHasher>, &'a A>;
+type Lists<'a, A> = Distinct<'a, EdgeList<'a, A>, A>;
 
 /// A state: the number of its list of edges, and whether it is accepting.
 #[derive(Clone, Copy, Debug, PartialEq, Eq, Hash)]
@@ -47,7 +46,7 @@ impl<'a, A: Allocator> SharedStates<'a, A> {
     {
         SharedStates {
             sets,
-            lists: IndexSet::new(alloc),
+            lists: Distinct::new(alloc),
             states: Vec::new(alloc),
         }
     }
@@ -78,7 +77,7 @@ impl<'a, A: Allocator> SharedStates<'a, A> {
         requires { list < length self.now.lists }
         ensures { slice_get self.now.lists list ≡ Some (map edge_of result.now) }
     {
-        self.lists[list].as_slice()
+        self.lists.get(list).as_slice()
     }
 
     /// Whether a state is accepting.
@@ -127,7 +126,7 @@ impl<'a, A: Allocator> SharedStates<'a, A> {
         ensures ok { OnOk result (automaton_of self.new ≡ with_state (automaton_of self.old) accepting (map edge_of edges.entry.items)) }
     {
         self.states.reserve(1)?;
-        let (list, _) = self.lists.insert_full(EdgeList::new(edges))?;
+        let list = self.lists.number(EdgeList::new(edges))?;
         self.states.push(Place { list, accepting })?;
         Ok(())
     }

@@ -5,7 +5,7 @@ use Rattle.std.specs.Int.{bit_at, bit_not}
 use Rattle.std.specs.Bool.{Decides}
 use Rattle.std.specs.List.{list_any, filter}
 use Rattle.std.specs.Ordering.{nat_cmp}
-use Rattle.std.proofs.lemmas.Bool.Decides.{nat_tests, same_from_decides, Decides-eqb}
+use Rattle.std.proofs.lemmas.Bool.Decides.{same_from_decides, Decides-eqb}
 use Rattle.std.proofs.lemmas.Nat.Bits.{bit_at_or, bit_at_not, bit_at-lt, same_from_bits, same_from_bits_below}
 use Rattle.std.proofs.lemmas.List.Elements.{All-push}
 use Rattle.least.specs.Bits.{is_within}
@@ -14,7 +14,7 @@ use Rattle.ltl_spec.specs.Collections.Sets.{union, has, is_subset}
 use Rattle.ltl_spec.specs.Transitions.Cubes.{literal_cmp}
 use Rattle.ltl_spec.specs.Automata.Automaton.{Edge}
 use Rattle.ltl_spec.specs.Construction.Merging.{same_edge}
-use Rattle.ltl_spec.proofs.Collections.CaseLaws.{left_true, right_true}
+use Rattle.ltl_spec.proofs.Collections.CaseLaws.{left_true, right_true, nat_eq_same, nat_eq_is}
 use Rattle.ltl_spec.proofs.Collections.Orders.{nat_linear, literal_linear}
 use Rattle.ltl_spec.proofs.Collections.SetLaws.{common_first, common_second, union_first, union_second}
 use Rattle.ltl_spec.proofs.Construction.ImpliedEdges.{is_above}
@@ -26,12 +26,6 @@ use Rattle.ltl_buchi.specs.declared.implied.Asked as made
 use Rattle.ltl_buchi.specs.Asked.{IsAsked, AreAsked, asked_edge, is_below, is_other, parts_below}
 
 -- ---- digits
-
-told : (m n : ℕ) → nat_eq m n ≡ true → m ≡ n
-told m n e = grind (arith, nat_tests)
-
-equal : (m n : ℕ) → m ≡ n → nat_eq m n ≡ true
-equal m n e = grind (arith, nat_tests)
 
 squeezed : (x y : ℕ) → x < 2 → y < 2 → max x y ≡ y → max (1 - x) (1 - y) ≡ 1 - y → x ≡ y
 squeezed x y h g e f = omega arith
@@ -47,14 +41,14 @@ itself : (x : ℕ) → max x x ≡ x
 itself x = omega arith
 
 within_itself : (x y : ℕ) → x ≡ y → is_within x y ≡ true
-within_itself x y e = equal _ _ (ap (λ n. bit_or n y) e ∙ same_from_bits (bit_or y y) y (λ i. bit_at_or y y i ∙ itself (bit_at y i)))
+within_itself x y e = nat_eq_same _ _ (ap (λ n. bit_or n y) e ∙ same_from_bits (bit_or y y) y (λ i. bit_at_or y y i ∙ itself (bit_at y i)))
 
 -- so the digits tell of the target
 same_targets : (k l : made.Asked) → IsAsked k → IsAsked l → Decides (is_within k.ones l.ones && is_within k.zeros l.zeros) (k.edge.target ≡ l.edge.target)
 same_targets k l v w = (
   (λ e.
-      let ones = told _ _ (left_true (is_within k.ones l.ones) (is_within k.zeros l.zeros) e) in
-      let zeros = told _ _ (right_true (is_within k.ones l.ones) (is_within k.zeros l.zeros) e) in
+      let ones = nat_eq_is _ _ (left_true (is_within k.ones l.ones) (is_within k.zeros l.zeros) e) in
+      let zeros = nat_eq_is _ _ (right_true (is_within k.ones l.ones) (is_within k.zeros l.zeros) e) in
       same_digits k.edge.target l.edge.target v.fits w.fits
       (sym (λ i. bit_or (v.ones i) (w.ones i)) ∙ ones ∙ w.ones)
       (sym (λ i. bit_or (v.zeros i) (w.zeros i)) ∙ zeros ∙ w.zeros)),

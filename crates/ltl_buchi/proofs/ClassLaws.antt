@@ -40,39 +40,7 @@ get_more [] more i x e = absurd (never e)
 get_more (y ∷ ys) more zero x e = e
 get_more (y ∷ ys) more (suc i) x e = get_more ys more i x e
 
-equal_or_not : (i j : ℕ) → (i ≡ j) ⊎ (i ≡ j → ⊥)
-equal_or_not i j = elim (below_equal_above i j) [
-  | inl l ↦ inr (λ e. omega arith)
-  | inr r ↦ elim r [ inl e ↦ inl e | inr l ↦ inr (λ e. omega arith) ]
-]
-
 -- first places
-
-pub first_begins : (codes firsts : List ℕ) (count : ℕ) → length firsts ≡ count → IsFirstPlaces codes count (length codes) firsts
-first_begins codes firsts count w = record { wide = w; low = λ s l m. absurd (omega arith); same = λ s l m. absurd (omega arith) }
-
--- the place before all that were looked at is the first one of its code
-pub first_step : (codes firsts more : List ℕ) (count s : ℕ) → IsFirstPlaces codes count (s + 1) firsts → s < length codes → slice_index codes s < count
-    → more ≡ slice_set firsts (slice_index codes s) s → length more ≡ length firsts → IsFirstPlaces codes count s more
-first_step codes firsts more count s w l m e n = record {
-  wide = n ∙ w.wide;
-  low = λ t p q. elim (place t p q) [ inl c ↦ let a = c.1 in omega arith | inr c ↦ let a = w.low t c.0 q in let b = c.1 in omega arith ];
-  same = λ t p q. elim (place t p q) [ inl c ↦ ap (slice_index codes) c.1 ∙ sym c.0 | inr c ↦ ap (slice_index codes) c.1 ∙ w.same t c.0 q ];
-}
-  where
-    place : (t : ℕ) → s ≤ t → t < length codes
-        → ((slice_index codes t ≡ slice_index codes s) × (slice_index more (slice_index codes t) ≡ s)) ⊎ ((s + 1 ≤ t) × (slice_index more (slice_index codes t) ≡ slice_index firsts (slice_index codes t)))
-    place t p q = elim (equal_or_not (slice_index codes t) (slice_index codes s)) [
-      | inl c ↦
-          let wide = w.wide in
-          inl (c, ap (slice_index more) c ∙ ap (λ xs. slice_index xs (slice_index codes s)) e ∙ get_or-set_same firsts (slice_index codes s) s 0 (omega arith))
-      | inr c ↦
-          inr (later (equal_or_not s t) c, ap (λ xs. slice_index xs (slice_index codes t)) e ∙ get_or-set_other firsts (slice_index codes s) (slice_index codes t) s 0 c)
-    ]
-      where
-        later : (s ≡ t) ⊎ (s ≡ t → ⊥) → (slice_index codes t ≡ slice_index codes s → ⊥) → s + 1 ≤ t
-        later (inl i) c = absurd (c (ap (slice_index codes) (sym i)))
-        later (inr i) c = elim (below_equal_above s t) [ inl k ↦ omega arith | inr r ↦ elim r [ inl k ↦ absurd (i k) | inr k ↦ absurd (omega arith) ] ]
 
 pub least_from : (codes firsts names : List ℕ) (count : ℕ) → IsFirstPlaces codes count 0 firsts → names ≡ map (slice_index firsts) codes → IsLeastPlaces codes names
 least_from codes firsts names count w e = record {
@@ -93,15 +61,6 @@ module _ {K : Type 0} (count : ℕ) (old_view new_view : ℕ → K) where
     pub distinct : HasNoRepeats keys
     pub new : (s : ℕ) → s < k → slice_get keys (slice_index codes s) ≡ Some (new_view s)
     pub old : (s : ℕ) → k ≤ s → s < length codes → slice_get keys (slice_index codes s) ≡ Some (old_view s)
-
-  pub recoded_none : (keys : List K) (codes : List ℕ) → HasNoRepeats keys → codes ≡ [] → IsRecoded 0 keys codes
-  recoded_none keys codes d e = record { distinct = d; new = λ s l. absurd (omega arith); old = λ s l m. absurd (let n = ap length e in omega arith) }
-
-  pub recoded_begins : (keys : List K) (codes : List ℕ) → IsCoded count old_view keys codes → IsRecoded 0 keys codes
-  recoded_begins keys codes c = record { distinct = c.distinct; new = λ s l. absurd (omega arith); old = λ s l m. c.seen s (let n = c.long in omega arith) }
-
-  pub recoded_ends : (k : ℕ) (keys : List K) (codes : List ℕ) → IsRecoded k keys codes → length codes ≡ count → count ≤ k → IsCoded count new_view keys codes
-  recoded_ends k keys codes w n l = record { distinct = w.distinct; long = n; seen = λ s m. w.new s (omega arith) }
 
   -- one more code
   pub recoded_push : (k : ℕ) (keys more_keys : List K) (codes more_codes : List ℕ) (i : ℕ) → IsRecoded k keys codes → length codes ≡ k → HasNoRepeats more_keys

@@ -9,7 +9,7 @@ use Rattle.ltl_spec.specs.Collections.Lists.{place_of}
 use Rattle.ltl_spec.specs.Automata.Automaton.{Automaton, State, Edge, edge_cmp, state_at}
 use Rattle.ltl_spec.specs.Construction.Merging.{same_state, retargeted_edge, retargeted_state, class_names}
 use Rattle.ltl_spec.proofs.Collections.ListLaws.{All-at_has}
-use Rattle.ltl_spec.proofs.Construction.MergingUnique.{IsNames, IsWithin, seen_under, same_names, round_names, next_seen, next_equal}
+use Rattle.ltl_spec.proofs.Construction.NamingLaws.{IsNames, IsWithin, seen_under, same_names, round_names, next_seen, next_equal}
 use Rattle.ltl_automaton.specs.EdgeView.{edge_of}
 use Rattle.ltl_automaton.specs.SharedView.{Shared, IsShared, automaton_of, state_in}
 use Rattle.ltl_automaton.specs.declared.edge.Edge as plain

@@ -10,7 +10,7 @@ use Rattle.ltl_spec.proofs.Collections.MemberLaws.{map_cases}
 use Rattle.ltl_spec.proofs.Semantics.Runs.{IsClosed}
 use Rattle.ltl_spec.proofs.Construction.ImpliedEdges.{IsSetEdge, thin_accepting}
 use Rattle.ltl_spec.proofs.Construction.RoundLaws.{names_length, name_low, name_twice}
-use Rattle.ltl_spec.proofs.Construction.MergingUnique.{way_begins, last_alike}
+use Rattle.ltl_spec.proofs.Construction.NamingLaws.{first_naming, last_alike}
 use Rattle.ltl_spec.proofs.Construction.QuotientRuns.{IsNaming, number_inside}
 use Rattle.ltl_alt.specs.GbaView as gba
 use Rattle.ltl_buchi.specs.BaView.{IsBa, IsPlain}
@@ -36,7 +36,7 @@ module _ (A : Automaton) where
     names = class_names A rounds
 
     naming_of : (b : Bool) → IsNaming A (class_names A (cond b 0 (length A.states)))
-    naming_of true = (way_begins A).naming
+    naming_of true = first_naming A
     naming_of false = record { long = names_length A (length A.states); low = name_low A (length A.states); alike = last_alike A }
 
     abbrev naming : IsNaming A names

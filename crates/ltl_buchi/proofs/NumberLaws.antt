@@ -39,9 +39,6 @@ rising_push (y ∷ ys) x r l = (
     below : (a b : ℕ) → a < b → nat_cmp a b ≡ Less
     below a b m = grind arith
 
-pub numbering_begins : IsNumbering [] [] []
-numbering_begins = record { listed = refl; numbered = refl }
-
 module _ (names classes numbers : List ℕ) (w : IsNumbering names classes numbers) where
   has_name : (c : ℕ) → Has names c → Has classes c
   has_name c h = subst (λ cs. Has cs c) (sym w.listed) (Has-set_of nat_linear names c h)

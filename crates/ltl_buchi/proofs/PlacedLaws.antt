@@ -1,5 +1,5 @@
 -- The places of the edges by target.
-use Rattle.std.proofs.Common.{◌≡◌, ℕ, zero, suc, Some, length-append, ◌+◌, ◌<◌, Bool, true, false, cond, ◌&&◌, ◌⊎◌, inl, inr, List, [], ◌∷◌, ◌++◌, length, map, refl, sym, ◌∙◌, ap, subst, arith, IsPermutation}
+use Rattle.std.proofs.Common.{◌≡◌, ℕ, zero, suc, Some, length-append, ◌+◌, ◌<◌, Bool, true, false, cond, ◌&&◌, inl, inr, List, [], ◌∷◌, ◌++◌, length, map, refl, sym, ◌∙◌, ap, subst, arith, IsPermutation}
 use Rattle.std.specs.Prelude.{nat_eq, slice_get, slice_index_or, take}
 use Rattle.std.specs.declared.cmp.Ordering.{Ordering}
 use Rattle.std.specs.declared.cmp.Ordering.TheVariants.{Less}
@@ -21,7 +21,7 @@ use Rattle.ltl_spec.proofs.Collections.Orders.{nat_linear, first_equal, second_e
 use Rattle.ltl_spec.proofs.Collections.SetLaws.{all_from, all_at, append_cases, append_left, append_right}
 use Rattle.ltl_spec.proofs.Collections.MemberLaws.{Has-map, map_cases}
 use Rattle.ltl_spec.proofs.Collections.ListLaws.{HasNoRepeats-push, Has-from_contains, Contains-from_has, Has-at, get_done, index_append, index_done}
-use Rattle.ltl_spec.proofs.Collections.CaseLaws.{below_equal_above}
+use Rattle.ltl_spec.proofs.Collections.CaseLaws.{below_equal_above, below_or_last}
 use Rattle.std.proofs.lemmas.Option.{slice_get_within}
 use Rattle.ltl_automaton.proofs.WayLaws.{take_got}
 use Rattle.ltl_automaton.specs.EdgeView.{edge_of}
@@ -46,9 +46,6 @@ pub record IsPlaced (es : List Edge) (n : ℕ) (items : List Placed) : Type 0 wh
 pub placed_none : (es : List Edge) → IsPlaced es 0 []
 placed_none es = record { below = λ p h. absurd h; target = λ p h. absurd h; whole = λ k l. absurd (omega arith); distinct = tt }
 
-split : (k n : ℕ) → k < n + 1 → (k < n) ⊎ (k ≡ n)
-split k n l = grind arith
-
 pub placed_next : (es : List Edge) (n : ℕ) (items more : List Placed) (x : Placed) → IsPlaced es n items → x ≡ placed_at es n → more ≡ items ++ x ∷ [] → IsPlaced es (n + 1) more
 placed_next es n items more x w e p = subst (IsPlaced es (n + 1)) (sym (p ∙ ap (λ y. items ++ y ∷ []) e)) (record {
   below = λ q h. elim (append_cases items (placed_at es n ∷ []) q h) [
@@ -59,7 +56,7 @@ placed_next es n items more x w e p = subst (IsPlaced es (n + 1)) (sym (p ∙ ap
     | inl k ↦ w.target q k
     | inr k ↦ elim k [ inl i ↦ ap (λ (r : Placed). r.target) i ∙ ap (λ (r : Placed). target_at es r.place) (sym i) | inr z ↦ absurd z ]
   ];
-  whole = λ k l. elim (split k n l) [
+  whole = λ k l. elim (below_or_last k n l) [
     | inl m ↦ append_left items (placed_at es n ∷ []) (placed_at es k) (w.whole k m)
     | inr i ↦ append_right items (placed_at es n ∷ []) (placed_at es k) (inl (ap (placed_at es) i))
   ];

@@ -1,14 +1,13 @@
 -- A quotient stays within the limits of what it is made of, and each of its states is reached.
-use Rattle.std.proofs.Common.{◌≡◌, ℕ, zero, suc, ◌<◌, ◌≤◌, Bool, true, false, cond, not, ◌&&◌, inl, inr, List, [], ◌∷◌, map, length, refl, sym, ◌∙◌, ap, subst, arith}
+use Rattle.std.proofs.Common.{◌≡◌, ℕ, zero, suc, ◌<◌, ◌≤◌, Bool, true, false, not, ◌&&◌, inl, inr, List, [], ◌∷◌, map, length, refl, sym, ◌∙◌, ap, subst, arith}
 use Rattle.std.specs.Prelude.{slice_index, slice_index_or, ◌==◌, sum_by, take, All}
-use Rattle.std.specs.List.{filter, list_any}
-use Rattle.std.specs.declared.cmp.Ordering.TheVariants.{Less}
+use Rattle.std.specs.List.{list_any}
 use Rattle.std.specs.Ordering.{nat_cmp}
 use Rattle.ltl_spec.specs.Collections.Sets.{Has, IsRising, set_of}
-use Rattle.ltl_spec.specs.Collections.Lists.{place_of, HasNoRepeats}
+use Rattle.ltl_spec.specs.Collections.Lists.{place_of}
 use Rattle.ltl_spec.specs.Automata.Automaton.{Automaton, State, Edge, edge_cmp, state_at}
 use Rattle.ltl_spec.specs.Construction.Merging.{same_edge, implies_edge, retargeted_edge, retargeted_state, without_implied, quotient}
-use Rattle.ltl_spec.proofs.Collections.SetLaws.{set_of_cases, IsRising-set_of, IsRising-filter, irreflexive, all_at}
+use Rattle.ltl_spec.proofs.Collections.SetLaws.{set_of_cases, IsRising-set_of, IsRising-filter}
 use Rattle.ltl_spec.proofs.Collections.Orders.{nat_linear, edge_linear}
 use Rattle.ltl_spec.proofs.Collections.ListLaws.{Has-at, All-from_has, place_again}
 use Rattle.ltl_spec.proofs.Collections.MemberLaws.{map_length, map_cases}
@@ -17,27 +16,13 @@ use Rattle.std.proofs.lemmas.List.Sums.{sum_by-cons}
 use Rattle.ltl_spec.proofs.Automata.ListedStates.{no_state}
 use Rattle.ltl_spec.proofs.Semantics.Runs.{IsClosed}
 use Rattle.ltl_spec.proofs.Construction.QuotientRuns.{IsNaming, HasSetEdges, number_inside, class_edge, number_start, edge_on}
+use Rattle.ltl_spec.proofs.Construction.EdgeBounds.{HasNoRepeats-rising, thin_length}
 use Rattle.ltl_buchi.specs.BaView.{IsReached, start, along}
 use Rattle.ltl_automaton.proofs.ReachableLaws.{set_short}
 use Rattle.ltl_automaton.proofs.WayLaws.{take_whole}
 use Rattle.ltl_buchi.proofs.Sums.{few_all}
 
 -- sizes
-
-filter_length : {K : Type 0} (p : K → Bool) (xs : List K) → length (filter p xs) ≤ length xs
-filter_length p [] = omega arith
-filter_length p (x ∷ xs) =
-    let l = filter_length p xs in
-    elim (p x) as (λ b. length (cond b (x ∷ filter p xs) (filter p xs)) ≤ suc (length xs)) [ true ↦ omega arith | false ↦ omega arith ]
-
--- without repeats
-pub HasNoRepeats-rising : (xs : List ℕ) → IsRising nat_cmp xs → HasNoRepeats xs
-HasNoRepeats-rising [] r = tt
-HasNoRepeats-rising (x ∷ xs) r = ((λ h. irreflexive nat_linear x x (all_at (λ z. nat_cmp x z ≡ Less) xs x r.0 h) refl), HasNoRepeats-rising xs r.1)
-
-thin_length : (keep_implied : Bool) (s : State) → length (without_implied keep_implied s).edges ≤ length s.edges
-thin_length true s = omega arith
-thin_length false s = filter_length (λ e. not (list_any (λ f. not (same_edge f e) && implies_edge f e) s.edges)) s.edges
 
 -- a class has no more edges than the state that names it
 pub class_length : (keep_implied : Bool) (f : ℕ → ℕ) (s : State) → length (without_implied keep_implied (retargeted_state f s)).edges ≤ length s.edges

@@ -20,6 +20,7 @@ use Rattle.ltl_spec.proofs.Automata.ListingReach.{listed_within, listed_short, H
 use Rattle.ltl_spec.proofs.Construction.EdgeBounds.{AreAll, renumbered_all, renumbered_few, renumbered_few_edges}
 use Rattle.ltl_spec.proofs.Construction.RenumberedRuns.{ordered_targets_cases, complete_reached, reached_short, renumbered_closed}
 use Rattle.ltl_spec.proofs.Semantics.Runs.{IsClosed}
+use Rattle.ltl_spec.proofs.Collections.SumLaws.{taken_sum}
 use Rattle.ltl_automaton.specs.Net.{Net, key_of, targets_of, edge_in, state_of, IsReachable}
 use Rattle.ltl_automaton.specs.SharedView.{Shared, automaton_of}
 use Rattle.ltl_automaton.proofs.NetLaws.{map_agree}
@@ -29,7 +30,7 @@ use Rattle.ltl_buchi.specs.BaView.{IsBa, IsPlain}
 use Rattle.ltl_buchi.specs.Numbered.{IsNumberable, arc_of, net_of}
 use Rattle.ltl_buchi.proofs.MergedLaws.{of_all, gba_within}
 use Rattle.ltl_buchi.proofs.ReachedLaws.{listed_reached}
-use Rattle.ltl_buchi.proofs.Sums.{sum_distinct, HasNoRepeats_take}
+use Rattle.ltl_buchi.proofs.Sums.{HasNoRepeats_take}
 use Rattle.ltl_buchi.proofs.Within.{any_state, edges_within, states_at, closed_within}
 
 -- past the last state
@@ -98,7 +99,7 @@ module _ (A : Automaton) (inside : IsNumberable A) where
       let below : (z : ℕ) → Has places z → z < length A.states = λ z h.
       let q = Has_taken_at n (keys n) z h in
       listed_within ◌==◌ Decides-eqb (targets_of N) 0 (λ s. s < length A.states) closed.begins leads n z (subst (Has (keys n)) q.3 (Has-at (keys n) q.0 z q.2)) in
-      let total = sum_distinct (λ (s : State). length s.edges) (record { accepting = true; edges = [] }) A.states (length A.states) places (omega arith) d below in
+      let total = taken_sum (λ (s : State). length s.edges) (record { accepting = true; edges = [] }) A.states (length A.states) places (omega arith) d below in
       let whole = ap (sum_by (λ (s : State). length s.edges)) (take_whole (length A.states) A.states (omega arith)) in
       let less = sums_less (λ s. length (targets_of N s)) (λ s. length (state_at A s).edges) places (λ s. let e = ap length (targets_plain (state_at A s).edges) in let f = length-map (state_at A s).edges (λ (e : Edge). e.target) in omega arith) in
       let few = inside.bounded.few_edges in

@@ -12,9 +12,8 @@ use Rattle.ltl_spec.specs.Construction.Levels.{level_automaton, HasTooManyCopies
 use Rattle.ltl_spec.specs.Construction.Renumbered.{renumbered_automaton}
 use Rattle.ltl_spec.specs.Construction.Translation.{Options, IsTranslation, IsTranslationTooLarge}
 use Rattle.ltl_spec.specs.Semantics.Language.{HasLanguageOf, AcceptsModels, AcceptsViolations}
-use Rattle.ltl_spec.proofs.Automata.LimitLaws.{one_generalized}
 use Rattle.ltl_spec.proofs.Checking.BelowLaws.{HasLeavesBelow, core_below, translation_is_buchi}
-use Rattle.ltl_spec.proofs.Construction.GeneralizedBounds.{translation_below}
+use Rattle.ltl_spec.proofs.Construction.GeneralizedBounds.{one_generalized, translation_below}
 use Rattle.ltl_spec.proofs.Semantics.LanguageLaws.{translation_language, translation_models, translation_violations}
 use Rattle.ltl_buchi.specs.Named.{HasNamesOf}
 

@@ -1,19 +1,18 @@
 -- An edge that implies another one with its target asks for less.
-use Rattle.std.proofs.Common.{◌≡◌, ℕ, ◌+◌, ◌-◌, ◌<◌, ◌≤◌, Bool, true, false, cond, not, ◌⊎◌, inl, inr, List, [], ◌∷◌, ◌++◌, length, map, take, refl, sym, ◌∙◌, ap, subst, arith}
+use Rattle.std.proofs.Common.{◌≡◌, ℕ, ◌+◌, ◌<◌, Bool, true, false, not, inl, inr, List, [], ◌∷◌, ◌++◌, length, map, take, refl, sym, ◌∙◌, ap, subst, arith}
 use Rattle.std.specs.Prelude.{slice_index_or}
-use Rattle.std.specs.List.{list_any, filter}
+use Rattle.std.specs.List.{list_any}
 use Rattle.std.proofs.lemmas.List.{take_more}
 use Rattle.ltl_spec.specs.Collections.Sets.{Has}
 use Rattle.ltl_spec.specs.Automata.Automaton.{Edge}
 use Rattle.ltl_spec.specs.Construction.Merging.{same_edge, unimplied_edges}
 use Rattle.ltl_spec.proofs.Collections.CaseLaws.{false_is_true, left_true, right_true}
-use Rattle.ltl_spec.proofs.Collections.MemberLaws.{any_cases, map_cases}
+use Rattle.ltl_spec.proofs.Collections.MemberLaws.{any_cases, map_cases, filter_all}
 use Rattle.ltl_spec.proofs.Collections.Orders.{nat_linear, literal_linear}
 use Rattle.ltl_spec.proofs.Collections.SetLaws.{append_cases}
 use Rattle.ltl_spec.proofs.Construction.ImpliedEdges.{implies_edge_Decides, is_above}
 use Rattle.ltl_spec.proofs.Construction.RoundLaws.{same_edge_Decides}
 use Rattle.ltl_spec.proofs.Transitions.TransitionLaws.{subset_length}
-use Rattle.ltl_sets.specs.declared.row_set.TheConstants.RowSet.{LIMIT}
 use Rattle.ltl_automaton.specs.EdgeView.{edge_of}
 use Rattle.ltl_automaton.specs.declared.edge.Edge as made
 use Rattle.ltl_buchi.specs.Asked.{IsOfWeight, AreOfWeight}
@@ -29,10 +28,6 @@ not_above w f e v u t =
     let equal : f ≡ e = λ i. let g : Edge = record { cube = p i; target = c.target i; marks = sym m i } in g in
     false_is_true (ap not (sym ((same_edge_Decides f e).1 equal)) ∙ left_true (not (same_edge f e)) _ t)
 
-all_stay : {K : Type 0} (p : K → Bool) (xs : List K) → ((x : K) → Has xs x → p x ≡ true) → filter p xs ≡ xs
-all_stay p [] f = refl
-all_stay p (x ∷ xs) f = λ i. cond (f x (inl refl) i) (x ∷ all_stay p xs (λ y h. f y (inr h)) i) (all_stay p xs (λ y h. f y (inr h)) i)
-
 none_above : (es : List made.Edge) → AreOfWeight es → (e : Edge) → Has (map edge_of es) e → (b : Bool) → list_any (λ f. is_above f e) (map edge_of es) ≡ b → not b ≡ true
 none_above es (w, all) e h false t = refl
 none_above es (w, all) e h true t =
@@ -45,7 +40,7 @@ none_above es (w, all) e h true t =
 pub one_weight : (es gs : List made.Edge) → AreOfWeight es → gs ≡ es → map edge_of gs ≡ unimplied_edges (map edge_of es)
 one_weight es gs all e =
     ap (map edge_of) e
-    ∙ sym (all_stay (λ e. not (list_any (λ f. is_above f e) (map edge_of es))) (map edge_of es) (λ e h. none_above es all e h (list_any (λ f. is_above f e) (map edge_of es)) refl))
+    ∙ sym (filter_all (λ e. not (list_any (λ f. is_above f e) (map edge_of es))) (map edge_of es) (λ e h. none_above es all e h (list_any (λ f. is_above f e) (map edge_of es)) refl))
 
 -- one more that asks for as much
 pub weight_more : (es : List made.Edge) (i w v : ℕ) (e : made.Edge) → i < length es → e ≡ slice_index_or es i e → IsOfWeight v (edge_of e) → v ≡ w → ((g : made.Edge) → Has (take i es) g → IsOfWeight w (edge_of g))

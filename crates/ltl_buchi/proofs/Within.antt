@@ -1,9 +1,10 @@
 -- What holds of all targets.
-use Rattle.std.proofs.Common.{◌≡◌, ℕ, zero, suc, refl, ◌+◌, ◌<◌, ◌≤◌, true, ◌⊎◌, inl, inr, List, [], ◌∷◌, ◌++◌, length, map, sym, ap, subst, arith, length-append, ◌∙◌}
+use Rattle.std.proofs.Common.{◌≡◌, ℕ, zero, suc, refl, ◌+◌, ◌<◌, true, inl, inr, List, [], ◌∷◌, ◌++◌, length, map, sym, ap, subst, arith, length-append, ◌∙◌}
 use Rattle.ltl_spec.proofs.Collections.ListLaws.{All-at_has}
 use Rattle.std.specs.Prelude.{slice_index_or, All}
 use Rattle.std.proofs.lemmas.List.{get_or_past}
 use Rattle.std.proofs.lemmas.List.Elements.{All-cons, All-head, All-tail, All-get_or, All-nil}
+use Rattle.std.proofs.lemmas.Bool.{cases_lt}
 use Rattle.ltl_spec.specs.Automata.Automaton.{Automaton, State, Edge, state_at}
 use Rattle.ltl_spec.proofs.Semantics.Runs.{IsClosed}
 use Rattle.ltl_spec.proofs.Automata.ListedStates.{no_state}
@@ -17,14 +18,11 @@ pub All_from_map : {X Y : Type 0} (P : Y → Type 0) (f : X → Y) (xs : List X)
 All_from_map P f [] a = All-nil (λ x. P (f x))
 All_from_map P f (x ∷ xs) a = All-cons (λ y. P (f y)) x xs (All-head P (f x) (map f xs) a) (All_from_map P f xs (All-tail P (f x) (map f xs) a))
 
-below_or_from : (k q : ℕ) → (k < q) ⊎ (q ≤ k)
-below_or_from k q = grind arith
-
 -- what holds of the edges of all states holds of those of one
 pub edges_within : (A : Automaton) (P : Edge → Type 0) (i : ℕ) → All (λ s. All P s.edges) A.states → All P (state_at A i).edges
 edges_within A P i a =
     let none : State = record { accepting = true; edges = [] } in
-    elim (below_or_from i (length A.states)) [
+    elim (cases_lt i (length A.states)) [
       | inl l ↦ All-get_or (λ (s : State). All P s.edges) A.states i none l a
       | inr l ↦ let Q : State → Type 0 = λ s. All P s.edges in subst Q (sym (get_or_past A.states i none l)) (All-nil P)
     ]
@@ -48,7 +46,7 @@ pushed_longer xs ys x e = ap length e ∙ length-append xs (x ∷ [])
 pub states_at : (A : Automaton) (P : State → Type 0) (i : ℕ) → P (record { accepting = true; edges = [] }) → All P A.states → P (state_at A i)
 states_at A P i p a =
     let none : State = record { accepting = true; edges = [] } in
-    elim (below_or_from i (length A.states)) [
+    elim (cases_lt i (length A.states)) [
       | inl l ↦ All-get_or P A.states i none l a
       | inr l ↦ subst P (sym (get_or_past A.states i none l)) p
     ]

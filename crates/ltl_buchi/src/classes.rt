@@ -10,16 +10,14 @@ ghost use Rattle.ltl_automaton.specs.SharedView.{automaton_of};
 ghost use Rattle.ltl_buchi.specs.Classes.{AreListsWithin, IsCoded, IsFirstPlaces, IsLeastAlike, IsLeastPlaces, IsWithinStates, coded_place, list_view};
 
 use crate::retargeting::{are_renamed, retargeted};
-use indexmap::IndexSet;
-use ltl_automaton::{Edge, EdgeList, Place, SharedStates};
+use ltl_automaton::{Distinct, Edge, EdgeList, Place, SharedStates};
 use std::alloc::{AllocError, Allocator};
-use std::hash::{BuildHasherDefault, FoldHasher};
 
 /// How lists of edges were seen, each once.
-type Seen<'a, A> = IndexSet<EdgeList<'a, A>, BuildHasherDefault<FoldHasher>, &'a A>;
+type Seen<'a, A> = Distinct<'a, EdgeList<'a, A>, A>;
 
 /// States by the codes of their lists, each once.
-type Places<'a, A> = IndexSet<Place, BuildHasherDefault<FoldHasher>, &'a A>;
+type Places<'a, A> = Distinct<'a, Place, A>;
 
 /// Each state as its own name.
 pub(crate) fn own_names<'a, A: Allocator>(
@@ -44,7 +42,7 @@ fn code<'a, A: Allocator>(
     ensures distinct { OnOk result (HasNoRepeats seen.old.keys → HasNoRepeats seen.new.keys) }
     ensures extends { OnOk result ((more : List (List spec.Edge)) × (seen.new.keys ≡ seen.old.keys ++ more)) }
 {
-    let (place, _) = seen.insert_full(EdgeList::new(edges))?;
+    let place = seen.number(EdgeList::new(edges))?;
     Ok(place)
 }
 
@@ -133,7 +131,7 @@ fn place_code<A: Allocator>(places: &mut Places<'_, A>, place: Place) -> Result<
     ensures distinct { OnOk result (HasNoRepeats places.old.keys → HasNoRepeats places.new.keys) }
     ensures extends { OnOk result ((more : List Place) × (places.new.keys ≡ places.old.keys ++ more)) }
 {
-    let (code, _) = places.insert_full(place)?;
+    let code = places.number(place)?;
     Ok(code)
 }
 
@@ -169,7 +167,7 @@ fn least_alike<'a, A: Allocator>(
     requires long { length list_codes.now ≡ length states.now.lists }
     ensures { IfOk result (λ v. IsLeastAlike (length states.now.states) (coded_place states.now.states list_codes.now) v.items) }
 {
-    let mut places: Places<'a, A> = IndexSet::new(alloc);
+    let mut places: Places<'a, A> = Distinct::new(alloc);
     let codes = state_codes(alloc, &mut places, states, list_codes)?;
     least_places(alloc, codes.as_slice(), places.len())
 }
@@ -185,7 +183,7 @@ pub(crate) fn class_names<'a, A: Allocator>(
 {
     states.shares();
     let mut names = own_names(alloc, states.len())?;
-    let mut seen: Seen<'a, A> = IndexSet::new(alloc);
+    let mut seen: Seen<'a, A> = Distinct::new(alloc);
     let mut codes = first_codes(alloc, &mut seen, states, names.as_slice())?;
     for round in 0..states.len() {
         let next = least_alike(alloc, states, codes.as_slice())?;

@@ -11,13 +11,14 @@ ghost use Rattle.ltl_buchi.specs.Copies.{IsListOf, arc_of, copy_edge_of, level_n
 
 use crate::automaton::Ba;
 use crate::fault::BaFault;
-use indexmap::IndexSet;
 use ltl_alt::{Gba, GbaEdge, MOST_EDGES, MOST_STATES};
-use ltl_automaton::{Arc, AutomatonFault, Key, Limits, SharedStates, Successors, explore_from};
+use ltl_automaton::{
+    Arc, AutomatonFault, Distinct, Key, Limits, SharedStates, Successors, explore_from,
+};
 use ltl_sets::{Cube, RowSet};
 use std::alloc::{AllocError, Allocator};
 use std::cmp::Ordering;
-use std::hash::{BuildHasherDefault, FoldHasher, Hash, Hasher};
+use std::hash::{Hash, Hasher};
 use std::marker::Model;
 
 /// A state on a level.
@@ -185,7 +186,7 @@ fn arcs_of<'c, B: Allocator>(
 }
 
 /// Lists on levels, by number.
-type Lists<'a, A> = IndexSet<Copied, BuildHasherDefault<FoldHasher>, &'a A>;
+type Lists<'a, A> = Distinct<'a, Copied, A>;
 
 /// The number of a copy's list of edges in place of its state, and the level from which these climb. Copies that agree on this have the same
 /// edges.
@@ -227,7 +228,7 @@ impl<'b, 'g, 'a, A: Allocator> Successors<Copied> for Copies<'b, 'g, 'a, A> {
         let Some(list) = list_of(states, key) else {
             return Ok(None);
         };
-        let (place, _) = self.lists.insert_full(list)?;
+        let place = self.lists.number(list)?;
         if place >= self.firsts.len() {
             self.firsts.push(*key)?;
             return Ok(None);
@@ -279,7 +280,7 @@ pub(crate) fn level_states<'a, A: Allocator>(
     let mut copies = Copies {
         automaton,
         states: automaton.states(),
-        lists: IndexSet::new(alloc),
+        lists: Distinct::new(alloc),
         firsts: Vec::new(alloc),
     };
     let states = explore_from(alloc, start, 0, &mut copies, true, limits)?;

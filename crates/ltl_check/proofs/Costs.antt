@@ -7,10 +7,14 @@ use Rattle.ltl_check.specs.declared.walk.Taken.{Taken}
 use Rattle.ltl_check.specs.declared.search.Colour.{Colour}
 use Rattle.ltl_check.specs.declared.search.Colour.TheVariants.{New, Open, Left, Marked}
 use Rattle.ltl_check.specs.Nets.{Net, IsArc, IsWay, Turns, IsFound}
-use Rattle.ltl_check.specs.Explored.{Each, OneOf, IsChanged, IsLeft, IsMarkedTo, IsOpenStep, IsExplored, IsClosed, IsOver, IsMarkedStep, IsProbed, colour_at, total, rest_way, rest, cost, to_enter, to_mark, work, work_marking, IsMet, counted, IsGrown, IsBack, sum_below, Reached}
+use Rattle.ltl_check.specs.declared.search.Front.{Front}
+use Rattle.ltl_check.specs.declared.search.Met.{Met}
+use Rattle.ltl_check.specs.declared.search.Search.{Search}
+use Rattle.ltl_check.specs.Explored.{Each, OneOf, IsChanged, IsLeft, IsMarkedTo, IsOpenStep, IsExplored, IsClosed, IsOver, IsMarkedStep, IsProbed, IsAt, IsProbedAt, colour_at, total, rest_way, rest, cost, to_enter, to_mark, work, IsOn, HasLeftAt, IsProbedOn, HasProbedAt, IsMet, counted, IsGrown, IsBack, sum_below, Reached, looks_left, IsPopped, IsDone, rest_of, StandsAt, IsProbing, HasMet, HasLeft}
+use Rattle.ltl_check.specs.Looks.{LooksAtMost}
 use Rattle.ltl_check.proofs.WayLaws.{way_push, way_split}
-use Rattle.ltl_check.proofs.FirstPass.{enter, leave, over, leave_closed}
-use Rattle.ltl_check.proofs.SecondPass.{pass_by, retreat, mark_explored, descend, root_leads, root_closed, root_turnless, found, left_on}
+use Rattle.ltl_check.proofs.FirstPass.{skip, enter, enter_closed, leave, over, leave_closed}
+use Rattle.ltl_check.proofs.SecondPass.{begin, pass_by, retreat, mark_explored, descend, root_leads, root_closed, root_turnless, found, left_on}
 
 append_nil : (ts : List Taken) → ts ++ [] ≡ ts
 append_nil [] = refl
@@ -40,101 +44,105 @@ module _ (N : Net) where
   rest_push [] t = omega arith
   rest_push (u ∷ ts) t = let h = rest_push ts t in omega arith
 
-  -- ---- a state is entered
-  module _ (cs : List Colour) (way later : List Taken) (here next : ℕ) (a : Step ℕ) (sized : length cs ≡ N.count) (inside : a.target < N.count) (more : next < N.pairs here) (was : colour_at cs a.target ≡ New) (pushed : later ≡ way ++ record { state = here; pick = next; letter = a.letter } ∷ []) where
-    pub first_enter : IsExplored N (colour_at cs) way here next → N.arc here next ≡ Some a → next + 1 < 2 ^ 64 → IsExplored N (colour_at (set cs a.target Open)) later a.target 0
-    first_enter x i room =
-        subst (λ w. IsExplored N (colour_at (set cs a.target Open)) w a.target 0) (sym pushed)
-        (enter N (colour_at cs) (colour_at (set cs a.target Open)) a.target was (changed_set cs a.target Open (omega arith)) way here next a (record { state = here; pick = next; letter = a.letter }) x inside (record { within = more; found = i }) refl refl refl refl room)
+  -- the way and its rest, with one step more
+  module _ (way later : List Taken) (here next : ℕ) (letter : List ℕ) (pushed : later ≡ way ++ record { state = here; pick = next; letter = letter } ∷ []) where
+    pushed_rest : rest_way N later ≡ rest_way N way + (N.pairs here - (next + 1))
+    pushed_rest = rw pushed (rest_push way (record { state = here; pick = next; letter = letter }))
 
-    rests : rest_way N later ≡ rest_way N way + (N.pairs here - (next + 1))
-    rests = rw pushed (rest_push way (record { state = here; pick = next; letter = a.letter }))
+    pushed_length : length later ≡ length way + 1
+    pushed_length = rw pushed (length-append way (record { state = here; pick = next; letter = letter } ∷ []))
 
-    lengths : length later ≡ length way + 1
-    lengths = rw pushed (length-append way (record { state = here; pick = next; letter = a.letter } ∷ []))
+  -- ---- the first pass
+  module _ (cs : List Colour) (way : List Taken) (here next : ℕ) (x : IsAt N cs way here next) (more : next < N.pairs here) (room : next + 1 < 2 ^ 64) where
+    -- a look that finds nothing, or a state that was entered
+    pub passed : ((a : Step ℕ) → N.arc here next ≡ Some a → colour_at cs a.target ≢ New) → IsOn N cs way here next cs way here (next + 1)
+    passed f = record {
+      stands = record { sized = x.sized; explored = skip N (colour_at cs) way here next x.explored (λ a i. f a i.found); closed = x.closed };
+      falls = omega arith;
+      pays = omega arith;
+    }
 
-    pub enter_costs : 1 + rest N later a.target 0 + total (cost N) 0 cs ≡ rest N way here next + total (cost N) 0 (set cs a.target Open)
-    enter_costs =
-        let h = total_change (cost N) cs a.target New Open (omega arith) was in
-        let r = rests in
-        omega arith
+    pub passed_none : N.arc here next ≡ None → IsOn N cs way here next cs way here (next + 1)
+    passed_none e = passed (λ a f. absurd (cc))
 
-    pub enter_most : 1 + total (cost N) 0 cs ≤ total (cost N) 0 (set cs a.target Open) + rest N way here next
-    enter_most = let h = enter_costs in omega arith
+    pub passed_some : (a : Step ℕ) → N.arc here next ≡ Some a → colour_at cs a.target ≢ New → IsOn N cs way here next cs way here (next + 1)
+    passed_some a e d = passed (λ b f. let q : a ≡ b = (cc) in subst (λ t. colour_at cs t.target ≢ New) q d)
 
-    pub enter_falls : work N (set cs a.target Open) later a.target 0 < work N cs way here next
-    enter_falls =
-        let h = total_change (to_enter N) cs a.target New Open (omega arith) was in
-        let r = rests in
-        let k = lengths in
-        omega arith
+    -- a state is entered
+    pub entered : (later : List Taken) (a : Step ℕ) → a.target < N.count → N.arc here next ≡ Some a → colour_at cs a.target ≡ New → later ≡ way ++ record { state = here; pick = next; letter = a.letter } ∷ [] → IsOn N cs way here next (set cs a.target Open) later a.target 0
+    entered later a inside found was pushed =
+        let within : a.target < length cs = (let z = x.sized in omega arith) in
+        let changed = changed_set cs a.target Open within in
+        let c = total_change (cost N) cs a.target New Open within was in
+        let e = total_change (to_enter N) cs a.target New Open within was in
+        let r = pushed_rest way later here next a.letter pushed in
+        let l = pushed_length way later here next a.letter pushed in
+        record {
+          stands = record {
+            sized = length-set cs a.target Open ∙ x.sized;
+            explored = subst (λ w. IsExplored N (colour_at (set cs a.target Open)) w a.target 0) (sym pushed)
+                (enter N (colour_at cs) (colour_at (set cs a.target Open)) a.target was changed way here next a (record { state = here; pick = next; letter = a.letter }) x.explored inside (record { within = more; found = found }) refl refl refl refl room);
+            closed = enter_closed N (colour_at cs) (colour_at (set cs a.target Open)) a.target was changed x.closed;
+          };
+          falls = omega arith;
+          pays = omega arith;
+        }
 
   -- ---- the second pass
-  module _ (cs : List Colour) (way : List Taken) (root past : ℕ) (path : List Taken) (at next : ℕ) (x : IsExplored N (colour_at cs) way root past) (p : IsProbed N (colour_at cs) root path at next) (sized : length cs ≡ N.count) (more : next < N.pairs at) where
+  module _ (cs : List Colour) (way : List Taken) (root past : ℕ) (path : List Taken) (at next : ℕ) (x : IsProbedAt N way root past cs path at next) (more : next < N.pairs at) (room : next + 1 < 2 ^ 64) where
     -- a look that finds nothing, or no state to go to
-    pub probe_none : N.arc at next ≡ None → IsProbed N (colour_at cs) root path at (next + 1)
-    probe_none e = pass_by N (colour_at cs) root path at next p (λ t i. absurd (let h = i.found in cc))
+    pub probed : ((a : Step ℕ) → N.arc at next ≡ Some a → colour_at cs a.target ≡ Marked) → IsProbedOn N way root past cs path at next cs path at (next + 1)
+    probed f = record {
+      stands = record { sized = x.sized; explored = x.explored; probed = pass_by N (colour_at cs) root path at next x.probed (λ a i. f a i.found) };
+      falls = omega arith;
+      pays = omega arith;
+      enters = refl;
+    }
 
-    pub probe_marked : (a : Step ℕ) → N.arc at next ≡ Some a → colour_at cs a.target ≡ Marked → IsProbed N (colour_at cs) root path at (next + 1)
-    probe_marked a e m = pass_by N (colour_at cs) root path at next p (λ t i. same_arc t i)
-      where
-        same_arc : (t : Step ℕ) → IsArc N at next t → colour_at cs t.target ≡ Marked
-        same_arc t i = let q : a ≡ t = (let h = i.found in cc) in subst (λ b. colour_at cs b.target ≡ Marked) q m
+    pub probed_none : N.arc at next ≡ None → IsProbedOn N way root past cs path at next cs path at (next + 1)
+    probed_none e = probed (λ a f. absurd (cc))
 
-    pub probe_new : (a : Step ℕ) → N.arc at next ≡ Some a → colour_at cs a.target ≡ New → ⊥
-    probe_new a e m = p.seen next a more (record { within = more; found = e }) m
+    pub probed_some : (a : Step ℕ) → N.arc at next ≡ Some a → (colour_at cs a.target ≡ New) ⊎ (colour_at cs a.target ≡ Marked) → IsProbedOn N way root past cs path at next cs path at (next + 1)
+    probed_some a e (inl n) = absurd (x.probed.seen next a more (record { within = more; found = e }) n)
+    probed_some a e (inr m) = probed (λ b f. let q : a ≡ b = (cc) in subst (λ t. colour_at cs t.target ≡ Marked) q m)
 
-    module _ (later : List Taken) (a : Step ℕ) (inside : a.target < N.count) (found : N.arc at next ≡ Some a) (was : colour_at cs a.target ≡ Left) (pushed : later ≡ path ++ record { state = at; pick = next; letter = a.letter } ∷ []) where
-      pub second_explored : IsExplored N (colour_at (set cs a.target Marked)) way root past
-      second_explored = mark_explored N (colour_at cs) (colour_at (set cs a.target Marked)) a.target was (changed_set cs a.target Marked (omega arith)) way root past x
-
-      pub second_probed : next + 1 < 2 ^ 64 → IsProbed N (colour_at (set cs a.target Marked)) root later a.target 0
-      second_probed room =
-          subst (λ w. IsProbed N (colour_at (set cs a.target Marked)) root w a.target 0) (sym pushed)
-          (descend N (colour_at cs) (colour_at (set cs a.target Marked)) a.target was (changed_set cs a.target Marked (omega arith)) way root past path at next a (record { state = at; pick = next; letter = a.letter }) x p inside (record { within = more; found = found }) refl refl refl refl room)
-
-      marks : rest_way N later ≡ rest_way N path + (N.pairs at - (next + 1))
-      marks = rw pushed (rest_push path (record { state = at; pick = next; letter = a.letter }))
-
-      mark_lengths : length later ≡ length path + 1
-      mark_lengths = rw pushed (length-append path (record { state = at; pick = next; letter = a.letter } ∷ []))
-
-      pub mark_costs : 1 + rest N later a.target 0 + total (cost N) 0 cs ≡ rest N path at next + total (cost N) 0 (set cs a.target Marked)
-      mark_costs =
-          let h = total_change (cost N) cs a.target Left Marked (omega arith) was in
-          let r = marks in
-          omega arith
-
-      pub mark_most : 1 + total (cost N) 0 cs ≤ total (cost N) 0 (set cs a.target Marked) + rest N path at next
-      mark_most = let h = mark_costs in omega arith
-
-      pub mark_falls : work_marking N (set cs a.target Marked) later a.target 0 < work_marking N cs path at next
-      mark_falls =
-          let h = total_change (to_mark N) cs a.target Left Marked (omega arith) was in
-          let r = marks in
-          let k = mark_lengths in
-          omega arith
-
-      pub mark_enters : total (to_enter N) 0 (set cs a.target Marked) ≡ total (to_enter N) 0 cs
-      mark_enters =
-          let h = total_change (to_enter N) cs a.target Left Marked (omega arith) was in
-          omega arith
+    -- a state that was left is marked
+    pub marked : (later : List Taken) (a : Step ℕ) → a.target < N.count → N.arc at next ≡ Some a → colour_at cs a.target ≡ Left → later ≡ path ++ record { state = at; pick = next; letter = a.letter } ∷ [] → IsProbedOn N way root past cs path at next (set cs a.target Marked) later a.target 0
+    marked later a inside found was pushed =
+        let within : a.target < length cs = (let z = x.sized in omega arith) in
+        let changed = changed_set cs a.target Marked within in
+        let c = total_change (cost N) cs a.target Left Marked within was in
+        let m = total_change (to_mark N) cs a.target Left Marked within was in
+        let e = total_change (to_enter N) cs a.target Left Marked within was in
+        let r = pushed_rest path later at next a.letter pushed in
+        let l = pushed_length path later at next a.letter pushed in
+        record {
+          stands = record {
+            sized = length-set cs a.target Marked ∙ x.sized;
+            explored = mark_explored N (colour_at cs) (colour_at (set cs a.target Marked)) a.target was changed way root past x.explored;
+            probed = subst (λ w. IsProbed N (colour_at (set cs a.target Marked)) root w a.target 0) (sym pushed)
+                (descend N (colour_at cs) (colour_at (set cs a.target Marked)) a.target was changed way root past path at next a (record { state = at; pick = next; letter = a.letter }) x.explored x.probed inside (record { within = more; found = found }) refl refl refl refl room);
+          };
+          falls = omega arith;
+          pays = omega arith;
+          enters = omega arith;
+        }
 
     -- the open state is met
     module _ (a : Step ℕ) (found : N.arc at next ≡ Some a) where
       pub met : (pre post : List Taken) → way ≡ pre ++ post → IsWay N N.start pre a.target → IsWay N a.target post root → IsMet N pre post root path (record { state = at; pick = next; letter = a.letter })
-      met pre post e v w = (a.target, v, w, way_push N root a.target path (record { state = at; pick = next; letter = a.letter }) a p.arrives (record { within = more; found = found }) refl refl)
+      met pre post e v w = (a.target, v, w, way_push N root a.target path (record { state = at; pick = next; letter = a.letter }) a x.probed.arrives (record { within = more; found = found }) refl refl)
 
       -- a state of the way, or its end
       pub met_at : (pre : List Taken) (t : Taken) (post : List Taken) → way ≡ pre ++ t ∷ post → t.state ≡ a.target → IsMet N pre (t ∷ post) root path (record { state = at; pick = next; letter = a.letter })
       met_at pre t post e q =
-          let s = way_split N N.start root pre t post (subst (λ w. IsWay N N.start w root) e x.arrives) in
+          let s = way_split N N.start root pre t post (subst (λ w. IsWay N N.start w root) e x.explored.arrives) in
           met pre (t ∷ post) e (subst (λ n. IsWay N N.start pre n) q s.0) (subst (λ n. IsWay N n (t ∷ post) root) q s.1)
 
       pub met_end : colour_at cs a.target ≡ Open → (OneOf (λ t. t.state ≡ a.target) way → ⊥) → IsMet N way [] root path (record { state = at; pick = next; letter = a.letter })
       met_end o none =
-          let e : a.target ≡ root = elim (x.only a.target o) [ inl h ↦ h | inr h ↦ absurd (none h) ] in
-          met way [] (sym (append_nil way)) (subst (λ n. IsWay N N.start way n) (sym e) x.arrives) e
+          let e : a.target ≡ root = elim (x.explored.only a.target o) [ inl h ↦ h | inr h ↦ absurd (none h) ] in
+          met way [] (sym (append_nil way)) (subst (λ n. IsWay N N.start way n) (sym e) x.explored.arrives) e
 
       -- by its place on the way
       pub met_place : (place : ℕ) → place ≤ length way → (place < length way → (t : Taken) × (get_or way place t ≡ t) × (t.state ≡ a.target)) → (place ≡ length way → OneOf (λ t. t.state ≡ a.target) way → ⊥) → colour_at cs a.target ≡ Open → IsMet N (take place way) (drop place way) root path (record { state = at; pick = next; letter = a.letter })
@@ -159,29 +167,6 @@ module _ (N : Net) where
         met_place place (subst (λ w. place ≤ length w) same within) (subst (λ w. place < length w → (t : Taken) × (get_or w place t ≡ t) × (t.state ≡ a.target)) same there) (subst (λ w. place ≡ length w → OneOf (λ t. t.state ≡ a.target) w → ⊥) same absent) o,
       )
 
-  -- ---- back on the path
-  module _ (cs : List Colour) (root : ℕ) (path : List Taken) (at next : ℕ) (p : IsProbed N (colour_at cs) root path at next) (done : N.pairs at ≤ next) (ts : List Taken) (at' next' : ℕ) (t : Taken) (popped : path ≡ ts ++ t ∷ []) (to : at' ≡ t.state) (from : next' ≡ t.pick + 1) where
-    pub back_probed : IsProbed N (colour_at cs) root ts at' next'
-    back_probed = subst (λ a. IsProbed N (colour_at cs) root ts a next') (sym to) (subst (λ k. IsProbed N (colour_at cs) root ts t.state k) (sym from) (retreat N (colour_at cs) root path at next p done ts t popped))
-
-    back_lengths : length path ≡ length ts + 1
-    back_lengths = rw popped (length-append ts (t ∷ []))
-
-    back_rests : rest_way N path ≡ rest_way N ts + (N.pairs t.state - (t.pick + 1))
-    back_rests = rw popped (rest_push ts t)
-
-    pub back_rest : rest N ts at' next' ≡ rest N path at next
-    back_rest =
-        let r = back_rests in
-        let e : N.pairs at' ≡ N.pairs t.state = ap N.pairs to in
-        omega arith
-
-    pub back_falls : work_marking N cs ts at' next' < work_marking N cs path at next
-    back_falls =
-        let r = back_rest in
-        let k = back_lengths in
-        omega arith
-
   pub path_rooms : (cs : List Colour) (path : List Taken) → Each (IsMarkedStep N (colour_at cs)) path → Each (λ t. t.pick + 1 < 2 ^ 64) path
   path_rooms cs [] e = tt
   path_rooms cs (t ∷ ts) e = (e.0.room, path_rooms cs ts e.1)
@@ -190,24 +175,31 @@ module _ (N : Net) where
   way_rooms cs [] e = tt
   way_rooms cs (t ∷ ts) e = (e.0.room, way_rooms cs ts e.1)
 
-  -- ---- the end of the second pass
-  module _ (cs : List Colour) (way : List Taken) (root past : ℕ) (path : List Taken) (at next : ℕ) (x : IsExplored N (colour_at cs) way root past) (p : IsProbed N (colour_at cs) root path at next) (empty : path ≡ []) (done : N.pairs at ≤ next) where
-    at_root : IsProbed N (colour_at cs) root [] at next
-    at_root = subst (λ w. IsProbed N (colour_at cs) root w at next) empty p
+  -- ---- the second pass, in the words of the code
+  module _ {A : Type 0} (first path : Front A) (cs : List Colour) where
+    pub begun_probe : StandsAt N cs first → IsDone N first → path.way.items ≡ [] → path.here ≡ first.here → path.next ≡ 0 → IsProbing N cs first path
+    begun_probe x done way here next =
+        rw (way, here, next) (record { sized = x.sized; explored = x.explored; probed = begin N (colour_at cs) _ first.here _ x.explored done x.closed })
 
-    pub end_closed : IsClosed N (colour_at cs)
-    end_closed = root_closed N (colour_at cs) way root past at next x at_root done
+    pub back_probing : (ts : Front A) → IsProbing N cs first path → IsDone N path → IsPopped path ts → IsProbing N cs first ts
+    back_probing ts x done b =
+        let p = retreat N (colour_at cs) first.here _ _ _ x.probed done ts.way.items b.0 b.1 in
+        record { sized = x.sized; explored = x.explored; probed = rw (b.2, b.3) p }
 
-    pub end_leads : IsMarkedTo N (colour_at cs) root (N.pairs root)
-    end_leads = root_leads N (colour_at cs) way root past at next x at_root done
+    -- it ends, and nothing was found
+    pub ended : (bs : List Colour) → IsProbing N cs first path → IsDone N path → path.way.items ≡ [] → total (to_enter N) 0 cs ≡ total (to_enter N) 0 bs → HasProbedAt N first.way.items first.here first.next bs cs
+    ended bs x done empty enters =
+        let p : IsProbed N (colour_at cs) first.here [] path.here path.next = subst (λ w. IsProbed N (colour_at cs) first.here w path.here path.next) empty x.probed in
+        record {
+          stands = record { sized = x.sized; explored = x.explored; closed = root_closed N (colour_at cs) _ _ _ _ _ x.explored p done };
+          leads = root_leads N (colour_at cs) _ _ _ _ _ x.explored p done;
+          turnless = root_turnless N (colour_at cs) _ _ _ _ _ x.explored p done;
+          enters = enters;
+        }
 
-    pub end_turnless : Turns N root → ⊥
-    end_turnless = root_turnless N (colour_at cs) way root past at next x at_root done
-
-  pub found_met : (way : List Taken) (place root : ℕ) (path seen : List Taken) (t : Taken) (before turn : List Taken) → IsMet N (take place way) (drop place way) root path t → seen ≡ path → before ≡ take place way → turn ≡ drop place way ++ (seen ++ t ∷ []) → N.accepts root ≡ true → IsFound N before turn
-  found_met way place root path seen t before turn m s e f a =
-      let f' : turn ≡ drop place way ++ (path ++ t ∷ []) = subst (λ r. turn ≡ drop place way ++ (r ++ t ∷ [])) s f in
-      subst (λ w. IsFound N w turn) (sym e) (subst (λ w. IsFound N (take place way) w) (sym f') (found N m.0 root m.0 (take place way) (drop place way) path t a m.1 m.2 m.3))
+  pub found_met : {A : Type 0} (first path : Front A) (m : Met) (before turn : List Taken) → HasMet N first path m → before ≡ take m.place first.way.items → turn ≡ drop m.place first.way.items ++ (path.way.items ++ m.taken ∷ []) → N.accepts first.here ≡ true → IsFound N before turn
+  found_met first path m before turn h e f a =
+      rw (e, f) (found N h.1.0 first.here h.1.0 (take m.place first.way.items) (drop m.place first.way.items) path.way.items m.taken a h.1.1 h.1.2 h.1.3)
 
 -- ---- counts
 pub grown_one : (a b c d : ℕ) → IsGrown a b c → d ≡ counted b 1 → IsGrown a d (c + 1)
@@ -322,30 +314,25 @@ module _ (N : Net) where
         let z : total (cost N) 0 cs ≡ 0 = ap (total (cost N) 0) is ∙ none_spent 0 N.count in
         omega arith
 
-  -- ---- a step back, by numbers alone
-  module _ (path : List Taken) (at next : ℕ) (done : N.pairs at ≤ next) (ts : List Taken) (at' next' : ℕ) (t : Taken) (popped : path ≡ ts ++ t ∷ []) (to : at' ≡ t.state) (from : next' ≡ t.pick + 1) where
-    pub popped_length : length path ≡ length ts + 1
-    popped_length = rw popped (length-append ts (t ∷ []))
-
-    popped_rests : rest_way N path ≡ rest_way N ts + (N.pairs t.state - (t.pick + 1))
-    popped_rests = rw popped (rest_push N ts t)
-
-    pub popped_rest : rest N ts at' next' ≡ rest N path at next
+  -- ---- a step back
+  module _ {A : Type 0} (old new : Front A) (done : IsDone N old) (b : IsPopped old new) where
+    pub popped_rest : rest_of N new ≡ rest_of N old
     popped_rest =
-        let r = popped_rests in
-        let e : N.pairs at' ≡ N.pairs t.state = ap N.pairs to in
+        let r : rest_way N old.way.items ≡ rest_way N new.way.items + (N.pairs (b.0).state - ((b.0).pick + 1)) = rw b.1 (rest_push N new.way.items b.0) in
+        let e : N.pairs new.here ≡ N.pairs (b.0).state = ap N.pairs b.2 in
+        let f = b.3 in
+        omega arith
+
+    pub popped_falls : (k : ℕ) → k + rest_of N new + length new.way.items < k + rest_of N old + length old.way.items
+    popped_falls k =
+        let r = popped_rest in
+        let l : length old.way.items ≡ length new.way.items + 1 = rw b.1 (length-append new.way.items (b.0 ∷ [])) in
         omega arith
 
   -- ---- a state is left
   module _ (cs : List Colour) (way : List Taken) (here next : ℕ) (x : IsExplored N (colour_at cs) way here next) (sized : length cs ≡ N.count) where
     within : here < length cs
     within = let i = x.inside in omega arith
-
-    pub left_enters : total (to_enter N) 0 (set cs here Left) ≡ total (to_enter N) 0 cs
-    left_enters = let h = total_change (to_enter N) cs here Open Left within x.opened in omega arith
-
-    pub marked_enters : total (to_enter N) 0 (set cs here Marked) ≡ total (to_enter N) 0 cs
-    marked_enters = let h = total_change (to_enter N) cs here Open Marked within x.opened in omega arith
 
     pub left_cost : total (cost N) 0 (set cs here Left) ≡ total (cost N) 0 cs
     left_cost = let h = total_change (cost N) cs here Open Left within x.opened in omega arith
@@ -359,25 +346,53 @@ module _ (N : Net) where
         let t = twice (set cs here Marked) (length-set cs here Marked ∙ sized) in
         omega arith
 
-    module _ (done : N.pairs here ≤ next) (closed : IsClosed N (colour_at cs)) where
-      back_by : (c : Colour) → (c ≡ Left) ⊎ (c ≡ Marked) → (N.accepts here ≡ true → Turns N here → ⊥) → IsBack N (colour_at (set cs here c)) way
-      back_by c leaves turnless = record {
-        step = leave N (colour_at cs) (colour_at (set cs here c)) way here next c x done (changed_set cs here c within) leaves turnless;
-        over = over N (colour_at cs) (colour_at (set cs here c)) way here next c x done (changed_set cs here c within) leaves turnless;
-        rooms = way_rooms N cs way x.steps;
-      }
+    left_by : (c : Colour) → N.pairs here ≤ next → IsClosed N (colour_at cs) → (c ≡ Left) ⊎ (c ≡ Marked) → (N.accepts here ≡ true → Turns N here → ⊥) → (c ≡ Marked → IsMarkedTo N (colour_at cs) here (N.pairs here)) → HasLeftAt N cs (set cs here c) way
+    left_by c done closed leaves turnless leads =
+        let changed = changed_set cs here c within in
+        record {
+          sized = length-set cs here c ∙ sized;
+          closed = leave_closed N (colour_at cs) (colour_at (set cs here c)) way here next c x done changed leaves turnless closed leads;
+          back = record {
+            step = leave N (colour_at cs) (colour_at (set cs here c)) way here next c x done changed leaves turnless;
+            over = over N (colour_at cs) (colour_at (set cs here c)) way here next c x done changed leaves turnless;
+            rooms = way_rooms N cs way x.steps;
+          };
+          enters = enters leaves (total_change (to_enter N) cs here Open c within x.opened);
+        }
+      where
+        enters : (c ≡ Left) ⊎ (c ≡ Marked) → total (to_enter N) 0 (set cs here c) + 0 ≡ total (to_enter N) 0 cs + to_enter N here c → total (to_enter N) 0 (set cs here c) ≡ total (to_enter N) 0 cs
+        enters (inl e) h = let z : to_enter N here c ≡ 0 = ap (to_enter N here) e in omega arith
+        enters (inr e) h = let z : to_enter N here c ≡ 0 = ap (to_enter N here) e in omega arith
 
-      pub left_back : N.accepts here ≡ false → IsBack N (colour_at (set cs here Left)) way
-      left_back no_accept = back_by Left (inl refl) (λ a. absurd (cc))
+  pub left_unmarked : (cs : List Colour) (way : List Taken) (here next : ℕ) → IsAt N cs way here next → N.pairs here ≤ next → N.accepts here ≡ false → HasLeftAt N cs (set cs here Left) way
+  left_unmarked cs way here next x done no_accept = left_by cs way here next x.explored x.sized Left done x.closed (inl refl) (λ a. absurd (cc)) (λ q. absurd (cc))
 
-      pub marked_back : (Turns N here → ⊥) → IsBack N (colour_at (set cs here Marked)) way
-      marked_back turnless = back_by Marked (inr refl) (λ a. turnless)
+  pub left_marked : (bs cs : List Colour) (way : List Taken) (here next : ℕ) → N.pairs here ≤ next → HasProbedAt N way here next bs cs → HasLeftAt N bs (set cs here Marked) way
+  left_marked bs cs way here next done p =
+      let x = p.stands in
+      let h = left_by cs way here next x.explored x.sized Marked done x.closed (inr refl) (λ a. p.turnless) (λ q. p.leads) in
+      record { sized = h.sized; closed = h.closed; back = h.back; enters = h.enters ∙ p.enters }
 
-      pub left_closed : N.accepts here ≡ false → IsClosed N (colour_at (set cs here Left))
-      left_closed no_accept = leave_closed N (colour_at cs) (colour_at (set cs here Left)) way here next Left x done (changed_set cs here Left within) (inl refl) (λ a. absurd (cc)) closed (λ q. absurd (cc))
+  -- back to the step before
+  module _ {A : Type 0} (old new : Search A) (front : Front A) (h : HasLeft N old new) where
+    pub left_back : IsPopped new.front front → StandsAt N new.colours.items front
+    left_back b =
+        let l = h.1 in
+        let e = (l.back).step front.way.items b.0 b.1 in
+        record { sized = l.sized; explored = rw (b.2, b.3) e; closed = l.closed }
 
-      pub marked_closed : (Turns N here → ⊥) → IsMarkedTo N (colour_at cs) here (N.pairs here) → IsClosed N (colour_at (set cs here Marked))
-      marked_closed turnless leads = leave_closed N (colour_at cs) (colour_at (set cs here Marked)) way here next Marked x done (changed_set cs here Marked within) (inr refl) (λ a. turnless) closed (λ q. leads)
+    module _ (done : IsDone N old.front) (b : IsPopped new.front front) where
+      popped : IsPopped old.front front
+      popped = subst (λ f. IsPopped f front) h.0 b
+
+      pub left_rest : rest_of N front ≡ rest_of N old.front
+      left_rest = popped_rest old.front front done popped
+
+      pub left_falls : work N (to_enter N) new.colours.items front.way.items front.here front.next < work N (to_enter N) old.colours.items old.front.way.items old.front.here old.front.next
+      left_falls =
+          let f = popped_falls old.front front done popped (total (to_enter N) 0 old.colours.items) in
+          let e = h.1.enters in
+          omega arith
 
   -- ---- the looks at the states that are reached
   module _ (cs : List Colour) (o : IsOver N (colour_at cs)) (p : ℕ → Bool) (reached : (n : ℕ) → p n ≡ true → Reached N n) where
@@ -406,16 +421,14 @@ module _ (N : Net) where
     start_inside : N.start < N.count
     start_inside = subst (λ k. k < N.count) at inside
 
-    pub starts_sized : length (set cs s Open) ≡ N.count
-    starts_sized = length-set cs s Open ∙ begun_sized cs is_new start_inside
+    pub starts : IsAt N (set cs s Open) ts s 0
+    starts = rw (none, at) (record {
+      sized = length-set cs N.start Open ∙ begun_sized cs is_new start_inside;
+      explored = begun cs is_new start_inside;
+      closed = begun_closed cs is_new start_inside;
+    })
 
-    pub starts : IsExplored N (colour_at (set cs s Open)) ts s 0
-    starts = subst (λ w. IsExplored N (colour_at (set cs s Open)) w s 0) (sym none) (subst (λ k. IsExplored N (colour_at (set cs k Open)) [] k 0) (sym at) (begun cs is_new start_inside))
-
-    pub starts_closed : IsClosed N (colour_at (set cs s Open))
-    starts_closed = subst (λ k. IsClosed N (colour_at (set cs k Open))) (sym at) (begun_closed cs is_new start_inside)
-
-    pub starts_cost : 0 + rest N ts s 0 ≡ total (cost N) 0 (set cs s Open)
+    pub starts_cost : rest N ts s 0 ≡ total (cost N) 0 (set cs s Open)
     starts_cost =
         let b : total (cost N) 0 (set cs s Open) ≡ N.pairs s = subst (λ k. total (cost N) 0 (set cs k Open) ≡ N.pairs k) (sym at) (begun_cost cs is_new start_inside) in
         let z : rest_way N ts ≡ 0 = ap (rest_way N) none in
@@ -424,3 +437,32 @@ module _ (N : Net) where
   -- the way is at its end: no looks are left
   pub no_rest : (way : List Taken) (here next : ℕ) → way ≡ [] → N.pairs here ≤ next → rest N way here next ≡ 0
   no_rest way here next e l = let z : rest_way N way ≡ 0 = ap (rest_way N) e in omega arith
+
+  -- ---- the looks that were made: of the first pass as many as the colours stand for, but for the rest
+  module _ (cs : List Colour) (left old now new : ℕ) (sized : length cs ≡ N.count) (looked : (c : ℕ) × IsGrown old now c × (c + left ≡ total (cost N) 0 cs)) where
+    pub most_one : 0 < left → new ≡ counted now 1 → LooksAtMost old new (2 * sum_below N.pairs N.count)
+    most_one l e =
+        let t = twice cs sized in
+        let q = looked.2 in
+        (looked.0 + 1, grown_one _ _ _ _ looked.1 e, omega arith)
+
+    pub most_then : LooksAtMost now new (looks_left N cs) → LooksAtMost old new (2 * sum_below N.pairs N.count)
+    most_then m =
+        let t = twice cs sized in
+        let q = looked.2 in
+        let r = m.2 in
+        (looked.0 + m.0, grown_then _ _ _ _ _ looked.1 m.1, omega arith)
+
+  -- and of the second one
+  module _ (bs cs : List Colour) (way : List Taken) (root past left old now : ℕ) (x : IsExplored N (colour_at cs) way root past) (sized : length cs ≡ N.count) (looked : (c : ℕ) × IsGrown old now c × (c + left + total (cost N) 0 bs ≡ total (cost N) 0 cs + N.pairs root)) where
+    pub most_probing : (new : ℕ) → 0 < left → new ≡ counted now 1 → LooksAtMost old new (looks_left N bs)
+    most_probing new l e =
+        let m = most_marked cs way root past x sized in
+        let q = looked.2 in
+        (looked.0 + 1, grown_one _ _ _ _ looked.1 e, omega arith)
+
+    pub most_probed : LooksAtMost old now (looks_left N bs)
+    most_probed =
+        let m = most_marked cs way root past x sized in
+        let q = looked.2 in
+        (looked.0, looked.1, omega arith)

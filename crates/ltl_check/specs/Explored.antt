@@ -1,8 +1,11 @@
 -- What is known in the middle of a search. `col` is the colour of each state.
-use Rattle.std.specs.Prelude.{◌≡◌, ◌≢◌, ℕ, zero, suc, ◌+◌, ◌<◌, true, List, [], ◌∷◌, ◌++◌, length, ◌⊎◌, ⊤, slice_index_or, ◌-◌, ◌^◌, min}
+use Rattle.std.specs.Prelude.{◌≡◌, ◌≢◌, ℕ, zero, suc, ◌+◌, ◌*◌, ◌<◌, ◌≤◌, true, List, [], ◌∷◌, ◌++◌, length, take, drop, ◌⊎◌, ⊤, slice_index_or, ◌-◌, ◌^◌, min}
 use Rattle.ltl_check.specs.declared.graph.Step.{Step}
 use Rattle.ltl_check.specs.declared.walk.Taken.{Taken}
 use Rattle.ltl_check.specs.declared.search.Colour.{Colour}
+use Rattle.ltl_check.specs.declared.search.Front.{Front}
+use Rattle.ltl_check.specs.declared.search.Met.{Met}
+use Rattle.ltl_check.specs.declared.search.Search.{Search}
 use Rattle.ltl_check.specs.declared.search.Colour.TheVariants.{New, Open, Left, Marked}
 use Rattle.ltl_check.specs.Nets.{Net, IsArc, IsWay, Turns}
 
@@ -130,38 +133,128 @@ module _ (N : Net) where
   to_mark n Left = N.pairs n + 1
   to_mark n Marked = 0
 
-  -- what is left to do in the first pass
-  abbrev pub work : List Colour → List Taken → ℕ → ℕ → ℕ
-  work cs way here next = total to_enter 0 cs + rest way here next + length way
-
-  abbrev pub work_marking : List Colour → List Taken → ℕ → ℕ → ℕ
-  work_marking cs path at next = total to_mark 0 cs + rest path at next + length path
-
-  -- so many looks were made
-  abbrev pub IsCounted : List Colour → List Taken → ℕ → ℕ → ℕ → Type 0
-  IsCounted cs way here next c = c + rest way here next ≡ total cost 0 cs
-
 -- the count of looks, after so many more: it stays at the greatest number
 abbrev pub counted : ℕ → ℕ → ℕ
 counted before more = min (before + more) (2 ^ 128 - 1)
+
+-- the count has grown by so many looks
+abbrev pub IsGrown : ℕ → ℕ → ℕ → Type 0
+IsGrown before after more = ((more ≡ 0) × (after ≡ before)) ⊎ (after ≡ counted before more)
 
 module _ (N : Net) where
   -- the second pass has met an open state: the way falls in two there, and the path leads back to it
   abbrev pub IsMet : List Taken → List Taken → ℕ → List Taken → Taken → Type 0
   IsMet pre post root path taken = (n : ℕ) × IsWay N N.start pre n × IsWay N n post root × IsWay N root (path ++ taken ∷ []) n
 
--- the count has grown by so many looks
-abbrev pub IsGrown : ℕ → ℕ → ℕ → Type 0
-IsGrown before after more = ((more ≡ 0) × (after ≡ before)) ⊎ (after ≡ counted before more)
-
-module _ (N : Net) (col : ℕ → Colour) (way : List Taken) where
   -- the first pass has left the state to which the way led
-  pub record IsBack : Type 0 where
+  pub record IsBack (col : ℕ → Colour) (way : List Taken) : Type 0 where
     pub step : (ts : List Taken) (t : Taken) → way ≡ ts ++ t ∷ [] → IsExplored N col ts t.state (t.pick + 1)
     pub over : way ≡ [] → IsOver N col
     pub rooms : Each (λ t. t.pick + 1 < 2 ^ 64) way
 
-module _ (N : Net) where
   -- some way leads from the start to the state
   abbrev pub Reached : ℕ → Type 0
   Reached n = (ts : List Taken) × IsWay N N.start ts n
+
+  -- the looks that the colours stand for
+  abbrev pub spent : List Colour → ℕ
+  spent cs = total (cost N) 0 cs
+
+  -- the looks that a search with these colours may still make
+  abbrev pub looks_left : List Colour → ℕ
+  looks_left cs = 2 * sum_below N.pairs N.count - spent cs
+
+  -- so many looks were made, all of them for the change of colours and for `more`
+  abbrev pub HasPaid : ℕ → ℕ → List Colour → List Colour → ℕ → Type 0
+  HasPaid old new cs ds more = (c : ℕ) × IsGrown old new c × (c + spent cs ≡ spent ds + more)
+
+  -- what is left to do, by what the states have yet to cost
+  abbrev pub work : (ℕ → Colour → ℕ) → List Colour → List Taken → ℕ → ℕ → ℕ
+  work f cs way here next = total f 0 cs + rest N way here next + length way
+
+  -- all that is known between two looks of the first pass
+  pub record IsAt (cs : List Colour) (way : List Taken) (here next : ℕ) : Type 0 where
+    pub sized : length cs ≡ N.count
+    pub explored : IsExplored N (colour_at cs) way here next
+    pub closed : IsClosed N (colour_at cs)
+
+  -- a look of the first pass leads on, and is paid for
+  pub record IsOn (cs : List Colour) (way : List Taken) (here next : ℕ) (ds : List Colour) (later : List Taken) (there then : ℕ) : Type 0 where
+    pub stands : IsAt ds later there then
+    pub falls : work (to_enter N) ds later there then < work (to_enter N) cs way here next
+    pub pays : 1 + rest N later there then + spent cs ≡ rest N way here next + spent ds
+
+  -- the first pass has left the state
+  pub record HasLeftAt (cs ds : List Colour) (way : List Taken) : Type 0 where
+    pub sized : length ds ≡ N.count
+    pub closed : IsClosed N (colour_at ds)
+    pub back : IsBack (colour_at ds) way
+    pub enters : total (to_enter N) 0 ds ≡ total (to_enter N) 0 cs
+
+  module _ (way : List Taken) (root past : ℕ) where
+    -- all that is known between two looks of the second pass, from where the first one stands
+    pub record IsProbedAt (cs : List Colour) (path : List Taken) (at next : ℕ) : Type 0 where
+      pub sized : length cs ≡ N.count
+      pub explored : IsExplored N (colour_at cs) way root past
+      pub probed : IsProbed N (colour_at cs) root path at next
+
+    -- a look of the second pass leads on, and is paid for
+    pub record IsProbedOn (cs : List Colour) (path : List Taken) (at next : ℕ) (ds : List Colour) (later : List Taken) (there then : ℕ) : Type 0 where
+      pub stands : IsProbedAt ds later there then
+      pub falls : work (to_mark N) ds later there then < work (to_mark N) cs path at next
+      pub pays : 1 + rest N later there then + spent cs ≡ rest N path at next + spent ds
+      pub enters : total (to_enter N) 0 ds ≡ total (to_enter N) 0 cs
+
+    -- it has ended, and marked what was left of all that the state leads to
+    pub record HasProbedAt (cs ds : List Colour) : Type 0 where
+      pub stands : IsAt ds way root past
+      pub leads : IsMarkedTo N (colour_at ds) root (N.pairs root)
+      pub turnless : Turns N root → ⊥
+      pub enters : total (to_enter N) 0 ds ≡ total (to_enter N) 0 cs
+
+-- ---- the same, of the values of the code
+-- the step before is taken back
+abbrev pub IsPopped : {A : Type 0} → Front A → Front A → Type 0
+IsPopped old new = (t : Taken) × (old.way.items ≡ new.way.items ++ t ∷ []) × (new.here ≡ t.state) × (new.next ≡ t.pick + 1)
+
+abbrev pub HasRooms : {A : Type 0} → Front A → Type 0
+HasRooms front = Each (λ t. t.pick + 1 < 2 ^ 64) front.way.items
+
+module _ (N : Net) where
+  -- a look is left to the pass
+  abbrev pub HasMore : {A : Type 0} → Front A → Type 0
+  HasMore front = (front.next < N.pairs front.here) × (front.next + 1 < 2 ^ 64)
+
+  abbrev pub IsDone : {A : Type 0} → Front A → Type 0
+  IsDone front = N.pairs front.here ≤ front.next
+
+  abbrev pub rest_of : {A : Type 0} → Front A → ℕ
+  rest_of front = rest N front.way.items front.here front.next
+
+  -- ---- the first pass
+  abbrev pub StandsAt : {A : Type 0} → List Colour → Front A → Type 0
+  StandsAt cs front = IsAt N cs front.way.items front.here front.next
+
+  abbrev pub IsSearching : {A : Type 0} → Search A → Type 0
+  IsSearching s = StandsAt s.colours.items s.front
+
+  abbrev pub IsLookOn : {A : Type 0} → Search A → Search A → Type 0
+  IsLookOn old new = IsOn N old.colours.items old.front.way.items old.front.here old.front.next new.colours.items new.front.way.items new.front.here new.front.next
+
+  abbrev pub HasLeft : {A : Type 0} → Search A → Search A → Type 0
+  HasLeft old new = (new.front ≡ old.front) × HasLeftAt N old.colours.items new.colours.items new.front.way.items
+
+  -- ---- the second pass
+  abbrev pub IsProbing : {A : Type 0} → List Colour → Front A → Front A → Type 0
+  IsProbing cs first path = IsProbedAt N first.way.items first.here first.next cs path.way.items path.here path.next
+
+  abbrev pub IsProbeOn : {A : Type 0} → Front A → List Colour → Front A → List Colour → Front A → Type 0
+  IsProbeOn first cs old ds new = IsProbedOn N first.way.items first.here first.next cs old.way.items old.here old.next ds new.way.items new.here new.next
+
+  abbrev pub HasProbed : {A : Type 0} → List Colour → List Colour → Front A → Type 0
+  HasProbed cs ds first = HasProbedAt N first.way.items first.here first.next cs ds
+
+  -- an open state was met at its place on the way
+  abbrev pub HasMet : {A : Type 0} → Front A → Front A → Met → Type 0
+  HasMet first path m =
+      (m.place ≤ length first.way.items) × IsMet N (take m.place first.way.items) (drop m.place first.way.items) first.here path.way.items m.taken

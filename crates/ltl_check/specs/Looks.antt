@@ -4,9 +4,15 @@ use Rattle.ltl_spec.specs.Semantics.Word.{Name}
 use Rattle.ltl_spec.specs.Automata.Automaton.{Automaton}
 use Rattle.ltl_spec.specs.Hoa.HoaReading.{MarkedAutomaton}
 use Rattle.ltl_spec.specs.Checking.Check.{product_size}
+use Rattle.ltl_check.specs.declared.graph.Graph.{Ghosts}
 use Rattle.ltl_check.specs.Nets.{Net}
+use Rattle.ltl_check.specs.Levels.{net_of}
 use Rattle.ltl_check.specs.Explored.{IsGrown, Reached, sum_below}
 use Rattle.ltl_check.specs.VerdictView.{IsReachedCopy, chosen_pairs}
+
+-- the graph by the numbers of its states
+abbrev pub graph_net : {T S L : Type 0} → Ghosts T S L → T → Net
+graph_net G g = net_of (G.count_of g) (G.start_of g) (G.number_of g) (G.state_of g) (G.pairs_of g) (G.step_of g)
 
 -- at most so many
 abbrev pub LooksAtMost : ℕ → ℕ → ℕ → Type 0

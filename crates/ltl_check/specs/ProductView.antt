@@ -5,7 +5,10 @@ use Rattle.ltl_spec.specs.Collections.Sets.{put}
 use Rattle.ltl_spec.specs.Transitions.Cubes.{Cube, join_cubes}
 use Rattle.ltl_spec.specs.Automata.Automaton.{Automaton, Edge, state_at}
 use Rattle.ltl_spec.specs.Hoa.HoaReading.{MarkedAutomaton}
-use Rattle.ltl_spec.specs.Checking.Product.{renamed_cube}
+use Rattle.ltl_spec.specs.Checking.Product.{renamed_cube, unified_number}
+use Rattle.ltl_spec.specs.Collections.Lists.{place_of}
+use Rattle.ltl_spec.specs.Formulas.Tokens.{same_name}
+use Rattle.ltl_spec.specs.Semantics.Word.{Name}
 use Rattle.ltl_spec.specs.Tools.Limits.{stated_limits}
 use Rattle.ltl_sets.specs.Words.{letter_of}
 use Rattle.ltl_hoa.specs.declared.marked.TheConstants.{MOST_SETS}
@@ -21,6 +24,14 @@ no_edge = record { cube = []; target = 0; marks = [] }
 -- the number of a proposition, by a list of numbers
 abbrev pub number_in : List ℕ → ℕ → ℕ
 number_in numbers p = slice_index_or numbers p 0
+
+-- the numbers of the second side's propositions among the names of both
+abbrev pub AreUnified : List ℕ → List Name → List Name → Type 0
+AreUnified numbers firsts seconds = (p : ℕ) → p < length seconds → number_in numbers p ≡ unified_number firsts seconds p
+
+-- and among any names
+abbrev pub ArePlaces : List ℕ → List Name → List Name → Type 0
+ArePlaces numbers seconds names = (p : ℕ) → p < length seconds → number_in numbers p ≡ place_of same_name (slice_index_or seconds p []) names
 
 -- the marks of an edge, and the last set where an accepting state is left
 abbrev pub pair_marks : ℕ → Bool → List ℕ → List ℕ

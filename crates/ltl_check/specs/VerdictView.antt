@@ -16,6 +16,10 @@ abbrev pub verdict_of : {A : Type 0} → Outcome A → spec.Verdict
 verdict_of Contained = spec.Contained
 verdict_of (Violated w) = spec.Violated w
 
+-- the verdict is right on the words that both automata accept
+abbrev pub IsVerdictOn : MarkedAutomaton → List Name → Automaton → spec.Verdict → Type 0
+IsVerdictOn A names B v = spec.IsVerdict A names B (spec.IsCommon A names B) v
+
 abbrev pub letters_of : List Taken → List (List ℕ)
 letters_of steps = map (λ t. t.letter) steps
 

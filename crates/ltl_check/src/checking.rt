@@ -6,15 +6,14 @@ ghost use Rattle.ltl_spec.specs.Collections.Lists.{HasNoRepeats};
 ghost use Rattle.ltl_spec.specs.Formulas.Names.{is_proposition, unified};
 ghost use Rattle.ltl_spec.specs.Words.LassoText.{IsLeastForm};
 ghost use Rattle.ltl_spec.specs.Checking.Bounds.{HasNamesBelow};
-ghost use Rattle.ltl_spec.specs.Checking.Product.{unified_number};
-ghost use Rattle.ltl_spec.specs.Checking.Check.{IsVerdict, IsCommon, product_size};
+ghost use Rattle.ltl_spec.specs.Checking.Check.{product_size};
 ghost use Rattle.ltl_spec.specs.Tools.Limits.{stated_limits};
 ghost use Rattle.ltl_spec.specs.Tools.Programs.{RefusesCheck};
 ghost use Rattle.ltl_spec.specs.Tools.Refusal.{TooManyPropositions, LargeProduct};
 ghost use Rattle.ltl_check.specs.Explored.{sum_below};
 ghost use Rattle.ltl_check.specs.Looks.{CoversReached, LooksAtCopies, LooksAtMost};
-ghost use Rattle.ltl_check.specs.ProductView.{number_in, pair_count, pair_at, edge_pairs};
-ghost use Rattle.ltl_check.specs.VerdictView.{verdict_of, letters_of, level_pairs};
+ghost use Rattle.ltl_check.specs.ProductView.{AreUnified, pair_count, pair_at, edge_pairs};
+ghost use Rattle.ltl_check.specs.VerdictView.{IsVerdictOn, verdict_of, letters_of, level_pairs};
 ghost use Rattle.ltl_word.specs.LassoView.{word_with};
 ghost use Rattle.ltl_check.specs.declared.verdict.Outcome.TheVariants.{Contained};
 
@@ -82,10 +81,9 @@ fn search_product<'a, A: Allocator>(
     requires named { HasNamesBelow (length formula.now.names) product.now.second.now }
     requires names { map (λ n. n.now) names.now ≡ unified product.now.first.now.names formula.now.names }
     requires few { length names.now ≤ stated_limits.propositions }
-    requires numbers { (p : ℕ) → p < length formula.now.names → number_in product.now.numbers.now p ≡ unified_number product.now.first.now.names formula.now.names p }
+    requires numbers { AreUnified product.now.numbers.now product.now.first.now.names formula.now.names }
     requires fits { pair_count product.now.first.now product.now.second.now * (product.now.first.now.sets + 1 + 1) ≤ stated_limits.product }
-    ensures verdict { IfOk result (λ o. IsVerdict product.now.first.now formula.now.names product.now.second.now
-        (IsCommon product.now.first.now formula.now.names product.now.second.now) (verdict_of o)) }
+    ensures verdict { IfOk result (λ o. IsVerdictOn product.now.first.now formula.now.names product.now.second.now (verdict_of o)) }
     ensures most { LooksAtMost steps.old.count steps.new.count (2 * ((product.now.first.now.sets + 1 + 1)
         * sum_below (λ n. edge_pairs product.now.first.now product.now.second.now (pair_at product.now.first.now product.now.second.now n))
         (pair_count product.now.first.now product.now.second.now))) }
@@ -124,7 +122,7 @@ pub fn check<'a, A: Allocator>(
     formula: &Formula<'a, A>,
 ) -> Result<Verdict<'a, A>, CheckFault>
     requires { HasNamesBelow (length formula.now.names) ba.now }
-    ensures verdict { IfOk result (λ v. IsVerdict automaton.now formula.now.names ba.now (IsCommon automaton.now formula.now.names ba.now) (verdict_of v.outcome)) }
+    ensures verdict { IfOk result (λ v. IsVerdictOn automaton.now formula.now.names ba.now (verdict_of v.outcome)) }
 
     // Each pair of edges is looked at on each level at most twice, and without a common word each one that is reached at least once.
     ensures most { IfOk result (λ v. v.steps ≤ 2 * level_pairs automaton.now ba.now) }

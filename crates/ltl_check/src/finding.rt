@@ -3,14 +3,14 @@
 ghost use Rattle.std.specs.Prelude.{◌≡◌, ℕ, ◌+◌, ◌*◌, ◌<◌, ◌≤◌, List, map, length, IfOk, IfErr, IfSome, Ok, None, ◌/◌, ◌^◌};
 ghost use Rattle.ltl_spec.specs.Tools.Limits.{stated_limits};
 ghost use Rattle.ltl_check.specs.declared.walk.Taken.{Taken};
-ghost use Rattle.ltl_check.specs.Levels.{net_of, levels_net, without_level, IsFullWalk};
+ghost use Rattle.ltl_check.specs.Levels.{levels_net, without_level, IsFullWalk};
 ghost use Rattle.ltl_check.specs.Explored.{sum_below};
-ghost use Rattle.ltl_check.specs.Looks.{LooksAtMost, LooksAtReached};
+ghost use Rattle.ltl_check.specs.Looks.{graph_net, LooksAtMost, LooksAtReached};
 
 use crate::fault::CheckFault;
 use crate::graph::Graph;
 use crate::levels::Levels;
-use crate::search::search;
+use crate::search::search_net;
 use crate::walk::{Taken, Walk};
 use std::alloc::{AllocError, Allocator};
 
@@ -32,10 +32,7 @@ fn strip<'a, A: Allocator>(
             pick: step.pick,
             letter: step.letter,
         };
-        match stripped.push(taken) {
-            Ok(()) => {}
-            Err(_) => return Err(AllocError),
-        }
+        stripped.push(taken)?;
         i += 1;
     }
     Ok(stripped)
@@ -52,23 +49,18 @@ pub fn find<'a, G: Graph, A: Allocator>(
     looks: &mut G::Looks,
 ) -> Result<Option<Walk<'a, A>>, CheckFault>
     requires { G.count_of graph.now * (G.sets_of graph.now + 1) ≤ stated_limits.product }
-    ensures found { IfOk result (λ r. IfSome r (λ w. IsFullWalk (net_of (G.count_of graph.now) (G.start_of graph.now) (G.number_of graph.now)
-        (G.state_of graph.now) (G.pairs_of graph.now) (G.step_of graph.now))
-        (G.sets_of graph.now) w.way.items w.turn.items)) }
-    ensures none { result ≡ Ok None → (way turn : List Taken) → IsFullWalk (net_of (G.count_of graph.now) (G.start_of graph.now) (G.number_of graph.now)
-        (G.state_of graph.now) (G.pairs_of graph.now) (G.step_of graph.now))
-        (G.sets_of graph.now) way turn → ⊥ }
+    ensures found { IfOk result (λ r. IfSome r (λ w. IsFullWalk (graph_net G.Graph graph.now) (G.sets_of graph.now) w.way.items w.turn.items)) }
+    ensures none { result ≡ Ok None → (way turn : List Taken) → IsFullWalk (graph_net G.Graph graph.now) (G.sets_of graph.now) way turn → ⊥ }
 
     // Each edge is looked at on each level at most twice, and where there is no such walk each one that is reached at least once.
     ensures most { LooksAtMost (G.looked_of looks.old) (G.looked_of looks.new)
         (2 * ((G.sets_of graph.now + 1) * sum_below (λ n. G.pairs_of graph.now (G.state_of graph.now n)) (G.count_of graph.now))) }
-    ensures least { result ≡ Ok None → LooksAtReached (levels_net (G.sets_of graph.now) (net_of (G.count_of graph.now) (G.start_of graph.now) (G.number_of graph.now)
-        (G.state_of graph.now) (G.pairs_of graph.now) (G.step_of graph.now)))
+    ensures least { result ≡ Ok None → LooksAtReached (levels_net (G.sets_of graph.now) (graph_net G.Graph graph.now))
         (G.looked_of looks.old) (G.looked_of looks.new) }
     ensures memory { IfErr result (λ fault. fault ≡ CheckFault.OutOfMemory) }
 {
     let levels = Levels::of(graph);
-    match search(alloc, &levels, looks)? {
+    match search_net(alloc, &levels, looks)? {
         Some(walk) => {
             let sets = graph.sets();
             let way = strip(alloc, &walk.way, sets)?;

@@ -4,7 +4,7 @@ ghost use Rattle.std.specs.Prelude.{◌≡◌, ◌<◌, ◌≤◌, ℕ, [], leng
 ghost use Rattle.ltl_spec.specs.Collections.Lists as lists;
 ghost use Rattle.ltl_spec.specs.Formulas.Tokens.{same_name};
 ghost use Rattle.ltl_spec.specs.Formulas.Names.{unified};
-ghost use Rattle.ltl_check.specs.ProductView.{number_in};
+ghost use Rattle.ltl_check.specs.ProductView.{ArePlaces};
 
 use ltl_formula::Formula;
 use ltl_hoa::Marked;
@@ -49,7 +49,8 @@ fn put_all<'p, 'a, A: Allocator>(
     names: &mut Vec<&'p str, &'a A>,
     more: &'p [String<&'a A>],
 ) -> Result<(), AllocError>
-    ensures { OnOk result (map (λ n. n.now) names.new.items ≡ fold (lists.with_new same_name) (map (λ n. n.now) names.old.items) (map string_bytes more.entry.now)) }
+    ensures { OnOk result (map (λ n. n.now) names.new.items
+        ≡ fold (lists.with_new same_name) (map (λ n. n.now) names.old.items) (map string_bytes more.entry.now)) }
 {
     for i in 0..more.len() {
         put(names, more[i].as_str())?;
@@ -92,7 +93,7 @@ pub(crate) fn numbers<'a, A: Allocator>(
     formula: &Formula<'a, A>,
 ) -> Result<Vec<usize, &'a A>, AllocError>
     ensures count { IfOk result (λ ns. length ns.items ≡ length formula.now.names) }
-    ensures numbers { IfOk result (λ ns. (p : ℕ) → p < length formula.now.names → number_in ns.items p ≡ lists.place_of same_name (slice_index_or formula.now.names p []) (map (λ n. n.now) names.now)) }
+    ensures numbers { IfOk result (λ ns. ArePlaces ns.items formula.now.names (map (λ n. n.now) names.now)) }
 {
     let mut numbers = Vec::new(alloc);
     for i in 0..formula.name_count() {

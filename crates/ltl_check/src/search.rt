@@ -1,11 +1,10 @@
 //! The search for a closed walk through an accepting state.
 
-ghost use Rattle.std.specs.Prelude.{◌≡◌, ℕ, ◌+◌, ◌-◌, ◌<◌, ◌≤◌, ◌^◌, ◌++◌, ◌∷◌, [], length, List, OnOk, OnErr, IfOk, replicate, min, ◌*◌, Bool, cond, take, drop, slice_index_or, true, false, IfSome, OnSome, Some, None, Ok, ⊤};
+ghost use Rattle.std.specs.Prelude.{◌≡◌, ◌+◌, ◌<◌, ◌≤◌, ◌++◌, ◌∷◌, ◌*◌, [], length, List, OnOk, IfOk, take, drop, slice_index_or, true, false, IfSome, None, Ok};
 ghost use Rattle.ltl_check.specs.declared.walk.Taken.{Taken};
-ghost use Rattle.ltl_check.specs.declared.search.Colour.TheVariants.{New, Open, Left, Marked};
-ghost use Rattle.ltl_check.specs.Nets.{Net, IsFound, Turns};
+ghost use Rattle.ltl_check.specs.Nets.{Net, IsFound};
 ghost use Rattle.ltl_check.specs.Looks.{LooksAtMost, LooksAtReached};
-ghost use Rattle.ltl_check.specs.Explored.{Each, OneOf, IsMet, IsMarkedTo, IsOpenStep, colour_at, IsExplored, IsClosed, IsOver, IsProbed, work, work_marking, to_enter, rest, cost, total, counted, IsGrown, IsBack, sum_below, Reached};
+ghost use Rattle.ltl_check.specs.Explored.{OneOf, IsPopped, HasRooms, HasMore, IsDone, StandsAt, IsSearching, IsLookOn, IsProbing, IsProbeOn, HasMet, HasProbed, HasLeft, HasPaid, counted, looks_left, sum_below, rest_of, spent};
 
 use crate::graph::Step;
 use crate::net::Numbered;
@@ -29,64 +28,29 @@ pub struct Front<'a, A: Allocator> {
     pub next: usize,
 }
 
-fn fresh<'a, A: Allocator>(alloc: &'a A, count: usize) -> Result<Vec<Colour, &'a A>, AllocError>
-    ensures { IfOk result (λ v. v.items ≡ replicate count New) }
-{
-    match vec![in alloc; Colour::New; count] {
-        Ok(colours) => Ok(colours),
-        Err(_) => Err(AllocError),
-    }
-}
-
-fn push<'a, A: Allocator>(way: &mut Vec<Taken, &'a A>, taken: Taken) -> Result<(), AllocError>
-    ensures { OnOk result (way.new.items ≡ way.old.items ++ taken ∷ []) }
-{
-    match way.push(taken) {
-        Ok(()) => Ok(()),
-        Err(_) => Err(AllocError),
-    }
-}
-
-/// One look of the first pass.
-fn first_look<'a, N: Numbered, A: Allocator>(
-    net: &N,
-    colours: &mut Vec<Colour, &'a A>,
-    front: &mut Front<'a, A>,
-    looks: &mut N::Looks,
-) -> Result<(), AllocError>
-    requires sized { length colours.old.items ≡ (N.net net.now).count }
-    requires explored { IsExplored (N.net net.now) (colour_at colours.old.items) front.old.way.items front.old.here front.old.next }
-    requires closed { IsClosed (N.net net.now) (colour_at colours.old.items) }
-    requires more { front.old.next < (N.net net.now).pairs front.old.here }
-    requires room { front.old.next + 1 < 2 ^ 64 }
-    ensures sized { length colours.new.items ≡ (N.net net.now).count }
-    ensures explored { OnOk result (IsExplored (N.net net.now) (colour_at colours.new.items) front.new.way.items front.new.here front.new.next) }
-    ensures closed { OnOk result (IsClosed (N.net net.now) (colour_at colours.new.items)) }
-    ensures falls { OnOk result (work (N.net net.now) colours.new.items front.new.way.items front.new.here front.new.next
-        < work (N.net net.now) colours.old.items front.old.way.items front.old.here front.old.next) }
-    ensures looked { N.looked_of looks.new ≡ counted (N.looked_of looks.old) 1 }
-    ensures most { 1 + total (cost (N.net net.now)) 0 colours.old.items ≤ total (cost (N.net net.now)) 0 colours.new.items + rest (N.net net.now) front.old.way.items front.old.here front.old.next }
-    ensures costs { OnOk result (1 + rest (N.net net.now) front.new.way.items front.new.here front.new.next + total (cost (N.net net.now)) 0 colours.old.items
-        ≡ rest (N.net net.now) front.old.way.items front.old.here front.old.next + total (cost (N.net net.now)) 0 colours.new.items) }
-{
-    match net.look(front.here, front.next, looks) {
-        Some(step) => match colours[step.target] {
-            Colour::New => {
-                let taken = Taken {
-                    state: front.here,
-                    pick: front.next,
-                    letter: step.letter,
-                };
-                push(&mut front.way, taken)?;
-                colours[step.target] = Colour::Open;
-                front.here = step.target;
-                front.next = 0;
+impl<'a, A: Allocator> Front<'a, A> {
+    /// Back to the step before, if there is one.
+    fn step_back(&mut self) -> bool
+        requires { HasRooms self.old }
+        ensures back { result ≡ true → IsPopped self.old self.new }
+        ensures stays { result ≡ false → self.old.way.items ≡ [] }
+    {
+        match self.way.pop() {
+            Some(t) => {
+                self.here = t.state;
+                self.next = t.pick + 1;
+                true
             }
-            _ => front.next += 1,
-        },
-        None => front.next += 1,
+            None => false,
+        }
     }
-    Ok(())
+}
+
+/// An open state that the second pass has met: the step to it, and its place on the way.
+#[derive(Clone, Copy)]
+pub struct Met {
+    pub taken: Taken,
+    pub place: usize,
 }
 
 /// Where the way leaves the state, or its length.
@@ -105,29 +69,6 @@ fn place_of(way: &[Taken], n: usize) -> usize
     i
 }
 
-/// Back to the step before, if there is one.
-fn step_back<'a, A: Allocator>(front: &mut Front<'a, A>) -> bool
-    requires { Each (λ t. t.pick + 1 < 2 ^ 64) front.old.way.items }
-    ensures back { result ≡ true → (t : Taken) × (front.old.way.items ≡ front.new.way.items ++ t ∷ []) × (front.new.here ≡ t.state) × (front.new.next ≡ t.pick + 1) }
-    ensures stays { result ≡ false → front.old.way.items ≡ [] }
-{
-    match front.way.pop() {
-        Some(t) => {
-            front.here = t.state;
-            front.next = t.pick + 1;
-            true
-        }
-        None => false,
-    }
-}
-
-/// An open state that the second pass has met: the step to it, and its place on the way.
-#[derive(Clone, Copy)]
-struct Met {
-    taken: Taken,
-    place: usize,
-}
-
 /// One look of the second pass.
 fn second_look<'a, N: Numbered, A: Allocator>(
     net: &N,
@@ -136,24 +77,11 @@ fn second_look<'a, N: Numbered, A: Allocator>(
     path: &mut Front<'a, A>,
     looks: &mut N::Looks,
 ) -> Result<Option<Met>, AllocError>
-    requires sized { length colours.old.items ≡ (N.net net.now).count }
-    requires explored { IsExplored (N.net net.now) (colour_at colours.old.items) first.now.way.items first.now.here first.now.next }
-    requires probed { IsProbed (N.net net.now) (colour_at colours.old.items) first.now.here path.old.way.items path.old.here path.old.next }
-    requires more { path.old.next < (N.net net.now).pairs path.old.here }
-    requires room { path.old.next + 1 < 2 ^ 64 }
-    ensures sized { length colours.new.items ≡ (N.net net.now).count }
-    ensures explored { IsExplored (N.net net.now) (colour_at colours.new.items) first.now.way.items first.now.here first.now.next }
-    ensures probed { result ≡ Ok None → IsProbed (N.net net.now) (colour_at colours.new.items) first.now.here path.new.way.items path.new.here path.new.next }
-    ensures falls { result ≡ Ok None → work_marking (N.net net.now) colours.new.items path.new.way.items path.new.here path.new.next
-        < work_marking (N.net net.now) colours.old.items path.old.way.items path.old.here path.old.next }
+    requires probing { IsProbing (N.net net.now) colours.old.items first.now path.old }
+    requires more { HasMore (N.net net.now) path.old }
+    ensures marks { result ≡ Ok None → IsProbeOn (N.net net.now) first.now colours.old.items path.old colours.new.items path.new }
+    ensures met { IfOk result (λ r. IfSome r (HasMet (N.net net.now) first.now path.new)) }
     ensures looked { N.looked_of looks.new ≡ counted (N.looked_of looks.old) 1 }
-    ensures costs { result ≡ Ok None → 1 + rest (N.net net.now) path.new.way.items path.new.here path.new.next + total (cost (N.net net.now)) 0 colours.old.items
-        ≡ rest (N.net net.now) path.old.way.items path.old.here path.old.next + total (cost (N.net net.now)) 0 colours.new.items }
-    ensures most { 1 + total (cost (N.net net.now)) 0 colours.old.items ≤ total (cost (N.net net.now)) 0 colours.new.items + rest (N.net net.now) path.old.way.items path.old.here path.old.next }
-    ensures enters { OnOk result (total (to_enter (N.net net.now)) 0 colours.new.items ≡ total (to_enter (N.net net.now)) 0 colours.old.items) }
-    ensures met { IfOk result (λ r. IfSome r (λ m. (colours.new.items ≡ colours.old.items)
-        × (path.new.way.items ≡ path.old.way.items) × (m.place ≤ length first.now.way.items)
-        × IsMet (N.net net.now) (take m.place first.now.way.items) (drop m.place first.now.way.items) first.now.here path.old.way.items m.taken)) }
 {
     match net.look(path.here, path.next, looks) {
         Some(step) => {
@@ -168,7 +96,7 @@ fn second_look<'a, N: Numbered, A: Allocator>(
                     Ok(Some(Met { taken, place }))
                 }
                 Colour::Left => {
-                    push(&mut path.way, taken)?;
+                    path.way.push(taken)?;
                     colours[step.target] = Colour::Marked;
                     path.here = step.target;
                     path.next = 0;
@@ -200,20 +128,11 @@ fn close<'a, A: Allocator>(
 {
     let mut way = Vec::new(alloc);
     let mut turn = Vec::new(alloc);
-    extend(&mut way, &first.way[..met.place])?;
-    extend(&mut turn, &first.way[met.place..])?;
-    extend(&mut turn, &path.way)?;
-    push(&mut turn, met.taken)?;
+    way.extend_from_slice(&first.way[..met.place])?;
+    turn.extend_from_slice(&first.way[met.place..])?;
+    turn.extend_from_slice(&path.way)?;
+    turn.push(met.taken)?;
     Ok(Walk { way, turn })
-}
-
-fn extend<'a, A: Allocator>(way: &mut Vec<Taken, &'a A>, more: &[Taken]) -> Result<(), AllocError>
-    ensures { OnOk result (way.new.items ≡ way.old.items ++ more.now) }
-{
-    match way.extend_from_slice(more) {
-        Ok(()) => Ok(()),
-        Err(_) => Err(AllocError),
-    }
 }
 
 /// The second pass, from a state that the first pass is about to leave.
@@ -224,21 +143,13 @@ fn probe<'a, N: Numbered, A: Allocator>(
     colours: &mut Vec<Colour, &'a A>,
     looks: &mut N::Looks,
 ) -> Result<Option<Walk<'a, A>>, AllocError>
-    requires sized { length colours.old.items ≡ (N.net net.now).count }
-    requires explored { IsExplored (N.net net.now) (colour_at colours.old.items) first.now.way.items first.now.here first.now.next }
-    requires closed { IsClosed (N.net net.now) (colour_at colours.old.items) }
-    requires done { (N.net net.now).pairs first.now.here ≤ first.now.next }
-    ensures sized { length colours.new.items ≡ (N.net net.now).count }
-    ensures explored { IsExplored (N.net net.now) (colour_at colours.new.items) first.now.way.items first.now.here first.now.next }
-    ensures closed { result ≡ Ok None → IsClosed (N.net net.now) (colour_at colours.new.items) }
-    ensures leads { result ≡ Ok None → IsMarkedTo (N.net net.now) (colour_at colours.new.items) first.now.here ((N.net net.now).pairs first.now.here) }
-    ensures turnless { result ≡ Ok None → Turns (N.net net.now) first.now.here → ⊥ }
-    ensures enters { result ≡ Ok None → total (to_enter (N.net net.now)) 0 colours.new.items ≡ total (to_enter (N.net net.now)) 0 colours.old.items }
+    requires stands { StandsAt (N.net net.now) colours.old.items first.now }
+    requires done { IsDone (N.net net.now) first.now }
+    ensures probed { result ≡ Ok None → HasProbed (N.net net.now) colours.old.items colours.new.items first.now }
     ensures found { IfOk result (λ r. IfSome r (λ w. (N.net net.now).accepts first.now.here ≡ true → IsFound (N.net net.now) w.way.items w.turn.items)) }
-    ensures looked { (c : ℕ) × IsGrown (N.looked_of looks.old) (N.looked_of looks.new) c
-        × (c + total (cost (N.net net.now)) 0 colours.old.items ≤ total (cost (N.net net.now)) 0 colours.new.items + (N.net net.now).pairs first.now.here) }
-    ensures looked_all { result ≡ Ok None → (c : ℕ) × IsGrown (N.looked_of looks.old) (N.looked_of looks.new) c
-        × (c + total (cost (N.net net.now)) 0 colours.old.items ≡ total (cost (N.net net.now)) 0 colours.new.items + (N.net net.now).pairs first.now.here) }
+    ensures most { LooksAtMost (N.looked_of looks.old) (N.looked_of looks.new) (looks_left (N.net net.now) colours.old.items) }
+    ensures paid { result ≡ Ok None → HasPaid (N.net net.now) (N.looked_of looks.old) (N.looked_of looks.new)
+        colours.old.items colours.new.items ((N.net net.now).pairs first.now.here) }
 {
     let mut path = Front {
         way: Vec::new(alloc),
@@ -251,49 +162,94 @@ fn probe<'a, N: Numbered, A: Allocator>(
                 Some(met) => return Ok(Some(close(alloc, first, &path, met)?)),
                 None => {}
             }
-        } else if !step_back(&mut path) {
+        } else if !path.step_back() {
             return Ok(None);
         }
     }
 }
 
-/// Leaves the state: the second pass from it, where it is accepting, and its colour.
-fn settle<'a, N: Numbered, A: Allocator>(
-    alloc: &'a A,
-    net: &N,
-    front: &Front<'a, A>,
-    colours: &mut Vec<Colour, &'a A>,
-    looks: &mut N::Looks,
-) -> Result<Option<Walk<'a, A>>, AllocError>
-    requires sized { length colours.old.items ≡ (N.net net.now).count }
-    requires explored { IsExplored (N.net net.now) (colour_at colours.old.items) front.now.way.items front.now.here front.now.next }
-    requires closed { IsClosed (N.net net.now) (colour_at colours.old.items) }
-    requires done { (N.net net.now).pairs front.now.here ≤ front.now.next }
-    ensures sized { length colours.new.items ≡ (N.net net.now).count }
-    ensures closed { result ≡ Ok None → IsClosed (N.net net.now) (colour_at colours.new.items) }
-    ensures back { result ≡ Ok None → IsBack (N.net net.now) (colour_at colours.new.items) front.now.way.items }
-    ensures enters { result ≡ Ok None → total (to_enter (N.net net.now)) 0 colours.new.items ≡ total (to_enter (N.net net.now)) 0 colours.old.items }
-    ensures found { IfOk result (λ r. IfSome r (λ w. IsFound (N.net net.now) w.way.items w.turn.items)) }
-    ensures most { (c : ℕ) × IsGrown (N.looked_of looks.old) (N.looked_of looks.new) c
-        × (c + total (cost (N.net net.now)) 0 colours.old.items ≤ 2 * sum_below (N.net net.now).pairs (N.net net.now).count) }
-    ensures looked { result ≡ Ok None → (c : ℕ) × IsGrown (N.looked_of looks.old) (N.looked_of looks.new) c
-        × (c + total (cost (N.net net.now)) 0 colours.old.items ≡ total (cost (N.net net.now)) 0 colours.new.items) }
-{
-    if !net.accepts(front.here) {
-        colours[front.here] = Colour::Left;
-        return Ok(None);
+/// The search: a colour for each state, and where the first pass stands.
+#[derive(Drop)]
+pub struct Search<'a, A: Allocator> {
+    pub colours: Vec<Colour, &'a A>,
+    pub front: Front<'a, A>,
+}
+
+impl<'a, A: Allocator> Search<'a, A> {
+    /// Before the first look.
+    fn new<N: Numbered>(alloc: &'a A, net: &N) -> Result<Self, AllocError>
+        ensures searching { IfOk result (λ s. IsSearching (N.net net.now) s) }
+        ensures unpaid { IfOk result (λ s. rest_of (N.net net.now) s.front ≡ spent (N.net net.now) s.colours.items) }
+    {
+        let mut colours = vec![in alloc; Colour::New; net.count()]?;
+        let here = net.start();
+        colours[here] = Colour::Open;
+        let front = Front {
+            way: Vec::new(alloc),
+            here,
+            next: 0,
+        };
+        Ok(Search { colours, front })
     }
-    match probe(alloc, net, front, colours, looks)? {
-        Some(walk) => Ok(Some(walk)),
-        None => {
-            colours[front.here] = Colour::Marked;
-            Ok(None)
+
+    /// One look of the first pass.
+    fn look<N: Numbered>(&mut self, net: &N, looks: &mut N::Looks) -> Result<(), AllocError>
+        requires searching { IsSearching (N.net net.now) self.old }
+        requires more { HasMore (N.net net.now) self.old.front }
+        ensures on { OnOk result (IsLookOn (N.net net.now) self.old self.new) }
+        ensures looked { N.looked_of looks.new ≡ counted (N.looked_of looks.old) 1 }
+    {
+        match net.look(self.front.here, self.front.next, looks) {
+            Some(step) => match self.colours[step.target] {
+                Colour::New => {
+                    let taken = Taken {
+                        state: self.front.here,
+                        pick: self.front.next,
+                        letter: step.letter,
+                    };
+                    self.front.way.push(taken)?;
+                    self.colours[step.target] = Colour::Open;
+                    self.front.here = step.target;
+                    self.front.next = 0;
+                }
+                _ => self.front.next += 1,
+            },
+            None => self.front.next += 1,
+        }
+        Ok(())
+    }
+
+    /// Leaves the state: the second pass from it, where it is accepting, and its colour.
+    fn leave<N: Numbered>(
+        &mut self,
+        alloc: &'a A,
+        net: &N,
+        looks: &mut N::Looks,
+    ) -> Result<Option<Walk<'a, A>>, AllocError>
+        requires searching { IsSearching (N.net net.now) self.old }
+        requires done { IsDone (N.net net.now) self.old.front }
+        ensures left { result ≡ Ok None → HasLeft (N.net net.now) self.old self.new }
+        ensures found { IfOk result (λ r. IfSome r (λ w. IsFound (N.net net.now) w.way.items w.turn.items)) }
+        ensures most { LooksAtMost (N.looked_of looks.old) (N.looked_of looks.new) (looks_left (N.net net.now) self.old.colours.items) }
+        ensures paid { result ≡ Ok None → HasPaid (N.net net.now) (N.looked_of looks.old) (N.looked_of looks.new)
+            self.old.colours.items self.new.colours.items 0 }
+    {
+        if !net.accepts(self.front.here) {
+            self.colours[self.front.here] = Colour::Left;
+            return Ok(None);
+        }
+        match probe(alloc, net, &self.front, &mut self.colours, looks)? {
+            Some(walk) => Ok(Some(walk)),
+            None => {
+                self.colours[self.front.here] = Colour::Marked;
+                Ok(None)
+            }
         }
     }
 }
 
 /// A way from the start and a closed walk from its end that passes an accepting state, where there is one.
-pub fn search<'a, N: Numbered, A: Allocator>(
+pub fn search_net<'a, N: Numbered, A: Allocator>(
     alloc: &'a A,
     net: &N,
     looks: &mut N::Looks,
@@ -303,23 +259,16 @@ pub fn search<'a, N: Numbered, A: Allocator>(
     ensures most { LooksAtMost (N.looked_of looks.old) (N.looked_of looks.new) (2 * sum_below (N.net net.now).pairs (N.net net.now).count) }
     ensures least { result ≡ Ok None → LooksAtReached (N.net net.now) (N.looked_of looks.old) (N.looked_of looks.new) }
 {
-    let mut colours = fresh(alloc, net.count())?;
-    let start = net.start();
-    colours[start] = Colour::Open;
-    let mut front = Front {
-        way: Vec::new(alloc),
-        here: start,
-        next: 0,
-    };
+    let mut search = Search::new(alloc, net)?;
     'entering: loop {
-        if front.next < net.pairs_at(front.here) {
-            first_look(net, &mut colours, &mut front, looks)?;
+        if search.front.next < net.pairs_at(search.front.here) {
+            search.look(net, looks)?;
         } else {
-            match settle(alloc, net, &front, &mut colours, looks)? {
+            match search.leave(alloc, net, looks)? {
                 Some(walk) => return Ok(Some(walk)),
                 None => {}
             }
-            if !step_back(&mut front) {
+            if !search.front.step_back() {
                 return Ok(None);
             }
         }

@@ -6,8 +6,9 @@ use Rattle.ltl_spec.specs.NormalForms.NormalForm.{core}
 use Rattle.ltl_spec.proofs.Collections.MemberLaws.{at_map, map_length}
 use Rattle.ltl_spec.proofs.NormalForms.SharedNodes.{tree_at}
 use Rattle.ltl_spec.proofs.NormalForms.BothPolarities as law
-use Rattle.ltl_spec.proofs.NormalForms.BothPolarities.{Both, FlatNode, both_in, both_of, both_unary, both_binary, built, formula_in, formulas, formulas_length}
+use Rattle.ltl_spec.proofs.NormalForms.BothPolarities.{FlatNode, both_in, both_of, both_unary, both_binary, built, formula_in, formulas}
 use Rattle.ltl_spec.proofs.NormalForms.SharedRewriting.{IsMore, IsBuilt, Numbers, StandsFor, built_at, built_length, built_step, built_translated}
+use Rattle.ltl_spec.proofs.Collections.SumLaws.{take_whole}
 use Rattle.ltl_formula.specs.declared.operators.Node.{Node}
 use Rattle.ltl_formula.specs.declared.operators.Node.TheVariants as code
 use Rattle.ltl_formula.specs.declared.polarity.Forms.{Forms}
@@ -15,7 +16,7 @@ use Rattle.ltl_formula.specs.FormsView.{numbers_of, forms_in, flat_of, AreInside
 use Rattle.ltl_formula.specs.FormulaView.{StandsAt, trees, tree_of, tree_in, with_tree, whole_tree, unary_of, binary_of}
 use Rattle.ltl_formula.specs.GraphView.{GraphView, Makes}
 
-map_push : {X Y : Type 0} (f : X → Y) (xs : List X) (x : X) → map f (xs ++ x ∷ []) ≡ map f xs ++ f x ∷ []
+pub map_push : {X Y : Type 0} (f : X → Y) (xs : List X) (x : X) → map f (xs ++ x ∷ []) ≡ map f xs ++ f x ∷ []
 map_push f [] x = refl
 map_push f (y ∷ xs) x = ap (λ l. f y ∷ l) (map_push f xs x)
 
@@ -99,16 +100,12 @@ trees_from (v ∷ nodes) ts = ap (λ (t : spec.Formula). fold law.with_formula (
 pub formulas_same : (nodes : List Node) → formulas (map flat_of nodes) ≡ trees nodes
 formulas_same nodes = trees_from nodes []
 
-take_all : {X : Type 0} (xs : List X) → take (length xs) xs ≡ xs
-take_all [] = refl
-take_all (x ∷ xs) = ap (λ l. x ∷ l) (take_all xs)
-
 -- one of the two numbers of the last node stands for the core
 module _ (g : GraphView) (done : List Forms) (nodes : List Node) (n : ℕ) (e : n ≡ length nodes) (some : 0 < n) (b : IsBuilt g.rewrite g.nodes (map numbers_of done) (map flat_of (take n nodes))) where
   pub last_inside : n - 1 < length done
   last_inside =
       let l = done_length g done nodes n b in
-      let t : length (take n nodes) ≡ length nodes = ap length (ap (λ m. take m nodes) e ∙ take_all nodes) in
+      let t : length (take n nodes) ≡ length nodes = ap length (ap (λ m. take m nodes) e ∙ take_whole nodes) in
       omega arith
 
   pub core_stands : (negate : Bool) (p : Forms) → p ≡ slice_index_or done (n - 1) p → (k : ℕ) → k ≡ cond negate p.negative p.positive → StandsFor g.nodes k (core (whole_tree nodes) negate g.rewrite)
@@ -116,7 +113,7 @@ module _ (g : GraphView) (done : List Forms) (nodes : List Node) (n : ℕ) (e : 
       let l = last_inside in
       let long = map_length numbers_of done in
       let m : n - 1 < length (map numbers_of done) = omega arith in
-      let all : IsBuilt g.rewrite g.nodes (map numbers_of done) (map flat_of nodes) = subst (λ (ns : List Node). IsBuilt g.rewrite g.nodes (map numbers_of done) (map flat_of ns)) (ap (λ i. take i nodes) e ∙ take_all nodes) b in
+      let all : IsBuilt g.rewrite g.nodes (map numbers_of done) (map flat_of nodes) = subst (λ (ns : List Node). IsBuilt g.rewrite g.nodes (map numbers_of done) (map flat_of ns)) (ap (λ i. take i nodes) e ∙ take_whole nodes) b in
       let there : slice_index_or (map numbers_of done) (n - 1) (numbers_of p) ≡ numbers_of p = at_map numbers_of done (n - 1) p (numbers_of p) l ∙ ap numbers_of (sym at) in
       let whole : formula_in (formulas (map flat_of nodes)) (n - 1) ≡ whole_tree nodes = λ t. tree_in (formulas_same nodes t) (e t - 1) in
       let t = built_translated g.rewrite g.nodes (map numbers_of done) (map flat_of nodes) all (n - 1) (numbers_of p) negate m in

@@ -5,7 +5,7 @@ use Rattle.std.specs.Bool.{beq}
 use Rattle.std.specs.List.{list_any}
 use Rattle.std.proofs.lemmas.Bool.{eqb-true}
 use Rattle.std.proofs.lemmas.Option.{slice_get_within, get_or_from_slice_get}
-use Rattle.ltl_spec.proofs.Collections.CaseLaws.{beq_refl}
+use Rattle.ltl_spec.proofs.Collections.CaseLaws.{beq_refl, beq_true, false_is_true}
 use Rattle.ltl_spec.specs.Collections.Sets.{Has}
 use Rattle.ltl_spec.specs.Transitions.Cubes as cubes
 use Rattle.ltl_spec.proofs.Collections.MemberLaws.{at_map, map_length}
@@ -25,12 +25,6 @@ both_true true true e = (refl, refl)
 both_true true false e = cc
 both_true false b e = cc
 
-bools_same : (a b : Bool) → beq a b ≡ true → a ≡ b
-bools_same true true e = refl
-bools_same false false e = refl
-bools_same true false e = cc
-bools_same false true e = cc
-
 numbers_same : (i j : ℕ) → eqb i j ≡ true → i ≡ j
 numbers_same i j e = eqb-true i j e
 
@@ -43,7 +37,7 @@ row_same row.True row.True e = refl
 row_same row.False row.False e = refl
 row_same (row.Literal l) (row.Literal m) e =
     let w = both_true (eqb l.proposition m.proposition) (beq l.positive m.positive) e in
-    ap row.Literal (same_parts l m (numbers_same l.proposition m.proposition w.0) (bools_same l.positive m.positive w.1))
+    ap row.Literal (same_parts l m (numbers_same l.proposition m.proposition w.0) (beq_true l.positive m.positive w.1))
 row_same (row.Next i) (row.Next j) e = ap row.Next (numbers_same i j e)
 row_same (row.And i j) (row.And k l) e = let w = both_true (eqb i k) (eqb j l) e in let p = numbers_same i k w.0 in let q = numbers_same j l w.1 in cc
 row_same (row.Or i j) (row.Or k l) e = let w = both_true (eqb i k) (eqb j l) e in let p = numbers_same i k w.0 in let q = numbers_same j l w.1 in cc
@@ -106,9 +100,6 @@ found (u ∷ ks) v (inr h) = or_right (ghosts.eq v u) (list_any (ghosts.eq v) ks
 abbrev pub with_node : List Row → Row → List Row
 with_node ks v = cond (list_any (ghosts.eq v) ks) ks (ks ++ v ∷ [])
 
-no_way : {P : Type 0} → false ≡ true → P
-no_way e = cc
-
 module _ (ks : List Row) (v : Row) (c : HasConstants (map node_of ks) 0 1) (before : AllBefore (length (map node_of ks)) (node_of v)) (new : List Row) (e : new ≡ with_node ks v) where
   pub interned : IsShared (map node_of new) × IsMore (map node_of ks) (map node_of new)
   interned = subst (λ ns. IsShared (map node_of ns) × IsMore (map node_of ks) (map node_of ns)) (sym e) (at (list_any (ghosts.eq v) ks) refl)
@@ -116,7 +107,7 @@ module _ (ks : List Row) (v : Row) (c : HasConstants (map node_of ks) 0 1) (befo
       at : (b : Bool) → list_any (ghosts.eq v) ks ≡ b → IsShared (map node_of (cond b ks (ks ++ v ∷ []))) × IsMore (map node_of ks) (map node_of (cond b ks (ks ++ v ∷ [])))
       at true t = (c.shared, more_same (map node_of ks))
       at false t = subst (λ ns. IsShared ns × IsMore (map node_of ks) ns) (sym (map_last ks v))
-          (shared_push (map node_of ks) c.shared (node_of v) before (λ h. no_way (sym t ∙ found ks v h)), more_push (map node_of ks) (node_of v))
+          (shared_push (map node_of ks) c.shared (node_of v) before (λ h. false_is_true (sym t ∙ found ks v h)), more_push (map node_of ks) (node_of v))
 
   pub interned_constants : HasConstants (map node_of new) 0 1
   interned_constants = let w = interned in constants_more (map node_of ks) (map node_of new) 0 1 c w.1 w.0

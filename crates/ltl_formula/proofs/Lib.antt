@@ -12,7 +12,6 @@ pub mod SendLaws
 mod SmallLemmas
 mod StateLemmas
 pub mod StreamLemmas
-pub mod TableLaws
 pub mod TableLemmas
 pub mod TreeLemmas
 pub mod WalkLemmas

@@ -1,5 +1,5 @@
 -- Names by number in a set of keys.
-use Rattle.std.proofs.Common.{◌≡◌, ◌∙◌, ap, refl, ℕ, ◌+◌, ◌≤◌, Bool, true, false, cond, not, ◌||◌, List, [], ◌∷◌, ◌++◌, map, length, arith}
+use Rattle.std.proofs.Common.{◌≡◌, ◌∙◌, ap, refl, ℕ, ◌+◌, Bool, true, false, cond, not, ◌||◌, List, [], ◌∷◌, ◌++◌, map}
 use Rattle.std.specs.List.{list_any, position_or_len}
 use Rattle.std.proofs.lemmas.List.{map-append}
 use Rattle.std.proofs.lemmas.Slice.Eq.{bytes_eq-Decides}
@@ -7,7 +7,6 @@ use Rattle.indexmap.specs.IndexSet.{insert_key}
 use Rattle.ltl_spec.specs.Semantics.Word.{Name}
 use Rattle.ltl_spec.specs.Collections.Lists.{with_new, place_of}
 use Rattle.ltl_spec.specs.Formulas.Tokens.{same_name}
-use Rattle.ltl_formula.proofs.TreeLemmas.{push_length}
 
 module _ {K : Type 0} (name : K → Name) (eq : K → K → Bool) (is : (x y : K) → eq x y ≡ same_name (name x) (name y)) where
   same_any : (k : K) (ks : List K) → list_any (eq k) ks ≡ list_any (same_name (name k)) (map name ks)
@@ -34,13 +33,6 @@ module _ {K : Type 0} (name : K → Name) (eq : K → K → Bool) (is : (x y : K
       both : {a b : Bool} {c d : ℕ} → a ≡ b → c ≡ d → cond (not a) (1 + c) 0 ≡ cond (not b) (1 + d) 0
       both e f = λ i. cond (not (e i)) (1 + f i) 0
 
--- what is said of a test that failed
-no_test : {P : Type 0} → false ≡ true → P
-no_test e = absurd (no_way e)
-  where
-    no_way : false ≡ true → ⊥
-    no_way d = cc
-
 -- a name that is found stays where it is
 place_found : (n m : Name) (names : List Name) → list_any (same_name n) names ≡ false → place_of same_name n (names ++ n ∷ []) ≡ place_of same_name n names
 place_found n m [] e = ap (λ b. cond (not b) 1 0) ((bytes_eq-Decides n n).1 refl)
@@ -57,11 +49,3 @@ place_new names n =
       | true ↦ λ e. refl
       | false ↦ λ e. place_found n n names e
     ] refl
-
--- there are at least as many names as before
-pub no_fewer : (names : List Name) (n : Name) → length names ≤ length (with_new same_name names n)
-no_fewer names n =
-    elim (list_any (same_name n) names) as (λ b. length names ≤ length (cond b names (names ++ n ∷ []))) [
-      | true ↦ omega arith
-      | false ↦ omega (arith, push_length names n)
-    ]

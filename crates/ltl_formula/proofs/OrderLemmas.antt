@@ -12,6 +12,7 @@ use Rattle.ltl_spec.proofs.Collections.MemberLaws.{at_map, map_length}
 use Rattle.ltl_spec.proofs.NormalForms.NormalLaws.{same_Decides}
 use Rattle.ltl_spec.proofs.NormalForms.RowsCollected.{operands, by_operands, collect, collect_seen, collect_new, collect_closed, collect_has, collect_last, postorder_self, rows_collected, HasOperands, IsGraph, Has-map_tree, number_seen, listed_no_repeats}
 use Rattle.ltl_spec.proofs.NormalForms.SharedNodes.{Node, parts_of, tree_at, node_at, index_last, IsShared, shared_graph}
+use Rattle.ltl_spec.proofs.Collections.CaseLaws.{below_or_last}
 use Rattle.ltl_formula.specs.WalkView.{AreInOrder}
 
 -- each tree stands behind its operands
@@ -26,9 +27,6 @@ take_append (x ∷ xs) ys (suc k) l = ap (λ zs. x ∷ zs) (take_append xs ys k 
 take_whole : {X : Type 0} (xs ys : List X) → take (length xs) (xs ++ ys) ≡ xs
 take_whole [] ys = refl
 take_whole (x ∷ xs) ys = ap (λ zs. x ∷ zs) (take_whole xs ys)
-
-below_or_last : (i m : ℕ) → i < m + 1 → (i < m) ⊎ (i ≡ m)
-below_or_last i m l = grind arith
 
 -- one more whose operands are there
 first_push : (xs : List Normal) (F : Normal) → AreFirst xs → ((a : Normal) → Has (operands F) a → Has xs a) → AreFirst (xs ++ F ∷ [])

@@ -5,7 +5,7 @@ use Rattle.ltl_spec.specs.Formulas.Formula as spec
 use Rattle.ltl_spec.specs.Formulas.Grammar.{rank_of}
 use Rattle.ltl_spec.proofs.Formulas.GrammarMachine as machine
 use Rattle.ltl_formula.specs.declared.operators.Node.{Node}
-use Rattle.ltl_formula.specs.declared.operators.Node.TheVariants.{Constant, Proposition, Unary, Binary}
+use Rattle.ltl_formula.specs.declared.operators.Node.TheVariants.{Constant, Binary}
 use Rattle.ltl_formula.specs.declared.parser.Frame.{Frame}
 use Rattle.ltl_formula.specs.declared.parser.Frame.TheVariants.{Bracket, Prefix, Pending}
 use Rattle.ltl_formula.specs.FormulaView.{StandsAt, tree_in, tree_of, trees, whole_tree, binary_of}
@@ -63,16 +63,6 @@ frames_stay ns n fs b =
     let k : j < length (trees ns) = omega (arith, trees_length ns) in
     ap (λ ts. tree_in ts j) (trees_push ns n) ∙ push_before (trees ns) (tree_of (trees ns) n) j (spec.Constant false) k)
 
-stands_more : (a b i : ℕ) (n : Node) → a ≤ b → StandsAt a i n → StandsAt b i n
-stands_more a b i (Constant v) l h = tt
-stands_more a b i (Proposition p) l h = omega arith
-stands_more a b i (Unary op x) l h = h
-stands_more a b i (Binary op x y) l h = h
-
--- with more names
-pub operands_more : (a b : ℕ) (ns : List Node) → a ≤ b → HasOperands a ns → HasOperands b ns
-operands_more a b ns l o i k = stands_more a b i _ l (o i k)
-
 -- with one node more
 pub operands_push : (count : ℕ) (ns : List Node) (n : Node) → HasOperands count ns → StandsAt count (length ns) n → HasOperands count (ns ++ n ∷ [])
 operands_push count ns n o s i k = by (split i)
@@ -121,31 +111,6 @@ close_step most ns fs f n b e =
     ∙ ap (machine.close most (tree_of (trees ns) n)) (frames_stay ns n fs b)
     ∙ closed_tree most ns f n (frames_of (trees ns) fs) e
     ∙ ap (machine.close most (whole_tree ns)) (sym (frames_push (trees ns) fs f))
-
--- a frame that closes no more
-stops : (most size : ℕ) (ts : List spec.Formula) (F : spec.Formula) (f : Frame) (s : List machine.Frame) → closed_node f size most ≡ None
-    → machine.close most F (frame_of ts f ∷ s) ≡ (F, frame_of ts f ∷ s)
-stops most size ts F Bracket s e = refl
-stops most size ts F (Prefix op) s e = cc
-stops most size ts F (Pending i op) s e =
-    let op' = binary_of op in
-    elim (nat_le (rank_of op') most) as (λ c. cond c (Some (Binary op i size)) None ≡ None
-    → ◌≡◌ {A = spec.Formula × List machine.Frame} (cond c (machine.close most (spec.Binary op' (tree_in ts i) F) s) (F, machine.Pending (tree_in ts i) op' ∷ s)) (F, machine.Pending (tree_in ts i) op' ∷ s)) [
-      | true ↦ λ d. cc
-      | false ↦ λ d. refl
-    ] e
-
-pub close_stop : (most : ℕ) (ns : List Node) (fs : List Frame) (f : Frame) → closed_node f (length ns - 1) most ≡ None
-    → machine.close most (whole_tree ns) (frames_of (trees ns) (fs ++ f ∷ [])) ≡ (whole_tree ns, frames_of (trees ns) (fs ++ f ∷ []))
-close_stop most ns fs f e =
-    let P : List machine.Frame → Type 0 = λ s. machine.close most (whole_tree ns) s ≡ (whole_tree ns, s) in
-    subst P (sym (frames_push (trees ns) fs f)) (stops most (length ns - 1) (trees ns) (whole_tree ns) f (frames_of (trees ns) fs) e)
-
--- nothing is left to close
-pub close_end : (most : ℕ) (ns : List Node) (fs : List Frame) → fs ≡ [] → machine.close most (whole_tree ns) (frames_of (trees ns) fs) ≡ (whole_tree ns, frames_of (trees ns) fs)
-close_end most ns fs e =
-    let P : List Frame → Type 0 = λ l. machine.close most (whole_tree ns) (frames_of (trees ns) l) ≡ (whole_tree ns, frames_of (trees ns) l) in
-    subst P (sym e) refl
 
 -- one turn of closing
 pub record Turn (most : ℕ) (ns ns' : List Node) (fs fs' : List Frame) : Type 0 where

@@ -1,5 +1,5 @@
 -- The rows of a table made from nodes of a graph, one after the other.
-use Rattle.std.proofs.Common.{◌≡◌, ℕ, zero, suc, ◌+◌, ◌<◌, Bool, true, false, ◌⊎◌, inl, inr, List, [], ◌∷◌, ◌++◌, map, take, drop, length, refl, sym, ◌∙◌, ap, subst, arith, eqb, length-append, length-take, add-one, cond, append_assoc, drop-cons, get_or-set_other, get_or-set_same}
+use Rattle.std.proofs.Common.{◌≡◌, ℕ, zero, suc, ◌+◌, ◌<◌, Bool, true, false, inl, inr, List, [], ◌∷◌, ◌++◌, map, take, drop, length, refl, sym, ◌∙◌, ap, subst, arith, eqb, length-append, length-take, add-one, cond, append_assoc, drop-cons, get_or-set_other, get_or-set_same}
 use Rattle.std.specs.Prelude.{slice_index_or, slice_index, slice_set}
 use Rattle.std.proofs.lemmas.Bool.Decides.{Decides-eqb}
 use Rattle.std.proofs.lemmas.List.{get_or-take}
@@ -10,16 +10,14 @@ use Rattle.ltl_spec.specs.NormalForms.Normal.{Normal, Bottom}
 use Rattle.ltl_spec.proofs.Collections.ListLaws.{Contains-from_has}
 use Rattle.ltl_spec.proofs.Collections.MemberLaws.{at_map}
 use Rattle.ltl_spec.proofs.NormalForms.SharedNodes.{Node, TopNode, BottomNode, LeafNode, NextNode, AndNode, OrNode, UntilNode, ReleaseNode, parts_of, tree_of, tree_in, trees, trees_push, tree_at, node_at, tree_of_alike, index_last, IsShared, AllBefore}
+use Rattle.ltl_spec.proofs.Collections.CaseLaws.{below_or_last}
 use Rattle.ltl_formula.specs.declared.row.Row.{Row}
 use Rattle.ltl_formula.specs.GraphView.{IsBelow, node_of}
 use Rattle.ltl_formula.specs.PlacesView.{renumbered}
 use Rattle.ltl_formula.specs.TableView.{AreOrdered, row_trees, places_by}
 use Rattle.ltl_formula.specs.WalkView.{AreInOrder}
 use Rattle.ltl_formula.proofs.GraphLemmas.{below_of}
-
-map_push : {X Y : Type 0} (f : X → Y) (xs : List X) (x : X) → map f (xs ++ x ∷ []) ≡ map f xs ++ f x ∷ []
-map_push f [] x = refl
-map_push f (y ∷ xs) x = ap (λ l. f y ∷ l) (map_push f xs x)
+use Rattle.ltl_formula.proofs.FormsLemmas.{map_push}
 
 -- one element more of a list
 take_next : (xs : List ℕ) (n : ℕ) → n < length xs → take (suc n) xs ≡ take n xs ++ slice_index xs n ∷ []
@@ -54,9 +52,6 @@ renumbered_before n f (AndNode i k) b j h = two n f i k (b i (inl refl)) (b k (i
 renumbered_before n f (OrNode i k) b j h = two n f i k (b i (inl refl)) (b k (inr (inl refl))) j h
 renumbered_before n f (UntilNode i k) b j h = two n f i k (b i (inl refl)) (b k (inr (inl refl))) j h
 renumbered_before n f (ReleaseNode i k) b j h = two n f i k (b i (inl refl)) (b k (inr (inl refl))) j h
-
-below_or_last : (i m : ℕ) → i < m + 1 → (i < m) ⊎ (i ≡ m)
-below_or_last i m l = grind arith
 
 -- in a list in which nothing stands twice two places of one number are one
 same_place : (xs : List ℕ) → HasNoRepeats xs → (i j : ℕ) → i < length xs → j < length xs → slice_index xs i ≡ slice_index xs j → i ≡ j

@@ -1,20 +1,19 @@
 -- Names as text, and the verdict on a text.
-use Rattle.std.proofs.Common.{◌≡◌, ◌∙◌, ap, sym, refl, subst, ℕ, zero, suc, ◌<◌, ◌≤◌, true, false, not, ◌||◌, ◌&&◌, List, [], ◌∷◌, ◌++◌, length, map, arith, append-nil, slice_index, nat_le, ◌==◌, Option, Some, None, Err}
+use Rattle.std.proofs.Common.{◌≡◌, ◌∙◌, ap, sym, refl, subst, ℕ, zero, suc, ◌<◌, ◌≤◌, true, ◌||◌, ◌&&◌, List, [], ◌∷◌, ◌++◌, length, map, arith, append-nil, slice_index, nat_le, ◌==◌, Option, Some, None, Err}
 use Rattle.std.proofs.lemmas.Bool.Decides.{nat_tests}
 use Rattle.std.specs.List.{AllByRecursion, list_all}
-use Rattle.std.specs.Prelude.{IsTrue, codes}
-use Rattle.std.proofs.lemmas.Bool.{false_from_ne_true}
+use Rattle.std.specs.Prelude.{IsTrue}
 use Rattle.std.specs.Str.{IsAscii, IsUtf8}
 use Rattle.std.proofs.lemmas.Str.{IsUtf8-from_ascii}
-use Rattle.ltl_spec.specs.Formulas.Tokens.{Item, items, tokens, is_name_byte, same_name}
-use Rattle.ltl_spec.specs.Formulas.Names.{is_constant, is_proposition}
+use Rattle.ltl_spec.specs.Formulas.Tokens.{Item, items, tokens, is_name_byte}
+use Rattle.ltl_spec.specs.Formulas.Names.{is_proposition}
 use Rattle.ltl_spec.specs.Formulas.Formula.{Formula}
 use Rattle.ltl_spec.specs.Formulas.Canonical.{canonical_text}
 use Rattle.ltl_spec.specs.Formulas.Grammar.{IsTextOf}
 use Rattle.ltl_spec.specs.Formulas.Fault.{FaultKind, IsFault}
-use Rattle.ltl_spec.proofs.Collections.MemberLaws.{map_length, all_Decides}
+use Rattle.ltl_spec.proofs.Collections.MemberLaws.{all_Decides}
 use Rattle.ltl_spec.proofs.Collections.SetLaws.{all_at}
-use Rattle.ltl_spec.proofs.Formulas.NameLaws.{same_name_Decides}
+use Rattle.ltl_spec.proofs.Formulas.NameLaws.{word_proposition}
 use Rattle.ltl_spec.proofs.Formulas.GrammarMachine as machine
 use Rattle.ltl_spec.proofs.Formulas.BeginningLaws.{outline, reads_once}
 use Rattle.ltl_spec.proofs.Formulas.FaultLaws.{kind_at, kind_before, never_both}
@@ -71,18 +70,6 @@ all_over {L = L} show name ks it ls e f = twice ls ∙ ap (map name) (sym (appen
 
 -- ---- the formula
 
--- what the lexer takes as a name is a proposition
-word_proposition : (n : Name) → IsNameWord n → is_proposition n ≡ true
-word_proposition [] w = absurd w
-word_proposition (b ∷ bs) w =
-    let first : same_name (b ∷ bs) (codes "true") ≡ false = false_from_ne_true _ (λ e. w.2 ((same_name_Decides (b ∷ bs) (codes "true")).0 e)) in
-    let second : same_name (b ∷ bs) (codes "false") ≡ false = false_from_ne_true _ (λ e. w.3 ((same_name_Decides (b ∷ bs) (codes "false")).0 e)) in
-    let bytes : list_all is_name_byte bs ≡ true = (all_Decides is_name_byte bs).1 (λ c h. all_at (λ d. is_name_byte d ≡ true) bs c w.1 h) in
-    ap (λ t. t && list_all is_name_byte bs && not (is_constant (b ∷ bs))) w.0
-    ∙ ap (λ t. t && not (is_constant (b ∷ bs))) bytes
-    ∙ ap (λ t. not (t || same_name (b ∷ bs) (codes "false"))) first
-    ∙ ap not second
-
 words_propositions : (names : List Name) → AllByRecursion IsNameWord names → IsTrue (list_all is_proposition names)
 words_propositions names a = (all_Decides is_proposition names).1 (λ n h. word_proposition n (all_at IsNameWord names n a h))
 
@@ -97,10 +84,6 @@ is_formula ns names ms count e n l o d few =
       distinct = named_differ (record { formula = whole_tree ns; names = names }) d;
       few = subst (λ k. k ≤ stated_limits.propositions) n few;
     })
-
--- as many as there are keys
-pub names_count : {K : Type 0} (name : K → Name) (ks : List K) (ms : List Name) → ms ≡ map name ks → length ms ≡ length ks
-names_count name ks ms e = ap length e ∙ map_length name ks
 
 -- ---- the verdict
 
@@ -121,14 +104,6 @@ verdict_early text r names kind v k e =
 abbrev goes_on : ℕ → List Name → machine.Reader → Item → List Item → Option machine.Reader → Verdict
 goes_on end names r item rest None = Err (item.start, kind_at (outline r) item.token)
 goes_on end names r item rest (Some q) = verdict end (with_name names item.token) q rest
-
--- a token that fits
-pub verdict_goes_on : (text : List ℕ) (r q : machine.Reader) (names ms : List Name) (item : Item) (rest its : List Item)
-    → verdict (length text) names r its ≡ verdict (length text) [] (machine.Wanting []) (items text) → its ≡ item ∷ rest → ms ≡ with_name names item.token
-    → machine.read_step ms r item.token ≡ Some q → verdict (length text) ms q rest ≡ verdict (length text) [] (machine.Wanting []) (items text)
-verdict_goes_on text r q names ms item rest its v i n e =
-    let step : machine.read_step (with_name names item.token) r item.token ≡ Some q = subst (λ l. machine.read_step l r item.token ≡ Some q) n e in
-    ap (λ l. verdict (length text) l q rest) n ∙ sym (ap (verdict (length text) names r) i ∙ ap (goes_on (length text) names r item rest) step) ∙ v
 
 -- a token that doesn't
 pub verdict_stops : (text : List ℕ) (r : machine.Reader) (names : List Name) (item : Item) (rest its : List Item) (place : ℕ) (kind : FaultKind)

@@ -15,10 +15,6 @@ pub sends_nothing : (o : Option (List ℕ)) (h : List ℕ) → Sends o h o h []
 sends_nothing o h = record { sent = []; appended = Appends-nil o; same = append-nil h }
 
 module _ (o : Option (List ℕ)) (h : List ℕ) where
-  -- the bytes are held back
-  pub sends_held : (k bs : List ℕ) → k ≡ h ++ bs → Sends o h o k bs
-  sends_held k bs e = record { sent = []; appended = Appends-nil o; same = sym e }
-
   pub sends_trans : (m n : Option (List ℕ)) (k j a b : List ℕ) → Sends o h m k a → Sends m k n j b → Sends o h n j (a ++ b)
   sends_trans m n k j a b p q = record {
     sent = p.sent ++ q.sent;

@@ -252,10 +252,6 @@ some_bracket (Bracket ∷ fs) e = let m = open_count fs in suc_positive m
 some_bracket (Prefix op ∷ fs) e = some_bracket fs e
 some_bracket (Pending i op ∷ fs) e = some_bracket fs e
 
--- an operand is missing
-pub expects_operand : (now : ParserView) → now.has_operand ≡ false → fault.ExpectedOperand ≡ kind_before (outline (reader_of now))
-expects_operand now h = ap (λ r. kind_before (outline r)) (sym (wanting now h))
-
 -- a bracket is open
 pub expects_close : (now : ParserView) → now.has_operand ≡ true → list_any is_bracket now.frames ≡ true → fault.ExpectedCloseOrOperator ≡ kind_before (outline (reader_of now))
 expects_close now h b =

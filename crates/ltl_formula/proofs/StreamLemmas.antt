@@ -1,7 +1,7 @@
 -- How known bytes grow over several calls.
-use Rattle.std.proofs.Common.{◌∙◌, ap, sym, ℕ, min, ◌+◌, List, ◌++◌, length, take, drop, Option, Some, None, append_assoc, arith}
+use Rattle.std.proofs.Common.{◌∙◌, ap, ℕ, min, ◌+◌, List, ◌++◌, length, take, drop, Option, Some, None, append_assoc, arith}
 use Rattle.std.proofs.Math.Seq.{take-add, take-append-add, take-length}
-use Rattle.std.proofs.lemmas.List.{append-nil, take-append-le, take_min}
+use Rattle.std.proofs.lemmas.List.{take-append-le, take_min}
 use Rattle.std.specs.Prelude.{OnErr, Result, Ok, Err}
 use Rattle.std.specs.Io.KnownBytes.{Appends, Keeps}
 use Rattle.ltl_formula.specs.Streams.{AppendsBeginning}
@@ -25,11 +25,6 @@ beginning_after o m n a b p (k, q) = (length a + k, rw (take-append-add a b k) (
 
 pub beginning_whole : (o n : Option (List ℕ)) (a : List ℕ) → Appends o n a → AppendsBeginning o n a
 beginning_whole o n a p = (length a, rw (take-length a) p)
-
-pub beginning_none : (o n : Option (List ℕ)) (a : List ℕ) → Keeps o n → AppendsBeginning o n a
-beginning_none None n a p = (0, tt)
-beginning_none (Some x) (Some y) a p = (0, p ∙ sym (append-nil x))
-beginning_none (Some x) None a p = absurd p
 
 pub kept_after : (o m n : Option (List ℕ)) (a : List ℕ) → Appends o m a → Keeps m n → Appends o n a
 kept_after None m n a p q = tt

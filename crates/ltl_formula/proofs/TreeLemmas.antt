@@ -1,5 +1,5 @@
 -- The trees of nodes.
-use Rattle.std.proofs.Common.{◌≡◌, ◌∙◌, ap, ap₂, sym, refl, subst, ℕ, zero, suc, ◌+◌, ◌-◌, ◌<◌, List, [], ◌∷◌, ◌++◌, fold, length, arith, slice_index_or, false}
+use Rattle.std.proofs.Common.{◌≡◌, ◌∙◌, ap, ap₂, sym, refl, subst, ℕ, zero, suc, ◌+◌, ◌<◌, List, [], ◌∷◌, ◌++◌, fold, length, arith, slice_index_or, false}
 use Rattle.ltl_spec.specs.Formulas.Formula as spec
 use Rattle.ltl_formula.specs.declared.operators.Node.{Node}
 use Rattle.ltl_formula.specs.declared.operators.Node.TheVariants.{Constant, Proposition, Unary, Binary}
@@ -21,13 +21,6 @@ push_before (y ∷ ys) x (suc i) d l = let k : i < length ys = omega arith in pu
 pub push_at : {X : Type 0} (xs : List X) (x : X) (d : X) → slice_index_or (xs ++ x ∷ []) (length xs) d ≡ x
 push_at [] x d = refl
 push_at (y ∷ ys) x d = push_at ys x d
-
--- the last element
-pub push_last : {X : Type 0} (xs : List X) (x : X) (d : X) → slice_index_or (xs ++ x ∷ []) (length (xs ++ x ∷ []) - 1) d ≡ x
-push_last xs x d =
-    let l = push_length xs x in
-    let e : length (xs ++ x ∷ []) - 1 ≡ length xs = omega arith in
-    ap (λ k. slice_index_or (xs ++ x ∷ []) k d) e ∙ push_at xs x d
 
 -- one step more of a fold
 pub fold_push : {S X : Type 0} (f : S → X → S) (s : S) (xs : List X) (x : X) → fold f s (xs ++ x ∷ []) ≡ f (fold f s xs) x

@@ -1,10 +1,10 @@
 -- What the steps of the walk do, over plain variables.
 use Rattle.std.proofs.Common.{◌≡◌, ℕ, ◌<◌, ◌≤◌, Bool, true, false, ◌⊎◌, inl, inr, List, [], ◌∷◌, ◌++◌, map, length, refl, sym, ◌∙◌, ap, subst, arith, length-append}
-use Rattle.std.specs.Prelude.{replicate, All, slice_index_or, fold}
+use Rattle.std.specs.Prelude.{All, slice_index_or, fold}
 use Rattle.std.specs.Bool.{Decides}
 use Rattle.std.specs.List.{list_any}
 use Rattle.ltl_spec.proofs.NormalForms.SharedNodes.{Node, parts_of, tree_at, node_at, IsShared, shared_graph}
-use Rattle.ltl_spec.proofs.NormalForms.RowsCollected.{flags_begin, walk_begins, IsWalking, work as weight, walk_goes_on, walk_pops, IsGraph, task_number, IsTaskDone, AreFlags, done_listed, done_left, done_leaf, done_one, done_two, operands, by_operands, collect, collect_seen, collect_new}
+use Rattle.ltl_spec.proofs.NormalForms.RowsCollected.{walk_begins, IsWalking, work as weight, walk_goes_on, walk_pops, IsGraph, task_number, IsTaskDone, AreFlags, done_listed, done_leaf, done_one, done_two, operands, by_operands, collect, collect_seen, collect_new}
 use Rattle.ltl_spec.proofs.NormalForms.RowsCollected as law
 use Rattle.ltl_spec.proofs.NormalForms.NormalLaws.{same_Decides}
 use Rattle.ltl_spec.proofs.Collections.ListLaws.{any_Decides}
@@ -43,10 +43,6 @@ module _ (nodes : List Node) (shared : IsShared nodes) (task : Task) (stack : Li
 
   pub leave_inside : (k : ℕ) → task ≡ Leave k → k < length nodes
   leave_inside k e = subst (λ t. task_number (task_of t) < length nodes) e inside
-
-  pub left : (k : ℕ) → task ≡ Leave k → (new_listed : List ℕ) → new_listed ≡ listed ++ k ∷ [] → Done stack new_listed
-  left k e new_listed f = subst (λ t. IsTaskDone (tree_at nodes) (length nodes) (map task_of stack) (task_of t) listed (map task_of stack) new_listed) (sym e)
-      (done_left (tree_at nodes) parts (length nodes) graph (map task_of stack) listed k tasks numbers (leave_inside k e) new_listed f)
 
   module _ (flags : List Bool) (long : length flags ≡ length nodes) (are : AreFlags flags listed) (k : ℕ) (e : task ≡ Enter k) where
     short : k < length flags
@@ -98,9 +94,6 @@ pub loop_pops : (nodes : List Node) (root : ℕ) (stack rest : List Task) (task 
     → IsWalking (tree_at nodes) (length nodes) root (map task_of stack) listed → stack ≡ rest ++ task ∷ []
     → All (λ t. task_number t < length nodes) (map task_of rest) × (task_number (task_of task) < length nodes)
 loop_pops nodes root stack rest task listed w e = walk_pops (tree_at nodes) (length nodes) root (map task_of stack) (map task_of rest) (task_of task) listed w (pushed rest stack task e)
-
-pub loop_flags : (n : ℕ) (flags : List Bool) (listed : List ℕ) → flags ≡ replicate n false → listed ≡ [] → AreFlags flags listed
-loop_flags n flags listed e f = flags_begin n flags listed e f
 
 pub loop_begins : (nodes : List Node) (root : ℕ) (s1 s2 : List Task) (listed : List ℕ) → root < length nodes → s1 ≡ [] → s2 ≡ s1 ++ Enter root ∷ [] → listed ≡ [] → IsWalking (tree_at nodes) (length nodes) root (map task_of s2) listed
 loop_begins nodes root s1 s2 listed l e1 e2 f = subst (λ ks. IsWalking (tree_at nodes) (length nodes) root (map task_of s2) ks) (sym f)

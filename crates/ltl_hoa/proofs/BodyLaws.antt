@@ -14,50 +14,17 @@ use Rattle.ltl_hoa.specs.BodyView.{BodyView, BodyLeads}
 
 -- no edge begins
 edge_else_is : (v : BodyView) (k : TokenKind) (text : List ℕ) → (k ≡ made.Int → ⊥) → (k ≡ made.OpenLabel → ⊥) → view.at_edge v (token_of k text) ≡ view.at_state v (token_of k text)
-edge_else_is v made.Text text n nm = refl
-edge_else_is v made.Identifier text n nm = refl
-edge_else_is v made.Header text n nm = refl
 edge_else_is v made.Int text n nm = absurd (n refl)
-edge_else_is v made.Body text n nm = refl
-edge_else_is v made.End text n nm = refl
-edge_else_is v made.Abort text n nm = refl
 edge_else_is v made.OpenLabel text n nm = absurd (nm refl)
-edge_else_is v made.CloseLabel text n nm = refl
-edge_else_is v made.OpenSets text n nm = refl
-edge_else_is v made.CloseSets text n nm = refl
-edge_else_is v made.OpenBracket text n nm = refl
-edge_else_is v made.CloseBracket text n nm = refl
-edge_else_is v made.NotSign text n nm = refl
-edge_else_is v made.AndSign text n nm = refl
-edge_else_is v made.OrSign text n nm = refl
-edge_else_is v made.Unknown text n nm = refl
-edge_else_is v made.UnclosedText text n nm = refl
-edge_else_is v made.UnclosedComment text n nm = refl
+edge_else_is v k text n nm = refl
 
 pub edge_else : (v w : BodyView) (j k : TokenKind) (text : List ℕ) (r : Result Place Stop) → j ≡ k → (j ≡ made.Int → ⊥) → (j ≡ made.OpenLabel → ⊥) → BodyLeads (view.at_state v (token_of j text)) r w → BodyLeads (view.at_edge v (token_of k text)) r w
 edge_else v w j k text r e n nm h = subst (λ i. BodyLeads (view.at_edge v (token_of i text)) r w) e (subst (λ led. BodyLeads led r w) (sym (edge_else_is v j text n nm)) h)
 
 -- no sets follow a state's name
 name_else_is : (v : BodyView) (k : TokenKind) (text : List ℕ) → (k ≡ made.OpenSets → ⊥) → view.after_name v (token_of k text) ≡ view.at_edge v (token_of k text)
-name_else_is v made.Text text n = refl
-name_else_is v made.Identifier text n = refl
-name_else_is v made.Header text n = refl
-name_else_is v made.Int text n = refl
-name_else_is v made.Body text n = refl
-name_else_is v made.End text n = refl
-name_else_is v made.Abort text n = refl
-name_else_is v made.OpenLabel text n = refl
-name_else_is v made.CloseLabel text n = refl
 name_else_is v made.OpenSets text n = absurd (n refl)
-name_else_is v made.CloseSets text n = refl
-name_else_is v made.OpenBracket text n = refl
-name_else_is v made.CloseBracket text n = refl
-name_else_is v made.NotSign text n = refl
-name_else_is v made.AndSign text n = refl
-name_else_is v made.OrSign text n = refl
-name_else_is v made.Unknown text n = refl
-name_else_is v made.UnclosedText text n = refl
-name_else_is v made.UnclosedComment text n = refl
+name_else_is v k text n = refl
 
 pub name_else : (v w : BodyView) (j k : TokenKind) (text : List ℕ) (r : Result Place Stop) → j ≡ k → (j ≡ made.OpenSets → ⊥) → BodyLeads (view.at_edge v (token_of j text)) r w → BodyLeads (view.after_name v (token_of k text)) r w
 name_else v w j k text r e n h = subst (λ i. BodyLeads (view.after_name v (token_of i text)) r w) e (subst (λ led. BodyLeads led r w) (sym (name_else_is v j text n)) h)
@@ -65,49 +32,16 @@ name_else v w j k text r e n h = subst (λ i. BodyLeads (view.after_name v (toke
 -- no name follows a state's number
 number_else_is : (v : BodyView) (k : TokenKind) (text : List ℕ) → (k ≡ made.Text → ⊥) → view.after_number v (token_of k text) ≡ view.after_name v (token_of k text)
 number_else_is v made.Text text n = absurd (n refl)
-number_else_is v made.Identifier text n = refl
-number_else_is v made.Header text n = refl
-number_else_is v made.Int text n = refl
-number_else_is v made.Body text n = refl
-number_else_is v made.End text n = refl
-number_else_is v made.Abort text n = refl
-number_else_is v made.OpenLabel text n = refl
-number_else_is v made.CloseLabel text n = refl
-number_else_is v made.OpenSets text n = refl
-number_else_is v made.CloseSets text n = refl
-number_else_is v made.OpenBracket text n = refl
-number_else_is v made.CloseBracket text n = refl
-number_else_is v made.NotSign text n = refl
-number_else_is v made.AndSign text n = refl
-number_else_is v made.OrSign text n = refl
-number_else_is v made.Unknown text n = refl
-number_else_is v made.UnclosedText text n = refl
-number_else_is v made.UnclosedComment text n = refl
+number_else_is v k text n = refl
 
 pub number_else : (v w : BodyView) (j k : TokenKind) (text : List ℕ) (r : Result Place Stop) → j ≡ k → (j ≡ made.Text → ⊥) → BodyLeads (view.after_name v (token_of j text)) r w → BodyLeads (view.after_number v (token_of k text)) r w
 number_else v w j k text r e n h = subst (λ i. BodyLeads (view.after_number v (token_of i text)) r w) e (subst (λ led. BodyLeads led r w) (sym (number_else_is v j text n)) h)
 
 -- no sets follow a target
 target_else_is : (v : BodyView) (k : TokenKind) (text : List ℕ) → (k ≡ made.AndSign → ⊥) → (k ≡ made.OpenSets → ⊥) → view.after_target v (token_of k text) ≡ view.at_edge (view.filed v) (token_of k text)
-target_else_is v made.Text text n nm = refl
-target_else_is v made.Identifier text n nm = refl
-target_else_is v made.Header text n nm = refl
-target_else_is v made.Int text n nm = refl
-target_else_is v made.Body text n nm = refl
-target_else_is v made.End text n nm = refl
-target_else_is v made.Abort text n nm = refl
-target_else_is v made.OpenLabel text n nm = refl
-target_else_is v made.CloseLabel text n nm = refl
 target_else_is v made.OpenSets text n nm = absurd (nm refl)
-target_else_is v made.CloseSets text n nm = refl
-target_else_is v made.OpenBracket text n nm = refl
-target_else_is v made.CloseBracket text n nm = refl
-target_else_is v made.NotSign text n nm = refl
 target_else_is v made.AndSign text n nm = absurd (n refl)
-target_else_is v made.OrSign text n nm = refl
-target_else_is v made.Unknown text n nm = refl
-target_else_is v made.UnclosedText text n nm = refl
-target_else_is v made.UnclosedComment text n nm = refl
+target_else_is v k text n nm = refl
 
 pub target_else : (v w : BodyView) (j k : TokenKind) (text : List ℕ) (r : Result Place Stop) → j ≡ k → (j ≡ made.AndSign → ⊥) → (j ≡ made.OpenSets → ⊥) → BodyLeads (view.at_edge (view.filed v) (token_of j text)) r w → BodyLeads (view.after_target v (token_of k text)) r w
 target_else v w j k text r e n nm h = subst (λ i. BodyLeads (view.after_target v (token_of i text)) r w) e (subst (λ led. BodyLeads led r w) (sym (target_else_is v j text n nm)) h)
@@ -117,25 +51,8 @@ pub abort_else : (place : BodyPlace) (v w : BodyView) (j k : TokenKind) (text : 
 abort_else place v w j k text r e n h = subst (λ i. view.Takes place v (token_of i text) r w) e (go j n h)
   where
     go : (i : TokenKind) → (i ≡ made.Abort → ⊥) → view.TakesAt place v (token_of i text) r w → view.Takes place v (token_of i text) r w
-    go made.Text m g = g
-    go made.Identifier m g = g
-    go made.Header m g = g
-    go made.Int m g = g
-    go made.Body m g = g
-    go made.End m g = g
     go made.Abort m g = absurd (m refl)
-    go made.OpenLabel m g = g
-    go made.CloseLabel m g = g
-    go made.OpenSets m g = g
-    go made.CloseSets m g = g
-    go made.OpenBracket m g = g
-    go made.CloseBracket m g = g
-    go made.NotSign m g = g
-    go made.AndSign m g = g
-    go made.OrSign m g = g
-    go made.Unknown m g = g
-    go made.UnclosedText m g = g
-    go made.UnclosedComment m g = g
+    go k m g = g
 
 -- ---- edges of one state
 

@@ -11,10 +11,12 @@ use Rattle.ltl_spec.specs.Formulas.Tokens.{same_name}
 use Rattle.ltl_spec.specs.Tools.Limits.{stated_limits}
 use Rattle.ltl_spec.specs.Hoa.HoaToken as token
 use Rattle.ltl_spec.specs.Hoa.HoaToken.{HoaToken}
-use Rattle.ltl_spec.specs.Hoa.HoaLabel.{NumberLabel, label_cubes, is_wide}
+use Rattle.ltl_spec.specs.Hoa.HoaLabel.{Label, ConstantLabel, NumberLabel, label_cubes, is_wide}
 use Rattle.ltl_spec.specs.Hoa.HoaFaultKind.{BadToken, NumberOutOfRange, StateDefinedTwice, LimitPassed}
-use Rattle.ltl_spec.specs.Hoa.HoaFault as spec
-use Rattle.ltl_spec.specs.Hoa.HoaFault.{Before, Step, LabelPart, LabelParts, in_body, if_below, whole}
+use Rattle.ltl_spec.specs.Hoa.HoaPlace as spec
+use Rattle.ltl_spec.specs.Hoa.HoaStep as table
+use Rattle.ltl_spec.specs.Hoa.HoaPlace.{Before, LabelPart, LabelParts, whole}
+use Rattle.ltl_spec.specs.Hoa.HoaStep.{Step, in_body, if_below}
 use Rattle.ltl_spec.proofs.Collections.Orders.{nat_linear}
 use Rattle.ltl_spec.proofs.Collections.SetLaws.{same_members, IsRising-set_of, IsRising-put, set_of_cases, Has-set_of, put_cases, Has-put, append_cases, append_left, append_right}
 use Rattle.ltl_hoa.specs.declared.place.Place.{Place}
@@ -25,7 +27,7 @@ use Rattle.ltl_hoa.specs.NumberView.{capped}
 use Rattle.ltl_hoa.specs.LabelView as label
 use Rattle.ltl_hoa.specs.BodyView as view
 use Rattle.ltl_hoa.specs.BodyView.{BodyView, Led}
-use Rattle.ltl_hoa.specs.Shown.{Came, CameEdge, ShowsBody, ShowsBodyPlace, AreAt, AreFiled, AreOpen, is_open, first_or, with_set, cube_edges, edges_of, shown_label, shown_part, shown_around, sign_within, came_in}
+use Rattle.ltl_hoa.specs.Shown.{Came, CameEdge, IsShown, ShowsBody, ShowsBodyPlace, AreAt, AreFiled, AreOpen, is_open, first_or, with_set, cube_edges, edges_of, shown_label, shown_part, shown_around, sign_within, came_in}
 use Rattle.ltl_hoa.proofs.StepLaws.{capped_under, below_small}
 use Rattle.ltl_hoa.proofs.LabelLaws.{shows_begun, shows_negated, shows_opened, shows_constant, shows_number, shows_alternative, part_whole, narrow_is}
 
@@ -45,23 +47,6 @@ AgreesAt (Err k) (Err j) b g = k ≡ j
 if_at : (c : Bool) (x x' : Led) (y y' : Step) (b : Before) (g : Came) → AgreesAt x y b g → AgreesAt x' y' b g → AgreesAt (if c then x else x') (if c then y else y') b g
 if_at true x x' y y' b g a n = a
 if_at false x x' y y' b g a n = n
-
--- the same body at another place
-moved : (v : BodyView) (p q : spec.BodyPlace) (b : Before) (g : Came) → is_open p ≡ is_open q → ShowsBody v p b g → ShowsBody v q (record b { place = spec.InBody q }) g
-moved v p q b g o s = record {
-  states = s.states;
-  few_states = s.few_states;
-  sets = s.sets;
-  names = s.names;
-  well = s.well;
-  defined = s.defined;
-  counted = s.counted;
-  at = s.at;
-  made = s.made;
-  marks = s.marks;
-  cubes = s.cubes;
-  edges = subst (λ c. AreAt c v g.edges) o s.edges;
-}
 
 -- a set with one number more
 put_last : (ks : List ℕ) (k : ℕ) → set_of nat_cmp (ks ++ k ∷ []) ≡ put nat_cmp k (set_of nat_cmp ks)
@@ -89,37 +74,21 @@ numbered n count o x y b g e few f =
 
 module _ (v : BodyView) (p : spec.BodyPlace) (b : Before) (g : Came) (s : ShowsBody v p b g) where
   small_sets : v.counts.sets ≤ stated_limits.hoa_edges
-  small_sets = let m = s.well.1 in omega (arith, m)
+  small_sets = let m = s.counts.well.1 in omega (arith, m)
 
   small_names : v.counts.names ≤ stated_limits.hoa_edges
-  small_names = let m = s.well.0 in omega (arith, m)
+  small_names = let m = s.counts.well.0 in omega (arith, m)
 
   small_states : v.counts.states ≤ stated_limits.hoa_edges
-  small_states = let m = s.few_states in omega (arith, m)
+  small_states = let m = s.counts.few_states in omega (arith, m)
 
   to_place : (q : BodyPlace) (r : spec.BodyPlace) → is_open p ≡ is_open r → ShowsBodyPlace q v r → AgreesAt (Ok (place.Body q, v)) (in_body b r) b g
-  to_place q r o w = ((w, moved v p r b g o s), refl)
+  to_place q r o w = ((w, subst (λ c. IsShown v c b.header b.numbers b.edges g) o s), refl)
 
   module _ (o : is_open p ≡ false) where
-    pub at_state : (t : HoaToken) → AgreesAt (view.at_state v t) (spec.at_state b t) b g
+    pub at_state : (t : HoaToken) → AgreesAt (view.at_state v t) (table.at_state b t) b g
     at_state (token.Header name) = if_at (same_name name (codes "State")) _ _ _ _ b g (to_place at.Number spec.AtNumber o tt) refl
-    at_state token.End = (moved_end, refl)
-      where
-        moved_end : ShowsBody v spec.AtState (record b { place = spec.AtEnd }) g
-        moved_end = record {
-          states = s.states;
-          few_states = s.few_states;
-          sets = s.sets;
-          names = s.names;
-          well = s.well;
-          defined = s.defined;
-          counted = s.counted;
-          at = s.at;
-          made = s.made;
-          marks = s.marks;
-          cubes = s.cubes;
-          edges = subst (λ c. AreAt c v g.edges) o s.edges;
-        }
+    at_state token.End = (subst (λ c. IsShown v c b.header b.numbers b.edges g) o s, refl)
     at_state t = refl
 
     with_label : (x : label.LabelView) (q : BodyPlace) (r : spec.BodyPlace) → is_open r ≡ false → ShowsBodyPlace q (record v { label = x }) r → AgreesAt (Ok (place.Body q, record v { label = x })) (in_body b r) b g
@@ -127,14 +96,9 @@ module _ (v : BodyView) (p : spec.BodyPlace) (b : Before) (g : Came) (s : ShowsB
       (
         w,
         record {
+          counts = s.counts;
           states = s.states;
-          few_states = s.few_states;
-          sets = s.sets;
-          names = s.names;
-          well = s.well;
-          defined = s.defined;
-          counted = s.counted;
-          at = s.at;
+          placed = s.placed;
           made = s.made;
           marks = s.marks;
           cubes = s.cubes;
@@ -144,36 +108,31 @@ module _ (v : BodyView) (p : spec.BodyPlace) (b : Before) (g : Came) (s : ShowsB
       refl,
     )
 
-    pub at_edge : (t : HoaToken) → AgreesAt (view.at_edge v t) (spec.at_edge b t) b g
+    pub at_edge : (t : HoaToken) → AgreesAt (view.at_edge v t) (table.at_edge b t) b g
     at_edge token.OpenLabel = with_label label.new_label at.Operand (spec.AtOperand (record { inner = spec.empty_part; around = [] })) refl shows_begun
     at_edge (token.Int n) = refl
     at_edge t = at_state t
 
-    pub after_name : (t : HoaToken) → AgreesAt (view.after_name v t) (spec.after_name b t) b g
+    pub after_name : (t : HoaToken) → AgreesAt (view.after_name v t) (table.step_in_body stated_limits spec.AfterName b t) b g
     after_name token.OpenSets = to_place at.StateSets spec.InStateSets o tt
     after_name t = at_edge t
 
-    pub after_number : (t : HoaToken) → AgreesAt (view.after_number v t) (spec.after_number b t) b g
+    pub after_number : (t : HoaToken) → AgreesAt (view.after_number v t) (table.step_in_body stated_limits spec.AfterNumber b t) b g
     after_number (token.StringToken n) = to_place at.AfterName spec.AfterName o tt
     after_number t = after_name t
 
 -- ---- sets and numbers of states
 
 pub state_sets : (v : BodyView) (b : Before) (g : Came) → b.place ≡ spec.InBody spec.InStateSets → ShowsBody v spec.InStateSets b g → (t : HoaToken)
-    → AgreesAt (view.in_state_sets v t) (spec.in_sets b t) b (came_in spec.InStateSets b t g)
+    → AgreesAt (view.take at.StateSets v t) (table.step_in_body stated_limits spec.InStateSets b t) b (came_in spec.InStateSets b t g)
 state_sets v b g e s (token.Int n) =
-    numbered n v.counts.sets b.header.sets (Ok (place.Body at.StateSets, record v { sets = put nat_cmp (capped n) v.sets })) (Ok b) b (record g { sets = g.sets ++ n ∷ [] }) s.sets (small_sets v spec.InStateSets b g s) (λ q. (
+    numbered n v.counts.sets b.header.sets (Ok (place.Body at.StateSets, record v { sets = put nat_cmp (capped n) v.sets })) (Ok b) b (record g { sets = g.sets ++ n ∷ [] }) s.counts.sets (small_sets v spec.InStateSets b g s) (λ q. (
       subst (λ pl. IsAt (place.Body at.StateSets) (record v { sets = put nat_cmp (capped n) v.sets }) pl b (record g { sets = g.sets ++ n ∷ [] })) (sym e) (
         tt,
         record {
+          counts = s.counts;
           states = s.states;
-          few_states = s.few_states;
-          sets = s.sets;
-          names = s.names;
-          well = s.well;
-          defined = s.defined;
-          counted = s.counted;
-          at = s.at;
+          placed = s.placed;
           made = s.made;
           cubes = s.cubes;
           edges = s.edges;
@@ -210,18 +169,18 @@ set_get (x ∷ xs) (suc i) (suc k) y d l = set_get xs i k y d (below i (length x
 set_length : {T : Type 0} (xs : List T) (i : ℕ) (y : T) → length (slice_set xs i y) ≡ length xs
 set_length xs i y = length-set xs i y
 
-pub number : (v : BodyView) (b : Before) (g : Came) → ShowsBody v spec.AtNumber b g → (t : HoaToken) → AgreesAt (view.at_number v t) (spec.at_number b t) b (came_in spec.AtNumber b t g)
+pub number : (v : BodyView) (b : Before) (g : Came) → ShowsBody v spec.AtNumber b g → (t : HoaToken) → AgreesAt (view.take at.Number v t) (table.step_in_body stated_limits spec.AtNumber b t) b (came_in spec.AtNumber b t g)
 number v b g s (token.Int n) =
     numbered n v.counts.states b.header.states
     (if slice_index_or v.defined (capped n) false then Err StateDefinedTwice else Ok (place.Body at.AfterNumber, record v { defined = slice_set v.defined (capped n) true; at = capped n; sets = [] }))
-    (if list_any (λ m. m == n) b.numbers then Err StateDefinedTwice else Ok (record b { place = spec.InBody spec.AfterNumber; numbers = n ∷ b.numbers })) b (record g { sets = [] }) s.states (small_states v spec.AtNumber b g s)
+    (if list_any (λ m. m == n) b.numbers then Err StateDefinedTwice else Ok (record b { place = spec.InBody spec.AfterNumber; numbers = n ∷ b.numbers })) b (record g { sets = [] }) s.counts.states (small_states v spec.AtNumber b g s)
     (λ q.
     let below = ltb-true n v.counts.states q in
     subst (λ k. AgreesAt (if slice_index_or v.defined k false then Err StateDefinedTwice else Ok (place.Body at.AfterNumber, record v { defined = slice_set v.defined k true; at = k; sets = [] }))
     (if list_any (λ m. m == n) b.numbers then Err StateDefinedTwice else Ok (record b { place = spec.InBody spec.AfterNumber; numbers = n ∷ b.numbers })) b (record g { sets = [] }))
     (sym (below_small n v.counts.states (small_states v spec.AtNumber b g s) q))
     (subst (λ c. AgreesAt (if slice_index_or v.defined n false then Err StateDefinedTwice else Ok (place.Body at.AfterNumber, record v { defined = slice_set v.defined n true; at = n; sets = [] }))
-    (if c then Err StateDefinedTwice else Ok (record b { place = spec.InBody spec.AfterNumber; numbers = n ∷ b.numbers })) b (record g { sets = [] })) (s.defined n below)
+    (if c then Err StateDefinedTwice else Ok (record b { place = spec.InBody spec.AfterNumber; numbers = n ∷ b.numbers })) b (record g { sets = [] })) (s.states.stood n below)
     (if_at (slice_index_or v.defined n false) _ _ _ _ b (record g { sets = [] }) refl (defined below))))
   where
     defined : n < v.counts.states → AgreesAt (Ok (place.Body at.AfterNumber, record v { defined = slice_set v.defined n true; at = n; sets = [] }))
@@ -230,20 +189,19 @@ number v b g s (token.Int n) =
       (
         tt,
         record {
-          states = s.states;
-          few_states = s.few_states;
-          sets = s.sets;
-          names = s.names;
-          well = s.well;
+          counts = s.counts;
           made = s.made;
           marks = refl;
           cubes = s.cubes;
           edges = s.edges;
-          defined = λ k l.
-              let within : n < length v.defined = let c = s.counted.0 in omega (arith, below, c) in
-              set_get v.defined n k true false within ∙ either (n == k) (slice_index_or v.defined k false) ∙ ap (λ c. (n == k) || c) (s.defined k l);
-          counted = (set_length v.defined n true ∙ s.counted.0, s.counted.1);
-          at = (refl, below);
+          placed = s.placed;
+          states = record {
+            stood = λ k l.
+                let within : n < length v.defined = let c = s.states.counted in omega (arith, below, c) in
+                set_get v.defined n k true false within ∙ either (n == k) (slice_index_or v.defined k false) ∙ ap (λ c. (n == k) || c) (s.states.stood k l);
+            counted = set_length v.defined n true ∙ s.states.counted;
+            last = (refl, below);
+          };
         },
       ),
       refl,
@@ -257,39 +215,38 @@ number v b g s t = refl
 
 -- ---- labels
 
-pub operand : (v : BodyView) (q : LabelParts) (b : Before) (g : Came) → v.label ≡ shown_label q → ShowsBody v (spec.AtOperand q) b g → (t : HoaToken) → AgreesAt (view.at_operand v t) (spec.at_operand b q t) b g
-operand v q b g w s token.NotSign = with_label v (spec.AtOperand q) b g s refl (label.negate_inner v.label) at.Operand (spec.AtOperand _) refl (ap label.negate_inner w ∙ sym (shows_negated q))
-operand v q b g w s token.OpenBracket = with_label v (spec.AtOperand q) b g s refl (label.open_bracket v.label) at.Operand (spec.AtOperand _) refl (ap label.open_bracket w ∙ sym (shows_opened q))
+-- behind an operand
+abbrev behind : LabelParts → Label → spec.BodyPlace
+behind q a = spec.AfterOperand (record q { inner = spec.with_operand q.inner a })
+
+pub operand : (v : BodyView) (q : LabelParts) (b : Before) (g : Came) → v.label ≡ shown_label q → ShowsBody v (spec.AtOperand q) b g → (t : HoaToken) → AgreesAt (view.take at.Operand v t) (table.step_in_body stated_limits (spec.AtOperand q) b t) b g
+operand v q b g w s token.NotSign = with_label v (spec.AtOperand q) b g s refl (label.negate_inner v.label) at.Operand (spec.AtOperand (record q { inner = record q.inner { negations = q.inner.negations + 1 } })) refl (ap label.negate_inner w ∙ sym (shows_negated q))
+operand v q b g w s token.OpenBracket = with_label v (spec.AtOperand q) b g s refl (label.open_bracket v.label) at.Operand (spec.AtOperand (record { inner = spec.empty_part; around = q.inner ∷ q.around })) refl (ap label.open_bracket w ∙ sym (shows_opened q))
 operand v q b g w s (token.Int n) =
-    numbered n v.counts.names (option_map length b.header.names) (Ok (place.Body at.AfterOperand, record v { label = label.take_proposition v.label (capped n) })) (spec.operand b q (NumberLabel n)) b g s.names (small_names v (spec.AtOperand q) b g s) (λ c.
-    subst (λ k. AgreesAt (Ok (place.Body at.AfterOperand, record v { label = label.take_proposition v.label k })) (spec.operand b q (NumberLabel n)) b g) (sym (below_small n v.counts.names (small_names v (spec.AtOperand q) b g s) c))
-    (with_label v (spec.AtOperand q) b g s refl (label.take_proposition v.label n) at.AfterOperand (spec.AfterOperand _) refl (ap (λ x. label.take_proposition x n) w ∙ sym (shows_number q n))))
+    numbered n v.counts.names (option_map length b.header.names) (Ok (place.Body at.AfterOperand, record v { label = label.take_proposition v.label (capped n) })) (table.operand b q (NumberLabel n)) b g s.counts.names (small_names v (spec.AtOperand q) b g s) (λ c.
+    subst (λ k. AgreesAt (Ok (place.Body at.AfterOperand, record v { label = label.take_proposition v.label k })) (table.operand b q (NumberLabel n)) b g) (sym (below_small n v.counts.names (small_names v (spec.AtOperand q) b g s) c))
+    (with_label v (spec.AtOperand q) b g s refl (label.take_proposition v.label n) at.AfterOperand (behind q (NumberLabel n)) refl (ap (λ x. label.take_proposition x n) w ∙ sym (shows_number q n))))
 operand v q b g w s (token.Identifier name) =
-    if_at (same_name name (codes "t")) _ _ _ _ b g (with_label v (spec.AtOperand q) b g s refl (label.take_constant v.label true) at.AfterOperand (spec.AfterOperand _) refl (ap (λ x. label.take_constant x true) w ∙ sym (shows_constant q true)))
-    (if_at (same_name name (codes "f")) _ _ _ _ b g (with_label v (spec.AtOperand q) b g s refl (label.take_constant v.label false) at.AfterOperand (spec.AfterOperand _) refl (ap (λ x. label.take_constant x false) w ∙ sym (shows_constant q false))) refl)
+    if_at (same_name name (codes "t")) _ _ _ _ b g (with_label v (spec.AtOperand q) b g s refl (label.take_constant v.label true) at.AfterOperand (behind q (ConstantLabel true)) refl (ap (λ x. label.take_constant x true) w ∙ sym (shows_constant q true)))
+    (if_at (same_name name (codes "f")) _ _ _ _ b g (with_label v (spec.AtOperand q) b g s refl (label.take_constant v.label false) at.AfterOperand (behind q (ConstantLabel false)) refl (ap (λ x. label.take_constant x false) w ∙ sym (shows_constant q false))) refl)
 operand v q b g w s t = refl
 
 -- ---- edges
 
-pub target : (v : BodyView) (b : Before) (g : Came) → ShowsBody v spec.AtTarget b g → (t : HoaToken) → AgreesAt (view.at_target v t) (spec.at_target b t) b (came_in spec.AtTarget b t g)
+pub target : (v : BodyView) (b : Before) (g : Came) → ShowsBody v spec.AtTarget b g → (t : HoaToken) → AgreesAt (view.take at.Target v t) (table.step_in_body stated_limits spec.AtTarget b t) b (came_in spec.AtTarget b t g)
 target v b g s (token.Int n) =
     let h : Came = record g { edges = record { state = first_or 0 b.numbers; cubes = g.cubes; target = n; sets = g.sets } ∷ g.edges } in
-    numbered n v.counts.states b.header.states (Ok (place.Body at.AfterTarget, record v { target = capped n; own = v.sets })) (in_body b spec.AfterTarget) b h s.states (small_states v spec.AtTarget b g s) (λ q. (
+    numbered n v.counts.states b.header.states (Ok (place.Body at.AfterTarget, record v { target = capped n; own = v.sets })) (in_body b spec.AfterTarget) b h s.counts.states (small_states v spec.AtTarget b g s) (λ q. (
       (
         tt,
         record {
+          counts = s.counts;
           states = s.states;
-          few_states = s.few_states;
-          sets = s.sets;
-          names = s.names;
-          well = s.well;
-          defined = s.defined;
-          counted = s.counted;
-          at = s.at;
+          placed = s.placed;
           made = s.made;
           marks = s.marks;
           cubes = s.cubes;
-          edges = (s.edges, s.at.0, s.cubes, sym (below_small n v.counts.states (small_states v spec.AtTarget b g s) q), s.marks);
+          edges = (s.edges, s.states.last.0, s.cubes, sym (below_small n v.counts.states (small_states v spec.AtTarget b g s) q), s.marks);
         },
       ),
       refl,
@@ -321,41 +278,31 @@ now_filed v (e ∷ es) c l o = λ k m.
 
 filed_shows : (v : BodyView) (p q : spec.BodyPlace) (b : Before) (g : Came) → is_open p ≡ true → is_open q ≡ false → ShowsBody v p b g → ShowsBody (view.filed v) q b g
 filed_shows v p q b g o c s = record {
+  counts = s.counts;
   states = s.states;
-  few_states = s.few_states;
-  sets = s.sets;
-  names = s.names;
-  well = s.well;
-  defined = s.defined;
-  at = s.at;
   made = s.made;
   marks = s.marks;
   cubes = s.cubes;
-  counted = (s.counted.0, set_length v.edges v.at _ ∙ s.counted.1);
-  edges = subst (λ x. AreAt x (view.filed v) g.edges) (sym c) (now_filed v g.edges s.counted.1 s.at.1 (subst (λ x. AreAt x v g.edges) o s.edges));
+  placed = set_length v.edges v.at _ ∙ s.placed;
+  edges = subst (λ x. AreAt x (view.filed v) g.edges) (sym c) (now_filed v g.edges s.placed s.states.last.1 (subst (λ x. AreAt x v g.edges) o s.edges));
 }
 
-pub behind_target : (v : BodyView) (b : Before) (g : Came) → ShowsBody v spec.AfterTarget b g → (t : HoaToken) → AgreesAt (view.after_target v t) (spec.after_target b t) b g
+pub behind_target : (v : BodyView) (b : Before) (g : Came) → ShowsBody v spec.AfterTarget b g → (t : HoaToken) → AgreesAt (view.after_target v t) (table.step_in_body stated_limits spec.AfterTarget b t) b g
 behind_target v b g s token.AndSign = refl
 behind_target v b g s token.OpenSets = to_place v spec.AfterTarget b g s at.EdgeSets spec.InEdgeSets refl tt
 behind_target v b g s t = at_edge (view.filed v) spec.AtEdge b g (filed_shows v spec.AfterTarget spec.AtEdge b g refl refl s) refl t
 
 pub edge_sets : (v : BodyView) (b : Before) (g : Came) → b.place ≡ spec.InBody spec.InEdgeSets → ShowsBody v spec.InEdgeSets b g → (t : HoaToken)
-    → AgreesAt (view.in_edge_sets v t) (spec.in_sets b t) b (came_in spec.InEdgeSets b t g)
+    → AgreesAt (view.take at.EdgeSets v t) (table.step_in_body stated_limits spec.InEdgeSets b t) b (came_in spec.InEdgeSets b t g)
 edge_sets v b g e s (token.Int n) =
     let h : Came = record g { edges = with_set n g.edges } in
-    numbered n v.counts.sets b.header.sets (Ok (place.Body at.EdgeSets, record v { own = put nat_cmp (capped n) v.own })) (Ok b) b h s.sets (small_sets v spec.InEdgeSets b g s) (λ q. (
+    numbered n v.counts.sets b.header.sets (Ok (place.Body at.EdgeSets, record v { own = put nat_cmp (capped n) v.own })) (Ok b) b h s.counts.sets (small_sets v spec.InEdgeSets b g s) (λ q. (
       subst (λ pl. IsAt (place.Body at.EdgeSets) (record v { own = put nat_cmp (capped n) v.own }) pl b h) (sym e) (
         tt,
         record {
+          counts = s.counts;
           states = s.states;
-          few_states = s.few_states;
-          sets = s.sets;
-          names = s.names;
-          well = s.well;
-          defined = s.defined;
-          counted = s.counted;
-          at = s.at;
+          placed = s.placed;
           made = s.made;
           marks = s.marks;
           cubes = s.cubes;
@@ -375,10 +322,10 @@ edge_sets v b g e s t = refl
 
 -- the end of a label, by its cubes
 label_ends : (v : BodyView) (inner : LabelPart) (b : Before) (g : Came) → v.label ≡ shown_label (record { inner = inner; around = [] }) → ShowsBody v (spec.AfterOperand (record { inner = inner; around = [] })) b g
-    → AgreesAt (view.close_label v) (spec.close_label stated_limits b inner []) b (record g { cubes = label_cubes (whole inner) })
+    → AgreesAt (view.close_label v) (table.close_label stated_limits b inner []) b (record g { cubes = label_cubes (whole inner) })
 label_ends v inner b g w s =
-    subst (λ x. AgreesAt (if not (label.is_closed x) then Err BadToken else view.close_with (record v { label = label.spent v.label }) (label.whole v.label.inner)) (spec.close_label stated_limits b inner []) b h) (sym w)
-    (subst (λ o. AgreesAt (view.close_with (record v { label = label.spent v.label }) o) (spec.close_label stated_limits b inner []) b h) (sym cubes_is) (go (is_wide stated_limits.label_cubes (whole inner))))
+    subst (λ x. AgreesAt (if not (label.is_closed x) then Err BadToken else view.close_with (record v { label = label.spent v.label }) (label.whole v.label.inner)) (table.close_label stated_limits b inner []) b h) (sym w)
+    (subst (λ o. AgreesAt (view.close_with (record v { label = label.spent v.label }) o) (table.close_label stated_limits b inner []) b h) (sym cubes_is) (go (is_wide stated_limits.label_cubes (whole inner))))
   where
     h : Came
     h = record g { cubes = label_cubes (whole inner) }
@@ -397,14 +344,9 @@ label_ends v inner b g w s =
           (
             tt,
             record {
+              counts = s.counts;
               states = s.states;
-              few_states = s.few_states;
-              sets = s.sets;
-              names = s.names;
-              well = s.well;
-              defined = s.defined;
-              counted = s.counted;
-              at = s.at;
+              placed = s.placed;
               marks = s.marks;
               cubes = refl;
               edges = s.edges;
@@ -432,14 +374,14 @@ stays_open v inner p ps w = ap label.is_closed w ∙ some (shown_around ps)
         positive n = grind (arith, nat_tests)
 
 pub behind_operand : (v : BodyView) (q : LabelParts) (b : Before) (g : Came) → v.label ≡ shown_label q → ShowsBody v (spec.AfterOperand q) b g → (t : HoaToken) → (t ≡ token.CloseBracket → ⊥)
-    → AgreesAt (view.after_operand v t) (spec.after_operand stated_limits b q t) b (came_in (spec.AfterOperand q) b t g)
+    → AgreesAt (view.after_operand v t) (table.step_in_body stated_limits (spec.AfterOperand q) b t) b (came_in (spec.AfterOperand q) b t g)
 behind_operand v q b g w s token.AndSign n = to_place v (spec.AfterOperand q) b g s at.Operand (spec.AtOperand q) refl w
 behind_operand v q b g w s token.OrSign n =
-    with_label v (spec.AfterOperand q) b g s refl (label.take_alternative v.label) at.Operand (spec.AtOperand _) refl (ap label.take_alternative w ∙ sym (shows_alternative q))
+    with_label v (spec.AfterOperand q) b g s refl (label.take_alternative v.label) at.Operand (spec.AtOperand (record q { inner = record { sum = Some (whole q.inner); product = None; negations = 0 } })) refl (ap label.take_alternative w ∙ sym (shows_alternative q))
 behind_operand v q b g w s token.CloseLabel n = ends q.around w s
   where
     ends : (around : List LabelPart) → v.label ≡ shown_label (record { inner = q.inner; around = around }) → ShowsBody v (spec.AfterOperand (record { inner = q.inner; around = around })) b g
-        → AgreesAt (view.close_label v) (spec.close_label stated_limits b q.inner around) b (record g { cubes = label_cubes (whole q.inner) })
+        → AgreesAt (view.close_label v) (table.close_label stated_limits b q.inner around) b (record g { cubes = label_cubes (whole q.inner) })
     ends [] x y = label_ends v q.inner b g x y
     ends (p ∷ ps) x y =
         subst (λ c. AgreesAt (if not c then Err BadToken else view.close_with (record v { label = label.spent v.label }) (label.whole v.label.inner)) (Err BadToken) b (record g { cubes = label_cubes (whole q.inner) }))

@@ -7,11 +7,12 @@ use Rattle.ltl_spec.specs.Semantics.Word.{Name}
 use Rattle.ltl_spec.specs.Formulas.Tokens.{same_name}
 use Rattle.ltl_spec.specs.Formulas.Names.{is_proposition}
 use Rattle.ltl_spec.specs.Tools.Limits.{Limits}
-use Rattle.ltl_spec.specs.Hoa.HoaToken.{HoaToken, StringToken, Identifier, Header, Int, Body, CloseLabel, OpenBracket, CloseBracket, AndSign, OrSign, Unknown, UnclosedString, UnclosedComment}
+use Rattle.ltl_spec.specs.Hoa.HoaToken.{HoaToken, StringToken, Identifier, Header, Int, Body, CloseLabel, OpenBracket, CloseBracket, AndSign, OrSign}
 use Rattle.ltl_spec.specs.Hoa.HoaLabel.{Label, ConstantLabel, NumberLabel, NotLabel, BracketLabel, AndLabel, OrLabel, label_tokens}
 use Rattle.ltl_spec.specs.Hoa.HoaReading.{AcceptanceForm, HoaHeaderItem, StatesItem, StartItem, SetsItem, NamesItem, OtherItem, header_item_tokens, is_item, is_plain, begins_upper, set_tokens, acceptance_tokens, is_read}
-use Rattle.ltl_spec.specs.Hoa.HoaFaultKind.{HoaFaultKind, NotHoaVersion1, BadToken, ItemTwice, UnknownItem, Unsupported, NumberOutOfRange, BadPropositionList, LimitPassed}
-use Rattle.ltl_spec.specs.Hoa.HoaFault.{Before, LabelPart, LabelParts, Place, AtFormat, AtVersion, AtStates, AtStart, AtCount, AtSets, AtEnd, AtNames, InAcceptance, AtItem, InBody, ItemBefore, PlainItem, StartNumber, ListedNames, Acceptance, OtherItem, AtOperand, AfterOperand, Step, step, go_to, operand, is_token, unread_sets, begin_item, begin_once, go_on, expect, with_names, close_bracket, at_item, in_acceptance, unless_broken}
+use Rattle.ltl_spec.specs.Hoa.HoaFaultKind.{NotHoaVersion1, BadToken, ItemTwice, UnknownItem, Unsupported, NumberOutOfRange, BadPropositionList, LimitPassed}
+use Rattle.ltl_spec.specs.Hoa.HoaPlace.{Before, LabelPart, LabelParts, Place, AtFormat, AtVersion, AtStates, AtStart, AtCount, AtSets, AtEnd, AtNames, InAcceptance, AtItem, InBody, ItemBefore, PlainItem, StartNumber, ListedNames, Acceptance, OtherItem, AtOperand, AfterOperand}
+use Rattle.ltl_spec.specs.Hoa.HoaStep.{Step, step, go_to, operand, is_token, unread_sets, begin_item, begin_once, go_on, expect, with_names, close_bracket, unless_broken}
 use Rattle.ltl_spec.proofs.Hoa.HoaLabelLaws.{token_step, run}
 use Rattle.ltl_spec.proofs.Collections.CaseLaws.{left_true, right_true}
 use Rattle.ltl_spec.proofs.Collections.MemberLaws.{all_append}
@@ -147,22 +148,16 @@ module _ (l : Limits) (form : AcceptanceForm) where
       by_name b (same_name name (codes "HOA")) (same_name name (codes "States")) (same_name name (codes "Start")) (same_name name (codes "AP")) (same_name name (codes "Acceptance"))
       (same_name name (codes "Alias")) (begins_upper name) (is_some b.header.states) (is_some b.header.start) (is_some b.header.names) (is_some b.header.sets)
 
-  broken_stays : (t : HoaToken) (kind : HoaFaultKind) → StaysInHeader (unless_broken t kind)
-  broken_stays Unknown kind = tt
-  broken_stays UnclosedString kind = tt
-  broken_stays UnclosedComment kind = tt
-  broken_stays t kind = tt
-
   go_on_stays : (b : Before) (before : ItemBefore) (t : HoaToken) → StaysInHeader (go_on b before t)
   go_on_stays b PlainItem t = tt
   go_on_stays b StartNumber AndSign = tt
   go_on_stays b StartNumber t = tt
   go_on_stays b ListedNames (StringToken s) = tt
   go_on_stays b ListedNames t = tt
-  go_on_stays b Acceptance t = broken_stays t Unsupported
+  go_on_stays b Acceptance t = tt
   go_on_stays b OtherItem t = header_if (is_plain t) (go_to b (AtItem OtherItem)) (Err BadToken) tt tt
 
-  item_stays : (b : Before) (before : ItemBefore) (t : HoaToken) → IsTrue (keeps_header t) → StaysInHeader (at_item b before t)
+  item_stays : (b : Before) (before : ItemBefore) (t : HoaToken) → IsTrue (keeps_header t) → StaysInHeader (step l form (AtItem before) b t)
   item_stays b before (Header name) e = begin_stays b name
   item_stays b before Body e = cc
   item_stays b before t e = go_on_stays b before t
@@ -174,9 +169,9 @@ module _ (l : Limits) (form : AcceptanceForm) where
   expect_stays b [] = tt
   expect_stays b (t ∷ ts) = tt
 
-  acceptance_stays : (b : Before) (ts : List HoaToken) (t : HoaToken) → StaysInHeader (in_acceptance b ts t)
-  acceptance_stays b [] t = broken_stays t Unsupported
-  acceptance_stays b (wanted ∷ ts) t = header_if (is_token wanted t) (expect b ts) (unless_broken t Unsupported) (expect_stays b ts) (broken_stays t Unsupported)
+  acceptance_stays : (b : Before) (ts : List HoaToken) (t : HoaToken) → StaysInHeader (step l form (InAcceptance ts) b t)
+  acceptance_stays b [] t = tt
+  acceptance_stays b (wanted ∷ ts) t = header_if (is_token wanted t) (expect b ts) (Err (unless_broken t Unsupported)) (expect_stays b ts) tt
 
   states_stay : (b : Before) (t : HoaToken) → StaysInHeader (step l form AtStates b t)
   states_stay b (Int n) = header_if (nat_lt l.hoa_states n) (Err LimitPassed) (Ok (record b { place = AtItem PlainItem; header = record b.header { states = Some n } })) tt tt
@@ -194,14 +189,14 @@ module _ (l : Limits) (form : AcceptanceForm) where
   listed_stay b left (StringToken name) =
       let names = unwrap_or b.header.names [] in
       header_if (is_proposition name && not (list_any (same_name name) names)) (with_names b (names ++ name ∷ []) (left - 1)) (Err BadPropositionList) (names_stay b (names ++ name ∷ []) (left - 1)) tt
-  listed_stay b left t = broken_stays t BadPropositionList
+  listed_stay b left t = tt
 
   sets_stay : (b : Before) (t : HoaToken) → StaysInHeader (step l form AtSets b t)
   sets_stay b (Int n) =
       let c = record b { header = record b.header { sets = Some n } } in
       let ts = drop 1 (acceptance_tokens n) in
       header_if (is_read form n) (expect c ts) (Err (unread_sets form)) (expect_stays c ts) tt
-  sets_stay b t = broken_stays t Unsupported
+  sets_stay b t = tt
 
   header_stays : (place : Place) (b : Before) (t : HoaToken) (g : Came) → IsInHeader place → IsTrue (keeps_header t)
       → StaysInHeader (step l form place b t) × (came_at place b t g ≡ g)

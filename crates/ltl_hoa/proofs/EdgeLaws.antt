@@ -15,8 +15,11 @@ use Rattle.ltl_spec.specs.Hoa.HoaToken.{HoaToken, HoaItem, hoa_items, Header, In
 use Rattle.ltl_spec.specs.Hoa.HoaLabel.{Label, label_tokens, label_cubes, is_grouped, has_names_below, is_wide}
 use Rattle.ltl_spec.specs.Hoa.HoaReading.{AcceptanceForm, stated_form, WrittenEdge, WrittenState, HoaDocument, header_item_tokens, sets_tokens, name_tokens, edge_tokens, state_tokens, document_tokens, cube_edges, state_edges, edges_at, MarkedAutomaton, are_sets, is_edge_inside, is_state_inside, IsDocumentOf, IsWithin, HoaReadsWithin}
 use Rattle.ltl_spec.specs.Hoa.HoaFaultKind.{NumberOutOfRange, StateDefinedTwice, LimitPassed}
-use Rattle.ltl_spec.specs.Hoa.HoaFault as spec
-use Rattle.ltl_spec.specs.Hoa.HoaFault.{BodyPlace, AtState, AtNumber, AfterNumber, AfterName, InStateSets, AtEdge, AtTarget, AfterTarget, InEdgeSets, AtOperand, AfterOperand, InBody, AtItem, PlainItem, AtEnd, Before, before_all, Step, step, whole, empty_part, no_header, take_item, with_line}
+use Rattle.ltl_spec.specs.Hoa.HoaPlace as spec
+use Rattle.ltl_spec.specs.Hoa.HoaFault as fault
+use Rattle.ltl_spec.specs.Hoa.HoaPlace.{BodyPlace, AtState, AtNumber, AfterNumber, AfterName, InStateSets, AtEdge, AtTarget, AfterTarget, InEdgeSets, AtOperand, AfterOperand, InBody, AtItem, PlainItem, AtEnd, Before, before_all, whole, empty_part, no_header}
+use Rattle.ltl_spec.specs.Hoa.HoaStep.{Step, step}
+use Rattle.ltl_spec.specs.Hoa.HoaFault.{take_item, with_line}
 use Rattle.ltl_spec.proofs.Hoa.HoaLabelLaws.{parts, label_taken}
 use Rattle.ltl_spec.proofs.Hoa.HoaHeaderLaws.{at, whole_header, not_true, IsHeader, Fits, items_run, new_names}
 use Rattle.ltl_spec.proofs.Hoa.HoaBodyLaws.{begins_edge, begins_state, body, one_edge, is_narrow, count_edges}
@@ -324,14 +327,14 @@ module _ (l : Limits) (form : AcceptanceForm) (A : MarkedAutomaton) where
       from_zero n k m = omega (arith, m)
 
 -- what the items come to, their tokens come to
-abbrev step_of : Result Before spec.HoaFault → Step
+abbrev step_of : Result Before fault.HoaFault → Step
 step_of (Ok b) = Ok b
 step_of (Err f) = Err f.kind
 
-fault_stays : (whole : List ℕ) (items : List HoaItem) (f : spec.HoaFault) (g : Came) (c : Before) (h : Came) → fold (reach whole) (Err f, g) items ≡ (Ok c, h) → ⊥
+fault_stays : (whole : List ℕ) (items : List HoaItem) (f : fault.HoaFault) (g : Came) (c : Before) (h : Came) → fold (reach whole) (Err f, g) items ≡ (Ok c, h) → ⊥
 fault_stays whole [] f g c h e = not_ok (ap (λ (r : Reached). r.0) e)
   where
-    not_ok : ◌≡◌ {A = Result Before spec.HoaFault} (Err f) (Ok c) → ⊥
+    not_ok : ◌≡◌ {A = Result Before fault.HoaFault} (Err f) (Ok c) → ⊥
     not_ok q = cc
 fault_stays whole (i ∷ items) f g c h e = fault_stays whole items f g c h e
 

@@ -10,8 +10,11 @@ use Rattle.ltl_spec.specs.Tools.Limits.{stated_limits}
 use Rattle.ltl_spec.specs.Hoa.HoaToken.{HoaItem, hoa_items, last_line}
 use Rattle.ltl_spec.specs.Hoa.HoaReading.{stated_form}
 use Rattle.ltl_spec.specs.Hoa.HoaFaultKind.{HoaFaultKind, NotHoaVersion1, BadToken, LimitPassed}
-use Rattle.ltl_spec.specs.Hoa.HoaFault as spec
-use Rattle.ltl_spec.specs.Hoa.HoaFault.{Before, before_all, take_item, with_line, fault_after, end_fault, fault_at, hoa_fault}
+use Rattle.ltl_spec.specs.Hoa.HoaPlace as spec
+use Rattle.ltl_spec.specs.Hoa.HoaStep as table
+use Rattle.ltl_spec.specs.Hoa.HoaFault as fault
+use Rattle.ltl_spec.specs.Hoa.HoaPlace.{Before, before_all}
+use Rattle.ltl_spec.specs.Hoa.HoaFault.{take_item, with_line, fault_after, end_fault, fault_at, hoa_fault}
 use Rattle.ltl_hoa.specs.declared.machine.Found.{Found}
 use Rattle.ltl_hoa.specs.declared.place.Place.{Place}
 use Rattle.ltl_hoa.specs.declared.place.Place.TheVariants as place
@@ -27,7 +30,7 @@ use Rattle.ltl_hoa.specs.Reading.{Reached, reach, reached, fault_of, IsSound, Is
 use Rattle.ltl_hoa.proofs.LexLaws.{lexer_last}
 use Rattle.ltl_hoa.proofs.MachineLaws.{TokenShown, token_shown, reached_more, first_reached}
 
-after_fault : (whole : List ℕ) (f : spec.HoaFault) (items : List HoaItem) → fold (take_item stated_limits stated_form whole) (Err f) items ≡ Err f
+after_fault : (whole : List ℕ) (f : fault.HoaFault) (items : List HoaItem) → fold (take_item stated_limits stated_form whole) (Err f) items ≡ Err f
 after_fault whole f [] = refl
 after_fault whole f (i ∷ items) = after_fault whole f items
 
@@ -51,41 +54,16 @@ fault_met f text l s =
     fold-append (take_item stated_limits stated_form text) (Ok before_all) s.items r.0 ∙ ap (λ x. fold (take_item stated_limits stated_form text) x r.0) (s.faulty text) ∙ after_fault text (fault_of f) r.0)
 
 -- the line of a fault at the last token
-place_line : (q : Place) (pl : spec.Place) (k : TokenKind) (text : List ℕ) (start last : ℕ) (v : ParserView) (b : Before) (g : Came) → ShowsPlace q v pl b g → fault_line q k start last ≡ spec.fault_line pl (token_of k text) start last
-place_line place.End spec.AtEnd kind.UnclosedComment text start last v b g s = refl
-place_line place.End spec.AtEnd kind.UnclosedText text start last v b g s = refl
-place_line place.End spec.AtEnd k text start last v b g s = refl
-place_line place.Format spec.AtFormat kind.UnclosedText text start last v b g s = refl
-place_line place.Format spec.AtFormat kind.UnclosedComment text start last v b g s = refl
-place_line place.Format spec.AtFormat k text start last v b g s = refl
-place_line place.Version spec.AtVersion kind.UnclosedText text start last v b g s = refl
-place_line place.Version spec.AtVersion kind.UnclosedComment text start last v b g s = refl
-place_line place.Version spec.AtVersion k text start last v b g s = refl
-place_line (place.Item i) (spec.AtItem j) kind.UnclosedText text start last v b g s = refl
-place_line (place.Item i) (spec.AtItem j) kind.UnclosedComment text start last v b g s = refl
-place_line (place.Item i) (spec.AtItem j) k text start last v b g s = refl
-place_line place.States spec.AtStates kind.UnclosedText text start last v b g s = refl
-place_line place.States spec.AtStates kind.UnclosedComment text start last v b g s = refl
-place_line place.States spec.AtStates k text start last v b g s = refl
-place_line place.Start spec.AtStart kind.UnclosedText text start last v b g s = refl
-place_line place.Start spec.AtStart kind.UnclosedComment text start last v b g s = refl
-place_line place.Start spec.AtStart k text start last v b g s = refl
-place_line place.Count spec.AtCount kind.UnclosedText text start last v b g s = refl
-place_line place.Count spec.AtCount kind.UnclosedComment text start last v b g s = refl
-place_line place.Count spec.AtCount k text start last v b g s = refl
-place_line place.Names (spec.AtNames n) kind.UnclosedText text start last v b g s = refl
-place_line place.Names (spec.AtNames n) kind.UnclosedComment text start last v b g s = refl
-place_line place.Names (spec.AtNames n) k text start last v b g s = refl
-place_line place.Sets spec.AtSets kind.UnclosedText text start last v b g s = refl
-place_line place.Sets spec.AtSets kind.UnclosedComment text start last v b g s = refl
-place_line place.Sets spec.AtSets k text start last v b g s = refl
-place_line (place.Acceptance p) (spec.InAcceptance ts) kind.UnclosedText text start last v b g s = refl
-place_line (place.Acceptance p) (spec.InAcceptance ts) kind.UnclosedComment text start last v b g s = refl
-place_line (place.Acceptance p) (spec.InAcceptance ts) k text start last v b g s = refl
-place_line (place.Body p) (spec.InBody q) kind.UnclosedText text start last v b g s = refl
-place_line (place.Body p) (spec.InBody q) kind.UnclosedComment text start last v b g s = refl
-place_line (place.Body p) (spec.InBody q) k text start last v b g s = refl
-place_line q pl k text start last v b g s = absurd s
+string_line : (q : Place) (pl : spec.Place) (text : List ℕ) (start last : ℕ) (v : ParserView) (b : Before) (g : Came) → ShowsPlace q v pl b g
+    → fault_line q kind.UnclosedText start last ≡ fault.fault_line pl (token_of kind.UnclosedText text) start last
+string_line place.End spec.AtEnd text start last v b g s = refl
+string_line place.End pl text start last v b g s = absurd s
+string_line q spec.AtEnd text start last v b g s = absurd s
+string_line q pl text start last v b g s = refl
+
+place_line : (q : Place) (pl : spec.Place) (k : TokenKind) (text : List ℕ) (start last : ℕ) (v : ParserView) (b : Before) (g : Came) → ShowsPlace q v pl b g → fault_line q k start last ≡ fault.fault_line pl (token_of k text) start last
+place_line q pl kind.UnclosedText text start last v b g s = string_line q pl text start last v b g s
+place_line q pl k text start last v b g s = refl
 
 -- what the definition says of a place at the end
 abbrev pub end_kind : Place → Option HoaFaultKind
@@ -94,7 +72,7 @@ end_kind place.Format = Some NotHoaVersion1
 end_kind place.Version = Some NotHoaVersion1
 end_kind _ = Some BadToken
 
-abbrev pub at_line : Option HoaFaultKind → ℕ → Option spec.HoaFault
+abbrev pub at_line : Option HoaFaultKind → ℕ → Option fault.HoaFault
 at_line None last = None
 at_line (Some k) last = fault_at k last
 
@@ -124,7 +102,7 @@ ended_between v text s e = record {
 -- at the end of the last token
 pub ended_in : (v w : MachineView) (k : TokenKind) (text : List ℕ) → v.fault ≡ None → v.line ≡ last_line text → IsSound v text → last_kind v.lexer.phase ≡ Some k → TakesToken v k w
     → (w.fault ≡ None) × IsTold w text ⊎ ((f : Found) × (w.fault ≡ Some f) × (fold (take_item stated_limits stated_form text) (Ok before_all) (hoa_items text) ≡ Err (fault_of f)))
-ended_in v w k text n line s e t = go (spec.step stated_limits stated_form s.before.place s.before (token_of k v.lexer.text)) refl (token_shown v w k s.before s.came n s.shows t)
+ended_in v w k text n line s e t = go (table.step stated_limits stated_form s.before.place s.before (token_of k v.lexer.text)) refl (token_shown v w k s.before s.came n s.shows t)
   where
     all : hoa_items text ≡ s.items ++ item_of k v.lexer ∷ []
     all = ap hoa_items (sym (append-nil text)) ∙ s.rest [] ∙ ap (λ x. s.items ++ x) (lexer_last v.lexer v.line s.lexing ∙ ap (λ o. with_item o v.lexer []) e)
@@ -132,7 +110,7 @@ ended_in v w k text n line s e t = go (spec.step stated_limits stated_form s.bef
     more : reached text (hoa_items text) ≡ reach text (Ok s.before, s.came) (item_of k v.lexer)
     more = ap (λ x. reached text x) all ∙ reached_more text s.items (item_of k v.lexer) ∙ ap (λ x. reach text x (item_of k v.lexer)) (s.reached text)
 
-    go : (S : spec.Step) → spec.step stated_limits stated_form s.before.place s.before (token_of k v.lexer.text) ≡ S → TokenShown S (came_at s.before.place s.before (token_of k v.lexer.text) s.came) v k w
+    go : (S : table.Step) → table.step stated_limits stated_form s.before.place s.before (token_of k v.lexer.text) ≡ S → TokenShown S (came_at s.before.place s.before (token_of k v.lexer.text) s.came) v k w
         → (w.fault ≡ None) × IsTold w text ⊎ ((f : Found) × (w.fault ≡ Some f) × (fold (take_item stated_limits stated_form text) (Ok before_all) (hoa_items text) ≡ Err (fault_of f)))
     go (Ok c) q a = inl (
       a.0,
@@ -149,7 +127,7 @@ ended_in v w k text n line s e t = go (spec.step stated_limits stated_form s.bef
       sym (first_reached text (hoa_items text) (Ok before_all, came_none))
           ∙ ap (λ (x : Reached). x.0) (more ∙ ap (λ S. (with_line stated_limits stated_form text s.before.place (item_of k v.lexer) S, came_at s.before.place s.before (token_of k v.lexer.text) s.came)) q)
           ∙ ap (λ l. Err (record { kind = j; line = l })) (
-          ap (λ n. spec.fault_line s.before.place (token_of k v.lexer.text) v.lexer.start n) (sym line)
+          ap (λ n. fault.fault_line s.before.place (token_of k v.lexer.text) v.lexer.start n) (sym line)
           ∙ sym (place_line v.parser.place s.before.place k v.lexer.text v.lexer.start v.line v.parser s.before s.came s.shows.place))
           ∙ ap (λ i. Err (record { kind = i; line = fault_line v.parser.place k v.lexer.start v.line })) (sym d),
     )

@@ -9,7 +9,7 @@ use Rattle.ltl_spec.specs.Transitions.Cubes.{Cube, cube_cmp, join_cubes}
 use Rattle.ltl_spec.specs.NormalForms.Normal.{Normal, Top, Bottom, Leaf, Next, And, Or, Until, Release}
 use Rattle.ltl_spec.specs.NormalForms.NormalForm.{normal_form, postorder}
 use Rattle.ltl_spec.specs.Hoa.HoaLabel.{Label, ConstantLabel, NumberLabel, NotLabel, BracketLabel, AndLabel, OrLabel, label_formula, cubes, label_cubes, is_wide}
-use Rattle.ltl_spec.specs.Hoa.HoaFault.{LabelPart, LabelParts, negated, joined, with_operand, whole, empty_part}
+use Rattle.ltl_spec.specs.Hoa.HoaPlace.{LabelPart, LabelParts, negated, joined, with_operand, whole, empty_part}
 use Rattle.ltl_spec.proofs.Collections.Orders.{cube_linear}
 use Rattle.ltl_spec.proofs.Collections.SetLaws.{IsRising-set_of, IsRising-union, union_cases, union_left, union_right, append_cases, append_left, append_right, same_members, set_of_cases, Has-set_of}
 use Rattle.ltl_spec.proofs.Hoa.BlockLaws.{same_first, same_behind}

@@ -9,8 +9,12 @@ use Rattle.ltl_spec.specs.Formulas.Tokens.{is_blank, same_name}
 use Rattle.ltl_spec.specs.Tools.Limits.{stated_limits}
 use Rattle.ltl_spec.specs.Hoa.HoaToken.{HoaItem, hoa_items, last_line, is_digit, begins_identifier, is_identifier_byte}
 use Rattle.ltl_spec.specs.Hoa.HoaReading.{stated_form}
-use Rattle.ltl_spec.specs.Hoa.HoaFault as spec
-use Rattle.ltl_spec.specs.Hoa.HoaFault.{Before, before_all, Step, take_item, with_line}
+use Rattle.ltl_spec.specs.Hoa.HoaPlace as spec
+use Rattle.ltl_spec.specs.Hoa.HoaStep as table
+use Rattle.ltl_spec.specs.Hoa.HoaFault as fault
+use Rattle.ltl_spec.specs.Hoa.HoaPlace.{Before, before_all}
+use Rattle.ltl_spec.specs.Hoa.HoaStep.{Step}
+use Rattle.ltl_spec.specs.Hoa.HoaFault.{take_item, with_line}
 use Rattle.ltl_hoa.specs.declared.fault.Stop.{Stop}
 use Rattle.ltl_hoa.specs.declared.fault.Stop.TheVariants.{Fault, OutOfMemory}
 use Rattle.ltl_hoa.specs.declared.fault.HoaFaultKind as made
@@ -97,7 +101,7 @@ plain_line p kind.UnclosedText start last e = cc
 plain_line p kind.UnclosedComment start last e = cc
 plain_line p k start last e = refl
 
-spec_line : (p : spec.Place) (k : TokenKind) (text : List ℕ) (start last : ℕ) → has_end k ≡ true → spec.fault_line p (token_of k text) start last ≡ start
+spec_line : (p : spec.Place) (k : TokenKind) (text : List ℕ) (start last : ℕ) → has_end k ≡ true → fault.fault_line p (token_of k text) start last ≡ start
 spec_line p kind.UnclosedText text start last e = cc
 spec_line p kind.UnclosedComment text start last e = cc
 spec_line p k text start last e = refl
@@ -110,9 +114,9 @@ TokenShown (Ok c) h v k w = (w.fault ≡ None) × Shows w.parser c h
 TokenShown (Err j) h v k w = (m : made.HoaFaultKind) × (w.fault ≡ Some (record { line = fault_line v.parser.place k v.lexer.start v.line; kind = m })) × (kind_of m ≡ j)
 
 pub token_shown : (v w : MachineView) (k : TokenKind) (b : Before) (g : Came) → v.fault ≡ None → Shows v.parser b g → TakesToken v k w
-    → TokenShown (spec.step stated_limits stated_form b.place b (token_of k v.lexer.text)) (came_at b.place b (token_of k v.lexer.text) g) v k w
+    → TokenShown (table.step stated_limits stated_form b.place b (token_of k v.lexer.text)) (came_at b.place b (token_of k v.lexer.text) g) v k w
 token_shown v w k b g n s t =
-    go (spec.step stated_limits stated_form b.place b (token_of k v.lexer.text)) (came_at b.place b (token_of k v.lexer.text) g) t.answer (parser_takes v.parser w.parser b g (token_of k v.lexer.text) t.answer s t.parser) t.fault
+    go (table.step stated_limits stated_form b.place b (token_of k v.lexer.text)) (came_at b.place b (token_of k v.lexer.text) g) t.answer (parser_takes v.parser w.parser b g (token_of k v.lexer.text) t.answer s t.parser) t.fault
   where
     go : (S : Step) (h : Came) (r : Result (Unit {0}) Stop) → StepShown S h r w.parser → FaultIs v k r w.fault → TokenShown S h v k w
     go (Ok c) h (Ok u) a f = (f ∙ n, a)
@@ -138,12 +142,12 @@ Behind (Some f) w items = (whole : List ℕ) → fold (take_item stated_limits s
 -- a token with an end
 pub token_behind : (v w : MachineView) (k : TokenKind) (items : List HoaItem) (b : Before) (g : Came) → v.fault ≡ None → has_end k ≡ true → ((whole : List ℕ) → reached whole items ≡ (Ok b, g)) → Shows v.parser b g → TakesToken v k w
     → Behind w.fault w (items ++ item_of k v.lexer ∷ [])
-token_behind v w k items b g n e r s t = go (spec.step stated_limits stated_form b.place b (token_of k v.lexer.text)) refl (token_shown v w k b g n s t)
+token_behind v w k items b g n e r s t = go (table.step stated_limits stated_form b.place b (token_of k v.lexer.text)) refl (token_shown v w k b g n s t)
   where
     more : (whole : List ℕ) → reached whole (items ++ item_of k v.lexer ∷ []) ≡ reach whole (Ok b, g) (item_of k v.lexer)
     more whole = reached_more whole items (item_of k v.lexer) ∙ ap (λ x. reach whole x (item_of k v.lexer)) (r whole)
 
-    go : (S : Step) → spec.step stated_limits stated_form b.place b (token_of k v.lexer.text) ≡ S → TokenShown S (came_at b.place b (token_of k v.lexer.text) g) v k w → Behind w.fault w (items ++ item_of k v.lexer ∷ [])
+    go : (S : Step) → table.step stated_limits stated_form b.place b (token_of k v.lexer.text) ≡ S → TokenShown S (came_at b.place b (token_of k v.lexer.text) g) v k w → Behind w.fault w (items ++ item_of k v.lexer ∷ [])
     go (Ok c) q a =
         subst (λ o. Behind o w (items ++ item_of k v.lexer ∷ [])) (sym a.0)
         (c, came_at b.place b (token_of k v.lexer.text) g, (λ whole. more whole ∙ ap (λ S. (with_line stated_limits stated_form whole b.place (item_of k v.lexer) S, came_at b.place b (token_of k v.lexer.text) g)) q), a.1)

@@ -13,8 +13,10 @@ use Rattle.ltl_spec.specs.Hoa.HoaToken.{HoaToken}
 use Rattle.ltl_spec.specs.Hoa.HoaLabel.{BracketLabel}
 use Rattle.ltl_spec.specs.Hoa.HoaReading.{stated_form}
 use Rattle.ltl_spec.specs.Hoa.HoaFaultKind.{ItemMissing, NumberOutOfRange}
-use Rattle.ltl_spec.specs.Hoa.HoaFault as spec
-use Rattle.ltl_spec.specs.Hoa.HoaFault.{Before, HoaHeader, Step, LabelPart, LabelParts, whole, with_operand}
+use Rattle.ltl_spec.specs.Hoa.HoaPlace as spec
+use Rattle.ltl_spec.specs.Hoa.HoaStep as table
+use Rattle.ltl_spec.specs.Hoa.HoaPlace.{Before, HoaHeader, LabelPart, LabelParts, whole, with_operand}
+use Rattle.ltl_spec.specs.Hoa.HoaStep.{Step}
 use Rattle.ltl_hoa.specs.declared.marked.TheConstants.{MOST_SETS}
 use Rattle.ltl_hoa.specs.declared.fault.Stop.{Stop}
 use Rattle.ltl_hoa.specs.declared.fault.Stop.TheVariants.{Fault, OutOfMemory}
@@ -67,21 +69,20 @@ replicate_length n d = length-replicate n d
 new_shows : (c : Counts) (b : Before) (g : Came) (names : List Name) → IsBegun b g → b.header.states ≡ Some c.states → c.states ≤ stated_limits.hoa_states → b.header.sets ≡ Some c.sets → b.header.names ≡ Some names → c.names ≡ length names
     → c.names ≤ stated_limits.propositions → c.sets ≤ MOST_SETS → 0 < c.states → ShowsBody (new_body c) spec.AtState (record b { place = spec.InBody spec.AtState }) g
 new_shows c b g names begun st few se na le fn fs some = record {
-  states = st;
-  few_states = few;
-  sets = se;
-  names = ap (option_map length) na ∙ ap Some (sym le);
-  well = (fn, fs);
-  defined = λ k l. replicate_get c.states k false ∙ ap (list_any (λ m. m == k)) (sym begun.0);
-  counted = (replicate_length c.states false, replicate_length c.states []);
-  at = (ap (λ ns. first_or 0 ns) begun.0, some);
+  counts = record { states = st; few_states = few; sets = se; names = ap (option_map length) na ∙ ap Some (sym le); well = (fn, fs) };
+  states = record {
+    stood = λ k l. replicate_get c.states k false ∙ ap (list_any (λ m. m == k)) (sym begun.0);
+    counted = replicate_length c.states false;
+    last = (ap (λ ns. first_or 0 ns) begun.0, some);
+  };
+  placed = replicate_length c.states [];
   made = begun.1;
   marks = ap (λ (x : Came). set_of nat_cmp x.sets) begun.2;
   cubes = ap (λ (x : Came). x.cubes) begun.2;
   edges = λ k l. replicate_get c.states k [] ∙ ap (λ (x : Came). edges_of k x.edges) (sym begun.2);
 }
 
-begin_shown : (v w : ParserView) (b : Before) (g : Came) (r : Result (Unit {0}) Stop) → ShowsHeader v.header b.header → IsBegun b g → BeginsBody v r w → StepShown (spec.begin_body b b.header) g r w
+begin_shown : (v w : ParserView) (b : Before) (g : Came) (r : Result (Unit {0}) Stop) → ShowsHeader v.header b.header → IsBegun b g → BeginsBody v r w → StepShown (table.begin_body b b.header) g r w
 begin_shown v w b g r sh begun k =
     go b.header.states b.header.start b.header.names b.header.sets refl refl refl refl
     (subst (λ x. Begins x v r w) (λ i. header.counted (sh.states i) (sh.start i) (sh.names i) (sh.sets i)) k)
@@ -96,7 +97,7 @@ begin_shown v w b g r sh begun k =
     present : (states start : ℕ) (names : List Name) (sets : ℕ) → b.header.states ≡ Some states → b.header.names ≡ Some names → b.header.sets ≡ Some sets → states ≤ stated_limits.hoa_states
         → (c : Bool) → nat_lt start states ≡ c → (x : Result (Unit {0}) Stop)
         → Begins (if c then Ok (record { states = states; names = length names; sets = sets }) else Err NumberOutOfRange) v x w
-        → StepShown (if c then spec.in_body b spec.AtState else Err NumberOutOfRange) g x w
+        → StepShown (if c then table.in_body b spec.AtState else Err NumberOutOfRange) g x w
     present states start names sets st na se few true q (Ok u) m =
         let some : 0 < states = let l = ltb-true start states q in omega (arith, l) in
         let shown : Shows (record { place = place.Body at.State; header = v.header; body = Some (new_body (record { states = states; names = length names; sets = sets })) }) (record b { place = spec.InBody spec.AtState }) g = record {
@@ -110,7 +111,7 @@ begin_shown v w b g r sh begun k =
 
     go : (s t : Option ℕ) (n : Option (List Name)) (e : Option ℕ) → b.header.states ≡ s → b.header.start ≡ t → b.header.names ≡ n → b.header.sets ≡ e
         → Begins (header.counted s (option_map capped t) n e) v r w
-        → StepShown (if not (is_some s && is_some t && is_some n && is_some e) then Err ItemMissing else spec.if_below (unwrap_or t 0) s (spec.in_body b spec.AtState)) g r w
+        → StepShown (if not (is_some s && is_some t && is_some n && is_some e) then Err ItemMissing else table.if_below (unwrap_or t 0) s (table.in_body b spec.AtState)) g r w
     go (Some s) (Some t) (Some n) (Some e) p1 p2 p3 p4 m =
         let few : s ≤ stated_limits.hoa_states = subst (λ o. unwrap_or o 0 ≤ stated_limits.hoa_states) p1 sh.few_states in
         let wide : s ≤ stated_limits.hoa_edges = omega (arith, few) in
@@ -137,7 +138,7 @@ by_body (Err i) (Err j) b h (Ok q) w a k = absurd k
 by_body (Err i) (Err j) b h (Err stop) w a k = subst (λ m. Refuses m stop) a k
 
 bracket_shown : (v : BodyView) (inner : LabelPart) (around : List LabelPart) (b : Before) (g : Came) (r : Result Place Stop) (w : BodyView) → v.label ≡ shown_label (record { inner = inner; around = around })
-    → ShowsBody v (spec.AfterOperand (record { inner = inner; around = around })) b g → body.ClosesBracket v r w → BodyShown (spec.close_bracket b inner around) b g r w
+    → ShowsBody v (spec.AfterOperand (record { inner = inner; around = around })) b g → body.ClosesBracket v r w → BodyShown (table.close_bracket b inner around) b g r w
 bracket_shown v inner [] b g (Ok q) w l s (e, (x, (p, c, f), d)) = absurd (none x.around p (sym (ap (λ y. y.around) l) ∙ c))
   where
     none : (xs : List label.PartView) (y : label.PartView) → [] ≡ xs ++ y ∷ [] → ⊥
@@ -150,20 +151,7 @@ bracket_shown v inner (p ∷ ps) b g (Ok q) w l s (e, (x, c, d)) =
       subst (λ y. IsAt y w (spec.InBody (spec.AfterOperand after)) (record b { place = spec.InBody (spec.AfterOperand after) }) g) (sym e)
           (subst (λ (y : BodyView). IsAt (place.Body at.AfterOperand) y (spec.InBody (spec.AfterOperand after)) (record b { place = spec.InBody (spec.AfterOperand after) }) g) (sym d) (
             same,
-            record {
-              states = s.states;
-              few_states = s.few_states;
-              sets = s.sets;
-              names = s.names;
-              well = s.well;
-              defined = s.defined;
-              counted = s.counted;
-              at = s.at;
-              made = s.made;
-              marks = s.marks;
-              cubes = s.cubes;
-              edges = s.edges;
-            },
+            record { counts = s.counts; states = s.states; placed = s.placed; made = s.made; marks = s.marks; cubes = s.cubes; edges = s.edges },
           )),
       refl,
     )
@@ -178,7 +166,7 @@ bracket_shown v inner (p ∷ ps) b g (Err (Fault k)) w l s m = absurd (some (sho
 bracket_shown v inner (p ∷ ps) b g (Err OutOfMemory) w l s m = refl
 
 body_places : (p : BodyPlace) (q : spec.BodyPlace) (v : BodyView) (b : Before) (g : Came) (t : HoaToken) (r : Result Place Stop) (w : BodyView) → b.place ≡ spec.InBody q → ShowsBodyPlace p v q → ShowsBody v q b g
-    → body.TakesAt p v t r w → BodyShown (spec.step_in_body stated_limits q b t) b (came_in q b t g) r w
+    → body.TakesAt p v t r w → BodyShown (table.step_in_body stated_limits q b t) b (came_in q b t g) r w
 body_places at.State spec.AtState v b g t r w e l s k = by_body _ _ b g r w (at_state v spec.AtState b g s refl t) k
 body_places at.Number spec.AtNumber v b g t r w e l s k = by_body _ _ b (came_in spec.AtNumber b t g) r w (number v b g s t) k
 body_places at.AfterNumber spec.AfterNumber v b g t r w e l s k = by_body _ _ b g r w (after_number v spec.AfterNumber b g s refl t) k
@@ -187,14 +175,14 @@ body_places at.StateSets spec.InStateSets v b g t r w e l s k = by_body _ _ b (c
 body_places at.Edge spec.AtEdge v b g t r w e l s k = by_body _ _ b g r w (at_edge v spec.AtEdge b g s refl t) k
 body_places at.Operand (spec.AtOperand q) v b g t r w e l s k = by_body _ _ b g r w (operand v q b g l s t) k
 body_places at.AfterOperand (spec.AfterOperand q) v b g token.CloseBracket r w e l s k = bracket_shown v q.inner q.around b g r w l s k
-body_places at.AfterOperand (spec.AfterOperand q) v b g t r w e l s k = by_body (body.after_operand v t) (spec.after_operand stated_limits b q t) b (came_in (spec.AfterOperand q) b t g) r w (behind_operand v q b g l s t (λ x. cc)) k
+body_places at.AfterOperand (spec.AfterOperand q) v b g t r w e l s k = by_body (body.after_operand v t) (table.step_in_body stated_limits (spec.AfterOperand q) b t) b (came_in (spec.AfterOperand q) b t g) r w (behind_operand v q b g l s t (λ x. cc)) k
 body_places at.Target spec.AtTarget v b g t r w e l s k = by_body _ _ b (came_in spec.AtTarget b t g) r w (target v b g s t) k
 body_places at.AfterTarget spec.AfterTarget v b g t r w e l s k = by_body _ _ b g r w (behind_target v b g s t) k
 body_places at.EdgeSets spec.InEdgeSets v b g t r w e l s k = by_body _ _ b (came_in spec.InEdgeSets b t g) r w (edge_sets v b g e s t) k
 body_places p q v b g t r w e l s k = absurd l
 
 body_shown : (p : BodyPlace) (q : spec.BodyPlace) (v : BodyView) (b : Before) (g : Came) (t : HoaToken) (r : Result Place Stop) (w : BodyView) → b.place ≡ spec.InBody q → ShowsBodyPlace p v q → ShowsBody v q b g
-    → body.Takes p v t r w → BodyShown (spec.step_unless_abort stated_limits q b t) b (came_in q b t g) r w
+    → body.Takes p v t r w → BodyShown (table.step_unless_abort stated_limits q b t) b (came_in q b t g) r w
 body_shown p q v b g token.Abort (Ok pl) w e l s k = k
 body_shown p q v b g token.Abort (Err stop) w e l s k = k
 body_shown p q v b g t r w e l s k = body_places p q v b g t r w e l s k
@@ -202,13 +190,13 @@ body_shown p q v b g t r w e l s k = body_places p q v b g t r w e l s k
 -- ---- anywhere
 
 in_body_shown : (p : BodyPlace) (q : spec.BodyPlace) (v w : ParserView) (b : Before) (g : Came) (t : HoaToken) (r : Result (Unit {0}) Stop) (own : BodyView) → b.place ≡ spec.InBody q → ShowsHeader v.header b.header
-    → ShowsBodyPlace p own q → ShowsBody own q b g → TakesBody p v (Some own) t r w → StepShown (spec.step_unless_abort stated_limits q b t) (came_in q b t g) r w
+    → ShowsBodyPlace p own q → ShowsBody own q b g → TakesBody p v (Some own) t r w → StepShown (table.step_unless_abort stated_limits q b t) (came_in q b t g) r w
 in_body_shown p q v w b g t r own e sh l s k = go w.body refl k.0 r refl
   where
-    go : (o : Option BodyView) → w.body ≡ o → BodyTakes p own t (at_place r w.place) o → (x : Result (Unit {0}) Stop) → r ≡ x → StepShown (spec.step_unless_abort stated_limits q b t) (came_in q b t g) x w
+    go : (o : Option BodyView) → w.body ≡ o → BodyTakes p own t (at_place r w.place) o → (x : Result (Unit {0}) Stop) → r ≡ x → StepShown (table.step_unless_abort stated_limits q b t) (came_in q b t g) x w
     go None f m x i = absurd m
     go (Some c) f m (Ok u) i =
-        ended (spec.step_unless_abort stated_limits q b t) (body_shown p q own b g t (Ok w.place) c e l s (subst (λ y. body.Takes p own t (at_place y w.place) c) i m))
+        ended (table.step_unless_abort stated_limits q b t) (body_shown p q own b g t (Ok w.place) c e l s (subst (λ y. body.Takes p own t (at_place y w.place) c) i m))
       where
         ended : (S : Step) → BodyShown S b (came_in q b t g) (Ok w.place) c → StepShown S (came_in q b t g) (Ok u) w
         ended (Ok d) a = record {
@@ -222,18 +210,18 @@ in_body_shown p q v w b g t r own e sh l s k = go w.body refl k.0 r refl
             shown y z h = absurd h
         ended (Err j) a = a
     go (Some c) f m (Err stop) i =
-        ended (spec.step_unless_abort stated_limits q b t) (body_shown p q own b g t (Err stop) c e l s (subst (λ y. body.Takes p own t (at_place y w.place) c) i m))
+        ended (table.step_unless_abort stated_limits q b t) (body_shown p q own b g t (Err stop) c e l s (subst (λ y. body.Takes p own t (at_place y w.place) c) i m))
       where
         ended : (S : Step) → BodyShown S b (came_in q b t g) (Err stop) c → StepShown S (came_in q b t g) (Err stop) w
         ended (Ok d) a = a
         ended (Err j) a = a
 
 places : (q : Place) (pl : spec.Place) (v w : ParserView) (b : Before) (g : Came) (t : HoaToken) (r : Result (Unit {0}) Stop) → b.place ≡ pl → ShowsHeader v.header b.header → ShowsPlace q v pl b g
-    → TakesAt q v t r w → StepShown (spec.step stated_limits stated_form pl b t) (came_at pl b t g) r w
+    → TakesAt q v t r w → StepShown (table.step stated_limits stated_form pl b t) (came_at pl b t g) r w
 places place.Format spec.AtFormat v w b g t r e sh s k = by_header _ _ g v w t r place.Format refl (format v.header b g sh s t) k
 places place.Version spec.AtVersion v w b g t r e sh s k = by_header _ _ g v w t r place.Version refl (version v.header b g sh s t) k
 places (place.Item i) (spec.AtItem j) v w b g token.Body r e sh s k = begin_shown v w b g r sh s.0 k
-places (place.Item i) (spec.AtItem j) v w b g t r e sh s k = by_header (header.at_item i v.header t) (spec.at_item b j t) g v w t r (place.Item i) refl (in_items v.header b g sh s.0 i j t s.1 (λ x. cc)) k
+places (place.Item i) (spec.AtItem j) v w b g t r e sh s k = by_header (header.take (place.Item i) v.header t) (table.step stated_limits stated_form (spec.AtItem j) b t) g v w t r (place.Item i) refl (in_items v.header b g sh s.0 i j t s.1 (λ x. cc)) k
 places place.States spec.AtStates v w b g t r e sh s k = by_header _ _ g v w t r place.States refl (states v.header b g sh s t) k
 places place.Start spec.AtStart v w b g t r e sh s k = by_header _ _ g v w t r place.Start refl (start v.header b g sh s t) k
 places place.Count spec.AtCount v w b g t r e sh s k = by_header _ _ g v w t r place.Count refl (count v.header b g sh s t) k
@@ -241,7 +229,7 @@ places place.Names (spec.AtNames left) v w b g t r e sh s k = by_header _ _ g v 
 places place.Sets spec.AtSets v w b g t r e sh s k = by_header _ _ g v w t r place.Sets refl (sets v.header b g sh s t) k
 places (place.Acceptance p) (spec.InAcceptance ts) v w b g t r e sh s k =
     let (n, some, few, inside, left) = s.1 in
-    subst (λ us. StepShown (spec.in_acceptance b us t) g r w) (sym left) (by_header _ _ g v w t r (place.Acceptance p) refl (acceptance v.header b g sh s.0 n some few p inside t) k)
+    subst (λ us. StepShown (table.step stated_limits stated_form (spec.InAcceptance us) b t) g r w) (sym left) (by_header _ _ g v w t r (place.Acceptance p) refl (acceptance v.header b g sh s.0 n some few p inside t) k)
 places (place.Body p) (spec.InBody q) v w b g t r e sh (own, f, l, s) k = in_body_shown p q v w b g t r own e sh l s (subst (λ o. TakesBody p v o t r w) f k)
 places place.End spec.AtEnd v w b g t (Ok u) e sh s k = k.0
 places place.End spec.AtEnd v w b g t (Err stop) e sh s k = k
@@ -249,5 +237,5 @@ places q pl v w b g t r e sh s k = absurd s
 
 -- the parser's answer is that of the definition's step
 pub parser_takes : (v w : ParserView) (b : Before) (g : Came) (t : HoaToken) (r : Result (Unit {0}) Stop) → Shows v b g → Takes v t r w
-    → StepShown (spec.step stated_limits stated_form b.place b t) (came_at b.place b t g) r w
+    → StepShown (table.step stated_limits stated_form b.place b t) (came_at b.place b t g) r w
 parser_takes v w b g t r s k = places v.place b.place v w b g t r refl s.header s.place k

@@ -9,10 +9,12 @@ use Rattle.ltl_spec.specs.Formulas.Names.{is_proposition}
 use Rattle.ltl_spec.specs.Tools.Limits.{stated_limits}
 use Rattle.ltl_spec.specs.Hoa.HoaToken as token
 use Rattle.ltl_spec.specs.Hoa.HoaToken.{HoaToken}
-use Rattle.ltl_spec.specs.Hoa.HoaReading.{stated_form, begins_upper, acceptance_tokens}
-use Rattle.ltl_spec.specs.Hoa.HoaFaultKind.{HoaFaultKind, UnknownItem, Unsupported, BadPropositionList, LimitPassed}
-use Rattle.ltl_spec.specs.Hoa.HoaFault as spec
-use Rattle.ltl_spec.specs.Hoa.HoaFault.{Before, HoaHeader, Step, go_to}
+use Rattle.ltl_spec.specs.Hoa.HoaReading.{stated_form, begins_upper, is_plain, acceptance_tokens}
+use Rattle.ltl_spec.specs.Hoa.HoaFaultKind.{Unsupported, BadPropositionList, LimitPassed}
+use Rattle.ltl_spec.specs.Hoa.HoaPlace as spec
+use Rattle.ltl_spec.specs.Hoa.HoaStep as table
+use Rattle.ltl_spec.specs.Hoa.HoaPlace.{Before, HoaHeader}
+use Rattle.ltl_spec.specs.Hoa.HoaStep.{Step, go_to}
 use Rattle.ltl_spec.proofs.Hoa.AcceptanceLaws.{sets_begin, after_and, after_last}
 use Rattle.ltl_hoa.specs.declared.marked.TheConstants.{MOST_SETS}
 use Rattle.ltl_hoa.specs.declared.place.Place.{Place}
@@ -67,28 +69,22 @@ same_turned (x ∷ s) (y ∷ t) = ap (λ c. c && same_name s t) (turned x y) ∙
     turned : (m n : ℕ) → nat_eq m n ≡ nat_eq n m
     turned m n = grind (arith, nat_tests)
 
-broken : (t : HoaToken) (k : HoaFaultKind) (g : Came) → Agrees (Err (view.unless_broken t k)) (spec.unless_broken t k) g
-broken token.Unknown k g = refl
-broken token.UnclosedString k g = refl
-broken token.UnclosedComment k g = refl
-broken t k g = refl
-
 module _ (h : HeaderView) (b : Before) (g : Came) (sh : ShowsHeader h b.header) (begun : IsBegun b g) where
   to : (q : Place) (p : spec.Place) → ((body : Option BodyView) → ShowsPlace q (record { place = q; header = h; body = body }) p (record b { place = p }) g) → Agrees (Ok (q, h)) (go_to b p) g
   to q p s = λ body. record { header = sh; place = s body }
 
-  pub format : (t : HoaToken) → Agrees (view.at_format h t) (spec.at_format b t) g
+  pub format : (t : HoaToken) → Agrees (view.take place.Format h t) (table.step stated_limits stated_form spec.AtFormat b t) g
   format (token.Header name) = if_agrees (same_name name (codes "HOA")) _ _ _ _ g (to place.Version spec.AtVersion (λ body. begun)) refl
   format t = refl
 
-  pub version : (t : HoaToken) → Agrees (view.at_version h t) (spec.at_version b t) g
+  pub version : (t : HoaToken) → Agrees (view.take place.Version h t) (table.step stated_limits stated_form spec.AtVersion b t) g
   version (token.Identifier name) = if_agrees (same_name name (codes "v1")) _ _ _ _ g (to (place.Item item.Plain) (spec.AtItem spec.PlainItem) (λ body. (begun, tt))) refl
   version t = refl
 
-  once : (c d : Bool) (q : Place) (p : spec.Place) → c ≡ d → Agrees (Ok (q, h)) (go_to b p) g → Agrees (view.once h c q) (spec.begin_once b d p) g
-  once c d q p e a = subst (λ x. Agrees (view.once h c q) (spec.begin_once b x p) g) e (if_agrees c _ _ _ _ g refl a)
+  once : (c d : Bool) (q : Place) (p : spec.Place) → c ≡ d → Agrees (Ok (q, h)) (go_to b p) g → Agrees (view.once h c q) (table.begin_once b d p) g
+  once c d q p e a = subst (λ x. Agrees (view.once h c q) (table.begin_once b x p) g) e (if_agrees c _ _ _ _ g refl a)
 
-  item_begins : (name : List ℕ) → Agrees (view.begin_item h name) (spec.begin_item b name) g
+  item_begins : (name : List ℕ) → Agrees (view.begin_item h name) (table.begin_item b name) g
   item_begins name =
       if_agrees (same_name name (codes "HOA")) _ _ _ _ g refl (
       if_agrees (same_name name (codes "States")) _ _ _ _ g (once _ _ place.States spec.AtStates (ap is_some sh.states) (to place.States spec.AtStates (λ body. begun))) (
@@ -96,39 +92,28 @@ module _ (h : HeaderView) (b : Before) (g : Came) (sh : ShowsHeader h b.header) 
       if_agrees (same_name name (codes "AP")) _ _ _ _ g (once _ _ place.Count spec.AtCount (ap is_some sh.names) (to place.Count spec.AtCount (λ body. begun))) (
       if_agrees (same_name name (codes "Acceptance")) _ _ _ _ g (once _ _ place.Sets spec.AtSets (ap is_some sh.sets) (to place.Sets spec.AtSets (λ body. begun))) (
       if_agrees (same_name name (codes "Alias")) _ _ _ _ g refl (
-      upper name (if_agrees (spec_upper name) _ _ _ _ g refl (to (place.Item item.Other) (spec.AtItem spec.OtherItem) (λ body. (begun, tt))))))))))
+      if_agrees (begins_upper name) _ _ _ _ g refl (to (place.Item item.Other) (spec.AtItem spec.OtherItem) (λ body. (begun, tt)))))))))
     where
       stands : (o : Option ℕ) → is_some (option_map capped o) ≡ is_some o
       stands None = refl
       stands (Some n) = refl
 
-      spec_upper : List ℕ → Bool
-      spec_upper bs = view.begins_upper bs
-
-      upper : (bs : List ℕ) → Agrees (if view.begins_upper bs then Err UnknownItem else Ok (place.Item item.Other, h)) (if view.begins_upper bs then Err UnknownItem else go_to b (spec.AtItem spec.OtherItem)) g
-          → Agrees (if view.begins_upper bs then Err UnknownItem else Ok (place.Item item.Other, h)) (if begins_upper bs then Err UnknownItem else go_to b (spec.AtItem spec.OtherItem)) g
-      upper [] a = a
-      upper (x ∷ xs) a = a
-
-  goes_on : (i : ItemBefore) (j : spec.ItemBefore) (t : HoaToken) → ShowsItem i j → Agrees (view.go_on i h t) (spec.go_on b j t) g
+  goes_on : (i : ItemBefore) (j : spec.ItemBefore) (t : HoaToken) → ShowsItem i j → Agrees (view.go_on i h t) (table.go_on b j t) g
   goes_on item.Plain spec.PlainItem t s = refl
   goes_on item.StartNumber spec.StartNumber token.AndSign s = refl
   goes_on item.StartNumber spec.StartNumber t s = refl
   goes_on item.ListedNames spec.ListedNames (token.StringToken x) s = refl
   goes_on item.ListedNames spec.ListedNames t s = refl
-  goes_on item.Acceptance spec.Acceptance t s = broken t Unsupported g
-  goes_on item.Other spec.OtherItem (token.StringToken x) s = to (place.Item item.Other) (spec.AtItem spec.OtherItem) (λ body. (begun, tt))
-  goes_on item.Other spec.OtherItem (token.Int n) s = to (place.Item item.Other) (spec.AtItem spec.OtherItem) (λ body. (begun, tt))
-  goes_on item.Other spec.OtherItem (token.Identifier x) s = to (place.Item item.Other) (spec.AtItem spec.OtherItem) (λ body. (begun, tt))
-  goes_on item.Other spec.OtherItem t s = refl
+  goes_on item.Acceptance spec.Acceptance t s = refl
+  goes_on item.Other spec.OtherItem t s = if_agrees (is_plain t) _ _ _ _ g (to (place.Item item.Other) (spec.AtItem spec.OtherItem) (λ body. (begun, tt))) refl
   goes_on i j t s = absurd s
 
-  pub in_items : (i : ItemBefore) (j : spec.ItemBefore) (t : HoaToken) → ShowsItem i j → (t ≡ token.Body → ⊥) → Agrees (view.at_item i h t) (spec.at_item b j t) g
+  pub in_items : (i : ItemBefore) (j : spec.ItemBefore) (t : HoaToken) → ShowsItem i j → (t ≡ token.Body → ⊥) → Agrees (view.take (place.Item i) h t) (table.step stated_limits stated_form (spec.AtItem j) b t) g
   in_items i j (token.Header name) s n = item_begins name
   in_items i j token.Body s n = absurd (n refl)
   in_items i j t s n = goes_on i j t s
 
-  pub states : (t : HoaToken) → Agrees (view.at_states h t) (spec.at_states stated_limits b t) g
+  pub states : (t : HoaToken) → Agrees (view.take place.States h t) (table.step stated_limits stated_form spec.AtStates b t) g
   states (token.Int n) = go (nat_lt stated_limits.hoa_states n) refl
     where
       go : (c : Bool) → nat_lt stated_limits.hoa_states n ≡ c
@@ -147,14 +132,14 @@ module _ (h : HeaderView) (b : Before) (g : Came) (sh : ShowsHeader h b.header) 
           few m q = grind (arith, nat_tests, q)
   states t = refl
 
-  pub start : (t : HoaToken) → Agrees (view.at_start h t) (spec.at_start b t) g
+  pub start : (t : HoaToken) → Agrees (view.take place.Start h t) (table.step stated_limits stated_form spec.AtStart b t) g
   start (token.Int n) = λ body. record { header = record { states = sh.states; few_states = sh.few_states; start = refl; names = sh.names; sets = sh.sets }; place = (begun, tt) }
   start t = refl
 
   -- the names that were read, and how many have to come
   listed : (names : List Name) (left n : ℕ) → left ≡ n
-      → Agrees (Ok (view.after_name left, record h { names = Some names; left = left })) (spec.with_names b names n) g
-  listed names left n e = subst (λ k. Agrees (Ok (view.after_name left, record h { names = Some names; left = left })) (spec.with_names b names k) g) e (go (left == 0) refl)
+      → Agrees (Ok (view.after_name left, record h { names = Some names; left = left })) (table.with_names b names n) g
+  listed names left n e = subst (λ k. Agrees (Ok (view.after_name left, record h { names = Some names; left = left })) (table.with_names b names k) g) e (go (left == 0) refl)
     where
       go : (c : Bool) → (left == 0) ≡ c
           → Agrees (Ok ((if c then place.Item item.ListedNames else place.Names), record h { names = Some names; left = left }))
@@ -162,38 +147,41 @@ module _ (h : HeaderView) (b : Before) (g : Came) (sh : ShowsHeader h b.header) 
       go true q = λ body. record { header = record { states = sh.states; few_states = sh.few_states; start = sh.start; names = refl; sets = sh.sets }; place = (begun, tt) }
       go false q = λ body. record { header = record { states = sh.states; few_states = sh.few_states; start = sh.start; names = refl; sets = sh.sets }; place = (begun, refl, q, (names, refl)) }
 
-  pub count : (t : HoaToken) → Agrees (view.at_count h t) (spec.at_count stated_limits b t) g
+  pub count : (t : HoaToken) → Agrees (view.take place.Count h t) (table.step stated_limits stated_form spec.AtCount b t) g
   count (token.Int n) = go (nat_lt stated_limits.propositions n) refl
     where
       go : (c : Bool) → nat_lt stated_limits.propositions n ≡ c
-          → Agrees (if nat_lt stated_limits.propositions (capped n) then Err LimitPassed else Ok (view.after_name (capped n), record h { names = Some []; left = capped n })) (if c then Err LimitPassed else spec.with_names b [] n) g
+          → Agrees (if nat_lt stated_limits.propositions (capped n) then Err LimitPassed else Ok (view.after_name (capped n), record h { names = Some []; left = capped n })) (if c then Err LimitPassed else table.with_names b [] n) g
       go true e = subst (λ x. Agrees (if x then Err LimitPassed else Ok (view.after_name (capped n), record h { names = Some []; left = capped n })) (Err LimitPassed) g) (sym (capped_over stated_limits.propositions n (omega arith) ∙ e)) refl
       go false e =
-          subst (λ x. Agrees (if x then Err LimitPassed else Ok (view.after_name (capped n), record h { names = Some []; left = capped n })) (spec.with_names b [] n) g)
+          subst (λ x. Agrees (if x then Err LimitPassed else Ok (view.after_name (capped n), record h { names = Some []; left = capped n })) (table.with_names b [] n) g)
           (sym (capped_over stated_limits.propositions n (omega arith) ∙ e)) (listed [] (capped n) n (small_of stated_limits.propositions n (omega arith) e))
   count t = refl
 
-  pub names : (left : ℕ) (t : HoaToken) → h.left ≡ left → (left == 0) ≡ false → (ns : List Name) → h.names ≡ Some ns → Agrees (view.at_names h t) (spec.at_names b left t) g
+  pub names : (left : ℕ) (t : HoaToken) → h.left ≡ left → (left == 0) ≡ false → (ns : List Name) → h.names ≡ Some ns → Agrees (view.take place.Names h t) (table.step stated_limits stated_form (spec.AtNames left) b t) g
   names left (token.StringToken name) e z ns q =
-      subst (λ o. Agrees (view.add_to h o name) (spec.add_name b left (unwrap_or b.header.names []) name) g) (sym q)
-      (subst (λ o. Agrees (view.add_to h (Some ns) name) (spec.add_name b left (unwrap_or o []) name) g) (sym q ∙ sh.names) (go (is_proposition name) (list_any (same_name name) ns)))
+      subst (λ o. Agrees (view.add_to h o name) (table.step stated_limits stated_form (spec.AtNames left) b (token.StringToken name)) g) (sym q)
+      (subst (λ o. Agrees (view.add_to h (Some ns) name) (listed_with (unwrap_or o [])) g) (sym q ∙ sh.names) (go (is_proposition name) (list_any (same_name name) ns)))
     where
+      listed_with : List Name → Step
+      listed_with done = if is_proposition name && not (list_any (same_name name) done) then table.with_names b (done ++ name ∷ []) (left - 1) else Err BadPropositionList
+
       go : (p l : Bool)
           → Agrees (if not p || l || h.left == 0 then Err BadPropositionList else Ok (view.after_name (h.left - 1), record h { names = Some (ns ++ name ∷ []); left = h.left - 1 }))
-          (if p && not l then spec.with_names b (ns ++ name ∷ []) (left - 1) else Err BadPropositionList) g
+          (if p && not l then table.with_names b (ns ++ name ∷ []) (left - 1) else Err BadPropositionList) g
       go false l = refl
       go true true = refl
       go true false =
-          subst (λ c. Agrees (if c then Err BadPropositionList else Ok (view.after_name (h.left - 1), record h { names = Some (ns ++ name ∷ []); left = h.left - 1 })) (spec.with_names b (ns ++ name ∷ []) (left - 1)) g)
+          subst (λ c. Agrees (if c then Err BadPropositionList else Ok (view.after_name (h.left - 1), record h { names = Some (ns ++ name ∷ []); left = h.left - 1 })) (table.with_names b (ns ++ name ∷ []) (left - 1)) g)
           (sym (ap (λ k. k == 0) e ∙ z)) (listed (ns ++ name ∷ []) (h.left - 1) (left - 1) (ap (λ k. k - 1) e))
-  names left t e z ns q = broken t BadPropositionList g
+  names left t e z ns q = refl
 
   -- behind the number of sets
   sets_begun : (n : ℕ) → n ≤ MOST_SETS
-      → Agrees (Ok (place.Acceptance (view.first_part n), record h { sets = Some n })) (spec.expect (record b { header = record b.header { sets = Some n } }) (drop 1 (acceptance_tokens n))) g
+      → Agrees (Ok (place.Acceptance (view.first_part n), record h { sets = Some n })) (table.expect (record b { header = record b.header { sets = Some n } }) (drop 1 (acceptance_tokens n))) g
   sets_begun zero l = λ body. record { header = record { states = sh.states; few_states = sh.few_states; start = sh.start; names = sh.names; sets = refl }; place = (begun, (0, refl, l, refl, refl)) }
   sets_begun (suc n) l =
-      subst (λ c. Agrees (Ok (place.Acceptance (if c then part.True else part.Inf 0), record h { sets = Some (suc n) })) (spec.expect (record b { header = record b.header { sets = Some (suc n) } }) (drop 1 (acceptance_tokens (suc n)))) g)
+      subst (λ c. Agrees (Ok (place.Acceptance (if c then part.True else part.Inf 0), record h { sets = Some (suc n) })) (table.expect (record b { header = record b.header { sets = Some (suc n) } }) (drop 1 (acceptance_tokens (suc n)))) g)
       (sym (some n))
       (λ body. record {
         header = record { states = sh.states; few_states = sh.few_states; start = sh.start; names = sh.names; sets = refl };
@@ -203,14 +191,14 @@ module _ (h : HeaderView) (b : Before) (g : Came) (sh : ShowsHeader h b.header) 
       some : (m : ℕ) → (suc m == 0) ≡ false
       some m = grind (arith, nat_tests)
 
-  pub sets : (t : HoaToken) → Agrees (view.at_sets h t) (spec.at_sets stated_form b t) g
+  pub sets : (t : HoaToken) → Agrees (view.take place.Sets h t) (table.step stated_limits stated_form spec.AtSets b t) g
   sets (token.Int n) = subst (λ c. Agrees (made (capped n) (nat_lt MOST_SETS (capped n))) (if c then wanted n else Err LimitPassed) g) (sym (turned MOST_SETS n)) (go (nat_lt MOST_SETS n) refl)
     where
       turned : (m k : ℕ) → nat_le k m ≡ not (nat_lt m k)
       turned m k = grind (arith, nat_tests)
 
       wanted : ℕ → Step
-      wanted m = spec.expect (record b { header = record b.header { sets = Some m } }) (drop 1 (acceptance_tokens m))
+      wanted m = table.expect (record b { header = record b.header { sets = Some m } }) (drop 1 (acceptance_tokens m))
 
       made : ℕ → Bool → Led
       made m c = if c then Err LimitPassed else Ok (place.Acceptance (view.first_part m), record h { sets = Some m })
@@ -223,19 +211,19 @@ module _ (h : HeaderView) (b : Before) (g : Came) (sh : ShowsHeader h b.header) 
         where
           few : (m : ℕ) → nat_lt MOST_SETS m ≡ false → m ≤ MOST_SETS
           few m q = grind (arith, nat_tests, q)
-  sets t = broken t Unsupported g
+  sets t = refl
 
   module _ (n : ℕ) (some : h.sets ≡ Some n) (few : n ≤ MOST_SETS) where
-    part_agrees : (p : AcceptancePart) → IsPartOf n p → (t : HoaToken) → Agrees (view.part_taken n p h t) (spec.in_acceptance b (acceptance_left n p) t) g
+    part_agrees : (p : AcceptancePart) → IsPartOf n p → (t : HoaToken) → Agrees (view.part_taken n p h t) (table.step stated_limits stated_form (spec.InAcceptance (acceptance_left n p)) b t) g
     part_agrees part.True inside (token.Identifier s) =
-        subst (λ c. Agrees (view.part_taken n part.True h (token.Identifier s)) (if c then spec.expect b [] else Err Unsupported) g) (same_turned s (codes "t"))
+        subst (λ c. Agrees (view.part_taken n part.True h (token.Identifier s)) (if c then table.expect b [] else Err Unsupported) g) (same_turned s (codes "t"))
         (if_agrees (same_name s (codes "t")) _ _ _ _ g (to (place.Item item.Acceptance) (spec.AtItem spec.Acceptance) (λ body. (begun, tt))) refl)
     part_agrees (part.Inf k) inside (token.Identifier s) =
-        subst (λ c. Agrees (view.part_taken n (part.Inf k) h (token.Identifier s)) (if c then spec.expect b (acceptance_left n (part.Open k)) else Err Unsupported) g) (same_turned s (codes "Inf"))
+        subst (λ c. Agrees (view.part_taken n (part.Inf k) h (token.Identifier s)) (if c then table.expect b (acceptance_left n (part.Open k)) else Err Unsupported) g) (same_turned s (codes "Inf"))
         (if_agrees (same_name s (codes "Inf")) _ _ _ _ g (to (place.Acceptance (part.Open k)) (spec.InAcceptance (acceptance_left n (part.Open k))) (λ body. (begun, (n, some, few, inside, refl)))) refl)
     part_agrees (part.Open k) inside token.OpenBracket = to (place.Acceptance (part.Number k)) (spec.InAcceptance (acceptance_left n (part.Number k))) (λ body. (begun, (n, some, few, inside, refl)))
     part_agrees (part.Number k) inside (token.Int m) =
-        subst (λ c. Agrees (if c then Ok (place.Acceptance (part.Close k), h) else Err Unsupported) (if k == m then spec.expect b (acceptance_left n (part.Close k)) else Err Unsupported) g)
+        subst (λ c. Agrees (if c then Ok (place.Acceptance (part.Close k), h) else Err Unsupported) (if k == m then table.expect b (acceptance_left n (part.Close k)) else Err Unsupported) g)
         (turned k m ∙ sym (capped_same m k (small k inside)))
         (if_agrees (k == m) _ _ _ _ g (to (place.Acceptance (part.Close k)) (spec.InAcceptance (acceptance_left n (part.Close k))) (λ body. (begun, (n, some, few, inside, refl)))) refl)
       where
@@ -252,21 +240,21 @@ module _ (h : HeaderView) (b : Before) (g : Came) (sh : ShowsHeader h b.header) 
         last : (i m : ℕ) → nat_lt i (m - 1) ≡ false → m ≤ i + 1
         last i m e = grind (arith, nat_tests, e)
 
-        go : (c : Bool) → nat_lt k (n - 1) ≡ c → Agrees (Ok ((if c then place.Acceptance (part.And (k + 1)) else place.Item item.Acceptance), h)) (spec.expect b (later_sets n (k + 1))) g
+        go : (c : Bool) → nat_lt k (n - 1) ≡ c → Agrees (Ok ((if c then place.Acceptance (part.And (k + 1)) else place.Item item.Acceptance), h)) (table.expect b (later_sets n (k + 1))) g
         go true e =
             let next : later_sets n (k + 1) ≡ acceptance_left n (part.And (k + 1)) = after_and n k (more k n e) in
-            subst (λ ts. Agrees (Ok (place.Acceptance (part.And (k + 1)), h)) (spec.expect b ts) g) (sym next)
+            subst (λ ts. Agrees (Ok (place.Acceptance (part.And (k + 1)), h)) (table.expect b ts) g) (sym next)
             (to (place.Acceptance (part.And (k + 1))) (spec.InAcceptance (acceptance_left n (part.And (k + 1)))) (λ body. (begun, (n, some, few, more k n e, refl))))
         go false e =
             let none : later_sets n (k + 1) ≡ [] = after_last n k (last k n e) in
-            subst (λ ts. Agrees (Ok (place.Item item.Acceptance, h)) (spec.expect b ts) g) (sym none) (to (place.Item item.Acceptance) (spec.AtItem spec.Acceptance) (λ body. (begun, tt)))
+            subst (λ ts. Agrees (Ok (place.Item item.Acceptance, h)) (table.expect b ts) g) (sym none) (to (place.Item item.Acceptance) (spec.AtItem spec.Acceptance) (λ body. (begun, tt)))
     part_agrees (part.And k) inside token.AndSign = to (place.Acceptance (part.Inf k)) (spec.InAcceptance (acceptance_left n (part.Inf k))) (λ body. (begun, (n, some, few, inside, refl)))
-    part_agrees part.True inside t = broken t Unsupported g
-    part_agrees (part.Inf k) inside t = broken t Unsupported g
-    part_agrees (part.Open k) inside t = broken t Unsupported g
-    part_agrees (part.Number k) inside t = broken t Unsupported g
-    part_agrees (part.Close k) inside t = broken t Unsupported g
-    part_agrees (part.And k) inside t = broken t Unsupported g
+    part_agrees part.True inside t = refl
+    part_agrees (part.Inf k) inside t = refl
+    part_agrees (part.Open k) inside t = refl
+    part_agrees (part.Number k) inside t = refl
+    part_agrees (part.Close k) inside t = refl
+    part_agrees (part.And k) inside t = refl
 
-    pub acceptance : (p : AcceptancePart) → IsPartOf n p → (t : HoaToken) → Agrees (view.in_acceptance p h t) (spec.in_acceptance b (acceptance_left n p) t) g
-    acceptance p inside t = subst (λ o. Agrees (view.part_taken (unwrap_or o 0) p h t) (spec.in_acceptance b (acceptance_left n p) t) g) (sym some) (part_agrees p inside t)
+    pub acceptance : (p : AcceptancePart) → IsPartOf n p → (t : HoaToken) → Agrees (view.take (place.Acceptance p) h t) (table.step stated_limits stated_form (spec.InAcceptance (acceptance_left n p)) b t) g
+    acceptance p inside t = subst (λ o. Agrees (view.part_taken (unwrap_or o 0) p h t) (table.step stated_limits stated_form (spec.InAcceptance (acceptance_left n p)) b t) g) (sym some) (part_agrees p inside t)

@@ -9,7 +9,8 @@ use Rattle.ltl_spec.specs.Tools.Limits.{stated_limits}
 use Rattle.ltl_spec.specs.Hoa.HoaToken.{hoa_items, last_line}
 use Rattle.ltl_spec.specs.Hoa.HoaReading.{stated_form, MarkedAutomaton}
 use Rattle.ltl_spec.specs.Hoa.HoaFaultKind.{LimitPassed}
-use Rattle.ltl_spec.specs.Hoa.HoaFault.{before_all, take_item, fault_after, fault_at, hoa_fault}
+use Rattle.ltl_spec.specs.Hoa.HoaPlace.{before_all}
+use Rattle.ltl_spec.specs.Hoa.HoaFault.{take_item, fault_after, fault_at, hoa_fault}
 use Rattle.ltl_hoa.specs.declared.fault.HoaFault.{HoaFault}
 use Rattle.ltl_hoa.specs.declared.fault.HoaFault.TheVariants.{AtLine, CannotRead}
 use Rattle.ltl_hoa.specs.declared.fault.HoaFaultKind.TheVariants as made

@@ -6,8 +6,8 @@ use Rattle.ltl_spec.specs.Automata.Automaton.{Edge}
 use Rattle.ltl_spec.specs.Tools.Limits.{stated_limits}
 use Rattle.ltl_spec.specs.Hoa.HoaToken.{hoa_items}
 use Rattle.ltl_spec.specs.Hoa.HoaReading.{stated_form, MarkedAutomaton, edges_at, HoaReadsWithin}
-use Rattle.ltl_spec.specs.Hoa.HoaFault as spec
-use Rattle.ltl_spec.specs.Hoa.HoaFault.{Before}
+use Rattle.ltl_spec.specs.Hoa.HoaPlace as spec
+use Rattle.ltl_spec.specs.Hoa.HoaPlace.{Before}
 use Rattle.ltl_spec.proofs.Hoa.HoaHeaderLaws.{whole_header}
 use Rattle.ltl_hoa.specs.declared.place.Place.TheVariants as place
 use Rattle.ltl_hoa.specs.NumberView.{capped}
@@ -83,10 +83,10 @@ whole_automaton v text b g A r p s e =
   where
     body_made : IsReadAs A r.0.document b g → (body : BodyView) → v.body ≡ Some body → ShowsBody body spec.AtState b g → IsAutomaton v A
     body_made told body q shown =
-        let states : body.counts.states ≡ A.states = some_same _ _ (sym shown.states ∙ ap (λ h. h.states) told.header) in
-        let count : length body.edges ≡ A.states = shown.counted.1 ∙ states in
+        let states : body.counts.states ≡ A.states = some_same _ _ (sym shown.counts.states ∙ ap (λ h. h.states) told.header) in
+        let count : length body.edges ≡ A.states = shown.placed ∙ states in
         let all : body.edges ≡ map (edges_at r.0.document) (range_with_len 0 (length body.edges)) =
-        listed 0 body.edges [] (edges_at r.0.document) (λ k l. shown.edges k (below k _ _ l shown.counted.1) ∙ told.edges k ∙ ap (edges_at r.0.document) (from_zero k)) in
+        listed 0 body.edges [] (edges_at r.0.document) (λ k l. shown.edges k (below k _ _ l shown.placed) ∙ told.edges k ∙ ap (edges_at r.0.document) (from_zero k)) in
         let edges : body.edges ≡ A.edges = all ∙ ap (λ n. map (edges_at r.0.document) (range_with_len 0 n)) count ∙ sym r.0.describes.edges in
         subst (λ o. IsAutomatonWith v.header o A) (sym q) (header_made A v.header b.header body b g s.header told.header r.0.describes.begins r.1.states count edges)
       where

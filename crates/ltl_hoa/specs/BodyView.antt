@@ -78,11 +78,6 @@ define v n =
     if slice_index_or v.defined n false then Err StateDefinedTwice else
     Ok (Body at.AfterNumber, record v { defined = slice_set v.defined n true; at = n; sets = [] })
 
-abbrev pub at_number : BodyView → HoaToken → Led
-at_number v (token.Int n) = define v (capped n)
-at_number v token.OpenLabel = Err Unsupported
-at_number v _ = Err BadToken
-
 abbrev pub at_edge : BodyView → HoaToken → Led
 at_edge v token.OpenLabel = Ok (Body at.Operand, record v { label = label.new_label })
 at_edge v (token.Int n) = Err Unsupported
@@ -96,12 +91,6 @@ abbrev pub after_number : BodyView → HoaToken → Led
 after_number v (token.StringToken s) = Ok (Body at.AfterName, v)
 after_number v t = after_name v t
 
-abbrev pub in_state_sets : BodyView → HoaToken → Led
-in_state_sets v (token.Int n) =
-    if not (nat_lt (capped n) v.counts.sets) then Err NumberOutOfRange else Ok (Body at.StateSets, record v { sets = put nat_cmp (capped n) v.sets })
-in_state_sets v token.CloseSets = Ok (Body at.Edge, v)
-in_state_sets v _ = Err BadToken
-
 abbrev pub add_proposition : BodyView → ℕ → Led
 add_proposition v n =
     if not (nat_lt n v.counts.names) then Err NumberOutOfRange else Ok (Body at.AfterOperand, record v { label = label.take_proposition v.label n })
@@ -110,13 +99,6 @@ abbrev pub add_constant : BodyView → List ℕ → Led
 add_constant v name =
     if same_name name (codes "t") then Ok (Body at.AfterOperand, record v { label = label.take_constant v.label true }) else
     if same_name name (codes "f") then Ok (Body at.AfterOperand, record v { label = label.take_constant v.label false }) else Err BadToken
-
-abbrev pub at_operand : BodyView → HoaToken → Led
-at_operand v token.NotSign = Ok (Body at.Operand, record v { label = label.negate_inner v.label })
-at_operand v token.OpenBracket = Ok (Body at.Operand, record v { label = label.open_bracket v.label })
-at_operand v (token.Int n) = add_proposition v (capped n)
-at_operand v (token.Identifier s) = add_constant v s
-at_operand v _ = Err BadToken
 
 -- the end of the label, by its cubes
 abbrev pub close_with : BodyView → Option (List Cube) → Led
@@ -148,11 +130,6 @@ abbrev pub LeadsOn : BodyView → HoaToken → Result Place Stop → BodyView �
 LeadsOn v token.CloseBracket r w = ClosesBracket v r w
 LeadsOn v t r w = BodyLeads (after_operand v t) r w
 
-abbrev pub at_target : BodyView → HoaToken → Led
-at_target v (token.Int n) =
-    if not (nat_lt (capped n) v.counts.states) then Err NumberOutOfRange else Ok (Body at.AfterTarget, record v { target = capped n; own = v.sets })
-at_target v _ = Err BadToken
-
 -- the last edge, one for each of its cubes, stands among those of its state
 abbrev pub filed : BodyView → BodyView
 filed v =
@@ -163,24 +140,32 @@ after_target v token.AndSign = Err Unsupported
 after_target v token.OpenSets = Ok (Body at.EdgeSets, v)
 after_target v t = at_edge (filed v) t
 
-abbrev pub in_edge_sets : BodyView → HoaToken → Led
-in_edge_sets v (token.Int n) =
-    if not (nat_lt (capped n) v.counts.sets) then Err NumberOutOfRange else Ok (Body at.EdgeSets, record v { own = put nat_cmp (capped n) v.own })
-in_edge_sets v token.CloseSets = Ok (Body at.Edge, filed v)
-in_edge_sets v _ = Err BadToken
-
 abbrev pub take : BodyPlace → BodyView → HoaToken → Led
 take at.State v t = at_state v t
-take at.Number v t = at_number v t
+take at.Number v (token.Int n) = define v (capped n)
+take at.Number v token.OpenLabel = Err Unsupported
+take at.Number v _ = Err BadToken
 take at.AfterNumber v t = after_number v t
 take at.AfterName v t = after_name v t
-take at.StateSets v t = in_state_sets v t
+take at.StateSets v (token.Int n) =
+    if not (nat_lt (capped n) v.counts.sets) then Err NumberOutOfRange else Ok (Body at.StateSets, record v { sets = put nat_cmp (capped n) v.sets })
+take at.StateSets v token.CloseSets = Ok (Body at.Edge, v)
+take at.StateSets v _ = Err BadToken
 take at.Edge v t = at_edge v t
-take at.Operand v t = at_operand v t
+take at.Operand v token.NotSign = Ok (Body at.Operand, record v { label = label.negate_inner v.label })
+take at.Operand v token.OpenBracket = Ok (Body at.Operand, record v { label = label.open_bracket v.label })
+take at.Operand v (token.Int n) = add_proposition v (capped n)
+take at.Operand v (token.Identifier s) = add_constant v s
+take at.Operand v _ = Err BadToken
 take at.AfterOperand v t = after_operand v t
-take at.Target v t = at_target v t
+take at.Target v (token.Int n) =
+    if not (nat_lt (capped n) v.counts.states) then Err NumberOutOfRange else Ok (Body at.AfterTarget, record v { target = capped n; own = v.sets })
+take at.Target v _ = Err BadToken
 take at.AfterTarget v t = after_target v t
-take at.EdgeSets v t = in_edge_sets v t
+take at.EdgeSets v (token.Int n) =
+    if not (nat_lt (capped n) v.counts.sets) then Err NumberOutOfRange else Ok (Body at.EdgeSets, record v { own = put nat_cmp (capped n) v.own })
+take at.EdgeSets v token.CloseSets = Ok (Body at.Edge, filed v)
+take at.EdgeSets v _ = Err BadToken
 
 -- a token at its place
 abbrev pub TakesAt : BodyPlace → BodyView → HoaToken → Result Place Stop → BodyView → Type 0

@@ -1,11 +1,11 @@
 -- The header so far, and what a token makes of it.
-use Rattle.std.specs.Prelude.{◌≡◌, ℕ, ◌+◌, ◌-◌, ◌≤◌, Bool, false, not, ◌||◌, ◌==◌, nat_lt, if◌then◌else◌, List, [], ◌∷◌, ◌++◌, length, Option, Some, None, is_some, unwrap_or, Result, Ok, Err, codes, ⊤}
+use Rattle.std.specs.Prelude.{◌≡◌, ℕ, ◌+◌, ◌-◌, ◌≤◌, Bool, not, ◌||◌, ◌==◌, nat_lt, if◌then◌else◌, List, [], ◌∷◌, ◌++◌, length, Option, Some, None, is_some, unwrap_or, Result, Ok, Err, codes, ⊤}
 use Rattle.std.specs.List.{list_any}
 use Rattle.ltl_spec.specs.Semantics.Word.{Name}
 use Rattle.ltl_spec.specs.Formulas.Tokens.{same_name}
 use Rattle.ltl_spec.specs.Formulas.Names.{is_proposition}
 use Rattle.ltl_spec.specs.Tools.Limits.{stated_limits}
-use Rattle.ltl_spec.specs.Hoa.HoaToken.{HoaToken, StringToken, Identifier, Header, Int, AndSign, OpenBracket, CloseBracket, Unknown, UnclosedString, UnclosedComment, is_upper}
+use Rattle.ltl_spec.specs.Hoa.HoaToken.{HoaToken, StringToken, Identifier, Header, Int, AndSign, OpenBracket, CloseBracket}
 use Rattle.ltl_spec.specs.Hoa.HoaFaultKind.{HoaFaultKind, NotHoaVersion1, BadToken, ItemTwice, ItemMissing, UnknownItem, Unsupported, NumberOutOfRange, BadPropositionList, TextAfterEnd, LimitPassed}
 use Rattle.ltl_hoa.specs.declared.fault.HoaFaultKind as made
 use Rattle.ltl_hoa.specs.declared.fault.Stop.{Stop}
@@ -19,7 +19,8 @@ use Rattle.ltl_hoa.specs.declared.place.ItemBefore.TheVariants as before
 use Rattle.ltl_hoa.specs.declared.place.AcceptancePart.{AcceptancePart}
 use Rattle.ltl_hoa.specs.declared.place.AcceptancePart.TheVariants.{True, Inf, Open, Number, Close, And}
 use Rattle.ltl_spec.specs.Automata.Automaton.{Edge}
-use Rattle.ltl_spec.specs.Hoa.HoaReading.{MarkedAutomaton}
+use Rattle.ltl_spec.specs.Hoa.HoaReading.{MarkedAutomaton, begins_upper, is_plain}
+use Rattle.ltl_spec.specs.Hoa.HoaStep.{unless_broken}
 use Rattle.ltl_hoa.specs.MarkedView.{IsMarked}
 use Rattle.ltl_hoa.specs.NumberView.{capped}
 use Rattle.ltl_hoa.specs.TokenView.{kind_of}
@@ -55,25 +56,6 @@ Leads (Ok p) (Err stop) new = stop ≡ OutOfMemory
 Leads (Err kind) (Ok place) new = ⊥
 Leads (Err kind) (Err stop) new = Refuses kind stop
 
--- the kind, but a bad token where none begins or one has no end
-abbrev pub unless_broken : HoaToken → HoaFaultKind → HoaFaultKind
-unless_broken Unknown kind = BadToken
-unless_broken UnclosedString kind = BadToken
-unless_broken UnclosedComment kind = BadToken
-unless_broken _ kind = kind
-
-abbrev pub begins_upper : List ℕ → Bool
-begins_upper [] = false
-begins_upper (b ∷ bs) = is_upper b
-
-abbrev pub at_format : HeaderView → HoaToken → Led
-at_format v (Header name) = if same_name name (codes "HOA") then Ok (Version, v) else Err NotHoaVersion1
-at_format v _ = Err NotHoaVersion1
-
-abbrev pub at_version : HeaderView → HoaToken → Led
-at_version v (Identifier name) = if same_name name (codes "v1") then Ok (Item before.Plain, v) else Err NotHoaVersion1
-at_version v _ = Err NotHoaVersion1
-
 abbrev pub once : HeaderView → Bool → Place → Led
 once v stood place = if stood then Err ItemTwice else Ok (place, v)
 
@@ -94,29 +76,10 @@ go_on before.StartNumber v _ = Err BadToken
 go_on before.ListedNames v (StringToken s) = Err BadPropositionList
 go_on before.ListedNames v _ = Err BadToken
 go_on before.Acceptance v t = Err (unless_broken t Unsupported)
-go_on before.Other v (StringToken s) = Ok (Item before.Other, v)
-go_on before.Other v (Int n) = Ok (Item before.Other, v)
-go_on before.Other v (Identifier s) = Ok (Item before.Other, v)
-go_on before.Other v _ = Err BadToken
-
-abbrev pub at_item : ItemBefore → HeaderView → HoaToken → Led
-at_item item v (Header name) = begin_item v name
-at_item item v t = go_on item v t
-
-abbrev pub at_states : HeaderView → HoaToken → Led
-at_states v (Int n) = if nat_lt stated_limits.hoa_states (capped n) then Err LimitPassed else Ok (Item before.Plain, record v { states = Some (capped n) })
-at_states v _ = Err BadToken
-
-abbrev pub at_start : HeaderView → HoaToken → Led
-at_start v (Int n) = Ok (Item before.StartNumber, record v { start = Some (capped n) })
-at_start v _ = Err BadToken
+go_on before.Other v t = if is_plain t then Ok (Item before.Other, v) else Err BadToken
 
 abbrev pub after_name : ℕ → Place
 after_name left = if left == 0 then Item before.ListedNames else Names
-
-abbrev pub at_count : HeaderView → HoaToken → Led
-at_count v (Int n) = if nat_lt stated_limits.propositions (capped n) then Err LimitPassed else Ok (after_name (capped n), record v { names = Some []; left = capped n })
-at_count v _ = Err BadToken
 
 abbrev pub add_to : HeaderView → Option (List Name) → Name → Led
 add_to v None name = Err BadPropositionList
@@ -127,16 +90,8 @@ add_to v (Some names) name =
 abbrev pub add_name : HeaderView → Name → Led
 add_name v name = add_to v v.names name
 
-abbrev pub at_names : HeaderView → HoaToken → Led
-at_names v (StringToken name) = add_name v name
-at_names v t = Err (unless_broken t BadPropositionList)
-
 abbrev pub first_part : ℕ → AcceptancePart
 first_part n = if n == 0 then True else Inf 0
-
-abbrev pub at_sets : HeaderView → HoaToken → Led
-at_sets v (Int n) = if nat_lt MOST_SETS (capped n) then Err LimitPassed else Ok (Acceptance (first_part (capped n)), record v { sets = Some (capped n) })
-at_sets v t = Err (unless_broken t Unsupported)
 
 -- where the next one of n sets stands, if there is one
 abbrev pub behind_set : ℕ → ℕ → Place
@@ -152,20 +107,25 @@ part_taken n (Close k) v CloseBracket = Ok (behind_set n k, v)
 part_taken n (And k) v AndSign = Ok (Acceptance (Inf k), v)
 part_taken n part v t = Err (unless_broken t Unsupported)
 
-abbrev pub in_acceptance : AcceptancePart → HeaderView → HoaToken → Led
-in_acceptance part v t = part_taken (unwrap_or v.sets 0) part v t
-
 -- a token at its place, but for `--BODY--` where an item may begin
 abbrev pub take : Place → HeaderView → HoaToken → Led
-take Format v t = at_format v t
-take Version v t = at_version v t
-take (Item item) v t = at_item item v t
-take States v t = at_states v t
-take Start v t = at_start v t
-take Count v t = at_count v t
-take Names v t = at_names v t
-take Sets v t = at_sets v t
-take (Acceptance part) v t = in_acceptance part v t
+take Format v (Header name) = if same_name name (codes "HOA") then Ok (Version, v) else Err NotHoaVersion1
+take Format v _ = Err NotHoaVersion1
+take Version v (Identifier name) = if same_name name (codes "v1") then Ok (Item before.Plain, v) else Err NotHoaVersion1
+take Version v _ = Err NotHoaVersion1
+take (Item item) v (Header name) = begin_item v name
+take (Item item) v t = go_on item v t
+take States v (Int n) = if nat_lt stated_limits.hoa_states (capped n) then Err LimitPassed else Ok (Item before.Plain, record v { states = Some (capped n) })
+take States v _ = Err BadToken
+take Start v (Int n) = Ok (Item before.StartNumber, record v { start = Some (capped n) })
+take Start v _ = Err BadToken
+take Count v (Int n) = if nat_lt stated_limits.propositions (capped n) then Err LimitPassed else Ok (after_name (capped n), record v { names = Some []; left = capped n })
+take Count v _ = Err BadToken
+take Names v (StringToken name) = add_name v name
+take Names v t = Err (unless_broken t BadPropositionList)
+take Sets v (Int n) = if nat_lt MOST_SETS (capped n) then Err LimitPassed else Ok (Acceptance (first_part (capped n)), record v { sets = Some (capped n) })
+take Sets v t = Err (unless_broken t Unsupported)
+take (Acceptance part) v t = part_taken (unwrap_or v.sets 0) part v t
 take (Body place) v t = Err BadToken
 take End v t = Err TextAfterEnd
 

@@ -5,7 +5,8 @@ use Rattle.ltl_spec.specs.Tools.Limits.{stated_limits}
 use Rattle.ltl_spec.specs.Hoa.HoaToken.{HoaItem, hoa_items, last_line}
 use Rattle.ltl_spec.specs.Hoa.HoaReading.{stated_form, MarkedAutomaton, HoaReadsWithin}
 use Rattle.ltl_spec.specs.Hoa.HoaFault as spec
-use Rattle.ltl_spec.specs.Hoa.HoaFault.{Before, before_all, take_item, hoa_fault}
+use Rattle.ltl_spec.specs.Hoa.HoaPlace.{Before, before_all}
+use Rattle.ltl_spec.specs.Hoa.HoaFault.{take_item, hoa_fault}
 use Rattle.ltl_hoa.specs.declared.fault.HoaFault.{HoaFault}
 use Rattle.ltl_hoa.specs.declared.fault.HoaFault.TheVariants.{AtLine, CannotRead, OutOfMemory}
 use Rattle.ltl_hoa.specs.declared.machine.Found.{Found}

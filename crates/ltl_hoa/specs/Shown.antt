@@ -13,8 +13,8 @@ use Rattle.ltl_spec.specs.Tools.Limits.{stated_limits}
 use Rattle.ltl_spec.specs.Hoa.HoaToken.{HoaToken, Identifier, Int, AndSign, OpenBracket, CloseBracket, CloseLabel}
 use Rattle.ltl_spec.specs.Hoa.HoaReading.{set_tokens}
 use Rattle.ltl_spec.specs.Hoa.HoaLabel.{Label, label_formula, cubes, label_cubes}
-use Rattle.ltl_spec.specs.Hoa.HoaFault as spec
-use Rattle.ltl_spec.specs.Hoa.HoaFault.{Before, HoaHeader, LabelPart, LabelParts, whole}
+use Rattle.ltl_spec.specs.Hoa.HoaPlace as spec
+use Rattle.ltl_spec.specs.Hoa.HoaPlace.{Before, HoaHeader, LabelPart, LabelParts, whole}
 use Rattle.ltl_hoa.specs.declared.marked.TheConstants.{MOST_SETS}
 use Rattle.ltl_hoa.specs.declared.place.Place.{Place}
 use Rattle.ltl_hoa.specs.declared.place.Place.TheVariants as place
@@ -24,6 +24,7 @@ use Rattle.ltl_hoa.specs.declared.place.AcceptancePart.{AcceptancePart}
 use Rattle.ltl_hoa.specs.declared.place.AcceptancePart.TheVariants as part
 use Rattle.ltl_hoa.specs.declared.place.BodyPlace.{BodyPlace}
 use Rattle.ltl_hoa.specs.declared.place.BodyPlace.TheVariants as at
+use Rattle.ltl_hoa.specs.declared.header.Counts.{Counts}
 use Rattle.ltl_hoa.specs.NumberView.{capped}
 use Rattle.ltl_hoa.specs.LabelView.{LabelView, PartView}
 use Rattle.ltl_hoa.specs.HeaderView.{HeaderView}
@@ -175,19 +176,31 @@ abbrev pub AreAt : Bool → BodyView → List CameEdge → Type 0
 AreAt true b es = AreOpen b es
 AreAt false b es = AreFiled b es
 
-pub record ShowsBody (v : BodyView) (place : spec.BodyPlace) (b : Before) (g : Came) : Type 0 where
-  pub states : b.header.states ≡ Some v.counts.states
-  pub few_states : v.counts.states ≤ stated_limits.hoa_states
-  pub sets : b.header.sets ≡ Some v.counts.sets
-  pub names : option_map length b.header.names ≡ Some v.counts.names
-  pub well : (v.counts.names ≤ stated_limits.propositions) × (v.counts.sets ≤ MOST_SETS)
-  pub defined : (k : ℕ) → k < v.counts.states → slice_index_or v.defined k false ≡ list_any (λ m. m == k) b.numbers
-  pub counted : (length v.defined ≡ v.counts.states) × (length v.edges ≡ v.counts.states)
-  pub at : (first_or 0 b.numbers ≡ v.at) × (v.at < v.counts.states)
-  pub made : b.edges ≡ v.made
+-- the counts of the header
+pub record ShowsCounts (c : Counts) (h : HoaHeader) : Type 0 where
+  pub states : h.states ≡ Some c.states
+  pub few_states : c.states ≤ stated_limits.hoa_states
+  pub sets : h.sets ≡ Some c.sets
+  pub names : option_map length h.names ≡ Some c.names
+  pub well : (c.names ≤ stated_limits.propositions) × (c.sets ≤ MOST_SETS)
+
+-- which of so many states have stood, and the last of them
+pub record ShowsStates (count : ℕ) (defined : List Bool) (at : ℕ) (numbers : List ℕ) : Type 0 where
+  pub stood : (k : ℕ) → k < count → slice_index_or defined k false ≡ list_any (λ m. m == k) numbers
+  pub counted : length defined ≡ count
+  pub last : (first_or 0 numbers ≡ at) × (at < count)
+
+pub record IsShown (v : BodyView) (pending : Bool) (h : HoaHeader) (numbers : List ℕ) (count : ℕ) (g : Came) : Type 0 where
+  pub counts : ShowsCounts v.counts h
+  pub states : ShowsStates v.counts.states v.defined v.at numbers
+  pub placed : length v.edges ≡ v.counts.states
+  pub made : count ≡ v.made
   pub marks : set_of nat_cmp g.sets ≡ v.sets
   pub cubes : g.cubes ≡ v.cubes
-  pub edges : AreAt (is_open place) v g.edges
+  pub edges : AreAt pending v g.edges
+
+abbrev pub ShowsBody : BodyView → spec.BodyPlace → Before → Came → Type 0
+ShowsBody v place b g = IsShown v (is_open place) b.header b.numbers b.edges g
 
 -- ---- the header
 

@@ -165,7 +165,7 @@ impl<'a, A: Allocator> Body<'a, A> {
     }
 
     fn at_number(&mut self, kind: TokenKind, text: &[u8]) -> Result<Place, Stop>
-        ensures { BodyLeads (view.at_number self.old (token_of kind text.now)) result self.new }
+        ensures { BodyLeads (view.take BodyPlace.Number self.old (token_of kind text.now)) result self.new }
     {
         match kind {
             TokenKind::Int => self.define(number(text)),
@@ -209,7 +209,7 @@ impl<'a, A: Allocator> Body<'a, A> {
     }
 
     fn in_state_sets(&mut self, kind: TokenKind, text: &[u8]) -> Result<Place, Stop>
-        ensures { BodyLeads (view.in_state_sets self.old (token_of kind text.now)) result self.new }
+        ensures { BodyLeads (view.take BodyPlace.StateSets self.old (token_of kind text.now)) result self.new }
     {
         match kind {
             TokenKind::Int => {
@@ -239,7 +239,7 @@ impl<'a, A: Allocator> Body<'a, A> {
     }
 
     fn at_operand(&mut self, kind: TokenKind, text: &[u8]) -> Result<Place, Stop>
-        ensures { BodyLeads (view.at_operand self.old (token_of kind text.now)) result self.new }
+        ensures { BodyLeads (view.take BodyPlace.Operand self.old (token_of kind text.now)) result self.new }
     {
         match kind {
             TokenKind::NotSign => {
@@ -323,7 +323,7 @@ impl<'a, A: Allocator> Body<'a, A> {
     }
 
     fn at_target(&mut self, kind: TokenKind, text: &[u8]) -> Result<Place, Stop>
-        ensures { BodyLeads (view.at_target self.old (token_of kind text.now)) result self.new }
+        ensures { BodyLeads (view.take BodyPlace.Target self.old (token_of kind text.now)) result self.new }
     {
         if !matches!(kind, TokenKind::Int) {
             return Err(Stop::Fault(HoaFaultKind::BadToken));
@@ -351,7 +351,7 @@ impl<'a, A: Allocator> Body<'a, A> {
     }
 
     fn in_edge_sets(&mut self, kind: TokenKind, text: &[u8]) -> Result<Place, Stop>
-        ensures { BodyLeads (view.in_edge_sets self.old (token_of kind text.now)) result self.new }
+        ensures { BodyLeads (view.take BodyPlace.EdgeSets self.old (token_of kind text.now)) result self.new }
     {
         match kind {
             TokenKind::Int => {

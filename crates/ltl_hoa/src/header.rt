@@ -4,6 +4,8 @@ ghost use Rattle.std.specs.Prelude.{◌≡◌, ◌<◌, ◌≤◌, List, ℕ, ma
 ghost use Rattle.ltl_hoa.specs.MarkedView.{edge_of};
 ghost use Rattle.ltl_spec.specs.Formulas.Names as spec_names;
 ghost use Rattle.ltl_hoa.specs.TokenView.{token_of, kind_of};
+ghost use Rattle.ltl_spec.specs.Hoa.HoaReading as reading;
+ghost use Rattle.ltl_spec.specs.Hoa.HoaStep as table;
 ghost use Rattle.ltl_hoa.specs.HeaderView as view;
 ghost use Rattle.ltl_hoa.specs.HeaderView.{Leads, CountsAre};
 
@@ -49,7 +51,7 @@ impl<'a, A: Allocator> Model for Header<'a, A> {
 
 /// The fault, but a bad token where none begins or one has no end.
 fn unless_broken(kind: TokenKind, fault: HoaFaultKind) -> HoaFaultKind
-    ensures { (text : List ℕ) → kind_of result ≡ view.unless_broken (token_of kind text) (kind_of fault) }
+    ensures { (text : List ℕ) → kind_of result ≡ table.unless_broken (token_of kind text) (kind_of fault) }
 {
     match kind {
         TokenKind::Unknown | TokenKind::UnclosedText | TokenKind::UnclosedComment => {
@@ -61,7 +63,7 @@ fn unless_broken(kind: TokenKind, fault: HoaFaultKind) -> HoaFaultKind
 
 /// Whether an item of another name begins with an upper-case letter.
 fn begins_upper(name: &[u8]) -> bool
-    ensures { result ≡ view.begins_upper name.now }
+    ensures { result ≡ reading.begins_upper name.now }
 {
     match name {
         [first, ..] => first.is_ascii_uppercase(),
@@ -150,7 +152,7 @@ fn in_acceptance(
 
 /// Takes the beginning of the format's name.
 fn at_format(kind: TokenKind, text: &[u8]) -> Result<Place, Stop>
-    ensures { (v : view.HeaderView) → Leads (view.at_format v (token_of kind text.now)) result v }
+    ensures { (v : view.HeaderView) → Leads (view.take Place.Format v (token_of kind text.now)) result v }
 {
     match kind {
         TokenKind::Header if text == b"HOA".as_slice() => Ok(Place::Version),
@@ -160,7 +162,7 @@ fn at_format(kind: TokenKind, text: &[u8]) -> Result<Place, Stop>
 
 /// Takes the format's version.
 fn at_version(kind: TokenKind, text: &[u8]) -> Result<Place, Stop>
-    ensures { (v : view.HeaderView) → Leads (view.at_version v (token_of kind text.now)) result v }
+    ensures { (v : view.HeaderView) → Leads (view.take Place.Version v (token_of kind text.now)) result v }
 {
     match kind {
         TokenKind::Identifier if text == b"v1".as_slice() => Ok(Place::Item(ItemBefore::Plain)),
@@ -202,7 +204,7 @@ impl<'a, A: Allocator> Header<'a, A> {
     }
 
     fn at_item(&self, before: ItemBefore, kind: TokenKind, text: &[u8]) -> Result<Place, Stop>
-        ensures { Leads (view.at_item before self.now (token_of kind text.now)) result self.now }
+        ensures { Leads (view.take (Place.Item before) self.now (token_of kind text.now)) result self.now }
     {
         match kind {
             TokenKind::Header => self.begin_item(text),
@@ -233,7 +235,7 @@ impl<'a, A: Allocator> Header<'a, A> {
     }
 
     fn at_states(&mut self, kind: TokenKind, text: &[u8]) -> Result<Place, Stop>
-        ensures { Leads (view.at_states self.old (token_of kind text.now)) result self.new }
+        ensures { Leads (view.take Place.States self.old (token_of kind text.now)) result self.new }
     {
         if !matches!(kind, TokenKind::Int) {
             return Err(Stop::Fault(HoaFaultKind::BadToken));
@@ -247,7 +249,7 @@ impl<'a, A: Allocator> Header<'a, A> {
     }
 
     fn at_start(&mut self, kind: TokenKind, text: &[u8]) -> Result<Place, Stop>
-        ensures { Leads (view.at_start self.old (token_of kind text.now)) result self.new }
+        ensures { Leads (view.take Place.Start self.old (token_of kind text.now)) result self.new }
     {
         if !matches!(kind, TokenKind::Int) {
             return Err(Stop::Fault(HoaFaultKind::BadToken));
@@ -257,7 +259,7 @@ impl<'a, A: Allocator> Header<'a, A> {
     }
 
     fn at_count(&mut self, kind: TokenKind, text: &[u8]) -> Result<Place, Stop>
-        ensures { Leads (view.at_count self.old (token_of kind text.now)) result self.new }
+        ensures { Leads (view.take Place.Count self.old (token_of kind text.now)) result self.new }
     {
         if !matches!(kind, TokenKind::Int) {
             return Err(Stop::Fault(HoaFaultKind::BadToken));
@@ -283,7 +285,7 @@ impl<'a, A: Allocator> Header<'a, A> {
     }
 
     fn at_names(&mut self, kind: TokenKind, text: &[u8]) -> Result<Place, Stop>
-        ensures { Leads (view.at_names self.old (token_of kind text.now)) result self.new }
+        ensures { Leads (view.take Place.Names self.old (token_of kind text.now)) result self.new }
     {
         match kind {
             TokenKind::Text => self.add_name(text),
@@ -306,7 +308,7 @@ impl<'a, A: Allocator> Header<'a, A> {
     }
 
     fn at_sets(&mut self, kind: TokenKind, text: &[u8]) -> Result<Place, Stop>
-        ensures { Leads (view.at_sets self.old (token_of kind text.now)) result self.new }
+        ensures { Leads (view.take Place.Sets self.old (token_of kind text.now)) result self.new }
     {
         if !matches!(kind, TokenKind::Int) {
             let fault = unless_broken(kind, HoaFaultKind::Unsupported);

@@ -12,12 +12,13 @@ use Rattle.ltl_spec.specs.Transitions.Cubes.{Literal, literal_cmp, opposite, is_
 use Rattle.ltl_spec.proofs.Collections.SetLaws.{filter_cases, Has-filter}
 use Rattle.ltl_spec.proofs.Collections.MemberLaws.{all_Decides, any_cases, any_true}
 use Rattle.ltl_spec.proofs.Collections.Orders.{literal_linear}
+use Rattle.ltl_spec.proofs.Collections.CaseLaws.{nat_eq_is, nat_eq_same}
 use Rattle.ltl_sets.specs.Words.{IsWords, bit_in, HasNone, IsApart, places, members, literals_from, signed_places, literal_in, literals, letter_of, forbidden_of}
 use Rattle.ltl_sets.specs.CubeEq.{same_cube, cube_Decides}
 use Rattle.ltl_sets.specs.SubsetLaws.{filter_none, union_tests, common_tests, put_test, subset_tests}
 use Rattle.ltl_sets.specs.WordLaws.{IsWords-or, IsWords-and, IsWords-xor, IsWords-without, bit_in-or, bit_in-and, bit_in-xor, bit_in-without, bit_in-empty, same_words}
 use Rattle.ltl_sets.specs.PlaceLaws.{literal, signed_rise, Has-signed, signed_below, has_members, has_literals}
-use Rattle.ltl_sets.proofs.RowSetLaws.{told_equal, equal_told, never, false_if}
+use Rattle.ltl_sets.proofs.RowSetLaws.{never, false_if}
 
 -- ---- tests of literals
 
@@ -44,17 +45,17 @@ literals_single ps ns l h there alone =
 pub literal_alone : (us : List ℕ) (p : ℕ) (s : Bool) → p < 256 → ((j : ℕ) → j < 256 → bit_in us j ≡ nat_eq j p)
     → literals (cond s us (replicate 4 0)) (cond s (replicate 4 0) us) ≡ literal p s ∷ []
 literal_alone us p true h f =
-    literals_single us (replicate 4 0) (literal p true) h (f p h ∙ equal_told p p refl) (λ m l e. only m.proposition m.positive l e)
+    literals_single us (replicate 4 0) (literal p true) h (f p h ∙ nat_eq_same p p refl) (λ m l e. only m.proposition m.positive l e)
   where
     only : (q : ℕ) (s : Bool) → q < 256 → cond s (bit_in us q) (bit_in (replicate 4 0) q) ≡ true → literal q s ≡ literal p true
-    only q true l e = ap (λ n. literal n true) (told_equal q p (sym (f q l) ∙ e))
+    only q true l e = ap (λ n. literal n true) (nat_eq_is q p (sym (f q l) ∙ e))
     only q false l e = never (sym e ∙ bit_in-empty q l)
 literal_alone us p false h f =
-    literals_single (replicate 4 0) us (literal p false) h (f p h ∙ equal_told p p refl) (λ m l e. only m.proposition m.positive l e)
+    literals_single (replicate 4 0) us (literal p false) h (f p h ∙ nat_eq_same p p refl) (λ m l e. only m.proposition m.positive l e)
   where
     only : (q : ℕ) (s : Bool) → q < 256 → cond s (bit_in (replicate 4 0) q) (bit_in us q) ≡ true → literal q s ≡ literal p false
     only q true l e = never (sym e ∙ bit_in-empty q l)
-    only q false l e = ap (λ n. literal n false) (told_equal q p (sym (f q l) ∙ e))
+    only q false l e = ap (λ n. literal n false) (nat_eq_is q p (sym (f q l) ∙ e))
 
 -- ---- two cubes at once
 
@@ -91,10 +92,6 @@ module _ (ps ns qs ms : List ℕ) (p1 : IsWords ps) (n1 : IsWords ns) (p2 : IsWo
 
   pub IsApart-common : IsApart ps ns → IsApart (zip2 bit_and ps qs) (zip2 bit_and ns ms)
   IsApart-common apart i h = both_apart (bit_in ps i) (bit_in ns i) (bit_in qs i) (bit_in ms i) _ _ (bit_in-and ps qs p1 p2 i h) (bit_in-and ns ms n1 n2 i h) (apart i h)
-
-  -- no literal of the first is lacking in the second
-  lacking : List ℕ
-  lacking = zip2 bit_or (zip2 bit_and ps (map (bit_not w64) qs)) (zip2 bit_and ns (map (bit_not w64) ms))
 
   pub IsWords-lacking : IsWords (zip2 bit_or (zip2 bit_and ps (map (bit_not w64) qs)) (zip2 bit_and ns (map (bit_not w64) ms)))
   IsWords-lacking = IsWords-or _ _ (IsWords-without ps qs p1 p2) (IsWords-without ns ms n1 n2)
@@ -286,9 +283,6 @@ module _ (ps ns ts : List ℕ) (p1 : IsWords ps) (n1 : IsWords ns) (t1 : IsWords
   fails false true true f g = never (sym (g refl))
   fails false true false f g = refl
   fails false false t f g = refl
-
-  truth : Literal → Bool
-  truth l = beq (has nat_cmp l.proposition (members ts)) l.positive
 
   pub allows_Decides : (r : Bool) → Decides r (HasNone (zip2 bit_or (zip2 bit_and ps (map (bit_not w64) ts)) (zip2 bit_and ns ts)))
       → r ≡ allows (λ i. has nat_cmp i (members ts)) (literals ps ns)

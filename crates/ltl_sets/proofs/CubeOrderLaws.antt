@@ -10,6 +10,7 @@ use Rattle.std.proofs.lemmas.Bool.Decides.{nat_tests}
 use Rattle.std.proofs.lemmas.Cmp.{tied_itself}
 use Rattle.ltl_spec.specs.Transitions.Cubes.{Literal, literal_cmp, cube_cmp}
 use Rattle.ltl_spec.proofs.Collections.Orders.{literal_linear, cube_linear}
+use Rattle.ltl_spec.proofs.Collections.CaseLaws.{below_equal_above}
 use Rattle.ltl_sets.specs.Words.{IsWords, bit_in, HasNone, Reaches, IsLowest, IsApart, IsCubeWords, signed_places, literal_in, literals}
 use Rattle.ltl_sets.specs.SubsetLaws.{cmp_goes_on, cmp_ends}
 use Rattle.ltl_sets.specs.WordLaws.{IsWords-xor, bit_in-or, bit_in-xor}
@@ -18,9 +19,6 @@ use Rattle.ltl_sets.proofs.RowSetLaws.{never, false_if}
 use Rattle.ltl_sets.proofs.CubeLaws.{same_literals}
 
 -- ---- which literal is below which
-
-by_number : (x y : ℕ) → (x < y) ⊎ ((x ≡ y) ⊎ (y < x))
-by_number x y = grind arith
 
 level : (x y : ℕ) → x ≡ y → nat_cmp x y ≡ Equal
 level x y e = grind (arith, nat_tests)
@@ -36,7 +34,7 @@ signs_less false false e = cc
 
 less_cases : (l m : Literal) → literal_cmp l m ≡ Less → (l.proposition < m.proposition) ⊎ ((l.proposition ≡ m.proposition) × ((l.positive ≡ true) × (m.positive ≡ false)))
 less_cases l m e =
-    elim (by_number l.proposition m.proposition) [
+    elim (below_equal_above l.proposition m.proposition) [
       | inl h ↦ inl h
       | inr (inl h) ↦ inr (h, signs_less l.positive m.positive (sym (ap (λ o. ordering_then o (bool_cmp m.positive l.positive)) (level l.proposition m.proposition h)) ∙ e))
       | inr (inr h) ↦ absurd (other (sym (ap (λ o. ordering_then o (bool_cmp m.positive l.positive)) (greater l.proposition m.proposition h)) ∙ e))

@@ -106,9 +106,6 @@ fold_Decides ws one =
 -- ---- the lowest one
 
 module _ (ws : List ℕ) (at : ℕ) (inside : at < 4) (fit : get_or ws at 0 < 2 ^ 64) (some : 0 < get_or ws at 0) where
-  lowest_in : ℕ
-  lowest_in = trailing_zeros w64 (get_or ws at 0)
-
   pub IsLowest-words : ((k : ℕ) → k < at → get_or ws k 0 ≡ 0) → IsLowest ws (64 * at + trailing_zeros w64 (get_or ws at 0))
   IsLowest-words zeros =
       let low = bit_at-trailing_zeros w64 (get_or ws at 0) some fit in

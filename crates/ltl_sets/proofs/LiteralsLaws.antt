@@ -1,13 +1,11 @@
 -- The literals of a cube, one after another.
-use Rattle.std.proofs.Common.{◌≡◌, ◌∙◌, length, ap, refl, ℕ, zero, suc, ◌+◌, ◌<◌, ◌≤◌, bit_or, arith, Bool, true, false, cond, ◌||◌, ◌&&◌, List, ◌∷◌, map, Option, Some, None}
+use Rattle.std.proofs.Common.{◌≡◌, ◌∙◌, length, ap, refl, ℕ, zero, suc, ◌+◌, ◌<◌, ◌≤◌, bit_or, arith, Bool, true, false, cond, ◌||◌, ◌&&◌, List, ◌∷◌, map}
 use Rattle.std.specs.Simd.Lanes.{zip2}
 use Rattle.std.specs.Ordering.{nat_cmp}
-use Rattle.std.specs.Iterator.{YieldsFirst}
 use Rattle.std.proofs.lemmas.List.{length-map}
 use Rattle.std.specs.List.{filter, range_with_len}
 use Rattle.ltl_spec.specs.Collections.Sets.{has}
 use Rattle.ltl_spec.specs.Transitions.Cubes.{Literal}
-use Rattle.ltl_sets.specs.declared.literal.Literal as made
 use Rattle.ltl_sets.specs.Literals.{literal_of, cube_of, signed_by}
 use Rattle.ltl_sets.specs.Words.{IsWords, bit_in, IsApart, places, members, literals_from, signed_places, literal_in, literals}
 use Rattle.ltl_sets.specs.WordLaws.{bit_in-or}
@@ -43,18 +41,6 @@ module _ (ps ns : List ℕ) (p1 : IsWords ps) (n1 : IsWords ns) (apart : IsApart
   pub signed_members : cube_of (map (signed_by (members ps)) (members (zip2 bit_or ps ns))) ≡ literals ps ns
   unfolding literals signed_places
   signed_members = ap (λ js. cube_of (map (signed_by (members ps)) js)) (members_are (zip2 bit_or ps ns)) ∙ from 0 256 (omega arith)
-
--- what comes of the places comes of their literals
-pub yields_signed : (is js us : List ℕ) (r : Option ℕ) → YieldsFirst (λ rest. rest) js r us → (p : ℕ) → r ≡ Some p → map (signed_by is) js ≡ signed_by is p ∷ map (signed_by is) us
-yields_signed is js us None y p e = cc
-yields_signed is js us (Some q) y p e = ap (map (signed_by is)) y ∙ ap (λ n. signed_by is n ∷ map (signed_by is) us) (same q p e)
-  where
-    same : (a b : ℕ) → Some a ≡ Some b → a ≡ b
-    same a b e = cc
-
-pub yields_none : (is js us : List ℕ) (r : Option ℕ) → YieldsFirst (λ rest. rest) js r us → r ≡ None → YieldsFirst {A = made.Literal} (λ rest. rest) (map (signed_by is) js) None (map (signed_by is) us)
-yields_none is js us None y e = (ap (map (signed_by is)) y.0, ap (map (signed_by is)) y.1)
-yields_none is js us (Some q) y e = cc
 
 pub signed_few : (is js : List ℕ) → length js ≤ 256 → length (map (signed_by is) js) ≤ 256
 signed_few is js h = omega (arith, length-map js (signed_by is))

@@ -12,25 +12,18 @@ use Rattle.std.specs.Iterator.Runs.{YieldsInOrder}
 use Rattle.std.proofs.iter.runs.Sources.{from_front, as_is}
 use Rattle.std.proofs.lemmas.List.FromFn.{length-range_with_len}
 use Rattle.std.specs.Cmp.Lexicographic.{slice_cmp, pointwise, bytes_decides}
-use Rattle.std.proofs.lemmas.Bool.Decides.{nat_tests, same_from_decides, Decides-like}
+use Rattle.std.proofs.lemmas.Bool.Decides.{same_from_decides, Decides-like}
 use Rattle.std.proofs.lemmas.Cmp.{tied_itself}
 use Rattle.ltl_spec.specs.Collections.Sets.{put, union, has, is_subset}
 use Rattle.ltl_spec.proofs.Collections.Orders.{nat_linear, row_set_linear}
+use Rattle.ltl_spec.proofs.Collections.CaseLaws.{nat_eq_is, nat_eq_same, nat_eq_other}
+use Rattle.ltl_spec.proofs.Collections.SumLaws.{filter_length}
 use Rattle.ltl_sets.specs.Words.{IsWords, bit_in, HasNone, Reaches, IsLowest, FindsLowest, LosesBit, places, members}
 use Rattle.ltl_sets.specs.SubsetLaws.{filter_none, same_filter, union_tests, common_tests, put_test, subset_tests, first_taken, cmp_goes_on, cmp_ends, either_true, left_or, right_or}
 use Rattle.ltl_sets.specs.WordLaws.{bit_in-or, bit_in-and, bit_in-xor, bit_in-without, bit_in-empty, same_words}
 use Rattle.ltl_sets.specs.PlaceLaws.{less, below, places_rise, Has-places, places_below, has_members}
 
 -- ---- numbers and tests
-
-pub told_equal : (x y : ℕ) → nat_eq x y ≡ true → x ≡ y
-told_equal x y e = grind (arith, nat_tests)
-
-pub told_other : (x y : ℕ) → x ≢ y → nat_eq x y ≡ false
-told_other x y e = grind (arith, nat_tests)
-
-pub equal_told : (x y : ℕ) → x ≡ y → nat_eq x y ≡ true
-equal_told x y e = grind (arith, nat_tests)
 
 pub never : {P : Type 0} → true ≡ false → P
 never e = absurd (no e)
@@ -56,9 +49,9 @@ pub members_put : (ws us : List ℕ) (i : ℕ) → i < 256 → ((z : ℕ) → z 
 unfolding members
 members_put ws us i h f =
     put_test nat_linear places places_rise i (bit_in ws) (bit_in us) (Has-places i h)
-    (f i h ∙ right_or (bit_in ws i) (nat_eq i i) (equal_told i i refl))
+    (f i h ∙ right_or (bit_in ws i) (nat_eq i i) (nat_eq_same i i refl))
     (λ z m e. f z (places_below z m) ∙ left_or (bit_in ws z) (nat_eq z i) e)
-    (λ z m e. elim (either_true (bit_in ws z) (nat_eq z i) (sym (f z (places_below z m)) ∙ e)) [ inl t ↦ inr t | inr t ↦ inl (told_equal z i t) ])
+    (λ z m e. elim (either_true (bit_in ws z) (nat_eq z i) (sym (f z (places_below z m)) ∙ e)) [ inl t ↦ inr t | inr t ↦ inl (nat_eq_is z i t) ])
 
 pub members_single : (us : List ℕ) (i : ℕ) → i < 256 → ((z : ℕ) → z < 256 → bit_in us z ≡ nat_eq z i) → members us ≡ i ∷ []
 members_single us i h f =
@@ -244,9 +237,9 @@ kept false b e = refl
 pub members_first : (ws us : List ℕ) (i : ℕ) → IsLowest ws i → LosesBit ws i us → members ws ≡ i ∷ members us
 unfolding members
 members_first ws us i low f =
-    first_taken nat_linear i (bit_in ws) (bit_in us) (f i low.below ∙ lost (bit_in ws i) (nat_eq i i) (equal_told i i refl)) low.one
+    first_taken nat_linear i (bit_in ws) (bit_in us) (f i low.below ∙ lost (bit_in ws i) (nat_eq i i) (nat_eq_same i i refl)) low.one
     places places_rise (Has-places i low.below)
-    (λ z m d. f z (places_below z m) ∙ kept (bit_in ws z) (nat_eq z i) (told_other z i d))
+    (λ z m d. f z (places_below z m) ∙ kept (bit_in ws z) (nat_eq z i) (nat_eq_other z i d))
     (λ z m b. low.zeros z (below z i b))
 
 pub yields_members : (ws us : List ℕ) (r : Option ℕ) → FindsLowest ws r → MatchOption r (us ≡ ws) (λ i. LosesBit ws i us) → YieldsFirst members ws r us
@@ -266,15 +259,6 @@ first_progress can f s (Some x) t y = record { on = λ _. (f t, tt, shorter (len
 pub first_runs : {A : Type 0} → YieldsInOrder (YieldsFirst {A = A} (λ rest. rest)) (λ rest. rest)
 first_runs {A} p s = as_is p p.from (from_front (YieldsFirst {A = A} (λ rest. rest)) (λ y. y) (λ rest. rest) (λ s t h. ap length h.0) (λ s x t h. h) p s)
 
--- no set has more members than there are places
-filter_few : {A : Type 0} (p : A → Bool) (xs : List A) → length (filter p xs) ≤ length xs
-filter_few p [] = omega arith
-filter_few p (x ∷ xs) = by (p x) (filter_few p xs)
-  where
-    by : (b : Bool) → length (filter p xs) ≤ length xs → length (cond b (x ∷ filter p xs) (filter p xs)) ≤ suc (length xs)
-    by true h = omega arith
-    by false h = omega arith
-
 pub members_few : (ws : List ℕ) → length (members ws) ≤ 256
 unfolding members places
-members_few ws = omega (arith, filter_few (bit_in ws) (range_with_len 0 256), length-range_with_len 0 256)
+members_few ws = omega (arith, filter_length (bit_in ws) (range_with_len 0 256), length-range_with_len 0 256)

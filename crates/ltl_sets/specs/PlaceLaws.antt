@@ -28,11 +28,11 @@ range_cases a (suc n) z (inr h) = let r = range_cases (a + 1) n z h in (omega ar
 first_or_later : (a z : ℕ) → a ≤ z → (z ≡ a) ⊎ (a + 1 ≤ z)
 first_or_later a z h = grind arith
 
-Has-range : (a n z : ℕ) → a ≤ z → z < a + n → Has (range_with_len a n) z
+pub Has-range : (a n z : ℕ) → a ≤ z → z < a + n → Has (range_with_len a n) z
 Has-range a zero z l h = absurd (omega arith)
 Has-range a (suc n) z l h = elim (first_or_later a z l) [ inl e ↦ inl e | inr m ↦ inr (Has-range (a + 1) n z m (omega arith)) ]
 
-IsRising-range : (a n : ℕ) → IsRising nat_cmp (range_with_len a n)
+pub IsRising-range : (a n : ℕ) → IsRising nat_cmp (range_with_len a n)
 IsRising-range a zero = tt
 IsRising-range a (suc n) =
     (all_from (λ z. nat_cmp a z ≡ Less) (range_with_len (a + 1) n) (λ z h. less a z (let r = range_cases (a + 1) n z h in omega arith)), IsRising-range (a + 1) n)

@@ -96,10 +96,6 @@ module _ {K : Type 0} {cmp : K → K → Ordering} (o : IsLinearOrder cmp) (us :
       (λ f z h. let (m, e) = filter_cases p us z h in Has-filter q us z m (f z m e))
       (is_subset_Decides o (filter p us) (filter q us))
 
-  -- sets with the same members have the same tests
-  pub same_tests : (p q : K → Bool) → filter p us ≡ filter q us → (z : K) → Has us z → p z ≡ q z
-  same_tests p q e z m = sym (has_test z p m) ∙ ap (has cmp z) e ∙ has_test z q m
-
 module _ {K : Type 0} {cmp : K → K → Ordering} (o : IsLinearOrder cmp) (x : K) (p : K → Bool) where
   not_below_itself : (y : K) → cmp y y ≡ Less → ⊥
   not_below_itself y e = different (sym (tied_itself o.total y) ∙ e)

@@ -43,16 +43,16 @@ bit_at-number (suc k) p (suc i) h =
 
 -- ---- the tests of bits
 
-either_one : (x y z : ℕ) → x < 2 → y < 2 → z ≡ max x y → nat_eq z 1 ≡ (nat_eq x 1 || nat_eq y 1)
+pub either_one : (x y z : ℕ) → x < 2 → y < 2 → z ≡ max x y → nat_eq z 1 ≡ (nat_eq x 1 || nat_eq y 1)
 either_one x y z h g e = grind (arith, nat_tests)
 
-both_one : (x y z : ℕ) → x < 2 → y < 2 → z ≡ min x y → nat_eq z 1 ≡ (nat_eq x 1 && nat_eq y 1)
+pub both_one : (x y z : ℕ) → x < 2 → y < 2 → z ≡ min x y → nat_eq z 1 ≡ (nat_eq x 1 && nat_eq y 1)
 both_one x y z h g e = grind (arith, nat_tests)
 
 one_without : (x y z : ℕ) → x < 2 → y < 2 → z ≡ min x (1 - y) → nat_eq z 1 ≡ (nat_eq x 1 && not (nat_eq y 1))
 one_without x y z h g e = grind (arith, nat_tests)
 
-below_two : (x : ℕ) → x < 2 → (x ≡ 0) ⊎ (x ≡ 1)
+pub below_two : (x : ℕ) → x < 2 → (x ≡ 0) ⊎ (x ≡ 1)
 below_two x h = grind arith
 
 one_alone : (x y z : ℕ) → x < 2 → y < 2 → z ≡ (x + y) % 2 → nat_eq z 1 ≡ not (beq (nat_eq x 1) (nat_eq y 1))
@@ -171,16 +171,6 @@ bit_in-without xs ys one two i h =
     ∙ one_without (bit_at (get_or xs (i / 64) 0) (i % 64)) (bit_at (get_or ys (i / 64) 0) (i % 64)) _ (bit_at-lt (get_or xs (i / 64) 0) (i % 64)) (bit_at-lt (get_or ys (i / 64) 0) (i % 64))
     (bit_at_and (get_or xs (i / 64) 0) (bit_not w64 (get_or ys (i / 64) 0)) (i % 64)
     ∙ ap (min (bit_at (get_or xs (i / 64) 0) (i % 64))) (bit_at_not w64 (get_or ys (i / 64) 0) (i % 64) (two.fit (i / 64)) (place_below i)))
-
--- no ones
-pub IsWords-empty : IsWords (replicate 4 0)
-IsWords-empty = record {
-  long = refl;
-  fit = λ k. elim (split_four k) [
-    | inl h ↦ rw (get_or-replicate {A = ℕ} 4 k 0 0 h) (omega arith)
-    | inr h ↦ fits_in _ (get_or_past (replicate 4 0) k 0 h)
-  ];
-}
 
 pub bit_in-empty : (i : ℕ) → i < 256 → bit_in (replicate 4 0) i ≡ false
 bit_in-empty i h = ap (λ n. nat_eq (bit_at n (i % 64)) 1) (get_or-replicate 4 (i / 64) 0 0 (word_below i h)) ∙ ap (λ n. nat_eq n 1) (bit_at-zero (i % 64))

@@ -3,4 +3,3 @@ pub mod ListingLaws
 pub mod ListingReach
 pub mod ListedStates
 pub mod CountsLaws
-pub mod LimitLaws

@@ -3,8 +3,6 @@ pub mod ProductRuns
 pub mod UnifiedLaws
 pub mod ProductLaws
 pub mod PathLaws
-pub mod LevelWalkLaws
-pub mod SearchLaws
 pub mod CheckLaws
 pub mod StreamLaws
 pub mod VerdictLaws

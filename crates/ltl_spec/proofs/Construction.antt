@@ -10,4 +10,4 @@ pub mod ImpliedEdges
 pub mod SetEdges
 pub mod QuotientRuns
 pub mod MergingRuns
-pub mod MergingUnique
+pub mod NamingLaws

@@ -4,6 +4,7 @@ pub mod Texts
 pub mod ReaderTexts
 pub mod PruningExamples
 pub mod FactorExamples
+pub mod WithinLimits
 pub mod CheckTexts
 pub mod CheckExamples
 pub mod InputTexts

@@ -1,6 +1,5 @@
 -- Formulas, their texts and the faults of texts.
 pub mod NameLaws
-pub mod GrammarLaws
 pub mod GrammarMachine
 pub mod BeginningLaws
 pub mod FaultLaws

@@ -4,6 +4,7 @@ pub mod HoaLabelLaws
 pub mod HoaHeaderLaws
 pub mod HoaBodyLaws
 pub mod HoaLaws
+pub mod HoaFaultLaws
 pub mod HoaUniqueLaws
 pub mod HoaLabelBack
 pub mod HoaHeaderBack

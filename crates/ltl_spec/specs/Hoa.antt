@@ -4,4 +4,6 @@ pub mod HoaLabel
 pub mod HoaReading
 pub mod HoaPrinted
 pub mod HoaFaultKind
+pub mod HoaPlace
+pub mod HoaStep
 pub mod HoaFault

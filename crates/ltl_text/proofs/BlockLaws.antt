@@ -13,9 +13,11 @@ use Rattle.ltl_spec.proofs.Collections.SetLaws.{filter_cases, Has-filter, IsRisi
 use Rattle.ltl_spec.proofs.Collections.Orders.{nat_linear}
 use Rattle.ltl_text.specs.Blocks.{blocks_text, others_text}
 use Rattle.ltl_text.specs.Options.{options_text}
-use Rattle.ltl_text.proofs.OptionLaws.{IsRising-range, Has-range, range_below, filter_none, same_test, test_same}
+use Rattle.ltl_text.proofs.OptionLaws.{range_below, same_test, test_same}
+use Rattle.ltl_sets.specs.SubsetLaws.{filter_none}
+use Rattle.ltl_sets.specs.PlaceLaws.{IsRising-range, Has-range}
 
-unequal : (x t : ℕ) → (x ≡ t → ⊥) → (x == t) ≡ false
+pub unequal : (x t : ℕ) → (x ≡ t → ⊥) → (x == t) ≡ false
 unequal x t h = grind (arith, nat_tests)
 
 -- ---- the numbers from k on
@@ -53,9 +55,6 @@ module _ (B : Automaton) (names : List Name) where
   others_end k le = ap (λ l. flat_map (block B names) (filter other l)) (range_end k (length B.states) le)
 
   -- ---- the last block
-  abbrev last_text : List ℕ
-  last_text = flat_map (block B names) (filter (λ k. k == skip_state B) (numbers B))
-
   pub no_last : length B.states ≤ skip_state B → blocks_text B names ≡ others_text B names
   no_last le =
       ap (λ l. others_text B names ++ flat_map (block B names) l)
@@ -84,14 +83,8 @@ module _ (B : Automaton) (names : List Name) where
       regroup : (a b c d : List ℕ) → ((a ++ b) ++ c) ++ d ≡ a ++ ((b ++ c) ++ d)
       regroup a b c d = simp append_assoc
 
-  pub body_skip : (k : ℕ) → k ≡ skip_state B → indented (codes "skip") ≡ body B names k
-  body_skip k e = ap (λ (b : Bool). if b then indented (codes "skip") else options B names (state_at B k) (state_at B k).edges) (sym (same_test k (skip_state B) e))
-
   body_other : (k : ℕ) → (k ≡ skip_state B → ⊥) → options B names (state_at B k) (state_at B k).edges ≡ body B names k
   body_other k e = ap (λ (b : Bool). if b then indented (codes "skip") else options B names (state_at B k) (state_at B k).edges) (sym (unequal k (skip_state B) e))
-
-  pub body_none : (k : ℕ) → (k ≡ skip_state B → ⊥) → (state_at B k).edges ≡ [] → indented (codes "false;") ≡ body B names k
-  body_none k e none = ap (options B names (state_at B k)) (sym none) ∙ body_other k e
 
   with_some : (s : State) (es : List Edge) → 0 < length es → indented (codes "if") ++ (options_text B names s ++ indented (codes "fi;")) ≡ options B names s es
   with_some s [] h = absurd (omega arith)

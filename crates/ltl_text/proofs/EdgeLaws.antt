@@ -1,5 +1,5 @@
 -- The edges of the code at their places.
-use Rattle.std.proofs.Common.{◌≡◌, ◌∙◌, ap, sym, subst, ℕ, ◌<◌, Bool, false, List, [], length, map, slice_index_or, arith}
+use Rattle.std.proofs.Common.{◌≡◌, ◌∙◌, ap, sym, subst, ℕ, ◌<◌, false, List, [], length, map, slice_index_or, arith}
 use Rattle.std.specs.Prelude.{◌==◌, All}
 use Rattle.std.proofs.lemmas.Bool.Decides.{nat_tests}
 use Rattle.ltl_spec.specs.Automata.Automaton as spec
@@ -7,9 +7,7 @@ use Rattle.ltl_spec.proofs.Collections.MemberLaws.{at_map, map_length}
 use Rattle.ltl_automaton.specs.declared.edge.Edge.{Edge}
 use Rattle.ltl_buchi.specs.BaView.{edge_of, target_at}
 use Rattle.ltl_text.specs.Options.{edge_at}
-
-unequal : (x t : ℕ) → (x ≡ t → ⊥) → (x == t) ≡ false
-unequal x t h = grind (arith, nat_tests)
+use Rattle.ltl_text.proofs.BlockLaws.{unequal}
 
 pub cube_is : (es : List Edge) (p : ℕ) (d : Edge) → p < length es → (edge_at (map edge_of es) p).cube ≡ (slice_index_or es p d).cube
 cube_is es p d within = ap (λ (x : spec.Edge). x.cube) (at_map edge_of es p d (record { cube = []; target = 0; marks = [] }) within)
@@ -24,9 +22,6 @@ module _ (es : List Edge) (p : ℕ) (e : Edge) (within : p < length es) (is : e 
 
   pub target_is : target_at (map edge_of es) p ≡ e.target
   target_is = ap (λ (x : spec.Edge). x.target) edge_is
-
-  pub test_is : (t : ℕ) (b : Bool) → (e.target == t) ≡ b → (target_at (map edge_of es) p == t) ≡ b
-  test_is t b h = ap (λ x. x == t) target_is ∙ h
 
   pub other_is : (t : ℕ) → ((slice_index_or es p e).target ≡ t → ⊥) → (target_at (map edge_of es) p == t) ≡ false
   other_is t h = unequal (target_at (map edge_of es) p) t (λ k. h (ap (λ (x : Edge). x.target) (sym is) ∙ sym target_is ∙ k))

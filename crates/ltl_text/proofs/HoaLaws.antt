@@ -1,9 +1,9 @@
 -- A text in the Hanoi Omega-Automata format as what is put one after the other.
-use Rattle.std.proofs.Common.{◌≡◌, ◌∙◌, ap, sym, refl, ℕ, zero, suc, ◌+◌, ◌-◌, ◌<◌, ◌≤◌, Bool, false, List, [], ◌∷◌, ◌++◌, length, map, slice_index_or, append_assoc, drop, arith}
+use Rattle.std.proofs.Common.{◌≡◌, ◌∙◌, ap, sym, refl, ℕ, zero, suc, ◌+◌, ◌-◌, ◌<◌, Bool, false, List, [], ◌∷◌, ◌++◌, length, map, slice_index_or, append_assoc, drop, arith}
 use Rattle.std.specs.Prelude.{codes, if◌then◌else◌}
 use Rattle.std.specs.Fmt.{decimal}
 use Rattle.std.specs.List.{flat_map, range_with_len}
-use Rattle.std.proofs.lemmas.List.{drop_more, drop_all}
+use Rattle.std.proofs.lemmas.List.{drop_more}
 use Rattle.ltl_spec.specs.Collections.Lists.{joined_by}
 use Rattle.ltl_spec.specs.Semantics.Word.{Name}
 use Rattle.ltl_spec.specs.Formulas.Formula.{Reading}
@@ -17,7 +17,7 @@ use Rattle.ltl_spec.specs.Automata.ClaimText.{line}
 use Rattle.ltl_sets.specs.declared.literal.Literal as made
 use Rattle.ltl_sets.specs.Literals.{literal_of, cube_of}
 use Rattle.ltl_text.specs.HoaPieces.{acceptance_text, condition_text, counts_text, lines_text, marked_states_text, quoted_names, set_text, state_number, states_text, step_text, title_text}
-use Rattle.ltl_text.proofs.BlockLaws.{range_step, range_end}
+use Rattle.ltl_text.proofs.BlockLaws.{range_step}
 use Rattle.ltl_text.proofs.TextLaws.{amid, joined_led, led, onward}
 
 -- ---- a label
@@ -41,9 +41,6 @@ pub label_goes_on : (rest : List made.Literal) (l : made.Literal) (ls : List mad
     → led (codes "&") (labels_of rest) ≡ codes "&" ++ (label_literal (literal_of l) ++ led (codes "&") (labels_of ls))
 label_goes_on rest l ls e =
     ap (λ t. led (codes "&") (labels_of t)) e ∙ append_assoc (codes "&") (label_literal (literal_of l)) (led (codes "&") (labels_of ls))
-
-pub label_ends : (rest : List made.Literal) → rest ≡ [] → led (codes "&") (labels_of rest) ≡ []
-label_ends rest e = ap (λ t. led (codes "&") (labels_of t)) e
 
 -- ---- edges and states
 step_onward : (a b c d e : List ℕ) → (((a ++ b) ++ c) ++ d) ++ e ≡ (a ++ (b ++ (c ++ d))) ++ e
@@ -73,14 +70,8 @@ module _ (lines : ℕ → List ℕ) (count : ℕ) where
   abbrev pub states_from : ℕ → List ℕ
   states_from k = flat_map lines (range_with_len k (count - k))
 
-  pub states_begin : flat_map lines (range_with_len 0 count) ≡ states_from 0
-  states_begin = let e : count ≡ count - 0 = omega arith in ap (λ n. flat_map lines (range_with_len 0 n)) e
-
   pub states_go_on : (k : ℕ) → k < count → states_from k ≡ lines k ++ states_from (k + 1)
   states_go_on k lt = ap (flat_map lines) (range_step k count lt)
-
-  pub states_end : (k : ℕ) → count ≤ k → states_from k ≡ []
-  states_end k le = ap (flat_map lines) (range_end k count le)
 
 -- the edges from a place on
 module _ {X : Type 0} (view : X → Edge) (text : Edge → List ℕ) where
@@ -88,9 +79,6 @@ module _ {X : Type 0} (view : X → Edge) (text : Edge → List ℕ) where
       → flat_map text (map view (drop i es)) ≡ text (view e) ++ flat_map text (map view (drop (i + 1) es))
   edges_go_on es i e lt is =
       ap (λ l. flat_map text (map view l)) (drop_more es i e lt) ∙ ap (λ x. text (view x) ++ flat_map text (map view (drop (i + 1) es))) (sym is)
-
-  pub edges_end : (es : List X) (i : ℕ) → length es ≤ i → flat_map text (map view (drop i es)) ≡ []
-  edges_end es i le = ap (λ l. flat_map text (map view l)) (drop_all i es le)
 
 -- ---- the sets of an edge
 pub marks_begin : (marks rest : List ℕ) (k : ℕ) (ks : List ℕ) → rest ≡ marks → rest ≡ k ∷ ks
@@ -106,9 +94,6 @@ marks_go_on rest k ks e =
 
 pub marks_end : (rest : List ℕ) → rest ≡ [] → led (codes " ") (map decimal rest) ++ codes "}" ≡ codes "}"
 marks_end rest e = ap (λ t. led (codes " ") (map decimal t) ++ codes "}") e
-
-pub no_marks : (marks rest : List ℕ) → rest ≡ marks → rest ≡ [] → marks_text marks ≡ []
-no_marks marks rest e f = ap marks_text (sym e ∙ f)
 
 -- ---- the acceptance of so many sets
 pub some_name : (sets : ℕ) → 0 < sets → acceptance_name sets ≡ codes "generalized-Buchi " ++ decimal sets
@@ -138,17 +123,11 @@ pub sets_go_on : (sets k : ℕ) → k < sets → sets_from sets k ≡ codes "&" 
 sets_go_on sets k lt =
     ap (λ ks. led (codes "&") (map set_text ks)) (range_step k sets lt) ∙ append_assoc (codes "&") (set_text k) (sets_from sets (k + 1))
 
-pub sets_end : (sets k : ℕ) → sets ≤ k → sets_from sets k ≡ []
-sets_end sets k le = ap (λ ks. led (codes "&") (map set_text ks)) (range_end k sets le)
-
 -- ---- names
 pub names_go_on : (names : List Name) (k : ℕ) → k < length names
     → quoted_names (drop k names) ≡ codes " \"" ++ (slice_index_or names k [] ++ (codes "\"" ++ quoted_names (drop (k + 1) names)))
 names_go_on names k lt =
     ap quoted_names (drop_more names k [] lt) ∙ ap (λ t. codes " \"" ++ t) (append_assoc (slice_index_or names k []) (codes "\"") (quoted_names (drop (k + 1) names)))
-
-pub names_end : (names : List Name) (k : ℕ) → length names ≤ k → quoted_names (drop k names) ≡ []
-names_end names k le = ap quoted_names (drop_all k names le)
 
 -- ---- the whole text
 text_pieces : (R : Reading) (count : ℕ) (name condition kind states : List ℕ)

@@ -10,10 +10,11 @@ use Rattle.std.proofs.lemmas.List.Elements.{All-drop, filter-append}
 use Rattle.std.proofs.lemmas.List.{drop_all, drop_more, get_or-take, take-append-drop}
 use Rattle.std.proofs.lemmas.List.Sums.{prefix_len_passes, prefix_len_stops}
 use Rattle.std.proofs.lemmas.Simd.{pick_l_whole}
+use Rattle.std.proofs.lemmas.Bool.{cases_lt}
 use Rattle.ltl_spec.specs.Collections.Sets.{Has, IsRising, set_of}
 use Rattle.ltl_spec.specs.Collections.Lists.{joined_by}
 use Rattle.ltl_spec.proofs.Collections.SetLaws.{all_at, all_from, append_cases, append_right, IsRising-set_of, IsRising-filter, set_of_cases, Has-set_of, same_members, filter_cases, Has-filter}
-use Rattle.ltl_spec.proofs.Collections.MemberLaws.{Has-map, map_cases}
+use Rattle.ltl_spec.proofs.Collections.MemberLaws.{Has-map, map_cases, filter_all}
 use Rattle.ltl_spec.proofs.Collections.ListLaws.{All-at_has, Has-at}
 use Rattle.ltl_spec.proofs.Collections.Orders.{nat_linear}
 use Rattle.ltl_spec.specs.Semantics.Word.{Name}
@@ -21,11 +22,10 @@ use Rattle.ltl_spec.specs.Automata.Automaton.{Automaton, Edge, State}
 use Rattle.ltl_spec.specs.Automata.ClaimText.{cube_text, indented, label_of, option_line}
 use Rattle.ltl_buchi.specs.BaView.{IsTargetOrder, target_at}
 use Rattle.ltl_text.specs.Options.{edge_at, guards_text, option_text, options_text}
+use Rattle.ltl_sets.specs.SubsetLaws.{filter_none}
+use Rattle.ltl_sets.specs.PlaceLaws.{less, below, IsRising-range, Has-range}
 
 -- ---- numbers
-pub nat_less : (x y : ℕ) → x < y → nat_cmp x y ≡ Less
-nat_less x y h = grind (arith, nat_tests)
-
 pub same_test : (x y : ℕ) → x ≡ y → (x == y) ≡ true
 same_test x y h = grind (arith, nat_tests)
 
@@ -38,49 +38,21 @@ later_test x y h = grind (arith, nat_tests)
 pub test_same : (x y : ℕ) → (x == y) ≡ true → x ≡ y
 test_same x y h = grind (arith, nat_tests)
 
-less_cases : (x y : ℕ) → nat_cmp x y ≡ Less → x < y
-less_cases x y h = grind (arith, nat_tests)
-
 then_cases : (r s : Ordering) → ordering_then r s ≡ Less → (r ≡ Less) ⊎ ((r ≡ Equal) × (s ≡ Less))
 then_cases Less s e = inl refl
 then_cases Equal s e = inr (refl, e)
 then_cases Greater s e = cc
 
 -- ---- the numbers of a range
-pub past_range : (a n : ℕ) (z : ℕ) → Has (range_with_len a n) z → a ≤ z
-past_range a zero z h = absurd h
-past_range a (suc n) z (inl e) = omega arith
-past_range a (suc n) z (inr h) = let le = past_range (a + 1) n z h in omega (arith, le)
-
-pub IsRising-range : (a n : ℕ) → IsRising nat_cmp (range_with_len a n)
-IsRising-range a zero = tt
-IsRising-range a (suc n) =
-    (all_from (λ y. nat_cmp a y ≡ Less) (range_with_len (a + 1) n) (λ z h. let le = past_range (a + 1) n z h in nat_less a z (omega (arith, le))), IsRising-range (a + 1) n)
-
 pub range_below : (a n : ℕ) (z : ℕ) → Has (range_with_len a n) z → z < a + n
 range_below a zero z h = absurd h
 range_below a (suc n) z (inl e) = omega arith
 range_below a (suc n) z (inr h) = let lt = range_below (a + 1) n z h in omega (arith, lt)
 
-pub Has-range : (a n : ℕ) (z : ℕ) → a ≤ z → z < a + n → Has (range_with_len a n) z
-Has-range a zero z le lt = absurd (omega arith)
-Has-range a (suc n) z le lt = elim (first_or_later a z le) [ inl e ↦ inl (sym e) | inr h ↦ inr (Has-range (a + 1) n z h (omega arith)) ]
-  where
-    first_or_later : (a z : ℕ) → a ≤ z → (a ≡ z) ⊎ (a + 1 ≤ z)
-    first_or_later a z le = grind arith
-
 -- ---- lists
 pub flat_map_same : {X Y : Type 0} (f g : X → List Y) (xs : List X) → ((x : X) → Has xs x → f x ≡ g x) → flat_map f xs ≡ flat_map g xs
 flat_map_same f g [] h = refl
 flat_map_same f g (x ∷ xs) h = ap₂ (λ a b. a ++ b) (h x (inl refl)) (flat_map_same f g xs (λ z p. h z (inr p)))
-
-pub filter_all : {X : Type 0} (p : X → Bool) (xs : List X) → ((x : X) → Has xs x → p x ≡ true) → filter p xs ≡ xs
-filter_all p [] h = refl
-filter_all p (x ∷ xs) h = ap (λ b. cond b (x ∷ filter p xs) (filter p xs)) (h x (inl refl)) ∙ ap (λ t. x ∷ t) (filter_all p xs (λ z k. h z (inr k)))
-
-pub filter_none : {X : Type 0} (p : X → Bool) (xs : List X) → ((x : X) → Has xs x → p x ≡ false) → filter p xs ≡ []
-filter_none p [] h = refl
-filter_none p (x ∷ xs) h = ap (λ b. cond b (x ∷ filter p xs) (filter p xs)) (h x (inl refl)) ∙ filter_none p xs (λ z k. h z (inr k))
 
 filter-map_step : {X Y : Type 0} (b : Bool) (f : X → Y) (x : X) (ys : List Y) (xs : List X) → ys ≡ map f xs → cond b (f x ∷ ys) ys ≡ map f (cond b (x ∷ xs) xs)
 filter-map_step true f x ys xs e = ap (λ t. f x ∷ t) e
@@ -105,8 +77,8 @@ module _ (target : ℕ → ℕ) where
   targets_rise : (p q : ℕ) → place_cmp p q ≡ Less → (target p < target q) ⊎ ((target p ≡ target q) × (p < q))
   targets_rise p q e =
       elim (then_cases (nat_cmp (target p) (target q)) (nat_cmp p q) e) [
-        | inl l ↦ inl (less_cases (target p) (target q) l)
-        | inr m ↦ inr (nat_linear.exact (target p) (target q) m.0, less_cases p q m.1)
+        | inl l ↦ inl (below (target p) (target q) l)
+        | inr m ↦ inr (nat_linear.exact (target p) (target q) m.0, below p q m.1)
       ]
 
   -- those of one target rise
@@ -116,7 +88,7 @@ module _ (target : ℕ → ℕ) where
     all_from (λ q. nat_cmp p q ≡ Less) ps (λ q k.
         elim (targets_rise p q (all_at (λ z. place_cmp p z ≡ Less) ps q r.0 k)) [
           | inl lt ↦ absurd (let e = h p (inl refl) in let f = h q (inr k) in omega (arith, e, f, lt))
-          | inr m ↦ nat_less p q m.1
+          | inr m ↦ less p q m.1
         ]),
     rise_alone t ps r.1 (λ q k. h q (inr k)),
   )
@@ -152,7 +124,7 @@ module _ (target : ℕ → ℕ) where
       targets_split : set_of nat_cmp (map target (q ∷ qs ++ rs)) ≡ t ∷ set_of nat_cmp (map target rs)
       targets_split =
           same_members nat_linear (set_of nat_cmp (map target (q ∷ qs ++ rs))) (t ∷ set_of nat_cmp (map target rs)) (IsRising-set_of nat_linear (map target (q ∷ qs ++ rs)))
-          (all_from (λ z. nat_cmp t z ≡ Less) (set_of nat_cmp (map target rs)) (λ z h. nat_less t z (rest_after z h)), IsRising-set_of nat_linear (map target rs)) to_first from_first
+          (all_from (λ z. nat_cmp t z ≡ Less) (set_of nat_cmp (map target rs)) (λ z h. less t z (rest_after z h)), IsRising-set_of nat_linear (map target rs)) to_first from_first
 
       group_is : filter (at_target t) (q ∷ qs ++ rs) ≡ q ∷ qs
       group_is =
@@ -259,9 +231,6 @@ entries_whole B names s es ps e o =
     (λ t h. ap (λ l. indented (codes ":: " ++ joined_by (codes " || ") l ++ codes " -> goto " ++ label_of B t)) (same_guards B names s.edges ps o t))
 
 -- ---- the places of the first target
-lt_or_le : (i j : ℕ) → (i < j) ⊎ (j ≤ i)
-lt_or_le i j = grind arith
-
 passes_taken : (p : ℕ → Bool) (xs : List ℕ) (z : ℕ) → Has (take (prefix_len p xs) xs) z → p z ≡ true
 passes_taken p xs z h = All-at_has (λ x. p x ≡ true) (take (prefix_len p xs) xs) each z h
   where
@@ -308,7 +277,7 @@ module _ (target : ℕ → ℕ) (t : ℕ) where
     later : (x : ℕ) → Has (drop m tail) x → t < target x
     later =
         later_targets target t p (take m tail) (drop m tail) f (subst (IsRising (place_cmp target)) rest_is rising)
-        (begins_at tail m (lt_or_le m (length tail)) (λ lt. prefix_len_stops (at_target target t) tail 0 lt))
+        (begins_at tail m (cases_lt m (length tail)) (λ lt. prefix_len_stops (at_target target t) tail 0 lt))
 
     -- the entry of the first target, and those of the others
     pub entries_step : entries target entry rest ≡ entry t (take n rest) ++ entries target entry (drop n rest)

@@ -1,5 +1,5 @@
 -- The texts as what is put one after the other.
-use Rattle.std.proofs.Common.{◌≡◌, ◌∙◌, ap, sym, refl, subst, ℕ, List, [], ◌∷◌, ◌++◌, append_assoc, append-nil, true, false, slice_index_or}
+use Rattle.std.proofs.Common.{◌≡◌, ◌∙◌, ap, sym, refl, subst, ℕ, List, [], ◌∷◌, ◌++◌, append_assoc, append-nil, false, slice_index_or}
 use Rattle.std.proofs.Common.{inl, inr, ◌<◌, suc, arith}
 use Rattle.std.specs.List.{All}
 use Rattle.std.specs.Prelude.{codes, map}
@@ -16,9 +16,6 @@ use Rattle.ltl_spec.specs.Automata.ClaimText.{literal_text, cube_text}
 
 -- ---- a literal
 module _ (names : List Name) (l : Literal) (name : List ℕ) (is : name ≡ slice_index_or names l.proposition []) where
-  pub positive_text : l.positive ≡ true → name ≡ literal_text names l
-  positive_text e = rw (e, is) refl
-
   pub negative_text : l.positive ≡ false → codes "!" ++ name ≡ literal_text names l
   negative_text e = rw (e, is) refl
 

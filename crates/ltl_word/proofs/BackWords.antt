@@ -206,9 +206,3 @@ turn_false left right negated stem count row c h e = sym (same negated) ∙ ap (
 
 pub turn_true : (left right : ℕ → Bool) (negated : Bool) (stem count : ℕ) (row : List ℕ) → stem < count → IsBackRow negated left right count false row → beq (bit_of row stem) negated ≡ false → true ≡ back left right (count - stem) stem false
 turn_true left right negated stem count row c h e = sym (ap not e) ∙ h.1 stem c
-
-pub same_bool : (s t : Bool) → beq s t ≡ true → s ≡ t
-same_bool true true e = refl
-same_bool true false e = cc
-same_bool false true e = cc
-same_bool false false e = refl

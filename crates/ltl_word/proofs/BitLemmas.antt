@@ -1,27 +1,20 @@
 -- Bits of words.
-use Rattle.std.proofs.Common.{◌≡◌, ◌∙◌, ap, sym, refl, subst, ℕ, zero, suc, ◌+◌, ◌-◌, ◌*◌, ◌/◌, ◌%◌, ◌^◌, ◌<◌, ◌≤◌, max, min, w64, bit_and, bit_or, arith, Bool, true, false, not, ◌||◌, ◌&&◌, ◌⊎◌, inl, inr, nat_eq, List, [], ◌∷◌, ◌++◌, length}
-use Rattle.std.specs.Prelude.{bit_xor, slice_index, ◌≢◌, slice_set, replicate}
+use Rattle.std.proofs.Common.{◌≡◌, ◌∙◌, ap, sym, refl, subst, ℕ, zero, suc, ◌+◌, ◌-◌, ◌*◌, ◌/◌, ◌%◌, ◌^◌, ◌<◌, ◌≤◌, w64, bit_and, bit_or, arith, Bool, true, false, not, ◌||◌, ◌&&◌, ◌⊎◌, inl, inr, nat_eq, List, [], ◌∷◌, ◌++◌, length}
+use Rattle.std.specs.Prelude.{bit_xor, slice_index, ◌≢◌, replicate}
 use Rattle.std.proofs.Common.{length-append, get_or}
 use Rattle.std.proofs.lemmas.Bool.{cases_eq}
-use Rattle.std.proofs.lemmas.List.{get_or-set_same, get_or-set_other, get_or-replicate, length-replicate}
+use Rattle.std.proofs.lemmas.List.{get_or-replicate, length-replicate}
 use Rattle.std.specs.Int.{bit_at, bit_not}
 use Rattle.std.specs.Bool.{beq}
 use Rattle.std.proofs.lemmas.Nat.{and_mask, one_shl, shr-shr}
 use Rattle.std.proofs.lemmas.Bool.Decides.{nat_tests}
 use Rattle.std.proofs.lemmas.Nat.Bits.{bit_at-lt, bit_at_lowest, bit_at_or, bit_at_and, bit_at_xor, bit_at_not, bit_at-zero, bit_at_ones, bit_at-pow_same, bit_at-pow_other, bit_at_above}
 use Rattle.ltl_word.specs.Rows.{bit_of, IsRowFrom}
-
-either_one : (x y z : ℕ) → x < 2 → y < 2 → z ≡ max x y → nat_eq z 1 ≡ (nat_eq x 1 || nat_eq y 1)
-either_one x y z h g e = grind (arith, nat_tests)
-
-both_one : (x y z : ℕ) → x < 2 → y < 2 → z ≡ min x y → nat_eq z 1 ≡ (nat_eq x 1 && nat_eq y 1)
-both_one x y z h g e = grind (arith, nat_tests)
+use Rattle.ltl_spec.proofs.Collections.CaseLaws.{nat_eq_same, nat_eq_other}
+use Rattle.ltl_sets.specs.WordLaws.{either_one, both_one, below_two}
 
 other_one : (x z : ℕ) → x < 2 → z ≡ 1 - x → nat_eq z 1 ≡ not (nat_eq x 1)
 other_one x z h e = grind (arith, nat_tests)
-
-below_two : (x : ℕ) → x < 2 → (x ≡ 0) ⊎ (x ≡ 1)
-below_two x h = grind arith
 
 same_one : (x y z : ℕ) → x < 2 → y < 2 → z ≡ (x + y) % 2 → not (nat_eq z 1) ≡ beq (nat_eq x 1) (nat_eq y 1)
 same_one x y z h g e = by (below_two x h) (below_two y g)
@@ -50,27 +43,11 @@ one_iff a b k l m = one_not (bit_xor a b) k l m ∙ same_one (bit_at a k) (bit_a
 pub one_implies : (a b k : ℕ) → a < 2 ^ 64 → k < 64 → one (bit_or (bit_not w64 a) b) k ≡ (not (one a k) || one b k)
 one_implies a b k l m = one_or (bit_not w64 a) b k ∙ ap (λ t. t || one b k) (one_not a k l m)
 
--- what holds of each element holds of them and one more
-pub push_each : (P : ℕ → ℕ → Type 0) (xs : List ℕ) (x : ℕ) → ((k : ℕ) → k < length xs → P k (slice_index xs k)) → P (length xs) x → (k : ℕ) → k < length (xs ++ x ∷ []) → P k (slice_index (xs ++ x ∷ []) k)
-push_each P [] x f h zero l = h
-push_each P [] x f h (suc k) l = absurd (omega arith)
-push_each P (y ∷ ys) x f h zero l = f 0 (omega arith)
-push_each P (y ∷ ys) x f h (suc k) l = push_each (λ j. P (suc j)) ys x (λ j m. f (suc j) (omega arith)) h k (omega arith)
-
-pub push_count : (xs : List ℕ) (x n : ℕ) → length xs ≡ n → length (xs ++ x ∷ []) ≡ n + 1
-push_count xs x n e = let l = length-append xs (x ∷ []) in omega (arith, l, e)
-
-same : (a b : ℕ) → a ≡ b → nat_eq a b ≡ true
-same a b e = grind (arith, nat_tests)
-
-apart : (a b : ℕ) → a ≢ b → nat_eq a b ≡ false
-apart a b d = grind (arith, nat_tests)
-
 -- the only bit of a word
 pub one_bit : (k j : ℕ) → k < 64 → one (1 * 2 ^ k % 18446744073709551616) j ≡ nat_eq j k
 one_bit k j l = elim (cases_eq j k) [
-  | inl e ↦ ap (λ m. one (1 * 2 ^ k % 18446744073709551616) m) e ∙ ap (λ m. one m k) (one_shl k 64 l) ∙ ap (λ b. nat_eq b 1) (bit_at-pow_same k) ∙ sym (same j k e)
-  | inr d ↦ ap (λ m. one m j) (one_shl k 64 l) ∙ ap (λ b. nat_eq b 1) (bit_at-pow_other k j d) ∙ sym (apart j k d)
+  | inl e ↦ ap (λ m. one (1 * 2 ^ k % 18446744073709551616) m) e ∙ ap (λ m. one m k) (one_shl k 64 l) ∙ ap (λ b. nat_eq b 1) (bit_at-pow_same k) ∙ sym (nat_eq_same j k e)
+  | inr d ↦ ap (λ m. one m j) (one_shl k 64 l) ∙ ap (λ b. nat_eq b 1) (bit_at-pow_other k j d) ∙ sym (nat_eq_other j k d)
 ]
 
 or_true : (s : Bool) → (s || true) ≡ true
@@ -91,10 +68,10 @@ and_true false = refl
 
 -- a bit that is put into a word
 pub bit_more : (n k : ℕ) → k < 64 → one (bit_or n (1 * 2 ^ k % 18446744073709551616)) k ≡ true
-bit_more n k l = one_or n (1 * 2 ^ k % 18446744073709551616) k ∙ ap (λ t. one n k || t) (one_bit k k l ∙ same k k refl) ∙ or_true (one n k)
+bit_more n k l = one_or n (1 * 2 ^ k % 18446744073709551616) k ∙ ap (λ t. one n k || t) (one_bit k k l ∙ nat_eq_same k k refl) ∙ or_true (one n k)
 
 pub others_more : (n k j : ℕ) → k < 64 → j ≢ k → one (bit_or n (1 * 2 ^ k % 18446744073709551616)) j ≡ one n j
-others_more n k j l d = one_or n (1 * 2 ^ k % 18446744073709551616) j ∙ ap (λ t. one n j || t) (one_bit k j l ∙ apart j k d) ∙ or_false (one n j)
+others_more n k j l d = one_or n (1 * 2 ^ k % 18446744073709551616) j ∙ ap (λ t. one n j || t) (one_bit k j l ∙ nat_eq_other j k d) ∙ or_false (one n j)
 
 bit_fits : (k : ℕ) → k < 64 → 1 * 2 ^ k % 18446744073709551616 < 2 ^ 64
 bit_fits k l = omega arith
@@ -102,12 +79,12 @@ bit_fits k l = omega arith
 pub bit_less : (n k : ℕ) → k < 64 → one (bit_and n (bit_not w64 (1 * 2 ^ k % 18446744073709551616))) k ≡ false
 bit_less n k l =
     one_and n (bit_not w64 (1 * 2 ^ k % 18446744073709551616)) k
-    ∙ ap (λ t. one n k && t) (one_not (1 * 2 ^ k % 18446744073709551616) k (bit_fits k l) l ∙ ap not (one_bit k k l ∙ same k k refl)) ∙ and_false (one n k)
+    ∙ ap (λ t. one n k && t) (one_not (1 * 2 ^ k % 18446744073709551616) k (bit_fits k l) l ∙ ap not (one_bit k k l ∙ nat_eq_same k k refl)) ∙ and_false (one n k)
 
 pub others_less : (n k j : ℕ) → k < 64 → j < 64 → j ≢ k → one (bit_and n (bit_not w64 (1 * 2 ^ k % 18446744073709551616))) j ≡ one n j
 others_less n k j l m d =
     one_and n (bit_not w64 (1 * 2 ^ k % 18446744073709551616)) j
-    ∙ ap (λ t. one n j && t) (one_not (1 * 2 ^ k % 18446744073709551616) j (bit_fits k l) m ∙ ap not (one_bit k j l ∙ apart j k d)) ∙ and_true (one n j)
+    ∙ ap (λ t. one n j && t) (one_not (1 * 2 ^ k % 18446744073709551616) j (bit_fits k l) m ∙ ap not (one_bit k j l ∙ nat_eq_other j k d)) ∙ and_true (one n j)
 
 -- the bits of a word that is shifted
 pub one_shr : (n s k : ℕ) → one (n / 2 ^ s) k ≡ one n (k + s)
@@ -116,20 +93,6 @@ one_shr n s k = let e : s + k ≡ k + s = omega arith in ap (λ x. nat_eq (x % 2
 -- no bit is set above the others
 pub none_above : (n k : ℕ) → n < 2 ^ 64 → 64 ≤ k → one n k ≡ false
 none_above n k l m = ap (λ b. nat_eq b 1) (bit_at_above n 64 k l m)
-
--- the bits of rows with another word
-pub put_here : (ws : List ℕ) (i word : ℕ) (value : Bool) → i / 64 < length ws → one word (i % 64) ≡ value → bit_of (slice_set ws (i / 64) word) i ≡ value
-put_here ws i word value l e = ap (λ w. one w (i % 64)) (get_or-set_same ws (i / 64) word 0 l) ∙ e
-
-pub put_others : (ws : List ℕ) (i j word : ℕ) → i / 64 < length ws → ((k : ℕ) → k < 64 → k ≢ i % 64 → one word k ≡ one (slice_index ws (i / 64)) k) → j ≢ i → bit_of (slice_set ws (i / 64) word) j ≡ bit_of ws j
-put_others ws i j word l f d = elim (cases_eq (j / 64) (i / 64)) [
-  | inl e ↦
-      ap (λ m. one (slice_index (slice_set ws (i / 64) word) m) (j % 64)) e
-      ∙ ap (λ w. one w (j % 64)) (get_or-set_same ws (i / 64) word 0 l)
-      ∙ f (j % 64) (omega arith) (λ q. d (omega arith))
-      ∙ ap (λ m. one (slice_index ws m) (j % 64)) (sym e)
-  | inr q ↦ ap (λ w. one w (j % 64)) (get_or-set_other ws (i / 64) (j / 64) word 0 q)
-]
 
 pub ones_at : (k : ℕ) → k < 64 → one 18446744073709551615 k ≡ true
 ones_at k l = ap (λ b. nat_eq b 1) (bit_at_ones 64 k l)
@@ -146,10 +109,6 @@ all_alike n i value word ws e t f l =
       | false ↦ λ g h. ap (λ w. one w (i % 64)) (h refl) ∙ zeros_at (i % 64)
     ] t f
 
-pub replicate_more : (n word : ℕ) → replicate n word ++ word ∷ [] ≡ replicate (n + 1) word
-replicate_more zero word = refl
-replicate_more (suc n) word = let e : suc n + 1 ≡ suc (n + 1) = omega arith in ap (λ l. word ∷ l) (replicate_more n word) ∙ ap (λ k. replicate k word) (sym e)
-
 -- the default plays no part at a place that is there
 pub any_default : {X : Type 0} (xs : List X) (i : ℕ) (d e : X) → i < length xs → get_or xs i d ≡ get_or xs i e
 any_default [] i d e l = absurd (omega arith)
@@ -157,10 +116,6 @@ any_default (x ∷ xs) zero d e l = refl
 any_default (x ∷ xs) (suc i) d e l = let m : i < length xs = omega arith in any_default xs i d e m
 
 -- rows from a position on
-
--- no bit is asked for yet
-pub row_begun : (f : ℕ → Bool) (count : ℕ) (bits : List ℕ) → length bits ≡ count / 64 + 1 → IsRowFrom f count count bits
-row_begun f count bits l = record { long = l; done = λ j m n. absurd (omega arith) }
 
 -- one bit more
 pub row_more : (f : ℕ → Bool) (i count : ℕ) (old new : List ℕ) (value : Bool) → i + 1 ≤ count → IsRowFrom f (i + 1) count old → length new ≡ length old → bit_of new i ≡ value

@@ -16,7 +16,7 @@ use Rattle.ltl_spec.proofs.Collections.SetLaws.{all_at, all_from, set_of_cases, 
 use Rattle.ltl_spec.proofs.Collections.ListLaws.{All-from_has, Has-at, index_append}
 use Rattle.ltl_spec.proofs.Collections.MemberLaws.{map_cases, map_length}
 use Rattle.ltl_spec.proofs.Collections.Orders.{nat_linear, name_linear}
-use Rattle.ltl_spec.proofs.Words.LeastLaws.{same_letter_Decides, same_letters_Decides, least_form_is}
+use Rattle.ltl_spec.proofs.Words.LeastLaws.{same_letter_Decides, same_letters_Decides, least_form_is, repeated_length}
 use Rattle.ltl_word.specs.LassoView.{letter_of, lasso_of, IsMade}
 use Rattle.ltl_word.specs.LeastView.{Repeats, IsShortest, IsKept}
 use Rattle.ltl_word.proofs.LetterLaws.{same_places, whole_letters}
@@ -98,14 +98,6 @@ repeated_at (suc n) ys i some l = elim (cases_lt i (length ys)) [
       ∙ ap (λ k. slice_index_or ys k []) (sym (mod_more (i - length ys) (length ys) some) ∙ ap (λ k. k % length ys) (sym here))
 ]
 
-repeated_size : (n : ℕ) (xs : List Letter) → length (repeated n xs) ≡ n * length xs
-repeated_size zero xs = let e : 0 * length xs ≡ 0 = omega arith in sym e
-repeated_size (suc n) xs = let e = size xs (repeated n xs) in let f = repeated_size n xs in let s = suc-mul n (length xs) in omega (arith, e, f, s)
-  where
-    size : (ys zs : List Letter) → length (ys ++ zs) ≡ length ys + length zs
-    size [] zs = let z : length zs ≡ 0 + length zs = omega arith in z
-    size (y ∷ ys) zs = let e = size ys zs in omega (arith, e)
-
 -- the letters are the first d of them, over and over
 abbrev RepeatsLetters : List Letter → ℕ → Type 0
 RepeatsLetters xs d = (length xs % d ≡ 0) × ((i : ℕ) → i < length xs → slice_index_or xs i [] ≡ slice_index_or xs (i % d) [])
@@ -115,7 +107,7 @@ repeats_if xs d some most h =
     let size : length (take d xs) ≡ d = length-take-le d xs most in
     let whole = div-add-mod' (length xs) d in
     let times : length xs ≡ length xs / d * d = let z = h.0 in omega (arith, whole, z) in
-    let count : length (repeated (length xs / d) (take d xs)) ≡ length xs = repeated_size (length xs / d) (take d xs) ∙ ap (λ k. length xs / d * k) size ∙ sym times in
+    let count : length (repeated (length xs / d) (take d xs)) ≡ length xs = repeated_length (length xs / d) (take d xs) ∙ ap (λ k. length xs / d * k) size ∙ sym times in
     (same_letters_Decides xs (repeated (length xs / d) (take d xs))).1
     (ext_get_or [] xs (repeated (length xs / d) (take d xs)) (sym count) (λ i l.
     let below = mod_below i d some in
@@ -130,7 +122,7 @@ repeats_only xs d some most h =
     let size : length (take d xs) ≡ d = length-take-le d xs most in
     let same : xs ≡ repeated (length xs / d) (take d xs) = (same_letters_Decides xs (repeated (length xs / d) (take d xs))).0 h in
     let whole = div-add-mod' (length xs) d in
-    let times : length xs ≡ length xs / d * d = ap length same ∙ repeated_size (length xs / d) (take d xs) ∙ ap (λ k. length xs / d * k) size in (
+    let times : length xs ≡ length xs / d * d = ap length same ∙ repeated_length (length xs / d) (take d xs) ∙ ap (λ k. length xs / d * k) size in (
       omega (arith, whole, times),
       λ i l. let below = mod_below i d some in
           let within : i < length xs / d * length (take d xs) = subst (λ k. i < length xs / d * k) (sym size) (subst (λ k. i < k) times l) in

@@ -36,7 +36,7 @@ use Rattle.ltl_spec.proofs.Formulas.NameLaws.{same_name_Decides}
 use Rattle.ltl_formula.proofs.TreeLemmas.{push_length, push_before, push_at}
 use Rattle.ltl_word.specs.LassoView.{lasso_of, IsMade}
 use Rattle.ltl_word.specs.NameView.{AreAllPlaces, IsKnown}
-use Rattle.ltl_word.specs.ReadText.{IsReadAs, IsRefusedFor, IsWritten, IsSpelled, RefusesLetters}
+use Rattle.ltl_word.specs.ReadText.{IsReadAs, IsRefusedFor, IsWritten, IsSpelled}
 use Rattle.ltl_word.specs.WrittenView.{WrittenView, letters_of}
 use Rattle.ltl_sets.specs.PlaceLaws.{less}
 use Rattle.ltl_sets.specs.declared.row_set.TheConstants.RowSet.{LIMIT}
@@ -60,9 +60,6 @@ ties n = tied_itself name_linear.total n
 
 no_tie : Equal ≡ Greater → ⊥
 no_tie e = cc
-
-no_less : Less ≡ Greater → ⊥
-no_less e = cc
 
 -- the name is there
 pub put_there : (name : Name) (names : List Name) (at : ℕ) → FindsName name names at → at < length names → slice_index_or names at [] ≡ name → names ≡ put name_cmp name names
@@ -273,23 +270,6 @@ places_more names letter r known i name at places new l e h a f =
     has_at (n ∷ ns) zero m = inl refl
     has_at (n ∷ ns) (suc k) m = inr (has_at ns k (omega arith))
 
-pub places_begun : (names letter : List Name) (i : ℕ) (places : List ℕ) → length letter ≤ i → places ≡ [] → ArePlaces names (set_of name_cmp (drop i letter)) places
-places_begun names letter i places l e =
-    subst (ArePlaces names (set_of name_cmp (drop i letter))) (sym e) record { spelled = sym (ap (set_of name_cmp) (none letter i l)); set = tt; within = tt }
-  where
-    none : (ns : List Name) (k : ℕ) → length ns ≤ k → drop k ns ≡ []
-    none [] zero m = refl
-    none [] (suc k) m = refl
-    none (n ∷ ns) zero m = absurd (omega arith)
-    none (n ∷ ns) (suc k) m = none ns k (omega arith)
-
-pub places_done : (names letter : List Name) (i : ℕ) (places : List ℕ) → i ≤ 0 → ArePlaces names (set_of name_cmp (drop i letter)) places → ArePlaces names (set_of name_cmp letter) places
-places_done names letter i places l h = let e : i ≡ 0 = omega arith in subst (λ ns. ArePlaces names (set_of name_cmp ns) places) (ap (λ k. drop k letter) e ∙ all letter) h
-  where
-    all : (ys : List Name) → drop 0 ys ≡ ys
-    all [] = refl
-    all (y ∷ ys) = refl
-
 -- a listed name of a letter has a place in a list of few names
 pub few_places : (names letter : List Name) → IsRising name_cmp names → AllByRecursion (Has names) letter → (i : ℕ) (name : Name) (at : ℕ) → i < length letter → slice_index_or letter i [] ≡ name → FindsName name names at → length names ≤ stated_limits.propositions → at < LIMIT
 few_places names letter r known i name at b e h l =
@@ -482,12 +462,6 @@ refused_word names text v TooLong l written h = absurd h
 refused_word names text v (BadWord p) l written h = absurd h
 refused_word names text v TooManyPropositions l written h = (l, (with_sets (letters_of v), written.0, let c = (unified_count names (letters_of v)).1 in omega (arith, c, h)))
 refused_word names text v OutOfMemory l written h = l
-
-pub refused_letters : (names : List Name) (text : List ℕ) (fault : WordFault) → length text ≤ stated_limits.word_bytes → RefusesLetters text fault → IsRefusedFor names text fault
-refused_letters names text TooLong l h = absurd h
-refused_letters names text (BadWord p) l h = (l, h)
-refused_letters names text TooManyPropositions l h = absurd h
-refused_letters names text OutOfMemory l h = l
 
 -- one name more, on its own memory
 pub owned_push : {X Y : Type 0} (f : X → Name) (g : Y → Name) (xs new : List X) (x : X) (ys : List Y) (n : Name) (i : ℕ) → new ≡ xs ++ x ∷ [] → map f xs ≡ take i (map g ys) → f x ≡ n → i < length ys → slice_index_or (map g ys) i [] ≡ n

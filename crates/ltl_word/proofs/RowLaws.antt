@@ -1,16 +1,14 @@
 -- The rows of formulas by those of their operands.
-use Rattle.std.proofs.Common.{◌≡◌, ◌∙◌, ap, sym, refl, subst, ℕ, zero, suc, ◌+◌, ◌-◌, ◌/◌, ◌<◌, ◌≤◌, arith, Bool, true, false, not, ◌||◌, ◌&&◌, ◌⊎◌, ◌↔◌, inl, inr, List, [], length}
+use Rattle.std.proofs.Common.{◌≡◌, ◌∙◌, ap, sym, refl, subst, ℕ, zero, suc, ◌+◌, ◌/◌, ◌<◌, ◌≤◌, arith, Bool, true, false, inl, inr, List, [], length}
 use Rattle.std.specs.Prelude.{IsTrue, Some, None, slice_index_or}
-use Rattle.std.specs.Bool.{Decides, beq}
+use Rattle.std.specs.Bool.{Decides}
 use Rattle.std.proofs.lemmas.Bool.{false≢true}
-use Rattle.ltl_spec.specs.Semantics.Word.{Name, Lasso, next, after_steps, is_true_at}
-use Rattle.ltl_spec.specs.Semantics.Satisfaction.{HoldsUntil, HoldsRelease, Satisfied, Satisfies}
+use Rattle.ltl_spec.specs.Semantics.Word.{Name, Lasso, after_steps, is_true_at}
+use Rattle.ltl_spec.specs.Semantics.Satisfaction.{HoldsUntil, HoldsRelease, Satisfied}
 use Rattle.ltl_spec.specs.Formulas.Formula as spec
 use Rattle.ltl_spec.proofs.Semantics.UntilLaws.{release_from_not_until, not_release_from_until}
 use Rattle.ltl_spec.proofs.Collections.CaseLaws.{false_is_true}
-use Rattle.ltl_word.specs.declared.machine_word.Junction.{Junction}
-use Rattle.ltl_word.specs.declared.machine_word.Junction.TheVariants.{And, Or, Implies, Iff}
-use Rattle.ltl_word.specs.Rows.{joined, bit_of, IsRow, step_of, turned, left_at, right_at}
+use Rattle.ltl_word.specs.Rows.{bit_of, step_of, turned, left_at, right_at}
 use Rattle.std.proofs.Common.{◌∷◌, ◌++◌}
 use Rattle.std.specs.Prelude.{slice_get}
 use Rattle.std.proofs.lemmas.Option.{same_Some}
@@ -19,78 +17,19 @@ use Rattle.ltl_formula.specs.declared.operators.Node.{Node}
 use Rattle.ltl_formula.specs.declared.operators.Node.TheVariants.{Constant, Proposition, Unary, Binary}
 use Rattle.ltl_formula.specs.declared.operators.UnaryOperator.{UnaryOperator}
 use Rattle.ltl_formula.specs.declared.operators.BinaryOperator.{BinaryOperator}
-use Rattle.ltl_formula.specs.FormulaView.{FormulaView, IsFormula, StandsAt, binary_of, unary_of, tree_in, tree_of, trees, whole_tree}
+use Rattle.ltl_formula.specs.FormulaView.{FormulaView, IsFormula, StandsAt, binary_of, unary_of, tree_in, tree_of, trees}
 use Rattle.ltl_formula.proofs.TreeLemmas.{tree_at, push_length, push_before, push_at}
-use Rattle.ltl_word.specs.Evaluation.{AreNameRows, AreOperandRows, AreRows, IsRowAt, IsRowOf, IsUntilRow, going_of}
+use Rattle.ltl_word.specs.Evaluation.{AreOperandRows, AreRows, IsRowAt, IsRowOf, IsUntilRow, going_of}
 use Rattle.ltl_word.specs.Uses.{AreLastUses, IsUsedAt, KeepsLater, row_by}
 use Rattle.ltl_word.specs.LassoView.{size}
-use Rattle.ltl_word.proofs.BackLaws.{step_within, after_within}
+use Rattle.ltl_word.proofs.BackLaws.{after_within}
 
 -- junctions
-
-not_decides : (s : Bool) {P : Type 0} → Decides s P → Decides (not s) (¬ P)
-not_decides true d = ((λ e. false_is_true e), λ n. absurd (n (d.0 refl)))
-not_decides false d = ((λ e p. false≢true (d.1 p)), λ n. refl)
-
-and_decides : (s t : Bool) {P Q : Type 0} → Decides s P → Decides t Q → Decides (s && t) (P × Q)
-and_decides true t d e = ((λ h. (d.0 refl, e.0 h)), λ p. e.1 p.1)
-and_decides false t d e = ((λ h. false_is_true h), λ p. d.1 p.0)
-
-or_decides : (s t : Bool) {P Q : Type 0} → Decides s P → Decides t Q → Decides (s || t) (P ⊎ Q)
-or_decides true t d e = ((λ h. inl (d.0 refl)), λ p. refl)
-or_decides false t d e = ((λ h. inr (e.0 h)), elim [ inl p ↦ false_is_true (d.1 p) | inr q ↦ e.1 q ])
-
-implies_decides : (s t : Bool) {P Q : Type 0} → Decides s P → Decides t Q → Decides (not s || t) (P → Q)
-implies_decides true t d e = ((λ h p. e.0 h), λ f. e.1 (f (d.0 refl)))
-implies_decides false t d e = ((λ h p. false_is_true (d.1 p)), λ f. refl)
-
-iff_decides : (s t : Bool) {P Q : Type 0} → Decides s P → Decides t Q → Decides (beq s t) (P ↔ Q)
-iff_decides true true d e = ((λ h. ((λ p. e.0 refl), λ q. d.0 refl)), λ f. refl)
-iff_decides true false d e = ((λ h. false_is_true h), λ f. e.1 (f.0 (d.0 refl)))
-iff_decides false true d e = ((λ h. false_is_true h), λ f. d.1 (f.1 (e.0 refl)))
-iff_decides false false d e = ((λ h. ((λ p. false_is_true (d.1 p)), λ q. false_is_true (e.1 q))), λ f. refl)
 
 same_bit : (s t : Bool) {P : Type 0} → s ≡ t → Decides t P → Decides s P
 same_bit s t e d = ((λ h. d.0 (sym e ∙ h)), λ p. e ∙ d.1 p)
 
-inside : (count i : ℕ) (bits : List ℕ) → length bits ≡ count / 64 + 1 → i < count → i / 64 < length bits
-inside count i bits e l = omega (arith, e, l)
-
--- a row whose bits are these
-row_of : (count : ℕ) (P : ℕ → Type 0) (bits : List ℕ) (f : ℕ → Bool) → length bits ≡ count / 64 + 1 → ((i : ℕ) → i < count → bit_of bits i ≡ f i) → ((i : ℕ) → i < count → Decides (f i) (P i)) → IsRow count P bits
-row_of count P bits f l e d = record { long = l; decides = λ i m. same_bit (bit_of bits i) (f i) (e i m) (d i m) }
-
 module _ (names : List Name) (w : Lasso) where
-  pub constant_row : (value : Bool) (bits : List ℕ) → length bits ≡ size w / 64 + 1 → ((i : ℕ) → i / 64 < length bits → bit_of bits i ≡ value) → IsRowOf names w (spec.Constant value) bits
-  constant_row value bits l e = row_of (size w) (λ i. IsTrue value) bits (λ i. value) l (λ i m. e i (inside (size w) i bits l m)) (λ i m. ((λ h. h), λ h. h))
-
-  pub not_row : (F : spec.Formula) (a bits : List ℕ) → IsRowOf names w F a → length bits ≡ length a → ((i : ℕ) → i / 64 < length a → bit_of bits i ≡ not (bit_of a i)) → IsRowOf names w (spec.Unary spec.Not F) bits
-  not_row F a bits r l e =
-      row_of (size w) (λ i. ¬ (Satisfies names w i F)) bits (λ i. not (bit_of a i)) (l ∙ r.long) (λ i m. e i (inside (size w) i a r.long m)) (λ i m. not_decides (bit_of a i) (r.decides i m))
-
-  pub next_row_of : (stem : ℕ) → length w.stem ≡ stem → stem < size w → (F : spec.Formula) (a bits : List ℕ) → IsRowOf names w F a → length bits ≡ size w / 64 + 1
-      → ((i : ℕ) → i < size w → bit_of bits i ≡ bit_of a (step_of stem (size w) i)) → IsRowOf names w (spec.Unary spec.Next F) bits
-  next_row_of stem s c F a bits r l e =
-      row_of (size w) (λ i. Satisfies names w (next w i) F) bits (λ i. bit_of a (step_of stem (size w) i)) l e
-      (λ i m. subst (λ k. Decides (bit_of a (step_of stem (size w) i)) (Satisfies names w (step_of k (size w) i) F)) (sym s) (r.decides (step_of stem (size w) i) (step_within (λ j. true) (λ j. true) stem (size w) c i)))
-
-  junction_row : (j : Junction) (F G H : spec.Formula) (a b bits : List ℕ) → IsRowOf names w F a → IsRowOf names w G b → length bits ≡ length a
-      → ((i : ℕ) → i / 64 < length a → bit_of bits i ≡ joined j (bit_of a i) (bit_of b i)) → ((i : ℕ) → (s t : Bool) → Decides s (Satisfies names w i F) → Decides t (Satisfies names w i G) → Decides (joined j s t) (Satisfies names w i H)) → IsRowOf names w H bits
-  junction_row j F G H a b bits r q l e d =
-      row_of (size w) (λ i. Satisfies names w i H) bits (λ i. joined j (bit_of a i) (bit_of b i)) (l ∙ r.long) (λ i m. e i (inside (size w) i a r.long m)) (λ i m. d i (bit_of a i) (bit_of b i) (r.decides i m) (q.decides i m))
-
-  pub and_row : (F G : spec.Formula) (a b bits : List ℕ) → IsRowOf names w F a → IsRowOf names w G b → length bits ≡ length a → ((i : ℕ) → i / 64 < length a → bit_of bits i ≡ joined And (bit_of a i) (bit_of b i)) → IsRowOf names w (spec.Binary spec.And F G) bits
-  and_row F G a b bits r q l e = junction_row And F G (spec.Binary spec.And F G) a b bits r q l e (λ i s t. and_decides s t)
-
-  pub or_row : (F G : spec.Formula) (a b bits : List ℕ) → IsRowOf names w F a → IsRowOf names w G b → length bits ≡ length a → ((i : ℕ) → i / 64 < length a → bit_of bits i ≡ joined Or (bit_of a i) (bit_of b i)) → IsRowOf names w (spec.Binary spec.Or F G) bits
-  or_row F G a b bits r q l e = junction_row Or F G (spec.Binary spec.Or F G) a b bits r q l e (λ i s t. or_decides s t)
-
-  pub implies_row : (F G : spec.Formula) (a b bits : List ℕ) → IsRowOf names w F a → IsRowOf names w G b → length bits ≡ length a → ((i : ℕ) → i / 64 < length a → bit_of bits i ≡ joined Implies (bit_of a i) (bit_of b i)) → IsRowOf names w (spec.Binary spec.Implies F G) bits
-  implies_row F G a b bits r q l e = junction_row Implies F G (spec.Binary spec.Implies F G) a b bits r q l e (λ i s t. implies_decides s t)
-
-  pub iff_row : (F G : spec.Formula) (a b bits : List ℕ) → IsRowOf names w F a → IsRowOf names w G b → length bits ≡ length a → ((i : ℕ) → i / 64 < length a → bit_of bits i ≡ joined Iff (bit_of a i) (bit_of b i)) → IsRowOf names w (spec.Binary spec.Iff F G) bits
-  iff_row F G a b bits r q l e = junction_row Iff F G (spec.Binary spec.Iff F G) a b bits r q l e (λ i s t. iff_decides s t)
-
   -- `U` and `V`
 
   module _ (stem : ℕ) (begins : length w.stem ≡ stem) (cycle : stem < size w) where
@@ -236,25 +175,6 @@ rows_step f w names rows new last_uses row node i is old long found own keeps k 
           (subst (λ j. IsRowOf f.names w (tree_in (trees f.nodes) j) (row_by names row (slice_index_or f.nodes j (Constant false)))) (sym place)
           (subst (λ v. IsRowOf f.names w (tree_in (trees f.nodes) i) (row_by names row v)) (sym n.1) (subst (λ F. IsRowOf f.names w F (row_by names row node)) (sym tree) own)))
     ]
-
--- what the last row says
-pub last_row : (f : FormulaView) (w : Lasso) (names rows : List (List ℕ)) (last_uses row : List ℕ) (truth : Bool) (first count : ℕ) → AreLastUses f.nodes last_uses → AreRows f w names last_uses rows → length rows ≡ count → count ≡ length f.nodes
-    → 0 < count → row ≡ row_by names (slice_index_or rows (count - 1) []) (slice_index_or f.nodes (count - 1) (Constant false)) → first ≡ 0 → first < size w → truth ≡ bit_of row first
-    → Decides truth (Satisfies f.names w 0 (whole_tree f.nodes))
-last_row f w names rows last_uses row truth first count uses old long same some at z l e =
-    let whole = uses.whole in
-    let used : length rows ≤ slice_index_or last_uses (count - 1) 0 = subst (λ n. length rows ≤ slice_index_or last_uses (n - 1) 0) (sym same) (omega (arith, whole, long, same)) in
-    let is : IsRowOf f.names w (tree_in (trees f.nodes) (count - 1)) row = subst (IsRowOf f.names w (tree_in (trees f.nodes) (count - 1))) (sym at) (old (count - 1) (omega (arith, long, some)) used) in
-    let last : IsRowOf f.names w (whole_tree f.nodes) row = subst (λ n. IsRowOf f.names w (tree_in (trees f.nodes) (n - 1)) row) same is in
-    same_bit truth (bit_of row 0) (e ∙ ap (bit_of row) z) (last.decides 0 (subst (λ n. n < size w) z l))
-
-pub name_answer : (f : FormulaView) (w : Lasso) (names : List (List ℕ)) (own : List ℕ) (node : Node) (p i : ℕ) → node ≡ Proposition p → StandsAt (length f.names) i node → AreNameRows f.names w names
-    → IsRowOf f.names w (tree_of (trees f.nodes) node) (row_by names own node)
-name_answer f w names own node p i e stands rows = subst (λ n. IsRowOf f.names w (tree_of (trees f.nodes) n) (row_by names own n)) (sym e) (rows.1 p (subst (StandsAt (length f.names) i) e stands))
-
-pub constant_answer : (f : FormulaView) (w : Lasso) (names : List (List ℕ)) (bits : List ℕ) (node : Node) (value : Bool) → node ≡ Constant value → length bits ≡ size w / 64 + 1 → ((i : ℕ) → i / 64 < length bits → bit_of bits i ≡ value)
-    → IsRowOf f.names w (tree_of (trees f.nodes) node) (row_by names bits node)
-constant_answer f w names bits node value e l h = subst (λ n. IsRowOf f.names w (tree_of (trees f.nodes) n) (row_by names bits n)) (sym e) (constant_row f.names w value bits l h)
 
 module _ (f : FormulaView) (w : Lasso) (names rows : List (List ℕ)) where
   -- the row that the code finds for a node

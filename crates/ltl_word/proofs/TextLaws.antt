@@ -1,5 +1,5 @@
 -- Texts that go out piece by piece.
-use Rattle.std.proofs.Common.{◌≡◌, ◌∙◌, ap, ap₂, sym, refl, subst, ℕ, zero, suc, ◌+◌, ◌<◌, ◌≤◌, arith, List, [], ◌∷◌, ◌++◌, length, map, take, drop, append_assoc, Option}
+use Rattle.std.proofs.Common.{◌≡◌, ◌∙◌, ap, ap₂, sym, refl, subst, ℕ, zero, suc, ◌+◌, ◌<◌, arith, List, [], ◌∷◌, ◌++◌, length, map, take, drop, append_assoc, Option}
 use Rattle.std.specs.Prelude.{slice_index_or, codes, flat_map}
 use Rattle.std.proofs.lemmas.List.{append-nil}
 use Rattle.ltl_formula.proofs.SendLaws.{Leaves, leaves_all}
@@ -36,12 +36,6 @@ flat_drop f (y ∷ ys) (suc i) x d l e =
 pub flat_begun : {X : Type 0} (f : X → List ℕ) (xs : List X) → flat_map f xs ≡ flat_map f (drop 0 xs)
 flat_begun f [] = refl
 flat_begun f (x ∷ xs) = refl
-
-pub flat_done : {X : Type 0} (f : X → List ℕ) (xs : List X) (i : ℕ) → length xs ≤ i → flat_map f (drop i xs) ≡ []
-flat_done f [] zero l = refl
-flat_done f [] (suc i) l = refl
-flat_done f (x ∷ xs) zero l = absurd (omega arith)
-flat_done f (x ∷ xs) (suc i) l = flat_done f xs i (omega arith)
 
 pub flat_mapped : {X Y : Type 0} (f : Y → List ℕ) (g : X → Y) (xs : List X) → flat_map f (map g xs) ≡ flat_map (λ x. f (g x)) xs
 flat_mapped f g [] = refl

@@ -1,20 +1,18 @@
 -- Words and their texts.
-use Rattle.std.proofs.Common.{◌≡◌, ◌∙◌, ap, ap₂, sym, refl, subst, ℕ, suc, ◌≤◌, arith, inl, inr, List, [], ◌∷◌, ◌++◌, length, map, drop, Option, Some, None}
+use Rattle.std.proofs.Common.{◌≡◌, ◌∙◌, ap, sym, refl, subst, ℕ, suc, ◌≤◌, arith, List, ◌++◌, length, drop, Option, Some, None}
 use Rattle.std.specs.Prelude.{◌↔◌, IsTrue, slice_get}
 use Rattle.std.specs.List.{list_all}
 use Rattle.std.proofs.lemmas.List.{take-append-drop}
-use Rattle.ltl_spec.specs.Collections.Sets.{Has, IsRising, set_of}
+use Rattle.ltl_spec.specs.Collections.Sets.{Has}
 use Rattle.ltl_spec.specs.Formulas.Formula.{Formula}
 use Rattle.ltl_spec.specs.Formulas.Names.{is_proposition}
-use Rattle.ltl_spec.specs.Semantics.Word.{Name, name_cmp, Letter, Lasso, IsLasso}
+use Rattle.ltl_spec.specs.Semantics.Word.{Name, Lasso}
 use Rattle.ltl_spec.specs.Semantics.Satisfaction.{Satisfies}
-use Rattle.ltl_spec.specs.Words.LassoText.{IsBadWord, IsLassoText, IsLeastForm, StopsAt, HasTooManyNames, lasso_text, with_sets}
-use Rattle.ltl_spec.proofs.Collections.SetLaws.{append_left, append_right, set_of_same}
-use Rattle.ltl_spec.proofs.Collections.ListLaws.{All-at_has}
+use Rattle.ltl_spec.specs.Words.LassoText.{IsBadWord, IsLassoText, IsLeastForm, StopsAt, HasTooManyNames, lasso_text}
 use Rattle.ltl_spec.proofs.Collections.MemberLaws.{all_Decides, map_cases}
-use Rattle.ltl_spec.proofs.Collections.Orders.{name_linear}
 use Rattle.ltl_spec.proofs.Words.LassoTextLaws.{one_word}
 use Rattle.ltl_spec.proofs.Words.SameWordLaws.{satisfies_same}
+use Rattle.ltl_spec.proofs.Tools.WordNames.{same_sets}
 use Rattle.ltl_word.specs.declared.fault.WordFault.{WordFault}
 use Rattle.ltl_word.specs.declared.fault.WordFault.TheVariants as fault
 use Rattle.ltl_word.specs.declared.limits.TheConstants.{NAME_LIMIT, TEXT_LIMIT}
@@ -22,17 +20,6 @@ use Rattle.ltl_word.specs.LassoView.{letter_of, lasso_of, IsMade}
 use Rattle.ltl_word.specs.ReadText.{IsReadAs, IsRefusedFor}
 use Rattle.ltl_word.proofs.LetterLaws.{whole_letters}
 use Rattle.ltl_word.proofs.LeastRows.{is_lasso}
-
--- letters that are sets are their own sets
-same_sets : (w : Lasso) → IsLasso w → with_sets w ≡ w
-same_sets w l =
-    let a = part w.stem (λ x h. All-at_has (IsRising name_cmp) (w.stem ++ w.cycle) l.sets x (append_left w.stem w.cycle x h)) in
-    let b = part w.cycle (λ x h. All-at_has (IsRising name_cmp) (w.stem ++ w.cycle) l.sets x (append_right w.stem w.cycle x h)) in
-    λ i. record { stem = a i; cycle = b i }
-  where
-    part : (ls : List Letter) → ((a : Letter) → Has ls a → IsRising name_cmp a) → map (set_of name_cmp) ls ≡ ls
-    part [] f = refl
-    part (a ∷ ls) f = ap₂ (λ b bs. b ∷ bs) (set_of_same name_linear a (f a (inl refl))) (part ls (λ x h. f x (inr h)))
 
 module _ (names : List Name) (rows : List (List ℕ)) (stem : ℕ) (made : IsMade names rows stem) where
   proper : IsTrue (list_all (λ a. list_all is_proposition a) ((lasso_of names rows stem).stem ++ (lasso_of names rows stem).cycle))

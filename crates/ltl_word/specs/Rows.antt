@@ -1,5 +1,5 @@
 -- Rows of bits, one bit for each position of a word.
-use Rattle.std.specs.Prelude.{◌≡◌, ℕ, zero, suc, ◌≤◌, ◌+◌, ◌-◌, ◌/◌, ◌%◌, ◌<◌, Bool, true, false, not, ◌&&◌, ◌||◌, if◌then◌else◌, nat_eq, nat_lt, List, length, slice_index, Option, Some, None}
+use Rattle.std.specs.Prelude.{◌≡◌, ℕ, zero, suc, ◌≤◌, ◌+◌, ◌-◌, ◌/◌, ◌%◌, ◌<◌, Bool, true, not, ◌&&◌, ◌||◌, if◌then◌else◌, nat_eq, nat_lt, List, length, slice_index, Option, Some, None}
 use Rattle.std.specs.Bool.{Decides, beq}
 use Rattle.std.specs.Int.{bit_at}
 use Rattle.ltl_word.specs.declared.machine_word.Junction.{Junction}

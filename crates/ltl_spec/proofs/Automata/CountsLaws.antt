@@ -1,12 +1,10 @@
 -- The limits of a listing are decided while it is made: what has passed them at some step passes them at each later one.
-use Rattle.std.proofs.Common.{◌≡◌, ℕ, zero, suc, ◌+◌, ◌-◌, ◌<◌, ◌≤◌, Bool, ◌⊎◌, ◌↔◌, inl, inr, List, [], ◌∷◌, ◌++◌, length, refl, sym, ◌∙◌, ap, subst, arith, append_assoc, length-append}
-use Rattle.std.specs.Prelude.{take, sum_by, fold, slice_index_or}
+use Rattle.std.proofs.Common.{◌≡◌, ℕ, zero, suc, ◌+◌, ◌-◌, ◌<◌, ◌≤◌, Bool, ◌⊎◌, ◌↔◌, inl, inr, List, [], ◌∷◌, ◌++◌, length, sym, ◌∙◌, ap, subst, arith, append_assoc, length-append}
+use Rattle.std.specs.Prelude.{take, sum_by, slice_index_or}
 use Rattle.std.proofs.lemmas.List.{append-nil, take_all}
-use Rattle.std.proofs.lemmas.List.Sums.{fold-append, sum_by-cons}
-use Rattle.std.proofs.lemmas.Option.{slice_get-get_or}
-use Rattle.ltl_spec.specs.Collections.Lists.{with_new}
-use Rattle.ltl_spec.specs.Automata.Listing.{listing, with_targets_of, IsComplete, PassesLimits}
-use Rattle.ltl_spec.proofs.Automata.ListingLaws.{fold_behind, listing_behind, listing_complete}
+use Rattle.std.proofs.lemmas.List.Sums.{sum_by-cons}
+use Rattle.ltl_spec.specs.Automata.Listing.{listing, IsComplete, PassesLimits}
+use Rattle.ltl_spec.proofs.Automata.ListingLaws.{listing_behind, listing_complete}
 pub use Rattle.ltl_spec.specs.Automata.Listing.{edges_after}
 
 -- beginnings of lists
@@ -72,20 +70,6 @@ module _ {K : Type 0} (same : K → K → Bool) (targets : K → List K) (start 
       let d : list_after n ≡ list_after m ++ w.0 = ap list_after (sym e) ∙ w.1 in
       subst (λ (xs : List K). edges_after same targets start m ≤ sum_by (λ s. length (targets s)) (take n xs)) (sym d) (sum_grows (λ s. length (targets s)) (list_after m) w.0 m n l)
 
-  -- at first there is the start, and no target
-  pub edges_begin : edges_after same targets start 0 ≡ 0
-  edges_begin = refl
-
-  -- taking one more adds the number of its targets
-  pub edges_step : (n : ℕ) (d : K) → n < length (list_after n) → edges_after same targets start (suc n) ≡ edges_after same targets start n + length (targets (slice_index_or (list_after n) n d))
-  edges_step n d l =
-      let w = listing_behind same targets start n in
-      ap (λ xs. sum_by (λ s. length (targets s)) (take (suc n) xs)) w.1 ∙ sum_step (λ s. length (targets s)) (list_after n) w.0 n d l
-
-  -- and lists the new ones among them
-  pub list_step : (n : ℕ) (d : K) → n < length (list_after n) → list_after (suc n) ≡ fold (with_new same) (list_after n) (targets (slice_index_or (list_after n) n d))
-  list_step n d l = ap (with_targets_of same targets (list_after n)) (slice_get-get_or (list_after n) n d l)
-
   module _ (most_states most_edges : ℕ) where
     -- for these limits
     abbrev IsPassed : ℕ → Type 0
@@ -95,29 +79,6 @@ module _ {K : Type 0} (same : K → K → Bool) (targets : K → List K) (start 
     pub passed_later : (m n : ℕ) → m ≤ n → IsPassed m → IsPassed n
     passed_later m n l (inl p) = let g = list_grows m n l in inl (omega arith)
     passed_later m n l (inr p) = let g = edges_grow m n l in inr (omega arith)
-
-    -- so they are passed at some step up to n exactly where they are passed at n
-    pub passed_so_far : (n : ℕ) → ((m : ℕ) × (m ≤ n) × IsPassed m) ↔ IsPassed n
-    passed_so_far n = ((λ w. passed_later w.0 n w.1 w.2), λ p. (n, omega arith, p))
-
-    -- and what is passed at a step is passed
-    pub passed_at : (n : ℕ) → IsPassed n → PassesLimits same targets start most_states most_edges
-    passed_at n p = (n, p)
-
-    -- the numbers may be tested amid the targets of the thing that is taken
-    pub passed_amid : (n : ℕ) (d : K) (ts rest : List K) → n < length (list_after n) → targets (slice_index_or (list_after n) n d) ≡ ts ++ rest
-        → (most_states < length (fold (with_new same) (list_after n) ts)) ⊎ (most_edges < edges_after same targets start n + length ts) → IsPassed (suc n)
-    passed_amid n d ts rest l e (inl p) =
-        let more = fold_behind same rest (fold (with_new same) (list_after n) ts) in
-        let f : list_after (suc n) ≡ fold (with_new same) (list_after n) ts ++ more.0 = list_step n d l ∙ ap (fold (with_new same) (list_after n)) e ∙ fold-append (with_new same) (list_after n) ts rest ∙ more.1 in
-        let g : length (list_after (suc n)) ≡ length (fold (with_new same) (list_after n) ts ++ more.0) = ap length f in
-        let h = length-append (fold (with_new same) (list_after n) ts) more.0 in
-        inl (omega arith)
-    passed_amid n d ts rest l e (inr p) =
-        let f = edges_step n d l in
-        let g : length (targets (slice_index_or (list_after n) n d)) ≡ length (ts ++ rest) = ap length e in
-        let h = length-append ts rest in
-        inr (omega arith)
 
     -- where all were taken nothing grows any more
     complete_passed : (n m : ℕ) → IsComplete same targets start n → n ≤ m → IsPassed m → IsPassed n

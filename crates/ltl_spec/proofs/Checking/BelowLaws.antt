@@ -227,9 +227,6 @@ module _ (n : ℕ) where
   pub translation_is_buchi : (N : Normal) (o : Options) (B : Automaton) → IsTranslation N o B → HasLeavesBelow n N → IsBuchi n B
   translation_is_buchi N o B (A, g, e) low = subst (IsBuchi n) (sym e) made
     where
-      small : Automaton
-      small = merged_automaton o.keep_implied o.keep_equal A
-
       made : IsBuchi n (buchi_automaton o A)
       made =
           let closed = generalized_closed N o.keep_implied A g in

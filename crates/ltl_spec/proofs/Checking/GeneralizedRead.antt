@@ -15,7 +15,7 @@ use Rattle.ltl_spec.specs.Hoa.HoaReading.{SetsUpTo, MarkedAutomaton, HoaReadsWit
 use Rattle.ltl_spec.specs.Hoa.HoaPrinted.{marked_of}
 use Rattle.ltl_spec.specs.Checking.Check.{graph_of, MarkedAccepts}
 use Rattle.ltl_spec.proofs.Semantics.LanguageLaws.{generalized_models}
-use Rattle.ltl_spec.proofs.Hoa.GeneralizedBack.{AreUsual, generalized_reads, generalized_read_back}
+use Rattle.ltl_spec.proofs.Hoa.GeneralizedBack.{AreUsual, generalized_read_back}
 use Rattle.ltl_spec.proofs.Construction.GeneralizedBounds.{translation_printed, translation_all_accepting}
 
 -- where every state is accepting, nothing is lost between an automaton and what is read
@@ -33,11 +33,7 @@ module _ (l : Limits) (most : ℕ) (usual : AreUsual l most) (text : List ℕ) (
     (translated : IsGeneralizedTranslation (core R.formula false rewrite) o A) (fits : ¬ (IsTooLarge (core R.formula false rewrite) o.keep_implied l.states l.edges))
     (states : l.states ≤ l.hoa_states) (edges : l.edges ≤ l.hoa_edges) (names : length R.names ≤ l.propositions) (sets : A.sets ≤ most)
     (few : length (generalized_text A R) ≤ l.hoa_bytes) where
-  -- the text reads as the automaton
-  pub printed_generalized : HoaReadsWithin l (SetsUpTo most) (generalized_text A R) (marked_of A R.names)
-  printed_generalized = generalized_reads l most usual A R (translation_printed l most text R reads false rewrite o A translated fits states edges names sets) few
-
-  -- and as no other
+  -- what is read of its text is this automaton
   pub printed_only : (M : MarkedAutomaton) → HoaReadsWithin l (SetsUpTo most) (generalized_text A R) M → M ≡ marked_of A R.names
   printed_only = generalized_read_back l most usual A R (translation_printed l most text R reads false rewrite o A translated fits states edges names sets) few
 

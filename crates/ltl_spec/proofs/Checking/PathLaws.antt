@@ -39,9 +39,6 @@ pub letter_agrees : (names : List Name) → HasNoRepeats names → (c : Cube) �
     → Agrees (λ p. has name_cmp (slice_index_or names p []) (letter_of names c)) c
 letter_agrees names d c below plain l h = at l.positive refl
   where
-    truth : Bool
-    truth = has name_cmp (slice_index_or names l.proposition []) (letter_of names c)
-
     at : (b : Bool) → l.positive ≡ b → has name_cmp (slice_index_or names l.proposition []) (letter_of names c) ≡ l.positive
     at true e = (has_Decides name_linear (slice_index_or names l.proposition []) (letter_of names c)).1 (Has-letter names c l h e) ∙ sym e
     at false e = absent (has name_cmp (slice_index_or names l.proposition []) (letter_of names c)) refl ∙ sym e

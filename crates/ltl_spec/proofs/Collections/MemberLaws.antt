@@ -1,8 +1,8 @@
 -- What lists that are made from others have: by a map, a chain, a filter that maps. What holds of all or of some elements.
-use Rattle.std.proofs.Common.{◌≡◌, Bool, true, false, ◌||◌, inl, inr, List, [], ◌∷◌, map, length, refl, sym, ◌∙◌, ap, subst, Option, Some, None, ◌++◌}
+use Rattle.std.proofs.Common.{◌≡◌, Bool, true, false, cond, ◌||◌, inl, inr, List, [], ◌∷◌, map, length, refl, sym, ◌∙◌, ap, subst, Option, Some, None, ◌++◌}
 use Rattle.std.specs.Prelude.{flat_map, filter_map}
 use Rattle.std.specs.Bool.{Decides}
-use Rattle.std.specs.List.{list_all, list_any, cons_option}
+use Rattle.std.specs.List.{filter, list_all, list_any, cons_option}
 use Rattle.std.proofs.lemmas.Bool.{and_from}
 use Rattle.std.proofs.lemmas.List.{length-map}
 use Rattle.ltl_spec.specs.Collections.Sets.{Has}
@@ -99,3 +99,8 @@ all_append p (x ∷ xs) ys e f = and_from (p x) _ (left_true (p x) _ e) (all_app
 pub all_weaker : {X : Type 0} (p q : X → Bool) → ((x : X) → p x ≡ true → q x ≡ true) → (xs : List X) → list_all p xs ≡ true → list_all q xs ≡ true
 all_weaker p q w [] e = refl
 all_weaker p q w (x ∷ xs) e = and_from (q x) _ (w x (left_true (p x) _ e)) (all_weaker p q w xs (right_true (p x) _ e))
+
+-- a filter leaves a list as it is whose elements all pass
+pub filter_all : {X : Type 0} (p : X → Bool) (xs : List X) → ((x : X) → Has xs x → p x ≡ true) → filter p xs ≡ xs
+filter_all p [] f = refl
+filter_all p (x ∷ xs) f = ap (λ b. cond b (x ∷ filter p xs) (filter p xs)) (f x (inl refl)) ∙ ap (λ ys. x ∷ ys) (filter_all p xs (λ y h. f y (inr h)))

@@ -207,9 +207,6 @@ module _ {K : Type 0} {cmp : K → K → Ordering} (o : IsLinearOrder cmp) where
         | inr m ↦ elim (union_cases ys zs z m) [ inl n ↦ union_left (union cmp xs ys) zs z (union_right xs ys z n) | inr n ↦ union_right (union cmp xs ys) zs z n ]
       ])
 
-  pub union_same : (xs : List K) → IsRising cmp xs → union cmp xs xs ≡ xs
-  union_same xs r = same_members (union cmp xs xs) xs (IsRising-union xs xs r) r (λ z h. elim (union_cases xs xs z h) [ inl m ↦ m | inr m ↦ m ]) (λ z h. union_left xs xs z h)
-
   pub union_nil : (xs : List K) → IsRising cmp xs → union cmp xs [] ≡ xs
   union_nil xs r = same_members (union cmp xs []) xs (IsRising-union xs [] tt) r (λ z h. elim (union_cases xs [] z h) [ inl m ↦ m | inr m ↦ absurd m ]) (λ z h. union_left xs [] z h)
 

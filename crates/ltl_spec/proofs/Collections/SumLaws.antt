@@ -87,7 +87,7 @@ none_has (x ∷ xs) h = let l = h x (inl refl) in absurd (omega arith)
 lower : (n z : ℕ) → z < suc n → (z ≡ n → ⊥) → z < n
 lower n z l d = omega arith
 
-taken_sum : {K : Type 0} (g : K → ℕ) (d : K) (ks : List K) (n : ℕ) (places : List ℕ) → n ≤ length ks → HasNoRepeats places → ((z : ℕ) → Has places z → z < n) → sum_by (λ k. g (slice_index_or ks k d)) places ≤ sum_by g (take n ks)
+pub taken_sum : {K : Type 0} (g : K → ℕ) (d : K) (ks : List K) (n : ℕ) (places : List ℕ) → n ≤ length ks → HasNoRepeats places → ((z : ℕ) → Has places z → z < n) → sum_by (λ k. g (slice_index_or ks k d)) places ≤ sum_by g (take n ks)
 taken_sum g d ks zero places l r b = let e = ap (sum_by (λ k. g (slice_index_or ks k d))) (none_has places b) in omega arith
 taken_sum g d ks (suc n) places l r b =
     let step = ap (λ xs. sum_by g (take (suc n) xs)) (sym (append-nil ks)) ∙ sum_step g ks [] n d (omega arith) in
@@ -102,7 +102,7 @@ taken_sum g d ks (suc n) places l r b =
           omega arith
     ]
 
-take_whole : {K : Type 0} (xs : List K) → take (length xs) xs ≡ xs
+pub take_whole : {K : Type 0} (xs : List K) → take (length xs) xs ≡ xs
 take_whole [] = refl
 take_whole (x ∷ xs) = ap (λ ys. x ∷ ys) (take_whole xs)
 

@@ -61,11 +61,11 @@ edge_count A = sum_by (λ s. length s.edges) A.states
 retargeted_length : (f : ℕ → ℕ) (s : State) → length (retargeted_state f s).edges ≤ length s.edges
 retargeted_length f s = let a = set_of_length edge_cmp (map (retargeted_edge f) s.edges) in let b = map_length (retargeted_edge f) s.edges in omega arith
 
-thin_length : (keep_implied : Bool) (s : State) → length (without_implied keep_implied s).edges ≤ length s.edges
+pub thin_length : (keep_implied : Bool) (s : State) → length (without_implied keep_implied s).edges ≤ length s.edges
 thin_length true s = omega arith
 thin_length false s = filter_length (λ e. not (list_any (λ f. not (same_edge f e) && implies_edge f e) s.edges)) s.edges
 
-HasNoRepeats-rising : (xs : List ℕ) → IsRising nat_cmp xs → HasNoRepeats xs
+pub HasNoRepeats-rising : (xs : List ℕ) → IsRising nat_cmp xs → HasNoRepeats xs
 HasNoRepeats-rising [] r = tt
 HasNoRepeats-rising (x ∷ xs) r = ((λ h. irreflexive nat_linear x x (all_at (λ z. nat_cmp x z ≡ Less) xs x r.0 h) refl), HasNoRepeats-rising xs r.1)
 

@@ -1,24 +1,21 @@
 -- The generalized automaton of a formula, merged and numbered: it is one, its edges are what the text of an automaton may hold, and it has no
 -- more states and edges than were counted.
-use Rattle.std.proofs.Common.{◌≡◌, ℕ, zero, suc, ◌<◌, ◌≤◌, Bool, true, false, not, ◌&&◌, inl, inr, List, [], ◌∷◌, ◌++◌, map, length, take, refl, sym, ◌∙◌, ap, subst, arith, ◌||◌, codes}
+use Rattle.std.proofs.Common.{◌≡◌, ℕ, zero, suc, ◌<◌, ◌≤◌, Bool, true, false, inl, inr, List, [], ◌∷◌, map, length, take, refl, sym, ◌∙◌, ap, subst, arith}
 use Rattle.std.specs.Prelude.{sum_by, fold, slice_index_or, ◌==◌}
-use Rattle.std.specs.List.{AllByRecursion, list_all}
 use Rattle.std.proofs.lemmas.Bool.{cases_lt}
 use Rattle.std.proofs.lemmas.List.{take_all}
 use Rattle.std.proofs.lemmas.List.Sums.{sum_by-cons}
-use Rattle.ltl_spec.specs.Collections.Sets.{Has, IsRising, has}
+use Rattle.ltl_spec.specs.Collections.Sets.{Has}
 use Rattle.ltl_spec.specs.Collections.Lists.{place_of}
-use Rattle.ltl_spec.specs.Semantics.Word.{Name}
 use Rattle.ltl_spec.specs.Formulas.Formula.{Reading}
-use Rattle.ltl_spec.specs.Formulas.Tokens.{is_name_byte, same_name}
-use Rattle.ltl_spec.specs.Formulas.Names.{is_proposition, is_constant}
+use Rattle.ltl_spec.specs.Formulas.Names.{is_proposition}
 use Rattle.ltl_spec.specs.Formulas.Grammar.{IsTextOf}
-use Rattle.ltl_spec.specs.NormalForms.Normal.{Normal, Top, Bottom, Leaf, Next, And, Or, Until, Release}
+use Rattle.ltl_spec.specs.NormalForms.Normal.{Normal, Bottom}
 use Rattle.ltl_spec.specs.NormalForms.NormalForm.{core}
-use Rattle.ltl_spec.specs.Transitions.Cubes.{Literal, literal_cmp, opposite, is_contradictory}
-use Rattle.ltl_spec.specs.Transitions.Pairs.{RowSet, Pair, join, empty_pair, later_pair, conj, pairs}
-use Rattle.ltl_spec.specs.Transitions.RowTransitions.{Table, table_of, place, pairs_at, is_marked, Transition, transitions}
-use Rattle.ltl_spec.specs.Automata.Automaton.{Automaton, State, Edge, edge_cmp, state_at}
+use Rattle.ltl_spec.specs.Transitions.Cubes.{Literal, is_contradictory}
+use Rattle.ltl_spec.specs.Transitions.Pairs.{RowSet, Pair, join, empty_pair}
+use Rattle.ltl_spec.specs.Transitions.RowTransitions.{Table, table_of, pairs_at, is_marked, Transition, transitions}
+use Rattle.ltl_spec.specs.Automata.Automaton.{Automaton, State, Edge, state_at}
 use Rattle.ltl_spec.specs.Automata.Listing.{listing}
 use Rattle.ltl_spec.specs.Automata.Generalized.{same_row_set, target_sets, root_set, edge_to, state_of, automaton_over, IsGeneralized, IsTooLarge}
 use Rattle.ltl_spec.specs.Automata.GeneralizedText.{IsGeneralizedTranslation}
@@ -28,16 +25,16 @@ use Rattle.ltl_spec.specs.Construction.Translation.{Options}
 use Rattle.ltl_spec.specs.Tools.Limits.{Limits}
 use Rattle.ltl_spec.specs.Hoa.HoaPrinted.{IsPrintedEdge, IsPrinted}
 use Rattle.ltl_spec.specs.Checking.Bounds.{HasNamesBelow, HasNoContradictions, HasMarksInside}
-use Rattle.ltl_spec.proofs.Collections.SetLaws.{all_at, append_cases, set_of_cases, has_Decides, IsRising-set_of}
+use Rattle.ltl_spec.proofs.Collections.SetLaws.{all_at, set_of_cases}
 use Rattle.ltl_spec.proofs.Collections.ListLaws.{places_cases, All-from_has}
-use Rattle.ltl_spec.proofs.Collections.MemberLaws.{map_cases, map_length, any_cases, all_Decides}
-use Rattle.ltl_spec.proofs.Collections.Orders.{literal_linear, pair_linear, edge_linear}
-use Rattle.ltl_spec.proofs.Formulas.NameLaws.{same_name_Decides}
+use Rattle.ltl_spec.proofs.Collections.MemberLaws.{map_cases, map_length, all_Decides}
+use Rattle.ltl_spec.proofs.Collections.Orders.{pair_linear}
+use Rattle.ltl_spec.proofs.Formulas.NameLaws.{word_proposition}
 use Rattle.ltl_spec.proofs.Formulas.TokenLaws.{IsNameWord}
 use Rattle.ltl_spec.proofs.Formulas.CanonicalLaws.{named_by_text, named_differ}
 use Rattle.ltl_spec.proofs.Transitions.JoinLaws.{join_parts, join_pair_is, IsConsistent}
 use Rattle.ltl_spec.proofs.Transitions.TransitionLaws.{transition_cases}
-use Rattle.ltl_spec.proofs.Automata.LimitLaws.{one_generalized}
+use Rattle.ltl_spec.proofs.Automata.ListingLaws.{one_complete}
 use Rattle.ltl_spec.proofs.Semantics.Runs.{IsClosed}
 use Rattle.ltl_spec.proofs.Semantics.GeneralizedLaws.{generalized_closed, generalized_accepting}
 use Rattle.ltl_spec.proofs.Construction.ImpliedEdges.{IsSetEdge}
@@ -48,7 +45,12 @@ use Rattle.ltl_spec.proofs.Construction.SetEdges.{generalized_sets}
 use Rattle.ltl_spec.proofs.Construction.EdgeBounds.{AreAll, made_all, merged_all, renumbered_all, edge_count, merged_few, merged_few_edges, renumbered_few, renumbered_few_edges}
 use Rattle.ltl_spec.proofs.Checking.BelowLaws.{HasLeavesBelow, generalized_below, core_below, parsed_below}
 
--- a normal form has one
+-- a formula has one generalized automaton
+pub one_generalized : (N : Normal) (keep : Bool) (A B : Automaton) → IsGeneralized N keep A → IsGeneralized N keep B → A ≡ B
+one_generalized N keep A B a b =
+    a.2 ∙ ap (automaton_over N keep) (one_complete same_row_set (target_sets N keep) (root_set N keep) a.0 b.0 a.1 b.1) ∙ sym b.2
+
+-- and one generalized translation
 pub one_generalized_translation : (N : Normal) (o : Options) (A B : Automaton) → IsGeneralizedTranslation N o A → IsGeneralizedTranslation N o B → A ≡ B
 one_generalized_translation N o A B (G, g, e) (H, h, f) =
     e ∙ ap (λ M. renumbered_automaton (merged_automaton o.keep_implied o.keep_equal M)) (one_generalized N o.keep_implied G H g h) ∙ sym f
@@ -58,41 +60,12 @@ one_generalized_translation N o A B (G, g, e) (H, h, f) =
 abbrev AreConsistent : List Pair → Type 0
 AreConsistent ps = (p : Pair) → Has ps p → IsConsistent p
 
-one_literal : (l : Literal) → is_contradictory (l ∷ []) ≡ false
-one_literal l = at (is_contradictory (l ∷ [])) refl
-  where
-    other : (s : Bool) → not s ≡ s → ⊥
-    other true e = cc
-    other false e = cc
-
-    at : (b : Bool) → is_contradictory (l ∷ []) ≡ b → b ≡ false
-    at false e = refl
-    at true e =
-        let (m, h, t) = any_cases (λ k. has literal_cmp (opposite k) (l ∷ [])) (l ∷ []) e in
-        let first : m ≡ l = elim h [ inl q ↦ q | inr z ↦ absurd z ] in
-        let second : opposite m ≡ l = elim ((has_Decides literal_linear (opposite m) (l ∷ [])).0 t) [ inl q ↦ q | inr z ↦ absurd z ] in
-        absurd (other m.positive (ap (λ (k : Literal). k.positive) (second ∙ sym first)))
-
 one_pair : (p : Pair) → IsConsistent p → AreConsistent (p ∷ [])
 one_pair p n r (inl e) = subst IsConsistent (sym e) n
 one_pair p n r (inr z) = absurd z
 
 join_consistent : (ps qs : List Pair) → AreConsistent (join ps qs)
 join_consistent ps qs r h = let (p, q, k, m, e) = join_parts ps qs r h in let w = join_pair_is p q r e in subst IsConsistent (sym w.0) w.1
-
-append_consistent : (ps qs : List Pair) → AreConsistent ps → AreConsistent qs → AreConsistent (ps ++ qs)
-append_consistent ps qs f g r h = elim (append_cases ps qs r h) [ inl k ↦ f r k | inr k ↦ g r k ]
-
-pub pairs_consistent : (place : Normal → ℕ) (F : Normal) → AreConsistent (pairs place F)
-pairs_consistent place Top = one_pair empty_pair refl
-pairs_consistent place Bottom = λ r h. absurd h
-pairs_consistent place (Leaf l) = one_pair (record { cube = l ∷ []; targets = [] }) (one_literal l)
-pairs_consistent place (Next a) = λ r h. let (e, k, d) = map_cases (λ (x : RowSet). record { cube = []; targets = x }) (conj place a) r h in subst IsConsistent (sym d) refl
-pairs_consistent place (And a b) = join_consistent (pairs place a) (pairs place b)
-pairs_consistent place (Or a b) = append_consistent (pairs place a) (pairs place b) (pairs_consistent place a) (pairs_consistent place b)
-pairs_consistent place (Until a b) =
-    append_consistent (pairs place b) (join (pairs place a) (later_pair (place (Until a b)) ∷ [])) (pairs_consistent place b) (join_consistent (pairs place a) (later_pair (place (Until a b)) ∷ []))
-pairs_consistent place (Release a b) = join_consistent (pairs place b) (pairs place a ++ later_pair (place (Release a b)) ∷ [])
 
 module _ (t : Table) where
   folded_consistent : (e : RowSet) (ps : List Pair) → AreConsistent ps → AreConsistent (fold (λ qs i. join qs (pairs_at t i)) ps e)
@@ -144,9 +117,6 @@ module _ (N : Normal) (keep : Bool) where
 
       states_long : length (automaton_over N keep (list_at n)).states ≡ length (list_at n)
       states_long = map_length (state_of N keep (list_at n)) (list_at n)
-
-      edges_of : RowSet → ℕ
-      edges_of s = length (target_sets N keep s)
 
       one_state : (s : RowSet) → length (state_of N keep (list_at n) s).edges ≡ length (target_sets N keep s)
       one_state s =
@@ -202,13 +172,6 @@ module _ (N : Normal) (o : Options) (A : Automaton) (t : IsGeneralizedTranslatio
   pub translation_below : (n : ℕ) → HasLeavesBelow n N → HasNamesBelow n A
   translation_below n low = kept_all (λ e. (l : Literal) → Has e.cube l → l.proposition < n) (λ f e b. b) (generalized_below n N low o.keep_implied G t.1)
 
-  -- the edges of a state rise by literals, target and marks
-  pub translation_rising : (s : State) → Has A.states s → IsRising edge_cmp s.edges
-  translation_rising s h =
-      let (k, m, e) = map_cases (λ u. retargeted_state (λ v. place_of ◌==◌ v (reached_states merged)) (state_at merged u)) (reached_states merged) s (subst (λ (B : Automaton). Has B.states s) t.2 h) in
-      subst (λ (r : State). IsRising edge_cmp r.edges) (sym e)
-      (IsRising-set_of edge_linear (map (retargeted_edge (λ v. place_of ◌==◌ v (reached_states merged))) (state_at merged k).edges))
-
   -- every state is accepting, so only the acceptance sets count
   pub translation_all_accepting : (s : State) → Has A.states s → s.accepting ≡ true
   translation_all_accepting s h =
@@ -232,26 +195,6 @@ module _ (N : Normal) (o : Options) (A : Automaton) (t : IsGeneralizedTranslatio
 
 -- ---- the automaton of a formula that was read
 
--- a name that is a word of the tokens is a proposition
-word_is_proposition : (n : Name) → IsNameWord n → is_proposition n ≡ true
-word_is_proposition [] w = absurd w
-word_is_proposition (b ∷ bs) (l, a, t, f) =
-    (λ i. l i && bytes bs a i && not (constant i))
-  where
-    bytes : (cs : List ℕ) → AllByRecursion (λ c. is_name_byte c ≡ true) cs → list_all is_name_byte cs ≡ true
-    bytes [] h = refl
-    bytes (c ∷ cs) h = λ i. h.0 i && bytes cs h.1 i
-
-    differs : (m : Name) → ¬ (b ∷ bs ≡ m) → same_name (b ∷ bs) m ≡ false
-    differs m d = at (same_name (b ∷ bs) m) refl
-      where
-        at : (c : Bool) → same_name (b ∷ bs) m ≡ c → c ≡ false
-        at false e = refl
-        at true e = absurd (d ((same_name_Decides (b ∷ bs) m).0 e))
-
-    constant : is_constant (b ∷ bs) ≡ false
-    constant = λ i. differs (codes "true") t i || differs (codes "false") f i
-
 -- an automaton that is printed for a formula within the limits is one whose text can be read
 pub translation_printed : (l : Limits) (most : ℕ) (text : List ℕ) (R : Reading) → IsTextOf text R → (negate rewrite : Bool) (o : Options) (A : Automaton)
     → IsGeneralizedTranslation (core R.formula negate rewrite) o A → ¬ (IsTooLarge (core R.formula negate rewrite) o.keep_implied l.states l.edges)
@@ -270,7 +213,7 @@ translation_printed l most text R reads negate rewrite o A t fits s e few sets =
       few_edges = omega arith;
       few_sets = sets;
       few_names = few;
-      propositions = (all_Decides is_proposition R.names).1 (λ n h. word_is_proposition n (all_at IsNameWord R.names n named.words h));
+      propositions = (all_Decides is_proposition R.names).1 (λ n h. word_proposition n (all_at IsNameWord R.names n named.words h));
       differ = named_differ R named;
       within = λ k d b. All-from_has (IsPrintedEdge (length R.names) (length A.states) A.sets) (slice_index_or A.states k d).edges (λ x h.
           let m = subst (λ (v : State). Has v.edges x) (any_state A.states k d b) h in

@@ -1,5 +1,5 @@
 -- The steps of a climb.
-use Rattle.std.proofs.Common.{◌≡◌, ℕ, zero, suc, ◌+◌, ◌-◌, ◌<◌, ◌≤◌, true, false, cond, List, refl, ◌∙◌, ap, arith}
+use Rattle.std.proofs.Common.{◌≡◌, ℕ, zero, suc, ◌+◌, ◌-◌, ◌<◌, true, false, cond, List, refl, ◌∙◌, ap, arith}
 use Rattle.std.specs.Ordering.{nat_cmp}
 use Rattle.ltl_spec.specs.Collections.Sets.{has}
 use Rattle.ltl_spec.specs.Construction.Levels.{climb}
@@ -14,7 +14,3 @@ climb_on sets at marks l h =
 pub climb_stop : (n at : ℕ) (marks : List ℕ) → has nat_cmp at marks ≡ false → climb n marks at ≡ at
 climb_stop zero at marks h = refl
 climb_stop (suc n) at marks h = ap (λ b. cond b (climb n marks (at + 1)) at) h
-
--- it ends at the last level
-pub climb_end : (sets at : ℕ) (marks : List ℕ) → sets ≤ at → climb (sets - at) marks at ≡ at
-climb_end sets at marks l = let e : sets - at ≡ 0 = omega arith in ap (λ n. climb n marks at) e

@@ -1,5 +1,5 @@
 -- Copies on levels keep the accepting runs.
-use Rattle.std.proofs.Common.{◌≡◌, ℕ, zero, suc, ◌+◌, ◌*◌, ◌/◌, ◌%◌, ◌<◌, ◌≤◌, Bool, true, false, ◌&&◌, IsTrue, ◌↔◌, List, [], length, map, refl, sym, ◌∙◌, ap, subst, arith, suc-mul, mul-le-mul_right}
+use Rattle.std.proofs.Common.{◌≡◌, ℕ, zero, suc, ◌+◌, ◌*◌, ◌/◌, ◌%◌, ◌<◌, ◌≤◌, Bool, true, false, ◌&&◌, IsTrue, List, [], length, map, refl, sym, ◌∙◌, ap, subst, arith, suc-mul, mul-le-mul_right}
 use Rattle.std.specs.Prelude.{◌==◌, slice_index_or}
 use Rattle.std.specs.Bool.{Decides}
 use Rattle.std.proofs.lemmas.Bool.Decides.{Decides-eqb}
@@ -7,7 +7,7 @@ use Rattle.std.proofs.lemmas.List.{length-map}
 use Rattle.std.proofs.lemmas.Nat.{div-mul-add, mod-mul-add}
 use Rattle.std.proofs.lemmas.Bool.{false≢true}
 use Rattle.ltl_spec.specs.Collections.Sets.{Has}
-use Rattle.ltl_spec.specs.Collections.Lists.{HasNoRepeats, place_of}
+use Rattle.ltl_spec.specs.Collections.Lists.{place_of}
 use Rattle.ltl_spec.specs.Automata.Listing.{listing, IsComplete}
 use Rattle.ltl_spec.specs.Transitions.Cubes.{allows}
 use Rattle.ltl_spec.specs.Semantics.Word.{after_steps}
@@ -17,7 +17,7 @@ use Rattle.ltl_spec.proofs.Semantics.Runs.{Run, IsClosed}
 use Rattle.ltl_spec.proofs.Collections.Orders.{copy_edge_linear, edge_linear}
 use Rattle.ltl_spec.proofs.Collections.SetLaws.{set_of_cases, Has-set_of}
 use Rattle.ltl_spec.proofs.Collections.ListLaws.{Has-at, place_below, at_place}
-use Rattle.ltl_spec.proofs.Automata.ListingReach.{listed_start, listed_all, listed_within, listed_short, complete_is_all, HasNoRepeats-listed, place_start}
+use Rattle.ltl_spec.proofs.Automata.ListingReach.{listed_start, listed_all, complete_is_all, place_start}
 use Rattle.ltl_spec.proofs.Automata.ListedStates.{has_edge_below, run_below, state_at_place, state_of_place}
 use Rattle.ltl_spec.proofs.Construction.ClimbLaws.{next_level_most, top_again, marks_again}
 use Rattle.ltl_spec.proofs.Collections.MemberLaws.{Has-map, map_cases}
@@ -120,17 +120,6 @@ module _ (A : Automaton) where
     copies_target p e h k =
         listed_all same_copy same_copy_Decides (copy_targets A) start_copy IsCopy begins leads (copy_number A.sets) (length A.states * (A.sets + 1)) copy_below copy_apart
         p (copy_edge A p.level e).copy h (Has-copy_targets A p e k)
-
-    -- each is a state on a level, none stands twice, and there are no more than one for each state and level
-    pub copies_within : (p : Copy) → Has (copies A) p → IsCopy p
-    copies_within p h = listed_within same_copy same_copy_Decides (copy_targets A) start_copy IsCopy begins leads (length A.states * (A.sets + 1)) p h
-
-    pub HasNoRepeats-copies : HasNoRepeats (copies A)
-    HasNoRepeats-copies = HasNoRepeats-listed same_copy same_copy_Decides (copy_targets A) start_copy (length A.states * (A.sets + 1))
-
-    pub copies_short : length (copies A) ≤ length A.states * (A.sets + 1)
-    copies_short =
-        listed_short same_copy same_copy_Decides (copy_targets A) start_copy IsCopy begins leads (copy_number A.sets) (length A.states * (A.sets + 1)) copy_below copy_apart (length A.states * (A.sets + 1))
 
     -- a complete listing lists these copies
     pub complete_copies : (n : ℕ) → IsComplete same_copy (copy_targets A) start_copy n → listing same_copy (copy_targets A) start_copy n ≡ copies A
@@ -251,7 +240,3 @@ module _ (A : Automaton) where
           tops k =
               let w = R.accepts k in
               (w.0, w.1, (Decides-eqb (copy w.0).level A.sets).0 (subst (λ (t : State). IsTrue t.accepting) (state_of_place_copy (R.state w.0) (within w.0)) w.2))
-
-      -- so the copies accept the same
-      pub levels_runs : ((s : ℕ) → s < length A.states → IsTrue (state_at A s).accepting) → Run A holds step ↔ Run (level_automaton A) holds step
-      levels_runs accepting = (levels_run, run_of_levels accepting)

@@ -1,5 +1,5 @@
 -- Numbering the reached states anew keeps the accepting runs.
-use Rattle.std.proofs.Common.{◌≡◌, ℕ, zero, suc, ◌<◌, ◌≤◌, Bool, IsTrue, ◌↔◌, length, map, sym, ◌∙◌, ap, subst}
+use Rattle.std.proofs.Common.{◌≡◌, ℕ, zero, suc, ◌<◌, ◌≤◌, Bool, IsTrue, length, map, sym, ◌∙◌, ap, subst}
 use Rattle.std.specs.Prelude.{◌==◌, slice_index_or}
 use Rattle.std.proofs.lemmas.Bool.Decides.{Decides-eqb}
 use Rattle.std.proofs.lemmas.List.{length-map}
@@ -158,7 +158,3 @@ module _ (A : Automaton) where
 
           chosen : (k : ℕ) → (e : Edge) × Has (state_at A (old_number (R.state k))).edges e × (R.edge k ≡ retargeted_edge new_number e)
           chosen k = old_edge (R.state k) (R.edge k) (within k) (R.edges k)
-
-      -- so the numbers don't matter
-      pub renumbered_runs : Run A holds step ↔ Run (renumbered_automaton A) holds step
-      renumbered_runs = (renumbered_run, run_of_renumbered)

@@ -15,7 +15,7 @@ use Rattle.ltl_spec.specs.Hoa.HoaReading.{OneSet}
 use Rattle.ltl_spec.specs.Checking.Check.{MarkedAccepts, IsViolation, Violated}
 use Rattle.ltl_spec.specs.Words.LassoText.{IsLeast, repeated}
 use Rattle.ltl_spec.specs.Tools.Programs.{Claim, plain_options, ReadsFormula, Translates, TranslatorPlan, TranslatorAnswers, CheckerPlan, CheckerAnswers}
-use Rattle.ltl_spec.proofs.Automata.LimitLaws.{translation_fits}
+use Rattle.ltl_spec.proofs.Examples.WithinLimits.{translation_fits}
 use Rattle.ltl_spec.proofs.Examples.Claims.{translation_within}
 use Rattle.ltl_spec.proofs.Examples.InputTexts.{text_e, automaton_e, reads_e, one_lasso}
 use Rattle.ltl_spec.proofs.Examples.ProgramTexts.{answer}

@@ -6,7 +6,7 @@ use Rattle.ltl_spec.specs.Transitions.Pairs.{RowSet, Pair, empty_pair}
 use Rattle.ltl_spec.specs.Transitions.RowTransitions.{table_of, place, is_marked, transitions}
 use Rattle.ltl_spec.proofs.Transitions.TransitionLaws.{joined}
 use Rattle.ltl_spec.proofs.Transitions.PruningLaws.{few_successors_enough}
-use Rattle.ltl_spec.proofs.Transitions.Pruning.{is_within, least_pairs, own_pairs, is_simply_safe, is_safe, unimplied_of, few_successors}
+use Rattle.ltl_spec.proofs.Transitions.Pruning.{is_within, least_pairs, own_pairs, is_safe, unimplied_of, few_successors}
 
 -- the literal of a proposition
 abbrev is : ℕ → Literal
@@ -52,14 +52,6 @@ without_p = refl
 
 not_safe : is_safe (table_of either) (own_pairs (table_of either)) (pair (is 0 ∷ []) (2 ∷ [])) (pair [] (2 ∷ [])) ≡ false
 not_safe = refl
-
--- where p is true now the row needn't be a target
-simply : is_simply_safe (table_of either) (own_pairs (table_of either)) (pair (is 0 ∷ []) (2 ∷ [])) (pair (is 0 ∷ []) []) ≡ true
-simply = refl
-
--- where p is true now q needn't be: the stronger test sees it, the simple one doesn't
-not_simply : is_simply_safe (table_of either) (own_pairs (table_of either)) (pair (is 0 ∷ is 1 ∷ []) (2 ∷ [])) (pair (is 0 ∷ []) (2 ∷ [])) ≡ false
-not_simply = refl
 
 yet_safe : is_safe (table_of either) (own_pairs (table_of either)) (pair (is 0 ∷ is 1 ∷ []) (2 ∷ [])) (pair (is 0 ∷ []) (2 ∷ [])) ≡ true
 yet_safe = refl

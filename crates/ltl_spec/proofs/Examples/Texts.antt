@@ -5,7 +5,6 @@ use Rattle.ltl_spec.specs.Semantics.Word.{Lasso, next, after_steps, is_true_at}
 use Rattle.ltl_spec.specs.Formulas.Formula.{Proposition, Unary, Binary, Not, Next, Always, Eventually, And, Implies, Iff, Until, Release, Reading}
 use Rattle.ltl_spec.specs.Formulas.Tokens.{ConstantWord, NameWord, UnarySign, BinarySign, Unknown, tokens, items}
 use Rattle.ltl_spec.specs.Formulas.Grammar.{Parses, of_name, of_tighter, of_right, IsTextOf}
-use Rattle.ltl_spec.specs.Formulas.Fault.{IsFault, UnexpectedByte}
 use Rattle.ltl_spec.specs.Formulas.Canonical.{canonical_text}
 use Rattle.ltl_spec.specs.Semantics.Satisfaction.{Satisfies}
 use Rattle.ltl_spec.specs.Automata.Automaton.{Automaton, Edge, Accepts}
@@ -13,7 +12,6 @@ use Rattle.ltl_spec.specs.NormalForms.Normal.{Normal}
 use Rattle.ltl_spec.specs.NormalForms.NormalForm.{core}
 use Rattle.ltl_spec.specs.Automata.Generalized.{generalized_within}
 use Rattle.ltl_spec.specs.Construction.Translation.{IsTranslation}
-use Rattle.ltl_spec.proofs.Formulas.GrammarLaws.{no_unknown_beginning}
 
 -- the longest token is taken, and a name has no upper-case letter
 until_tokens : tokens (codes "pUq") ≡ NameWord (codes "p") ∷ BinarySign Until ∷ NameWord (codes "q") ∷ []
@@ -55,14 +53,6 @@ p_q_p_text = (
 
 p_q_p_canonical : canonical_text p_q_p ≡ codes "(p -> (q -> p))"
 p_q_p_canonical = refl
-
--- `p & q`: byte 2 begins no token
-unexpected : IsFault (codes "p & q") 2 UnexpectedByte
-unexpected = record {
-  count = 1;
-  begins = ([], record { formula = Proposition 0; names = codes "p" ∷ [] }, (refl, of_tighter 4 _ _ (of_tighter 3 _ _ (p_parses []))));
-  stops = (refl, no_unknown_beginning (NameWord (codes "p") ∷ Unknown ∷ []) (inr (inl refl)), refl);
-}
 
 -- the word `{p}; cycle {}`
 abbrev word : Lasso

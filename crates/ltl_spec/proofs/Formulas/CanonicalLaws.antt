@@ -1,25 +1,20 @@
 -- The canonical text of a formula is a text of it.
-use Rattle.std.proofs.Common.{◌≡◌, ℕ, zero, suc, ◌+◌, ◌<◌, Bool, true, false, cond, inl, inr, List, [], ◌∷◌, ◌++◌, length, map, filter_map, slice_index_or, codes, refl, sym, ◌∙◌, ap, subst, arith, append_assoc, append-nil, fold, nat_eq, ◌||◌}
+use Rattle.std.proofs.Common.{◌≡◌, ℕ, zero, suc, ◌<◌, Bool, true, false, inl, inr, List, [], ◌∷◌, ◌++◌, length, filter_map, slice_index_or, codes, refl, sym, ◌∙◌, ap, subst, arith, append_assoc, append-nil}
 use Rattle.std.specs.Prelude.{⊤}
-use Rattle.std.specs.List.{AllByRecursion, list_any}
 use Rattle.std.proofs.lemmas.List.Elements.{filter_map-append}
 use Rattle.std.proofs.lemmas.Option.{slice_get-get_or, get_or_from_slice_get}
-use Rattle.std.proofs.lemmas.List.{map-append, length_push}
-use Rattle.std.proofs.lemmas.Bool.Decides.{same_from_decides, Decides-eqb}
 use Rattle.std.proofs.lemmas.Slice.Eq.{bytes_eq-Decides}
 use Rattle.ltl_spec.specs.Collections.Sets.{Has}
-use Rattle.ltl_spec.specs.Collections.Lists.{HasNoRepeats, with_new, first_occurrences}
+use Rattle.ltl_spec.specs.Collections.Lists.{HasNoRepeats, first_occurrences}
 use Rattle.ltl_spec.specs.Semantics.Word.{Name}
 use Rattle.ltl_spec.specs.Formulas.Formula.{Formula, Constant, Proposition, Unary, Binary, UnaryOperator, Not, Next, Always, Eventually, BinaryOperator, And, Or, Implies, Iff, Until, Release, Reading}
 use Rattle.ltl_spec.specs.Formulas.Tokens.{Token, ConstantWord, NameWord, UnarySign, BinarySign, Open, Close, same_name, tokens}
 use Rattle.ltl_spec.specs.Formulas.Grammar.{Parses, of_constant, of_name, of_brackets, of_unary, of_tighter, of_left, of_right, rank_of, name_in, Reads, IsTextOf}
 use Rattle.ltl_spec.specs.Formulas.Canonical.{constant_text, unary_text, binary_text, formula_text, canonical_text}
 use Rattle.ltl_spec.proofs.Collections.SetLaws.{all_at, all_from, append_left, append_right}
-use Rattle.ltl_spec.proofs.Collections.ListLaws.{Has-first_occurrences, HasNoRepeats-first_occurrences, first_occurrences_cases, with_new_cases, Has-at, index_done}
+use Rattle.ltl_spec.proofs.Collections.ListLaws.{Has-first_occurrences, HasNoRepeats-first_occurrences, first_occurrences_cases, Has-at}
 use Rattle.ltl_spec.proofs.Formulas.GrammarMachine.{of_higher, of_binary, rank_bounds, left_rank, right_rank}
-use Rattle.ltl_spec.proofs.Formulas.BeginningLaws.{reads_once}
 use Rattle.ltl_spec.proofs.Formulas.TokenLaws.{tokens_from, tokens_are, IsNameWord, EndsWord, word_tokens, name_token, text_names}
-use Rattle.ltl_spec.proofs.Formulas.NameLaws.{same_place}
 pub use Rattle.ltl_spec.specs.Formulas.Names.{names_in, IsNamed}
 
 -- the tokens of the canonical text
@@ -189,91 +184,6 @@ named_by_text text R w = record {
 pub canonical_again : (text : List ℕ) (R : Reading) → IsTextOf text R → IsTextOf (canonical_text R) R
 canonical_again text R w = canonical_is_text R (named_by_text text R w)
 
--- named readings with one canonical text are equal
-pub canonical_once : (R S : Reading) → IsNamed R → IsNamed S → canonical_text R ≡ canonical_text S → R ≡ S
-canonical_once R S d f e =
-    reads_once (tokens (canonical_text R)) R S (canonical_is_text R d) (subst (λ t. IsTextOf t S) (sym e) (canonical_is_text S f))
-
 -- no name stands twice
 pub named_differ : (R : Reading) → IsNamed R → HasNoRepeats R.names
 named_differ R d = subst HasNoRepeats (sym d.numbered) (HasNoRepeats-first_occurrences same_name bytes_eq-Decides (names_in R.names R.formula))
-
--- the same by the propositions' numbers
-
--- the propositions, each as often as it stands
-abbrev pub propositions : Formula → List ℕ
-propositions (Constant b) = []
-propositions (Proposition p) = p ∷ []
-propositions (Unary op a) = propositions a
-propositions (Binary op a b) = propositions a ++ propositions b
-
--- n numbers from i on
-abbrev pub numbers : ℕ → ℕ → List ℕ
-numbers i zero = []
-numbers i (suc n) = i ∷ numbers (suc i) n
-
--- the names of the propositions are the names at their numbers
-names_by_number : (names : List Name) (F : Formula) → names_in names F ≡ map (λ p. slice_index_or names p []) (propositions F)
-names_by_number names (Constant b) = refl
-names_by_number names (Proposition p) = refl
-names_by_number names (Unary op a) = names_by_number names a
-names_by_number names (Binary op a b) =
-    (λ i. names_by_number names a i ++ names_by_number names b i) ∙ sym (map-append (λ p. slice_index_or names p []) (propositions a) (propositions b))
-
--- the names at all numbers are the names
-all_numbers : (xs names : List Name) → map (λ p. slice_index_or (xs ++ names) p []) (numbers (length xs) (length names)) ≡ names
-all_numbers xs [] = refl
-all_numbers xs (n ∷ names) =
-    let rest = subst (λ l. map (λ p. slice_index_or l p []) (numbers (length (xs ++ n ∷ [])) (length names)) ≡ names) (append_assoc xs (n ∷ []) names) (all_numbers (xs ++ n ∷ []) names) in
-    let one : length (xs ++ n ∷ []) ≡ suc (length xs) = let e = length_push xs n in omega (arith, e) in
-    let there = subst (λ k. map (λ p. slice_index_or (xs ++ n ∷ names) p []) (numbers k (length names)) ≡ names) one rest in
-    λ i. index_done xs names n [] i ∷ there i
-
--- the numbers end
-number_below : (i n k : ℕ) → Has (numbers i n) k → k < i + n
-number_below i zero k h = absurd h
-number_below i (suc n) k (inl e) = omega arith
-number_below i (suc n) k (inr h) = let l = number_below (suc i) n k h in omega arith
-
-module _ (f : ℕ → Name) (Q : ℕ → Type 0) (differ : (p q : ℕ) → Q p → Q q → f p ≡ f q → p ≡ q) where
-  -- names are the same where numbers are
-  same_test : (p q : ℕ) → Q p → Q q → same_name (f p) (f q) ≡ nat_eq p q
-  same_test p q g h =
-      same_from_decides {P = p ≡ q} (same_name (f p) (f q)) (nat_eq p q)
-      ((λ e. differ p q g h ((bytes_eq-Decides (f p) (f q)).0 e)), λ e. (bytes_eq-Decides (f p) (f q)).1 (ap f e)) (Decides-eqb p q)
-
-  -- a name is among names where its number is among numbers
-  any_mapped : (p : ℕ) (xs : List ℕ) → Q p → AllByRecursion Q xs → list_any (same_name (f p)) (map f xs) ≡ list_any (nat_eq p) xs
-  any_mapped p [] g a = refl
-  any_mapped p (x ∷ xs) g a = λ i. same_test p x g a.0 i || any_mapped p xs g a.1 i
-
-  -- a new name is a new number
-  with_new_mapped : (p : ℕ) (xs : List ℕ) → Q p → AllByRecursion Q xs → with_new same_name (map f xs) (f p) ≡ map f (with_new nat_eq xs p)
-  with_new_mapped p xs g a =
-      ap (λ b. cond b (map f xs) (map f xs ++ f p ∷ [])) (any_mapped p xs g a)
-      ∙ elim (list_any (nat_eq p) xs) as (λ b. cond b (map f xs) (map f xs ++ f p ∷ []) ≡ map f (cond b xs (xs ++ p ∷ []))) [ true ↦ refl | false ↦ sym (map-append f xs (p ∷ [])) ]
-
-  -- a new number keeps what holds of all
-  all_with_new : (p : ℕ) (xs : List ℕ) → Q p → AllByRecursion Q xs → AllByRecursion Q (with_new nat_eq xs p)
-  all_with_new p xs g a =
-      all_from Q (with_new nat_eq xs p) (λ z h. elim (with_new_cases nat_eq Decides-eqb xs p z h) [ inl k ↦ all_at Q xs z a k | inr e ↦ subst Q (sym e) g ])
-
-  -- the different names are those of the different numbers
-  fold_mapped : (ps xs : List ℕ) → AllByRecursion Q ps → AllByRecursion Q xs → fold (with_new same_name) (map f xs) (map f ps) ≡ map f (fold (with_new nat_eq) xs ps)
-  fold_mapped [] xs g a = refl
-  fold_mapped (p ∷ ps) xs g a =
-      ap (λ l. fold (with_new same_name) l (map f ps)) (with_new_mapped p xs g.0 a) ∙ fold_mapped ps (with_new nat_eq xs p) g.1 (all_with_new p xs g.0 a)
-
--- Different proper names, numbered in the order in which their propositions first stand: the reading is named so
-pub named_by_numbers : (R : Reading) → AllByRecursion IsNameWord R.names → HasNoRepeats R.names
-    → first_occurrences nat_eq (propositions R.formula) ≡ numbers 0 (length R.names) → IsNamed R
-named_by_numbers R w d e =
-    let at : ℕ → Name = λ p. slice_index_or R.names p [] in
-    let below : (z : ℕ) → Has (propositions R.formula) z → z < length R.names =
-    λ z h. let l = number_below 0 (length R.names) z (subst (λ l. Has l z) e (Has-first_occurrences nat_eq Decides-eqb (propositions R.formula) z h)) in omega arith in
-    record {
-      words = w;
-      numbered = sym (all_numbers [] R.names) ∙ ap (map at) (sym e)
-          ∙ sym (fold_mapped at (λ p. p < length R.names) (same_place R.names d) (propositions R.formula) [] (all_from (λ p. p < length R.names) (propositions R.formula) below) tt)
-          ∙ ap (first_occurrences same_name) (sym (names_by_number R.names R.formula));
-    }

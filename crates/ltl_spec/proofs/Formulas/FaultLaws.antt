@@ -248,17 +248,9 @@ fault_is_first text place kind f =
     let w = begins_walk (take f.count (tokens text)) f.begins in
     fault_found text f.count place kind w.0 (slice_get (items text) f.count) refl w.1 f.stops
 
--- and the other way round
-pub first_is_fault : (text : List ℕ) (place : ℕ) (kind : FaultKind) → first_fault (length text) (Before 0) (items text) ≡ Some (place, kind) → IsFault text place kind
-first_is_fault text place kind e = subst (Tells text) e (first_fault_tells text)
-
 -- a text with a reading has no first fault
 pub reading_has_no_fault : (text : List ℕ) (R : Reading) → IsTextOf text R → first_fault (length text) (Before 0) (items text) ≡ None
 reading_has_no_fault text R r = end_found (length text) (Before 0) (After 0) (items text) (reads_walk (tokens text) R r)
-
--- and the other way round
-pub no_fault_has_reading : (text : List ℕ) → first_fault (length text) (Before 0) (items text) ≡ None → (R : Reading) × IsTextOf text R
-no_fault_has_reading text e = subst (Tells text) e (first_fault_tells text)
 
 -- Each text has exactly one of these: a reading, or one fault
 pub reading_or_fault : (text : List ℕ) → ((R : Reading) × IsTextOf text R) ⊎ ((place : ℕ) × (kind : FaultKind) × IsFault text place kind)

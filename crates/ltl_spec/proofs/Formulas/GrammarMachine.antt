@@ -397,18 +397,3 @@ of_five r us F (of_right op r' xs ys us' a b i g e d f) =
 pub parses_once : (names : List Name) (r : ℕ) (ts : List Token) (F G : Formula) → HasNoRepeats names → Parses names r ts F → Parses names r ts G → F ≡ G
 parses_once names r ts F G d p q =
     same_Some _ _ (sym (read_complete names ts F d (of_five r ts F p)) ∙ read_complete names ts G d (of_five r ts G q))
-
--- nothing is read exactly where nothing parses
-pub read_none : (names : List Name) (ts : List Token) (F : Formula) → HasNoRepeats names → read names ts ≡ None → ¬ (Parses names 5 ts F)
-read_none names ts F d e p = different (sym e ∙ read_complete names ts F d p)
-  where
-    different : None ≡ Some F → ⊥
-    different c = cc
-
--- and the other way round
-pub none_read : (names : List Name) (ts : List Token) → AllByRecursion (Knows names) ts → ((F : Formula) → ¬ (Parses names 5 ts F)) → read names ts ≡ None
-none_read names ts k n = at (read names ts) refl
-  where
-    at : (o : Option Formula) → read names ts ≡ o → read names ts ≡ None
-    at None e = e
-    at (Some F) e = absurd (n F (read_sound names ts F k e))

@@ -7,15 +7,15 @@ use Rattle.std.proofs.lemmas.List.{map_push}
 use Rattle.ltl_spec.specs.Collections.Sets.{Has}
 use Rattle.ltl_spec.specs.Collections.Lists.{with_new, place_of}
 use Rattle.ltl_spec.specs.Semantics.Word.{Name}
-use Rattle.ltl_spec.specs.Formulas.Formula.{Formula, Proposition, Unary, Reading}
-use Rattle.ltl_spec.specs.Formulas.Tokens.{Token, ConstantWord, NameWord, BinarySign, Close, Unknown, Item, same_name, item_before, items, tokens}
+use Rattle.ltl_spec.specs.Formulas.Formula.{Formula, Proposition, Reading}
+use Rattle.ltl_spec.specs.Formulas.Tokens.{Token, ConstantWord, NameWord, BinarySign, Item, same_name, items, tokens}
 use Rattle.ltl_spec.specs.Formulas.Grammar.{IsTextOf, name_in, names_of}
 use Rattle.ltl_spec.specs.Formulas.Fault.{FaultKind, IsFault}
 use Rattle.ltl_spec.proofs.Collections.ListLaws.{with_new_old, with_new_new}
 use Rattle.ltl_spec.proofs.Formulas.TokenLaws.{token_of}
-use Rattle.ltl_spec.proofs.Formulas.GrammarMachine.{Frame, Bracket, Prefix, Pending, Reader, Wanting, Having, close, left_rank, unbracketed, unopened, read_step, read_on, run, run_append, finished, finished_if}
-use Rattle.ltl_spec.proofs.Formulas.BeginningLaws.{Outline, After, outline, outline_if, brackets, run_outline, step_outline, outline_finished, Reads-from_read, reads_once}
-use Rattle.ltl_spec.proofs.Formulas.FaultLaws.{kind_before, kind_at, fault_at, fault_at_end, never_both}
+use Rattle.ltl_spec.proofs.Formulas.GrammarMachine.{Reader, Wanting, Having, read_step, read_on, run, run_append, finished, finished_if}
+use Rattle.ltl_spec.proofs.Formulas.BeginningLaws.{Outline, After, outline, outline_if, run_outline, step_outline, outline_finished, Reads-from_read}
+use Rattle.ltl_spec.proofs.Formulas.FaultLaws.{kind_before, kind_at, fault_at, fault_at_end}
 use Rattle.ltl_spec.proofs.Collections.CaseLaws.{false_is_true}
 pub use Rattle.ltl_spec.specs.Formulas.Names.{with_name}
 
@@ -153,67 +153,3 @@ verdict_reading text R e = subst (VerdictTells text) e (verdict_tells text)
 -- and a fault that is answered is the fault
 pub verdict_fault : (text : List ℕ) (f : ℕ × FaultKind) → verdict (length text) [] (Wanting []) (items text) ≡ Err f → IsFault text f.0 f.1
 verdict_fault text f e = subst (VerdictTells text) e (verdict_tells text)
-
--- the steps of a loop over the bytes
-
--- after a byte at fault nothing counts
-verdict_item : (end at to : ℕ) (names : List Name) (r : Reader) (t : Token) (rest : List Item)
-    → verdict end names r (item_before t at to rest) ≡ verdict end names r (record { token = t; start = at; end = to } ∷ rest)
-verdict_item end at to names (Wanting s) Unknown rest = refl
-verdict_item end at to names (Having F s) Unknown rest = refl
-verdict_item end at to names r _ rest = refl
-
--- a token that fits: the reader goes on
-pub verdict_step : (end at to : ℕ) (names : List Name) (r q : Reader) (t : Token) (rest : List Item) → read_step (with_name names t) r t ≡ Some q
-    → verdict end names r (item_before t at to rest) ≡ verdict end (with_name names t) q rest
-verdict_step end at to names r q t rest e =
-    verdict_item end at to names r t rest ∙ ap (verdict_on end (with_name names t) (outline r) (record { token = t; start = at; end = to }) rest) e
-
--- one that doesn't: the verdict is there
-pub verdict_stuck : (end at to : ℕ) (names : List Name) (r : Reader) (t : Token) (rest : List Item) → read_step (with_name names t) r t ≡ None
-    → verdict end names r (item_before t at to rest) ≡ Err (at, kind_at (outline r) t)
-verdict_stuck end at to names r t rest e =
-    verdict_item end at to names r t rest ∙ ap (verdict_on end (with_name names t) (outline r) (record { token = t; start = at; end = to }) rest) e
-
--- closing early
-
--- Unary operators may close as soon as their operand is complete
-abbrev pub prefixed : Formula → List Frame → Formula × List Frame
-prefixed F (Prefix op ∷ s) = prefixed (Unary op F) s
-prefixed F s = (F, s)
-
--- what closes later is the same
-pub prefixed_close : (n : ℕ) (F : Formula) (s : List Frame) → close n (prefixed F s).0 (prefixed F s).1 ≡ close n F s
-prefixed_close n F [] = refl
-prefixed_close n F (Bracket ∷ s) = refl
-prefixed_close n F (Prefix op ∷ s) = prefixed_close n (Unary op F) s
-prefixed_close n F (Pending a op ∷ s) = refl
-
--- no bracket closes early
-prefixed_brackets : (F : Formula) (s : List Frame) → brackets (prefixed F s).1 ≡ brackets s
-prefixed_brackets F [] = refl
-prefixed_brackets F (Bracket ∷ s) = refl
-prefixed_brackets F (Prefix op ∷ s) = prefixed_brackets (Unary op F) s
-prefixed_brackets F (Pending a op ∷ s) = refl
-
--- the next token is the same
-pub prefixed_step : (names : List Name) (F : Formula) (s : List Frame) (t : Token) → read_step names (Having (prefixed F s).0 (prefixed F s).1) t ≡ read_step names (Having F s) t
-prefixed_step names F s (BinarySign op) = ap (λ c. Some (Wanting (Pending c.0 op ∷ c.1))) (prefixed_close (left_rank op) F s)
-prefixed_step names F s Close = ap (λ c. unbracketed c.0 c.1) (prefixed_close 5 F s)
-prefixed_step names F s _ = refl
-
--- and so is the verdict
-pub verdict_prefixed : (end : ℕ) (names : List Name) (F : Formula) (s : List Frame) (its : List Item)
-    → verdict end names (Having (prefixed F s).0 (prefixed F s).1) its ≡ verdict end names (Having F s) its
-verdict_prefixed end names F s [] =
-    λ i. let c = prefixed_close 5 F s i in verdict_at names (unopened c.0 c.1) end (kind_before (After (prefixed_brackets F s i)))
-verdict_prefixed end names F s (item ∷ rest) =
-    λ i. verdict_on end (with_name names item.token) (After (prefixed_brackets F s i)) item rest (prefixed_step (with_name names item.token) F s item.token i)
-
--- A text's reading is its verdict
-pub text_verdict : (text : List ℕ) (R : Reading) → IsTextOf text R → verdict (length text) [] (Wanting []) (items text) ≡ Ok R
-text_verdict text R w = at (verdict (length text) [] (Wanting []) (items text)) (verdict_tells text)
-  where
-    at : (v : Verdict) → VerdictTells text v → v ≡ Ok R
-    at (Ok S) t = ap Ok (reads_once (tokens text) S R t w)
-    at (Err f) t = absurd (never_both text R f.0 f.1 w t)

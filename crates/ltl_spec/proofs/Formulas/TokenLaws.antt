@@ -129,12 +129,6 @@ items_skip (suc skip) at [] = refl
 items_skip (suc skip) at (b ∷ bs) =
     let e : at + 1 + skip ≡ at + suc skip = omega arith in items_skip skip (at + 1) bs ∙ ap (λ k. items_from 0 k (drop skip bs)) e
 
--- a blank is passed over
-pub items_blank : (at b : ℕ) (bs : List ℕ) → is_blank b ≡ true → items_from 0 at (b ∷ bs) ≡ items_from 0 (at + 1) bs
-items_blank at b bs e =
-    ap (λ c. cond c (items_from (cond c 0 ((first_token b bs).1 - 1)) (at + 1) bs)
-    (item_before (first_token b bs).0 at (at + (first_token b bs).1) (items_from (cond c 0 ((first_token b bs).1 - 1)) (at + 1) bs))) e
-
 -- a token makes an item, and what follows begins after its bytes
 pub items_token : (at b : ℕ) (bs : List ℕ) (t : Token) (n : ℕ) → is_blank b ≡ false → first_token b bs ≡ (t, suc n)
     → items_from 0 at (b ∷ bs) ≡ item_before t at (at + suc n) (items_from 0 (at + suc n) (drop n bs))
@@ -247,12 +241,6 @@ first_length b bs =
 -- the items from a place on
 abbrev pub items_at : List ℕ → ℕ → List Item
 items_at text at = items_from 0 at (drop at text)
-
--- at a blank the loop goes one byte on
-pub loop_blank : (text : List ℕ) (at : ℕ) → at < length text → is_blank (slice_index text at) ≡ true → items_at text at ≡ items_at text (at + 1)
-loop_blank text at l e =
-    let next : suc at ≡ at + 1 = omega arith in
-    ap (items_from 0 at) (drop-cons text at 0 l) ∙ items_blank at (slice_index text at) (drop (suc at) text) e ∙ ap (λ k. items_from 0 (at + 1) (drop k text)) next
 
 -- at a token it goes as many bytes on as the token has
 pub loop_token : (text : List ℕ) (at : ℕ) (t : Token) (n : ℕ) → at < length text → is_blank (slice_index text at) ≡ false

@@ -6,7 +6,8 @@ use Rattle.std.specs.List.{range_with_len}
 use Rattle.std.proofs.lemmas.Bool.Decides.{nat_tests}
 use Rattle.ltl_spec.specs.Hoa.HoaToken.{HoaToken, Identifier, Int, OpenBracket, CloseBracket, AndSign}
 use Rattle.ltl_spec.specs.Hoa.HoaReading.{SetsUpTo, is_read, set_tokens, acceptance_tokens}
-use Rattle.ltl_spec.specs.Hoa.HoaFault.{Before, AtItem, InAcceptance, Acceptance, go_to, expect}
+use Rattle.ltl_spec.specs.Hoa.HoaPlace.{Before, AtItem, InAcceptance, Acceptance}
+use Rattle.ltl_spec.specs.Hoa.HoaStep.{go_to, expect}
 
 -- what comes next of a set: `Inf`, `(`, its number, `)`, and the `&` before the next set
 pub data SetPart : Type 0 where

@@ -13,7 +13,9 @@ use Rattle.ltl_spec.specs.Tools.Limits.{Limits}
 use Rattle.ltl_spec.specs.Hoa.HoaToken.{HoaToken, Identifier, Header, Body, End, HoaItem, hoa_items, hoa_tokens, last_line}
 use Rattle.ltl_spec.specs.Hoa.HoaReading.{AcceptanceForm, HoaHeaderItem, StatesItem, StartItem, SetsItem, NamesItem, OtherItem, header_item_tokens, state_tokens, HoaDocument, MarkedAutomaton, edges_at, states_in, sets_in, names_in, is_read, HoaReadsWithin}
 use Rattle.ltl_spec.specs.Hoa.HoaFaultKind.{NotHoaVersion1, LimitPassed}
-use Rattle.ltl_spec.specs.Hoa.HoaFault.{HoaFault, PlainItem, Place, AtFormat, AtVersion, AtStates, AtStart, AtCount, AtSets, AtNames, InAcceptance, AtItem, InBody, AtEnd, Before, before_all, step, take_item, with_line, fault_after, end_fault, fault_at, hoa_fault, no_header}
+use Rattle.ltl_spec.specs.Hoa.HoaPlace.{PlainItem, Place, AtFormat, AtVersion, AtStates, AtStart, AtCount, AtSets, AtNames, InAcceptance, AtItem, InBody, AtEnd, Before, before_all, no_header}
+use Rattle.ltl_spec.specs.Hoa.HoaStep.{step}
+use Rattle.ltl_spec.specs.Hoa.HoaFault.{HoaFault, take_item, with_line, fault_after, end_fault, fault_at, hoa_fault}
 use Rattle.ltl_spec.proofs.Collections.SetLaws.{append_left, append_right}
 use Rattle.ltl_spec.proofs.Hoa.HoaLabelLaws.{run}
 use Rattle.ltl_spec.proofs.Hoa.HoaHeaderLaws.{at, Stands, NewNames, no_names, new_name}

@@ -13,7 +13,8 @@ use Rattle.ltl_spec.specs.Hoa.HoaToken.{HoaToken, StringToken, Identifier, Heade
 use Rattle.ltl_spec.specs.Hoa.HoaLabel.{Label, ConstantLabel, NumberLabel, BracketLabel, label_rank, label_tokens, label_cubes, is_wide}
 use Rattle.ltl_spec.specs.Hoa.HoaReading.{AcceptanceForm, WrittenEdge, WrittenState, sets_tokens, name_tokens, edge_tokens, state_tokens, cube_edges, state_edges, MarkedAutomaton, are_sets, is_edge_inside, is_state_inside}
 use Rattle.ltl_spec.specs.Hoa.HoaFaultKind.{HoaFaultKind, NumberOutOfRange, StateDefinedTwice, LimitPassed, BadToken, TextAfterEnd}
-use Rattle.ltl_spec.specs.Hoa.HoaFault.{BodyPlace, AtState, AtNumber, AfterNumber, AfterName, InStateSets, AtEdge, AtTarget, AfterTarget, InEdgeSets, AtOperand, AfterOperand, Place, InBody, AtEnd, Before, Step, LabelPart, LabelParts, empty_part, whole, with_operand, step}
+use Rattle.ltl_spec.specs.Hoa.HoaPlace.{BodyPlace, AtState, AtNumber, AfterNumber, AfterName, InStateSets, AtEdge, AtTarget, AfterTarget, InEdgeSets, AtOperand, AfterOperand, Place, InBody, AtEnd, Before, LabelPart, LabelParts, empty_part, whole, with_operand}
+use Rattle.ltl_spec.specs.Hoa.HoaStep.{Step, step}
 use Rattle.ltl_spec.proofs.Hoa.HoaLabelLaws.{token_step, run, parts, part}
 use Rattle.ltl_spec.proofs.Hoa.HoaHeaderLaws.{equal_true}
 use Rattle.ltl_spec.proofs.Hoa.HoaBodyLaws.{body, is_narrow, count_edges, one_edge}

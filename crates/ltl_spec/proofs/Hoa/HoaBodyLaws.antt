@@ -12,7 +12,8 @@ use Rattle.ltl_spec.specs.Hoa.HoaToken.{HoaToken, Header, Int, End, OpenLabel, C
 use Rattle.ltl_spec.specs.Hoa.HoaLabel.{Label, label_tokens, label_cubes, is_grouped, has_names_below, is_wide}
 use Rattle.ltl_spec.specs.Hoa.HoaReading.{AcceptanceForm, WrittenEdge, WrittenState, sets_tokens, name_tokens, edge_tokens, state_tokens, cube_edges, state_edges, MarkedAutomaton, are_sets, is_edge_inside, is_state_inside}
 use Rattle.ltl_spec.specs.Hoa.HoaFaultKind.{NumberOutOfRange, StateDefinedTwice, LimitPassed}
-use Rattle.ltl_spec.specs.Hoa.HoaFault.{BodyPlace, AtState, AtNumber, AfterNumber, AfterName, InStateSets, AtEdge, AtTarget, AfterTarget, InEdgeSets, AtOperand, InBody, AtEnd, Step, empty_part}
+use Rattle.ltl_spec.specs.Hoa.HoaPlace.{BodyPlace, AtState, AtNumber, AfterNumber, AfterName, InStateSets, AtEdge, AtTarget, AfterTarget, InEdgeSets, AtOperand, InBody, AtEnd, empty_part}
+use Rattle.ltl_spec.specs.Hoa.HoaStep.{Step}
 use Rattle.ltl_spec.proofs.Hoa.HoaLabelLaws.{token_step, run, run-append, parts, label_taken}
 use Rattle.ltl_spec.proofs.Hoa.HoaHeaderLaws.{at, whole_header, not_true}
 use Rattle.ltl_spec.proofs.Collections.CaseLaws.{left_true, right_true}

@@ -8,10 +8,11 @@ use Rattle.ltl_spec.specs.Semantics.Word.{Name}
 use Rattle.ltl_spec.specs.Formulas.Tokens.{same_name}
 use Rattle.ltl_spec.specs.Formulas.Names.{is_proposition}
 use Rattle.ltl_spec.specs.Tools.Limits.{Limits}
-use Rattle.ltl_spec.specs.Hoa.HoaToken.{HoaToken, StringToken, Identifier, Header, Int, Body, OpenBracket, CloseBracket, AndSign, Unknown, UnclosedString, UnclosedComment}
+use Rattle.ltl_spec.specs.Hoa.HoaToken.{HoaToken, StringToken, Identifier, Header, Int, Body, OpenBracket, CloseBracket, AndSign}
 use Rattle.ltl_spec.specs.Hoa.HoaReading.{AcceptanceForm, is_read, acceptance_tokens, HoaHeaderItem, StatesItem, StartItem, SetsItem, NamesItem, OtherItem, header_item_tokens, is_plain, is_item, begins_upper, MarkedAutomaton}
-use Rattle.ltl_spec.specs.Hoa.HoaFaultKind.{HoaFaultKind, BadToken, LimitPassed, NumberOutOfRange, ItemTwice, UnknownItem, Unsupported, BadPropositionList}
-use Rattle.ltl_spec.specs.Hoa.HoaFault.{HoaHeader, ItemBefore, PlainItem, StartNumber, ListedNames, Acceptance, OtherItem, Place, AtStates, AtStart, AtCount, AtSets, AtItem, AtNames, InAcceptance, InBody, AtState, AtEnd, Before, Step, begin_body, begin_once, go_to, is_token, expect, unless_broken, unread_sets}
+use Rattle.ltl_spec.specs.Hoa.HoaFaultKind.{LimitPassed, NumberOutOfRange, ItemTwice, UnknownItem, Unsupported, BadPropositionList}
+use Rattle.ltl_spec.specs.Hoa.HoaPlace.{HoaHeader, ItemBefore, PlainItem, StartNumber, ListedNames, Acceptance, OtherItem, Place, AtStates, AtStart, AtCount, AtSets, AtItem, AtNames, InAcceptance, InBody, AtState, AtEnd, Before}
+use Rattle.ltl_spec.specs.Hoa.HoaStep.{Step, begin_body, begin_once, go_to, is_token, expect, unless_broken, unread_sets}
 use Rattle.ltl_spec.proofs.Hoa.HoaLabelLaws.{token_step, run}
 use Rattle.ltl_spec.proofs.Hoa.HoaHeaderLaws.{at, Stands, Fits, NewNames, no_names, new_name, whole_header, acceptance_split}
 use Rattle.ltl_spec.proofs.Hoa.HoaBodyBack.{Ended, no_end, if_ended, unless_ended, StatesRest, known}
@@ -314,27 +315,18 @@ module _ (l : Limits) (form : AcceptanceForm) where
   token_exact AndSign AndSign e = refl
   token_exact _ _ e = cc
 
-  broken_fault : (t : HoaToken) → (kind : HoaFaultKind) × (unless_broken t Unsupported ≡ Err kind)
-  broken_fault Unknown = (BadToken, refl)
-  broken_fault UnclosedString = (BadToken, refl)
-  broken_fault UnclosedComment = (BadToken, refl)
-  broken_fault _ = (Unsupported, refl)
-
-  not_wanted : {P : Type 0} (t : HoaToken) (ts : List HoaToken) → Ended (run l form (unless_broken t Unsupported) ts) → P
-  not_wanted t ts e = let f = broken_fault t in no_end l form f.0 ts (subst (λ o. Ended (run l form o ts)) f.1 e)
-
   acceptance_back : (wanted : List HoaToken) (t : HoaToken) (h : HoaHeader) (ts : List HoaToken) → KnownItems ts → Ended (run l form (token_step l form (at l form (InAcceptance wanted) h [] 0) t) ts)
       → TokensRest wanted h (t ∷ ts)
-  acceptance_back [] t h ts k e = not_wanted t ts e
+  acceptance_back [] t h ts k e = no_end l form _ ts e
   acceptance_back (w ∷ ws) t h ts k e = go (is_token w t) refl e
     where
       go : (c : Bool) → is_token w t ≡ c
-          → Ended (run l form (if c then expect (record { place = InAcceptance (w ∷ ws); header = h; numbers = []; edges = 0 }) ws else unless_broken t Unsupported) ts) → TokensRest (w ∷ ws) h (t ∷ ts)
+          → Ended (run l form (if c then expect (record { place = InAcceptance (w ∷ ws); header = h; numbers = []; edges = 0 }) ws else Err (unless_broken t Unsupported)) ts) → TokensRest (w ∷ ws) h (t ∷ ts)
       go true q z =
           let r = next_tokens ws h (record { place = InAcceptance (w ∷ ws); header = h; numbers = []; edges = 0 }) ts k z in
           let same = token_exact w t q in
           record { rest = r.rest; spelled = λ i. same i ∷ r.spelled i; more = r.more }
-      go false q z = not_wanted t ts z
+      go false q z = no_end l form _ ts z
 
   pub nothing_left : (place : Place) (h : HoaHeader) → Ended (at l form place h [] 0) → place ≡ AtEnd
   nothing_left place h e = ap (λ o. place_in o) e.1 ∙ e.2

@@ -13,7 +13,8 @@ use Rattle.ltl_spec.specs.Tools.Limits.{Limits}
 use Rattle.ltl_spec.specs.Hoa.HoaToken.{HoaToken, StringToken, Identifier, Int, AndSign, is_upper}
 use Rattle.ltl_spec.specs.Hoa.HoaReading.{AcceptanceForm, is_read, set_tokens, acceptance_tokens, HoaHeaderItem, StatesItem, StartItem, SetsItem, NamesItem, OtherItem, header_item_tokens, is_plain, is_item, begins_upper, MarkedAutomaton, states_in, start_in, sets_in, names_in}
 use Rattle.ltl_spec.specs.Hoa.HoaFaultKind.{BadPropositionList, LimitPassed, Unsupported}
-use Rattle.ltl_spec.specs.Hoa.HoaFault.{HoaHeader, ItemBefore, PlainItem, StartNumber, ListedNames, Acceptance, OtherItem, Place, AtStates, AtStart, AtCount, AtSets, AtItem, AtNames, InAcceptance, Before, Step, go_to, begin_once, begin_item, with_names, expect, is_token, unread_sets, unless_broken}
+use Rattle.ltl_spec.specs.Hoa.HoaPlace.{HoaHeader, ItemBefore, PlainItem, StartNumber, ListedNames, Acceptance, OtherItem, Place, AtStates, AtStart, AtCount, AtSets, AtItem, AtNames, InAcceptance, Before}
+use Rattle.ltl_spec.specs.Hoa.HoaStep.{Step, go_to, begin_once, begin_item, with_names, expect, is_token, unread_sets, unless_broken}
 use Rattle.std.specs.Bool.{Decides}
 use Rattle.ltl_spec.proofs.Collections.SetLaws.{append_cases}
 use Rattle.ltl_spec.proofs.Collections.ListLaws.{any_Decides}
@@ -132,7 +133,7 @@ module _ (l : Limits) (form : AcceptanceForm) where
     expect_run : (ts : List HoaToken) (b : Before) → IsTrue (list_all (λ t. is_token t t) ts) → run l form (expect b ts) ts ≡ Ok (record b { place = AtItem Acceptance })
     expect_run [] b e = refl
     expect_run (t ∷ ts) b e =
-        ap (λ c. run l form (if c then expect (record b { place = InAcceptance (t ∷ ts) }) ts else unless_broken t Unsupported) ts) (left_true _ _ e)
+        ap (λ c. run l form (if c then expect (record b { place = InAcceptance (t ∷ ts) }) ts else Err (unless_broken t Unsupported)) ts) (left_true _ _ e)
         ∙ expect_run ts (record b { place = InAcceptance (t ∷ ts) }) (right_true (is_token t t) _ e)
 
     sets_lead : (n : ℕ) (items : List HoaHeaderItem) (before : ItemBefore) (h : HoaHeader) → IsTrue (is_read form A.sets) → Fits A h (SetsItem n ∷ items) → Leads (SetsItem n) items before h

@@ -4,7 +4,7 @@ use Rattle.std.specs.Prelude.{nat_le, IsTrue, unwrap_or}
 use Rattle.std.proofs.lemmas.Bool.{and_from}
 use Rattle.ltl_spec.specs.Hoa.HoaToken.{HoaToken, OpenBracket, NotSign, AndSign, OrSign}
 use Rattle.ltl_spec.specs.Hoa.HoaLabel.{Label, ConstantLabel, AndLabel, OrLabel, label_tokens, label_rank, is_grouped, has_names_below}
-use Rattle.ltl_spec.specs.Hoa.HoaFault.{LabelPart, LabelParts, negated, joined, with_operand, whole}
+use Rattle.ltl_spec.specs.Hoa.HoaPlace.{LabelPart, LabelParts, negated, joined, with_operand, whole}
 use Rattle.ltl_spec.proofs.Hoa.HoaLabelLaws.{part}
 
 module _ (names : ℕ) where

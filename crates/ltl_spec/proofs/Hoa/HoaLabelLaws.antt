@@ -7,7 +7,8 @@ use Rattle.ltl_spec.specs.Tools.Limits.{Limits}
 use Rattle.ltl_spec.specs.Hoa.HoaToken.{HoaToken, CloseBracket, AndSign, OrSign}
 use Rattle.ltl_spec.specs.Hoa.HoaLabel.{Label, ConstantLabel, NumberLabel, NotLabel, BracketLabel, AndLabel, OrLabel, label_tokens, label_rank, is_grouped, has_names_below}
 use Rattle.ltl_spec.specs.Hoa.HoaReading.{AcceptanceForm}
-use Rattle.ltl_spec.specs.Hoa.HoaFault.{HoaHeader, LabelPart, LabelParts, BodyPlace, AtOperand, AfterOperand, InBody, Step, step, negated, joined, with_operand, whole, empty_part, if_below}
+use Rattle.ltl_spec.specs.Hoa.HoaPlace.{HoaHeader, LabelPart, LabelParts, BodyPlace, AtOperand, AfterOperand, InBody, negated, joined, with_operand, whole, empty_part}
+use Rattle.ltl_spec.specs.Hoa.HoaStep.{Step, step, if_below}
 use Rattle.ltl_spec.specs.Hoa.HoaFaultKind.{NumberOutOfRange}
 use Rattle.ltl_spec.proofs.Collections.CaseLaws.{left_true, right_true}
 

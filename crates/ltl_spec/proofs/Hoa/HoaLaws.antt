@@ -6,7 +6,9 @@ use Rattle.ltl_spec.specs.Tools.Limits.{Limits}
 use Rattle.ltl_spec.specs.Hoa.HoaToken.{HoaToken, Body, End, HoaItem, hoa_items, last_line}
 use Rattle.ltl_spec.specs.Hoa.HoaReading.{AcceptanceForm, header_item_tokens, state_tokens, document_tokens, HoaDocument, MarkedAutomaton, IsDocumentOf, IsWithin, HoaReadsWithin}
 use Rattle.ltl_spec.specs.Hoa.HoaFaultKind.{HoaFaultKind, LimitPassed, NumberOutOfRange}
-use Rattle.ltl_spec.specs.Hoa.HoaFault.{HoaFault, PlainItem, AtItem, AtEnd, AtState, Before, before_all, Step, step, take_item, with_line, fault_after, fault_at, hoa_fault, no_header}
+use Rattle.ltl_spec.specs.Hoa.HoaPlace.{PlainItem, AtItem, AtEnd, AtState, Before, before_all, no_header}
+use Rattle.ltl_spec.specs.Hoa.HoaStep.{Step, step}
+use Rattle.ltl_spec.specs.Hoa.HoaFault.{HoaFault, take_item, with_line, fault_after, fault_at, hoa_fault}
 use Rattle.ltl_spec.proofs.Hoa.HoaLabelLaws.{run, run-append}
 use Rattle.ltl_spec.proofs.Hoa.HoaHeaderLaws.{at, whole_header, IsHeader, Fits, items_run, new_names}
 use Rattle.ltl_spec.proofs.Hoa.HoaBodyLaws.{body, states_lead, ends}

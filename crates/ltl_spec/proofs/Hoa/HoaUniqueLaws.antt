@@ -8,7 +8,8 @@ use Rattle.ltl_spec.specs.Tools.Limits.{stated_limits}
 use Rattle.ltl_spec.specs.Hoa.HoaToken.{HoaToken, StringToken, Identifier, Header, Int, Body, End, OpenLabel, CloseLabel, OpenSets, CloseSets, OpenBracket, CloseBracket, NotSign, AndSign, OrSign}
 use Rattle.ltl_spec.specs.Hoa.HoaLabel.{Label, ConstantLabel, NumberLabel, NotLabel, BracketLabel, AndLabel, OrLabel, label_tokens, is_grouped, has_names_below}
 use Rattle.ltl_spec.specs.Hoa.HoaReading.{AcceptanceForm, OneSet, set_tokens, acceptance_tokens, HoaHeaderItem, StatesItem, StartItem, SetsItem, NamesItem, OtherItem, header_item_tokens, is_plain, is_item, begins_upper, WrittenEdge, WrittenState, HoaDocument, sets_tokens, name_tokens, edge_tokens, state_tokens, MarkedAutomaton, edges_at, states_in, start_in, sets_in, names_in, are_sets, is_edge_inside, is_state_inside, HoaReads}
-use Rattle.ltl_spec.specs.Hoa.HoaFault.{BodyPlace, AtOperand, AfterOperand, Place, InBody, Step, empty_part, whole}
+use Rattle.ltl_spec.specs.Hoa.HoaPlace.{BodyPlace, AtOperand, AfterOperand, Place, InBody, empty_part, whole}
+use Rattle.ltl_spec.specs.Hoa.HoaStep.{Step}
 use Rattle.ltl_spec.proofs.Hoa.BlockLaws.{same_first, same_behind, cut, IsBlock, blocks, blocks_begin}
 use Rattle.ltl_spec.proofs.Hoa.HoaLabelLaws.{run, label_taken}
 use Rattle.ltl_spec.proofs.Hoa.HoaHeaderLaws.{not_true, other_name}

@@ -1,5 +1,5 @@
 -- The normal forms of a formula and of its negation, built together from those of its operands, rewritten at each node or not.
-use Rattle.std.proofs.Common.{◌≡◌, ℕ, zero, suc, ◌+◌, Bool, true, false, cond, List, [], ◌∷◌, ◌++◌, map, length, refl, sym, ◌∙◌, ap, arith, length-append, ◌<◌, inl, inr}
+use Rattle.std.proofs.Common.{◌≡◌, ℕ, zero, suc, ◌+◌, Bool, true, false, cond, List, [], ◌∷◌, ◌++◌, map, length, refl, sym, ◌∙◌, ap, arith, length-append, inl, inr}
 use Rattle.std.specs.Prelude.{not, if◌then◌else◌, fold, slice_index_or}
 use Rattle.std.proofs.lemmas.List.Sums.{fold-append}
 use Rattle.std.proofs.lemmas.List.{map_push}
@@ -139,86 +139,6 @@ pub negated_release : (r : Bool) (a b : Formula) → made_form r false (Binary R
 negated_release true a b = refl
 negated_release false a b = refl
 
--- both forms of a formula
-
--- these two are the forms of the formula and of its negation
-pub record IsBoth (rewrite : Bool) (F : Formula) (yes no : Normal) : Type 0 where
-  pub for : yes ≡ made_form rewrite true F
-  pub against : no ≡ made_form rewrite false F
-
--- what is translated
-pub both_core : (r : Bool) (F : Formula) (p q : Normal) (negate : Bool) → IsBoth r F p q → core F negate r ≡ (if negate then q else p)
-both_core r F p q true x = core_is F true r ∙ sym x.against
-both_core r F p q false x = core_is F false r ∙ sym x.for
-
--- both forms at each operator, from those of the operands
-pub both_constant : (r b : Bool) → IsBoth r (Constant b) (constant b) (constant (not b))
-both_constant r b = record { for = sym (form_constant r b); against = sym (negated_constant r b) }
-
--- of a proposition
-pub both_proposition : (r : Bool) (p : ℕ) → IsBoth r (Proposition p) (Leaf (record { proposition = p; positive = true })) (Leaf (record { proposition = p; positive = false }))
-both_proposition r p = record { for = sym (form_proposition r true p); against = sym (form_proposition r false p) }
-
-module _ (r : Bool) (a : Formula) (p q : Normal) (x : IsBoth r a p q) where
-  -- of a negation
-  pub both_not : IsBoth r (Unary Not a) q p
-  both_not = record { for = x.against ∙ sym (form_not r true a); against = x.for ∙ sym (form_not r false a) }
-
-  -- of `X`
-  pub both_next : IsBoth r (Unary Next a) (made_next r p) (made_next r q)
-  both_next = record { for = ap (made_next r) x.for ∙ sym (form_next r true a); against = ap (made_next r) x.against ∙ sym (form_next r false a) }
-
-  -- of `[]`
-  pub both_always : IsBoth r (Unary Always a) (made_release r Bottom p) (made_until r Top q)
-  both_always = record { for = ap (made_release r Bottom) x.for ∙ sym (form_always r a); against = ap (made_until r Top) x.against ∙ sym (negated_always r a) }
-
-  -- of `<>`
-  pub both_eventually : IsBoth r (Unary Eventually a) (made_until r Top p) (made_release r Bottom q)
-  both_eventually = record { for = ap (made_until r Top) x.for ∙ sym (form_eventually r a); against = ap (made_release r Bottom) x.against ∙ sym (negated_eventually r a) }
-
-  module _ (b : Formula) (s t : Normal) (y : IsBoth r b s t) where
-    -- of and
-    pub both_and : IsBoth r (Binary And a b) (made_and r p s) (made_or r q t)
-    both_and = record {
-      for = let u = x.for in let v = y.for in let e = form_and r a b in cc;
-      against = let u = x.against in let v = y.against in let e = negated_and r a b in cc;
-    }
-
-    -- of or
-    pub both_or : IsBoth r (Binary Or a b) (made_or r p s) (made_and r q t)
-    both_or = record {
-      for = let u = x.for in let v = y.for in let e = form_or r a b in cc;
-      against = let u = x.against in let v = y.against in let e = negated_or r a b in cc;
-    }
-
-    -- of implies
-    pub both_implies : IsBoth r (Binary Implies a b) (made_or r q s) (made_and r p t)
-    both_implies = record {
-      for = let u = x.against in let v = y.for in let e = form_implies r a b in cc;
-      against = let u = x.for in let v = y.against in let e = negated_implies r a b in cc;
-    }
-
-    -- of if and only if
-    pub both_iff : IsBoth r (Binary Iff a b) (made_or r (made_and r p s) (made_and r q t)) (made_and r (made_or r q t) (made_or r p s))
-    both_iff = record {
-      for = let u = x.for in let v = y.for in let w = x.against in let z = y.against in let e = form_iff r a b in cc;
-      against = let u = x.for in let v = y.for in let w = x.against in let z = y.against in let e = negated_iff r a b in cc;
-    }
-
-    -- of `U`
-    pub both_until : IsBoth r (Binary Until a b) (made_until r p s) (made_release r q t)
-    both_until = record {
-      for = let u = x.for in let v = y.for in let e = form_until r a b in cc;
-      against = let u = x.against in let v = y.against in let e = negated_until r a b in cc;
-    }
-
-    -- of `V`
-    pub both_release : IsBoth r (Binary Release a b) (made_release r p s) (made_until r q t)
-    both_release = record {
-      for = let u = x.for in let v = y.for in let e = form_release r a b in cc;
-      against = let u = x.against in let v = y.against in let e = negated_release r a b in cc;
-    }
-
 -- flat formulas
 
 -- the numbers of its operands
@@ -305,18 +225,6 @@ module _ (r : Bool) where
       let q = same j (inr (inl refl)) in
       (λ t. both_binary r op (p t) (q t)) ∙ binary_forms r op (f i) (f j)
 
-  -- whatever gives each node its forms by those of its operands, which stand before it, gives both forms of its formula
-  pub forms_unique : (n : ℕ) (node : ℕ → FlatNode) (f : ℕ → Formula) (g : ℕ → Both) → ((k : ℕ) → k < n → (j : ℕ) → Has (flat_parts (node k)) j → j < k) → ((k : ℕ) → k < n → f k ≡ formula_of f (node k))
-      → ((k : ℕ) → k < n → g k ≡ both_of r g (node k)) → (k : ℕ) → k < n → g k ≡ both_forms r (f k)
-  forms_unique n node f g before formula both k l = below (suc k) k (omega arith) l
-    where
-      below : (deep : ℕ) (j : ℕ) → j < deep → j < n → g j ≡ both_forms r (f j)
-      below zero j d m = absurd (omega arith)
-      below (suc deep) j d m =
-          both j m
-          ∙ forms_of_node f g (node j) (λ i h. let o = before j m i h in below deep i (omega arith) (omega arith))
-          ∙ ap (both_forms r) (sym (formula j m))
-
   -- so the loop over the nodes makes both forms of each formula
   built_on : (flat : List FlatNode) (Fs : List Formula) → fold (with_both r) (map (both_forms r) Fs) flat ≡ map (both_forms r) (fold with_formula Fs flat)
   built_on [] Fs = refl
@@ -340,10 +248,6 @@ module _ (r : Bool) where
       at true e = core_is (formula_in (formulas flat) k) true r ∙ sym (ap (λ (x : Both). x.no) e)
       at false e = core_is (formula_in (formulas flat) k) false r ∙ sym (ap (λ (x : Both). x.yes) e)
 
--- one more node brings its formula
-pub formulas_push : (flat : List FlatNode) (v : FlatNode) → formulas (flat ++ v ∷ []) ≡ formulas flat ++ formula_of (formula_in (formulas flat)) v ∷ []
-formulas_push flat v = fold-append with_formula [] flat (v ∷ [])
-
 -- one formula for each node
 formulas_on : (flat : List FlatNode) (Fs : List Formula) → length (fold with_formula Fs flat) ≡ length Fs + length flat
 formulas_on [] Fs = omega arith
@@ -355,28 +259,3 @@ formulas_on (v ∷ flat) Fs =
 -- there are as many formulas as nodes
 pub formulas_length : (flat : List FlatNode) → length (formulas flat) ≡ length flat
 formulas_length flat = let e = formulas_on flat [] in omega arith
-
--- the equations at each operator, for rewriting from left to right
-pub ruleset form_rules = (
-  form_constant,
-  negated_constant,
-  form_proposition,
-  form_not,
-  form_next,
-  form_always,
-  negated_always,
-  form_eventually,
-  negated_eventually,
-  form_and,
-  negated_and,
-  form_or,
-  negated_or,
-  form_implies,
-  negated_implies,
-  form_iff,
-  negated_iff,
-  form_until,
-  negated_until,
-  form_release,
-  negated_release,
-)

@@ -1,20 +1,19 @@
 -- The rows of a formula collected by a walk that enters no subformula twice, over the tree and over a graph of shared nodes.
 use Rattle.std.proofs.Common.{◌≡◌, ℕ, zero, suc, ◌+◌, ◌<◌, ◌≤◌, Bool, true, false, cond, eqb, ◌⊎◌, inl, inr, List, [], ◌∷◌, ◌++◌, map, length, refl, sym, ◌∙◌, ap, subst, arith, length-append}
-use Rattle.std.specs.Prelude.{All, slice_index_or, slice_set, replicate, ◌==◌, not, ◌||◌, if◌then◌else◌, filter, fold, flat_map}
+use Rattle.std.specs.Prelude.{All, slice_index_or, slice_set, replicate, fold, flat_map}
 use Rattle.std.specs.Bool.{Decides}
 use Rattle.std.specs.List.{list_any}
 use Rattle.std.proofs.lemmas.Bool.Decides.{Decides-eqb}
 use Rattle.std.proofs.lemmas.List.{append-nil, map_push}
 use Rattle.std.proofs.lemmas.List.Sums.{fold-append, sum_by_push}
 use Rattle.ltl_spec.specs.Collections.Sets.{Has}
-use Rattle.ltl_spec.specs.Collections.Lists.{HasNoRepeats, with_new, place_of}
+use Rattle.ltl_spec.specs.Collections.Lists.{HasNoRepeats, with_new}
 use Rattle.ltl_spec.specs.NormalForms.Normal.{Normal, Top, Bottom, Leaf, Next, And, Or, Until, Release, same}
-use Rattle.ltl_spec.specs.NormalForms.NormalForm.{postorder, rows, is_elementary, is_until, elementary_rows, until_rows}
+use Rattle.ltl_spec.specs.NormalForms.NormalForm.{postorder, rows}
 use Rattle.ltl_spec.proofs.Collections.SetLaws.{append_cases, append_left, append_right}
 use Rattle.std.proofs.lemmas.List.Elements.{All-push}
 use Rattle.std.proofs.lemmas.Bool.{false≢true, cases_eq}
-use Rattle.ltl_spec.proofs.Collections.ListLaws.{Has-at, any_Decides, HasNoRepeats-fold, HasNoRepeats-first_occurrences, fold_cases, fold_old, fold_new, All-at_has}
-use Rattle.ltl_spec.proofs.Automata.ListingLaws.{fold_behind}
+use Rattle.ltl_spec.proofs.Collections.ListLaws.{Has-at, any_Decides, HasNoRepeats-first_occurrences, fold_cases, fold_old, fold_new, All-at_has}
 use Rattle.ltl_spec.proofs.NormalForms.NormalLaws.{same_Decides}
 use Rattle.ltl_spec.proofs.Collections.MemberLaws.{Has-flat_map, flat_map_cases}
 pub use Rattle.ltl_spec.specs.NormalForms.RowsCollected.{size, collect, Task, Enter, Leave, task_number, after_task, after_tasks, task_work, work, IsTaskDone, AreFlags}
@@ -234,24 +233,12 @@ module _ (seen : List Normal) (F : Normal) (closed : HasOperands seen) where
   pub collect_closed : HasOperands (collect seen F)
   collect_closed = subst HasOperands (sym (collect_is F seen closed)) (HasOperands-fold seen F closed)
 
-  -- nothing stands twice
-  pub collect_no_repeats : HasNoRepeats seen → HasNoRepeats (collect seen F)
-  collect_no_repeats d = subst HasNoRepeats (sym (collect_is F seen closed)) (HasNoRepeats-fold same same_Decides (postorder F) seen d)
-
-  -- the list begins with what was seen
-  pub collect_behind : (more : List Normal) × (collect seen F ≡ seen ++ more)
-  collect_behind = let w = fold_behind same (postorder F) seen in (w.0, collect_is F seen closed ∙ w.1)
-
-  -- it has what was seen and all subformulas, and nothing else
+  -- it has what was seen and all subformulas
   pub collect_has : (G : Normal) → Has seen G ⊎ Has (postorder F) G → Has (collect seen F) G
   collect_has G h = subst (λ l. Has l G) (sym (collect_is F seen closed)) (elim h [
     | inl k ↦ fold_old same same_Decides (postorder F) seen G k
     | inr k ↦ fold_new same same_Decides (postorder F) seen G k
   ])
-
-  -- and nothing else
-  pub collect_members : (G : Normal) → Has (collect seen F) G → Has seen G ⊎ Has (postorder F) G
-  collect_members G h = fold_cases same same_Decides (postorder F) seen G (subst (λ l. Has l G) (collect_is F seen closed) h)
 
 -- where F is new it comes last
 pub collect_last : (seen : List Normal) (F : Normal) → ¬ (Has seen F) → (before : List Normal) × (collect seen F ≡ before ++ F ∷ [])
@@ -265,32 +252,15 @@ pub record IsGraph (tree : ℕ → Normal) (parts : ℕ → List ℕ) (n : ℕ) 
   pub before : (k : ℕ) → k < n → (j : ℕ) → Has (parts k) j → j < k
   pub apart : (i j : ℕ) → i < n → j < n → tree i ≡ tree j → i ≡ j
 
--- the numbers of the subformulas: the same walk over numbers, at most so many operands deep
-abbrev pub collect_numbers : (ℕ → List ℕ) → ℕ → List ℕ → ℕ → List ℕ
-collect_numbers parts zero seen k = seen
-collect_numbers parts (suc deep) seen k = if list_any (eqb k) seen then seen else fold (collect_numbers parts deep) seen (parts k) ++ k ∷ []
-
 -- all numbers are below n
 abbrev pub AllInside : ℕ → List ℕ → Type 0
 AllInside n ks = (k : ℕ) → Has ks k → k < n
-
--- one more number below n
-push_inside : (n : ℕ) (ks : List ℕ) (k : ℕ) → AllInside n ks → k < n → AllInside n (ks ++ k ∷ [])
-push_inside n ks k inside l j h = elim (append_cases ks (k ∷ []) j h) [
-  | inl m ↦ inside j m
-  | inr m ↦ elim m [ inl e ↦ subst (λ i. i < n) (sym e) l | inr z ↦ absurd z ]
-]
 
 -- the tree of a number among others is among theirs
 pub Has-map_tree : (tree : ℕ → Normal) (ks : List ℕ) (k : ℕ) → Has ks k → Has (map tree ks) (tree k)
 Has-map_tree tree [] k h = absurd h
 Has-map_tree tree (x ∷ ks) k (inl e) = inl (ap tree e)
 Has-map_tree tree (x ∷ ks) k (inr h) = inr (Has-map_tree tree ks k h)
-
--- numbers stay below n through several steps
-fold_inside : (n : ℕ) (f : List ℕ → ℕ → List ℕ) → ((xs : List ℕ) (j : ℕ) → AllInside n xs → j < n → AllInside n (f xs j)) → (js xs : List ℕ) → AllInside n xs → AllInside n js → AllInside n (fold f xs js)
-fold_inside n f each [] xs a b = a
-fold_inside n f each (j ∷ js) xs a b = fold_inside n f each js (f xs j) (each xs j a (b j (inl refl))) (λ i h. b i (inr h))
 
 module _ (tree : ℕ → Normal) (parts : ℕ → List ℕ) (n : ℕ) (graph : IsGraph tree parts n) where
   -- a number is among others exactly where its tree is among theirs
@@ -304,46 +274,6 @@ module _ (tree : ℕ → Normal) (parts : ℕ → List ℕ) (n : ℕ) (graph : I
   numbers_no_repeats [] inside d = tt
   numbers_no_repeats (x ∷ ks) inside d = ((λ h. d.0 (Has-map_tree tree ks x h)), numbers_no_repeats ks (λ j m. inside j (inr m)) d.1)
 
-  -- the walk over numbers gives numbers below n
-  collected_inside : (deep : ℕ) (ks : List ℕ) (k : ℕ) → AllInside n ks → k < n → AllInside n (collect_numbers parts deep ks k)
-  collected_inside zero ks k inside l = inside
-  collected_inside (suc deep) ks k inside l =
-      elim (list_any (eqb k) ks) as (λ b. AllInside n (cond b ks (fold (collect_numbers parts deep) ks (parts k) ++ k ∷ []))) [
-        | true ↦ inside
-        | false ↦ push_inside n (fold (collect_numbers parts deep) ks (parts k)) k (fold_inside n (collect_numbers parts deep) (collected_inside deep) (parts k) ks inside (λ j h. let m = graph.before k l j h in omega arith)) l
-      ]
-
-  -- the walk over numbers does what the walk over trees does, for numbers that need no more than so many operands in depth
-  abbrev pub Collects : ℕ → Type 0
-  Collects deep = (xs : List ℕ) (j : ℕ) → j < deep → j < n → AllInside n xs → map tree (collect_numbers parts deep xs j) ≡ collect (map tree xs) (tree j)
-
-  -- so for several numbers in turn
-  all_collected : (deep : ℕ) → Collects deep → (js xs : List ℕ) → AllInside deep js → AllInside n js → AllInside n xs → map tree (fold (collect_numbers parts deep) xs js) ≡ fold collect (map tree xs) (map tree js)
-  all_collected deep each [] xs a b c = refl
-  all_collected deep each (j ∷ js) xs a b c =
-      all_collected deep each js (collect_numbers parts deep xs j) (λ i h. a i (inr h)) (λ i h. b i (inr h)) (collected_inside deep xs j c (b j (inl refl)))
-      ∙ ap (λ l. fold collect l (map tree js)) (each xs j (a j (inl refl)) (b j (inl refl)) c)
-
-  -- the trees of the numbers that the walk over numbers gives are what the walk over trees gives
-  pub numbers_collected : (deep : ℕ) → Collects deep
-  numbers_collected zero ks k l m inside = absurd (omega arith)
-  numbers_collected (suc deep) ks k l m inside =
-      let below : (j : ℕ) → Has (parts k) j → j < k = graph.before k m in
-      let shallow : AllInside deep (parts k) = λ j h. let o = below j h in omega arith in
-      let within : AllInside n (parts k) = λ j h. let o = below j h in omega arith in
-      let operands_collected = all_collected deep (numbers_collected deep) (parts k) ks shallow within inside in
-      elim (list_any (eqb k) ks) as (λ b. Decides b (Has ks k) → map tree (cond b ks (fold (collect_numbers parts deep) ks (parts k) ++ k ∷ [])) ≡ collect (map tree ks) (tree k)) [
-        | true ↦ λ d. sym (collect_seen (map tree ks) (tree k) (Has-map_tree tree ks k (d.0 refl)))
-        | false ↦ λ d.
-            map_push tree (fold (collect_numbers parts deep) ks (parts k)) k
-            ∙ ap (λ l. l ++ tree k ∷ []) (operands_collected ∙ ap (fold collect (map tree ks)) (sym (graph.stands k m)))
-            ∙ sym (collect_new (map tree ks) (tree k) (λ h. false≢true (d.1 (number_seen ks k inside m h))))
-      ] (any_Decides eqb Decides-eqb k ks)
-
-  -- from nothing it gives the numbers of the rows
-  pub number_rows : (root : ℕ) → root < n → map tree (collect_numbers parts n [] root) ≡ rows (tree root)
-  number_rows root l = numbers_collected n [] root l l (λ k h. absurd h) ∙ rows_collected (tree root)
-
 module _ (tree : ℕ → Normal) (parts : ℕ → List ℕ) (n : ℕ) (graph : IsGraph tree parts n) where
   -- two trees are the same exactly where their numbers are
   pub same_number : (i j : ℕ) → i < n → j < n → same (tree i) (tree j) ≡ eqb i j
@@ -354,36 +284,7 @@ module _ (tree : ℕ → Normal) (parts : ℕ → List ℕ) (n : ℕ) (graph : I
       at false true c d = c.1 (ap tree (d.0 refl))
       at false false c d = refl
 
-  -- so a row has the place of its number
-  pub number_place : (ks : List ℕ) (k : ℕ) → AllInside n ks → k < n → place_of same (tree k) (map tree ks) ≡ place_of ◌==◌ k ks
-  number_place [] k inside l = refl
-  number_place (x ∷ ks) k inside l =
-      let rest = number_place ks k (λ j h. inside j (inr h)) l in
-      let here = same_number k x l (inside x (inl refl)) in
-      λ i. cond (not (here i)) (1 + rest i) 0
-
-  -- where two tests agree on a number and its tree, the numbers that pass stand for the trees that pass
-  pub number_filter : (p : Normal → Bool) (q : ℕ → Bool) (ks : List ℕ) → ((k : ℕ) → Has ks k → p (tree k) ≡ q k) → filter p (map tree ks) ≡ map tree (filter q ks)
-  number_filter p q [] agree = refl
-  number_filter p q (x ∷ ks) agree =
-      let rest = number_filter p q ks (λ k h. agree k (inr h)) in
-      ap (λ b. cond b (tree x ∷ filter p (map tree ks)) (filter p (map tree ks))) (agree x (inl refl))
-      ∙ (elim (q x) as (λ b. cond b (tree x ∷ filter p (map tree ks)) (filter p (map tree ks)) ≡ map tree (cond b (x ∷ filter q ks) (filter q ks))) [
-        | true ↦ ap (λ l. tree x ∷ l) rest
-        | false ↦ rest
-      ])
-
   module _ (root : ℕ) (inside : root < n) (ks : List ℕ) (numbers : AllInside n ks) (listed : map tree ks ≡ rows (tree root)) where
-    -- the numbers of the elementary rows
-    pub number_elementary : map tree (filter (λ k. is_elementary (tree k) || k == root) ks) ≡ elementary_rows (tree root)
-    number_elementary =
-        sym (number_filter (λ a. is_elementary a || same a (tree root)) (λ k. is_elementary (tree k) || k == root) ks (λ k h. ap (λ b. is_elementary (tree k) || b) (same_number k root (numbers k h) inside)))
-        ∙ ap (filter (λ a. is_elementary a || same a (tree root))) listed
-
-    -- and of the until rows
-    pub number_untils : map tree (filter (λ k. is_until (tree k)) ks) ≡ until_rows (tree root)
-    number_untils = sym (number_filter is_until (λ k. is_until (tree k)) ks (λ k h. refl)) ∙ ap (filter is_until) listed
-
     -- no number stands twice
     pub listed_no_repeats : HasNoRepeats ks
     listed_no_repeats = numbers_no_repeats tree parts n graph ks numbers (subst HasNoRepeats (sym listed) (HasNoRepeats-first_occurrences same same_Decides (postorder (tree root))))
@@ -457,10 +358,6 @@ module _ (tree : ℕ → Normal) (n root : ℕ) where
         },
         omega arith,
       )
-
-  -- at the end the numbers stand for the rows
-  pub walk_ends : (listed : List ℕ) → IsWalking tree n root [] listed → map tree listed ≡ rows (tree root)
-  walk_ends listed w = w.result
 
 module _ (tree : ℕ → Normal) (parts : ℕ → List ℕ) (n : ℕ) (graph : IsGraph tree parts n) (stack : List Task) (listed : List ℕ) (k : ℕ)
     (tasks : All (λ t. task_number t < n) stack) (numbers : All (λ k. k < n) listed) (inside : k < n) where

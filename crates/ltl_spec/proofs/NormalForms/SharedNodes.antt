@@ -1,5 +1,5 @@
 -- Formulas in normal form as a list of shared nodes, in which each node stands behind its operands and no node twice.
-use Rattle.std.proofs.Common.{◌≡◌, ℕ, zero, suc, ◌+◌, ◌<◌, ◌⊎◌, inl, inr, List, [], ◌∷◌, ◌++◌, map, length, refl, sym, ◌∙◌, ap, subst, arith, length-append}
+use Rattle.std.proofs.Common.{◌≡◌, ℕ, ◌+◌, ◌<◌, ◌⊎◌, inl, inr, List, [], ◌∷◌, ◌++◌, map, length, refl, sym, ◌∙◌, ap, subst, arith, length-append}
 use Rattle.std.specs.Prelude.{fold, slice_index_or}
 use Rattle.std.proofs.lemmas.List.Sums.{fold-append}
 use Rattle.std.proofs.lemmas.List.{get_or_append_left}
@@ -103,18 +103,6 @@ tree_of_apart f n apart _ _ a b e = cc
 
 -- sharing
 
--- no nodes are shared
-pub shared_begins : IsShared []
-shared_begins = record {
-  ordered = λ k l. absurd (omega arith);
-  stands = λ k l. absurd (omega arith);
-  apart = λ i j l. absurd (omega arith);
-}
-
--- a node that is found stands for its tree
-pub shared_found : (nodes : List Node) → IsShared nodes → (k : ℕ) → k < length nodes → (v : Node) → node_at nodes k ≡ v → tree_at nodes k ≡ tree_of (tree_at nodes) v
-shared_found nodes s k l v e = s.stands k l ∙ ap (tree_of (tree_at nodes)) e
-
 -- the operands of a node are there
 pub nodes_before : (nodes : List Node) → IsShared nodes → (k : ℕ) → k < length nodes → AllBefore (length nodes) (node_at nodes k)
 nodes_before nodes s k l j h = let m = s.ordered k l j h in omega arith
@@ -175,14 +163,3 @@ shared_graph nodes s = record {
   before = s.ordered;
   apart = s.apart;
 }
-
--- whatever gives each node its tree by those of its operands gives the same trees
-pub tree_unique : (nodes : List Node) → IsShared nodes → (f : ℕ → Normal) → ((k : ℕ) → k < length nodes → f k ≡ tree_of f (node_at nodes k)) → (k : ℕ) → k < length nodes → f k ≡ tree_at nodes k
-tree_unique nodes s f each k l = below (suc k) k (omega arith) l
-  where
-    below : (deep : ℕ) (j : ℕ) → j < deep → j < length nodes → f j ≡ tree_at nodes j
-    below zero j d m = absurd (omega arith)
-    below (suc deep) j d m =
-        each j m
-        ∙ tree_of_alike f (tree_at nodes) (node_at nodes j) (λ i h. let o = s.ordered j m i h in below deep i (omega arith) (omega arith))
-        ∙ sym (s.stands j m)

@@ -2,14 +2,12 @@
 use Rattle.std.proofs.Common.{◌≡◌, ℕ, suc, ◌<◌, Bool, true, false, cond, eqb, ◌⊎◌, inl, inr, List, [], ◌∷◌, ◌++◌, map, length, refl, sym, ◌∙◌, ap, subst, arith, length-append}
 use Rattle.std.specs.Prelude.{◌==◌, ◌||◌, ◌&&◌, if◌then◌else◌, slice_index_or}
 use Rattle.std.proofs.lemmas.List.{get_or-map, get_or_append_left, map_push}
-use Rattle.ltl_spec.specs.Collections.Sets.{Has}
-use Rattle.ltl_spec.specs.Formulas.Formula.{UnaryOperator, BinaryOperator}
 use Rattle.ltl_spec.specs.NormalForms.Normal.{Normal, Top, Bottom, Leaf, Next, And, Or, Until, Release, same}
-use Rattle.ltl_spec.specs.NormalForms.NormalForm.{is_eventually, is_always, simple_and, simple_or, simple_next, simple_until, simple_release}
+use Rattle.ltl_spec.specs.NormalForms.NormalForm.{is_eventually, is_always, simple_and, simple_or, simple_until, simple_release}
 use Rattle.ltl_spec.proofs.NormalForms.RowsCollected.{same_number}
-use Rattle.ltl_spec.proofs.NormalForms.SharedNodes.{Node, TopNode, BottomNode, LeafNode, NextNode, AndNode, OrNode, UntilNode, ReleaseNode, parts_of, tree_of, tree_at, node_at, AllBefore, IsShared, index_last, tree_old, tree_new, shared_found, shared_push, shared_graph, nodes_before}
+use Rattle.ltl_spec.proofs.NormalForms.SharedNodes.{Node, TopNode, BottomNode, LeafNode, NextNode, AndNode, OrNode, UntilNode, ReleaseNode, parts_of, tree_of, tree_at, node_at, AllBefore, IsShared, index_last, tree_old, shared_graph, nodes_before}
 use Rattle.ltl_spec.specs.NormalForms.NormalForm.{core}
-use Rattle.ltl_spec.proofs.NormalForms.BothPolarities.{Both, FlatNode, made_next, made_and, made_or, made_until, made_release, both_in, both_of, both_forms, formula_in, formulas, formulas_length, built, built_is, built_push, built_core, both_unary, both_binary, FlatUnary, FlatBinary}
+use Rattle.ltl_spec.proofs.NormalForms.BothPolarities.{Both, FlatNode, made_and, made_or, made_until, made_release, both_in, both_of, both_forms, formula_in, formulas, formulas_length, built, built_is, built_push, built_core}
 use Rattle.ltl_spec.proofs.Collections.MemberLaws.{map_length}
 use Rattle.ltl_spec.proofs.Collections.CaseLaws.{last_or_below}
 pub use Rattle.ltl_spec.specs.NormalForms.SharedRewriting.{IsMore, StandsFor, Choice, Old, New, choice_tree, is_eventually_node, is_always_node, choose_next, choose_and, choose_or, choose_until, choose_release, HasConstants, Numbers, stand_for}
@@ -30,47 +28,6 @@ more_on nodes more most m n = record {
 -- one more
 pub more_push : (nodes : List Node) (v : Node) → IsMore nodes (nodes ++ v ∷ [])
 more_push nodes v = record { longer = let e = length-append nodes (v ∷ []) in omega arith; old = tree_old nodes v }
-
--- the nodes are shared, have those that were there, and the number stands for this tree
-pub record IsMade (nodes more : List Node) (k : ℕ) (F : Normal) : Type 0 where
-  pub shared : IsShared more
-  pub keeps : IsMore nodes more
-  pub inside : k < length more
-  pub tree : tree_at more k ≡ F
-
--- among more nodes it still does
-pub stands_more : (nodes more : List Node) (k : ℕ) (F : Normal) → IsMore nodes more → StandsFor nodes k F → StandsFor more k F
-stands_more nodes more k F m x = let l = m.longer in let i = x.inside in record { inside = omega arith; tree = m.old k i ∙ x.tree }
-
--- so does what was made
-pub made_stands : (nodes more : List Node) (k : ℕ) (F : Normal) → IsMade nodes more k F → StandsFor more k F
-made_stands nodes more k F x = record { inside = x.inside; tree = x.tree }
-
--- what is made after something else was made
-pub made_then : (nodes more most : List Node) (k : ℕ) (F : Normal) → IsMore nodes more → IsMade more most k F → IsMade nodes most k F
-made_then nodes more most k F m x = record { shared = x.shared; keeps = more_on nodes more most m x.keeps; inside = x.inside; tree = x.tree }
-
--- the same by another name of the tree
-pub made_as : (nodes more : List Node) (k : ℕ) (F G : Normal) → IsMade nodes more k F → F ≡ G → IsMade nodes more k G
-made_as nodes more k F G x e = record { shared = x.shared; keeps = x.keeps; inside = x.inside; tree = x.tree ∙ e }
-
-module _ (nodes : List Node) (s : IsShared nodes) where
-  -- a number that is taken as it is
-  pub made_old : (k : ℕ) → k < length nodes → IsMade nodes nodes k (tree_at nodes k)
-  made_old k l = record { shared = s; keeps = more_same nodes; inside = l; tree = refl }
-
-  -- a node that was found
-  pub made_found : (k : ℕ) (v : Node) → k < length nodes → node_at nodes k ≡ v → IsMade nodes nodes k (tree_of (tree_at nodes) v)
-  made_found k v l e = record { shared = s; keeps = more_same nodes; inside = l; tree = shared_found nodes s k l v e }
-
-  -- a node that was not there and is put behind the others
-  pub made_pushed : (v : Node) → AllBefore (length nodes) v → ¬ (Has nodes v) → IsMade nodes (nodes ++ v ∷ []) (length nodes) (tree_of (tree_at nodes) v)
-  made_pushed v before new = record {
-    shared = shared_push nodes s v before new;
-    keeps = more_push nodes v;
-    inside = let e = length-append nodes (v ∷ []) in omega arith;
-    tree = tree_new nodes v;
-  }
 
 -- choices
 
@@ -168,13 +125,6 @@ module _ (nodes : List Node) (top bottom : ℕ) (c : HasConstants nodes top bott
       either_tree s x (cond t y (cond u z w))
       ∙ ap (cond s (choice_tree nodes x)) (either_tree t y (cond u z w) ∙ ap (cond t (choice_tree nodes y)) (either_tree u z w))
 
-  -- what is chosen stands for the rewritten tree
-  pub next_choice : (i : ℕ) → i < length nodes → choice_tree nodes (choose_next top bottom i) ≡ simple_next (tree i)
-  next_choice i l =
-      let t = top_test i l in
-      let b = bottom_test i l in
-      either_tree (i == top || i == bottom) (Old i) (New (NextNode i)) ∙ (λ k. cond (t k || b k) (tree i) (Next (tree i)))
-
   module _ (i j : ℕ) (l : i < length nodes) (m : j < length nodes) where
     -- and
     pub and_choice : choice_tree nodes (choose_and top bottom i j) ≡ simple_and (tree i) (tree j)
@@ -232,10 +182,6 @@ module _ (nodes : List Node) (top bottom : ℕ) (c : HasConstants nodes top bott
   either_made : (x y : Choice) (F : Normal) → choice_tree nodes x ≡ F → choice_tree nodes (if rewrite then x else y) ≡ (if rewrite then F else choice_tree nodes y)
   either_made x y F e = either_tree nodes top bottom c rewrite x y ∙ ap (λ G. cond rewrite G (choice_tree nodes y)) e
 
-  -- `X`
-  pub made_next_choice : (i : ℕ) → i < length nodes → choice_tree nodes (if rewrite then choose_next top bottom i else New (NextNode i)) ≡ made_next rewrite (tree_at nodes i)
-  made_next_choice i l = either_made (choose_next top bottom i) (New (NextNode i)) (simple_next (tree_at nodes i)) (next_choice nodes top bottom c i l)
-
   module _ (i j : ℕ) (l : i < length nodes) (m : j < length nodes) where
     -- and
     pub made_and_choice : choice_tree nodes (if rewrite then choose_and top bottom i j else New (AndNode i j)) ≡ made_and rewrite (tree_at nodes i) (tree_at nodes j)
@@ -262,10 +208,6 @@ pub record IsBuilt (rewrite : Bool) (nodes : List Node) (pairs : List Numbers) (
   pub yes_inside : (k : ℕ) (d : Numbers) → k < length pairs → (slice_index_or pairs k d).yes < length nodes
   pub no_inside : (k : ℕ) (d : Numbers) → k < length pairs → (slice_index_or pairs k d).no < length nodes
   pub forms : map (stand_for nodes) pairs ≡ built rewrite flat
-
--- at first there is none
-pub built_begins : (rewrite : Bool) (nodes : List Node) → IsBuilt rewrite nodes [] []
-built_begins rewrite nodes = record { yes_inside = λ k d l. absurd (omega arith); no_inside = λ k d l. absurd (omega arith); forms = refl }
 
 module _ (rewrite : Bool) (nodes : List Node) (pairs : List Numbers) (flat : List FlatNode) (b : IsBuilt rewrite nodes pairs flat) where
   -- as many pairs as nodes of the formula
@@ -324,18 +266,6 @@ module _ (rewrite : Bool) (nodes : List Node) (pairs : List Numbers) (flat : Lis
     where
       at : (k : ℕ) → k < length (pairs ++ p ∷ []) → (k < length pairs) ⊎ (k ≡ length pairs)
       at k l = let o = length-append pairs (p ∷ []) in last_or_below k (length pairs) (omega arith)
-
-  -- what stands for both forms of the operand of a node
-  pub built_unary : (op : UnaryOperator) (i : ℕ) (d : Numbers) → i < length pairs → both_of rewrite (both_in (built rewrite flat)) (FlatUnary op i) ≡ both_unary rewrite op (stand_for nodes (slice_index_or pairs i d))
-  built_unary op i d l = ap (both_unary rewrite op) (built_at i d l)
-
-  -- and of two operands
-  pub built_binary : (op : BinaryOperator) (i j : ℕ) (d e : Numbers) → i < length pairs → j < length pairs
-      → both_of rewrite (both_in (built rewrite flat)) (FlatBinary op i j) ≡ both_binary rewrite op (stand_for nodes (slice_index_or pairs i d)) (stand_for nodes (slice_index_or pairs j e))
-  built_binary op i j d e l m =
-      let p = built_at i d l in
-      let q = built_at j e m in
-      λ t. both_binary rewrite op (p t) (q t)
 
 -- a step of the loop: among more nodes two numbers stand for both forms of the next node
 pub built_step : (rewrite : Bool) (nodes more : List Node) (pairs : List Numbers) (flat : List FlatNode) (v : FlatNode) (p : Numbers) (F G : Normal) → IsBuilt rewrite nodes pairs flat → IsMore nodes more

@@ -1,13 +1,11 @@
 -- A word without needless names reads back.
-use Rattle.std.proofs.Common.{◌≡◌, ◌∙◌, ap, ap₂, sym, refl, ℕ, true, false, not, ◌&&◌, ◌||◌, inl, inr, List, [], ◌∷◌, ◌++◌, map, codes}
-use Rattle.std.proofs.lemmas.Bool.{false_from_ne_true}
+use Rattle.std.proofs.Common.{◌≡◌, ap₂, sym, refl, ℕ, true, inl, inr, List, [], ◌∷◌, ◌++◌, map}
 use Rattle.std.specs.List.{list_all}
 use Rattle.std.specs.Prelude.{IsTrue}
 use Rattle.ltl_spec.specs.Collections.Sets.{Has, IsRising, set_of}
 use Rattle.ltl_spec.specs.Formulas.Formula.{Reading}
 use Rattle.ltl_spec.specs.Formulas.Grammar.{IsTextOf}
-use Rattle.ltl_spec.specs.Formulas.Names.{is_constant, is_proposition}
-use Rattle.ltl_spec.specs.Formulas.Tokens.{is_name_byte, same_name}
+use Rattle.ltl_spec.specs.Formulas.Names.{is_proposition}
 use Rattle.ltl_spec.specs.Semantics.Word.{Name, name_cmp, Letter, Lasso, IsLasso}
 use Rattle.ltl_spec.specs.Words.LassoText.{IsLassoText, lasso_text, names_in, with_sets}
 use Rattle.ltl_spec.specs.Automata.Automaton.{Automaton}
@@ -19,27 +17,15 @@ use Rattle.ltl_spec.proofs.Collections.ListLaws.{All-at_has, slice_get_has}
 use Rattle.ltl_spec.proofs.Collections.MemberLaws.{Has-flat_map, all_Decides}
 use Rattle.ltl_spec.proofs.Collections.Orders.{name_linear}
 use Rattle.ltl_spec.proofs.Formulas.CanonicalLaws.{named_by_text}
-use Rattle.ltl_spec.proofs.Formulas.NameLaws.{same_name_Decides}
+use Rattle.ltl_spec.proofs.Formulas.NameLaws.{word_proposition}
 use Rattle.ltl_spec.proofs.Formulas.TokenLaws.{IsNameWord}
-
--- what the lexer takes as a name is a proposition
-word_proposition : (n : Name) → IsNameWord n → is_proposition n ≡ true
-word_proposition [] w = absurd w
-word_proposition (b ∷ bs) w =
-    let first : same_name (b ∷ bs) (codes "true") ≡ false = false_from_ne_true _ (λ e. w.2 ((same_name_Decides (b ∷ bs) (codes "true")).0 e)) in
-    let second : same_name (b ∷ bs) (codes "false") ≡ false = false_from_ne_true _ (λ e. w.3 ((same_name_Decides (b ∷ bs) (codes "false")).0 e)) in
-    let bytes : list_all is_name_byte bs ≡ true = (all_Decides is_name_byte bs).1 (λ c h. all_at (λ d. is_name_byte d ≡ true) bs c w.1 h) in
-    ap (λ t. t && list_all is_name_byte bs && not (is_constant (b ∷ bs))) w.0
-    ∙ ap (λ t. t && not (is_constant (b ∷ bs))) bytes
-    ∙ ap (λ t. not (t || same_name (b ∷ bs) (codes "false"))) first
-    ∙ ap not second
 
 -- the names of a formula that was read are propositions
 pub text_propositions : (text : List ℕ) (R : Reading) → IsTextOf text R → IsTrue (list_all is_proposition R.names)
 text_propositions text R t = (all_Decides is_proposition R.names).1 (λ n h. word_proposition n (all_at IsNameWord R.names n (named_by_text text R t).words h))
 
 -- letters that are sets are their own sets
-same_sets : (w : Lasso) → IsLasso w → with_sets w ≡ w
+pub same_sets : (w : Lasso) → IsLasso w → with_sets w ≡ w
 same_sets w l =
     let a = part w.stem (λ x h. All-at_has (IsRising name_cmp) (w.stem ++ w.cycle) l.sets x (append_left w.stem w.cycle x h)) in
     let b = part w.cycle (λ x h. All-at_has (IsRising name_cmp) (w.stem ++ w.cycle) l.sets x (append_right w.stem w.cycle x h)) in

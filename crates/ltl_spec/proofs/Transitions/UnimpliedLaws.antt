@@ -1,6 +1,5 @@
 -- Which transitions no other one implies: it is enough to know some that imply all of them.
-use Rattle.std.proofs.Common.{◌≡◌, Bool, true, false, cond, not, ◌&&◌, ◌⊎◌, inl, inr, List, [], ◌∷◌, refl, sym, ◌∙◌, ap, subst}
-use Rattle.std.specs.List.{filter}
+use Rattle.std.proofs.Common.{◌≡◌, Bool, true, false, not, ◌&&◌, ◌⊎◌, inl, inr, List, [], ◌∷◌, refl, sym, ◌∙◌, ap, subst}
 use Rattle.std.specs.declared.cmp.Ordering.{Ordering}
 use Rattle.std.specs.declared.cmp.Ordering.TheVariants.{Less, Equal, Greater}
 use Rattle.std.specs.Cmp.{IsTotalOrder}
@@ -11,11 +10,11 @@ use Rattle.ltl_spec.specs.Collections.Sets.{Has, IsRising, IsLinearOrder}
 use Rattle.ltl_spec.specs.Transitions.Cubes.{cube_cmp}
 use Rattle.ltl_spec.specs.Transitions.Pairs.{row_set_cmp}
 use Rattle.ltl_spec.specs.Transitions.RowTransitions.{Transition, implies, transition_cmp, unimplied_transitions}
-use Rattle.ltl_spec.proofs.Collections.SetLaws.{all_at, all_from, is_subset_Decides, same_members, filter_cases, Has-filter, IsRising-filter}
+use Rattle.ltl_spec.proofs.Collections.SetLaws.{all_at, all_from, same_members, filter_cases, Has-filter, IsRising-filter}
 use Rattle.ltl_spec.proofs.Collections.Orders.{nat_linear, literal_linear, cube_linear, row_set_linear, first_equal, second_equal}
-use Rattle.ltl_spec.proofs.Transitions.TransitionLaws.{Implies, implies_trans, implies_true, HasSets, is_implied}
+use Rattle.ltl_spec.proofs.Transitions.TransitionLaws.{Implies, implies_trans, implies_true, HasSets, is_implied, true_implies}
 use Rattle.ltl_spec.proofs.Collections.CaseLaws.{false_is_true, left_true, right_true}
-use Rattle.ltl_spec.proofs.Collections.MemberLaws.{any_cases, any_true}
+use Rattle.ltl_spec.proofs.Collections.MemberLaws.{any_cases, any_true, filter_all}
 
 -- two things compare as different or as equal
 pub other_or_equal : (r : Ordering) → (is_ne r ≡ true) ⊎ (r ≡ Equal)
@@ -85,18 +84,12 @@ rises_too (t ∷ ts) r = (
 
 -- what no other one implies
 
--- the test passes where it should
-pub implies_from : (u t : Transition) → Implies u t → implies u t ≡ true
-implies_from u t w =
-    and_from _ _ (and_from _ _ ((is_subset_Decides literal_linear u.cube t.cube).1 w.cube) ((is_subset_Decides nat_linear u.targets t.targets).1 w.targets))
-    ((is_subset_Decides nat_linear t.marks u.marks).1 w.marks)
-
 -- what implies one that stays compares as equal to it
 pub unimplied_is : (ts : List Transition) (t u : Transition) → Has (unimplied_transitions ts) t → Has ts u → Implies u t → transition_cmp u t ≡ Equal
 unimplied_is ts t u h k w =
     elim (other_or_equal (transition_cmp u t)) [
       | inl n ↦ absurd (not_cases (is_implied ts t) (filter_cases (λ x. not (is_implied ts x)) ts t h).1
-          (any_true (λ x. is_ne (transition_cmp x t) && implies x t) ts u k (and_from _ _ n (implies_from u t w))))
+          (any_true (λ x. is_ne (transition_cmp x t) && implies x t) ts u k (and_from _ _ n (true_implies u t w))))
       | inr e ↦ e
     ]
 
@@ -150,17 +143,6 @@ unimplied_covered ts us r s sets within covers =
     exact : (t u : Transition) → Has ts t → Has ts u → transition_cmp t u ≡ Equal → t ≡ u
     exact t u h k e = same_in_rising transition_total ts t u r h k e
 
--- a filter that all pass leaves all
-filter_all : {X : Type 0} (p : X → Bool) (xs : List X) → ((x : X) → Has xs x → p x ≡ true) → filter p xs ≡ xs
-filter_all p [] f = refl
-filter_all p (x ∷ xs) f = ap (λ b. cond b (x ∷ filter p xs) (filter p xs)) (f x (inl refl)) ∙ ap (λ ys. x ∷ ys) (filter_all p xs (λ y h. f y (inr h)))
-
 -- where none implies another one, all stay
 pub unimplied_all : (us : List Transition) → ((u v : Transition) → Has us u → Has us v → Implies v u → transition_cmp v u ≡ Equal) → unimplied_transitions us ≡ us
 unimplied_all us f = filter_all (λ t. not (is_implied us t)) us (λ u h. (filter_cases (λ t. not (is_implied us t)) us u (Has-unimplied us u h (λ v k w. f u v h k w))).1)
-
--- so a program that goes on dropping implied ones, until none implies another one, has the unimplied ones
-pub unimplied_by_dropping : (ts us : List Transition) → IsRising transition_cmp ts → IsRising transition_cmp us → ((t : Transition) → Has ts t → HasSets t)
-    → ((u : Transition) → Has us u → Has ts u) → ((t : Transition) → Has ts t → (u : Transition) × Has us u × Implies u t)
-    → ((u v : Transition) → Has us u → Has us v → Implies v u → transition_cmp v u ≡ Equal) → us ≡ unimplied_transitions ts
-unimplied_by_dropping ts us r s sets within covers f = sym (unimplied_all us f) ∙ sym (unimplied_covered ts us r s sets within covers)

@@ -52,7 +52,7 @@ module _ (p : ℕ → Bool) where
 
 -- repetitions
 
-repeated_length : (n : ℕ) (xs : List Letter) → length (repeated n xs) ≡ n * length xs
+pub repeated_length : (n : ℕ) (xs : List Letter) → length (repeated n xs) ≡ n * length xs
 repeated_length zero xs = let e : 0 * length xs ≡ 0 = omega arith in sym e
 repeated_length (suc n) xs = length-append xs (repeated n xs) ∙ ap (λ m. length xs + m) (repeated_length n xs) ∙ turn (length xs) (n * length xs) ∙ sym (suc-mul n (length xs))
   where

@@ -1,5 +1,5 @@
 -- Two lassos that are the same word are accepted by the same automata and satisfy the same formulas.
-use Rattle.std.proofs.Common.{◌≡◌, ℕ, suc, ◌+◌, ◌<◌, Bool, ◌↔◌, inl, inr, List, [], length, refl, sym, ◌∙◌, ap, subst}
+use Rattle.std.proofs.Common.{◌≡◌, ℕ, suc, ◌+◌, ◌<◌, Bool, ◌↔◌, inl, inr, List, [], length, sym, ap, subst}
 use Rattle.std.specs.Prelude.{IsTrue, slice_index_or}
 use Rattle.ltl_spec.specs.Collections.Sets.{has}
 use Rattle.ltl_spec.specs.Transitions.Cubes.{allows}
@@ -12,14 +12,8 @@ use Rattle.ltl_spec.proofs.Semantics.LassoLaws.{after_add}
 use Rattle.ltl_spec.proofs.Semantics.Runs.{RunFrom}
 use Rattle.ltl_spec.proofs.Semantics.RunLaws.{accepts_from_by_run, retold}
 
-pub same_word_refl : (w : Lasso) → IsSameWord w w
-same_word_refl w k = refl
-
 pub same_word_sym : (v w : Lasso) → IsSameWord v w → IsSameWord w v
 same_word_sym v w e k = sym (e k)
-
-pub same_word_trans : (u v w : Lasso) → IsSameWord u v → IsSameWord v w → IsSameWord u w
-same_word_trans u v w e f k = e k ∙ f k
 
 -- Two ways of going on: `step` and `other`
 module _ (step other : ℕ → ℕ) where

@@ -35,15 +35,6 @@ module _ (P : Automaton) where
   IsLevelPath p [] q = p ≡ q
   IsLevelPath p (e ∷ es) q = Has (state_at P p.state).edges e × IsLevelPath (copy_after p e) es q
 
-  -- a path from the start leads to a copy on the last level, and a path that isn't empty back to it
-  pub record HasLevelWalk (start : ℕ) : Type 0 where
-    pub state : ℕ
-    pub way : List Edge
-    pub turn : List Edge
-    pub arrives : IsLevelPath (record { state = start; level = 0 }) way (record { state = state; level = P.sets })
-    pub closes : IsLevelPath (record { state = state; level = P.sets }) turn (record { state = state; level = P.sets })
-    pub moves : turn ≢ []
-
 -- the letter in which the names of the positive literals are true, and nothing else
 abbrev pub letter_of : List Name → Cube → Letter
 letter_of names c = set_of name_cmp (map (λ l. slice_index_or names l.proposition []) (filter (λ l. l.positive) c))

@@ -5,6 +5,6 @@ use Rattle.ltl_alt.proofs.lists.make_distinct.Goals as goal
 
 pub returns : goal.returns
 returns g c =
-    sorted_set_itself pair_linear _ (tied pair_linear (λ p. p) (λ p q e. e)) _ _ _ c.sort_unstable_by.ensures.permutation
-    (sorted_by pair_linear.total (λ p. p) _ c.sort_unstable_by.ensures.sorted (λ a r q k. search rules))
+    sorted_set_itself pair_linear _ (tied pair_linear (λ p. p) (λ p q e. e)) _ _ _ c.sort_by.ensures.permutation
+    (sorted_by pair_linear.total (λ p. p) _ c.in_ok-sort_by.ensures.sorted (λ a r q k. search rules))
     c.dedup.ensures.filtered

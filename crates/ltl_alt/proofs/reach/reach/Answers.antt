@@ -12,7 +12,6 @@ use Rattle.ltl_automaton.specs.declared.fault.AutomatonFault.TheVariants.{TooLar
 use Rattle.ltl_alt.specs.ReachView.{net_of}
 use Rattle.ltl_alt.specs.PartView.{AreParts}
 use Rattle.ltl_alt.specs.RowLists.{row_place, AreLists}
-use Rattle.ltl_alt.specs.StandIns.{rule_of}
 use Rattle.ltl_alt.specs.TransitionView.{table_at}
 use Rattle.ltl_alt.proofs.ElementaryLaws.{root_stands}
 use Rattle.ltl_alt.proofs.GbaLaws.{is_generalized, is_gba, is_too_large, is_not_too_large}
@@ -34,15 +33,17 @@ prepare-requires-clause-parts g c = record { linked = c.new-parts.ensures.linked
 pub explore_from-requires-clause-ready : goal.explore_from-requires-clause-ready
 explore_from-requires-clause-ready g c =
     let T = table_at c.args.table.now in
-    let new = c.prepare.new.self in
+    let new = c.prepare.new.parts in
     let rows = c.prepare.new.rows in
-    let own = c.in_ok-own.own.items in
-    record {
-      lists = subst (λ r. AreLists c.args.table.now r rows.pairs.items rows.sets.items) c.of.ensures c.in_ok-prepare.ensures.lists;
-      own_pairs = c.in_ok-own.ensures;
-      parts = subst (λ r. AreParts T r own new.made new.owners.items new.lists.items new.demands.items new.links.items) c.of.ensures (subst (λ x. AreParts T c.of.result x new.made new.owners.items new.lists.items new.demands.items new.links.items) c.as_slice.ensures.value c.in_ok-prepare.ensures.parts);
-      groups = c.new-groups.ensures T c.args.keep_implied new.lists.items;
-    }
+    let own = c.in_ok-own.own.items in (
+      record {
+        lists = subst (λ r. AreLists c.args.table.now r rows.pairs.items rows.sets.items) c.of.ensures c.in_ok-prepare.ensures.lists;
+        own_pairs = c.in_ok-own.ensures;
+        parts = subst (λ r. AreParts T r own new.made new.owners.items new.lists.items new.demands.items new.links.items) c.of.ensures (subst (λ x. AreParts T c.of.result x new.made new.owners.items new.lists.items new.demands.items new.links.items) c.as_slice.ensures.value c.in_ok-prepare.ensures.parts);
+        groups = c.in_ok-prepare.ensures.groups c.args.keep_implied (c.new-groups.ensures T c.args.keep_implied c.new-parts.result.lists.items);
+      },
+      c.new-shapes.ensures T c.args.keep_implied,
+    )
 
 pub returns-in_err-states-clause-large : goal.returns-in_err-states-clause-large
 returns-in_err-states-clause-large g c = λ e.

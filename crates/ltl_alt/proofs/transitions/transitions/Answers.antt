@@ -1,20 +1,17 @@
-use Rattle.std.proofs.Common.{◌<◌, ◌∙◌, [], ap, arith, drop, length, map, sym, subst}
-use Rattle.ltl_spec.specs.Transitions.RowTransitions as spec
+use Rattle.std.proofs.Common.{◌<◌, ◌∙◌, [], ap, arith, drop, map, sym, subst}
 use Rattle.ltl_spec.proofs.Transitions.FactorLaws.{all_products, product_size}
 use Rattle.ltl_alt.specs.GroupView.{made_of, key_of, AreGroupsOf}
 use Rattle.ltl_alt.specs.PartView.{part_of, AreParts}
 use Rattle.ltl_alt.specs.ProductView.{AreConsistent}
 use Rattle.ltl_alt.specs.RowLists.{AreLists}
 use Rattle.ltl_alt.specs.TransitionView.{table_at}
-use Rattle.ltl_alt.proofs.ProductLaws.{groups_longer, numbers_inside, lists_are, suffix_consistent, factored, factored_count}
+use Rattle.ltl_alt.proofs.ProductLaws.{numbers_inside, lists_are, suffix_consistent, factored, factored_count}
 use Rattle.ltl_alt.proofs.transitions.transitions.Goals as goal
 
 pub group_numbers-requires : goal.group_numbers-requires
 group_numbers-requires g c =
-    let T = table_at c.args.table.now in
     let parts = c.in_ok-prepare.ensures.parts in
-    let old = c.args.parts.now.lists.items in
-    let new = c.prepare.new.self.lists.items in (
+    let new = c.prepare.new.parts.lists.items in (
       omega arith,
       (
         c.of.ensures,
@@ -23,8 +20,8 @@ group_numbers-requires g c =
           (
             parts.linked,
             (
-              groups_longer T c.args.keep_implied old new c.args.groups.now.keys.keys c.args.groups.now.lists.items c.in_ok-prepare.ensures.longer c.requires.prepared.groups,
-              numbers_inside c.prepare.new.self.owners.items new c.args.state.now c.numbers-all.result parts.rows.owner_count c.numbers-all.ensures,
+              c.in_ok-prepare.ensures.groups c.args.keep_implied c.requires.prepared.groups,
+              numbers_inside c.prepare.new.parts.owners.items new c.args.state.now c.numbers-all.result parts.rows.owner_count c.numbers-all.ensures,
             ),
           ),
         ),
@@ -35,7 +32,7 @@ pub all_products-requires-clause-consistent : goal.all_products-requires-clause-
 all_products-requires-clause-consistent g c = λ k.
     let T = table_at c.args.table.now in
     let keep = c.args.keep_implied in
-    let parts = c.prepare.new.self.lists.items in
+    let parts = c.prepare.new.parts.lists.items in
     let keys = c.group_numbers.new.groups.keys.keys in
     let lists = c.group_numbers.new.groups.lists.items in
     let numbers = c.in_ok-numbers.numbers.items in
@@ -49,7 +46,7 @@ returns-clause-transitions g c =
     let T = table_at c.args.table.now in
     let keep = c.args.keep_implied in
     let own = c.args.own.now in
-    let new = c.prepare.new.self in
+    let new = c.prepare.new.parts in
     let keys = c.group_numbers.new.groups.keys.keys in
     let lists = c.group_numbers.new.groups.lists.items in
     let numbers = c.in_ok-numbers.numbers.items in
@@ -72,7 +69,7 @@ returns-then-are_more-clause-large g c = λ _.
     let T = table_at c.args.table.now in
     let keep = c.args.keep_implied in
     let own = c.args.own.now in
-    let new = c.prepare.new.self in
+    let new = c.prepare.new.parts in
     let keys = c.group_numbers.new.groups.keys.keys in
     let lists = c.group_numbers.new.groups.lists.items in
     let numbers = c.in_ok-numbers.numbers.items in
@@ -86,7 +83,7 @@ returns-then-are_more-clause-large g c = λ _.
 pub returns-clause-prepared : goal.returns-clause-prepared
 returns-clause-prepared g c =
     let T = table_at c.args.table.now in
-    let new = c.prepare.new.self in
+    let new = c.prepare.new.parts in
     record {
       lists = subst (λ r. AreLists c.args.table.now r c.prepare.new.rows.pairs.items c.prepare.new.rows.sets.items) c.of.ensures c.in_ok-prepare.ensures.lists;
       own_pairs = c.requires.prepared.own_pairs;

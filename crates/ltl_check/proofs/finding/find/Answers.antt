@@ -11,37 +11,37 @@ returns-in_ok-turn-in-Some-clause-found g c =
 
 pub returns-in-None-clause-none : goal.returns-in-None-clause-none
 returns-in-None-clause-none g c _ way turn h =
-    let e : c.search.result ≡ Ok None = (let w = c.in_ok-walk.was in let i = c.in-None.is in cc) in
-    let n = rw c.of-levels.ensures at (c.search.ensures.none e) in
+    let e : c.search_net.result ≡ Ok None = (let w = c.in_ok-walk.was in let i = c.in-None.is in cc) in
+    let n = rw c.of-levels.ensures at (c.search_net.ensures.none e) in
     let f = found_from_full (net_of (g.G.Graph.count_of c.args.graph.now) (g.G.Graph.start_of c.args.graph.now) (g.G.Graph.number_of c.args.graph.now) (g.G.Graph.state_of c.args.graph.now) (g.G.Graph.pairs_of c.args.graph.now) (g.G.Graph.step_of c.args.graph.now)) (g.G.Graph.sets_of c.args.graph.now) way turn h in
     n f.0 f.1 f.2
 
 pub returns-in-None-clause-least : goal.returns-in-None-clause-least
 returns-in-None-clause-least g c _ =
-    let e : c.search.result ≡ Ok None = (let w = c.in_ok-walk.was in let i = c.in-None.is in cc) in
-    rw c.of-levels.ensures at (c.search.ensures.least e)
+    let e : c.search_net.result ≡ Ok None = (let w = c.in_ok-walk.was in let i = c.in-None.is in cc) in
+    rw c.of-levels.ensures at (c.search_net.ensures.least e)
 
 pub returns-in_err-walk-clause-most : goal.returns-in_err-walk-clause-most
 returns-in_err-walk-clause-most g c =
-    let m = rw c.of-levels.ensures at c.search.ensures.most in
+    let m = rw c.of-levels.ensures at c.search_net.ensures.most in
     (m.0, m.1, most_levels (λ n. g.G.Graph.pairs_of c.args.graph.now (g.G.Graph.state_of c.args.graph.now n)) (g.G.Graph.sets_of c.args.graph.now) (g.G.Graph.count_of c.args.graph.now) m.0 m.2)
 
 pub returns-in_err-way-in-Some-clause-most : goal.returns-in_err-way-in-Some-clause-most
 returns-in_err-way-in-Some-clause-most g c =
-    let m = rw c.of-levels.ensures at c.search.ensures.most in
+    let m = rw c.of-levels.ensures at c.search_net.ensures.most in
     (m.0, m.1, most_levels (λ n. g.G.Graph.pairs_of c.args.graph.now (g.G.Graph.state_of c.args.graph.now n)) (g.G.Graph.sets_of c.args.graph.now) (g.G.Graph.count_of c.args.graph.now) m.0 m.2)
 
 pub returns-in_err-turn-in-Some-clause-most : goal.returns-in_err-turn-in-Some-clause-most
 returns-in_err-turn-in-Some-clause-most g c =
-    let m = rw c.of-levels.ensures at c.search.ensures.most in
+    let m = rw c.of-levels.ensures at c.search_net.ensures.most in
     (m.0, m.1, most_levels (λ n. g.G.Graph.pairs_of c.args.graph.now (g.G.Graph.state_of c.args.graph.now n)) (g.G.Graph.sets_of c.args.graph.now) (g.G.Graph.count_of c.args.graph.now) m.0 m.2)
 
 pub returns-in_ok-turn-in-Some-clause-most : goal.returns-in_ok-turn-in-Some-clause-most
 returns-in_ok-turn-in-Some-clause-most g c =
-    let m = rw c.of-levels.ensures at c.search.ensures.most in
+    let m = rw c.of-levels.ensures at c.search_net.ensures.most in
     (m.0, m.1, most_levels (λ n. g.G.Graph.pairs_of c.args.graph.now (g.G.Graph.state_of c.args.graph.now n)) (g.G.Graph.sets_of c.args.graph.now) (g.G.Graph.count_of c.args.graph.now) m.0 m.2)
 
 pub returns-in-None-clause-most : goal.returns-in-None-clause-most
 returns-in-None-clause-most g c =
-    let m = rw c.of-levels.ensures at c.search.ensures.most in
+    let m = rw c.of-levels.ensures at c.search_net.ensures.most in
     (m.0, m.1, most_levels (λ n. g.G.Graph.pairs_of c.args.graph.now (g.G.Graph.state_of c.args.graph.now n)) (g.G.Graph.sets_of c.args.graph.now) (g.G.Graph.count_of c.args.graph.now) m.0 m.2)

@@ -1,8 +1,9 @@
 use Rattle.std.proofs.Common.{ap, arith, length, ◌∙◌}
 use Rattle.ltl_spec.proofs.NormalForms.SharedNodes.{tree_at}
+use Rattle.ltl_spec.proofs.NormalForms.RowsCollected.{flags_begin}
 use Rattle.std.proofs.lemmas.Grind.{common_steps}
 use Rattle.ltl_formula.proofs.OrderLemmas.{numbers_in_order}
-use Rattle.ltl_formula.proofs.WalkLemmas.{loop_begins, loop_flags, loop_goes_on, loop_pops, listed_few, walk_done}
+use Rattle.ltl_formula.proofs.WalkLemmas.{loop_begins, loop_goes_on, loop_pops, listed_few, walk_done}
 use Rattle.ltl_formula.proofs.StateLemmas.{none_left}
 use Rattle.ltl_formula.proofs.walk.row_numbers.Goals as goal
 
@@ -10,7 +11,7 @@ pub work-init : goal.work-init
 work-init g c = record {
   long = c.in_ok-flags.ensures.len ∙ c.len.ensures.count;
   few = grind (arith, common_steps);
-  flags = loop_flags c.len.result _ _ (c.in_ok-flags.ensures.items_if_clones_equal (λ y e. e)) c.new-listed.ensures.items;
+  flags = flags_begin c.len.result _ _ (c.in_ok-flags.ensures.items_if_clones_equal (λ y e. e)) c.new-listed.ensures.items;
   walking = loop_begins c.args.graph.now.nodes c.args.root _ _ _ c.requires c.new-stack.ensures.items c.in_ok-push.ensures.ok c.new-listed.ensures.items;
 }
 

@@ -1,4 +1,4 @@
-use Rattle.std.proofs.Common.{◌++◌, ◌∙◌, ap}
+use Rattle.std.proofs.Common.{◌∙◌, ap}
 use Rattle.ltl_spec.specs.Collections.Sets.{set_of}
 use Rattle.ltl_spec.specs.Transitions.Cubes.{cube_cmp}
 use Rattle.ltl_hoa.proofs.CubeLists.{set_again}

@@ -1,4 +1,4 @@
-use Rattle.std.proofs.Common.{◌≡◌, ◌∙◌, ◌∷◌, ◌++◌, [], refl, sym, subst, length}
+use Rattle.std.proofs.Common.{◌∙◌, ◌∷◌, ◌++◌, [], refl, sym, subst, length}
 use Rattle.ltl_word.specs.Evaluation.{AreOperandRows, IsRowOf}
 use Rattle.ltl_word.specs.Uses.{KeepsLater, row_by}
 use Rattle.ltl_formula.specs.FormulaView.{tree_of, trees}

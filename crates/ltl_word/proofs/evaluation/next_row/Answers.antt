@@ -1,4 +1,4 @@
-use Rattle.std.proofs.Common.{◌≡◌, ◌∙◌, ◌/◌, ◌+◌, ◌-◌, ◌<◌, ◌≤◌, ℕ, ap, sym, arith, inl, inr, length, true}
+use Rattle.std.proofs.Common.{◌∙◌, ◌/◌, ◌+◌, ◌-◌, ◌<◌, ◌≤◌, ℕ, ap, sym, arith, inl, inr, length, true}
 use Rattle.std.proofs.lemmas.Bool.{cases_eq}
 use Rattle.ltl_word.specs.Rows.{bit_of}
 use Rattle.ltl_word.proofs.BackLaws.{step_inside, step_last}

@@ -1,4 +1,4 @@
-use Rattle.std.proofs.Common.{◌≡◌, ◌-◌, ◌<◌, ◌≤◌, ◌||◌, ◌&&◌, ℕ, Bool, false, true, nat_eq}
+use Rattle.std.proofs.Common.{◌≡◌, ◌-◌, ◌<◌, ℕ, false, true}
 use Rattle.ltl_word.specs.Rows.{back, is_set}
 use Rattle.ltl_word.proofs.BackWords.{never, with_later}
 use Rattle.ltl_word.proofs.machine_word.until_word.Given as goal

@@ -1,4 +1,4 @@
-use Rattle.std.proofs.Common.{◌≡◌, ◌∙◌, ◌<◌, ◌+◌, ℕ, arith, length}
+use Rattle.std.proofs.Common.{◌∙◌}
 use Rattle.ltl_word.proofs.RowLaws.{uses_more}
 use Rattle.ltl_word.proofs.uses.last_uses.Goals as goal
 

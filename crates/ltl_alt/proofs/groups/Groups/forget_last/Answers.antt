@@ -1,4 +1,4 @@
-use Rattle.std.proofs.Common.{◌≡◌, ◌+◌, ◌<◌, ◌∙◌, arith, length}
+use Rattle.std.proofs.Common.{◌<◌, arith, length}
 use Rattle.std.specs.Option.{option_to_list}
 use Rattle.ltl_alt.proofs.GroupLaws.{groups_less, popped}
 use Rattle.ltl_alt.proofs.groups.Groups.forget_last.Goals as goal

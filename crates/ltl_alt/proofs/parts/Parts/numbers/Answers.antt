@@ -3,7 +3,6 @@ use Rattle.std.specs.Ordering.{nat_cmp}
 use Rattle.ltl_spec.specs.Collections.Sets.{Has, has}
 use Rattle.ltl_spec.proofs.Collections.ListLaws.{Has-at}
 use Rattle.ltl_spec.proofs.Collections.SetLaws.{all_at}
-use Rattle.ltl_alt.proofs.PartLaws.{room_kept}
 use Rattle.ltl_alt.proofs.TransitionLaws.{marks_step}
 use Rattle.ltl_alt.proofs.parts.Parts.numbers.Goals as goal
 
@@ -20,7 +19,7 @@ pub put_if-requires : goal.put_if-requires
 put_if-requires g c =
     let long = c.len-k-end.ensures in
     let test = c.parts-test.true in
-    let few = room_kept c.args.self.now.made c.args.self.now.owners.items c.requires.once c.requires.owned c.members_rise.ensures.below in
+    let few = c.requires.few in
     omega arith
 
 pub parts-preserved : goal.parts-preserved

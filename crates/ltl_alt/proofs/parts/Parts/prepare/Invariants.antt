@@ -1,4 +1,4 @@
-use Rattle.std.proofs.Common.{ℕ, ◌<◌, ◌⊎◌, length}
+use Rattle.std.proofs.Common.{◌≡◌, ℕ, ◌+◌, ◌<◌, ◌≤◌, ◌⊎◌, length}
 use Rattle.std.specs.List.{AllByRecursion}
 use Rattle.ltl_spec.specs.Collections.Sets.{Has}
 use Rattle.ltl_alt.specs.PartView.{AreParts, IsLonger}
@@ -13,6 +13,8 @@ invariant-members g l = record {
   made : (i : ℕ) → Has l.state i → Has l.self.made i ⊎ Has l.rest i;
   longer : IsLonger l.fn.self.lists.items l.self.lists.items;
   below : AllByRecursion (λ i. i < 256) l.rest;
+  left : l.left ≡ length l.rest;
+  room : length l.self.lists.items + length l.rest ≤ 256;
 }
 
 abbrev pub decreases-members : goal.decreases-members

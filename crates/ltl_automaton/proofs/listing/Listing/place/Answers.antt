@@ -7,4 +7,4 @@ use Rattle.ltl_automaton.proofs.listing.Listing.place.Goals as goal
 pub returns : goal.returns
 returns g c =
     let same = g.K.PartialEq.eq in
-    stands_at same g.met.K.Key.exact c.args.key c.args.self.now.keys c.get_index_of.result (c.get_index_of.ensures.index ∙ ap (λ (l : Listed g.row.K.Denot). position (same c.args.key) l.keys) c.self.view_is)
+    stands_at same g.met.K.Key.exact c.args.key c.args.self.now.keys c.place.result (c.place.ensures ∙ ap (λ (l : Listed g.row.K.Denot). position (same c.args.key) l.keys) c.self.view_is)

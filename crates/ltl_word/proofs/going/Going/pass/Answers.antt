@@ -1,4 +1,4 @@
-use Rattle.std.proofs.Common.{◌≡◌, ◌∙◌, ◌+◌, ◌-◌, ◌*◌, ◌/◌, ◌<◌, ◌≤◌, ℕ, ap, sym, subst, arith, length}
+use Rattle.std.proofs.Common.{◌≡◌, ◌∙◌, ◌+◌, ◌-◌, ◌*◌, ◌<◌, ◌≤◌, ap, subst, arith, length}
 use Rattle.std.specs.Option.{option_map}
 use Rattle.std.proofs.Common.{length-set}
 use Rattle.ltl_word.specs.Rows.{back, bit_of, left_at, right_at, turned, IsBackWord}
