@@ -4,6 +4,7 @@ pub mod ElementaryLaws
 pub mod GbaLaws
 pub mod GroupLaws
 pub mod ImpliedLaws
+pub mod JoinLaws
 pub mod ListsLaws
 pub mod NearLaws
 pub mod NeedsLaws
@@ -11,6 +12,7 @@ pub mod OwnLaws
 pub mod PartLaws
 pub mod PieceLaws
 pub mod PlaceLaws
+pub mod RepeatLaws
 pub mod RowLaws
 pub mod RowListLaws
 pub mod ProductLaws

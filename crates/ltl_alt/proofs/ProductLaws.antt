@@ -1,10 +1,10 @@
 -- Transitions at once, and those of a set of rows by its groups.
-use Rattle.std.proofs.Common.{◌≡◌, ℕ, zero, suc, ◌+◌, ◌-◌, ◌*◌, ◌/◌, ◌<◌, ◌≤◌, Bool, true, false, cond, inl, inr, List, [], ◌∷◌, ◌++◌, length, map, take, drop, refl, sym, ◌∙◌, ap, subst, arith, Some, None}
+use Rattle.std.proofs.Common.{◌≡◌, ℕ, zero, suc, ◌+◌, ◌-◌, ◌*◌, ◌<◌, ◌≤◌, Bool, true, false, cond, inl, inr, List, [], ◌∷◌, ◌++◌, length, map, drop, refl, sym, ◌∙◌, ap, subst, arith, Some, None}
 use Rattle.std.specs.Prelude.{slice_index_or, filter, filter_map, option_map, nat_eq, not}
 use Rattle.std.specs.List.Sorted.{IsSorted, IsPermutation}
 use Rattle.std.specs.Ordering.{nat_cmp}
 use Rattle.std.proofs.lemmas.Bool.Decides.{nat_tests}
-use Rattle.std.proofs.lemmas.List.{length-append, take_more}
+use Rattle.std.proofs.lemmas.List.{length-append}
 use Rattle.ltl_spec.specs.Collections.Sets.{Has, IsRising, has, union}
 use Rattle.ltl_spec.specs.Collections.Lists.{places_where}
 use Rattle.ltl_spec.specs.NormalForms.Normal.{Normal}
@@ -30,7 +30,7 @@ use Rattle.ltl_spec.proofs.Transitions.UnimpliedLaws.{marks_too_linear}
 use Rattle.ltl_alt.specs.declared.asked.Demand.{Demand}
 use Rattle.ltl_alt.specs.GroupView.{key_of, made_of, AreGroups, AreGroupsOf, IsKeyAt, AreKeysKept}
 use Rattle.ltl_alt.specs.PartView.{part_of, demand_of, links_of, numbers_of, numbers_in, AreLinked, AreParts, IsGroup, IsLonger}
-use Rattle.ltl_alt.specs.ProductView.{AreConsistent, AreNonempty, join_transitions, joined_products}
+use Rattle.ltl_alt.specs.ProductView.{AreConsistent, join_transitions, joined_products}
 use Rattle.ltl_alt.specs.StandIns.{IsKeptBy, StandsFor, AreOwn, rule_of}
 use Rattle.ltl_alt.proofs.PartLaws.{join_same, numbers_below}
 
@@ -260,72 +260,18 @@ numbers_inside owners lists state all e d k h = let l = numbers_below (λ o. has
 
 -- ---- how many combinations
 
--- those that were looked at have a transition each
-pub nonempty_step : (lists : List (List Transition)) (numbers : List ℕ) (i k : ℕ) (b : Bool) → i < length numbers → k ≡ slice_index_or numbers i 0 → b ≡ nat_eq (length (made_of lists k)) 0 → b ≡ false
-    → AreNonempty (map (made_of lists) (take i numbers)) → AreNonempty (map (made_of lists) (take (i + 1) numbers))
-nonempty_step lists numbers i k b l found e d w =
-    subst (λ xs. AreNonempty (map (made_of lists) xs)) (sym (take_more numbers i 0 l ∙ ap (λ x. take i numbers ++ x ∷ []) (sym found)))
-    (behind (take i numbers) k w (some (length (made_of lists k)) (sym e ∙ d)))
+-- no more than so many, with one list more
+pub size_at_least : (lists : List (List Transition)) (numbers : List ℕ) (left k count len : ℕ) → left < length numbers → k ≡ slice_index_or numbers left 0 → count ≤ product_size (drop (left + 1) (map (made_of lists) numbers))
+    → len ≡ length (made_of lists k) → count * len ≤ product_size (drop left (map (made_of lists) numbers))
+size_at_least lists numbers left k count len l found e d =
+    let behind = product_size (drop (left + 1) (map (made_of lists) numbers)) in
+    let size : length (made_of lists k) * behind ≡ product_size (drop left (map (made_of lists) numbers)) = ap product_size (sym (dropped_at (made_of lists) numbers left k l found)) in
+    let less : count * len ≤ len * behind = grown count behind len e in
+    let same : len * behind ≡ length (made_of lists k) * behind = ap (λ n. n * behind) d in
+    omega (arith, size, less, same)
   where
-    some : (n : ℕ) → nat_eq n 0 ≡ false → 0 < n
-    some n e = grind (arith, nat_tests)
-
-    behind : (ns : List ℕ) (n : ℕ) → AreNonempty (map (made_of lists) ns) → 0 < length (made_of lists n) → AreNonempty (map (made_of lists) (ns ++ n ∷ []))
-    behind [] n w s = (s, tt)
-    behind (m ∷ ns) n w s = (w.0, behind ns n w.1 s)
-
-pub nonempty_all : (lists : List (List Transition)) (numbers : List ℕ) (n : ℕ) → n ≡ length numbers → AreNonempty (map (made_of lists) (take n numbers)) → AreNonempty (map (made_of lists) numbers)
-nonempty_all lists numbers n e w = subst (λ xs. AreNonempty (map (made_of lists) xs)) (ap (λ m. take m numbers) e ∙ whole numbers) w
-  where
-    whole : (xs : List ℕ) → take (length xs) xs ≡ xs
-    whole [] = refl
-    whole (x ∷ xs) = ap (λ ys. x ∷ ys) (whole xs)
-
--- the combinations of some of the lists are no more than those of all
-suffix_least : (tss : List (List Transition)) (k : ℕ) → AreNonempty tss → product_size (drop k tss) ≤ product_size tss
-suffix_least tss zero w = omega arith
-suffix_least [] (suc k) w = omega arith
-suffix_least (ts ∷ tss) (suc k) w = let l = suffix_least tss k w.1 in more (length ts) (product_size tss) (product_size (drop k tss)) w.0 l
-  where
-    more : (a b c : ℕ) → 0 < a → c ≤ b → c ≤ a * b
-    more (suc a) b c l m = let e : suc a * b ≡ b + a * b = unary a b in omega arith
-      where
-        unary : (a b : ℕ) → suc a * b ≡ b + a * b
-        unary a b = grind (arith)
-    more zero b c l m = absurd (omega arith)
-
--- one list more
-pub size_step : (lists : List (List Transition)) (numbers : List ℕ) (left k count : ℕ) → left < length numbers → k ≡ slice_index_or numbers left 0 → count ≡ product_size (drop (left + 1) (map (made_of lists) numbers))
-    → length (made_of lists k) * count ≡ product_size (drop left (map (made_of lists) numbers))
-size_step lists numbers left k count l found e =
-    ap (λ n. length (made_of lists k) * n) e ∙ sym (ap product_size (dropped_at (made_of lists) numbers left k l found))
-
-pub size_none : (lists : List (List Transition)) (numbers : List ℕ) (n : ℕ) → n ≡ length numbers → 1 ≡ product_size (drop n (map (made_of lists) numbers))
-size_none lists numbers n e = sym (ap product_size (ap (λ m. drop m (map (made_of lists) numbers)) e ∙ none_left_of (made_of lists) numbers))
-
--- there are more than so many where some of the lists have more
-pub too_many : (lists : List (List Transition)) (numbers : List ℕ) (left k count len most : ℕ) → left < length numbers → k ≡ slice_index_or numbers left 0 → count ≡ product_size (drop (left + 1) (map (made_of lists) numbers))
-    → len ≡ length (made_of lists k) → 0 < count → most / count < len → AreNonempty (map (made_of lists) numbers) → most < product_size (map (made_of lists) numbers)
-too_many lists numbers left k count len most l found e d some many w =
-    let size : length (made_of lists k) * count ≡ product_size (drop left (map (made_of lists) numbers)) = size_step lists numbers left k count l found e in
-    let here : most < len * count = above most count len some many in
-    let least = suffix_least (map (made_of lists) numbers) left w in
-    let same : len * count ≡ length (made_of lists k) * count = ap (λ n. n * count) d in
-    omega arith
-  where
-    above : (m c n : ℕ) → 0 < c → m / c < n → m < n * c
-    above m c n s l = grind (arith)
-
-pub nonempty_at : (lists : List (List Transition)) (numbers : List ℕ) (k : ℕ) → AreNonempty (map (made_of lists) numbers) → Has numbers k → 0 < length (made_of lists k)
-nonempty_at lists [] k w h = absurd h
-nonempty_at lists (n ∷ ns) k w (inl e) = subst (λ x. 0 < length (made_of lists x)) (sym e) w.0
-nonempty_at lists (n ∷ ns) k w (inr h) = nonempty_at lists ns k w.1 h
-
-pub both_orders : (a b : ℕ) → a * b ≡ b * a
-both_orders a b = grind (arith)
-
-pub both_some : (a b : ℕ) → 0 < a → 0 < b → 0 < a * b
-both_some a b l m = grind (arith)
+    grown : (m n k : ℕ) → m ≤ n → m * k ≤ k * n
+    grown m n k l = grind (arith)
 
 -- so many transitions a set of rows has
 pub factored_count : (T : Table) (own : List (List Pair)) (keep : Bool) (made owners : List ℕ) (parts : List (List Pair)) (demands : List Demand) (links : List RowSet) (keys : List RowSet) (lists : List (List Transition))

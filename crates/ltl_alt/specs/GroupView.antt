@@ -7,6 +7,8 @@ use Rattle.ltl_spec.proofs.Transitions.ApartTests.{own_at}
 use Rattle.ltl_spec.proofs.Transitions.FactorLaws.{AreTakenOut}
 use Rattle.ltl_spec.proofs.Transitions.PartJoins.{join_of}
 use Rattle.ltl_spec.proofs.Transitions.ProductTransitions.{transitions_of}
+use Rattle.ltl_alt.specs.declared.groups.Groups.{Groups}
+use Rattle.ltl_alt.specs.declared.parts.Parts.{Parts}
 use Rattle.ltl_alt.specs.PartView.{part_of}
 
 -- the group with that number, and its transitions
@@ -21,6 +23,9 @@ pub record AreGroups (T : Table) (keep : Bool) (parts : List (List Pair)) (keys 
   pub count : length lists ≡ length keys
   pub inside : (k : ℕ) → k < length keys → (n : ℕ) → Has (key_of keys k) n → n < length parts
   pub made : (k : ℕ) → k < length keys → made_of lists k ≡ transitions_of T keep (join_of (part_of parts) (key_of keys k))
+
+abbrev pub HasGroups : {A : Type 0} → Table → Bool → Parts A → Groups A → Type 0
+HasGroups T keep parts groups = AreGroups T keep parts.lists.items groups.keys.keys groups.lists.items
 
 -- a group stands under this number
 abbrev pub IsKeyAt : List RowSet → RowSet → ℕ → Type 0

@@ -2,7 +2,9 @@ pub mod AskedView
 pub mod Codes
 pub mod GbaView
 pub mod GroupView
+pub mod JoinView
 pub mod NeedsView
+pub mod PairHash
 pub mod PartView
 pub mod PieceView
 pub mod ProductView

@@ -8,6 +8,7 @@ use Rattle.ltl_spec.specs.Transitions.RowTransitions.{Table, pairs_at}
 use Rattle.ltl_spec.proofs.Transitions.ApartTests.{ask_nothing, is_apart}
 use Rattle.ltl_spec.proofs.Transitions.PartJoins.{join_of}
 use Rattle.ltl_spec.proofs.Transitions.SameJoins.{AreSound}
+use Rattle.ltl_alt.specs.declared.parts.Parts.{Parts}
 use Rattle.ltl_alt.specs.declared.asked.Demand.{Demand}
 use Rattle.ltl_alt.specs.declared.rule.Rule.{Rule}
 use Rattle.ltl_alt.specs.AskedView.{Demands}
@@ -62,6 +63,9 @@ pub record AreMade (T : Table) (r : Rule) (made owners : List ℕ) (lists : List
 pub record AreParts (T : Table) (r : Rule) (own : List (List Pair)) (made owners : List ℕ) (lists : List (List Pair)) (demands : List Demand) (links : List RowSet) : Type 0 where
   pub linked : AreLinked T own lists demands links
   pub rows : AreMade T r made owners lists
+
+abbrev pub HasParts : {A : Type 0} → Table → Rule → List (List Pair) → Parts A → Type 0
+HasParts T r own parts = AreParts T r own parts.made parts.owners.items parts.lists.items parts.demands.items parts.links.items
 
 -- one row more was taken apart, and none was forgotten
 abbrev pub HasMade : ℕ → List ℕ → List ℕ → Type 0

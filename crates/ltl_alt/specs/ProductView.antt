@@ -1,5 +1,5 @@
 -- Transitions at once.
-use Rattle.std.specs.Prelude.{◌≡◌, ◌<◌, false, List, [], ◌∷◌, length, Option, option_map, flat_map, filter_map}
+use Rattle.std.specs.Prelude.{◌≡◌, false, List, Option, option_map, flat_map, filter_map}
 use Rattle.std.specs.Ordering.{nat_cmp}
 use Rattle.ltl_spec.specs.Collections.Sets.{Has, union}
 use Rattle.ltl_spec.specs.Transitions.Cubes.{Cube, join_cubes, is_contradictory}
@@ -17,8 +17,3 @@ joined_products ts us = flat_map (λ a. filter_map (join_transitions a) us) ts
 -- none contradicts itself
 abbrev pub AreConsistent : List Transition → Type 0
 AreConsistent ts = (t : Transition) → Has ts t → is_contradictory t.cube ≡ false
-
--- each list has a transition
-abbrev pub AreNonempty : List (List Transition) → Type 0
-AreNonempty [] = Unit {0}
-AreNonempty (ts ∷ tss) = (0 < length ts) × AreNonempty tss

@@ -7,6 +7,9 @@ use Rattle.ltl_formula.specs.TableView.{TableView}
 use Rattle.ltl_automaton.specs.Net.{Net}
 use Rattle.ltl_automaton.specs.declared.arc.Arc.{Arc}
 use Rattle.ltl_alt.specs.declared.asked.Demand.{Demand}
+use Rattle.ltl_alt.specs.declared.groups.Groups.{Groups}
+use Rattle.ltl_alt.specs.declared.parts.Parts.{Parts}
+use Rattle.ltl_alt.specs.declared.row_lists.RowLists.{RowLists}
 use Rattle.ltl_alt.specs.GroupView.{AreGroups}
 use Rattle.ltl_alt.specs.PartView.{AreParts}
 use Rattle.ltl_alt.specs.RowLists.{AreLists}
@@ -28,3 +31,8 @@ pub record IsPrepared (t : TableView) (keep : Bool) (pairs sets : List (Option (
   pub own_pairs : AreOwn (table_at t) own
   pub parts : AreParts (table_at t) (rule_of keep) own made owners part_lists demands links
   pub groups : AreGroups (table_at t) keep part_lists keys group_lists
+
+-- the same of what is kept in these
+abbrev pub AreReady : {A : Type 0} → TableView → Bool → List (List Pair) → RowLists A → Parts A → Groups A → Type 0
+AreReady t keep own rows parts groups =
+    IsPrepared t keep rows.pairs.items rows.sets.items own parts.made parts.owners.items parts.lists.items parts.demands.items parts.links.items groups.keys.keys groups.lists.items

@@ -13,3 +13,7 @@ IsShape T keep lists state = transitions T keep state ≡ in_order (all_products
 pub record AreShapes (T : Table) (keep : Bool) (shapes : List (List (List Transition))) (states : List RowSet) : Type 0 where
   pub count : length states ≡ length shapes
   pub each : (k : ℕ) → k < length shapes → IsShape T keep (slice_index_or shapes k []) (slice_index_or states k [])
+
+-- both sets of rows have the same transitions
+abbrev pub IsTwin : Table → Bool → RowSet → RowSet → Type 0
+IsTwin T keep state twin = transitions T keep twin ≡ transitions T keep state

@@ -7,11 +7,14 @@
 //! is asked to stay: the other's literals and targets are among its own, and the other is in every set that it is in.
 //!
 //! What flows: a table of rows; for each row that is met the pieces that it is made of (`pieces`), whose pairs (`row_lists`) are a part each
-//! (`parts`, `room`), with what they ask for and what fulfils the until rows that they put off (`asked`). Parts that may have to do with each other are linked, and the parts of a set of rows fall into
-//! groups that are closed under links (`transitions`). For each group this is done once, as many sets have it (`groups`): its parts are joined, where
-//! pairs that stay implied whatever comes are dropped on the way (`prune`, `rule`, `near`), the joins get their marks (`marks`), and implied ones go (`implied`).
+//! (`parts`, `room`), with what they ask for and what fulfils the until rows that they put off (`asked`). Parts that may have to do with each other
+//! are linked, and the parts of a set of rows fall into groups that are closed under links (`transitions`). For each group this is done once, as many
+//! sets have it (`groups`): its parts are joined (`lists`, `repeats`), where pairs that stay implied whatever comes are dropped on the way (`prune`,
+//! `rule`, `near`), the joins get their marks (`marks`), and implied ones go (`implied`).
 //! The transitions of the set are the products, one transition of each group at once; they are counted before they are made, then made and sorted
-//! (`product`). The sets that are targets are numbered as they are met (`reach`): a `Gba`.
+//! (`product`). A set that has the transitions of an earlier one isn't asked for its own (`twins`): its groups have equal ones (`shapes`), or its
+//! parts are one group whose joins, which are remembered (`joins`), end at the same list (`wholes`). How many a set has is told ahead where its groups
+//! are remembered (`sizes`). The sets that are targets are numbered as they are met (`reach`): a `Gba`.
 //!
 //! Two things here are subtle. To ask for less isn't enough to drop a pair early, since the pair that asks for less may put off an until row that the
 //! other one fulfils. And products need no test for implied ones across groups only because groups are apart: no proposition and no target is in two
@@ -30,6 +33,7 @@ pub mod elements;
 pub mod gba;
 mod groups;
 mod implied;
+mod joins;
 mod lists;
 mod marks;
 mod near;
@@ -43,13 +47,16 @@ mod place;
 mod product;
 mod prune;
 mod reach;
+mod repeats;
 mod room;
 mod row_lists;
 mod rule;
 mod shapes;
+mod sizes;
 mod transition;
 mod transitions;
 mod twins;
+mod wholes;
 
 pub use gba::{Gba, MOST_EDGES, MOST_STATES};
 pub use ltl_automaton::{AutomatonFault as AltFault, Edge as GbaEdge};

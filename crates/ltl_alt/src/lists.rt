@@ -5,7 +5,11 @@ ghost use Rattle.ltl_spec.specs.Collections.Sets as spec_sets;
 ghost use Rattle.ltl_spec.specs.Transitions.Pairs as spec_pairs;
 
 use crate::pair::Pair;
+use crate::repeats::drop_repeated;
 use std::alloc::{AllocError, Allocator};
+
+/// Of more pairs than these the repeated ones are sought before they are sorted.
+const MANY: usize = 1024;
 
 /// Puts what a pair and each of a list are at once behind the others.
 fn join_one<A: Allocator>(
@@ -53,10 +57,23 @@ pub(crate) fn both<'a, A: Allocator>(
 }
 
 /// Sorts the pairs, and keeps each once. Lists that are joined or put one behind the other have long runs in order, and a stable sort keeps these.
-pub(crate) fn make_distinct<A: Allocator>(pairs: &mut Vec<Pair, &A>) -> Result<(), AllocError>
+fn sort_distinct<A: Allocator>(pairs: &mut Vec<Pair, &A>) -> Result<(), AllocError>
     ensures { OnOk result (pairs.new.items ≡ spec_sets.set_of spec_pairs.pair_cmp pairs.old.items) }
 {
     pairs.sort_by(|p, q| p.cmp_list(q))?;
     pairs.dedup();
     Ok(())
+}
+
+/// The same, where repetitions in long lists go first.
+pub(crate) fn make_distinct<'a, A: Allocator>(
+    alloc: &'a A,
+    pairs: &mut Vec<Pair, &'a A>,
+) -> Result<(), AllocError>
+    ensures { OnOk result (pairs.new.items ≡ spec_sets.set_of spec_pairs.pair_cmp pairs.old.items) }
+{
+    if pairs.len() > MANY {
+        drop_repeated(alloc, pairs)?;
+    }
+    sort_distinct(pairs)
 }

@@ -1,6 +1,6 @@
 //! Pairs: what has to be true now, and what has to hold next.
 
-ghost use Rattle.std.specs.Prelude.{◌≡◌, ◌<◌, [], ◌∷◌};
+ghost use Rattle.std.specs.Prelude.{◌≡◌, ◌<◌, [], ◌∷◌, true};
 ghost use Rattle.ltl_sets.specs.Literals.{literal_of};
 ghost use Rattle.ltl_spec.specs.Transitions.Pairs.{pair_cmp, join_pair, empty_pair};
 ghost use Rattle.ltl_spec.specs.Transitions.Pruning.{is_within};
@@ -9,6 +9,7 @@ ghost use Rattle.ltl_alt.specs.StandIns.{common_pair};
 use ltl_sets::{Cube, Literal, RowSet};
 use std::alloc::AllocError;
 use std::cmp::Ordering;
+use std::hash::{Hash, Hasher};
 use std::marker::Model;
 
 /// Literals that have to be true now, and the rows that have to hold next, by their places among the elementary rows.
@@ -91,6 +92,14 @@ impl Pair {
         self.cube.implies_of(&other.cube) && self.targets.is_subset(&other.targets)
     }
 
+    /// Whether the two are equal.
+    #[tactic(auto, using(crate::proofs::JoinLaws::same_pair))]
+    pub(crate) fn is_same(&self, other: &Pair) -> bool
+        ensures { result ≡ true → self.now ≡ other.now }
+    {
+        self.cube == other.cube && self.targets == other.targets
+    }
+
     /// How many literals and rows it asks for.
     pub(crate) fn size(&self) -> usize {
         self.cube.iter().count() + self.targets.iter().count()
@@ -141,4 +150,17 @@ impl Eq for Pair {
     ghost use Rattle.ltl_spec.proofs.Collections.Orders.{pair_linear};
 
     ghost laws = { eq_by_cmp_equiv pair_linear.total };
+}
+
+impl Hash for Pair {
+    ghost use Rattle.ltl_alt.specs.PairHash.{hash_of_pair, hash_of_same};
+
+    ghost hash_input = { hash_of_pair };
+
+    ghost respects_eq = { hash_of_same };
+
+    fn hash<H: Hasher>(&self, state: &mut H) {
+        self.cube.hash(state);
+        self.targets.hash(state);
+    }
 }

@@ -7,7 +7,8 @@ ghost use Rattle.ltl_spec.specs.Transitions.RowTransitions as spec;
 ghost use Rattle.ltl_spec.proofs.Transitions.SameJoins.{AreSound};
 ghost use Rattle.ltl_alt.specs.declared.pieces.Piece.TheVariants as made_piece;
 ghost use Rattle.ltl_alt.specs.declared.rule.Rule as made_rule;
-ghost use Rattle.ltl_alt.specs.PartView.{AreAdded, AreLinked, AreMade, AreParts, HasRoom, IsGroup, IsLinked, IsLonger, IsRoom, IsTaken, links_of, numbers_in, part_of};
+ghost use Rattle.ltl_alt.specs.PartView.{AreAdded, AreLinked, AreMade, HasParts, HasRoom, IsGroup};
+ghost use Rattle.ltl_alt.specs.PartView.{IsLinked, IsLonger, IsRoom, IsTaken, links_of, numbers_in, part_of};
 ghost use Rattle.ltl_alt.specs.PieceView.{AreFew, IsPiece, piece_pairs};
 ghost use Rattle.ltl_alt.specs.RowLists.{AreLists, IsListedRow};
 ghost use Rattle.ltl_alt.specs.StandIns.{AreOwn, IsListed, StandsFor};
@@ -97,7 +98,7 @@ impl<'a, A: Allocator> Parts<'a, A> {
 
     /// Forgets all parts.
     pub(crate) fn forget(&mut self, alloc: &'a A)
-        ensures parts { (T : spec.Table) → (r : made_rule.Rule) → (own : List (List spec_pairs.Pair)) → AreParts T r own self.new.made self.new.owners.items self.new.lists.items self.new.demands.items self.new.links.items }
+        ensures parts { (T : spec.Table) → (r : made_rule.Rule) → (own : List (List spec_pairs.Pair)) → HasParts T r own self.new }
         ensures lists { self.new.lists.items ≡ [] }
     {
         let restarts = self.restarts.saturating_add(1);
@@ -169,10 +170,10 @@ impl<'a, A: Allocator> Parts<'a, A> {
     ) -> Result<(), AllocError>
         requires lists { AreLists table.now pruning.now.rule rows.old.pairs.items rows.old.sets.items }
         requires own { AreOwn (table_at table.now) pruning.now.own.now }
-        requires parts { AreParts (table_at table.now) pruning.now.rule pruning.now.own.now self.old.made self.old.owners.items self.old.lists.items self.old.demands.items self.old.links.items }
+        requires parts { HasParts (table_at table.now) pruning.now.rule pruning.now.own.now self.old }
         requires room { IsRoom place most self.old.lists.items }
         ensures lists { OnOk result (AreLists table.now pruning.now.rule rows.new.pairs.items rows.new.sets.items) }
-        ensures parts { OnOk result (AreParts (table_at table.now) pruning.now.rule pruning.now.own.now self.new.made self.new.owners.items self.new.lists.items self.new.demands.items self.new.links.items) }
+        ensures parts { OnOk result (HasParts (table_at table.now) pruning.now.rule pruning.now.own.now self.new) }
         ensures taken { OnOk result (IsTaken place most self.old.made self.new.made self.old.lists.items self.new.lists.items) }
     {
         if self.made.contains(place) {
@@ -195,10 +196,10 @@ impl<'a, A: Allocator> Parts<'a, A> {
     ) -> Result<(), AllocError>
         requires lists { AreLists table.now pruning.now.rule rows.old.pairs.items rows.old.sets.items }
         requires own { AreOwn (table_at table.now) pruning.now.own.now }
-        requires parts { AreParts (table_at table.now) pruning.now.rule pruning.now.own.now self.old.made self.old.owners.items self.old.lists.items self.old.demands.items self.old.links.items }
+        requires parts { HasParts (table_at table.now) pruning.now.rule pruning.now.own.now self.old }
         requires room { HasRoom self.old.made self.old.lists.items state.now }
         ensures lists { OnOk result (AreLists table.now pruning.now.rule rows.new.pairs.items rows.new.sets.items) }
-        ensures parts { OnOk result (AreParts (table_at table.now) pruning.now.rule pruning.now.own.now self.new.made self.new.owners.items self.new.lists.items self.new.demands.items self.new.links.items) }
+        ensures parts { OnOk result (HasParts (table_at table.now) pruning.now.rule pruning.now.own.now self.new) }
         ensures made { OnOk result ((i : ℕ) → Has state.now i → Has self.new.made i) }
         ensures longer { OnOk result (IsLonger self.old.lists.items self.new.lists.items) }
     {
@@ -234,6 +235,18 @@ impl<'a, A: Allocator> Parts<'a, A> {
             put_if(&mut numbers, k, state.contains(self.owners[k]));
         }
         numbers
+    }
+
+    /// Whether of one pair of each of these parts no more than so many can be made.
+    pub(crate) fn are_few(&self, numbers: &RowSet, most: usize) -> bool {
+        let mut count = 1usize;
+        let mut rest = numbers.iter();
+        'members: while let Some(number) = rest.next() {
+            if let Some(list) = self.lists.get(number) {
+                count = count.saturating_mul(list.as_slice().len());
+            }
+        }
+        count <= most
     }
 
     /// The parts that may have to do with the one of that number.

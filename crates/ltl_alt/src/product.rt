@@ -1,11 +1,11 @@
 //! One transition of each of some groups at once, in every way.
 
-ghost use Rattle.std.specs.Prelude.{◌≡◌, ℕ, ◌<◌, ◌≤◌, ◌++◌, true, false, filter_map, length, map, drop, IfOk, OnOk};
+ghost use Rattle.std.specs.Prelude.{◌≡◌, ℕ, ◌<◌, ◌≤◌, ◌++◌, filter_map, length, map, drop, IfOk, OnOk};
 ghost use Rattle.ltl_spec.specs.Collections.Sets.{Has};
 ghost use Rattle.ltl_spec.specs.Transitions.RowTransitions as spec;
 ghost use Rattle.ltl_spec.proofs.Transitions.FactorLaws.{all_products, product_size};
 ghost use Rattle.ltl_alt.specs.GroupView.{made_of};
-ghost use Rattle.ltl_alt.specs.ProductView.{AreConsistent, AreNonempty, join_transitions, joined_products};
+ghost use Rattle.ltl_alt.specs.ProductView.{AreConsistent, join_transitions, joined_products};
 ghost use Rattle.ltl_alt.specs.StandIns.{AreOwn};
 ghost use Rattle.ltl_alt.specs.TransitionView.{table_at};
 
@@ -74,36 +74,16 @@ pub(crate) fn all_products<'a, A: Allocator>(
     Ok(products)
 }
 
-/// Whether one of these groups has no transition.
-fn has_empty<A: Allocator>(groups: &Groups<'_, A>, numbers: &[usize]) -> bool
+/// How many combinations of one transition of each of these groups there are, or `usize::MAX` where they are more.
+pub(crate) fn combinations<A: Allocator>(groups: &Groups<'_, A>, numbers: &[usize]) -> usize
     requires within { (k : ℕ) → Has numbers.now k → k < length groups.now.lists.items }
-    ensures { result ≡ false → AreNonempty (map (made_of groups.now.lists.items) numbers.now) }
+    ensures { result ≤ product_size (map (made_of groups.now.lists.items) numbers.now) }
 {
-    'groups: for number in numbers {
-        if groups.transitions(*number).is_empty() {
-            return true;
-        }
-    }
-    false
-}
-
-/// Whether there are more than so many combinations of one transition of each of these groups, if this is known before they are made.
-pub(crate) fn are_more<A: Allocator>(groups: &Groups<'_, A>, numbers: &[usize], most: usize) -> bool
-    requires within { (k : ℕ) → Has numbers.now k → k < length groups.now.lists.items }
-    ensures { result ≡ true → most < product_size (map (made_of groups.now.lists.items) numbers.now) }
-{
-    if has_empty(groups, numbers) {
-        return false;
-    }
     let mut count = 1usize;
     let mut left = numbers.len();
     'groups: while left > 0 {
         left -= 1;
-        let len = groups.transitions(numbers[left]).len();
-        if len > most / count {
-            return true;
-        }
-        count *= len;
+        count = count.saturating_mul(groups.transitions(numbers[left]).len());
     }
-    false
+    count
 }

@@ -4,12 +4,14 @@ ghost use Rattle.std.specs.Prelude.{◌≡◌, map, IfOk, IsErrOf};
 ghost use Rattle.ltl_spec.specs.Automata.Generalized.{IsGeneralized, IsTooLarge};
 ghost use Rattle.ltl_spec.specs.Tools.Limits.{stated_limits};
 ghost use Rattle.ltl_formula.specs.TableView.{core_of};
-ghost use Rattle.ltl_alt.specs.ReachView.{IsPrepared, arc_of, net_of};
+ghost use Rattle.ltl_alt.specs.JoinView.{AreRemembered};
+ghost use Rattle.ltl_alt.specs.ReachView.{AreReady, arc_of, net_of};
 ghost use Rattle.ltl_alt.specs.ShapeView.{AreShapes};
 ghost use Rattle.ltl_alt.specs.TransitionView.{table_at};
 
 use crate::gba::{Gba, MOST_EDGES, MOST_STATES};
 use crate::groups::Groups;
+use crate::joins::Joins;
 use crate::own::all_own;
 use crate::pair_set::PairSet;
 use crate::parts::Parts;
@@ -18,9 +20,11 @@ use crate::room::prepare;
 use crate::row_lists::RowLists;
 use crate::rule::{Pruning, Rule};
 use crate::shapes::Shapes;
+use crate::sizes::transitions_at_least;
 use crate::transition::Transition;
 use crate::transitions::transitions;
 use crate::twins::twin;
+use crate::wholes::Wholes;
 use ltl_automaton::{Arc, AutomatonFault as AltFault, Limits, Successors, explore_from};
 use ltl_formula::{Row, Table};
 use ltl_sets::RowSet;
@@ -36,6 +40,8 @@ struct RowSets<'t, 's, 'a, A: Allocator> {
     parts: Parts<'a, A>,
     groups: Groups<'a, A>,
     shapes: Shapes<'a, A>,
+    joins: Joins<'a, A>,
+    wholes: Wholes<'a, A>,
     keep_implied: bool,
 }
 
@@ -60,8 +66,9 @@ fn arcs_of<'c, B: Allocator>(
 impl<'t, 's, 'a, A: Allocator> Successors<RowSet> for RowSets<'t, 's, 'a, A> {
     ghost net = { λ n. net_of (core_of n.table.now) n.keep_implied };
 
-    ghost ready = { λ n. IsPrepared n.table.now n.keep_implied n.lists.pairs.items n.lists.sets.items n.own.items n.parts.made n.parts.owners.items n.parts.lists.items n.parts.demands.items n.parts.links.items n.groups.keys.keys n.groups.lists.items
-        × AreShapes (table_at n.table.now) n.keep_implied n.shapes.shapes.items n.shapes.states.items };
+    ghost ready = { λ n. AreReady n.table.now n.keep_implied n.own.items n.lists n.parts n.groups
+        × AreShapes (table_at n.table.now) n.keep_implied n.shapes.shapes.items n.shapes.states.items
+        × AreRemembered (table_at n.table.now) n.keep_implied n.joins.lists.items n.joins.steps.items n.wholes.all.items };
 
     fn accepting(&self, _key: &RowSet) -> bool {
         true
@@ -75,7 +82,23 @@ impl<'t, 's, 'a, A: Allocator> Successors<RowSet> for RowSets<'t, 's, 'a, A> {
             &mut self.parts,
             &mut self.groups,
             &mut self.shapes,
+            &mut self.joins,
+            &mut self.wholes,
             self.own.as_slice(),
+            self.keep_implied,
+            key,
+        )
+    }
+
+    fn edges_at_least(&mut self, key: &RowSet) -> Result<usize, AllocError> {
+        let own = self.own.as_slice();
+        transitions_at_least(
+            self.alloc,
+            self.table,
+            &mut self.lists,
+            &mut self.parts,
+            &mut self.groups,
+            own,
             self.keep_implied,
             key,
         )
@@ -138,6 +161,8 @@ pub(crate) fn reach<'a, A: Allocator>(
     let own = all_own(alloc, table)?;
     let mut groups = Groups::new(alloc);
     let shapes = Shapes::new(alloc);
+    let joins = Joins::new(alloc);
+    let wholes = Wholes::new(alloc);
     let mut parts = Parts::new(alloc);
     let pruning = Pruning {
         rule: Rule::of(keep_implied),
@@ -163,6 +188,8 @@ pub(crate) fn reach<'a, A: Allocator>(
         parts,
         groups,
         shapes,
+        joins,
+        wholes,
         keep_implied,
     };
     let root = RowSet::single(place(table, table.root()));

@@ -8,8 +8,8 @@ ghost use Rattle.ltl_spec.specs.Collections.Sets.{Has};
 ghost use Rattle.ltl_spec.specs.Transitions.Pairs as spec_pairs;
 ghost use Rattle.ltl_spec.specs.Transitions.RowTransitions as spec;
 ghost use Rattle.ltl_alt.specs.declared.rule.Rule as made_rule;
-ghost use Rattle.ltl_alt.specs.GroupView.{AreGroups};
-ghost use Rattle.ltl_alt.specs.PartView.{AreParts, HasRoom};
+ghost use Rattle.ltl_alt.specs.GroupView.{HasGroups};
+ghost use Rattle.ltl_alt.specs.PartView.{HasParts, HasRoom};
 ghost use Rattle.ltl_alt.specs.RowLists.{AreLists};
 ghost use Rattle.ltl_alt.specs.StandIns.{AreOwn};
 ghost use Rattle.ltl_alt.specs.TransitionView.{table_at};
@@ -55,8 +55,8 @@ fn make_room<'a, A: Allocator>(
     state: &RowSet,
 ) -> Result<(), AllocError>
     requires { length parts.old.lists.items ≤ RowSet.LIMIT }
-    ensures parts { OnOk result ((T : spec.Table) → (r : made_rule.Rule) → (own : List (List spec_pairs.Pair)) → AreParts T r own parts.old.made parts.old.owners.items parts.old.lists.items parts.old.demands.items parts.old.links.items → AreParts T r own parts.new.made parts.new.owners.items parts.new.lists.items parts.new.demands.items parts.new.links.items) }
-    ensures groups { OnOk result ((T : spec.Table) → (keep : Bool) → AreGroups T keep parts.old.lists.items groups.old.keys.keys groups.old.lists.items → AreGroups T keep parts.new.lists.items groups.new.keys.keys groups.new.lists.items) }
+    ensures parts { OnOk result ((T : spec.Table) → (r : made_rule.Rule) → (own : List (List spec_pairs.Pair)) → HasParts T r own parts.old → HasParts T r own parts.new) }
+    ensures groups { OnOk result ((T : spec.Table) → (keep : Bool) → HasGroups T keep parts.old groups.old → HasGroups T keep parts.new groups.new) }
     ensures room { OnOk result (HasRoom parts.new.made parts.new.lists.items state.now) }
 {
     let unmade = state.without(&parts.made);
@@ -81,11 +81,11 @@ pub(crate) fn prepare<'a, A: Allocator>(
 ) -> Result<(), AllocError>
     requires lists { AreLists table.now pruning.now.rule rows.old.pairs.items rows.old.sets.items }
     requires own { AreOwn (table_at table.now) pruning.now.own.now }
-    requires parts { AreParts (table_at table.now) pruning.now.rule pruning.now.own.now parts.old.made parts.old.owners.items parts.old.lists.items parts.old.demands.items parts.old.links.items }
+    requires parts { HasParts (table_at table.now) pruning.now.rule pruning.now.own.now parts.old }
     ensures lists { OnOk result (AreLists table.now pruning.now.rule rows.new.pairs.items rows.new.sets.items) }
-    ensures parts { OnOk result (AreParts (table_at table.now) pruning.now.rule pruning.now.own.now parts.new.made parts.new.owners.items parts.new.lists.items parts.new.demands.items parts.new.links.items) }
+    ensures parts { OnOk result (HasParts (table_at table.now) pruning.now.rule pruning.now.own.now parts.new) }
     ensures made { OnOk result ((i : ℕ) → Has state.now i → Has parts.new.made i) }
-    ensures groups { OnOk result ((keep : Bool) → AreGroups (table_at table.now) keep parts.old.lists.items groups.old.keys.keys groups.old.lists.items → AreGroups (table_at table.now) keep parts.new.lists.items groups.new.keys.keys groups.new.lists.items) }
+    ensures groups { OnOk result ((keep : Bool) → HasGroups (table_at table.now) keep parts.old groups.old → HasGroups (table_at table.now) keep parts.new groups.new) }
 {
     make_room(alloc, table, parts, groups, state)?;
     parts.prepare(alloc, table, rows, pruning, state)?;

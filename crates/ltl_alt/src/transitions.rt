@@ -8,14 +8,14 @@ ghost use Rattle.ltl_spec.proofs.Transitions.ApartTests.{own_at};
 ghost use Rattle.ltl_spec.proofs.Transitions.FactorLaws.{AreTakenOut};
 ghost use Rattle.ltl_alt.specs.GroupView.{AreGroups, AreGroupsOf, key_of};
 ghost use Rattle.ltl_alt.specs.PartView.{AreLinked, part_of};
-ghost use Rattle.ltl_alt.specs.ReachView.{IsPrepared};
+ghost use Rattle.ltl_alt.specs.ReachView.{AreReady};
 ghost use Rattle.ltl_alt.specs.StandIns.{AreOwn, rule_of};
 ghost use Rattle.ltl_alt.specs.TransitionView.{table_at};
 
 use crate::groups::Groups;
 use crate::pair_set::PairSet;
 use crate::parts::Parts;
-use crate::product::{all_products, are_more};
+use crate::product::{all_products, combinations};
 use crate::room::prepare;
 use crate::row_lists::RowLists;
 use crate::rule::{Pruning, Rule};
@@ -91,8 +91,8 @@ pub(crate) fn transitions<'a, A: Allocator>(
     state: &RowSet,
     most: usize,
 ) -> Result<Vec<Transition, &'a A>, AltFault>
-    requires prepared { IsPrepared table.now keep_implied rows.old.pairs.items rows.old.sets.items own.now parts.old.made parts.old.owners.items parts.old.lists.items parts.old.demands.items parts.old.links.items groups.old.keys.keys groups.old.lists.items }
-    ensures prepared { OnOk result (IsPrepared table.now keep_implied rows.new.pairs.items rows.new.sets.items own.now parts.new.made parts.new.owners.items parts.new.lists.items parts.new.demands.items parts.new.links.items groups.new.keys.keys groups.new.lists.items) }
+    requires prepared { AreReady table.now keep_implied own.now rows.old parts.old groups.old }
+    ensures prepared { OnOk result (AreReady table.now keep_implied own.now rows.new parts.new groups.new) }
     ensures transitions { IfOk result (λ v. v.items ≡ spec.transitions (table_at table.now) keep_implied state.now) }
     ensures large { IsErrOf result AltFault.TooLarge → most < length (spec.transitions (table_at table.now) keep_implied state.now) }
 {
@@ -105,7 +105,7 @@ pub(crate) fn transitions<'a, A: Allocator>(
     let all = parts.numbers(state);
     let remembered = groups.len();
     let numbers = group_numbers(alloc, table, parts, groups, &pruning, keep_implied, &all)?;
-    if are_more(groups, numbers.as_slice(), most) {
+    if combinations(groups, numbers.as_slice()) > most {
         return Err(AltFault::TooLarge);
     }
     let mut products = all_products(alloc, table, own, groups, numbers.as_slice())?;

@@ -1,6 +1,7 @@
 -- The automaton of a net while it is listed.
-use Rattle.std.proofs.Common.{◌≡◌, ℕ, zero, suc, ◌+◌, ◌<◌, ◌≤◌, Bool, true, inl, inr, List, [], ◌∷◌, ◌++◌, length, map, refl, sym, ◌∙◌, ap, subst, arith, length-append, Some, None}
-use Rattle.std.specs.Prelude.{fold, slice_get, slice_index_or, take, sum_by}
+use Rattle.std.proofs.Common.{◌≡◌, ℕ, zero, suc, ◌+◌, ◌-◌, ◌<◌, ◌≤◌, Bool, true, inl, inr, List, [], ◌∷◌, ◌++◌, length, map, refl, sym, ◌∙◌, ap, subst, arith, length-append, Some, None}
+use Rattle.std.specs.Prelude.{fold, slice_get, slice_index_or, take, drop, sum_by}
+use Rattle.std.proofs.lemmas.List.Sums.{sum_by-cons}
 use Rattle.std.specs.Bool.{Decides}
 use Rattle.std.proofs.lemmas.Option.{get_or_from_slice_get, slice_get_within}
 use Rattle.std.proofs.lemmas.List.{map-append, length-map, get_or-map, get_or-take, length-take-le}
@@ -10,9 +11,9 @@ use Rattle.ltl_spec.specs.Automata.Automaton.{Automaton, Edge, State, state_at}
 use Rattle.ltl_spec.specs.Automata.Listing.{listing, with_targets_of, IsComplete, PassesLimits}
 use Rattle.ltl_spec.proofs.Automata.ListingLaws.{fold_behind}
 use Rattle.ltl_spec.proofs.Automata.ListingReach.{listed_targets}
-use Rattle.ltl_spec.proofs.Automata.CountsLaws.{sum_step, never_passed}
+use Rattle.ltl_spec.proofs.Automata.CountsLaws.{sum_step, listing_later, never_passed}
 use Rattle.ltl_automaton.specs.Listed.{Listed}
-use Rattle.ltl_automaton.specs.Net.{Net, key_of, targets_of, HasArcsOf, lengths_of, edges_in, state_of, IsReachable, IsUnderWay}
+use Rattle.ltl_automaton.specs.Net.{Net, key_of, targets_of, HasArcsOf, lengths_of, edges_behind, edges_in, state_of, IsReachable, IsUnderWay}
 use Rattle.ltl_automaton.specs.SharedView.{with_state}
 use Rattle.ltl_automaton.proofs.NetLaws.{map_agree, state_stays, fold_within}
 
@@ -47,6 +48,26 @@ take_whole (suc n) (x ∷ xs) l = ap (λ l. x ∷ l) (take_whole n xs (omega ari
 -- a thing with the same edges, seen alike
 pub twin_here : {K : Type 0} (M N : Net K) (ks ls : List K) (i : ℕ) (k : K) → M ≡ N → ks ≡ ls → HasArcsOf M ks i k → HasArcsOf N ls i k
 twin_here {K = K} M N ks ls i k p q t = subst (λ (n : Net K). HasArcsOf n ls i k) p (subst (λ xs. HasArcsOf M xs i k) q t)
+
+-- a sum is that of a beginning and of what is behind it
+sum_split : {K : Type 0} (f : K → ℕ) (n : ℕ) (xs : List K) → sum_by f xs ≡ sum_by f (take n xs) + sum_by f (drop n xs)
+sum_split f zero xs = omega arith
+sum_split f (suc n) [] = omega arith
+sum_split f (suc n) (x ∷ xs) = let a = sum_by-cons f x xs in let b = sum_by-cons f x (take n xs) in let rest = sum_split f n xs in omega arith
+
+-- what stands from a place on has the edges of the thing there, and of those behind it
+behind_step : {K : Type 0} (net : Net K) (keys : List K) (n : ℕ) (k : K) → slice_get keys n ≡ Some k → edges_behind net keys n ≡ length (net.arcs k) + edges_behind net keys (suc n)
+behind_step net [] n k e = absurd (never e)
+  where
+    never : None ≡ Some k → ⊥
+    never q = cc
+behind_step net (x ∷ xs) zero k e =
+    let p : x ≡ k = cc in
+    sum_by-cons (λ s. length (targets_of net s)) x xs ∙ ap (λ n. n + edges_behind net xs 0) (length-map (net.arcs x) key_of ∙ ap (λ s. length (net.arcs s)) p)
+behind_step net (x ∷ xs) (suc n) k e = behind_step net xs n k e
+
+pub behind_next : {K : Type 0} (net : Net K) (keys : List K) (n : ℕ) (k : K) → slice_get keys n ≡ Some k → edges_behind net keys n ≡ length (net.arcs k) + edges_behind net keys (n + 1)
+behind_next net keys n k e = let one : suc n ≡ n + 1 = omega arith in behind_step net keys n k e ∙ ap (λ m. length (net.arcs k) + edges_behind net keys m) one
 
 -- there is nothing past the end alone
 past : {K : Type 0} (xs : List K) (n : ℕ) → slice_get xs n ≡ None → length xs ≤ n
@@ -186,6 +207,20 @@ module _ {K : Type 0} (same : K → K → Bool) (decides : (x y : K) → Decides
       -- there are too many states
       pub too_many_states : (most_states most_edges : ℕ) (keys : List K) → keys ≡ next → most_states < length keys → PassesLimits same T start most_states most_edges
       too_many_states ms me keys g p = (suc l.taken, inl (subst (λ (ks : List K). ms < length ks) (g ∙ listed_next) p))
+
+    -- there are too many edges with those of the things that are listed and not yet taken
+    pub too_many_ahead : (most_states most_edges : ℕ) → most_edges < count + edges_behind net l.keys l.taken → PassesLimits same T start most_states most_edges
+    too_many_ahead ms me p =
+        let n = length l.keys in
+        let edges : K → ℕ = λ s. length (T s) in
+        let d : (n - l.taken) + l.taken ≡ n = let b = w.within in omega arith in
+        let later = listing_later same T start l.taken (n - l.taken) in
+        let grown : listing same T start n ≡ l.keys ++ later.0 = ap (listing same T start) (sym d) ∙ later.1 ∙ ap (λ ks. ks ++ later.0) (sym w.listed) in
+        let all : take n (listing same T start n) ≡ l.keys = ap (take n) grown ∙ take_behind n l.keys later.0 (omega arith) ∙ take_whole n l.keys (omega arith) in
+        let sum = ap (sum_by edges) all in
+        let split = sum_split edges l.taken l.keys in
+        let old = w.counted in
+        (n, inr (omega arith))
 
     module _ (f : slice_get l.keys l.taken ≡ None) where
       all : l.taken ≡ length l.keys

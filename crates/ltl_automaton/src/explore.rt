@@ -1,13 +1,17 @@
 //! Automata listed breadth first.
 
-ghost use Rattle.std.specs.Prelude.{◌≡◌, ◌<◌, ◌≤◌, ◌+◌, fold, map, slice_get, Some, length, IfOk, IfSome, OnOk, IsErrOf, if◌then◌else◌};
+ghost use Rattle.std.specs.Prelude.{◌≡◌, ◌<◌, ◌≤◌, ◌+◌, ◌++◌, ◌∷◌, [], fold, map};
+ghost use Rattle.std.specs.Prelude.{slice_get, slice_index_or, Some, length, is_some, IfOk, IfSome, OnOk, IsErrOf, if◌then◌else◌};
 ghost use Rattle.ltl_spec.specs.Collections.Lists.{with_new};
 ghost use Rattle.ltl_spec.specs.Automata.Listing.{PassesLimits};
-ghost use Rattle.ltl_automaton.specs.Net.{edge_in, edges_in, key_of, targets_of, HasArcsOf, IsReachable};
+ghost use Rattle.ltl_automaton.specs.Net.{edge_in, edges_in, key_of, targets_of, with_made};
+ghost use Rattle.ltl_automaton.specs.Net.{edges_behind, AreListed, AreTooMany, HasArcsOf, HasBegun, IsReachable};
 ghost use Rattle.ltl_automaton.specs.Bounds.{IsBounded};
 ghost use Rattle.ltl_automaton.specs.EdgeView.{edge_of};
-ghost use Rattle.ltl_automaton.specs.SharedView.{automaton_of};
+ghost use Rattle.ltl_spec.specs.Automata.Automaton.{state_at};
+ghost use Rattle.ltl_automaton.specs.SharedView.{automaton_of, with_state};
 
+use crate::ahead::are_too_many_ahead;
 use crate::arc::Arc;
 use crate::edge::Edge;
 use crate::fault::AutomatonFault;
@@ -105,6 +109,122 @@ fn known_place<'a, K: Key, S: Successors<K>, A: Allocator>(
     }
 }
 
+/// Makes the state of a thing that has the edges of the one at a place, and answers how many edges there are then.
+fn put_like<'a, A: Allocator>(
+    made: &mut SharedStates<'a, A>,
+    lengths: &mut Vec<usize, &'a A>,
+    place: usize,
+    accepting: bool,
+    count: usize,
+    most: usize,
+) -> Result<usize, AutomatonFault>
+    requires within { place < length lengths.old.items × place < length (automaton_of made.old).states }
+    requires few { count ≤ most }
+    ensures made { IfOk result (λ _. automaton_of made.new ≡ with_state (automaton_of made.old) accepting (state_at (automaton_of made.old) place).edges) }
+    ensures lengths { IfOk result (λ _. lengths.new.items ≡ lengths.old.items ++ slice_index_or lengths.old.items place 0 ∷ []) }
+    ensures sum { IfOk result (λ n. n ≡ count + slice_index_or lengths.old.items place 0) }
+    ensures fits { IfOk result (λ n. n ≤ most) }
+    ensures large { IsErrOf result AutomatonFault.TooLarge → most < count + slice_index_or lengths.old.items place 0 }
+{
+    let length = lengths[place];
+    let count = counted(count, length, most)?;
+    lengths.push(length)?;
+    made.push_like(accepting, place)?;
+    Ok(count)
+}
+
+/// Makes the state of a thing, lists the targets of its edges, and answers how many edges there are then.
+fn put_new<'a, K: Key, S: Successors<K>, A: Allocator>(
+    alloc: &'a A,
+    net: &mut S,
+    listing: &mut Listing<'a, K, A>,
+    made: &mut SharedStates<'a, A>,
+    lengths: &mut Vec<usize, &'a A>,
+    key: &K,
+    sorted: bool,
+    count: usize,
+    limits: Limits,
+) -> Result<usize, AutomatonFault>
+    requires ready { S.ready net.old }
+    requires few { count ≤ limits.edges }
+    ensures net { OnOk result ((S.net net.new ≡ S.net net.old) × S.ready net.new) }
+    ensures listed { OnOk result (AreListed K.eq (S.net net.old) key.now listing.old listing.new × length listing.new.keys ≤ limits.states) }
+    ensures made { IfOk result (λ _. automaton_of made.new ≡ with_made K.eq sorted (S.net net.old) key.now listing.new.keys (automaton_of made.old)) }
+    ensures lengths { IfOk result (λ _. lengths.new.items ≡ lengths.old.items ++ length ((S.net net.old).arcs key.now) ∷ []) }
+    ensures sum { IfOk result (λ n. n ≡ count + length ((S.net net.old).arcs key.now) × n ≤ limits.edges) }
+    ensures large { IsErrOf result AutomatonFault.TooLarge → AreTooMany K.eq (S.net net.old) key.now listing.old count limits.states limits.edges }
+{
+    let arcs = net.arcs(alloc, key, limits.edges - count)?;
+    let count = counted(count, arcs.len(), limits.edges)?;
+    lengths.push(arcs.len())?;
+    let edges = numbered_by(alloc, listing, arcs.as_slice(), sorted, limits.states)?;
+    made.push(net.accepting(key), edges)?;
+    Ok(count)
+}
+
+/// The thing that comes next, which is then taken, unless it is seen that more edges than `most` are to come.
+fn take_next<'a, K: Key, S: Successors<K>, A: Allocator>(
+    net: &mut S,
+    listing: &mut Listing<'a, K, A>,
+    looked: &mut usize,
+    count: usize,
+    most: usize,
+) -> Result<Option<K>, AutomatonFault>
+    requires ready { S.ready net.old }
+    requires few { count ≤ most }
+    ensures next { IfOk result (λ k. k ≡ slice_get listing.old.keys listing.old.taken) }
+    ensures taken { IfOk result (λ k. listing.new.taken ≡ (if is_some k then listing.old.taken + 1 else listing.old.taken)) }
+    ensures keys { listing.new.keys ≡ listing.old.keys }
+    ensures net { OnOk result ((S.net net.new ≡ S.net net.old) × S.ready net.new) }
+    ensures large { IsErrOf result AutomatonFault.TooLarge → most < count + edges_behind (S.net net.old) listing.old.keys listing.old.taken }
+{
+    if are_too_many_ahead(net, listing, looked, count, most)? {
+        return Err(AutomatonFault::TooLarge);
+    }
+    Ok(listing.take())
+}
+
+/// Lists the things that are reached from the start, and makes their states.
+fn explore<'a, K: Key, S: Successors<K>, A: Allocator>(
+    alloc: &'a A,
+    start: K,
+    net: &mut S,
+    listing: &mut Listing<'a, K, A>,
+    made: &mut SharedStates<'a, A>,
+    lengths: &mut Vec<usize, &'a A>,
+    sorted: bool,
+    limits: Limits,
+) -> Result<(), AutomatonFault>
+    requires some { 0 < limits.states }
+    requires ready { S.ready net.old }
+    requires begun { HasBegun listing.old (automaton_of made.old) lengths.old.items }
+    ensures reachable { IfOk result (λ _. IsReachable K.eq sorted (S.net net.old) start (automaton_of made.old).sets (automaton_of made.new)) }
+    ensures bounded { IfOk result (λ _. IsBounded limits.states limits.edges (automaton_of made.new)) }
+    ensures fits { OnOk result (¬ (PassesLimits K.eq (targets_of (S.net net.old)) start limits.states limits.edges)) }
+    ensures large { IsErrOf result AutomatonFault.TooLarge → PassesLimits K.eq (targets_of (S.net net.old)) start limits.states limits.edges }
+{
+    listing.number(start)?;
+    let mut count = 0usize;
+    let mut looked = 0usize;
+    'things: while let Some(key) = take_next(net, listing, &mut looked, count, limits.edges)? {
+        if let Some(place) = known_place(net, listing, &key, made.len())? {
+            count = put_like(
+                made,
+                lengths,
+                place,
+                net.accepting(&key),
+                count,
+                limits.edges,
+            )?;
+        } else {
+            count = put_new(
+                alloc, net, listing, made, lengths, &key, sorted, count, limits,
+            )?;
+        }
+    }
+    Ok(())
+}
+
 /// The automaton of the things that are reached from the start, which is state 0. The edges of a state stand as they come, or sorted and
 /// distinct if this is asked.
 pub fn explore_from<'a, K: Key, S: Successors<K>, A: Allocator>(
@@ -124,23 +244,18 @@ pub fn explore_from<'a, K: Key, S: Successors<K>, A: Allocator>(
     ensures fits { OnOk result (¬ (PassesLimits K.eq (targets_of (S.net net.old)) start limits.states limits.edges)) }
     ensures large { IsErrOf result AutomatonFault.TooLarge → PassesLimits K.eq (targets_of (S.net net.old)) start limits.states limits.edges }
 {
-    let mut listing = Listing::new(alloc, start)?;
+    let mut listing = Listing::new(alloc);
     let mut made = SharedStates::new(alloc, sets);
     let mut lengths = Vec::new(alloc);
-    let mut count = 0usize;
-    'things: while let Some(key) = listing.take() {
-        if let Some(place) = known_place(net, &listing, &key, made.len())? {
-            let length = lengths[place];
-            count = counted(count, length, limits.edges)?;
-            lengths.push(length)?;
-            made.push_like(net.accepting(&key), place)?;
-        } else {
-            let arcs = net.arcs(alloc, &key, limits.edges - count)?;
-            count = counted(count, arcs.len(), limits.edges)?;
-            lengths.push(arcs.len())?;
-            let edges = numbered_by(alloc, &mut listing, arcs.as_slice(), sorted, limits.states)?;
-            made.push(net.accepting(&key), edges)?;
-        }
-    }
+    explore(
+        alloc,
+        start,
+        net,
+        &mut listing,
+        &mut made,
+        &mut lengths,
+        sorted,
+        limits,
+    )?;
     Ok(made)
 }

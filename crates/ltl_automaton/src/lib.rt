@@ -8,7 +8,8 @@
 //! level, whether it accepts, and its `Arc`s, which are edges to things that have no numbers yet; a `Listing`, which numbers things as they are met;
 //! `explore_from`, which takes one after the other until none is left or a limit is passed: a `SharedStates`. A thing whose twin was taken, one with
 //! the same edges, gets the list that is there, and its edges aren't made again. So sets of rows are listed in `ltl_alt`, and in `ltl_buchi` copies
-//! on levels and, to number them anew, the states of an automaton that stands.
+//! on levels and, to number them anew, the states of an automaton that stands. Where many things wait that have many edges, the listing looks ahead
+//! (`ahead`): what these have at least, as far as `Successors` knows, is added to the edges there are, and too many are refused before they are made.
 //!
 //! The generalized automaton of `[]<>p` is listed from the set of the root alone; from there `p` leads back to it, in set 0, and every letter to the
 //! root with `<>p` put off, whose edges are the same:
@@ -19,6 +20,7 @@
 //! ```
 #![tactic(auto)]
 
+mod ahead;
 pub mod arc;
 pub mod distinct;
 pub mod edge;

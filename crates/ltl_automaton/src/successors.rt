@@ -1,6 +1,6 @@
 //! What leads on from a thing that is listed.
 
-ghost use Rattle.std.specs.Prelude.{◌≡◌, ◌<◌, length, IfOk, IfSome, OnOk, IsErrOf};
+ghost use Rattle.std.specs.Prelude.{◌≡◌, ◌<◌, ◌≤◌, length, IfOk, IfSome, OnOk, IsErrOf};
 ghost use Rattle.ltl_automaton.specs.Net.{Net};
 
 use crate::arc::Arc;
@@ -23,6 +23,13 @@ pub trait Successors<K: Key> {
     fn twin(&mut self, key: &K) -> Result<Option<K>, AllocError>
         requires { ready self.old }
         ensures twin { IfOk result (λ t. IfSome t (λ k. (net self.old).arcs k ≡ (net self.old).arcs key.now)) }
+        ensures same { OnOk result (net self.new ≡ net self.old) }
+        ensures ready { OnOk result (ready self.new) };
+
+    /// So many edges the state of a thing has at least, as far as this is known without making them; else 0.
+    fn edges_at_least(&mut self, key: &K) -> Result<usize, AllocError>
+        requires { ready self.old }
+        ensures least { IfOk result (λ n. n ≤ length ((net self.old).arcs key.now)) }
         ensures same { OnOk result (net self.new ≡ net self.old) }
         ensures ready { OnOk result (ready self.new) };
 

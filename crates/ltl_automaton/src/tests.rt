@@ -56,6 +56,10 @@ impl Successors<usize> for Two {
         Ok(Some(0))
     }
 
+    fn edges_at_least(&mut self, _key: &usize) -> Result<usize, AllocError> {
+        Ok(2)
+    }
+
     fn arcs<'a, A: Allocator>(
         &mut self,
         alloc: &'a A,

@@ -1,4 +1,5 @@
 pub mod AskedLaws
+pub mod ChainLaws
 pub mod ClassLaws
 pub mod CodeLaws
 pub mod CopyLaws

@@ -11,7 +11,9 @@ use Rattle.ltl_spec.specs.Collections.Lists.{place_of}
 use Rattle.ltl_spec.proofs.Collections.SetLaws.{append_cases, append_left, append_right, same_members, set_of_alike, set_of_cases, Has-set_of, IsRising-set_of, all_at, all_from}
 use Rattle.ltl_spec.proofs.Collections.Orders.{nat_linear}
 use Rattle.ltl_spec.proofs.Collections.CaseLaws.{below_equal_above}
-use Rattle.ltl_spec.proofs.Collections.ListLaws.{Has-at, All-from_has}
+use Rattle.ltl_spec.proofs.Collections.ListLaws.{Has-at, All-from_has, place_below}
+use Rattle.ltl_spec.proofs.Collections.MemberLaws.{map_cases}
+use Rattle.ltl_spec.proofs.Collections.SumLaws.{set_of_length}
 use Rattle.ltl_automaton.proofs.NetLaws.{map_agree, place_kept, took}
 use Rattle.ltl_automaton.proofs.WayLaws.{Has_taken_at}
 use Rattle.ltl_buchi.specs.Classes.{number_in, IsNumbering, AreNames}
@@ -42,6 +44,15 @@ rising_push (y ∷ ys) x r l = (
 module _ (names classes numbers : List ℕ) (w : IsNumbering names classes numbers) where
   has_name : (c : ℕ) → Has names c → Has classes c
   has_name c h = subst (λ cs. Has cs c) (sym w.listed) (Has-set_of nat_linear names c h)
+
+  -- the numbers are below the count of the names
+  pub numbers_within : All (λ k. k < length names) numbers
+  numbers_within = subst (All (λ k. k < length names)) (sym w.numbered) (All-from_has (λ k. k < length names) (map (number_in classes) names) (λ k h.
+      let (c, i, e) = map_cases (number_in classes) names k h in
+      let a : number_in classes c < length classes = place_below ◌==◌ Decides-eqb c classes (has_name c i) in
+      let b = ap length w.listed in
+      let d = set_of_length nat_cmp names in
+      omega (arith, e, a, b, d)))
 
   name_of : (c : ℕ) → Has classes c → Has names c
   name_of c h = set_of_cases nat_linear names c (subst (λ cs. Has cs c) w.listed h)

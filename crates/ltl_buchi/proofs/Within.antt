@@ -1,7 +1,11 @@
 -- What holds of all targets.
 use Rattle.std.proofs.Common.{◌≡◌, ℕ, zero, suc, refl, ◌+◌, ◌<◌, true, inl, inr, List, [], ◌∷◌, ◌++◌, length, map, sym, ap, subst, arith, length-append, ◌∙◌}
-use Rattle.ltl_spec.proofs.Collections.ListLaws.{All-at_has}
-use Rattle.std.specs.Prelude.{slice_index_or, All}
+use Rattle.ltl_spec.proofs.Collections.ListLaws.{All-at_has, All-from_has}
+use Rattle.ltl_spec.proofs.Collections.MemberLaws.{map_cases}
+use Rattle.ltl_spec.proofs.Collections.Orders.{edge_linear}
+use Rattle.ltl_spec.proofs.Collections.SetLaws.{set_of_cases}
+use Rattle.ltl_spec.specs.Construction.Merging.{retargeted_edge}
+use Rattle.std.specs.Prelude.{slice_index, slice_index_or, All}
 use Rattle.std.proofs.lemmas.List.{get_or_past}
 use Rattle.std.proofs.lemmas.List.Elements.{All-cons, All-head, All-tail, All-get_or, All-nil}
 use Rattle.std.proofs.lemmas.Bool.{cases_lt}
@@ -11,7 +15,7 @@ use Rattle.ltl_spec.proofs.Automata.ListedStates.{no_state}
 use Rattle.ltl_automaton.specs.EdgeView.{edge_of}
 use Rattle.ltl_automaton.specs.declared.edge.Edge as code
 use Rattle.ltl_buchi.specs.BaView as ba
-use Rattle.ltl_buchi.specs.Classes.{IsWithinStates}
+use Rattle.ltl_buchi.specs.Classes.{IsWithinStates, retargeted_list}
 
 -- a function's values have it where each element's has
 pub All_from_map : {X Y : Type 0} (P : Y → Type 0) (f : X → Y) (xs : List X) → All P (map f xs) → All (λ x. P (f x)) xs
@@ -64,3 +68,14 @@ plain_edges (x ∷ xs) a =
     let here = All-head (λ (e : Edge). e.marks ≡ []) (edge_of x) (map edge_of xs) a in
     let rest = plain_edges xs (All-tail (λ (e : Edge). e.marks ≡ []) (edge_of x) (map edge_of xs) a) in
     λ i. (let e : Edge = record { cube = x.cube; target = x.target; marks = sym here i } in e) ∷ rest i
+
+-- edges lead to numbers where their targets have these
+pub retargeted_within : (numbers : List ℕ) (n : ℕ) (edges made : List code.Edge) → All (λ e. e.target < length numbers) edges → All (λ k. k < n) numbers → map edge_of made ≡ retargeted_list (slice_index numbers) (map edge_of edges)
+    → All (λ e. e.target < n) made
+retargeted_within numbers n edges made w h e =
+    let P : Edge → Type 0 = λ f. f.target < n in
+    All_from_map P edge_of made (subst (All P) (sym e) (All-from_has P (retargeted_list (slice_index numbers) (map edge_of edges)) (λ f k.
+    let (g, i, c) = map_cases (retargeted_edge (slice_index numbers)) (map edge_of edges) f (set_of_cases edge_linear (map (retargeted_edge (slice_index numbers)) (map edge_of edges)) f k) in
+    let (x, j, d) = map_cases edge_of edges g i in
+    let l : g.target < length numbers = subst (λ (y : Edge). y.target < length numbers) (sym d) (All-at_has (λ (y : code.Edge). y.target < length numbers) edges w x j) in
+    subst P (sym c) (h g.target 0 l))))

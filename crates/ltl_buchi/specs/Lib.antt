@@ -1,5 +1,6 @@
 pub mod Asked
 pub mod BaView
+pub mod Chains
 pub mod Classes
 pub mod CopyCodes
 pub mod Copies

@@ -240,6 +240,10 @@ impl<'b, 'g, 'a, A: Allocator> Successors<Copied> for Copies<'b, 'g, 'a, A> {
         }
     }
 
+    fn edges_at_least(&mut self, _key: &Copied) -> Result<usize, AllocError> {
+        Ok(0)
+    }
+
     #[tactic(auto, using(crate::proofs::CopyLaws::no_arcs_past, crate::proofs::CopyLaws::made_arcs))]
     fn arcs<'c, B: Allocator>(
         &mut self,

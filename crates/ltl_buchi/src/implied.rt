@@ -1,10 +1,11 @@
 //! Edges that others imply.
 
-ghost use Rattle.std.specs.Prelude.{◌≡◌, map, IfOk, true};
+ghost use Rattle.std.specs.Prelude.{◌≡◌, ◌<◌, length, map, All, IfOk, true};
 ghost use Rattle.ltl_spec.specs.Construction.Merging as merging;
 ghost use Rattle.ltl_automaton.specs.EdgeView.{edge_of};
 ghost use Rattle.ltl_buchi.specs.Asked.{AreAsked, AreOfWeight, IsAsked, IsOfWeight};
 
+use crate::chains::{are_unimplied, linked, unimplied_of_few};
 use least::{Below, Counting, Lookup};
 use ltl_alt::elements::{LITERALS, count, has_literal, tally_literals};
 use ltl_automaton::Edge;
@@ -153,8 +154,8 @@ fn are_of_one_weight(edges: &[Edge]) -> bool
     true
 }
 
-/// The edges without those that another one with the same target implies.
-pub(crate) fn unimplied<'a, A: Allocator>(
+/// The edges without those that another one with the same target implies, by one look for each among all of them.
+fn unimplied_of_many<'a, A: Allocator>(
     alloc: &'a A,
     edges: &[Edge],
 ) -> Result<Vec<Edge, &'a A>, AllocError>
@@ -177,4 +178,24 @@ pub(crate) fn unimplied<'a, A: Allocator>(
     }
     let exact = Vec::from_slice(alloc, kept.as_slice())?;
     Ok(exact)
+}
+
+/// The edges without those that another one with the same target implies. The heads are room for the latest edge to each target.
+pub(crate) fn unimplied<'a, A: Allocator>(
+    alloc: &'a A,
+    edges: Vec<Edge, &'a A>,
+    heads: &mut [usize],
+) -> Result<Vec<Edge, &'a A>, AllocError>
+    requires within { All (λ e. e.target < length heads.old) edges.items }
+    ensures wide { length heads.new ≡ length heads.old }
+    ensures edges { IfOk result (λ es. map edge_of es.items ≡ merging.unimplied_edges (map edge_of edges.entry.items)) }
+{
+    let links = linked(alloc, edges.as_slice(), heads)?;
+    if are_unimplied(edges.as_slice(), heads, links.as_slice()) {
+        return Ok(edges);
+    }
+    match unimplied_of_few(alloc, edges.as_slice(), heads, links.as_slice())? {
+        Some(kept) => Ok(kept),
+        None => unimplied_of_many(alloc, edges.as_slice()),
+    }
 }

@@ -5,7 +5,8 @@
 //! table of rows to a Büchi automaton (`translate`) or, without levels, to a generalized one (`generalized`).
 //!
 //! What flows: a `Table`, by `ltl_alt` a `Gba`, merged; its copies on levels, a `Ba` whose accepting states are those of the last level; merged again
-//! and numbered. Each automaton is let go as soon as the next one stands. A `Gen` is a merged `Gba` in the numbers in which it is printed.
+//! and numbered. Implied edges are sought along chains of edges with one target (`chains`), and by an index where these are long (`implied`). Each
+//! automaton is let go as soon as the next one stands. A `Gen` is a merged `Gba` in the numbers in which it is printed.
 //!
 //! ```
 //! let formula = ltl_formula::read(&alloc, b"[]<>p")?;
@@ -19,6 +20,7 @@
 #![tactic(auto)]
 
 pub mod automaton;
+mod chains;
 mod classes;
 pub mod copies;
 pub mod fault;

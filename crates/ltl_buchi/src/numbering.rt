@@ -71,6 +71,10 @@ impl<'b, 's, 'a, A: Allocator> Successors<usize> for Numbers<'b, 's, 'a, A> {
         Ok(None)
     }
 
+    fn edges_at_least(&mut self, _key: &usize) -> Result<usize, AllocError> {
+        Ok(0)
+    }
+
     #[tactic(auto, using(crate::proofs::RenumberLaws::no_arcs_past))]
     fn arcs<'c, B: Allocator>(
         &mut self,

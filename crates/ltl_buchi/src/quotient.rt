@@ -9,7 +9,11 @@ ghost use Rattle.ltl_buchi.specs.Classes.{AreNames, IsNumbering, IsWithinStates,
 use crate::implied::unimplied;
 use crate::retargeting::retargeted;
 use ltl_automaton::{Edge, SharedStates};
+use smallvec::SmallVec;
 use std::alloc::{AllocError, Allocator};
+
+/// Places of edges. Small automata have few classes.
+type Heads<'a, A> = SmallVec<usize, 8, &'a A>;
 
 /// The names of the classes, rising, and the number of each state's class.
 #[derive(Drop)]
@@ -41,21 +45,24 @@ fn number_classes<'a, A: Allocator>(
     Ok(Numbering { classes, numbers })
 }
 
-/// The edges of a class, from those of the state that names it.
+/// The edges of a class, from those of the state that names it. The heads are room for the latest edge to each class.
 fn class_edges<'a, A: Allocator>(
     alloc: &'a A,
     edges: &[Edge],
     numbers: &[usize],
     keep_implied: bool,
+    heads: &mut [usize],
 ) -> Result<Vec<Edge, &'a A>, AllocError>
     requires within { All (λ e. e.target < length numbers.now) edges.now }
-    ensures { IfOk result (λ es. map edge_of es.items ≡ thinned keep_implied (retargeted_list (slice_index numbers.now) (map edge_of edges.now))) }
+    requires heads { All (λ n. n < length heads.old) numbers.now }
+    ensures wide { length heads.new ≡ length heads.old }
+    ensures edges { IfOk result (λ es. map edge_of es.items ≡ thinned keep_implied (retargeted_list (slice_index numbers.now) (map edge_of edges.now))) }
 {
     let made = retargeted(alloc, edges, numbers)?;
     if keep_implied {
         return Ok(made);
     }
-    unimplied(alloc, made.as_slice())
+    unimplied(alloc, made, heads)
 }
 
 /// The automaton of the classes, in the order of the classes' names.
@@ -72,9 +79,17 @@ pub(crate) fn quotient<'a, A: Allocator>(
 {
     let numbering = number_classes(alloc, names)?;
     let mut made = SharedStates::new(alloc, states.sets());
+    let mut heads: Heads<'a, A> = SmallVec::new(alloc);
+    heads.resize(names.len(), 0)?;
     for class in numbering.classes.as_slice() {
         let numbers = numbering.numbers.as_slice();
-        let edges = class_edges(alloc, states.edges(*class), numbers, keep_implied)?;
+        let edges = class_edges(
+            alloc,
+            states.edges(*class),
+            numbers,
+            keep_implied,
+            heads.as_mut_slice(),
+        )?;
         made.push(states.accepting(*class), edges)?;
     }
     Ok(made)

@@ -18,7 +18,7 @@ use Rattle.ltl_spec.specs.Checking.Bounds.{HasNamesBelow}
 use Rattle.ltl_spec.specs.Tools.Limits.{stated_limits}
 use Rattle.ltl_spec.specs.Tools.Refusal as spec
 use Rattle.ltl_spec.specs.Tools.Outcome.{Then}
-use Rattle.ltl_spec.specs.Tools.Programs.{Layout, Claim, Hoa, Generalized, KeepsRows, Translates, TranslatesGeneralized, Prints}
+use Rattle.ltl_spec.specs.Tools.Programs.{Layout, Claim, Hoa, Generalized, KeepsRows, Translates, TranslatesGeneralized}
 use Rattle.ltl_spec.proofs.Collections.MemberLaws.{map_length}
 use Rattle.ltl_spec.proofs.NormalForms.SharedNodes.{trees_length}
 use Rattle.ltl_formula.specs.GraphView.{node_of}

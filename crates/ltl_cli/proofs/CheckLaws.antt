@@ -1,27 +1,23 @@
 -- What a run of the checker shows.
-use Rattle.std.proofs.Common.{◌≡◌, ◌∙◌, ap, sym, subst, refl, ℕ, ◌+◌, ◌≤◌, ◌<◌, Bool, true, false, cond, nat_lt, length, inl, inr, ◌⊎◌, List, [], Option, Some, None, arith}
+use Rattle.std.proofs.Common.{◌≡◌, sym, subst, refl, ℕ, ◌+◌, ◌≤◌, ◌<◌, Bool, true, false, cond, nat_lt, length, inl, inr, ◌⊎◌, List, [], Option, Some, None, arith}
 use Rattle.std.proofs.KnownBytes.{Keeps-refl}
 use Rattle.std.specs.Prelude.{IfSome, Result, Ok, Err, ⊤}
 use Rattle.std.specs.Io.KnownBytes.{Appends}
 use Rattle.ltl_spec.specs.Formulas.Formula.{Reading}
-use Rattle.ltl_spec.specs.Formulas.Grammar.{IsTextOf}
 use Rattle.ltl_spec.specs.Formulas.Names.{unified}
-use Rattle.ltl_spec.specs.Formulas.Tokens.{tokens}
 use Rattle.ltl_spec.specs.Semantics.Word.{Name, Lasso}
 use Rattle.ltl_spec.specs.Semantics.Language.{AcceptsViolations}
 use Rattle.ltl_spec.specs.NormalForms.Normal.{Normal}
 use Rattle.ltl_spec.specs.NormalForms.NormalForm.{core}
 use Rattle.ltl_spec.specs.Automata.Automaton.{Automaton}
 use Rattle.ltl_spec.specs.Construction.Translation.{IsTranslation}
-use Rattle.ltl_spec.specs.Hoa.HoaReading.{MarkedAutomaton, HoaReadsWithin, stated_form}
-use Rattle.ltl_spec.specs.Checking.Check.{Verdict, Contained, Violated, IsVerdict, IsCommon, IsViolation, IsContained, product_size}
+use Rattle.ltl_spec.specs.Hoa.HoaReading.{MarkedAutomaton, stated_form}
+use Rattle.ltl_spec.specs.Checking.Check.{Verdict, Contained, Violated, IsVerdict, IsCommon, IsViolation, product_size}
 use Rattle.ltl_spec.specs.Tools.Limits.{stated_limits}
 use Rattle.ltl_spec.specs.Tools.Refusal as spec
 use Rattle.ltl_spec.specs.Tools.Outcome as outcome
 use Rattle.ltl_spec.specs.Tools.Outcome.{Answer, Input, Then, IsPromised, refused}
 use Rattle.ltl_spec.specs.Tools.Programs.{CheckerFinds, CheckerPlan, InputReads, Judges, KeepsRows, ReadsHoa, Translates, plain_options, verdict_answer}
-use Rattle.ltl_spec.proofs.Formulas.BeginningLaws.{reads_once}
-use Rattle.ltl_spec.proofs.Hoa.HoaUniqueLaws.{one_automaton}
 use Rattle.ltl_spec.proofs.Semantics.LanguageLaws.{translation_violations}
 use Rattle.ltl_formula.specs.FormulaView.{FormulaView, reading_of}
 use Rattle.ltl_formula.specs.Streams.{AppendsBeginning}

@@ -1,21 +1,16 @@
 -- What a run of the evaluator shows.
-use Rattle.std.proofs.Common.{◌≡◌, ◌∙◌, ap, sym, subst, refl, ℕ, ◌≤◌, Bool, true, false, inl, inr, List, [], Option, Some, None, arith}
+use Rattle.std.proofs.Common.{◌≡◌, sym, subst, refl, ℕ, ◌≤◌, Bool, true, false, inl, inr, List, [], Option, Some, None}
 use Rattle.std.proofs.KnownBytes.{Keeps-refl}
-use Rattle.std.specs.Prelude.{Result, Ok, Err, ⊤, option_map, ◌↔◌}
+use Rattle.std.specs.Prelude.{Result, Ok, Err, ⊤, option_map}
 use Rattle.std.specs.Bool.{Decides}
 use Rattle.std.specs.Io.KnownBytes.{Appends}
 use Rattle.ltl_spec.specs.Semantics.Word.{Lasso}
 use Rattle.ltl_spec.specs.Semantics.Satisfaction.{Satisfies}
 use Rattle.ltl_spec.specs.Formulas.Formula.{Reading}
-use Rattle.ltl_spec.specs.Formulas.Grammar.{IsTextOf}
-use Rattle.ltl_spec.specs.Words.LassoText.{IsLassoText}
 use Rattle.ltl_spec.specs.Tools.Limits.{stated_limits}
 use Rattle.ltl_spec.specs.Tools.Refusal as spec
 use Rattle.ltl_spec.specs.Tools.Outcome as outcome
-use Rattle.ltl_spec.specs.Formulas.Tokens.{tokens}
 use Rattle.ltl_spec.specs.Tools.Outcome.{Answer, Input, Then, TakesNoMemory, IsPromised, refused, printed}
-use Rattle.ltl_spec.proofs.Formulas.BeginningLaws.{reads_once}
-use Rattle.ltl_spec.proofs.Words.LassoTextLaws.{one_word}
 use Rattle.ltl_spec.specs.Tools.Programs.{EvaluatorPlan, EvaluatorFinds, Evaluates, InputReads, ReadsWord, truth_answer}
 use Rattle.ltl_formula.specs.FormulaView.{FormulaView, reading_of}
 use Rattle.ltl_formula.specs.Streams.{AppendsBeginning}

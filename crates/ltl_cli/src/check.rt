@@ -1,6 +1,6 @@
 //! The checker: whether each word that an automaton accepts satisfies a formula.
 
-ghost use Rattle.std.specs.Prelude.{◌≡◌, ◌<◌, ◌++◌, length, codes, OnOk, OnErr, IfOk, Some};
+ghost use Rattle.std.specs.Prelude.{◌≡◌, ◌<◌, ◌++◌, length, codes, OnOk, OnErr, IfOk, Ok, Some};
 ghost use Rattle.std.specs.Io.KnownBytes.{Appends};
 ghost use Rattle.ltl_spec.specs.Automata.ClaimText.{line};
 ghost use Rattle.ltl_spec.specs.Words.LassoText.{lasso_text};
@@ -10,6 +10,7 @@ ghost use Rattle.ltl_spec.specs.Tools.Outcome as spec;
 ghost use Rattle.ltl_formula.specs.FormulaView.{reading_of};
 ghost use Rattle.ltl_formula.specs.Streams.{AppendsBeginning};
 ghost use Rattle.ltl_check.specs.VerdictView.{verdict_of};
+ghost use Rattle.ltl_cli.specs.declared.request.Plan as asked;
 ghost use Rattle.ltl_cli.specs.Inputs.{IsInputOf};
 ghost use Rattle.ltl_cli.specs.Refusals.{Takes, status_number};
 ghost use Rattle.ltl_cli.specs.Runs.{Shows};
@@ -90,6 +91,24 @@ fn judged<'a, A: Allocator>(
     Ok(verdict)
 }
 
+/// The verdict on the formula of a negation and on the automaton that the source gives.
+fn found_by<'a, A: Allocator, S: Read>(
+    alloc: &'a A,
+    negation: &Negation<'a, A>,
+    source: &mut Source<S>,
+) -> Result<Verdict<'a, A>, Refusal>
+    requires named { HasNamesBelow (length negation.now.formula.names) negation.now.violations }
+    requires language { AcceptsViolations negation.now.violations (reading_of negation.now.formula).formula }
+    ensures { (file : spec.Input) × IsInputOf S.remaining source.old file × ((plan : asked.Plan) (input : spec.Input)
+        → IsNegated plan input (λ t. reading_of t.formula) (λ t. t.violations) (Ok negation.now)
+        → IsChecked plan input file (λ v. verdict_of v.outcome) result) }
+{
+    let automaton = read_automaton(alloc, source)?;
+    let verdict = judged(alloc, &automaton, negation);
+    drop(automaton);
+    verdict
+}
+
 /// The verdict on the formula that the plan asks for and on the automaton. The automaton's source is looked at behind the formula's automaton.
 fn found<'a, A: Allocator, R: Read, S: Read>(
     alloc: &'a A,
@@ -101,8 +120,9 @@ fn found<'a, A: Allocator, R: Read, S: Read>(
         × IsChecked plan.now input file (λ v. verdict_of v.outcome) result }
 {
     let negation = negated(alloc, plan, source)?;
-    let automaton = read_automaton(alloc, automaton)?;
-    judged(alloc, &automaton, &negation)
+    let verdict = found_by(alloc, &negation, automaton);
+    drop(negation);
+    verdict
 }
 
 /// Writes the lines for a word.
@@ -159,8 +179,11 @@ fn printed<A: Allocator, R: Read, S: Read, W: Write>(
         × CheckOutcome plan.now input file (W.contents output.old) (W.contents output.new) result }
 {
     let verdict = found(alloc, plan, source, automaton)?;
-    print(verdict.outcome(), output)?;
-    Ok(status_of(verdict.outcome()))
+    let printed = print(verdict.outcome(), output);
+    let status = status_of(verdict.outcome());
+    drop(verdict);
+    printed?;
+    Ok(status)
 }
 
 /// Prints what the plan asks for, where there is one.

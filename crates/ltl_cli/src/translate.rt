@@ -86,7 +86,9 @@ fn printed<A: Allocator, R: Read, W: Write>(
         × PlanOutcome plan.now input (W.contents output.old) (W.contents output.new) result }
 {
     let translated = translated(alloc, plan, source)?;
-    print(&translated, output)?;
+    let printed = print(&translated, output);
+    drop(translated);
+    printed?;
     Ok(Status::Done)
 }
 

@@ -1,6 +1,6 @@
 -- Joins of two lists of cubes, parted by whether cubes have some literals.
 use Rattle.std.proofs.Common.{◌≡◌, ◌<◌, ◌⊎◌, Bool, true, false, cond, inl, inr, List, [], ◌∷◌, ◌++◌, length, Some, None, refl, sym, ◌∙◌, ap, subst, arith}
-use Rattle.std.specs.Prelude.{flat_map, filter_map, if◌then◌else◌, IfOk, Result, Ok, Err}
+use Rattle.std.specs.Prelude.{flat_map, filter_map, if◌then◌else◌, IfOk, OnOk, Result, Ok, Err}
 use Rattle.std.specs.List.{cons_option}
 use Rattle.std.proofs.lemmas.List.Elements.{filter_map-append}
 use Rattle.std.specs.Bool.{beq}
@@ -285,15 +285,11 @@ parted_by q xs ys with without made widened-left right-with right-without more w
 popped : {X : Type 0} (old new : List X) (s : X) (f : X → List Cube) → old ≡ new ++ s ∷ [] → flat_map f old ≡ flat_map f new ++ f s
 popped old new s f e = ap (flat_map f) e ∙ flat_map-append f new (s ∷ []) ∙ ap (λ l. flat_map f new ++ l) (append-nil (f s))
 
-pub pushed : {X : Type 0} (f : X → List Cube) (before first second third : List X) (a b c : X) (whole : List Cube)
-    → first ≡ before ++ a ∷ [] → second ≡ first ++ b ∷ [] → third ≡ second ++ c ∷ []
-    → set_of cube_cmp (f a ++ (f b ++ f c)) ≡ set_of cube_cmp whole → set_of cube_cmp (flat_map f third) ≡ set_of cube_cmp (flat_map f before ++ whole)
-pushed f before first second third a b c whole p q r e =
-    let start = flat_map f before in
-    ap (set_of cube_cmp)
-    (popped third second c f r ∙ ap (λ l. l ++ f c) (popped second first b f q ∙ ap (λ l. l ++ f b) (popped first before a f p))
-    ∙ append_assoc (start ++ f a) (f b) (f c) ∙ append_assoc start (f a) (f b ++ f c))
-    ∙ set_behind start (f a ++ (f b ++ f c)) whole e
+-- parts of a whole wait behind what waited before
+pub part_waits : {X A E : Type 0} (f : X → List Cube) (r : Result A E) (new old : List X) (parts whole : List Cube) → set_of cube_cmp parts ≡ set_of cube_cmp whole
+    → OnOk r (set_of cube_cmp (flat_map f new) ≡ set_of cube_cmp (flat_map f old ++ parts)) → OnOk r (set_of cube_cmp (flat_map f new) ≡ set_of cube_cmp (flat_map f old ++ whole))
+part_waits f (Ok x) new old parts whole e h = h ∙ set_behind (flat_map f old) parts whole e
+part_waits f (Err x) new old parts whole e h = tt
 
 swapped : (xs ys zs : List Cube) → set_of cube_cmp ((xs ++ ys) ++ zs) ≡ set_of cube_cmp (xs ++ (zs ++ ys))
 swapped xs ys zs =

@@ -1,7 +1,7 @@
 //! Joins of two sets of cubes. Large sets are parted by literals, so that most cubes that contradict each other, or that make what others
 //! make, are never joined.
 
-ghost use Rattle.std.specs.Prelude.{◌≡◌, ◌++◌, ◌+◌, length, flat_map, filter_map, IfOk, OnOk, option_map};
+ghost use Rattle.std.specs.Prelude.{◌≡◌, ◌++◌, ◌+◌, length, flat_map, filter_map, IfOk, OnOk, option_map, true, false};
 ghost use Rattle.std.specs.Bool.{beq};
 ghost use Rattle.std.specs.List.{filter};
 ghost use Rattle.ltl_spec.specs.Collections.Sets as spec_sets;
@@ -147,6 +147,88 @@ fn cubes_rise(cubes: &[Cube])
     }
 }
 
+/// A side, parted by some literals: the cubes that have them all, those that don't, and what those join to with the literals and isn't among the
+/// first.
+#[derive(Drop)]
+struct Parted<'a, A: Allocator> {
+    with: CubeList<'a, A>,
+    without: CubeList<'a, A>,
+    made: CubeList<'a, A>,
+}
+
+/// The side of these cubes, parted by these literals.
+fn side_by<'a, A: Allocator>(
+    alloc: &'a A,
+    cubes: &[Cube],
+    literals: &Cube,
+) -> Result<Parted<'a, A>, AllocError>
+    ensures with { IfOk result (λ p. p.with.items ≡ filter (λ c. beq (spec_sets.is_subset spec_cubes.literal_cmp literals.now c) true) cubes.now) }
+    ensures without { IfOk result (λ p. p.without.items ≡ filter (λ c. beq (spec_sets.is_subset spec_cubes.literal_cmp literals.now c) false) cubes.now) }
+    ensures made { IfOk result (λ p. SameCubes (p.with.items ++ p.made.items)
+        (p.with.items ++ filter_map (λ c. spec_cubes.join_cubes c literals.now) p.without.items)) }
+{
+    let with = having(alloc, cubes, literals, true)?;
+    let without = having(alloc, cubes, literals, false)?;
+    let made = widened(alloc, without.as_slice(), literals, with.as_slice())?;
+    Ok(Parted {
+        with,
+        without,
+        made,
+    })
+}
+
+/// The cubes of a side that have the literals and those that were made, each once.
+fn all_with<'a, A: Allocator>(
+    alloc: &'a A,
+    side: &Parted<'_, A>,
+) -> Result<CubeList<'a, A>, AllocError>
+    ensures { IfOk result (λ r. r.items ≡ spec_sets.set_of spec_cubes.cube_cmp (side.now.with.items ++ side.now.made.items)) }
+{
+    let mut all = SmallVec::new(alloc);
+    all.extend_from_slice(side.with.as_slice())?;
+    all.extend_from_slice(side.made.as_slice())?;
+    make_distinct(&mut all);
+    Ok(all)
+}
+
+/// Lets what lacks the literals on both sides wait, then what was made on the left and what has them on the right, then what has them on the left
+/// and all of the right.
+fn put_waiting<'a, A: Allocator>(
+    waiting: &mut Vec<Sides<'a, A>, &'a A>,
+    left: Parted<'a, A>,
+    right: Parted<'a, A>,
+    right_all: CubeList<'a, A>,
+) -> Result<(), AllocError>
+    ensures joins { OnOk result (SameCubes (flat_map (λ s. joins s.left.items s.right.items) waiting.new.items)
+        (flat_map (λ s. joins s.left.items s.right.items) waiting.old.items ++ (joins left.entry.without.items right.entry.without.items
+        ++ (joins left.entry.made.items right.entry.with.items ++ joins left.entry.with.items right_all.entry.items)))) }
+    ensures three { OnOk result (length waiting.new.items ≡ length waiting.old.items + 3) }
+{
+    let Parted {
+        with: left_with,
+        without: left_without,
+        made,
+    } = left;
+    let Parted {
+        with: right_with,
+        without: right_without,
+        made: _,
+    } = right;
+    waiting.push(Sides {
+        left: left_without,
+        right: right_without,
+    })?;
+    waiting.push(Sides {
+        left: made,
+        right: right_with,
+    })?;
+    waiting.push(Sides {
+        left: left_with,
+        right: right_all,
+    })?;
+    Ok(())
+}
+
 /// Parts both sides by whether their cubes have these literals. Whatever joins to a cube with them is joined with them before.
 fn part<'a, A: Allocator>(
     alloc: &'a A,
@@ -159,40 +241,11 @@ fn part<'a, A: Allocator>(
 {
     literals.literals_rise();
     cubes_rise(sides.right.as_slice());
-    let left_with = having(alloc, sides.left.as_slice(), literals, true)?;
-    let left_without = having(alloc, sides.left.as_slice(), literals, false)?;
-    let right_with = having(alloc, sides.right.as_slice(), literals, true)?;
-    let right_without = having(alloc, sides.right.as_slice(), literals, false)?;
-    let mut left_made = widened(
-        alloc,
-        left_without.as_slice(),
-        literals,
-        left_with.as_slice(),
-    )?;
-    let right_made = widened(
-        alloc,
-        right_without.as_slice(),
-        literals,
-        right_with.as_slice(),
-    )?;
-    make_distinct(&mut left_made);
-    let mut right_widened = SmallVec::new(alloc);
-    right_widened.extend_from_slice(right_with.as_slice())?;
-    right_widened.extend_from_slice(right_made.as_slice())?;
-    make_distinct(&mut right_widened);
-    waiting.push(Sides {
-        left: left_without,
-        right: right_without,
-    })?;
-    waiting.push(Sides {
-        left: left_made,
-        right: right_with,
-    })?;
-    waiting.push(Sides {
-        left: left_with,
-        right: right_widened,
-    })?;
-    Ok(())
+    let mut left = side_by(alloc, sides.left.as_slice(), literals)?;
+    let right = side_by(alloc, sides.right.as_slice(), literals)?;
+    make_distinct(&mut left.made);
+    let right_all = all_with(alloc, &right)?;
+    put_waiting(waiting, left, right, right_all)
 }
 
 /// One cube of each side joined, in every way.

@@ -1,9 +1,9 @@
 //! The bytes of a text, one after the other.
 
-ghost use Rattle.std.specs.Prelude.{◌≡◌, ◌<◌, ◌≤◌, ◌+◌, ◌∷◌, ◌++◌, [], List, ℕ, None, length, OnOk};
+ghost use Rattle.std.specs.Prelude.{◌≡◌, ◌<◌, ◌≤◌, ◌+◌, ◌∷◌, ◌++◌, [], List, ℕ, None, IfNone, IfSome, length, OnOk};
 ghost use Rattle.ltl_hoa.specs.LexerView.{depth_of, ended_kind, taken};
 ghost use Rattle.ltl_hoa.specs.MachineView as view;
-ghost use Rattle.ltl_hoa.specs.Reading.{Answers, IsAfter, IsEnded};
+ghost use Rattle.ltl_hoa.specs.Reading.{Answers, IsAfter, IsEnded, RefusesText};
 
 use crate::fault::{HoaFault, HoaFaultKind, Stop};
 use crate::lexer::Lexer;
@@ -177,10 +177,10 @@ impl<'a, A: Allocator> Machine<'a, A> {
         }
     }
 
-    /// The automaton that the whole text reads as, or its leftmost fault.
-    pub(crate) fn finish(mut self) -> Result<Marked<'a, A>, HoaFault>
-        requires { (text : List ℕ) × IsAfter self text }
-        ensures { (text : List ℕ) → IsAfter self.entry text → Answers text result }
+    /// The automaton that the whole text reads as, or its leftmost fault. Nothing is claimed of the machine behind it.
+    pub(crate) fn finish(&mut self) -> Result<Marked<'a, A>, HoaFault>
+        requires { (text : List ℕ) × IsAfter self.old text }
+        ensures { (text : List ℕ) → IsAfter self.old text → Answers text result }
     {
         self.take_last()?;
         self.answer()
@@ -200,19 +200,30 @@ impl<'a, A: Allocator> Machine<'a, A> {
     }
 
     /// What the text is, once its last token was taken.
-    fn answer(self) -> Result<Marked<'a, A>, HoaFault>
-        requires { (text : List ℕ) × IsEnded self text }
-        ensures { (text : List ℕ) → IsEnded self.entry text → Answers text result }
+    fn answer(&mut self) -> Result<Marked<'a, A>, HoaFault>
+        requires { (text : List ℕ) × IsEnded self.old text }
+        ensures { (text : List ℕ) → IsEnded self.old text → Answers text result }
+    {
+        match self.refusal() {
+            Some(fault) => Err(fault),
+            None => Ok(self.parser.finish()),
+        }
+    }
+
+    /// Why the text is no automaton, once its last token was taken.
+    fn refusal(&self) -> Option<HoaFault>
+        ensures refused { IfSome result (λ fault. (text : List ℕ) → IsEnded self.now text → RefusesText text fault) }
+        ensures whole { IfNone result ((self.now.fault ≡ None) × (self.now.parser.place ≡ Place.End)) }
     {
         if let Some(found) = self.fault {
-            return Err(HoaFault::AtLine(found.line, found.kind));
+            return Some(HoaFault::AtLine(found.line, found.kind));
         }
         match self.parser.place() {
-            Place::End => Ok(self.parser.finish()),
+            Place::End => None,
             Place::Format | Place::Version => {
-                Err(HoaFault::AtLine(self.line, HoaFaultKind::NotHoaVersion1))
+                Some(HoaFault::AtLine(self.line, HoaFaultKind::NotHoaVersion1))
             }
-            _ => Err(HoaFault::AtLine(self.line, HoaFaultKind::BadToken)),
+            _ => Some(HoaFault::AtLine(self.line, HoaFaultKind::BadToken)),
         }
     }
 }

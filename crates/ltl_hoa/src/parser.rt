@@ -12,6 +12,7 @@ use crate::place::{BodyPlace, ItemBefore, Place};
 use crate::token::TokenKind;
 use std::alloc::Allocator;
 use std::marker::Model;
+use std::mem;
 
 /// What stood so far.
 #[derive(Drop)]
@@ -89,18 +90,13 @@ impl<'a, A: Allocator> Parser<'a, A> {
         }
     }
 
-    /// The automaton of a text that has ended.
-    pub(crate) fn finish(self) -> Marked<'a, A>
-        requires { view.IsWhole self }
-        ensures { view.IsAutomaton self.entry result }
+    /// The automaton of a text that has ended. Nothing is claimed of the parser behind it.
+    pub(crate) fn finish(&mut self) -> Marked<'a, A>
+        requires { view.IsWhole self.old }
+        ensures { view.IsAutomaton self.old result }
     {
-        let Parser {
-            alloc: _,
-            place: _,
-            header,
-            body,
-        } = self;
-        match body {
+        let header = mem::replace(&mut self.header, Header::new(self.alloc));
+        match self.body.take() {
             Some(body) => header.finish(body.into_edges()),
             None => unreachable!(),
         }

@@ -1,6 +1,7 @@
 //! Reading an automaton from a reader, piece by piece.
 
 ghost use Rattle.std.specs.Prelude.{◌≡◌, MatchResult, IsErrOf, ⊤};
+ghost use Rattle.ltl_hoa.specs.MachineView.{new_machine};
 ghost use Rattle.ltl_hoa.specs.Reading.{AnswersHeld, IsOfText, TakesFewer, TakesText, TakesUpTo};
 
 use crate::fault::{HoaFault, HoaFaultKind};
@@ -24,6 +25,21 @@ pub fn hoa_read<'a, A: Allocator, R: Read>(
     ensures bounded { TakesUpTo (R.remaining reader.old) (R.remaining reader.new) }
 {
     let mut machine = Machine::new(alloc);
+    read_by(&mut machine, reader)
+}
+
+/// The same by a machine that has read nothing.
+fn read_by<'a, A: Allocator, R: Read>(
+    machine: &mut Machine<'a, A>,
+    reader: &mut R,
+) -> Result<Marked<'a, A>, HoaFault>
+    requires { machine.old ≡ new_machine }
+    ensures read { AnswersHeld (R.remaining reader.old) result }
+    ensures taken { MatchResult result (λ _. TakesText (R.remaining reader.old) (R.remaining reader.new))
+        (λ fault. IsOfText fault → TakesText (R.remaining reader.old) (R.remaining reader.new)) }
+    ensures failed { IsErrOf result HoaFault.CannotRead → TakesFewer (R.remaining reader.old) (R.remaining reader.new) }
+    ensures bounded { TakesUpTo (R.remaining reader.old) (R.remaining reader.new) }
+{
     let mut piece = [0u8; PIECE];
     let mut given = 0usize;
     'pieces: while given < MOST_BYTES {

@@ -1,6 +1,6 @@
 //! Words whose letters are sets of numbers of names.
 
-ghost use Rattle.std.specs.Prelude.{◌≡◌, ◌<◌, ◌≤◌, ◌++◌, [], length, map, All, IfOk, IsTrue};
+ghost use Rattle.std.specs.Prelude.{◌≡◌, ◌<◌, ◌≤◌, ◌++◌, [], length, map, true, All, IfOk, IsTrue};
 ghost use Rattle.std.specs.List.{AllByRecursion, list_all};
 ghost use Rattle.ltl_spec.specs.Formulas.Names.{is_proposition};
 ghost use Rattle.ltl_word.specs.LassoView.{letter_of, word_with};
@@ -60,6 +60,27 @@ fn name_set<'t, 'a, A: Allocator>(
     Ok(set)
 }
 
+/// The word of these letters as it is written, over these names.
+fn written_of<'t, 'a, A: Allocator>(
+    alloc: &'a A,
+    names: &[&'t str],
+    stem: &[RowSet],
+    cycle: &[RowSet],
+) -> Result<Written<'t, 'a, A>, AllocError>
+    requires stem { AllByRecursion (AllByRecursion (λ i. i < length names.now)) stem.now }
+    requires cycle { AllByRecursion (AllByRecursion (λ i. i < length names.now)) cycle.now }
+    ensures { IfOk result (λ w. w ≡ record {
+      in_cycle = true;
+      stem = map (letter_of (map (λ n. n.now) names.now)) stem.now;
+      cycle = map (letter_of (map (λ n. n.now) names.now)) cycle.now;
+      letter = [];
+    }) }
+{
+    let stem = letters_at(alloc, names, stem)?;
+    let cycle = letters_at(alloc, names, cycle)?;
+    Ok(Written::of_letters(alloc, stem, cycle))
+}
+
 impl<'a, A: Allocator> Lasso<'a, A> {
     /// The word of these letters, which are sets of numbers in the list of names.
     pub fn new(
@@ -75,8 +96,7 @@ impl<'a, A: Allocator> Lasso<'a, A> {
         ensures { IfOk result (λ w. w ≡ word_with (map (λ n. n.now) names.now) stem.now cycle.now) }
     {
         let set = name_set(alloc, names)?;
-        let stem = letters_at(alloc, names, stem)?;
-        let cycle = letters_at(alloc, names, cycle)?;
-        Lasso::from_written(alloc, &set, &Written::of_letters(alloc, stem, cycle))
+        let word = written_of(alloc, names, stem, cycle)?;
+        Lasso::from_written(alloc, &set, &word)
     }
 }

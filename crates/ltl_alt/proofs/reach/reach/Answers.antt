@@ -12,6 +12,7 @@ use Rattle.ltl_automaton.specs.declared.fault.AutomatonFault.TheVariants.{TooLar
 use Rattle.ltl_alt.specs.ReachView.{net_of}
 use Rattle.ltl_alt.specs.PartView.{AreParts}
 use Rattle.ltl_alt.specs.RowLists.{row_place, AreLists}
+use Rattle.ltl_alt.specs.StandIns.{rule_of}
 use Rattle.ltl_alt.specs.TransitionView.{table_at}
 use Rattle.ltl_alt.proofs.ElementaryLaws.{root_stands}
 use Rattle.ltl_alt.proofs.GbaLaws.{is_generalized, is_gba, is_too_large, is_not_too_large}
@@ -43,6 +44,7 @@ explore_from-requires-clause-ready g c =
         groups = c.in_ok-prepare.ensures.groups c.args.keep_implied (c.new-groups.ensures T c.args.keep_implied c.new-parts.result.lists.items);
       },
       c.new-shapes.ensures T c.args.keep_implied,
+      record { joins = c.new-joins.ensures T (rule_of c.args.keep_implied); states = c.new-wholes.ensures T c.args.keep_implied c.new-joins.result.lists.items },
     )
 
 pub returns-in_err-states-clause-large : goal.returns-in_err-states-clause-large

@@ -1,4 +1,4 @@
-use Rattle.std.proofs.Common.{◌<◌, ◌∙◌, [], ap, arith, drop, map, sym, subst}
+use Rattle.std.proofs.Common.{◌≤◌, ◌∙◌, [], ap, arith, drop, map, sym, subst}
 use Rattle.ltl_spec.proofs.Transitions.FactorLaws.{all_products, product_size}
 use Rattle.ltl_alt.specs.GroupView.{made_of, key_of, AreGroupsOf}
 use Rattle.ltl_alt.specs.PartView.{part_of, AreParts}
@@ -64,8 +64,8 @@ prepare-requires-clause-parts g c =
     let old = c.args.parts.now in
     subst (λ r. AreParts (table_at c.args.table.now) r c.args.own.now old.made old.owners.items old.lists.items old.demands.items old.links.items) (sym c.of.ensures) c.requires.prepared.parts
 
-pub returns-then-are_more-clause-large : goal.returns-then-are_more-clause-large
-returns-then-are_more-clause-large g c = λ _.
+pub returns-then-combinations-most-clause-large : goal.returns-then-combinations-most-clause-large
+returns-then-combinations-most-clause-large g c = λ _.
     let T = table_at c.args.table.now in
     let keep = c.args.keep_implied in
     let own = c.args.own.now in
@@ -77,8 +77,8 @@ returns-then-are_more-clause-large g c = λ _.
     let parts = subst (λ r. AreParts T r own new.made new.owners.items new.lists.items new.demands.items new.links.items) c.of.ensures c.in_ok-prepare.ensures.parts in
     let count = factored_count T own keep new.made new.owners.items new.lists.items new.demands.items new.links.items keys lists c.args.state.now numbers c.requires.prepared.own_pairs parts
     c.in_ok-numbers.ensures.groups c.members_rise.ensures.rising c.in_ok-prepare.ensures.made groups.taken groups.within in
-    let more = subst (λ ns. c.args.most < product_size (map (made_of lists) ns)) c.as_slice.ensures (c.are_more.ensures c.if-are_more.true) in
-    subst (λ n. c.args.most < n) (sym count) more
+    let least = subst (λ ns. c.combinations.result ≤ product_size (map (made_of lists) ns)) c.as_slice.ensures c.combinations.ensures in
+    omega (arith, count, least, c.if-combinations-most.true)
 
 pub returns-clause-prepared : goal.returns-clause-prepared
 returns-clause-prepared g c =

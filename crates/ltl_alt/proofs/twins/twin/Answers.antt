@@ -6,6 +6,7 @@ use Rattle.ltl_alt.specs.GroupView.{AreGroupsOf, made_of}
 use Rattle.ltl_alt.specs.PartView.{AreParts}
 use Rattle.ltl_alt.specs.ShapeView.{IsShape}
 use Rattle.ltl_alt.specs.TransitionView.{table_at}
+use Rattle.ltl_alt.proofs.JoinLaws.{whole_shape}
 use Rattle.ltl_alt.proofs.ProductLaws.{numbers_inside, shaped}
 use Rattle.ltl_alt.proofs.ShapeLaws.{prepared_after, some_is}
 use Rattle.ltl_alt.proofs.twins.twin.Goals as goal
@@ -18,8 +19,8 @@ known_numbers-requires g c =
 pub returns-in_default-clause-prepared : goal.returns-in_default-clause-prepared
 returns-in_default-clause-prepared g c = prepared_after c.of.ensures c.in_ok-prepare.ensures.lists c.requires.prepared.own_pairs c.in_ok-prepare.ensures.parts (c.in_ok-prepare.ensures.groups c.args.keep_implied c.requires.prepared.groups)
 
-pub returns-then-not-are_more-clause-prepared : goal.returns-then-not-are_more-clause-prepared
-returns-then-not-are_more-clause-prepared g c = prepared_after c.of.ensures c.in_ok-prepare.ensures.lists c.requires.prepared.own_pairs c.in_ok-prepare.ensures.parts (c.in_ok-prepare.ensures.groups c.args.keep_implied c.requires.prepared.groups)
+pub returns-then-combinations-le-FEW-clause-prepared : goal.returns-then-combinations-le-FEW-clause-prepared
+returns-then-combinations-le-FEW-clause-prepared g c = prepared_after c.of.ensures c.in_ok-prepare.ensures.lists c.requires.prepared.own_pairs c.in_ok-prepare.ensures.parts (c.in_ok-prepare.ensures.groups c.args.keep_implied c.requires.prepared.groups)
 
 pub returns-in-Some-find-clause-prepared : goal.returns-in-Some-find-clause-prepared
 returns-in-Some-find-clause-prepared g c = prepared_after c.of.ensures c.in_ok-prepare.ensures.lists c.requires.prepared.own_pairs c.in_ok-prepare.ensures.parts (c.in_ok-prepare.ensures.groups c.args.keep_implied c.requires.prepared.groups)
@@ -62,8 +63,8 @@ returns-clause-shapes g c =
     c.in_ok-prepare.ensures.made c.numbers-all.ensures taken in
     c.in_ok-remember.ensures T keep (subst (λ ns. IsShape T keep (map (made_of lists) ns) c.args.state.now) (sym c.as_slice-3.ensures) shape) c.requires.shapes
 
-pub are_more-requires : goal.are_more-requires
-are_more-requires g c =
+pub combinations-requires : goal.combinations-requires
+combinations-requires g c =
     let T = table_at c.args.table.now in
     let keys = c.prepare.new.groups.keys.keys in
     let groups = c.in_ok-prepare.ensures.groups c.args.keep_implied c.requires.prepared.groups in
@@ -85,3 +86,18 @@ remember-requires g c =
     let groups = c.in_ok-prepare.ensures.groups c.args.keep_implied c.requires.prepared.groups in
     let taken : AreGroupsOf T c.args.own.now c.prepare.new.parts.lists.items keys c.numbers-all.result c.in-Some.numbers.items [] = some_is _ _ _ c.in_ok-numbers.ensures c.in-Some.is in
     record { within = λ k h. let l = taken.within k (subst (λ ns. Has ns k) c.as_slice-3.ensures h) in let e = groups.count in omega arith }
+
+pub twin_by_pairs-requires-clause-inside : goal.twin_by_pairs-requires-clause-inside
+twin_by_pairs-requires-clause-inside g c =
+    let parts = c.in_ok-prepare.ensures.parts in
+    numbers_inside c.prepare.new.parts.owners.items c.prepare.new.parts.lists.items c.args.state.now c.numbers-all.result parts.rows.owner_count c.numbers-all.ensures
+
+pub twin_by_pairs-requires-clause-whole : goal.twin_by_pairs-requires-clause-whole
+twin_by_pairs-requires-clause-whole g c =
+    let T = table_at c.args.table.now in
+    let own = c.args.own.now in
+    let new = c.prepare.new.parts in
+    let parts = subst (λ r. AreParts T r own new.made new.owners.items new.lists.items new.demands.items new.links.items) c.of.ensures c.in_ok-prepare.ensures.parts in
+    let inside = numbers_inside new.owners.items new.lists.items c.args.state.now c.numbers-all.result parts.rows.owner_count c.numbers-all.ensures in
+    whole_shape T own c.args.keep_implied new.made new.owners.items new.lists.items new.demands.items new.links.items c.args.state.now c.numbers-all.result c.requires.prepared.own_pairs parts c.members_rise.ensures.rising
+    c.in_ok-prepare.ensures.made c.numbers-all.ensures c.members_rise-2.ensures.rising inside

@@ -1,4 +1,4 @@
-use Rattle.std.proofs.Common.{◌<◌, List, length, subst, sym}
+use Rattle.std.proofs.Common.{◌<◌, length, subst, sym}
 use Rattle.std.specs.Prelude.{All}
 use Rattle.std.proofs.lemmas.Result.{IfOk-weaker}
 use Rattle.ltl_buchi.specs.Classes.{IsLeastAlike, IsLeastPlaces, coded_place}

@@ -1,4 +1,4 @@
-use Rattle.std.proofs.Common.{subst, sym, ◌≡◌}
+use Rattle.std.proofs.Common.{subst, ◌≡◌}
 use Rattle.clap.specs.declared.error.kind.ErrorKind.TheVariants as kind
 use Rattle.ltl_cli.specs.Refusals.{tool_of}
 use Rattle.ltl_cli.proofs.WordLaws.{fault_free, refused_means_none, rows_matched}

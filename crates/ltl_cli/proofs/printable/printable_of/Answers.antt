@@ -1,6 +1,5 @@
-use Rattle.std.proofs.lemmas.Result.{err_from_is_err_and}
 use Rattle.ltl_formula.specs.FormulaView.{reading_of}
-use Rattle.ltl_cli.proofs.AutomatonLaws.{claim_made, claim_refused, generalizing_models, hoa_made, hoa_refused, sets_made, sets_refused, translating_models}
+use Rattle.ltl_cli.proofs.AutomatonLaws.{claim_made, generalizing_models, hoa_made, sets_made, translating_models}
 use Rattle.ltl_cli.proofs.printable.printable_of.Goals as goal
 
 pub returns-in_ok-automaton-in-Claim-clause-step : goal.returns-in_ok-automaton-in-Claim-clause-step

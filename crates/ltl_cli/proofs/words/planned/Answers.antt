@@ -1,4 +1,4 @@
-use Rattle.std.proofs.Common.{◌≡◌, ◌∙◌, ap, ap₂, sym, codes, Option, Bool, Some, None}
+use Rattle.std.proofs.Common.{◌∙◌, ap, ap₂, sym, codes, Option}
 use Rattle.std.specs.Prelude.{option_map}
 use Rattle.clap.specs.Words.{found_of, rows_of}
 use Rattle.clap.proofs.WalkLemmas.{first_value-rows}
@@ -6,7 +6,6 @@ use Rattle.ltl_spec.specs.Tools.Programs.{layout_of}
 use Rattle.ltl_cli.specs.Words.{lacks_word, layout_among, request_for}
 use Rattle.ltl_cli.specs.Plans.{formula_word, layout_in, request_in}
 use Rattle.ltl_cli.specs.Refusals.{tool_of}
-use Rattle.ltl_cli.specs.declared.layout.Layout.{Layout}
 use Rattle.ltl_cli.specs.declared.request.FormulaWord.{FormulaWord}
 use Rattle.ltl_cli.proofs.WordLaws.{request_is, request_lacks, request_stands, request_torn}
 use Rattle.ltl_cli.proofs.words.planned.Goals as goal

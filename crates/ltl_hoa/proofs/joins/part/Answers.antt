@@ -1,8 +1,8 @@
-use Rattle.std.proofs.Common.{true, false, ◌≡◌, ◌++◌, ◌∙◌, ap, sym, subst, rules}
-use Rattle.ltl_spec.specs.Collections.Sets.{Has, IsRising, set_of}
-use Rattle.ltl_spec.specs.Transitions.Cubes.{Cube, cube_cmp, literal_cmp}
+use Rattle.std.proofs.Common.{true, false, ◌++◌, ◌∙◌, ap, subst}
+use Rattle.ltl_spec.specs.Collections.Sets.{Has, IsRising}
+use Rattle.ltl_spec.specs.Transitions.Cubes.{Cube, literal_cmp}
 use Rattle.ltl_hoa.specs.CubesView.{joins}
-use Rattle.ltl_hoa.proofs.JoinedLaws.{parted_by, pushed, widened, with_all}
+use Rattle.ltl_hoa.proofs.JoinedLaws.{part_waits, parted_by, with_all}
 use Rattle.ltl_hoa.proofs.joins.part.Goals as goal
 
 pub returns-clause-joins : goal.returns-clause-joins
@@ -10,25 +10,23 @@ returns-clause-joins g c =
     let q = c.args.literals.now in
     let left = c.args.sides.now.left.items in
     let right = c.args.sides.now.right.items in
-    let with = c.in_ok-left_with.left_with.items in
-    let without = c.in_ok-left_without.left_without.items in
-    let right-with = c.in_ok-right_with.right_with.items in
-    let right-without = c.in_ok-right_without.right_without.items in
-    let made = c.in_ok-left_made.left_made.items in
-    let more = c.in_ok-right_made.right_made.items in
-    let all : c.extend_from_slice-2.new.self.items ≡ right-with ++ more = search rules in
-    pushed (λ s. joins s.left.items s.right.items) c.args.waiting.now.items c.push.new.self.items c.push-2.new.self.items c.push-3.new.self.items
-    (record { left = c.in_ok-left_without.left_without; right = c.in_ok-right_without.right_without }) (record { left = c.make_distinct.new.cubes; right = c.in_ok-right_with.right_with })
-    (record { left = c.in_ok-left_with.left_with; right = c.make_distinct-2.new.cubes }) (joins left right)
-    (search rules) (search rules) (search rules)
-    (parted_by q left right with without made c.make_distinct.new.cubes.items right-with right-without more c.make_distinct-2.new.cubes.items
+    let left-with = c.in_ok-left.left.with.items in
+    let left-without = c.in_ok-left.left.without.items in
+    let made = c.make_distinct.new.cubes.items in
+    let right-with = c.in_ok-right.right.with.items in
+    let right-without = c.in_ok-right.right.without.items in
+    let all = c.in_ok-right_all.right_all.items in
+    part_waits (λ s. joins s.left.items s.right.items) c.put_waiting.result c.put_waiting.new.waiting.items c.args.waiting.now.items
+    (joins left-without right-without ++ (joins made right-with ++ joins left-with all)) (joins left right)
+    (parted_by q left right left-with left-without c.in_ok-left.left.made.items made right-with right-without c.in_ok-right.right.made.items all
     c.literals_rise.ensures.rising
     (subst (λ xs. (d : Cube) → Has xs d → IsRising literal_cmp d) c.as_slice.ensures c.cubes_rise.ensures)
-    (c.in_ok-left_with.ensures ∙ ap (with_all q true) c.as_slice-2.ensures)
-    (c.in_ok-left_without.ensures ∙ ap (with_all q false) c.as_slice-3.ensures)
-    (c.in_ok-right_with.ensures ∙ ap (with_all q true) c.as_slice-4.ensures)
-    (c.in_ok-right_without.ensures ∙ ap (with_all q false) c.as_slice-5.ensures)
-    (ap (λ l. set_of cube_cmp (l ++ made)) (sym c.as_slice-7.ensures) ∙ c.in_ok-left_made.ensures ∙ (λ i. set_of cube_cmp (c.as_slice-7.ensures i ++ widened q (c.as_slice-6.ensures i))))
-    (ap (λ l. set_of cube_cmp (l ++ more)) (sym c.as_slice-9.ensures) ∙ c.in_ok-right_made.ensures ∙ (λ i. set_of cube_cmp (c.as_slice-9.ensures i ++ widened q (c.as_slice-8.ensures i))))
+    (c.in_ok-left.ensures.with ∙ ap (with_all q true) c.as_slice-2.ensures)
+    (c.in_ok-left.ensures.without ∙ ap (with_all q false) c.as_slice-2.ensures)
+    (c.in_ok-right.ensures.with ∙ ap (with_all q true) c.as_slice-3.ensures)
+    (c.in_ok-right.ensures.without ∙ ap (with_all q false) c.as_slice-3.ensures)
+    c.in_ok-left.ensures.made
+    c.in_ok-right.ensures.made
     c.make_distinct.ensures
-    (c.make_distinct-2.ensures ∙ ap (set_of cube_cmp) all))
+    c.in_ok-right_all.ensures)
+    c.put_waiting.ensures.joins

@@ -1,4 +1,4 @@
-use Rattle.std.proofs.Common.{◌≡◌, ◌∙◌, ◌+◌, ◌-◌, ◌*◌, ◌≤◌, ◌||◌, ◌&&◌, ℕ, ap, ap₂, sym, arith, false, true, nat_eq, bit_and}
+use Rattle.std.proofs.Common.{◌≡◌, ◌∙◌, ◌+◌, ◌*◌, ◌≤◌, ◌||◌, ◌&&◌, ℕ, ap, ap₂, sym, arith, false, true, nat_eq, bit_and}
 use Rattle.ltl_word.specs.Rows.{back, is_set}
 use Rattle.ltl_word.proofs.BackWords.{comes_twice, holds_twice, never, one_comes, one_place, with_later, word_ahead, word_later}
 use Rattle.ltl_word.proofs.BitLemmas.{and_false, and_true, none_above, one_and, one_bit, one_or, one_shr, or_false}

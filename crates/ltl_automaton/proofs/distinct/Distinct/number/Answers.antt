@@ -1,4 +1,4 @@
-use Rattle.std.proofs.Common.{◌∙◌, ap, sym, length, position, ◌++◌, List, ◌≡◌, ◌<◌, arith}
+use Rattle.std.proofs.Common.{◌∙◌, ap, sym, position, arith}
 use Rattle.ltl_automaton.specs.Listed.{Kept}
 use Rattle.ltl_automaton.proofs.DistinctLaws.{number_first, number_next, number_behind}
 use Rattle.ltl_automaton.proofs.distinct.Distinct.number.Goals as goal

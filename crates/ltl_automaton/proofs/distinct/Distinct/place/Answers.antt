@@ -1,4 +1,4 @@
-use Rattle.std.proofs.Common.{◌∙◌, ap, sym, length, position, ◌++◌, List, ◌≡◌, ◌<◌, arith}
+use Rattle.std.proofs.Common.{◌∙◌, ap, position, arith}
 use Rattle.ltl_automaton.specs.Listed.{Kept}
 use Rattle.ltl_automaton.proofs.DistinctLaws.{found_first, found_behind, found_nowhere}
 use Rattle.ltl_automaton.proofs.distinct.Distinct.place.Goals as goal

@@ -1,47 +1,23 @@
-use Rattle.std.proofs.Common.{rules, ◌≡◌, ◌∙◌, inl, inr, ap, sym, subst, arith}
-use Rattle.std.specs.Prelude.{None, Some}
-use Rattle.ltl_spec.specs.Hoa.HoaFaultKind as spec
+use Rattle.std.proofs.Common.{◌≡◌, sym, subst, arith}
+use Rattle.std.specs.Prelude.{None}
 use Rattle.ltl_hoa.specs.declared.place.Place.TheVariants as place
-use Rattle.ltl_hoa.specs.declared.fault.HoaFaultKind.TheVariants as made
 use Rattle.ltl_hoa.specs.MachineView.{MachineView}
 use Rattle.ltl_hoa.specs.Reading.{IsEnded}
-use Rattle.ltl_hoa.proofs.EndLaws.{end_kind, other_place}
-use Rattle.ltl_hoa.proofs.WholeLaws.{end_whole, end_answers, end_refused}
+use Rattle.ltl_hoa.proofs.WholeLaws.{end_whole, end_answers}
 use Rattle.ltl_hoa.proofs.machine.Machine.answer.Goals as goal
 
 pub finish-requires : goal.finish-requires
 finish-requires g c =
     let w : MachineView = record { given = c.self.inside.given; line = c.self.inside.line; lexer = c.self.inside.lexer; parser = c.self.inside.parser; fault = c.self.inside.fault } in
     let e : IsEnded w c.requires.0 = subst (λ x. IsEnded x c.requires.0) (sym c.self.view_is) c.requires.1 in
-    let none : c.self.inside.fault ≡ None = search rules in
-    let end : c.self.inside.parser.place ≡ place.End = search rules in
+    let none : c.self.inside.fault ≡ None = subst (λ (x : MachineView). x.fault ≡ None) (sym c.self.view_is) c.in-None.ensures.whole.0 in
+    let end : c.self.inside.parser.place ≡ place.End = subst (λ (x : MachineView). x.parser.place ≡ place.End) (sym c.self.view_is) c.in-None.ensures.whole.1 in
     (omega arith, end_whole w c.requires.0 e none end)
 
-pub returns-in-End : goal.returns-in-End
-returns-in-End g c = λ text a.
+pub returns-in-None : goal.returns-in-None
+returns-in-None g c = λ text a.
     let w : MachineView = record { given = c.self.inside.given; line = c.self.inside.line; lexer = c.self.inside.lexer; parser = c.self.inside.parser; fault = c.self.inside.fault } in
     let e : IsEnded w text = subst (λ x. IsEnded x text) (sym c.self.view_is) a in
-    let none : c.self.inside.fault ≡ None = search rules in
-    let end : c.self.inside.parser.place ≡ place.End = search rules in
+    let none : c.self.inside.fault ≡ None = subst (λ (x : MachineView). x.fault ≡ None) (sym c.self.view_is) c.in-None.ensures.whole.0 in
+    let end : c.self.inside.parser.place ≡ place.End = subst (λ (x : MachineView). x.parser.place ≡ place.End) (sym c.self.view_is) c.in-None.ensures.whole.1 in
     end_answers w text c.finish.result e none end c.finish.ensures
-
-pub returns-in-Format : goal.returns-in-Format
-returns-in-Format g c = λ text a.
-    let w : MachineView = record { given = c.self.inside.given; line = c.self.inside.line; lexer = c.self.inside.lexer; parser = c.self.inside.parser; fault = c.self.inside.fault } in
-    let e : IsEnded w text = subst (λ x. IsEnded x text) (sym c.self.view_is) a in
-    let none : c.self.inside.fault ≡ None = search rules in
-    let kind : end_kind c.self.inside.parser.place ≡ Some spec.NotHoaVersion1 =
-    elim c.in-Format.is [
-      | inl p ↦ ap end_kind (sym c.place.ensures ∙ p)
-      | inr p ↦ ap end_kind (sym c.place.ensures ∙ p)
-    ] in
-    end_refused w text made.NotHoaVersion1 e none kind
-
-pub returns : goal.returns
-returns g c = λ text a.
-    let w : MachineView = record { given = c.self.inside.given; line = c.self.inside.line; lexer = c.self.inside.lexer; parser = c.self.inside.parser; fault = c.self.inside.fault } in
-    let e : IsEnded w text = subst (λ x. IsEnded x text) (sym c.self.view_is) a in
-    let none : c.self.inside.fault ≡ None = search rules in
-    let kind : end_kind c.self.inside.parser.place ≡ Some spec.BadToken =
-    ap end_kind (sym c.place.ensures) ∙ other_place c.place.result c.in_default-place.not-Format c.in_default-place.not-Version c.in_default-place.not-End in
-    end_refused w text made.BadToken e none kind

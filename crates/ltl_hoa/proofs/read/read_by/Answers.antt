@@ -1,0 +1,71 @@
+use Rattle.std.proofs.Common.{arith, length-take}
+use Rattle.std.proofs.lemmas.Result.{err_from_is_err_and}
+use Rattle.ltl_hoa.proofs.StreamLaws.{read_none, read_more, end_answered, end_taken, whatever, no_answer, read_failed, past_answered, past_taken, taken_up_to, kept_up_to}
+use Rattle.ltl_hoa.proofs.read.read_by.Goals as goal
+
+pub pieces-init : goal.pieces-init
+pieces-init g c = record { in_range = omega arith; read = read_none _ _ c.requires }
+
+pub pieces-preserved : goal.pieces-preserved
+pieces-preserved g c = record {
+  in_range = omega (arith, length-take c.min-room.result c.pieces.piece, c.in-Ok.ensures.bound);
+  read = read_more _ _ _ _ _ _ _ _ _ c.pieces.invariant.read c.in-Ok.ensures.bytes.0 (omega (arith, c.in-Ok.ensures.bound)) (λ text a. c.in_ok-take_piece-in-Ok.ensures text a);
+}
+
+pub returns-in-Ok-eq0-clause-read : goal.returns-in-Ok-eq0-clause-read
+returns-in-Ok-eq0-clause-read g c =
+    end_answered _ _ _ _ _ _ _ _ c.pieces.invariant.read c.in-Ok-eq0.field-0-test (omega (arith, length-take c.min-room.result c.pieces.piece)) c.in-Ok-eq0.ensures.bytes c.finish.ensures
+
+pub returns-in-Ok-eq0-clause-taken : goal.returns-in-Ok-eq0-clause-taken
+returns-in-Ok-eq0-clause-taken g c =
+    whatever _ (end_taken _ _ _ _ _ _ _ c.pieces.invariant.read c.pieces.invariant.in_range c.in-Ok-eq0.field-0-test (omega (arith, length-take c.min-room.result c.pieces.piece)) c.in-Ok-eq0.ensures.bytes)
+
+pub returns-in-Ok-eq0-read-clause-read : goal.returns-in-Ok-eq0-read-clause-read
+returns-in-Ok-eq0-read-clause-read g c =
+    end_answered _ _ _ _ _ _ _ _ c.pieces.invariant.read c.in-Ok-eq0-read.field-0-test (omega (arith, length-take 1 c.pieces.piece)) c.in-Ok-eq0-read.ensures.bytes c.finish-in-Ok-eq0-read.ensures
+
+pub returns-in-Ok-eq0-read-clause-taken : goal.returns-in-Ok-eq0-read-clause-taken
+returns-in-Ok-eq0-read-clause-taken g c =
+    whatever _ (end_taken _ _ _ _ _ _ _ c.pieces.invariant.read c.pieces.invariant.in_range c.in-Ok-eq0-read.field-0-test (omega (arith, length-take 1 c.pieces.piece)) c.in-Ok-eq0-read.ensures.bytes)
+
+pub returns-in-Ok-read-clause-read : goal.returns-in-Ok-read-clause-read
+returns-in-Ok-read-clause-read g c =
+    past_answered _ _ _ _ _ _ _ _ c.pieces.invariant.read (omega arith) (omega arith) (omega (arith, c.in-Ok-read.ensures.bound)) (omega (arith, length-take 1 c.pieces.piece)) c.line.ensures
+    c.in-Ok-read.ensures.bytes.0
+
+pub returns-in-Ok-read-clause-taken : goal.returns-in-Ok-read-clause-taken
+returns-in-Ok-read-clause-taken g c =
+    λ _. past_taken _ _ _ _ _ _ _ c.pieces.invariant.read (omega arith) (omega arith) (omega (arith, c.in-Ok-read.ensures.bound)) (omega (arith, length-take 1 c.pieces.piece)) c.in-Ok-read.ensures.bytes.0
+
+pub returns-in_err-take_piece-in-Ok-clause-read : goal.returns-in_err-take_piece-in-Ok-clause-read
+returns-in_err-take_piece-in-Ok-clause-read g c =
+    let p = err_from_is_err_and c.from_residual.result c.from_residual.ensures.1 in
+    no_answer _ _ (λ text. rw (p.1, p.2) tt)
+
+pub returns-in-Err-clause-read : goal.returns-in-Err-clause-read
+returns-in-Err-clause-read g c = read_failed _
+
+pub returns-in-Err-read-clause-read : goal.returns-in-Err-read-clause-read
+returns-in-Err-read-clause-read g c = read_failed _
+
+pub returns-in-Ok-eq0-clause-bounded : goal.returns-in-Ok-eq0-clause-bounded
+returns-in-Ok-eq0-clause-bounded g c =
+    taken_up_to _ _ _ _ _ _ _ c.pieces.invariant.read c.in-Ok-eq0.ensures.bytes.0 (omega (arith, c.in-Ok-eq0.field-0-test, c.pieces.invariant.in_range))
+
+pub returns-in_err-take_piece-in-Ok-clause-bounded : goal.returns-in_err-take_piece-in-Ok-clause-bounded
+returns-in_err-take_piece-in-Ok-clause-bounded g c =
+    taken_up_to _ _ _ _ _ _ _ c.pieces.invariant.read c.in-Ok.ensures.bytes.0 (omega (arith, length-take c.min-room.result c.pieces.piece, c.in-Ok.ensures.bound))
+
+pub returns-in-Err-clause-bounded : goal.returns-in-Err-clause-bounded
+returns-in-Err-clause-bounded g c = kept_up_to _ _ _ _ _ c.pieces.invariant.read c.in-Err.ensures.bytes c.pieces.invariant.in_range
+
+pub returns-in-Ok-eq0-read-clause-bounded : goal.returns-in-Ok-eq0-read-clause-bounded
+returns-in-Ok-eq0-read-clause-bounded g c =
+    taken_up_to _ _ _ _ _ _ _ c.pieces.invariant.read c.in-Ok-eq0-read.ensures.bytes.0 (omega (arith, c.in-Ok-eq0-read.field-0-test, c.pieces.invariant.in_range))
+
+pub returns-in-Ok-read-clause-bounded : goal.returns-in-Ok-read-clause-bounded
+returns-in-Ok-read-clause-bounded g c =
+    taken_up_to _ _ _ _ _ _ _ c.pieces.invariant.read c.in-Ok-read.ensures.bytes.0 (omega (arith, c.in-Ok-read.ensures.bound, length-take 1 c.pieces.piece, c.pieces.invariant.in_range))
+
+pub returns-in-Err-read-clause-bounded : goal.returns-in-Err-read-clause-bounded
+returns-in-Err-read-clause-bounded g c = kept_up_to _ _ _ _ _ c.pieces.invariant.read c.in-Err-read.ensures.bytes c.pieces.invariant.in_range
