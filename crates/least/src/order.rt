@@ -10,13 +10,13 @@ use std::alloc::{AllocError, Allocator};
 const ELEMENTS: usize = 768;
 
 /// So many items stand for all when they are divided.
-const SAMPLE: usize = 32;
+const SAMPLE: usize = 16;
 
 /// So many of the sample on either side are halves that are good enough.
-const HALF: u32 = 12;
+const HALF: u32 = 6;
 
 /// So many items aren't divided.
-const FEW: usize = 16;
+const FEW: usize = 32;
 
 /// The items.
 pub(crate) fn copied<'a, T: Below, A: Allocator>(

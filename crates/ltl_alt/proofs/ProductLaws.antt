@@ -5,6 +5,7 @@ use Rattle.std.specs.List.Sorted.{IsSorted, IsPermutation}
 use Rattle.std.specs.Ordering.{nat_cmp}
 use Rattle.std.proofs.lemmas.Bool.Decides.{nat_tests}
 use Rattle.std.proofs.lemmas.List.{length-append}
+use Rattle.std.proofs.lemmas.List.Sorted.{Contains-permutation, IsPermutation-append, IsPermutation-map, IsPermutation-refl, IsPermutation-sym, IsPermutation-trans}
 use Rattle.ltl_spec.specs.Collections.Sets.{Has, IsRising, has, union}
 use Rattle.ltl_spec.specs.Collections.Lists.{places_where}
 use Rattle.ltl_spec.specs.NormalForms.Normal.{Normal}
@@ -12,7 +13,7 @@ use Rattle.ltl_spec.specs.Transitions.Cubes.{Cube, is_contradictory, literal_cmp
 use Rattle.ltl_spec.specs.Transitions.Pairs.{RowSet, Pair, empty_pair}
 use Rattle.ltl_spec.specs.Transitions.RowTransitions.{Table, pairs_at, with_marks, Transition, transition_cmp, transitions}
 use Rattle.ltl_spec.proofs.Collections.SetLaws.{has_Decides, Has-set_of, append_left, append_right, append_cases}
-use Rattle.ltl_spec.proofs.Collections.ListLaws.{places_cases, Has-places, IsRising-places}
+use Rattle.ltl_spec.proofs.Collections.ListLaws.{places_cases, Contains-from_has, Has-from_contains, Has-places, IsRising-places}
 use Rattle.ltl_spec.proofs.Collections.Orders.{nat_linear}
 use Rattle.ltl_spec.proofs.Collections.ProductLists.{products, rising_once}
 use Rattle.ltl_spec.proofs.Transitions.Pruning.{IsEnough, own_pairs}
@@ -65,19 +66,32 @@ none_left_of : {X : Type 0} (h : ℕ → X) (ns : List ℕ) → drop (length ns)
 none_left_of h [] = refl
 none_left_of h (n ∷ ns) = none_left_of h ns
 
+-- what the second list has in another order, and so the product
+products_moved : (ts us vs : List Transition) → IsPermutation us vs → IsPermutation (product ts us) (product ts vs)
+products_moved [] us vs p = IsPermutation-refl []
+products_moved (t ∷ ts) us vs p = IsPermutation-append (map (at_once t) us) (map (at_once t) vs) (product ts us) (product ts vs) (IsPermutation-map (at_once t) us vs p) (products_moved ts us vs p)
+
 -- one list more
 pub products_step : (T : Table) (lists : List (List Transition)) (numbers : List ℕ) (left k : ℕ) (ts us vs : List Transition) → left < length numbers → k ≡ slice_index_or numbers left 0
-    → ((j : ℕ) → AreConsistent (all_products T (drop j (map (made_of lists) numbers)))) → us ≡ all_products T (drop (left + 1) (map (made_of lists) numbers)) → ts ≡ made_of lists k → vs ≡ joined_products ts us
-    → vs ≡ all_products T (drop left (map (made_of lists) numbers))
-products_step T lists numbers left k ts us vs l found f e d g =
+    → ((j : ℕ) → AreConsistent (all_products T (drop j (map (made_of lists) numbers)))) → IsPermutation (all_products T (drop (left + 1) (map (made_of lists) numbers))) us → ts ≡ made_of lists k → vs ≡ joined_products ts us
+    → IsPermutation (all_products T (drop left (map (made_of lists) numbers))) vs
+products_step T lists numbers left k ts us vs l found f p d g =
+    let all = all_products T (drop (left + 1) (map (made_of lists) numbers)) in
     let next : drop left (map (made_of lists) numbers) ≡ made_of lists k ∷ drop (left + 1) (map (made_of lists) numbers) = dropped_at (made_of lists) numbers left k l found in
     let whole = ap (all_products T) next in
-    g ∙ (λ i. joined_products (d i) (e i))
-    ∙ product_joins (made_of lists k) (all_products T (drop (left + 1) (map (made_of lists) numbers))) (subst AreConsistent whole (f left))
-    ∙ sym whole
+    let consistent : AreConsistent (product (made_of lists k) all) = subst AreConsistent whole (f left) in
+    let moved = products_moved (made_of lists k) all us p in
+    let back : IsPermutation (product (made_of lists k) us) (product (made_of lists k) all) = IsPermutation-sym (product (made_of lists k) all) (product (made_of lists k) us) moved in
+    let also : AreConsistent (product (made_of lists k) us) = λ t h.
+    consistent t (Has-from_contains (product (made_of lists k) all) t (Contains-permutation (product (made_of lists k) us) (product (made_of lists k) all) t back (Contains-from_has (product (made_of lists k) us) t h))) in
+    let same : vs ≡ product (made_of lists k) us = g ∙ ap (λ xs. joined_products xs us) d ∙ product_joins (made_of lists k) us also in
+    subst (λ xs. IsPermutation xs vs) (sym whole) (subst (IsPermutation (product (made_of lists k) all)) (sym same) moved)
 
-pub products_none : (T : Table) (lists : List (List Transition)) (numbers : List ℕ) (n : ℕ) (ts : List Transition) → n ≡ length numbers → ts ≡ map (with_marks T) (empty_pair ∷ []) → ts ≡ all_products T (drop n (map (made_of lists) numbers))
-products_none T lists numbers n ts e d = d ∙ ap (all_products T) (sym (ap (λ m. drop m (map (made_of lists) numbers)) e ∙ none_left_of (made_of lists) numbers))
+pub products_none : (T : Table) (lists : List (List Transition)) (numbers : List ℕ) (n : ℕ) (ts : List Transition) → n ≡ length numbers → ts ≡ map (with_marks T) (empty_pair ∷ []) → IsPermutation (all_products T (drop n (map (made_of lists) numbers))) ts
+products_none T lists numbers n ts e d =
+    let all = all_products T (drop n (map (made_of lists) numbers)) in
+    let same : all ≡ ts = ap (all_products T) (ap (λ m. drop m (map (made_of lists) numbers)) e ∙ none_left_of (made_of lists) numbers) ∙ sym d in
+    subst (IsPermutation all) same (IsPermutation-refl all)
 
 -- ---- groups that were taken out
 
@@ -198,12 +212,12 @@ listed_for T false ps qs k = record { from = k.from; covers = k.covers }
 pub factored : (T : Table) (own : List (List Pair)) (keep : Bool) (made owners : List ℕ) (parts : List (List Pair)) (demands : List Demand) (links : List RowSet) (keys : List RowSet) (lists : List (List Transition))
     (state numbers : List ℕ) (products sorted : List Transition) → AreOwn T own → AreParts T (rule_of keep) own made owners parts demands links → AreGroups T keep parts keys lists → IsRising nat_cmp state
     → ((i : ℕ) → Has state i → Has made i) → AreTakenOut T (own_at T own) (part_of parts) (numbers_in owners state) (map (key_of keys) numbers) [] → ((k : ℕ) → Has numbers k → k < length keys)
-    → products ≡ all_products T (map (made_of lists) numbers) → IsPermutation products sorted → IsSorted transition_cmp sorted → sorted ≡ transitions T keep state
-factored T own keep made owners parts demands links keys lists state numbers products sorted fit w groups rising there taken within e permuted order =
+    → IsPermutation (all_products T (map (made_of lists) numbers)) products → IsPermutation products sorted → IsSorted transition_cmp sorted → sorted ≡ transitions T keep state
+factored T own keep made owners parts demands links keys lists state numbers products sorted fit w groups rising there taken within moved permuted order =
     sorted_by_factors T (own_at T own) (enough_at T own fit.enough) (part_of parts) w.linked.sound keep (numbers_of owners) state (numbers_in owners state) (parts_of_state owners state rising)
     (λ i h. listed_for T keep (pairs_at T i) (join_of (part_of parts) (numbers_of owners i)) (w.rows.listed i (there i h)))
     (map (key_of keys) numbers) taken sorted
-    (subst (λ ts. IsPermutation ts sorted) (e ∙ ap (all_products T) (lists_are T keep parts keys lists numbers groups within)) permuted) order
+    (subst (λ ts. IsPermutation ts sorted) (ap (all_products T) (lists_are T keep parts keys lists numbers groups within)) (IsPermutation-trans (all_products T (map (made_of lists) numbers)) products sorted moved permuted)) order
 
 -- ---- groups under way
 

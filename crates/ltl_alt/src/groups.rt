@@ -1,21 +1,24 @@
 //! The transitions of groups of parts, made when a group is first met.
 
-ghost use Rattle.std.specs.Prelude.{◌≡◌, ℕ, ◌<◌, [], ◌∷◌, Bool, List, fold, length, OnOk, IfOk, IfSome};
-ghost use Rattle.ltl_spec.specs.Collections.Sets.{Has};
+ghost use Rattle.std.specs.Prelude.{◌≡◌, ℕ, ◌<◌, [], ◌∷◌, Bool, List, fold, length, map, OnOk, IfOk, IfSome};
+ghost use Rattle.ltl_spec.specs.Collections.Sets.{Has, IsRising};
 ghost use Rattle.ltl_spec.specs.Transitions.Pairs as spec_pairs;
 ghost use Rattle.ltl_spec.specs.Transitions.RowTransitions as spec;
 ghost use Rattle.ltl_spec.proofs.Transitions.PartJoins.{join_of};
 ghost use Rattle.ltl_spec.proofs.Transitions.ProductTransitions.{transitions_of};
 ghost use Rattle.ltl_spec.proofs.Transitions.SameJoins.{AreSound};
 ghost use Rattle.ltl_alt.specs.GroupView.{AreGroups, AreKeysKept, IsKeyAt, made_of};
+ghost use Rattle.ltl_alt.specs.JoinView.{AreJoins};
 ghost use Rattle.ltl_alt.specs.PartView.{part_of};
 ghost use Rattle.ltl_alt.specs.StandIns.{AreOwn, IsFit, IsListed, StandsFor, rule_of};
-ghost use Rattle.ltl_alt.specs.TransitionView.{table_at};
+ghost use Rattle.ltl_alt.specs.TransitionView.{AllSets, table_at};
 
 use crate::implied::unimplied;
+use crate::joins::Joins;
 use crate::lists::join;
 use crate::marks::marked;
 use crate::pair::Pair;
+use crate::pair_set::PairSet;
 use crate::parts::Parts;
 use crate::prune::prune;
 use crate::rule::Pruning;
@@ -98,11 +101,33 @@ fn joined<'a, A: Allocator>(
     Ok(pairs)
 }
 
-/// The transitions of a group.
+/// The transitions of pairs.
+fn pair_transitions<'a, A: Allocator>(
+    alloc: &'a A,
+    table: &Table<'_, A>,
+    own: &[PairSet<'a, A>],
+    keep_implied: bool,
+    pairs: &[Pair],
+) -> Result<Vec<Transition, &'a A>, AllocError>
+    requires own { AreOwn (table_at table.now) own.now }
+    requires sets { AllSets (map (spec.with_marks (table_at table.now)) pairs.now) }
+    requires rising { IsRising spec_pairs.pair_cmp pairs.now }
+    ensures { IfOk result (λ v. v.items ≡ transitions_of (table_at table.now) keep_implied pairs.now) }
+{
+    let all = marked(alloc, table, own, pairs)?;
+    if keep_implied {
+        return Ok(all);
+    }
+    let kept = unimplied(alloc, all.as_slice())?;
+    Ok(kept)
+}
+
+/// The transitions of a group. Its parts are joined, unless their joins are remembered.
 fn group_transitions<'a, A: Allocator>(
     alloc: &'a A,
     table: &Table<'_, A>,
     parts: &Parts<'a, A>,
+    joins: &Joins<'a, A>,
     pruning: &Pruning<'_, 'a, A>,
     keep_implied: bool,
     group: &RowSet,
@@ -110,16 +135,15 @@ fn group_transitions<'a, A: Allocator>(
     requires rule { pruning.now.rule ≡ rule_of keep_implied }
     requires own { AreOwn (table_at table.now) pruning.now.own.now }
     requires sound { (k : ℕ) → AreSound (part_of parts.now.lists.items k) }
+    requires joins { AreJoins (table_at table.now) (rule_of keep_implied) joins.now.lists.items joins.now.steps.items }
     requires inside { (k : ℕ) → Has group.now k → k < length parts.now.lists.items }
     ensures { IfOk result (λ v. v.items ≡ transitions_of (table_at table.now) keep_implied (join_of (part_of parts.now.lists.items) group.now)) }
 {
-    let pairs = joined(alloc, table, parts, pruning, group)?;
-    let all = marked(alloc, table, pruning.own, pairs.as_slice())?;
-    if keep_implied {
-        return Ok(all);
+    if let Some(list) = joins.found(parts, group) {
+        return pair_transitions(alloc, table, pruning.own, keep_implied, joins.pairs(list));
     }
-    let kept = unimplied(alloc, all.as_slice())?;
-    Ok(kept)
+    let pairs = joined(alloc, table, parts, pruning, group)?;
+    pair_transitions(alloc, table, pruning.own, keep_implied, pairs.as_slice())
 }
 
 impl<'a, A: Allocator> Groups<'a, A> {
@@ -189,6 +213,7 @@ impl<'a, A: Allocator> Groups<'a, A> {
         alloc: &'a A,
         table: &Table<'_, A>,
         parts: &Parts<'a, A>,
+        joins: &Joins<'a, A>,
         pruning: &Pruning<'_, 'a, A>,
         keep_implied: bool,
         group: &RowSet,
@@ -196,15 +221,23 @@ impl<'a, A: Allocator> Groups<'a, A> {
         requires rule { pruning.now.rule ≡ rule_of keep_implied }
         requires own { AreOwn (table_at table.now) pruning.now.own.now }
         requires sound { (k : ℕ) → AreSound (part_of parts.now.lists.items k) }
+        requires joins { AreJoins (table_at table.now) (rule_of keep_implied) joins.now.lists.items joins.now.steps.items }
         requires groups { AreGroups (table_at table.now) keep_implied parts.now.lists.items self.old.keys.keys self.old.lists.items }
         requires inside { (k : ℕ) → Has group.now k → k < length parts.now.lists.items }
         ensures groups { OnOk result (AreGroups (table_at table.now) keep_implied parts.now.lists.items self.new.keys.keys self.new.lists.items) }
-        ensures found { IfOk result (IsKeyAt self.new.keys.keys group.now) }
-        ensures kept { OnOk result (AreKeysKept self.old.keys.keys self.new.keys.keys) }
+        ensures numbers { IfOk result (λ k. IsKeyAt self.new.keys.keys group.now k × AreKeysKept self.old.keys.keys self.new.keys.keys) }
     {
         let (number, is_new) = self.keys.insert_full(*group)?;
         if is_new {
-            let transitions = group_transitions(alloc, table, parts, pruning, keep_implied, group)?;
+            let transitions = group_transitions(
+                alloc,
+                table,
+                parts,
+                joins,
+                pruning,
+                keep_implied,
+                group,
+            )?;
             self.lists.push(TransitionList { transitions })?;
         }
         Ok(number)

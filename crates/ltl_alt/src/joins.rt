@@ -25,7 +25,7 @@ use std::alloc::{AllocError, Allocator};
 use std::hash::{BuildHasherDefault, FoldHasher};
 
 /// So many pairs are remembered at most.
-const MOST_PAIRS: usize = 131_072;
+const MOST_PAIRS: usize = 262_144;
 
 /// In so many lists.
 const MOST_LISTS: usize = 4_096;
@@ -189,6 +189,21 @@ impl<'a, A: Allocator> Joins<'a, A> {
             return Some(step.joined);
         }
         None
+    }
+
+    /// The number of what is kept of these parts at once, if all joins on the way to it are remembered.
+    pub(crate) fn found(&self, parts: &Parts<'a, A>, group: &RowSet) -> Option<usize>
+        requires inside { (k : ℕ) → Has group.now k → k < length parts.now.lists.items }
+        ensures { (T : spec.Table) → (r : made_rule.Rule) → AreJoins T r self.now.lists.items self.now.steps.items
+            → IfSome result (IsJoinOf T r parts.now.lists.items self.now.lists.items group.now) }
+    {
+        let mut list = self.number(&[Pair::empty()])?;
+        let mut rest = group.iter();
+        'members: while let Some(number) = rest.next() {
+            let part = self.noted(number, parts.pairs(number))?;
+            list = self.known(list, part)?;
+        }
+        Some(list)
     }
 
     /// The number of what two lists are at once, unless there is no room for it.

@@ -1,6 +1,7 @@
 //! One transition of each of some groups at once, in every way.
 
 ghost use Rattle.std.specs.Prelude.{◌≡◌, ℕ, ◌<◌, ◌≤◌, ◌++◌, filter_map, length, map, drop, IfOk, OnOk};
+ghost use Rattle.std.specs.List.Sorted.{IsPermutation, IsSorted};
 ghost use Rattle.ltl_spec.specs.Collections.Sets.{Has};
 ghost use Rattle.ltl_spec.specs.Transitions.RowTransitions as spec;
 ghost use Rattle.ltl_spec.proofs.Transitions.FactorLaws.{all_products, product_size};
@@ -48,7 +49,16 @@ fn product<'a, A: Allocator>(
     Ok(products)
 }
 
-/// One transition of each of these groups at once, in every way.
+/// Sorts transitions by literals, and then by targets. Products have long runs in order, and a stable sort keeps these.
+pub(crate) fn sort<A: Allocator>(transitions: &mut Vec<Transition, &A>) -> Result<(), AllocError>
+    ensures permutation { OnOk result (IsPermutation transitions.old.items transitions.new.items) }
+    ensures sorted { OnOk result (IsSorted spec.transition_cmp transitions.new.items) }
+{
+    transitions.sort_by(|t, u| t.cmp_list(u))?;
+    Ok(())
+}
+
+/// One transition of each of these groups at once, in every way, in some order. What goes into a product is sorted before, so that each has few runs.
 pub(crate) fn all_products<'a, A: Allocator>(
     alloc: &'a A,
     table: &Table<'_, A>,
@@ -59,12 +69,13 @@ pub(crate) fn all_products<'a, A: Allocator>(
     requires own { AreOwn (table_at table.now) own.now }
     requires within { (k : ℕ) → Has numbers.now k → k < length groups.now.lists.items }
     requires consistent { (k : ℕ) → AreConsistent (all_products (table_at table.now) (drop k (map (made_of groups.now.lists.items) numbers.now))) }
-    ensures { IfOk result (λ v. v.items ≡ all_products (table_at table.now) (map (made_of groups.now.lists.items) numbers.now)) }
+    ensures { IfOk result (λ v. IsPermutation (all_products (table_at table.now) (map (made_of groups.now.lists.items) numbers.now)) v.items) }
 {
     let mut products = marked(alloc, table, own, &[Pair::empty()])?;
     let mut left = numbers.len();
     'groups: while left > 0 {
         left -= 1;
+        sort(&mut products)?;
         products = product(
             alloc,
             groups.transitions(numbers[left]),

@@ -117,6 +117,7 @@ impl<'t, 's, 'a, A: Allocator> Successors<RowSet> for RowSets<'t, 's, 'a, A> {
             &mut self.lists,
             &mut self.parts,
             &mut self.groups,
+            &self.joins,
             own,
             self.keep_implied,
             key,

@@ -1,21 +1,22 @@
 //! The transitions of a set of rows, by groups of parts that have nothing to do with each other.
 
 ghost use Rattle.std.specs.Prelude.{◌≡◌, ℕ, ◌<◌, [], length, map, MatchOption, OnOk, IfOk, IsErrOf};
-ghost use Rattle.std.specs.List.Sorted.{IsPermutation, IsSorted};
 ghost use Rattle.ltl_spec.specs.Collections.Sets.{Has};
 ghost use Rattle.ltl_spec.specs.Transitions.RowTransitions as spec;
 ghost use Rattle.ltl_spec.proofs.Transitions.ApartTests.{own_at};
 ghost use Rattle.ltl_spec.proofs.Transitions.FactorLaws.{AreTakenOut};
 ghost use Rattle.ltl_alt.specs.GroupView.{AreGroups, AreGroupsOf, key_of};
+ghost use Rattle.ltl_alt.specs.JoinView.{AreJoins};
 ghost use Rattle.ltl_alt.specs.PartView.{AreLinked, part_of};
 ghost use Rattle.ltl_alt.specs.ReachView.{AreReady};
 ghost use Rattle.ltl_alt.specs.StandIns.{AreOwn, rule_of};
 ghost use Rattle.ltl_alt.specs.TransitionView.{table_at};
 
 use crate::groups::Groups;
+use crate::joins::Joins;
 use crate::pair_set::PairSet;
 use crate::parts::Parts;
-use crate::product::{all_products, combinations};
+use crate::product::{all_products, combinations, sort};
 use crate::room::prepare;
 use crate::row_lists::RowLists;
 use crate::rule::{Pruning, Rule};
@@ -46,6 +47,7 @@ fn group_numbers<'a, A: Allocator>(
     table: &Table<'_, A>,
     parts: &Parts<'a, A>,
     groups: &mut Groups<'a, A>,
+    joins: &Joins<'a, A>,
     pruning: &Pruning<'_, 'a, A>,
     keep_implied: bool,
     all: &RowSet,
@@ -54,6 +56,7 @@ fn group_numbers<'a, A: Allocator>(
     requires own { AreOwn (table_at table.now) pruning.now.own.now }
     requires linked { AreLinked (table_at table.now) pruning.now.own.now parts.now.lists.items parts.now.demands.items parts.now.links.items }
     requires groups { AreGroups (table_at table.now) keep_implied parts.now.lists.items groups.old.keys.keys groups.old.lists.items }
+    requires joins { AreJoins (table_at table.now) (rule_of keep_implied) joins.now.lists.items joins.now.steps.items }
     requires inside { (k : ℕ) → Has all.now k → k < length parts.now.lists.items }
     ensures groups { OnOk result (AreGroups (table_at table.now) keep_implied parts.now.lists.items groups.new.keys.keys groups.new.lists.items) }
     ensures numbers { IfOk result (λ v. AreGroupsOf (table_at table.now) pruning.now.own.now parts.now.lists.items groups.new.keys.keys all.now v.items []) }
@@ -64,18 +67,10 @@ fn group_numbers<'a, A: Allocator>(
         rest.members_rise();
         let group = parts.group(part, &rest);
         group.members_rise();
-        numbers.push(groups.number(alloc, table, parts, pruning, keep_implied, &group)?)?;
+        numbers.push(groups.number(alloc, table, parts, joins, pruning, keep_implied, &group)?)?;
         rest = rest.without(&group);
     }
     Ok(numbers)
-}
-
-/// Sorts transitions by literals, and then by targets.
-fn sort<A: Allocator>(transitions: &mut Vec<Transition, &A>)
-    ensures permutation { IsPermutation transitions.old.items transitions.new.items }
-    ensures sorted { IsSorted spec.transition_cmp transitions.new.items }
-{
-    transitions.sort_unstable_by(|t, u| t.cmp_list(u));
 }
 
 /// The transitions of a set of rows, rising by literals and then by targets. Where they are more than `most` they may be refused, which is known
@@ -86,12 +81,14 @@ pub(crate) fn transitions<'a, A: Allocator>(
     rows: &mut RowLists<'a, A>,
     parts: &mut Parts<'a, A>,
     groups: &mut Groups<'a, A>,
+    joins: &Joins<'a, A>,
     own: &[PairSet<'a, A>],
     keep_implied: bool,
     state: &RowSet,
     most: usize,
 ) -> Result<Vec<Transition, &'a A>, AltFault>
     requires prepared { AreReady table.now keep_implied own.now rows.old parts.old groups.old }
+    requires joins { AreJoins (table_at table.now) (rule_of keep_implied) joins.now.lists.items joins.now.steps.items }
     ensures prepared { OnOk result (AreReady table.now keep_implied own.now rows.new parts.new groups.new) }
     ensures transitions { IfOk result (λ v. v.items ≡ spec.transitions (table_at table.now) keep_implied state.now) }
     ensures large { IsErrOf result AltFault.TooLarge → most < length (spec.transitions (table_at table.now) keep_implied state.now) }
@@ -104,7 +101,16 @@ pub(crate) fn transitions<'a, A: Allocator>(
     state.members_rise();
     let all = parts.numbers(state);
     let remembered = groups.len();
-    let numbers = group_numbers(alloc, table, parts, groups, &pruning, keep_implied, &all)?;
+    let numbers = group_numbers(
+        alloc,
+        table,
+        parts,
+        groups,
+        joins,
+        &pruning,
+        keep_implied,
+        &all,
+    )?;
     if combinations(groups, numbers.as_slice()) > most {
         return Err(AltFault::TooLarge);
     }
@@ -115,6 +121,6 @@ pub(crate) fn transitions<'a, A: Allocator>(
         0
     };
     groups.forget(remembered, most);
-    sort(&mut products);
+    sort(&mut products)?;
     Ok(products)
 }

@@ -26,7 +26,7 @@ pub above_if_implied : (o e : made.Edge) (s r : Bool) → s ≡ same_code o e �
 above_if_implied o e s r i t w = w ∙ ap (λ b. not b && implies_edge (edge_of o) (edge_of e)) (sym t ∙ i ∙ same_test o e)
 
 -- an edge of the list stands at a place
-place_in : (es : List made.Edge) (g : made.Edge) → Has es g → (j : ℕ) × (j < length es) × (edge_at es j ≡ g)
+pub place_in : (es : List made.Edge) (g : made.Edge) → Has es g → (j : ℕ) × (j < length es) × (edge_at es j ≡ g)
 place_in [] g h = absurd h
 place_in (x ∷ xs) g (inl e) = (0, omega arith, sym e)
 place_in (x ∷ xs) g (inr h) = let w = place_in xs g h in let l = w.1 in (suc w.0, omega (arith, l), w.2)
@@ -83,7 +83,7 @@ pub record IsUnderWay (es : List made.Edge) (k p : ℕ) : Type 0 where
   pub same : 0 < p → target_at es (p - 1) ≡ target_at es k
   pub left : (j : ℕ) → j < length es → is_above (edge_of (edge_at es j)) (edge_of (edge_at es k)) ≡ true → j < p
 
-above_target : (f e : made.Edge) → is_above (edge_of f) (edge_of e) ≡ true → f.target ≡ e.target
+pub above_target : (f e : made.Edge) → is_above (edge_of f) (edge_of e) ≡ true → f.target ≡ e.target
 above_target f e t = ((implies_edge_Decides (edge_of f) (edge_of e)).0 (right_true (not (same_edge (edge_of f) (edge_of e))) _ t)).target
 
 pub way_begins : (es : List made.Edge) (heads : List ℕ) (k : ℕ) → k < length es → AreHeads es heads (length es) → IsUnderWay es k (slice_index heads (target_at es k))

@@ -49,16 +49,16 @@ module _ (S : Shared) (shared : IsShared S.lists S.states) where
   abbrev A : Automaton
   A = automaton_of S
 
-  abbrev place : ℕ → Place
+  abbrev pub place : ℕ → Place
   place s = slice_index_or S.states s (record { list = 0; accepting = true })
 
   long : length A.states ≡ length S.states
   long = length-map S.states (state_in S.lists)
 
-  is_at : (s : ℕ) → s < length A.states → state_at A s ≡ state_in S.lists (place s)
+  pub is_at : (s : ℕ) → s < length A.states → state_at A s ≡ state_in S.lists (place s)
   is_at s l = get_or-map (state_in S.lists) S.states s (record { list = 0; accepting = true }) (record { accepting = true; edges = [] }) (let e = long in omega arith)
 
-  has_list : (s : ℕ) → s < length A.states → (place s).list < length S.lists
+  pub has_list : (s : ℕ) → s < length A.states → (place s).list < length S.lists
   has_list s l = shared.places s (record { list = 0; accepting = true }) (let e = long in omega arith)
 
   -- what holds of the edges of all states holds of those of all lists

@@ -15,6 +15,7 @@ use Rattle.ltl_automaton.specs.EdgeView.{edge_of}
 use Rattle.ltl_sets.specs.declared.row_set.TheConstants.RowSet.{LIMIT}
 use Rattle.ltl_automaton.specs.declared.edge.Edge as edges
 use Rattle.ltl_spec.specs.Construction.ImpliedEdges.{IsSetEdge}
+use Rattle.ltl_buchi.specs.Chains.{edge_at}
 use Rattle.ltl_buchi.specs.declared.implied.Asked as made
 
 abbrev pub asked_edge : made.Asked → Edge
@@ -36,6 +37,10 @@ pub record IsOfWeight (w : ℕ) (e : Edge) : Type 0 where
   pub weight : w ≡ length e.cube + (LIMIT - length e.marks)
   pub sets : IsSetEdge e
   pub few : length e.marks ≤ LIMIT
+
+-- of a place and one before it, counted from 1, if there is one, the edges ask for as much
+abbrev pub IsWeighedLike : List edges.Edge → ℕ → ℕ → Type 0
+IsWeighedLike es place link = 0 < link → (w : ℕ) × IsOfWeight w (edge_of (edge_at es place)) × IsOfWeight w (edge_of (edge_at es (link - 1)))
 
 -- all ask for as much
 abbrev pub AreOfWeight : List edges.Edge → Type 0

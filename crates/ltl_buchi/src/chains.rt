@@ -13,9 +13,6 @@ use ltl_automaton::Edge;
 use smallvec::SmallVec;
 use std::alloc::{AllocError, Allocator};
 
-/// So many edges with one target are looked at one by one.
-const FEW: usize = 32;
-
 /// Places of edges, counted from 1, and 0 for none. Most lists are short.
 pub(crate) type Links<'a, A> = SmallVec<usize, 4, &'a A>;
 
@@ -75,13 +72,14 @@ fn is_above(other: &Edge, edge: &Edge) -> bool
     implies(other, edge)
 }
 
-/// Whether an edge implies the one at that place, unless more edges have its target than are looked at.
+/// Whether an edge implies the one at that place, unless more edges have its target than are looked at, `few`.
 #[tactic(auto, using(crate::proofs::ChainLaws::way_begins))]
 pub(crate) fn is_implied(
     edges: &[Edge],
     heads: &[usize],
     links: &[usize],
     place: usize,
+    few: usize,
 ) -> Option<bool>
     requires place { place < length edges.now }
     requires within { All (λ e. e.target < length heads.now) edges.now }
@@ -91,7 +89,7 @@ pub(crate) fn is_implied(
 {
     let edge = &edges[place];
     let mut at = heads[edge.target];
-    'looks: for _ in 0..FEW {
+    'looks: for _ in 0..few {
         if at == 0 {
             return Some(false);
         }
@@ -103,15 +101,15 @@ pub(crate) fn is_implied(
     None
 }
 
-/// Whether it is found of each edge that none implies it.
-pub(crate) fn are_unimplied(edges: &[Edge], heads: &[usize], links: &[usize]) -> bool
+/// Whether it is found of each edge that none implies it, where no more than `few` are looked at for each.
+pub(crate) fn are_unimplied(edges: &[Edge], heads: &[usize], links: &[usize], few: usize) -> bool
     requires within { All (λ e. e.target < length heads.now) edges.now }
     requires heads { AreHeads edges.now heads.now (length edges.now) }
     requires links { AreLinks edges.now links.now (length edges.now) }
     ensures { result ≡ true → merging.unimplied_edges (map edge_of edges.now) ≡ map edge_of edges.now }
 {
     for place in 0..edges.len() {
-        let Some(implied) = is_implied(edges, heads, links, place) else {
+        let Some(implied) = is_implied(edges, heads, links, place, few) else {
             return false;
         };
         if implied {
@@ -121,12 +119,13 @@ pub(crate) fn are_unimplied(edges: &[Edge], heads: &[usize], links: &[usize]) ->
     true
 }
 
-/// The edges that none implies, unless more edges have one target than are looked at.
+/// The edges that none implies, unless more edges have one target than are looked at, `few`.
 pub(crate) fn unimplied_of_few<'a, A: Allocator>(
     alloc: &'a A,
     edges: &[Edge],
     heads: &[usize],
     links: &[usize],
+    few: usize,
 ) -> Result<Option<Vec<Edge, &'a A>>, AllocError>
     requires within { All (λ e. e.target < length heads.now) edges.now }
     requires heads { AreHeads edges.now heads.now (length edges.now) }
@@ -135,7 +134,7 @@ pub(crate) fn unimplied_of_few<'a, A: Allocator>(
 {
     let mut kept = Vec::new(alloc);
     for place in 0..edges.len() {
-        let Some(implied) = is_implied(edges, heads, links, place) else {
+        let Some(implied) = is_implied(edges, heads, links, place, few) else {
             return Ok(None);
         };
         if !implied {

@@ -10,6 +10,7 @@ ghost use Rattle.ltl_automaton.specs.SharedView.{automaton_of};
 ghost use Rattle.ltl_buchi.specs.Classes.{AreListsWithin, IsCoded, IsFirstPlaces, IsLeastAlike, IsLeastPlaces, IsWithinStates, coded_place, list_view};
 
 use crate::retargeting::{are_renamed, retargeted};
+use crate::standing::all_rise;
 use ltl_automaton::{Distinct, Edge, EdgeList, Place, SharedStates};
 use std::alloc::{AllocError, Allocator};
 
@@ -172,20 +173,22 @@ fn least_alike<'a, A: Allocator>(
     least_places(alloc, codes.as_slice(), places.len())
 }
 
-/// The name of each state's class, its least state. Two states are of one class where both or neither is accepting and their edges are equal
-/// up to the classes of the targets.
-pub(crate) fn class_names<'a, A: Allocator>(
+/// The names of the classes, refined from those of a round on.
+fn refined<'a, A: Allocator>(
     alloc: &'a A,
     states: &SharedStates<'_, A>,
+    coarse: Vec<usize, &'a A>,
+    from: usize,
 ) -> Result<Vec<usize, &'a A>, AllocError>
     requires within { IsWithinStates (automaton_of states.now).states }
+    requires round { coarse.items ≡ merging.class_names (automaton_of states.now) from }
     ensures { IfOk result (λ v. v.items ≡ merging.class_names (automaton_of states.now) (length (automaton_of states.now).states)) }
 {
     states.shares();
-    let mut names = own_names(alloc, states.len())?;
+    let mut names = coarse;
     let mut seen: Seen<'a, A> = Distinct::new(alloc);
     let mut codes = first_codes(alloc, &mut seen, states, names.as_slice())?;
-    for round in 0..states.len() {
+    for round in from..states.len() {
         let next = least_alike(alloc, states, codes.as_slice())?;
         if next.as_slice() == names.as_slice() {
             return Ok(names);
@@ -201,4 +204,26 @@ pub(crate) fn class_names<'a, A: Allocator>(
         names = next;
     }
     Ok(names)
+}
+
+/// The name of each state's class, its least state. Two states are of one class where both or neither is accepting and their edges are equal
+/// up to the classes of the targets. Where the edges rise, other lists are other sets of edges, and the first round needs no look at them.
+pub(crate) fn class_names<'a, A: Allocator>(
+    alloc: &'a A,
+    states: &SharedStates<'_, A>,
+) -> Result<Vec<usize, &'a A>, AllocError>
+    requires within { IsWithinStates (automaton_of states.now).states }
+    ensures { IfOk result (λ v. v.items ≡ merging.class_names (automaton_of states.now) (length (automaton_of states.now).states)) }
+{
+    states.shares();
+    let names = own_names(alloc, states.len())?;
+    if !all_rise(states) {
+        return refined(alloc, states, names, 0);
+    }
+    let codes = own_names(alloc, states.list_count())?;
+    let next = least_alike(alloc, states, codes.as_slice())?;
+    if next.as_slice() == names.as_slice() {
+        return Ok(names);
+    }
+    refined(alloc, states, next, 1)
 }

@@ -1,9 +1,10 @@
 //! Edges that others imply.
 
-ghost use Rattle.std.specs.Prelude.{◌≡◌, ◌<◌, length, map, All, IfOk, true};
+ghost use Rattle.std.specs.Prelude.{◌≡◌, ◌<◌, ◌≤◌, length, map, All, IfOk, true};
 ghost use Rattle.ltl_spec.specs.Construction.Merging as merging;
 ghost use Rattle.ltl_automaton.specs.EdgeView.{edge_of};
-ghost use Rattle.ltl_buchi.specs.Asked.{AreAsked, AreOfWeight, IsAsked, IsOfWeight};
+ghost use Rattle.ltl_buchi.specs.Asked.{AreAsked, AreOfWeight, IsAsked, IsOfWeight, IsWeighedLike};
+ghost use Rattle.ltl_buchi.specs.Chains.{AreLinks};
 
 use crate::chains::{are_unimplied, linked, unimplied_of_few};
 use least::{Below, Counting, Lookup};
@@ -12,6 +13,12 @@ use ltl_automaton::Edge;
 use ltl_sets::{Cube, RowSet};
 use smallvec::SmallVec;
 use std::alloc::{AllocError, Allocator};
+
+/// So many edges with one target are looked at one by one before it is asked whether all ask for as much.
+const FEW: usize = 8;
+
+/// So many are looked at one by one where they don't.
+const MORE: usize = 32;
 
 /// An edge, with the ones and the zeros of its target's number, each as the bits of a word. What two edges have in common is such a thing too: it has
 /// those digits that both targets have, and the target of its edge plays no part.
@@ -154,6 +161,32 @@ fn are_of_one_weight(edges: &[Edge]) -> bool
     true
 }
 
+/// Whether the edge at a place asks for as much as the one at the other place, which is counted from 1, and 0 for none.
+fn weighs_like(edges: &[Edge], place: usize, link: usize) -> bool
+    requires place { place < length edges.now }
+    requires link { link ≤ place }
+    ensures { result ≡ true → IsWeighedLike edges.now place link }
+{
+    if link == 0 {
+        return true;
+    }
+    weight(&edges[place]) == weight(&edges[link - 1])
+}
+
+/// Whether each edge asks for as much as the latest one before it with its target, so that all with one target do.
+#[tactic(auto, using(crate::proofs::WeightLaws::alike_next))]
+fn weigh_alike(edges: &[Edge], links: &[usize]) -> bool
+    requires links { AreLinks edges.now links.now (length edges.now) }
+    ensures { result ≡ true → merging.unimplied_edges (map edge_of edges.now) ≡ map edge_of edges.now }
+{
+    for place in 0..edges.len() {
+        if !weighs_like(edges, place, links[place]) {
+            return false;
+        }
+    }
+    true
+}
+
 /// The edges without those that another one with the same target implies, by one look for each among all of them.
 fn unimplied_of_many<'a, A: Allocator>(
     alloc: &'a A,
@@ -180,6 +213,20 @@ fn unimplied_of_many<'a, A: Allocator>(
     Ok(exact)
 }
 
+/// Whether it is found of each edge that no other one implies it. The heads are room for the latest edge to each target.
+pub(crate) fn are_found_unimplied<'a, A: Allocator>(
+    alloc: &'a A,
+    edges: &[Edge],
+    heads: &mut [usize],
+) -> Result<bool, AllocError>
+    requires within { All (λ e. e.target < length heads.old) edges.now }
+    ensures wide { length heads.new ≡ length heads.old }
+    ensures found { IfOk result (λ b. b ≡ true → merging.unimplied_edges (map edge_of edges.now) ≡ map edge_of edges.now) }
+{
+    let links = linked(alloc, edges, heads)?;
+    Ok(are_unimplied(edges, heads, links.as_slice(), FEW) || weigh_alike(edges, links.as_slice()))
+}
+
 /// The edges without those that another one with the same target implies. The heads are room for the latest edge to each target.
 pub(crate) fn unimplied<'a, A: Allocator>(
     alloc: &'a A,
@@ -191,10 +238,12 @@ pub(crate) fn unimplied<'a, A: Allocator>(
     ensures edges { IfOk result (λ es. map edge_of es.items ≡ merging.unimplied_edges (map edge_of edges.entry.items)) }
 {
     let links = linked(alloc, edges.as_slice(), heads)?;
-    if are_unimplied(edges.as_slice(), heads, links.as_slice()) {
+    if are_unimplied(edges.as_slice(), heads, links.as_slice(), FEW)
+        || weigh_alike(edges.as_slice(), links.as_slice())
+    {
         return Ok(edges);
     }
-    match unimplied_of_few(alloc, edges.as_slice(), heads, links.as_slice())? {
+    match unimplied_of_few(alloc, edges.as_slice(), heads, links.as_slice(), MORE)? {
         Some(kept) => Ok(kept),
         None => unimplied_of_many(alloc, edges.as_slice()),
     }

@@ -5,8 +5,9 @@
 //! table of rows to a Büchi automaton (`translate`) or, without levels, to a generalized one (`generalized`).
 //!
 //! What flows: a `Table`, by `ltl_alt` a `Gba`, merged; its copies on levels, a `Ba` whose accepting states are those of the last level; merged again
-//! and numbered. Implied edges are sought along chains of edges with one target (`chains`), and by an index where these are long (`implied`). Each
-//! automaton is let go as soon as the next one stands. A `Gen` is a merged `Gba` in the numbers in which it is printed.
+//! and numbered. An automaton that merging leaves as it is (`standing`) is handed on without a copy (`smaller`). Implied edges are sought along chains
+//! of edges with one target (`chains`), by weights, and by an index where these differ and chains are long (`implied`). Each automaton is let go as
+//! soon as the next one stands. A `Gen` is a merged `Gba` in the numbers in which it is printed.
 //!
 //! ```
 //! let formula = ltl_formula::read(&alloc, b"[]<>p")?;
@@ -31,6 +32,8 @@ pub mod numbering;
 pub mod options;
 mod quotient;
 mod retargeting;
+mod smaller;
+mod standing;
 pub mod translation;
 
 pub use automaton::Ba;

@@ -19,7 +19,7 @@ use ltl_automaton::{Edge, SharedStates};
 use std::alloc::{AllocError, Allocator};
 
 /// The names of the classes that are merged: each state alone where equal states are kept.
-fn names<'a, A: Allocator>(
+pub(crate) fn names<'a, A: Allocator>(
     alloc: &'a A,
     states: &SharedStates<'_, A>,
     keep_equal: bool,
@@ -57,7 +57,7 @@ fn are_sets(edges: &[Edge])
 }
 
 /// Hands to callers that the literals and the marks of all edges are sets.
-fn all_are_sets<A: Allocator>(states: &SharedStates<'_, A>)
+pub(crate) fn all_are_sets<A: Allocator>(states: &SharedStates<'_, A>)
     ensures { All (λ s. All IsSetEdge s.edges) (automaton_of states.now).states }
 {
     for s in 0..states.len() {

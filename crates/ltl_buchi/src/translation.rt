@@ -15,10 +15,10 @@ ghost use Rattle.ltl_buchi.specs.Named.{HasNamesOf};
 use crate::automaton::Ba;
 use crate::copies::level_states;
 use crate::fault::BaFault;
-use crate::merging::{merge, merged_states};
 use crate::numbered::Gen;
 use crate::numbering::{renumber_generalized, renumbered_states};
 use crate::options::Options;
+use crate::smaller::{smaller_gba, smaller_states};
 use ltl_alt::Gba;
 use ltl_formula::Table;
 use std::alloc::Allocator;
@@ -46,12 +46,10 @@ pub fn translate<'a, A: Allocator>(
     ensures large { IsErrOf result BaFault.TooLarge → IsTranslationTooLarge (core_of table.now) options.now stated_limits.states stated_limits.edges }
 {
     let generalized = Gba::reach(alloc, table, options.keep_implied)?;
-    let small = merge(alloc, &generalized, options)?;
-    drop(generalized);
+    let small = smaller_gba(alloc, generalized, options)?;
     let copies = level_states(alloc, &small)?;
     drop(small);
-    let smaller = merged_states(alloc, &copies, options)?;
-    drop(copies);
+    let smaller = smaller_states(alloc, copies, options)?;
     let numbered = renumbered_states(alloc, &smaller)?;
     drop(smaller);
     Ok(Ba::new(alloc, numbered)?)
@@ -80,7 +78,6 @@ pub fn generalized<'a, A: Allocator>(
     ensures large { IsErrOf result BaFault.TooLarge → IsTooLarge (core_of table.now) options.now.keep_implied stated_limits.states stated_limits.edges }
 {
     let reached = Gba::reach(alloc, table, options.keep_implied)?;
-    let merged = merge(alloc, &reached, options)?;
-    drop(reached);
+    let merged = smaller_gba(alloc, reached, options)?;
     renumber_generalized(alloc, &merged)
 }

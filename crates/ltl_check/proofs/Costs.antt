@@ -6,11 +6,11 @@ use Rattle.ltl_check.specs.declared.graph.Step.{Step}
 use Rattle.ltl_check.specs.declared.walk.Taken.{Taken}
 use Rattle.ltl_check.specs.declared.search.Colour.{Colour}
 use Rattle.ltl_check.specs.declared.search.Colour.TheVariants.{New, Open, Left, Marked}
-use Rattle.ltl_check.specs.Nets.{Net, IsArc, IsWay, Turns, IsFound}
+use Rattle.ltl_check.specs.Nets.{Net, IsWay, Turns, IsFound}
 use Rattle.ltl_check.specs.declared.search.Front.{Front}
 use Rattle.ltl_check.specs.declared.search.Met.{Met}
 use Rattle.ltl_check.specs.declared.search.Search.{Search}
-use Rattle.ltl_check.specs.Explored.{Each, OneOf, IsChanged, IsLeft, IsMarkedTo, IsOpenStep, IsExplored, IsClosed, IsOver, IsMarkedStep, IsProbed, IsAt, IsProbedAt, colour_at, total, rest_way, rest, cost, to_enter, to_mark, work, IsOn, HasLeftAt, IsProbedOn, HasProbedAt, IsMet, counted, IsGrown, IsBack, sum_below, Reached, looks_left, IsPopped, IsDone, rest_of, StandsAt, IsProbing, HasMet, HasLeft}
+use Rattle.ltl_check.specs.Explored.{Each, OneOf, IsChanged, IsLeft, IsMarkedTo, IsOpenStep, IsExplored, IsClosed, IsOver, IsMarkedStep, IsProbed, IsAt, IsProbedAt, colour_at, total, rest_way, rest, cost, to_enter, to_mark, work, IsOn, HasLeftAt, IsProbedOn, HasProbedAt, IsMet, counted, IsGrown, sum_below, Reached, looks_left, IsPopped, IsDone, rest_of, StandsAt, IsProbing, HasMet, HasLeft}
 use Rattle.ltl_check.specs.Looks.{LooksAtMost}
 use Rattle.ltl_check.proofs.WayLaws.{way_push, way_split}
 use Rattle.ltl_check.proofs.FirstPass.{skip, enter, enter_closed, leave, over, leave_closed}

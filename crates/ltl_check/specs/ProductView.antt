@@ -9,6 +9,7 @@ use Rattle.ltl_spec.specs.Checking.Product.{renamed_cube, unified_number}
 use Rattle.ltl_spec.specs.Collections.Lists.{place_of}
 use Rattle.ltl_spec.specs.Formulas.Tokens.{same_name}
 use Rattle.ltl_spec.specs.Semantics.Word.{Name}
+use Rattle.ltl_spec.specs.Formulas.Names.{unified}
 use Rattle.ltl_spec.specs.Tools.Limits.{stated_limits}
 use Rattle.ltl_sets.specs.Words.{letter_of}
 use Rattle.ltl_hoa.specs.declared.marked.TheConstants.{MOST_SETS}
@@ -28,6 +29,11 @@ number_in numbers p = slice_index_or numbers p 0
 -- the numbers of the second side's propositions among the names of both
 abbrev pub AreUnified : List ℕ → List Name → List Name → Type 0
 AreUnified numbers firsts seconds = (p : ℕ) → p < length seconds → number_in numbers p ≡ unified_number firsts seconds p
+
+-- all names of both sides, and no more of them than are allowed
+pub record AreAllNames (firsts seconds names : List Name) : Type 0 where
+  pub all : names ≡ unified firsts seconds
+  pub few : length names ≤ stated_limits.propositions
 
 -- and among any names
 abbrev pub ArePlaces : List ℕ → List Name → List Name → Type 0

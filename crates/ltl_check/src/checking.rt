@@ -12,7 +12,7 @@ ghost use Rattle.ltl_spec.specs.Tools.Programs.{RefusesCheck};
 ghost use Rattle.ltl_spec.specs.Tools.Refusal.{TooManyPropositions, LargeProduct};
 ghost use Rattle.ltl_check.specs.Explored.{sum_below};
 ghost use Rattle.ltl_check.specs.Looks.{CoversReached, LooksAtCopies, LooksAtMost};
-ghost use Rattle.ltl_check.specs.ProductView.{AreUnified, pair_count, pair_at, edge_pairs};
+ghost use Rattle.ltl_check.specs.ProductView.{AreAllNames, AreUnified, pair_count, pair_at, edge_pairs};
 ghost use Rattle.ltl_check.specs.VerdictView.{IsVerdictOn, verdict_of, letters_of, level_pairs};
 ghost use Rattle.ltl_word.specs.LassoView.{word_with};
 ghost use Rattle.ltl_check.specs.declared.verdict.Outcome.TheVariants.{Contained};
@@ -79,8 +79,7 @@ fn search_product<'a, A: Allocator>(
     steps: &mut Steps,
 ) -> Result<Outcome<'a, A>, CheckFault>
     requires named { HasNamesBelow (length formula.now.names) product.now.second.now }
-    requires names { map (λ n. n.now) names.now ≡ unified product.now.first.now.names formula.now.names }
-    requires few { length names.now ≤ stated_limits.propositions }
+    requires names { AreAllNames product.now.first.now.names formula.now.names (map (λ n. n.now) names.now) }
     requires numbers { AreUnified product.now.numbers.now product.now.first.now.names formula.now.names }
     requires fits { pair_count product.now.first.now product.now.second.now * (product.now.first.now.sets + 1 + 1) ≤ stated_limits.product }
     ensures verdict { IfOk result (λ o. IsVerdictOn product.now.first.now formula.now.names product.now.second.now (verdict_of o)) }

@@ -1,5 +1,5 @@
 -- The tasks of the walk as those of its laws, and the numbers that it lists.
-use Rattle.std.specs.Prelude.{ℕ, ◌<◌, List, length, take, All, slice_index}
+use Rattle.std.specs.Prelude.{ℕ, ◌<◌, List, length, map, take, All, slice_index}
 use Rattle.ltl_spec.specs.Collections.Sets.{Has}
 use Rattle.ltl_spec.specs.Collections.Lists.{HasNoRepeats}
 use Rattle.ltl_spec.specs.NormalForms.RowsCollected as law
@@ -10,6 +10,11 @@ use Rattle.ltl_formula.specs.declared.walk.Task.TheVariants.{Enter, Leave}
 abbrev pub task_of : Task → law.Task
 task_of (Enter k) = law.Enter k
 task_of (Leave k) = law.Leave k
+
+-- the task and those behind it are on the first n nodes
+pub record AreOnNodes (n : ℕ) (first : Task) (behind : List Task) : Type 0 where
+  pub now : law.task_number (task_of first) < n
+  pub later : All (λ t. law.task_number t < n) (map task_of behind)
 
 -- different numbers of nodes, each behind those of its operands
 pub record AreInOrder (nodes : List Node) (numbers : List ℕ) : Type 0 where

@@ -3,8 +3,8 @@
 ghost use Rattle.std.specs.Prelude.{◌≡◌, ◌<◌, ◌≤◌, ℕ, All, IfOk, IsErrOf, OnOk, length, map};
 ghost use Rattle.ltl_spec.specs.NormalForms.NormalForm.{rows};
 ghost use Rattle.ltl_spec.specs.NormalForms.SharedNodes.{IsShared, tree_at};
-ghost use Rattle.ltl_spec.specs.NormalForms.RowsCollected.{IsTaskDone, AreFlags, task_number};
-ghost use Rattle.ltl_formula.specs.WalkView.{AreInOrder, task_of};
+ghost use Rattle.ltl_spec.specs.NormalForms.RowsCollected.{IsTaskDone, AreFlags};
+ghost use Rattle.ltl_formula.specs.WalkView.{AreInOrder, AreOnNodes, task_of};
 
 use crate::build_fault::BuildFault;
 use crate::graph::Graph;
@@ -46,8 +46,7 @@ fn step<A: Allocator>(
     requires shared { IsShared graph.now.nodes }
     requires long { length flags.old.items ≡ length graph.now.nodes }
     requires flags { AreFlags flags.old.items listed.old.items }
-    requires task { task_number (task_of task) < length graph.now.nodes }
-    requires tasks { All (λ t. task_number t < length graph.now.nodes) (map task_of stack.old.items) }
+    requires tasks { AreOnNodes (length graph.now.nodes) task stack.old.items }
     requires numbers { All (λ k. k < length graph.now.nodes) listed.old.items }
     ensures long { OnOk result (length flags.new.items ≡ length graph.now.nodes) }
     ensures flags { OnOk result (AreFlags flags.new.items listed.new.items) }

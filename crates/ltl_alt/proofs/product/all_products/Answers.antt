@@ -1,5 +1,7 @@
-use Rattle.std.proofs.Common.{◌≡◌, ◌+◌, ◌-◌, ◌<◌, ◌∙◌, ap, arith, drop, length, map, refl}
+use Rattle.std.proofs.Common.{◌≡◌, ℕ, ◌+◌, ◌-◌, ◌<◌, arith, drop, length, map, refl, subst, sym}
+use Rattle.std.specs.List.Sorted.{IsPermutation}
 use Rattle.std.specs.Prelude.{slice_index_or}
+use Rattle.std.proofs.lemmas.List.Sorted.{IsPermutation-trans}
 use Rattle.ltl_spec.proofs.Collections.ListLaws.{Has-at}
 use Rattle.ltl_spec.proofs.Transitions.FactorLaws.{all_products}
 use Rattle.ltl_alt.specs.GroupView.{made_of}
@@ -24,8 +26,11 @@ groups-preserved g c =
     let left = c.groups.left - 1 in
     let inside : left < length numbers = omega arith in
     let next : c.groups.left ≡ left + 1 = omega arith in
+    let rest = λ (n : ℕ). all_products T (drop n (map (made_of lists) numbers)) in
+    let moved : IsPermutation (rest (left + 1)) c.as_slice.result.now =
+    subst (λ n. IsPermutation (rest n) c.as_slice.result.now) next
+    (subst (IsPermutation (rest c.groups.left)) (sym c.as_slice.ensures.value) (IsPermutation-trans (rest c.groups.left) c.groups.products.items c.sort.new.transitions.items c.groups.invariant.products c.in_ok-sort.ensures.permutation)) in
     record {
       within = omega arith;
-      products = products_step T lists numbers left (slice_index_or numbers left 0) c.transitions.result.now c.as_slice.result.now c.in_ok-products-2.products.items inside refl c.requires.consistent
-          (c.as_slice.ensures.value ∙ c.groups.invariant.products ∙ ap (λ n. all_products T (drop n (map (made_of lists) numbers))) next) c.transitions.ensures c.in_ok-products-2.ensures;
+      products = products_step T lists numbers left (slice_index_or numbers left 0) c.transitions.result.now c.as_slice.result.now c.in_ok-products-2.products.items inside refl c.requires.consistent moved c.transitions.ensures c.in_ok-products-2.ensures;
     }

@@ -28,6 +28,6 @@ groups-preserved g c =
       groups = c.in_ok-number.ensures.groups;
       numbers = groups_of_more (table_at c.args.table.now) c.args.pruning.now.own.now lists c.args.parts.now.demands.items c.args.parts.now.links.items c.args.all.now c.groups.groups.keys.keys c.number.new.self.keys.keys
           c.groups.numbers.items c.push.new.self.items c.groups.rest c.group-group.result c.without-rest.result c.in-Some.part c.in_ok-number.field-0 c.requires.linked c.groups.invariant.inside c.groups.invariant.numbers
-          c.members_rise.ensures.rising c.members_rise-in-Some.ensures.rising c.group-group.ensures c.in_ok-number.ensures.kept c.in_ok-number.ensures.found c.in_ok-push.ensures.ok c.without-rest.ensures;
+          c.members_rise.ensures.rising c.members_rise-in-Some.ensures.rising c.group-group.ensures c.in_ok-number.ensures.numbers.1 c.in_ok-number.ensures.numbers.0 c.in_ok-push.ensures.ok c.without-rest.ensures;
       inside = λ k h. c.groups.invariant.inside k (filter_cases (λ i. not (has nat_cmp i c.group-group.result)) c.groups.rest k (subst (λ xs. Has xs k) c.without-rest.ensures h)).0;
     }

@@ -1,4 +1,5 @@
 use Rattle.std.proofs.Common.{◌≤◌, ◌∙◌, [], ap, arith, drop, map, sym, subst}
+use Rattle.std.specs.List.Sorted.{IsPermutation}
 use Rattle.ltl_spec.proofs.Transitions.FactorLaws.{all_products, product_size}
 use Rattle.ltl_alt.specs.GroupView.{made_of, key_of, AreGroupsOf}
 use Rattle.ltl_alt.specs.PartView.{part_of, AreParts}
@@ -21,7 +22,7 @@ group_numbers-requires g c =
             parts.linked,
             (
               c.in_ok-prepare.ensures.groups c.args.keep_implied c.requires.prepared.groups,
-              numbers_inside c.prepare.new.parts.owners.items new c.args.state.now c.numbers-all.result parts.rows.owner_count c.numbers-all.ensures,
+              (c.requires.joins, numbers_inside c.prepare.new.parts.owners.items new c.args.state.now c.numbers-all.result parts.rows.owner_count c.numbers-all.ensures),
             ),
           ),
         ),
@@ -53,8 +54,8 @@ returns-clause-transitions g c =
     let groups = subst (λ all. AreGroupsOf T own new.lists.items keys all numbers []) c.numbers-all.ensures c.in_ok-numbers.ensures.numbers in
     let parts = subst (λ r. AreParts T r own new.made new.owners.items new.lists.items new.demands.items new.links.items) c.of.ensures c.in_ok-prepare.ensures.parts in
     factored T own keep new.made new.owners.items new.lists.items new.demands.items new.links.items keys lists c.args.state.now numbers c.in_ok-products.products.items c.sort.new.transitions.items c.requires.prepared.own_pairs parts
-    c.in_ok-numbers.ensures.groups c.members_rise.ensures.rising c.in_ok-prepare.ensures.made groups.taken groups.within (c.in_ok-products.ensures ∙ ap (λ ns. all_products T (map (made_of lists) ns)) c.as_slice-2.ensures)
-    c.sort.ensures.permutation c.sort.ensures.sorted
+    c.in_ok-numbers.ensures.groups c.members_rise.ensures.rising c.in_ok-prepare.ensures.made groups.taken groups.within (subst (λ ns. IsPermutation (all_products T (map (made_of lists) ns)) c.in_ok-products.products.items) c.as_slice-2.ensures c.in_ok-products.ensures)
+    c.in_ok-sort.ensures.permutation c.in_ok-sort.ensures.sorted
 
 pub prepare-requires-clause-lists : goal.prepare-requires-clause-lists
 prepare-requires-clause-lists g c = subst (λ r. AreLists c.args.table.now r c.args.rows.now.pairs.items c.args.rows.now.sets.items) (sym c.of.ensures) c.requires.prepared.lists

@@ -1,4 +1,4 @@
-use Rattle.std.proofs.Common.{◌≡◌, sym, subst, ap, ◌∙◌, length, Ok, None}
+use Rattle.std.proofs.Common.{◌≡◌, sym, subst, ap, ◌∙◌, length, Ok, None, arith}
 use Rattle.std.specs.Prelude.{IsTrue}
 use Rattle.std.specs.List.{list_all}
 use Rattle.ltl_spec.specs.Collections.Lists.{HasNoRepeats}
@@ -10,24 +10,27 @@ use Rattle.ltl_check.proofs.VerdictLaws.{none_verdict, letters_within, walk_verd
 use Rattle.ltl_check.proofs.checking.search_product.Goals as goal
 
 pub word-requires-clause-distinct : goal.word-requires-clause-distinct
-word-requires-clause-distinct g c = subst HasNoRepeats (sym c.requires.names) (HasNoRepeats-unified c.args.product.now.first.now.names c.args.formula.now.names)
+word-requires-clause-distinct g c = subst HasNoRepeats (sym c.requires.names.all) (HasNoRepeats-unified c.args.product.now.first.now.names c.args.formula.now.names)
 
 pub word-requires-clause-propositions : goal.word-requires-clause-propositions
 word-requires-clause-propositions g c =
-    subst (λ ns. IsTrue (list_all is_proposition ns)) (sym c.requires.names)
+    subst (λ ns. IsTrue (list_all is_proposition ns)) (sym c.requires.names.all)
     (unified_propositions c.args.product.now.first.now.names c.args.formula.now.names c.stays_within.ensures.propositions c.len.ensures.formula.propositions)
+
+pub word-requires-clause-few : goal.word-requires-clause-few
+word-requires-clause-few g c = omega (arith, c.requires.names.few, map_length (λ n. n.now) c.args.names.now)
 
 pub word-requires-clause-within : goal.word-requires-clause-within
 word-requires-clause-within g c =
     let w = rw c.in-Some.is at c.in_ok-walk.ensures.found in
     letters_within c.args.product.now.first.now c.args.formula.now.names c.args.product.now.second.now c.args.product.now.numbers.now c.stays_within.ensures c.stays_within-2.ensures c.requires.named c.requires.numbers
-    c.in-Some.walk.way.items c.in-Some.walk.turn.items w (length c.args.names.now) (sym (map_length _ c.args.names.now) ∙ ap length c.requires.names)
+    c.in-Some.walk.way.items c.in-Some.walk.turn.items w (length c.args.names.now) (sym (map_length _ c.args.names.now) ∙ ap length c.requires.names.all)
 
 pub returns-in_ok-word-in-Some-clause-verdict : goal.returns-in_ok-word-in-Some-clause-verdict
 returns-in_ok-word-in-Some-clause-verdict g c =
     let w = rw c.in-Some.is at c.in_ok-walk.ensures.found in
     walk_verdict c.args.product.now.first.now c.args.formula.now.names c.args.product.now.second.now c.args.product.now.numbers.now c.stays_within.ensures c.stays_within-2.ensures c.requires.named c.requires.numbers
-    c.in-Some.walk.way.items c.in-Some.walk.turn.items w _ c.requires.names c.in_ok-word-in-Some.field-0 c.in_ok-word-in-Some.ensures
+    c.in-Some.walk.way.items c.in-Some.walk.turn.items w _ c.requires.names.all c.in_ok-word-in-Some.field-0 c.in_ok-word-in-Some.ensures
 
 pub returns-in-None-clause-verdict : goal.returns-in-None-clause-verdict
 returns-in-None-clause-verdict g c =

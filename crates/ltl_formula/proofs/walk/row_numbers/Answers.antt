@@ -18,7 +18,7 @@ work-init g c = record {
 pub step-requires : goal.step-requires
 step-requires g c =
     let top = (loop_pops c.args.graph.now.nodes c.args.root _ _ _ _ c.work.invariant.walking c.in-Some.ensures.items) in
-    (omega arith, (omega arith, (omega arith, (c.len.ensures.constants.shared, (c.work.invariant.long, (c.work.invariant.flags, (top.1, (top.0, c.work.invariant.walking.numbers))))))))
+    (omega arith, (omega arith, (omega arith, (c.len.ensures.constants.shared, (c.work.invariant.long, (c.work.invariant.flags, (record { now = top.1; later = top.0 }, c.work.invariant.walking.numbers)))))))
 
 pub work-preserved : goal.work-preserved
 work-preserved g c =

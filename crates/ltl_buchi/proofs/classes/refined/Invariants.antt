@@ -3,7 +3,7 @@ use Rattle.std.specs.Prelude.{slice_index}
 use Rattle.ltl_spec.specs.Construction.Merging as merging
 use Rattle.ltl_automaton.specs.SharedView.{automaton_of}
 use Rattle.ltl_buchi.specs.Classes.{IsCoded, list_view}
-use Rattle.ltl_buchi.proofs.classes.class_names.Given as goal
+use Rattle.ltl_buchi.proofs.classes.refined.Given as goal
 
 abbrev pub invariant-loop-round : goal.invariant-loop-round
 invariant-loop-round g l = record {

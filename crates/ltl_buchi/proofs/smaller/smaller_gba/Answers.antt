@@ -1,0 +1,20 @@
+use Rattle.std.proofs.Common.{◌≡◌, ◌∙◌, ap, sym, subst}
+use Rattle.std.specs.Prelude.{MatchOption}
+use Rattle.ltl_spec.specs.Automata.Automaton.{Automaton}
+use Rattle.ltl_spec.specs.Construction.Merging.{merged_automaton}
+use Rattle.ltl_automaton.specs.SharedView.{automaton_of}
+use Rattle.ltl_alt.specs.GbaView.{IsAcceptingGba}
+use Rattle.ltl_buchi.specs.Classes.{IsWithinStates}
+use Rattle.ltl_buchi.proofs.MergedLaws.{merged_accepting_gba, gba_within}
+use Rattle.ltl_buchi.proofs.smaller.smaller_gba.Goals as goal
+
+pub changed-requires : goal.changed-requires
+changed-requires g c = record { within = subst (λ (B : Automaton). IsWithinStates B.states) (sym c.states.ensures) (gba_within c.args.gba c.stays_within.ensures) }
+
+pub new-requires : goal.new-requires
+new-requires g c =
+    let o = c.args.options.now in
+    let merged = merged_automaton o.keep_implied o.keep_equal in
+    let e : automaton_of c.in-Some.states ≡ merged (automaton_of c.states.result.now) =
+    subst (λ p. MatchOption p (automaton_of c.states.result.now ≡ merged (automaton_of c.states.result.now)) (λ m. automaton_of m ≡ merged (automaton_of c.states.result.now))) c.in-Some.is c.in_ok-states.ensures in
+    subst IsAcceptingGba (sym (e ∙ ap merged c.states.ensures)) (merged_accepting_gba c.args.gba o.keep_implied o.keep_equal c.stays_within.ensures c.accepts_everywhere.ensures)

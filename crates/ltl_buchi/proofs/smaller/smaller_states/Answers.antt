@@ -1,0 +1,18 @@
+use Rattle.std.proofs.Common.{◌≡◌, sym, subst}
+use Rattle.std.specs.Prelude.{MatchOption}
+use Rattle.ltl_spec.specs.Construction.Merging.{merged_automaton}
+use Rattle.ltl_automaton.specs.SharedView.{automaton_of}
+use Rattle.ltl_buchi.specs.BaView.{IsBa, IsPlain}
+use Rattle.ltl_buchi.proofs.MergedLaws.{merged_ba, merged_unmarked}
+use Rattle.ltl_buchi.proofs.smaller.smaller_states.Goals as goal
+
+pub returns-in-Some-clause-plain : goal.returns-in-Some-clause-plain
+returns-in-Some-clause-plain g c =
+    let o = c.args.options.now in
+    let B = automaton_of c.args.states in
+    let merged = merged_automaton o.keep_implied o.keep_equal in
+    let e : automaton_of c.in-Some.small ≡ merged B = subst (λ p. MatchOption p (B ≡ merged B) (λ m. automaton_of m ≡ merged B)) c.in-Some.is c.in_ok-small.ensures in
+    record {
+      inside = subst IsBa (sym e) (merged_ba B o.keep_implied o.keep_equal c.requires.plain.inside c.all_are_sets.ensures);
+      plain = subst IsPlain (sym e) (merged_unmarked B o.keep_implied o.keep_equal c.requires.plain.plain);
+    }

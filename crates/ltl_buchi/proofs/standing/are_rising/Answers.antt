@@ -1,0 +1,6 @@
+use Rattle.std.proofs.Common.{arith}
+use Rattle.ltl_buchi.proofs.StandingLaws.{rising_steps}
+use Rattle.ltl_buchi.proofs.standing.are_rising.Goals as goal
+
+pub returns : goal.returns
+returns c = λ _. rising_steps c.args.edges.now (λ k l. c.loop-place.invariant k (omega (arith, l, c.loop-place-test.false)))
