@@ -7,7 +7,7 @@ use Rattle.std.specs.List.{list_any}
 use Rattle.std.specs.Cmp.Lexicographic.{pointwise, bytes_decides}
 use Rattle.std.specs.Prelude.{nat_eq}
 use Rattle.std.proofs.lemmas.List.{length-append}
-use Rattle.ltl_spec.specs.Collections.Sets.{Has, IsRising}
+use Rattle.ltl_spec.specs.Collections.Sets.{Has, IsRising, set_of}
 use Rattle.ltl_spec.specs.Transitions.Pairs.{RowSet, Pair, pair_cmp, join, empty_pair}
 use Rattle.ltl_spec.specs.Transitions.RowTransitions.{Table, with_marks, Transition, unimplied_transitions}
 use Rattle.ltl_spec.proofs.Collections.CaseLaws.{false_is_true}
@@ -23,7 +23,7 @@ use Rattle.ltl_alt.specs.PartView.{part_of}
 use Rattle.ltl_alt.specs.StandIns.{IsKeptBy, IsListed, StandsFor, IsFit, IsPruned, rule_of}
 use Rattle.ltl_alt.proofs.NeedsLaws.{same_or_other}
 use Rattle.ltl_alt.proofs.OwnLaws.{at_last, at_before}
-use Rattle.ltl_alt.proofs.StandInLaws.{stands_in, kept_all, kept_on, kept_rest, pruned_of, listed_equal, listed_safe}
+use Rattle.ltl_alt.proofs.StandInLaws.{stands_in, kept_all, kept_same, kept_on, kept_rest, pruned_of, listed_equal, listed_safe}
 
 -- ---- joins one after another
 
@@ -31,8 +31,8 @@ use Rattle.ltl_alt.proofs.StandInLaws.{stands_in, kept_all, kept_on, kept_rest, 
 abbrev pub joined_on : (ℕ → List Pair) → List Pair → List ℕ → List Pair
 joined_on f ps is = fold (λ xs k. join xs (f k)) ps is
 
-pub joined_pruned : (T : Table) (r : Rule) (own : List (List Pair)) (ps js zs : List Pair) → IsFit T r own → js ≡ ps → IsPruned r own js zs → IsListed (StandsFor T r) ps zs
-joined_pruned T r own ps js zs fit e w = pruned_of T r own ps js zs fit (subst (IsKeptBy (StandsFor T r) ps) (sym e) (kept_all (stands_in T r) ps)) w
+pub joined_pruned : (T : Table) (r : Rule) (own : List (List Pair)) (ps js zs : List Pair) → IsFit T r own → set_of pair_cmp js ≡ set_of pair_cmp ps → IsPruned r own js zs → IsListed (StandsFor T r) ps zs
+joined_pruned T r own ps js zs fit e w = pruned_of T r own ps js zs fit (kept_same (stands_in T r) ps js e) w
 
 pub joins_begin : (T : Table) (r : Rule) (f : ℕ → List Pair) (e is : List ℕ) (ps : List Pair) → is ≡ e → ps ≡ empty_pair ∷ [] → IsKeptBy (StandsFor T r) (joined_on f (empty_pair ∷ []) e) (joined_on f ps is)
 joins_begin T r f e is ps d g =

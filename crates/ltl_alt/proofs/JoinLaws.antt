@@ -4,8 +4,8 @@ use Rattle.std.specs.Prelude.{slice_index_or, filter, nat_eq, not}
 use Rattle.std.specs.Cmp.Lexicographic.{pointwise, bytes_decides}
 use Rattle.std.specs.Ordering.{nat_cmp}
 use Rattle.std.proofs.lemmas.List.{length-append, append-nil}
-use Rattle.ltl_spec.specs.Collections.Sets.{Has, IsRising, has}
-use Rattle.ltl_spec.specs.Transitions.Pairs.{RowSet, Pair, join, empty_pair}
+use Rattle.ltl_spec.specs.Collections.Sets.{Has, IsRising, has, set_of}
+use Rattle.ltl_spec.specs.Transitions.Pairs.{RowSet, Pair, pair_cmp, join, empty_pair}
 use Rattle.ltl_spec.specs.Transitions.RowTransitions.{Table, with_marks, unimplied_transitions}
 use Rattle.ltl_spec.proofs.Collections.ListLaws.{Has-at}
 use Rattle.ltl_spec.proofs.Collections.Orders.{nat_linear, pair_linear}
@@ -77,14 +77,14 @@ step_known T r lists steps k list part s w l e f g =
 
 -- a join that was made
 pub new_join : (T : Table) (r : Rule) (own : List (List Pair)) (old new : List (List Pair)) (list part joined : ℕ) (xs ys js zs : List Pair) → IsFit T r own → list < length old → part < length old → IsLonger old new → IsListAt new zs joined
-    → xs ≡ part_of old list → ys ≡ part_of old part → js ≡ join xs ys → IsPruned r own js zs → IsJoin T r new list part joined
+    → xs ≡ part_of old list → ys ≡ part_of old part → set_of pair_cmp js ≡ set_of pair_cmp (join xs ys) → IsPruned r own js zs → IsJoin T r new list part joined
 new_join T r own old new list part joined xs ys js zs fit l m g at e d f w = record {
   first = still_within old new g list l;
   second = still_within old new g part m;
   both = at.0;
   listed =
       subst (IsListed (StandsFor T r) (join (part_of new list) (part_of new part))) (sym at.1)
-      (joined_pruned T r own (join (part_of new list) (part_of new part)) js zs fit (f ∙ (λ i. join (e i) (d i)) ∙ sym (λ i. join (still_there old new g list l i) (still_there old new g part m i))) w);
+      (joined_pruned T r own (join (part_of new list) (part_of new part)) js zs fit (f ∙ (λ i. set_of pair_cmp (join (e i) (d i))) ∙ sym (λ i. set_of pair_cmp (join (still_there old new g list l i) (still_there old new g part m i)))) w);
 }
 
 -- what it lists

@@ -1,38 +1,86 @@
--- Lists of pairs without repetitions have the same set.
-use Rattle.std.proofs.Common.{◌≡◌, ℕ, suc, ◌+◌, List, [], ◌∷◌, ◌++◌, refl, sym, ◌∙◌, ap, arith, Some}
-use Rattle.std.specs.Prelude.{fold, slice_get, take}
+-- Joins of long lists, each pair once, have the same set.
+use Rattle.std.proofs.Common.{◌≡◌, ℕ, suc, ◌+◌, List, [], ◌∷◌, ◌++◌, inl, inr, refl, sym, ◌∙◌, ap, subst, arith, Some, None, Option}
+use Rattle.std.specs.Prelude.{fold, filter_map, slice_get, take}
 use Rattle.std.specs.Bool.{Decides}
+use Rattle.std.specs.List.{cons_option}
 use Rattle.std.specs.Ordering.{eq_by_cmp, is_eq}
-use Rattle.ltl_spec.specs.Collections.Lists.{first_occurrences, with_new}
-use Rattle.ltl_spec.specs.Collections.Sets.{set_of}
-use Rattle.ltl_spec.specs.Transitions.Pairs.{Pair, pair_cmp}
-use Rattle.ltl_spec.proofs.Collections.ListLaws.{first_occurrences_cases, Has-first_occurrences}
-use Rattle.ltl_spec.proofs.Collections.Orders.{pair_linear}
-use Rattle.ltl_spec.proofs.Collections.SetLaws.{set_of_alike}
 use Rattle.std.proofs.lemmas.Cmp.{tied_itself}
+use Rattle.std.proofs.lemmas.List.{append-nil}
+use Rattle.std.proofs.lemmas.List.Concat.{flat_map-append}
+use Rattle.std.proofs.lemmas.List.Elements.{filter_map-append}
+use Rattle.std.proofs.lemmas.List.Sums.{fold-append}
+use Rattle.ltl_spec.specs.Collections.Lists.{first_occurrences, with_new}
+use Rattle.ltl_spec.specs.Collections.Sets.{Has, set_of}
+use Rattle.ltl_spec.specs.Transitions.Pairs.{Pair, pair_cmp, join_pair, join}
+use Rattle.ltl_spec.proofs.Collections.ListLaws.{first_occurrences_cases, Has-first_occurrences}
+use Rattle.ltl_spec.proofs.Collections.MemberLaws.{flat_map_cases, Has-flat_map, filter_map_cases, Has-filter_map}
+use Rattle.ltl_spec.proofs.Collections.Orders.{pair_linear}
+use Rattle.ltl_spec.proofs.Collections.SetLaws.{append_cases, append_left, append_right, set_of_alike, set_of_cases, Has-set_of}
+use Rattle.ltl_spec.proofs.Transitions.JoinLaws.{Has-join, join_parts}
 use Rattle.ltl_automaton.proofs.WayLaws.{take_got}
 use Rattle.ltl_alt.specs.PairHash.{exact}
+use Rattle.ltl_alt.specs.StandIns.{joins_by_right}
 
 same_Decides : (p q : Pair) → Decides (eq_by_cmp pair_cmp p q) (p ≡ q)
 same_Decides p q = (exact p q, λ e. ap (eq_by_cmp pair_cmp p) (sym e) ∙ ap is_eq (tied_itself pair_linear.total p))
 
-pushed : {K L : Type 0} (f : L → K → L) (xs : List K) (l : L) (x : K) → fold f l (xs ++ x ∷ []) ≡ f (fold f l xs) x
-pushed f [] l x = refl
-pushed f (y ∷ ys) l x = pushed f ys (f l y) x
+-- a join more of one pair
+pub noted_some : (f : Pair → Option Pair) (start taken more once next : List Pair) (x : Pair) (p : Pair) → once ≡ fold (with_new (eq_by_cmp pair_cmp)) start (filter_map f taken) → more ≡ taken ++ x ∷ [] → f x ≡ Some p
+    → next ≡ with_new (eq_by_cmp pair_cmp) once p → next ≡ fold (with_new (eq_by_cmp pair_cmp)) start (filter_map f more)
+noted_some f start taken more once next x p e t d n =
+    let same = with_new (eq_by_cmp pair_cmp) in
+    n ∙ ap (λ ks. same ks p) e ∙ sym (fold-append same start (filter_map f taken) (p ∷ []))
+    ∙ ap (fold same start) (ap (λ ps. filter_map f taken ++ ps) (sym (ap (λ o. cons_option o []) d)) ∙ sym (filter_map-append f taken (x ∷ [])) ∙ ap (filter_map f) (sym t))
 
--- one more pair
-pub once_next : (taken more : List Pair) (once next : List Pair) (p : Pair) → once ≡ first_occurrences (eq_by_cmp pair_cmp) taken → more ≡ taken ++ p ∷ [] → next ≡ with_new (eq_by_cmp pair_cmp) once p
-    → next ≡ first_occurrences (eq_by_cmp pair_cmp) more
-once_next taken more once next p e t n =
-    n ∙ ap (λ ks. with_new (eq_by_cmp pair_cmp) ks p) e ∙ sym (pushed (with_new (eq_by_cmp pair_cmp)) taken [] p) ∙ ap (first_occurrences (eq_by_cmp pair_cmp)) (sym t)
+none_there : (o : Option Pair) → ((p : Pair) → o ≡ Some p → ⊥) → o ≡ None
+none_there None n = refl
+none_there (Some p) n = absurd (n p refl)
 
--- one more that is put back
+-- two that contradict each other
+pub noted_none : (f : Pair → Option Pair) (start taken more once : List Pair) (x : Pair) → once ≡ fold (with_new (eq_by_cmp pair_cmp)) start (filter_map f taken) → more ≡ taken ++ x ∷ [] → ((p : Pair) → f x ≡ Some p → ⊥)
+    → once ≡ fold (with_new (eq_by_cmp pair_cmp)) start (filter_map f more)
+noted_none f start taken more once x e t d =
+    let same = with_new (eq_by_cmp pair_cmp) in
+    e ∙ ap (fold same start) (sym (append-nil (filter_map f taken)) ∙ ap (λ ps. filter_map f taken ++ ps) (sym (ap (λ o. cons_option o []) (none_there (f x) d))) ∙ sym (filter_map-append f taken (x ∷ [])) ∙ ap (filter_map f) (sym t))
+
+-- a pair more is joined
+pub noted_next : (left taken more : List Pair) (once next : List Pair) (x : Pair) → once ≡ first_occurrences (eq_by_cmp pair_cmp) (joins_by_right left taken) → more ≡ taken ++ x ∷ []
+    → next ≡ fold (with_new (eq_by_cmp pair_cmp)) once (filter_map (λ p. join_pair p x) left) → next ≡ first_occurrences (eq_by_cmp pair_cmp) (joins_by_right left more)
+noted_next left taken more once next x e t n =
+    let same = with_new (eq_by_cmp pair_cmp) in
+    let last = filter_map (λ p. join_pair p x) left in
+    n ∙ ap (λ ks. fold same ks last) e ∙ sym (fold-append same [] (joins_by_right left taken) last)
+    ∙ ap (first_occurrences (eq_by_cmp pair_cmp))
+    (ap (λ ps. joins_by_right left taken ++ ps) (sym (append-nil last)) ∙ sym (flat_map-append (λ q. filter_map (λ p. join_pair p q) left) taken (x ∷ [])) ∙ ap (joins_by_right left) (sym t))
+
+-- the order in which pairs are joined is all the same
+pub by_right : (left right : List Pair) → set_of pair_cmp (joins_by_right left right) ≡ set_of pair_cmp (join left right)
+by_right left right = set_of_alike pair_linear (joins_by_right left right) (join left right)
+    (λ r h.
+    let (q, k, n) = flat_map_cases (λ x. filter_map (λ p. join_pair p x) left) right r h in
+    let (p, m, e) = filter_map_cases (λ p. join_pair p q) left r n in
+    Has-join left right p q r m k e)
+    (λ r h.
+    let (p, q, k, m, e) = join_parts left right r h in
+    Has-flat_map (λ x. filter_map (λ p. join_pair p x) left) right q r m (Has-filter_map (λ p. join_pair p q) left p r k e))
+
+-- one more that is listed
 pub back_next : (keys put more : List Pair) (k : ℕ) (p : Pair) → put ≡ take k keys → slice_get keys k ≡ Some p → more ≡ put ++ p ∷ [] → more ≡ take (k + 1) keys
 back_next keys put more k p e g m =
     let z : suc k ≡ k + 1 = omega arith in
     m ∙ ap (λ ks. ks ++ p ∷ []) e ∙ sym (take_got keys k p g) ∙ ap (λ n. take n keys) z
 
 -- the set stays
-pub same_set : (xs ys keys zs : List Pair) → ys ≡ xs → keys ≡ first_occurrences (eq_by_cmp pair_cmp) ys → zs ≡ keys → set_of pair_cmp zs ≡ set_of pair_cmp xs
-same_set xs ys keys zs d e f =
-    ap (set_of pair_cmp) (f ∙ e ∙ ap (first_occurrences (eq_by_cmp pair_cmp)) d) ∙ set_of_alike pair_linear (first_occurrences (eq_by_cmp pair_cmp) xs) xs (first_occurrences_cases (eq_by_cmp pair_cmp) same_Decides xs) (Has-first_occurrences (eq_by_cmp pair_cmp) same_Decides xs)
+pub same_set : (xs keys zs : List Pair) → keys ≡ first_occurrences (eq_by_cmp pair_cmp) xs → zs ≡ keys → set_of pair_cmp zs ≡ set_of pair_cmp xs
+same_set xs keys zs e f =
+    ap (set_of pair_cmp) (f ∙ e) ∙ set_of_alike pair_linear (first_occurrences (eq_by_cmp pair_cmp) xs) xs (first_occurrences_cases (eq_by_cmp pair_cmp) same_Decides xs) (Has-first_occurrences (eq_by_cmp pair_cmp) same_Decides xs)
+
+-- so it does where a list stands before
+pub same_behind : (xs ys zs : List Pair) → set_of pair_cmp ys ≡ set_of pair_cmp zs → set_of pair_cmp (xs ++ ys) ≡ set_of pair_cmp (xs ++ zs)
+same_behind xs ys zs e = set_of_alike pair_linear (xs ++ ys) (xs ++ zs) (over ys zs e) (over zs ys (sym e))
+  where
+    over : (us vs : List Pair) → set_of pair_cmp us ≡ set_of pair_cmp vs → (p : Pair) → Has (xs ++ us) p → Has (xs ++ vs) p
+    over us vs d p h = elim (append_cases xs us p h) [
+      | inl k ↦ append_left xs vs p k
+      | inr k ↦ append_right xs vs p (set_of_cases pair_linear vs p (subst (λ ps. Has ps p) d (Has-set_of pair_linear us p k)))
+    ]

@@ -2,7 +2,7 @@
 use Rattle.std.proofs.Common.{◌≡◌, ℕ, zero, suc, ◌<◌, inl, inr, List, [], ◌∷◌, ◌++◌, map, refl, sym, ◌∙◌, ap, subst, Some}
 use Rattle.std.specs.Prelude.{slice_get, filter_map}
 use Rattle.std.specs.Ordering.{nat_cmp}
-use Rattle.ltl_spec.specs.Collections.Sets.{Has, union}
+use Rattle.ltl_spec.specs.Collections.Sets.{Has, union, set_of}
 use Rattle.ltl_spec.specs.NormalForms.Normal.{Until, Release}
 use Rattle.ltl_spec.specs.Transitions.Pairs as spec
 use Rattle.ltl_spec.specs.Transitions.RowTransitions.{table_of}
@@ -15,7 +15,7 @@ use Rattle.ltl_sets.specs.Literals.{literal_of}
 use Rattle.ltl_alt.specs.RowLists.{row_place, pairs_from, sets_from, next_pair, IsListedRow, IsListedSet, HavePairs, HaveSets}
 use Rattle.ltl_alt.specs.StandIns.{IsKeptBy, StandsFor, IsFit, IsPruned}
 use Rattle.ltl_alt.specs.declared.rule.Rule.{Rule}
-use Rattle.ltl_alt.proofs.StandInLaws.{IsStandIn, stands_in, kept_all, kept_join, kept_append, pruned_of}
+use Rattle.ltl_alt.proofs.StandInLaws.{IsStandIn, stands_in, kept_all, kept_on, kept_same, kept_join, kept_append, pruned_of}
 use Rattle.ltl_alt.proofs.TreeLaws.{tree_is}
 
 -- ---- the tree of a row
@@ -118,14 +118,14 @@ module _ (t : TableView) (q : Rule) (ps es : ℕ → List spec.Pair) (at : ℕ) 
     tree : row_tree t k ≡ tree_of (row_tree t) (node_of r)
     tree = row_tree_is t k r f l
 
-    pub pairs_listed : HavePairs t q ps es r → xs ≡ pairs_from ps es at r → IsPruned q own xs ys → IsListedRow t q k ys
+    pub pairs_listed : HavePairs t q ps es r → set_of spec.pair_cmp xs ≡ set_of spec.pair_cmp (pairs_from ps es at r) → IsPruned q own xs ys → IsListedRow t q k ys
     pairs_listed h e w =
         pruned_of (table_of (core_of t)) q own (of k) xs ys fit
         (subst (λ F. IsKeptBy (StandsFor (table_of (core_of t)) q) (spec.pairs (row_place t) F) xs) (sym tree)
-        (subst (IsKeptBy (StandsFor (table_of (core_of t)) q) (spec.pairs (row_place t) (tree_of (row_tree t) (node_of r)))) (sym e) (pairs_kept r (p ∙ ap (row_place t) tree) h))) w
+        (kept_on stands (spec.pairs (row_place t) (tree_of (row_tree t) (node_of r))) (pairs_from ps es at r) xs (pairs_kept r (p ∙ ap (row_place t) tree) h) (kept_same stands (pairs_from ps es at r) xs e))) w
 
-    pub sets_listed : HaveSets t q es r → xs ≡ sets_from es at r → IsPruned q own xs ys → IsListedSet t q k ys
+    pub sets_listed : HaveSets t q es r → set_of spec.pair_cmp xs ≡ set_of spec.pair_cmp (sets_from es at r) → IsPruned q own xs ys → IsListedSet t q k ys
     sets_listed h e w =
         pruned_of (table_of (core_of t)) q own (next_of k) xs ys fit
         (subst (λ F. IsKeptBy (StandsFor (table_of (core_of t)) q) (map next_pair (spec.conj (row_place t) F)) xs) (sym tree)
-        (subst (IsKeptBy (StandsFor (table_of (core_of t)) q) (map next_pair (spec.conj (row_place t) (tree_of (row_tree t) (node_of r))))) (sym e) (sets_kept r (p ∙ ap (row_place t) tree) h))) w
+        (kept_on stands (map next_pair (spec.conj (row_place t) (tree_of (row_tree t) (node_of r)))) (sets_from es at r) xs (sets_kept r (p ∙ ap (row_place t) tree) h) (kept_same stands (sets_from es at r) xs e))) w

@@ -12,7 +12,7 @@ use Rattle.ltl_spec.proofs.Collections.CaseLaws.{false_is_true, left_true, right
 use Rattle.ltl_spec.proofs.Collections.ListLaws.{Has-at}
 use Rattle.ltl_spec.proofs.Collections.MemberLaws.{all_Decides, any_cases}
 use Rattle.ltl_spec.proofs.Collections.Orders.{pair_linear}
-use Rattle.ltl_spec.proofs.Collections.SetLaws.{append_cases, append_left, append_right, set_of_same, set_of_alike}
+use Rattle.ltl_spec.proofs.Collections.SetLaws.{append_cases, append_left, append_right, set_of_same, set_of_alike, set_of_cases, Has-set_of}
 use Rattle.ltl_spec.proofs.Transitions.JoinLaws.{Within, within_refl, within_trans, united, IsConsistent, join_pair_is, joined_from, join_parts, Has-join}
 use Rattle.ltl_spec.proofs.Transitions.LeastPairs.{is_within_Decides, enough_below}
 use Rattle.ltl_spec.proofs.Transitions.Pruning.{is_within, asks_beyond, own_pairs, IsSafeToDrop, IsKept}
@@ -60,6 +60,13 @@ stands_in T rule.Safe = safe_stands T
 module _ {S : Pair → Pair → Type 0} (o : IsStandIn S) where
   pub kept_all : (ps : List Pair) → IsKeptBy S ps ps
   kept_all ps = record { from = λ q h. h; covers = λ p h. (p, h, o.itself p) }
+
+  -- so does a list with the same set
+  pub kept_same : (ps qs : List Pair) → set_of pair_cmp qs ≡ set_of pair_cmp ps → IsKeptBy S ps qs
+  kept_same ps qs e = record {
+    from = λ q h. set_of_cases pair_linear ps q (subst (λ xs. Has xs q) e (Has-set_of pair_linear qs q h));
+    covers = λ p h. (p, set_of_cases pair_linear qs p (subst (λ xs. Has xs p) (sym e) (Has-set_of pair_linear ps p h)), o.itself p);
+  }
 
   pub kept_on : (ps qs rs : List Pair) → IsKeptBy S ps qs → IsKeptBy S qs rs → IsKeptBy S ps rs
   kept_on ps qs rs a b = record {

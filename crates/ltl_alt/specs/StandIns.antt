@@ -1,11 +1,11 @@
 -- Pairs that may be listed in place of others.
-use Rattle.std.specs.Prelude.{◌≡◌, ℕ, ◌<◌, Bool, true, false, not, ◌&&◌, ◌||◌, nat_lt, List, [], ◌∷◌, length, slice_index_or}
+use Rattle.std.specs.Prelude.{◌≡◌, ℕ, ◌<◌, Bool, true, false, not, ◌&&◌, ◌||◌, nat_lt, List, [], ◌∷◌, length, slice_index_or, flat_map, filter_map}
 use Rattle.std.specs.List.{list_any, list_all, filter}
 use Rattle.std.specs.Ordering.{nat_cmp}
 use Rattle.ltl_spec.specs.Collections.Sets.{Has, IsRising, union, has}
 use Rattle.ltl_spec.specs.Transitions.Cubes.{literal_cmp, is_contradictory}
 use Rattle.ltl_spec.specs.NormalForms.Normal.{Bottom}
-use Rattle.ltl_spec.specs.Transitions.Pairs.{Pair, pair_cmp}
+use Rattle.ltl_spec.specs.Transitions.Pairs.{Pair, pair_cmp, join_pair}
 use Rattle.ltl_spec.specs.Transitions.RowTransitions.{Table}
 use Rattle.ltl_spec.specs.Transitions.Pairs.{Within}
 use Rattle.ltl_spec.specs.Transitions.Pruning.{is_within, asks_beyond, IsEnough, own_pairs, IsSafeToDrop}
@@ -77,6 +77,10 @@ rule_of false = rule.Safe
 -- a pair with its size as it was listed
 abbrev pub pair_of : made.Measured → Pair
 pair_of m = m.pair
+
+-- the joins of two lists, those with the first of the right one first
+abbrev pub joins_by_right : List Pair → List Pair → List Pair
+joins_by_right ps qs = flat_map (λ q. filter_map (λ p. join_pair p q) ps) qs
 
 -- what both pairs ask for
 abbrev pub common_pair : Pair → Pair → Pair

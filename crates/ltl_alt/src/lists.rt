@@ -3,43 +3,59 @@
 ghost use Rattle.std.specs.Prelude.{◌≡◌, ◌++◌, IfOk, OnOk, filter_map};
 ghost use Rattle.ltl_spec.specs.Collections.Sets as spec_sets;
 ghost use Rattle.ltl_spec.specs.Transitions.Pairs as spec_pairs;
+ghost use Rattle.ltl_alt.specs.StandIns.{joins_by_right};
 
 use crate::pair::Pair;
-use crate::repeats::drop_repeated;
+use crate::repeats::join_once;
 use std::alloc::{AllocError, Allocator};
 
-/// Of more pairs than these the repeated ones are sought before they are sorted.
+/// Of more joins than these the repeated ones are left out as they come.
 const MANY: usize = 1024;
 
-/// Puts what a pair and each of a list are at once behind the others.
+/// Puts what each of a list and a pair are at once behind the others.
 fn join_one<A: Allocator>(
     joined: &mut Vec<Pair, &A>,
-    left: &Pair,
-    right: &[Pair],
+    left: &[Pair],
+    right: &Pair,
 ) -> Result<(), AllocError>
-    ensures { OnOk result (joined.new.items ≡ joined.old.items ++ filter_map (spec_pairs.join_pair left.now) right.now) }
+    ensures { OnOk result (joined.new.items ≡ joined.old.items ++ filter_map (λ p. spec_pairs.join_pair p right.now) left.now) }
 {
-    'right: for q in right {
-        if let Some(pair) = left.join(q) {
+    'left: for p in left {
+        if let Some(pair) = p.join(right) {
             joined.push(pair)?;
         }
     }
     Ok(())
 }
 
-/// One pair of each side at once, in every way.
+/// One pair of each side at once, in every way. What is joined with one of the right side stands in a row, most of it in order where the left side is.
+fn join_all<'a, A: Allocator>(
+    alloc: &'a A,
+    left: &[Pair],
+    right: &[Pair],
+) -> Result<Vec<Pair, &'a A>, AllocError>
+    ensures { IfOk result (λ v. v.items ≡ joins_by_right left.now right.now) }
+{
+    let mut joined = Vec::with_capacity(alloc, left.len().saturating_mul(right.len()))?;
+    'right: for q in right {
+        join_one(&mut joined, left, q)?;
+    }
+    Ok(joined)
+}
+
+/// One pair of each side at once, in every way, some of them perhaps more than once.
+#[tactic(auto, using(crate::proofs::RepeatLaws::by_right))]
 pub(crate) fn join<'a, A: Allocator>(
     alloc: &'a A,
     left: &[Pair],
     right: &[Pair],
 ) -> Result<Vec<Pair, &'a A>, AllocError>
-    ensures { IfOk result (λ v. v.items ≡ spec_pairs.join left.now right.now) }
+    ensures { IfOk result (λ v. spec_sets.set_of spec_pairs.pair_cmp v.items ≡ spec_sets.set_of spec_pairs.pair_cmp (spec_pairs.join left.now right.now)) }
 {
-    let mut joined = Vec::new(alloc);
-    'left: for p in left {
-        join_one(&mut joined, p, right)?;
+    if left.len().saturating_mul(right.len()) > MANY {
+        return join_once(alloc, left, right);
     }
-    Ok(joined)
+    join_all(alloc, left, right)
 }
 
 /// The pairs of both lists.
@@ -57,23 +73,10 @@ pub(crate) fn both<'a, A: Allocator>(
 }
 
 /// Sorts the pairs, and keeps each once. Lists that are joined or put one behind the other have long runs in order, and a stable sort keeps these.
-fn sort_distinct<A: Allocator>(pairs: &mut Vec<Pair, &A>) -> Result<(), AllocError>
+pub(crate) fn make_distinct<A: Allocator>(pairs: &mut Vec<Pair, &A>) -> Result<(), AllocError>
     ensures { OnOk result (pairs.new.items ≡ spec_sets.set_of spec_pairs.pair_cmp pairs.old.items) }
 {
     pairs.sort_by(|p, q| p.cmp_list(q))?;
     pairs.dedup();
     Ok(())
-}
-
-/// The same, where repetitions in long lists go first.
-pub(crate) fn make_distinct<'a, A: Allocator>(
-    alloc: &'a A,
-    pairs: &mut Vec<Pair, &'a A>,
-) -> Result<(), AllocError>
-    ensures { OnOk result (pairs.new.items ≡ spec_sets.set_of spec_pairs.pair_cmp pairs.old.items) }
-{
-    if pairs.len() > MANY {
-        drop_repeated(alloc, pairs)?;
-    }
-    sort_distinct(pairs)
 }

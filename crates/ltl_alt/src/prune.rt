@@ -142,7 +142,7 @@ pub(crate) fn prune<'a, A: Allocator>(
 ) -> Result<Vec<Pair, &'a A>, AllocError>
     ensures { IfOk result (λ v. IsPruned pruning.now.rule pruning.now.own.now pairs.entry.items v.items) }
 {
-    make_distinct(alloc, &mut pairs)?;
+    make_distinct(&mut pairs)?;
     if pairs.len() < 2 {
         return Ok(pairs);
     }

@@ -1,53 +1,73 @@
-//! Long lists of pairs without repetitions.
+//! Joins of long lists of pairs, each pair once.
 //!
-//! Where long lists are joined, most of what comes out comes out many times. That goes by an index, before the rest is sorted.
+//! Where long lists are joined, most of what comes out comes out many times. Each pair is looked for by an index as it comes, so that the memory is
+//! that of the different ones.
 
-ghost use Rattle.std.specs.Prelude.{◌≡◌, IfOk, OnOk};
+ghost use Rattle.std.specs.Prelude.{◌≡◌, IfOk, OnOk, filter_map, fold};
 ghost use Rattle.std.specs.Ordering.{eq_by_cmp};
-ghost use Rattle.ltl_spec.specs.Collections.Lists.{first_occurrences};
+ghost use Rattle.ltl_spec.specs.Collections.Lists.{first_occurrences, with_new};
 ghost use Rattle.ltl_spec.specs.Collections.Sets as spec_sets;
 ghost use Rattle.ltl_spec.specs.Transitions.Pairs as spec_pairs;
+ghost use Rattle.ltl_alt.specs.StandIns.{joins_by_right};
 
 use crate::pair::Pair;
 use ltl_automaton::Distinct;
 use std::alloc::{AllocError, Allocator};
 
-/// The pairs in the order in which each first stands.
-fn each_once<'a, A: Allocator>(
+/// Adds what each of a list and a pair are at once, where it isn't there.
+fn note_joins<A: Allocator>(
+    once: &mut Distinct<'_, Pair, A>,
+    left: &[Pair],
+    right: &Pair,
+) -> Result<(), AllocError>
+    ensures { OnOk result (once.new.keys ≡ fold (with_new (eq_by_cmp spec_pairs.pair_cmp)) once.old.keys (filter_map (λ p. spec_pairs.join_pair p right.now) left.now)) }
+{
+    'left: for p in left {
+        if let Some(pair) = p.join(right) {
+            once.number(pair)?;
+        }
+    }
+    Ok(())
+}
+
+/// One pair of each side at once, in every way, in the order in which each first comes.
+fn noted<'a, A: Allocator>(
     alloc: &'a A,
-    pairs: &[Pair],
+    left: &[Pair],
+    right: &[Pair],
 ) -> Result<Distinct<'a, Pair, A>, AllocError>
-    ensures { IfOk result (λ d. d.keys ≡ first_occurrences (eq_by_cmp spec_pairs.pair_cmp) pairs.now) }
+    ensures { IfOk result (λ d. d.keys ≡ first_occurrences (eq_by_cmp spec_pairs.pair_cmp) (joins_by_right left.now right.now)) }
 {
     let mut once = Distinct::new(alloc);
-    for pair in pairs {
-        once.number(*pair)?;
+    'right: for q in right {
+        note_joins(&mut once, left, q)?;
     }
     Ok(once)
 }
 
-/// Puts these in place of the pairs.
-fn replace<'a, A: Allocator>(
-    pairs: &mut Vec<Pair, &'a A>,
+/// The things as a list.
+fn listed<'a, A: Allocator>(
+    alloc: &'a A,
     once: &Distinct<'a, Pair, A>,
-) -> Result<(), AllocError>
-    ensures { OnOk result (pairs.new.items ≡ once.now.keys) }
+) -> Result<Vec<Pair, &'a A>, AllocError>
+    ensures { IfOk result (λ v. v.items ≡ once.now.keys) }
 {
-    pairs.clear();
+    let mut pairs = Vec::with_capacity(alloc, once.len())?;
     for k in 0..once.len() {
         pairs.push(*once.get(k))?;
     }
-    Ok(())
+    Ok(pairs)
 }
 
-/// Leaves each pair where it first stands.
-pub(crate) fn drop_repeated<'a, A: Allocator>(
+/// One pair of each side at once, in every way, each once.
+pub(crate) fn join_once<'a, A: Allocator>(
     alloc: &'a A,
-    pairs: &mut Vec<Pair, &'a A>,
-) -> Result<(), AllocError>
-    ensures { OnOk result (spec_sets.set_of spec_pairs.pair_cmp pairs.new.items ≡ spec_sets.set_of spec_pairs.pair_cmp pairs.old.items) }
+    left: &[Pair],
+    right: &[Pair],
+) -> Result<Vec<Pair, &'a A>, AllocError>
+    ensures { IfOk result (λ v. spec_sets.set_of spec_pairs.pair_cmp v.items ≡ spec_sets.set_of spec_pairs.pair_cmp (spec_pairs.join left.now right.now)) }
 {
-    let once = each_once(alloc, pairs.as_slice())?;
-    replace(pairs, &once)?;
-    Ok(())
+    let once = noted(alloc, left, right)?;
+    let pairs = listed(alloc, &once)?;
+    Ok(pairs)
 }

@@ -4,6 +4,8 @@ ghost use Rattle.std.specs.Prelude.{◌≡◌, ◌<◌, ◌≤◌, length, IfOk,
 ghost use Rattle.ltl_formula.specs.GraphView.{IsBelow};
 ghost use Rattle.ltl_formula.specs.TableView.{IsNamedBelow, is_elementary_row};
 ghost use Rattle.ltl_formula.specs.declared.row.Row as made;
+ghost use Rattle.ltl_spec.specs.Collections.Sets.{set_of};
+ghost use Rattle.ltl_spec.specs.Transitions.Pairs.{pair_cmp};
 ghost use Rattle.ltl_alt.specs.declared.rule.Rule as made_rule;
 ghost use Rattle.ltl_alt.specs.RowLists.{list_at, is_made, pairs_from, sets_from, IsListedRow, IsListedSet, HavePairs, HaveSets, HasAdded, AreLists, IsMore};
 ghost use Rattle.ltl_alt.specs.StandIns.{IsFit};
@@ -225,6 +227,7 @@ impl<'a, A: Allocator> RowLists<'a, A> {
     }
 
     /// The pairs of a row at a place, with repetitions.
+    #[tactic(auto, using(crate::proofs::RepeatLaws::same_behind))]
     fn pairs_from(
         &self,
         alloc: &'a A,
@@ -235,7 +238,7 @@ impl<'a, A: Allocator> RowLists<'a, A> {
         requires sets { IsBelow (length self.now.sets.items) row }
         requires literal { IsNamedBelow RowSet.LIMIT row }
         requires place { is_elementary_row row ≡ true → place < RowSet.LIMIT }
-        ensures { IfOk result (λ v. v.items ≡ pairs_from (list_at self.now.pairs.items) (list_at self.now.sets.items) place row) }
+        ensures { IfOk result (λ v. set_of pair_cmp v.items ≡ set_of pair_cmp (pairs_from (list_at self.now.pairs.items) (list_at self.now.sets.items) place row)) }
     {
         match row {
             Row::True => Vec::from_slice(alloc, &[Pair::empty()]),
@@ -286,7 +289,7 @@ impl<'a, A: Allocator> RowLists<'a, A> {
     ) -> Result<Vec<Pair, &'a A>, AllocError>
         requires sets { IsBelow (length self.now.sets.items) row }
         requires place { is_elementary_row row ≡ true → place < RowSet.LIMIT }
-        ensures { IfOk result (λ v. v.items ≡ sets_from (list_at self.now.sets.items) place row) }
+        ensures { IfOk result (λ v. set_of pair_cmp v.items ≡ set_of pair_cmp (sets_from (list_at self.now.sets.items) place row)) }
     {
         match row {
             Row::True => Vec::from_slice(alloc, &[Pair::empty()]),

@@ -1,7 +1,7 @@
 use Rattle.std.proofs.Common.{rules}
 use Rattle.ltl_spec.proofs.Collections.Orders.{pair_linear}
 use Rattle.ltl_spec.proofs.Collections.SortedSets.{sorted_by, sorted_set_itself, tied}
-use Rattle.ltl_alt.proofs.lists.sort_distinct.Goals as goal
+use Rattle.ltl_alt.proofs.lists.make_distinct.Goals as goal
 
 pub returns : goal.returns
 returns g c =
