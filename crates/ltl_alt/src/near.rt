@@ -1,67 +1,42 @@
 //! What pairs ask for beyond others.
 
-ghost use Rattle.std.specs.Prelude.{◌≡◌, ◌<◌, ◌||◌, ◌&&◌, not};
+ghost use Rattle.std.specs.Prelude.{◌≡◌, ◌||◌, ◌&&◌, not};
 ghost use Rattle.std.specs.List.{list_all, list_any};
 ghost use Rattle.std.specs.Ordering.{nat_cmp};
 ghost use Rattle.ltl_spec.specs.Collections.Sets.{has, union};
 ghost use Rattle.ltl_spec.specs.Transitions.Cubes.{literal_cmp, is_contradictory};
 ghost use Rattle.ltl_spec.specs.Transitions.Pruning.{asks_beyond};
-ghost use Rattle.ltl_sets.specs.Literals.{literal_of};
 ghost use Rattle.ltl_alt.specs.StandIns.{is_as_near};
 
 use crate::pair::Pair;
-use ltl_sets::{Cube, Literal, RowSet};
+use ltl_sets::{Cube, RowSet};
 
-/// Whether a row is one of the near ones, or one of the far ones that isn't there from the start.
-fn is_row_near(row: usize, near: &RowSet, far: &RowSet, start: &RowSet) -> bool
-    requires { row < RowSet.LIMIT }
-    ensures { result ≡ (has nat_cmp row near.now || (has nat_cmp row far.now && not (has nat_cmp row start.now))) }
-{
-    near.contains(row) || (far.contains(row) && !start.contains(row))
-}
-
-/// Whether this is so for each row of a set.
+/// Whether each row is one of the near ones, or one of the far ones that isn't there from the start.
 fn are_rows_near(rows: &RowSet, near: &RowSet, far: &RowSet, start: &RowSet) -> bool
     ensures { result ≡ list_all (λ k. has nat_cmp k near.now || (has nat_cmp k far.now && not (has nat_cmp k start.now))) rows.now }
 {
-    rows.members_rise();
-    let mut rest = rows.iter();
-    'rows: while let Some(row) = rest.next() {
-        if !is_row_near(row, near, far, start) {
-            return false;
-        }
-    }
-    true
+    let are_kept = rows.common(start).is_subset(near);
+    let are_there = rows.is_subset(&near.union(far));
+    are_kept && are_there
 }
 
-/// Whether a cube has a literal.
-fn has_literal(cube: &Cube, literal: Literal) -> bool
-    requires { literal.proposition < RowSet.LIMIT }
-    ensures { result ≡ has literal_cmp (literal_of literal) cube.now }
-{
-    Cube::literal(literal.proposition, literal.positive).implies_of(cube)
-}
-
-/// Whether a literal is one of the near ones, or one of the far ones that isn't there from the start.
-fn is_literal_near(literal: Literal, near: &Cube, far: &Cube, start: &Cube) -> bool
-    requires { literal.proposition < RowSet.LIMIT }
-    ensures { result ≡ (has literal_cmp (literal_of literal) near.now || (has literal_cmp (literal_of literal) far.now && not (has literal_cmp (literal_of literal) start.now))) }
-{
-    has_literal(near, literal) || (has_literal(far, literal) && !has_literal(start, literal))
-}
-
-/// Whether this is so for each literal of a cube.
+/// Whether this is so for each literal of a cube: for those that have to be true, and for those that have to be false.
 fn are_literals_near(cube: &Cube, near: &Cube, far: &Cube, start: &Cube) -> bool
     ensures { result ≡ list_all (λ l. has literal_cmp l near.now || (has literal_cmp l far.now && not (has literal_cmp l start.now))) cube.now }
 {
-    cube.literals_rise();
-    let mut rest = cube.iter();
-    'literals: while let Some(literal) = rest.next() {
-        if !is_literal_near(literal, near, far, start) {
-            return false;
-        }
-    }
-    true
+    let are_true_near = are_rows_near(
+        &cube.letter(),
+        &near.letter(),
+        &far.letter(),
+        &start.letter(),
+    );
+    let are_false_near = are_rows_near(
+        &cube.forbidden(),
+        &near.forbidden(),
+        &far.forbidden(),
+        &start.forbidden(),
+    );
+    are_true_near && are_false_near
 }
 
 /// Whether the far pair asks for all that a pair asks for beyond the near one, and the start for none of it.

@@ -13,6 +13,15 @@ use least::{Below, Counting, Lookup};
 use smallvec::SmallVec;
 use std::alloc::{AllocError, Allocator};
 
+/// Of more pairs than these some are looked at first.
+const MANY: usize = 1024;
+
+/// So many of them.
+const SAMPLE: usize = 64;
+
+/// So far apart, where the list is thought of as a ring: a prime, so that no order of the list is met.
+const APART: usize = 2_654_435_761;
+
 /// A pair, and how many literals and rows it asks for.
 #[derive(Clone, Copy)]
 struct Measured {
@@ -116,6 +125,26 @@ fn smaller<'a, A: Allocator>(
     Ok(smaller)
 }
 
+/// Whether there are many pairs, and none of some of them has a smaller one in its place. Then few have one or none has, and to ask each costs more than it
+/// leaves out.
+fn seem_least<A: Allocator>(
+    lookup: &Lookup<'_, '_, Measured, A>,
+    pruning: &Pruning<'_, '_, A>,
+    measured: &[Measured],
+) -> bool {
+    if measured.len() <= MANY {
+        return false;
+    }
+    'sample: for k in 0..SAMPLE {
+        if let Some(m) = measured.get(k.wrapping_mul(APART) % measured.len()) {
+            if lookup.has_lesser(pruning, m) {
+                return false;
+            }
+        }
+    }
+    true
+}
+
 /// Puts those of the pairs where others stood in whose place no smaller one may be listed.
 fn put_least<A: Allocator>(
     pairs: &mut Vec<Pair, &A>,
@@ -155,6 +184,9 @@ pub(crate) fn prune<'a, A: Allocator>(
         return Ok(pairs);
     }
     let lookup = Lookup::new(alloc, smaller.as_slice())?;
+    if seem_least(&lookup, pruning, measured.as_slice()) {
+        return Ok(pairs);
+    }
     put_least(&mut pairs, &lookup, pruning, measured.as_slice())?;
     Ok(pairs)
 }

@@ -13,6 +13,9 @@ returns-then-eq g c = pruned_equal _ _ _ _ c.in_ok-make_distinct.ensures
 pub returns-then-is_empty : goal.returns-then-is_empty
 returns-then-is_empty g c = pruned_equal _ _ _ _ c.in_ok-make_distinct.ensures
 
+pub returns-then-seem_least : goal.returns-then-seem_least
+returns-then-seem_least g c = pruned_equal _ _ _ _ c.in_ok-make_distinct.ensures
+
 pub returns : goal.returns
 returns g c =
     let r = c.args.pruning.now.rule in
@@ -22,4 +25,4 @@ returns g c =
     pruned_least r own c.args.pairs.items c.as_slice.result.now c.put_least.new.pairs.items all ms
     (λ m h. subst (λ xs. Has xs m) c.as_slice-2.ensures (c.in_ok-smaller.ensures m h))
     (c.as_slice.ensures.value ∙ c.in_ok-make_distinct.ensures) c.in_ok-measured.ensures
-    (c.in_ok-put_least.ensures ∙ (λ i. map pair_of (least_of r own ((c.in_ok-lookup.ensures ∙ c.as_slice-3.ensures) i) (c.as_slice-4.ensures i))))
+    (c.in_ok-put_least.ensures ∙ (λ i. map pair_of (least_of r own ((c.in_ok-lookup.ensures ∙ c.as_slice-3.ensures) i) (c.as_slice-5.ensures i))))
