@@ -4,7 +4,9 @@
 Usage: bench/families.py [-s SECONDS] [FAMILY..]
 
 For each formula: how long each program took as a whole, with the output thrown away, and how much it printed. A program that takes longer
-than SECONDS (10, if not given) is stopped. Nothing checks the numbers: they depend on the machine."""
+than SECONDS (10, if not given) is stopped. The last line has the geometric mean of the quotients of both times, over the formulas that both
+translate. Nothing checks the numbers: they depend on the machine."""
+import math
 import shutil
 import subprocess
 import sys
@@ -34,14 +36,15 @@ FAMILIES = {
 
 
 def timed(words, most):
-    """How long the program took and how many bytes it printed, or none where it was stopped."""
+    """What to say of how long the program took and how many bytes it printed, and the seconds, or none where it was stopped or refused."""
     began = time.monotonic()
     try:
         run = subprocess.run(words, stdout=subprocess.PIPE, stderr=subprocess.DEVNULL, timeout=most)
     except subprocess.TimeoutExpired:
-        return f"over {most:g} s"
+        return f"over {most:g} s", None
     took = time.monotonic() - began
-    return f"{took:8.3f} s {len(run.stdout):10} bytes" + (f", status {run.returncode}" if run.returncode else "")
+    said = f"{took:8.3f} s {len(run.stdout):10} bytes"
+    return (f"{said}, status {run.returncode}", None) if run.returncode else (said, took)
 
 
 def main(words):
@@ -51,13 +54,18 @@ def main(words):
     if not PROGRAM.exists():
         sys.exit("bench/families.py: build ltl2ba first: ./run ltl2ba -f p")
     spin = shutil.which("spin")
+    logarithms = []
     for family in words or FAMILIES:
         for formula in FAMILIES[family]:
             shown = formula if len(formula) < 60 else formula[:57] + "..."
-            print(f"{family}: {shown}")
-            print(f"  ltl2ba   {timed([PROGRAM, '-f', formula], most)}")
+            said, ours = timed([PROGRAM, "-f", formula], most)
+            print(f"{family}: {shown}\n  ltl2ba   {said}")
             if spin:
-                print(f"  spin -f  {timed([spin, '-f', formula], most)}", flush=True)
+                said, theirs = timed([spin, "-f", formula], most)
+                print(f"  spin -f  {said}", flush=True)
+                logarithms += [math.log(ours / theirs)] if ours and theirs else []
+    if logarithms:
+        print(f"geometric mean of ltl2ba / spin -f over {len(logarithms)} formulas: {math.exp(sum(logarithms) / len(logarithms)):.2f}")
 
 
 main(sys.argv[1:])
