@@ -13,10 +13,6 @@ use Rattle.least.specs.declared.node.Node.{Node}
 use Rattle.least.specs.declared.node.Node.TheVariants.{Item, Common}
 use Rattle.least.specs.Indexes.{IsUnder, IsOver, IsCovered, IsPartly, IsIndex, items_of, is_above}
 
--- what lies behind the end is the next one's
-before_or_there : (k n : ℕ) → k < n + 1 → (k < n) ⊎ (k ≡ n)
-before_or_there k n h = grind arith
-
 before_or_behind : (k n : ℕ) → (k < n) ⊎ (n ≤ k)
 before_or_behind k n = grind arith
 

@@ -10,7 +10,7 @@ use Rattle.ltl_spec.specs.Transitions.Pairs.{RowSet, Pair}
 use Rattle.ltl_spec.specs.Transitions.RowTransitions.{Table, place}
 use Rattle.ltl_spec.proofs.Collections.SetLaws.{has_Decides}
 use Rattle.ltl_spec.proofs.Collections.Orders.{nat_linear}
-use Rattle.ltl_spec.proofs.Transitions.ApartTests.{Asked, names_in, asked_by, together, IsWithinAsked, Covers, covers_one, covers_append, covers_more, within_together_left, within_together_right, awaits_at}
+use Rattle.ltl_spec.proofs.Transitions.ApartTests.{Asked, names_in, asked_by, together, Covers, covers_one, covers_append, covers_more, within_together_left, within_together_right, awaits_at}
 use Rattle.ltl_sets.specs.Words.{letter_of, forbidden_of}
 use Rattle.ltl_formula.specs.TableView.{TableView, IsTable, row_tree}
 use Rattle.ltl_alt.specs.AskedView.{IsAdded, AwaitsAll, Demands}
@@ -52,25 +52,13 @@ pub covers_step : (a b c : Asked) (ps : List Pair) (p : Pair) (qs : List Pair) �
 covers_step a b c ps p qs w d e f =
     subst (Covers c) (sym f) (subst (λ x. Covers x (ps ++ p ∷ [])) (sym e) (covers_append a b ps (p ∷ []) w (subst (λ x. Covers x (p ∷ [])) (sym d) (covers_one p))))
 
-within_itself : (a : Asked) → IsWithinAsked a a
-within_itself a = record { positive = λ n h. h; negative = λ n h. h; targets = λ n h. h }
-
 pub added_own : (a b c : Asked) (own : List Pair) (o : Bool) → Covers b own → c ≡ together a b → IsAdded a own o c
 added_own a b c own o w e = subst (IsAdded a own o) (sym e) (record {
   more = within_together_left a b;
   own_pairs = λ t. covers_more b (together a b) own (within_together_right a b) w;
 })
 
-pub added_nothing : (a : Asked) (own : List Pair) (o : Bool) → o ≡ false → IsAdded a own o a
-added_nothing a own o e = record { more = within_itself a; own_pairs = λ t. absurd (differ (sym t ∙ e)) }
-  where
-    differ : true ≡ false → ⊥
-    differ d = cc
-
 -- ---- until rows
-
-pub awaits_none : (T : Table) (own : List (List Pair)) (targets : RowSet) (w : Asked) → AwaitsAll T own targets 0 w
-awaits_none T own targets w i l h = absurd (omega arith)
 
 pub awaits_step : (t : TableView) (own : List (List Pair)) (targets : RowSet) (n k at : ℕ) (ms : List Pair) (o : Bool) (a b : Asked) → IsTable t → slice_get t.untils n ≡ Some k → at ≡ row_place t (row_tree t k)
     → n < length own → ms ≡ slice_index_or own n ms → o ≡ has nat_cmp at targets → AwaitsAll (table_at t) own targets n a → IsAdded a ms o b → AwaitsAll (table_at t) own targets (n + 1) b

@@ -5,7 +5,7 @@ use Rattle.ltl_spec.specs.Collections.Sets.{Has}
 use Rattle.ltl_spec.specs.NormalForms.Normal.{Normal, Bottom}
 use Rattle.ltl_spec.specs.NormalForms.NormalForm.{until_rows}
 use Rattle.ltl_spec.specs.Transitions.Pairs.{RowSet}
-use Rattle.ltl_spec.specs.Transitions.RowTransitions.{Table, table_of, Transition, transitions, successors, with_marks, is_marked}
+use Rattle.ltl_spec.specs.Transitions.RowTransitions.{table_of, Transition, transitions, successors, with_marks, is_marked}
 use Rattle.ltl_spec.specs.Automata.Automaton.{Automaton, State, Edge}
 use Rattle.ltl_spec.specs.Automata.Listing.{listing, IsComplete, PassesLimits}
 use Rattle.ltl_spec.specs.Automata.Generalized.{same_row_set, target_sets, root_set, state_of, edge_to, IsGeneralized, IsTooLarge}
@@ -48,9 +48,6 @@ module _ (F : Normal) (keep : Bool) where
     marks_below : (e : RowSet) (t : Transition) → Has (moves e) t → (k : ℕ) → Has t.marks k → k < sets
     marks_below e t h = from_pair t (among keep t h)
       where
-        T : Table
-        T = table_of F
-
         among : (b : Bool) (u : Transition) → Has (transitions (table_of F) b e) u → Has (map (with_marks (table_of F)) (successors (table_of F) e)) u
         among true u m = m
         among false u m = (filter_cases (λ x. not (list_any _ (map (with_marks (table_of F)) (successors (table_of F) e)))) (map (with_marks (table_of F)) (successors (table_of F) e)) u m).0

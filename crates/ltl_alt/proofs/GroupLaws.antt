@@ -1,5 +1,5 @@
 -- Groups of parts, one after another.
-use Rattle.std.proofs.Common.{◌≡◌, ◌≢◌, ℕ, zero, suc, ◌+◌, ◌<◌, Bool, true, false, not, inl, inr, List, [], ◌∷◌, ◌++◌, length, map, refl, sym, ◌∙◌, ap, subst, arith, cond}
+use Rattle.std.proofs.Common.{◌≡◌, ℕ, zero, suc, ◌+◌, ◌<◌, Bool, true, false, not, List, [], ◌∷◌, ◌++◌, length, map, refl, sym, ◌∙◌, ap, subst, arith, cond}
 use Rattle.std.proofs.Common.{Option, None}
 use Rattle.std.specs.Option.{IsSome, option_to_list}
 use Rattle.std.specs.Prelude.{slice_get, fold, Some}
@@ -21,8 +21,7 @@ use Rattle.ltl_alt.specs.declared.rule.Rule.{Rule}
 use Rattle.ltl_alt.specs.GroupView.{key_of, made_of, AreGroups, IsKeyAt, AreKeysKept}
 use Rattle.ltl_alt.specs.PartView.{part_of}
 use Rattle.ltl_alt.specs.StandIns.{IsKeptBy, IsListed, StandsFor, IsFit, IsPruned, rule_of}
-use Rattle.ltl_alt.proofs.NeedsLaws.{same_or_other}
-use Rattle.ltl_alt.proofs.OwnLaws.{at_last, at_before}
+use Rattle.ltl_alt.proofs.OwnLaws.{at_before}
 use Rattle.ltl_alt.proofs.StandInLaws.{stands_in, kept_all, kept_same, kept_on, kept_rest, pruned_of, listed_equal, listed_safe}
 
 -- ---- joins one after another
@@ -76,9 +75,6 @@ module _ (T : Table) (part : ℕ → List Pair) (sound : (k : ℕ) → AreSound 
 
 -- ---- numbers of groups
 
-pub groups_none : (T : Table) (keep : Bool) (parts : List (List Pair)) → AreGroups T keep parts [] []
-groups_none T keep parts = record { count = refl; inside = λ k l. absurd (omega arith); made = λ k l. absurd (omega arith) }
-
 -- with one key more, or as before
 key_cases : (keys new : List RowSet) (g : RowSet) (b : Bool) → list_any (pointwise nat_eq g) keys ≡ b → new ≡ cond (list_any (pointwise nat_eq g) keys) keys (keys ++ g ∷ []) → new ≡ cond b keys (keys ++ g ∷ [])
 key_cases keys new g b e d = d ∙ ap (λ c. cond c keys (keys ++ g ∷ [])) e
@@ -110,29 +106,6 @@ key_found keys g x k l e d = (l, get_is keys k x e ∙ sym ((bytes_decides g x).
     get_is [] k x e = cc
     get_is (y ∷ xs) zero x e = cc
     get_is (y ∷ xs) (suc k) x e = get_is xs k x e
-
--- one group more
-pub groups_more : (T : Table) (keep : Bool) (parts : List (List Pair)) (keys new : List RowSet) (lists more : List (List Transition)) (g : RowSet) (ts : List Transition) → AreGroups T keep parts keys lists
-    → ((n : ℕ) → Has g n → n < length parts) → ts ≡ transitions_of T keep (join_of (part_of parts) g) → new ≡ keys ++ g ∷ [] → more ≡ lists ++ ts ∷ [] → AreGroups T keep parts new more
-groups_more T keep parts keys new lists more g ts w inside made e f =
-    subst (λ x. AreGroups T keep parts x more) (sym e) (subst (AreGroups T keep parts (keys ++ g ∷ [])) (sym f) (record {
-      count = length-append lists (ts ∷ []) ∙ ap (λ n. n + 1) w.count ∙ sym (length-append keys (g ∷ []));
-      inside = λ k l n h. elim (same_or_other k (length keys)) [
-        | inl q ↦ inside n (subst (λ x. Has x n) (ap (key_of (keys ++ g ∷ [])) q ∙ at_last keys g [] (length keys) refl) h)
-        | inr o ↦ w.inside k (before k l o) n (subst (λ x. Has x n) (at_before keys (g ∷ []) [] k (before k l o)) h)
-      ];
-      made = λ k l. elim (same_or_other k (length keys)) [
-        | inl q ↦ ap (made_of (lists ++ ts ∷ [])) (q ∙ sym w.count) ∙ at_last lists ts [] (length lists) refl ∙ made
-            ∙ ap (λ x. transitions_of T keep (join_of (part_of parts) x)) (sym (ap (key_of (keys ++ g ∷ [])) q ∙ at_last keys g [] (length keys) refl))
-        | inr o ↦ at_before lists (ts ∷ []) [] k (also k l o) ∙ w.made k (before k l o) ∙ ap (λ x. transitions_of T keep (join_of (part_of parts) x)) (sym (at_before keys (g ∷ []) [] k (before k l o)))
-      ];
-    }))
-  where
-    before : (k : ℕ) → k < length (keys ++ g ∷ []) → k ≢ length keys → k < length keys
-    before k l o = let c = length-append keys (g ∷ []) in omega arith
-
-    also : (k : ℕ) → k < length (keys ++ g ∷ []) → k ≢ length keys → k < length lists
-    also k l o = let c = length-append keys (g ∷ []) in let d = w.count in omega arith
 
 -- one group less
 pub groups_less : (T : Table) (keep : Bool) (parts : List (List Pair)) (keys more_keys : List RowSet) (lists more_lists : List (List Transition)) (gs : List RowSet) (tss : List (List Transition)) → more_keys ≡ keys ++ gs → more_lists ≡ lists ++ tss

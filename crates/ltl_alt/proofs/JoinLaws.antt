@@ -25,9 +25,8 @@ use Rattle.ltl_alt.specs.PartView.{numbers_in, part_of, AreLinked, AreParts, IsL
 use Rattle.ltl_alt.specs.ShapeView.{IsShape}
 use Rattle.ltl_alt.specs.StandIns.{AreOwn, IsFit, IsListed, IsPruned, StandsFor, rule_of}
 use Rattle.ltl_alt.proofs.GroupLaws.{joined_on, joined_pruned, group_all, group_few}
-use Rattle.ltl_alt.proofs.OwnLaws.{at_last, at_before}
+use Rattle.ltl_alt.proofs.OwnLaws.{at_before}
 use Rattle.ltl_alt.proofs.ProductLaws.{groups_of_none, groups_of_more, shaped}
-use Rattle.ltl_alt.proofs.TransitionLaws.{index_same}
 
 pub same_pair : (p q : Pair) → same_cube p.cube q.cube ≡ true → pointwise nat_eq p.targets q.targets ≡ true → p ≡ q
 same_pair p q a b =
@@ -37,19 +36,8 @@ same_pair p q a b =
 
 -- ---- lists by number
 
-pub list_at : (lists : List (List Pair)) (k : ℕ) (x pairs : List Pair) → k < length lists → x ≡ slice_index_or lists k x → x ≡ pairs → IsListAt lists pairs k
-list_at lists k x pairs l e d = (l, index_same lists k [] x l ∙ sym e ∙ d)
-
-pub list_last : (old new : List (List Pair)) (pairs : List Pair) (k : ℕ) → k ≡ length old → new ≡ old ++ pairs ∷ [] → IsListAt new pairs k
-list_last old new pairs k e d =
-    let long = ap length d ∙ length-append old (pairs ∷ []) in
-    (omega arith, ap (λ xs. part_of xs k) d ∙ at_last old pairs [] k e)
-
 pub not_longer : (old new : List (List Pair)) → new ≡ old → IsLonger old new
 not_longer old new e = ([], e ∙ sym (append-nil old))
-
-pub longer_by : (old new : List (List Pair)) (pairs : List Pair) → new ≡ old ++ pairs ∷ [] → IsLonger old new
-longer_by old new pairs e = (pairs ∷ [], e)
 
 pub longer_on : (old new last : List (List Pair)) → IsLonger old new → IsLonger new last → IsLonger old last
 longer_on old new last (more, e) (rest, d) = (more ++ rest, d ∙ ap (λ xs. xs ++ rest) e ∙ behind old more rest)
@@ -65,9 +53,6 @@ pub still_there : (old new : List (List Pair)) → IsLonger old new → (k : ℕ
 still_there old new (more, e) k l = ap (λ xs. part_of xs k) e ∙ at_before old more [] k l
 
 -- ---- joins
-
-pub no_joins : (T : Table) (r : Rule) (lists : List (List Pair)) (steps : List Step) → steps ≡ [] → AreJoins T r lists steps
-no_joins T r lists steps e s h = absurd (subst (λ ss. Has ss s) e h)
 
 -- a step that was found is a join
 pub step_known : (T : Table) (r : Rule) (lists : List (List Pair)) (steps : List Step) (k list part : ℕ) (s : Step) → AreJoins T r lists steps → k < length steps → s ≡ slice_index_or steps k s → s.list ≡ list → s.part ≡ part
@@ -118,9 +103,6 @@ joins_more T r lists steps more list part joined w is e s h =
     ]
 
 -- ---- sets of rows
-
-pub no_wholes : (T : Table) (keep : Bool) (lists : List (List Pair)) (wholes : List Whole) → wholes ≡ [] → AreWholes T keep lists wholes
-no_wholes T keep lists wholes e w h = absurd (subst (λ ws. Has ws w) e h)
 
 pub wholes_longer : (T : Table) (keep : Bool) (old new : List (List Pair)) (wholes : List Whole) → IsLonger old new → AreWholes T keep old wholes → AreWholes T keep new wholes
 wholes_longer T keep old new wholes g f w h =

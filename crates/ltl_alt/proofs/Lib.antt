@@ -1,4 +1,3 @@
-pub mod AlikeLaws
 pub mod AskedLaws
 pub mod ElementaryLaws
 pub mod GbaLaws

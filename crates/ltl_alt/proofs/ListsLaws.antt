@@ -1,5 +1,5 @@
 -- What is listed of the rows of a table, as more rows are listed.
-use Rattle.std.proofs.Common.{◌≡◌, ◌≢◌, ℕ, zero, suc, ◌+◌, ◌<◌, ◌≤◌, true, inl, inr, List, [], ◌∷◌, length, refl, sym, ◌∙◌, ap, subst, arith, Some, Option, length-set}
+use Rattle.std.proofs.Common.{◌≡◌, ◌≢◌, ℕ, zero, suc, ◌+◌, ◌<◌, true, inl, inr, List, [], ◌∷◌, length, refl, sym, ◌∙◌, ap, subst, arith, Some, Option, length-set}
 use Rattle.std.specs.Prelude.{slice_get, slice_set}
 use Rattle.ltl_spec.specs.Transitions.Pairs as spec
 use Rattle.ltl_formula.specs.GraphView.{IsBelow}
@@ -11,16 +11,6 @@ use Rattle.ltl_alt.specs.NeedsView.{need_at, IsAsked, AllAsked}
 use Rattle.ltl_alt.specs.RowLists.{list_at, is_made, was_made, list_or_none, IsListedRow, IsListedSet, HavePairs, HaveSets, HasAdded, AreLists, MadeBelow, IsMore}
 use Rattle.ltl_alt.specs.declared.rule.Rule.{Rule}
 use Rattle.ltl_alt.proofs.NeedsLaws.{same_or_other, same_row}
-
-pub below_more : (m n : ℕ) (r : Row) → m ≤ n → IsBelow m r → IsBelow n r
-below_more m n row.True l h = tt
-below_more m n row.False l h = tt
-below_more m n (row.Literal x) l h = tt
-below_more m n (row.Next i) l h = omega arith
-below_more m n (row.And i j) l h = (omega (arith, h.0), omega (arith, h.1))
-below_more m n (row.Or i j) l h = (omega (arith, h.0), omega (arith, h.1))
-below_more m n (row.Until i j) l h = (omega (arith, h.0), omega (arith, h.1))
-below_more m n (row.Release i j) l h = (omega (arith, h.0), omega (arith, h.1))
 
 -- ---- one more list
 

@@ -8,7 +8,7 @@ use Rattle.ltl_spec.specs.NormalForms.Normal.{Bottom}
 use Rattle.ltl_spec.specs.Transitions.Pairs.{Pair, pairs}
 use Rattle.ltl_spec.specs.Transitions.RowTransitions.{Table}
 use Rattle.ltl_spec.proofs.Transitions.LeastPairs.{enough_from, own_enough}
-use Rattle.ltl_spec.proofs.Transitions.Pruning.{IsEnough, own_pairs}
+use Rattle.ltl_spec.specs.Transitions.Pruning.{IsEnough, own_pairs}
 use Rattle.ltl_formula.specs.TableView.{TableView, IsTable, row_tree}
 use Rattle.ltl_alt.specs.RowLists.{row_place, IsListedRow}
 use Rattle.ltl_alt.specs.StandIns.{AreOwn}

@@ -66,16 +66,6 @@ set_length (y ∷ xs) (suc k) x = ap suc (set_length xs k x)
 
 -- ---- links
 
--- no part was looked at yet
-pub linked_none : (demands : List Demand) (d : Demand) (n : ℕ) (old : List RowSet) (own : RowSet) → own ≡ n ∷ [] → IsLinked demands d n 0 old old own
-linked_none demands d n old own e = record {
-  count = refl;
-  kept = λ i j h. h;
-  told = λ i l h. absurd (omega arith);
-  own_told = λ i l h. absurd (omega arith);
-  itself = (has_Decides nat_linear n own).1 (subst (λ xs. Has xs n) (sym e) (inl refl));
-}
-
 -- with a number or without it
 less_by : (b : Bool) (n : ℕ) (ns : List ℕ) (j : ℕ) → has nat_cmp j (cond b (put nat_cmp n ns) ns) ≡ false → has nat_cmp j ns ≡ false
 less_by true n ns j e = has_not j n ns e
@@ -244,19 +234,6 @@ eq_other i j n = grind (arith, nat_tests)
 pub numbers_below : (p : ℕ → Bool) (owners : List ℕ) (k : ℕ) → Has (places_where p owners) k → k < length owners
 numbers_below p owners k h = let c = (places_cases p 0 owners 0 k h).1 in omega arith
 
--- no row was taken apart yet
-pub made_none : (T : Table) (r : Rule) → AreMade T r [] [] []
-made_none T r = record { owner_count = refl; owned = λ o h. h; few = omega arith; listed = λ i h. absurd h }
-
-pub linked_nothing : (T : Table) (own : List (List Pair)) → AreLinked T own [] [] []
-linked_nothing T own = record {
-  demand_count = refl;
-  link_count = refl;
-  sound = λ k. nothing_sound;
-  demanded = λ k l. absurd (omega arith);
-  linked = λ i j l m h. absurd (omega arith);
-}
-
 -- lists with the same pairs keep each other's
 kept_same : (S : Pair → Pair → Type 0) → IsStandIn S → (ps qs : List Pair) → AreAlike ps qs → IsKeptBy S ps qs
 kept_same S o ps qs a = record { from = a.back; covers = λ p h. (p, a.there p h, o.itself p) }
@@ -277,15 +254,6 @@ kept_behind S (xs ∷ pss) (ys ∷ qss) ps qs k m = (k.0, kept_behind S pss qss 
 pub map_behind : {X Y : Type 0} (h : X → Y) (xs : List X) (x : X) → map h (xs ++ x ∷ []) ≡ map h xs ++ h x ∷ []
 map_behind h [] x = refl
 map_behind h (y ∷ xs) x = ap (λ ys. h y ∷ ys) (map_behind h xs x)
-
--- no part was added yet
-pub added_none : (T : Table) (r : Rule) (i : ℕ) (pss : List (List Pair)) (owners : List ℕ) (lists : List (List Pair)) → pss ≡ [] → AreAdded T r i pss owners owners lists lists
-added_none T r i pss owners lists e = record {
-  parts = [];
-  kept = subst (λ xs. AreKeptBy (StandsFor T r) xs []) (sym e) tt;
-  lists_are = sym (append-nil lists);
-  owners_are = sym (append-nil owners);
-}
 
 -- one part more
 pub added_more : (T : Table) (r : Rule) (i : ℕ) (pss more : List (List Pair)) (owners now new : List ℕ) (lists now_lists new_lists : List (List Pair)) (ps qs : List Pair) → AreAdded T r i pss owners now lists now_lists
@@ -418,9 +386,6 @@ one_made made more state rest left k e f m i h = elim (f i h) [
   | inr x ↦ elim (subst (λ xs. Has xs i) e x) [ inl q ↦ inl (subst (Has more) (sym q) m.0) | inr y ↦ inr y ]
 ]
 
-pub all_made : (made state rest : List ℕ) → rest ≡ [] → ((i : ℕ) → Has state i → Has made i ⊎ Has rest i) → (i : ℕ) → Has state i → Has made i
-all_made made state rest e f i h = elim (f i h) [ inl x ↦ x | inr x ↦ absurd (subst (λ xs. Has xs i) e x) ]
-
 -- ---- groups
 
 pub linked_more : (links : List RowSet) (inside rest left linked more : RowSet) (k : ℕ) → rest ≡ k ∷ left → ((i j : ℕ) → Has inside i → Has (links_of links i) j → Has linked j ⊎ Has rest i) → more ≡ union nat_cmp linked (links_of links k)
@@ -452,13 +417,6 @@ pub links_at : (xs : List RowSet) (k : ℕ) (x : RowSet) → slice_get xs k ≡ 
 links_at [] k x e = cc
 links_at (y ∷ xs) zero x e = cc
 links_at (y ∷ xs) (suc k) x e = links_at xs k x e
-
-pub linked_end : (links : List RowSet) (inside rest linked : RowSet) → rest ≡ [] → ((i j : ℕ) → Has inside i → Has (links_of links i) j → Has linked j ⊎ Has rest i) → (i j : ℕ) → Has inside i → Has (links_of links i) j → Has linked j
-linked_end links inside rest linked e f i j h m = elim (f i j h m) [ inl x ↦ x | inr x ↦ absurd (subst (λ xs. Has xs i) e x) ]
-
--- the whole rest is a group
-pub group_whole : (links : List RowSet) (first : ℕ) (rest : RowSet) → Has rest first → IsGroup links first rest rest
-group_whole links first rest h = record { there = h; some = λ i k. k; closed = λ i k j m n. m }
 
 -- so is what doesn't grow any more
 pub group_grown : (links : List RowSet) (first : ℕ) (rest inside linked more : RowSet) → Has inside first → ((i : ℕ) → Has inside i → Has rest i) → ((i j : ℕ) → Has inside i → Has (links_of links i) j → Has linked j)
@@ -496,10 +454,6 @@ released_listed t r own i k at now all qs fit w e d p =
     let both = kept_append (stands_in T r) (pairs (row_place t) (row_tree t i)) now one one w.kept (kept_all (stands_in T r) one) in
     let kept = subst (IsKeptBy (StandsFor T r) (piece_pairs t (piece.Released i k))) (sym (d ∙ ap (λ m. now ++ later_pair m ∷ []) e)) both in
     pruned_of T r own (piece_pairs t (piece.Released i k)) all qs (fit_of T r own fit) kept p
-
--- no pairs at all
-pub never_listed : (t : TableView) (r : Rule) (qs : List Pair) → qs ≡ [] → IsListed (StandsFor (table_at t) r) (piece_pairs t piece.Never) qs
-never_listed t r qs e = subst (IsListed (StandsFor (table_at t) r) []) (sym e) (record { kept = kept_all (stands_in (table_at t) r) []; rising = tt })
 
 -- ---- room
 

@@ -10,13 +10,13 @@ use Rattle.ltl_spec.specs.Collections.Sets.{Has, IsRising, has, union}
 use Rattle.ltl_spec.specs.Collections.Lists.{places_where}
 use Rattle.ltl_spec.specs.NormalForms.Normal.{Normal}
 use Rattle.ltl_spec.specs.Transitions.Cubes.{Cube, is_contradictory, literal_cmp}
-use Rattle.ltl_spec.specs.Transitions.Pairs.{RowSet, Pair, empty_pair}
-use Rattle.ltl_spec.specs.Transitions.RowTransitions.{Table, pairs_at, with_marks, Transition, transition_cmp, transitions}
+use Rattle.ltl_spec.specs.Transitions.Pairs.{RowSet, Pair}
+use Rattle.ltl_spec.specs.Transitions.RowTransitions.{Table, pairs_at, Transition, transition_cmp, transitions}
 use Rattle.ltl_spec.proofs.Collections.SetLaws.{has_Decides, Has-set_of, append_left, append_right, append_cases}
 use Rattle.ltl_spec.proofs.Collections.ListLaws.{places_cases, Contains-from_has, Has-from_contains, Has-places, IsRising-places}
 use Rattle.ltl_spec.proofs.Collections.Orders.{nat_linear}
 use Rattle.ltl_spec.proofs.Collections.ProductLists.{products, rising_once}
-use Rattle.ltl_spec.proofs.Transitions.Pruning.{IsEnough, own_pairs}
+use Rattle.ltl_spec.specs.Transitions.Pruning.{IsEnough, own_pairs}
 use Rattle.ltl_spec.proofs.Transitions.ApartMarks.{common, at_once}
 use Rattle.ltl_spec.proofs.Transitions.ApartPairs.{apart_sym}
 use Rattle.ltl_spec.proofs.Transitions.ApartTests.{own_at, enough_at, apart_by_test}
@@ -62,10 +62,6 @@ dropped_at h [] j k l e = absurd (omega arith)
 dropped_at h (n ∷ ns) zero k l e = ap (λ x. h x ∷ map h ns) (sym e)
 dropped_at h (n ∷ ns) (suc j) k l e = let m : suc (j + 1) ≡ suc j + 1 = omega arith in dropped_at h ns j k (omega arith) e ∙ ap (λ x. h k ∷ drop x (h n ∷ map h ns)) m
 
-none_left_of : {X : Type 0} (h : ℕ → X) (ns : List ℕ) → drop (length ns) (map h ns) ≡ []
-none_left_of h [] = refl
-none_left_of h (n ∷ ns) = none_left_of h ns
-
 -- what the second list has in another order, and so the product
 products_moved : (ts us vs : List Transition) → IsPermutation us vs → IsPermutation (product ts us) (product ts vs)
 products_moved [] us vs p = IsPermutation-refl []
@@ -86,12 +82,6 @@ products_step T lists numbers left k ts us vs l found f p d g =
     consistent t (Has-from_contains (product (made_of lists k) all) t (Contains-permutation (product (made_of lists k) us) (product (made_of lists k) all) t back (Contains-from_has (product (made_of lists k) us) t h))) in
     let same : vs ≡ product (made_of lists k) us = g ∙ ap (λ xs. joined_products xs us) d ∙ product_joins (made_of lists k) us also in
     subst (λ xs. IsPermutation xs vs) (sym whole) (subst (IsPermutation (product (made_of lists k) all)) (sym same) moved)
-
-pub products_none : (T : Table) (lists : List (List Transition)) (numbers : List ℕ) (n : ℕ) (ts : List Transition) → n ≡ length numbers → ts ≡ map (with_marks T) (empty_pair ∷ []) → IsPermutation (all_products T (drop n (map (made_of lists) numbers))) ts
-products_none T lists numbers n ts e d =
-    let all = all_products T (drop n (map (made_of lists) numbers)) in
-    let same : all ≡ ts = ap (all_products T) (ap (λ m. drop m (map (made_of lists) numbers)) e ∙ none_left_of (made_of lists) numbers) ∙ sym d in
-    subst (IsPermutation all) same (IsPermutation-refl all)
 
 -- ---- groups that were taken out
 

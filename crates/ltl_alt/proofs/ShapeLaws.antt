@@ -1,13 +1,13 @@
 -- Shapes, and sets of rows that have the same one.
-use Rattle.std.proofs.Common.{inl, inr, ◌≡◌, ℕ, ◌+◌, ◌<◌, Bool, true, List, [], ◌∷◌, ◌++◌, length, map, take, refl, sym, ◌∙◌, ap, subst, arith}
+use Rattle.std.proofs.Common.{◌≡◌, ℕ, ◌+◌, ◌<◌, Bool, true, List, [], ◌∷◌, ◌++◌, length, map, take, refl, sym, ◌∙◌, ap, subst, arith}
 use Rattle.std.specs.Prelude.{slice_index_or, nat_eq, IfSome, Option, None, Some}
 use Rattle.std.specs.List.{position}
 use Rattle.std.specs.Cmp.Lexicographic.{pointwise, bytes_decides}
 use Rattle.ltl_sets.specs.CubeEq.{same_cube, cube_Decides}
-use Rattle.std.proofs.lemmas.List.{length-append, take_more}
+use Rattle.std.proofs.lemmas.List.{take_more}
 use Rattle.std.proofs.lemmas.List.Quantifiers.{position-Some}
 use Rattle.ltl_spec.specs.Transitions.Pairs.{RowSet, Pair}
-use Rattle.ltl_spec.specs.Transitions.RowTransitions.{Table, Transition}
+use Rattle.ltl_spec.specs.Transitions.RowTransitions.{Transition}
 use Rattle.ltl_formula.specs.TableView.{TableView}
 use Rattle.ltl_alt.specs.declared.asked.Demand.{Demand}
 use Rattle.ltl_alt.specs.declared.rule.Rule.{Rule}
@@ -15,11 +15,8 @@ use Rattle.ltl_alt.specs.GroupView.{IsKeyAt, AreKeysKept, AreGroups}
 use Rattle.ltl_alt.specs.PartView.{AreParts}
 use Rattle.ltl_alt.specs.ReachView.{IsPrepared}
 use Rattle.ltl_alt.specs.RowLists.{AreLists}
-use Rattle.ltl_alt.specs.ShapeView.{AreShapes, IsShape}
 use Rattle.ltl_alt.specs.StandIns.{AreOwn, rule_of}
 use Rattle.ltl_alt.specs.TransitionView.{table_at}
-use Rattle.ltl_alt.proofs.NeedsLaws.{same_or_other}
-use Rattle.ltl_alt.proofs.OwnLaws.{at_last, at_before}
 use Rattle.ltl_alt.proofs.TransitionLaws.{index_same}
 
 -- ---- lists that agree so far
@@ -70,30 +67,6 @@ key_at keys group r e =
     ] e
 
 -- ---- shapes
-
-pub no_shapes : (T : Table) (keep : Bool) (shapes : List (List (List Transition))) (states : List RowSet) → shapes ≡ [] → states ≡ [] → AreShapes T keep shapes states
-no_shapes T keep shapes states e d = record {
-  count = ap length d ∙ sym (ap length e);
-  each = λ k l. let m = ap length e in absurd (omega (arith, l, m));
-}
-
-pub shapes_more : (T : Table) (keep : Bool) (shapes more : List (List (List Transition))) (states behind : List RowSet) (shape : List (List Transition)) (state : RowSet) → AreShapes T keep shapes states → IsShape T keep shape state
-    → more ≡ shapes ++ shape ∷ [] → behind ≡ states ++ state ∷ [] → AreShapes T keep more behind
-shapes_more T keep shapes more states behind shape state w is e d = record {
-  count = (let a = ap length d ∙ length-append states (state ∷ []) in let b = ap length e ∙ length-append shapes (shape ∷ []) in let c = w.count in omega arith);
-  each = λ k l. elim (same_or_other k (length shapes)) [
-    | inl q ↦ let c = w.count in
-        subst (λ x. IsShape T keep x (slice_index_or behind k [])) (sym (ap (λ xs. slice_index_or xs k []) e ∙ at_last shapes shape [] k q))
-        (subst (IsShape T keep shape) (sym (ap (λ xs. slice_index_or xs k []) d ∙ at_last states state [] k (q ∙ sym c))) is)
-    | inr q ↦
-        let b = ap length e ∙ length-append shapes (shape ∷ []) in
-        let c = w.count in
-        let m : k < length shapes = omega arith in
-        let n : k < length states = omega arith in
-        subst (λ x. IsShape T keep x (slice_index_or behind k [])) (sym (ap (λ xs. slice_index_or xs k []) e ∙ at_before shapes (shape ∷ []) [] k m))
-        (subst (IsShape T keep (slice_index_or shapes k [])) (sym (ap (λ xs. slice_index_or xs k []) d ∙ at_before states (state ∷ []) [] k n)) (w.each k m))
-  ];
-}
 
 -- numbers are kept where no group is met
 pub keys_stay : (keys : List RowSet) → AreKeysKept keys keys

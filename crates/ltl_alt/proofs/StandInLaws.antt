@@ -15,7 +15,7 @@ use Rattle.ltl_spec.proofs.Collections.Orders.{pair_linear}
 use Rattle.ltl_spec.proofs.Collections.SetLaws.{append_cases, append_left, append_right, set_of_same, set_of_alike, set_of_cases, Has-set_of}
 use Rattle.ltl_spec.proofs.Transitions.JoinLaws.{Within, within_refl, within_trans, united, IsConsistent, join_pair_is, joined_from, join_parts, Has-join}
 use Rattle.ltl_spec.proofs.Transitions.LeastPairs.{is_within_Decides, enough_below}
-use Rattle.ltl_spec.proofs.Transitions.Pruning.{is_within, asks_beyond, own_pairs, IsSafeToDrop, IsKept}
+use Rattle.ltl_spec.specs.Transitions.Pruning.{is_within, asks_beyond, own_pairs, IsSafeToDrop, IsKept}
 use Rattle.ltl_spec.proofs.Transitions.SafeLaws.{consistent_within, united_within, safe_refl, safe_trans, safe_join}
 use Rattle.ltl_spec.proofs.Transitions.SafeTests.{AsksBeyond, asks_beyond_Decides, safe_if_beyond}
 use Rattle.ltl_alt.specs.StandIns.{IsKeptBy, IsListed, StandsFor, AreOwn, IsFit, is_as_near, may_drop, IsChain, IsPruned, rule_of}

@@ -13,7 +13,7 @@ use Rattle.ltl_spec.specs.Collections.Lists.{places_where, places_from}
 use Rattle.ltl_spec.specs.NormalForms.Normal.{Normal, Bottom}
 use Rattle.ltl_spec.specs.Transitions.Pairs.{Pair}
 use Rattle.ltl_spec.proofs.Transitions.LeastPairs.{marked_by_enough}
-use Rattle.ltl_spec.proofs.Transitions.Pruning.{is_within}
+use Rattle.ltl_spec.specs.Transitions.Pruning.{is_within}
 use Rattle.ltl_formula.specs.TableView.{TableView, IsTable, row_tree}
 use Rattle.ltl_alt.specs.RowLists.{row_place}
 use Rattle.ltl_alt.specs.StandIns.{AreOwn}

@@ -99,9 +99,6 @@ module _ {K : Type 0} (same : K → K → Bool) (decides : (x y : K) → Decides
     pub states_count : length A.states ≡ l.taken
     states_count = ap (λ (X : Automaton). length X.states) w.states ∙ length-map (take l.taken l.keys) (st l.keys) ∙ length-take-le l.taken l.keys w.within
 
-    pub lengths_count : (ns : List ℕ) → ns ≡ lengths_of net l → length ns ≡ l.taken
-    lengths_count ns e = ap length e ∙ length-map (take l.taken l.keys) arc_count ∙ length-take-le l.taken l.keys w.within
-
     module _ (k : K) (f : slice_get l.keys l.taken ≡ Some k) where
       abbrev next : List K
       next = fold (with_new same) l.keys (T k)

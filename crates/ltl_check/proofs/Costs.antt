@@ -1,6 +1,6 @@
 -- Colours in a list, the sums over them, and the steps of both passes with these.
-use Rattle.std.proofs.Common.{◌≡◌, ◌≢◌, ℕ, zero, suc, ◌+◌, ◌-◌, ◌*◌, ◌^◌, ◌<◌, ◌≤◌, true, List, [], ◌∷◌, ◌++◌, length, set, get_or, take, drop, replicate, cond, Bool, false, Some, None, ◌⊎◌, inl, inr, refl, sym, ◌∙◌, ap, subst, arith, length-append}
-use Rattle.std.proofs.lemmas.Bool.{cases_eq, cases_lt}
+use Rattle.std.proofs.Common.{◌≡◌, ℕ, zero, suc, ◌+◌, ◌-◌, ◌*◌, ◌^◌, ◌<◌, ◌≤◌, true, List, [], ◌∷◌, ◌++◌, length, set, get_or, take, drop, replicate, cond, Bool, false, Some, ◌⊎◌, inl, inr, refl, sym, ◌∙◌, ap, subst, arith, length-append}
+use Rattle.std.proofs.lemmas.Bool.{cases_lt}
 use Rattle.std.proofs.lemmas.List.{get_or-set_same, get_or-set_other, length-set, drop_more, drop_all, take_all, take-append-drop, length-replicate}
 use Rattle.ltl_check.specs.declared.graph.Step.{Step}
 use Rattle.ltl_check.specs.declared.walk.Taken.{Taken}
@@ -13,7 +13,7 @@ use Rattle.ltl_check.specs.declared.search.Search.{Search}
 use Rattle.ltl_check.specs.Explored.{Each, OneOf, IsChanged, IsLeft, IsMarkedTo, IsOpenStep, IsExplored, IsClosed, IsOver, IsMarkedStep, IsProbed, IsAt, IsProbedAt, colour_at, total, rest_way, rest, cost, to_enter, to_mark, work, IsOn, HasLeftAt, IsProbedOn, HasProbedAt, IsMet, counted, IsGrown, sum_below, Reached, looks_left, IsPopped, IsDone, rest_of, StandsAt, IsProbing, HasMet, HasLeft}
 use Rattle.ltl_check.specs.Looks.{LooksAtMost}
 use Rattle.ltl_check.proofs.WayLaws.{way_push, way_split}
-use Rattle.ltl_check.proofs.FirstPass.{skip, enter, enter_closed, leave, over, leave_closed}
+use Rattle.ltl_check.proofs.FirstPass.{enter, enter_closed, leave, over, leave_closed}
 use Rattle.ltl_check.proofs.SecondPass.{begin, pass_by, retreat, mark_explored, descend, root_leads, root_closed, root_turnless, found, left_on}
 
 append_nil : (ts : List Taken) → ts ++ [] ≡ ts
@@ -54,20 +54,6 @@ module _ (N : Net) where
 
   -- ---- the first pass
   module _ (cs : List Colour) (way : List Taken) (here next : ℕ) (x : IsAt N cs way here next) (more : next < N.pairs here) (room : next + 1 < 2 ^ 64) where
-    -- a look that finds nothing, or a state that was entered
-    pub passed : ((a : Step ℕ) → N.arc here next ≡ Some a → colour_at cs a.target ≢ New) → IsOn N cs way here next cs way here (next + 1)
-    passed f = record {
-      stands = record { sized = x.sized; explored = skip N (colour_at cs) way here next x.explored (λ a i. f a i.found); closed = x.closed };
-      falls = omega arith;
-      pays = omega arith;
-    }
-
-    pub passed_none : N.arc here next ≡ None → IsOn N cs way here next cs way here (next + 1)
-    passed_none e = passed (λ a f. absurd (cc))
-
-    pub passed_some : (a : Step ℕ) → N.arc here next ≡ Some a → colour_at cs a.target ≢ New → IsOn N cs way here next cs way here (next + 1)
-    passed_some a e d = passed (λ b f. let q : a ≡ b = (cc) in subst (λ t. colour_at cs t.target ≢ New) q d)
-
     -- a state is entered
     pub entered : (later : List Taken) (a : Step ℕ) → a.target < N.count → N.arc here next ≡ Some a → colour_at cs a.target ≡ New → later ≡ way ++ record { state = here; pick = next; letter = a.letter } ∷ [] → IsOn N cs way here next (set cs a.target Open) later a.target 0
     entered later a inside found was pushed =
@@ -98,13 +84,6 @@ module _ (N : Net) where
       pays = omega arith;
       enters = refl;
     }
-
-    pub probed_none : N.arc at next ≡ None → IsProbedOn N way root past cs path at next cs path at (next + 1)
-    probed_none e = probed (λ a f. absurd (cc))
-
-    pub probed_some : (a : Step ℕ) → N.arc at next ≡ Some a → (colour_at cs a.target ≡ New) ⊎ (colour_at cs a.target ≡ Marked) → IsProbedOn N way root past cs path at next cs path at (next + 1)
-    probed_some a e (inl n) = absurd (x.probed.seen next a more (record { within = more; found = e }) n)
-    probed_some a e (inr m) = probed (λ b f. let q : a ≡ b = (cc) in subst (λ t. colour_at cs t.target ≡ Marked) q m)
 
     -- a state that was left is marked
     pub marked : (later : List Taken) (a : Step ℕ) → a.target < N.count → N.arc at next ≡ Some a → colour_at cs a.target ≡ Left → later ≡ path ++ record { state = at; pick = next; letter = a.letter } ∷ [] → IsProbedOn N way root past cs path at next (set cs a.target Marked) later a.target 0
@@ -278,35 +257,6 @@ module _ (N : Net) where
     pub begun_sized : length cs ≡ N.count
     begun_sized = ap length is ∙ length-replicate N.count New
 
-    begun_changed : IsChanged (colour_at cs) (colour_at (set cs N.start Open)) N.start Open
-    begun_changed = changed_set cs N.start Open (let s = begun_sized in omega arith)
-
-    begun_only : (n : ℕ) (c : Colour) → colour_at (set cs N.start Open) n ≡ c → c ≢ New → (n ≡ N.start) × (c ≡ Open)
-    begun_only n c e d = elim (cases_eq n N.start) [
-      | inl q ↦ (q, sym e ∙ subst (λ j. colour_at (set cs N.start Open) j ≡ Open) (sym q) begun_changed.here)
-      | inr q ↦ absurd (d (sym e ∙ begun_changed.there n q ∙ before_new n))
-    ]
-
-    not_left : (n : ℕ) → IsLeft N (colour_at (set cs N.start Open)) n → ⊥
-    not_left n (inl e) = let h = (begun_only n Left e (λ q. cc)).1 in cc
-    not_left n (inr e) = let h = (begun_only n Marked e (λ q. cc)).1 in cc
-
-    pub begun : IsExplored N (colour_at (set cs N.start Open)) [] N.start 0
-    begun = record {
-      inside = inside;
-      arrives = refl;
-      opened = begun_changed.here;
-      seen = λ k t l i. absurd (omega arith);
-      steps = tt;
-      apart = tt;
-      only = λ n o. inl (begun_only n Open o (λ q. cc)).0;
-      left = λ n f. absurd (not_left n f);
-      turnless = λ n f. absurd (not_left n f);
-    }
-
-    pub begun_closed : IsClosed N (colour_at (set cs N.start Open))
-    begun_closed n e = absurd (not_left n (inr e))
-
     pub begun_cost : total (cost N) 0 (set cs N.start Open) ≡ N.pairs N.start
     begun_cost =
         let s = begun_sized in
@@ -420,13 +370,6 @@ module _ (N : Net) where
 
     start_inside : N.start < N.count
     start_inside = subst (λ k. k < N.count) at inside
-
-    pub starts : IsAt N (set cs s Open) ts s 0
-    starts = rw (none, at) (record {
-      sized = length-set cs N.start Open ∙ begun_sized cs is_new start_inside;
-      explored = begun cs is_new start_inside;
-      closed = begun_closed cs is_new start_inside;
-    })
 
     pub starts_cost : rest N ts s 0 ≡ total (cost N) 0 (set cs s Open)
     starts_cost =

@@ -13,11 +13,6 @@ use Rattle.ltl_check.proofs.WayLaws.{each_push, each_pop, each_weaker, one_push,
 pub below_more : (k next : ℕ) → k < next + 1 → (k ≡ next → ⊥) → k < next
 below_more k next l n = omega arith
 
--- a step to another place: none is the last
-apart_from : (ts : List Taken) (n : ℕ) → Apart ts n → Each (λ u. u.state ≢ n) ts
-apart_from [] n a = tt
-apart_from (t ∷ ts) n a = (a.0, apart_from ts n a.2)
-
 module _ (N : Net) where
   -- colours change, but what was entered stays entered
   pub seen_kept : (col after : ℕ → Colour) → ((m : ℕ) → col m ≢ New → after m ≢ New) → (n next : ℕ) → IsSeen N col n next → IsSeen N after n next
@@ -29,20 +24,6 @@ module _ (N : Net) where
         | inl e ↦ f t (subst (λ j. IsArc N n j t) e i)
         | inr d ↦ s k t (below_more k next l d) i
       ]
-
-  -- a look that finds nothing, or a state that was entered
-  pub skip : (col : ℕ → Colour) (way : List Taken) (here next : ℕ) → IsExplored N col way here next → ((t : Step ℕ) → IsArc N here next t → col t.target ≢ New) → IsExplored N col way here (next + 1)
-  skip col way here next x f = record {
-    inside = x.inside;
-    arrives = x.arrives;
-    opened = x.opened;
-    seen = seen_more col here next x.seen f;
-    steps = x.steps;
-    apart = x.apart;
-    only = x.only;
-    left = x.left;
-    turnless = x.turnless;
-  }
 
   -- ---- a state is entered
   module _ (col after : ℕ → Colour) (n : ℕ) (was : col n ≡ New) (changed : IsChanged col after n Open) where

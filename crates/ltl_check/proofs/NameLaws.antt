@@ -1,9 +1,9 @@
 -- Lists of names, one name after the other.
-use Rattle.std.proofs.Common.{◌≡◌, ℕ, zero, suc, ◌+◌, ◌<◌, ◌≤◌, Bool, true, false, cond, List, [], ◌∷◌, ◌++◌, map, length, drop, inl, inr, refl, sym, ◌∙◌, ap, subst, arith, Bor}
+use Rattle.std.proofs.Common.{◌≡◌, ℕ, ◌+◌, ◌<◌, ◌≤◌, Bool, true, false, cond, List, [], ◌∷◌, ◌++◌, map, length, drop, inl, inr, refl, sym, ◌∙◌, ap, subst, arith, Bor}
 use Rattle.std.specs.Prelude.{fold, slice_index_or, IsTrue, All}
 use Rattle.std.specs.List.{list_any, list_all}
 use Rattle.std.specs.Bool.{Decides}
-use Rattle.std.proofs.lemmas.List.{drop_more, drop_all, get_or-map}
+use Rattle.std.proofs.lemmas.List.{drop_more, get_or-map}
 use Rattle.std.proofs.lemmas.List.Elements.{All-from_get_or}
 use Rattle.std.proofs.lemmas.List.Sums.{fold-append, position_or_len_is, passes_at_first}
 use Rattle.ltl_spec.specs.Collections.Sets.{Has}
@@ -44,22 +44,8 @@ fold_next xs all now then i x l e f g =
     let d : drop i xs ≡ x ∷ drop (i + 1) xs = drop_more xs i [] l ∙ ap (λ y. y ∷ drop (i + 1) xs) e in
     ap (λ ys. fold (with_new same_name) ys (drop (i + 1) xs)) g ∙ sym (ap (fold (with_new same_name) now) d) ∙ f
 
-pub fold_over : (xs all now : List Name) (i : ℕ) → length xs ≤ i → fold (with_new same_name) now (drop i xs) ≡ all → now ≡ all
-fold_over xs all now i l f = sym (ap (fold (with_new same_name) now) (drop_all i xs l)) ∙ f
-
 pub unified_is : (own other first both : List Name) → first ≡ fold (with_new same_name) [] own → both ≡ fold (with_new same_name) first other → both ≡ unified own other
 unified_is own other first both e f = f ∙ ap (λ a. fold (with_new same_name) a other) e ∙ sym (fold-append (with_new same_name) [] own other)
-
--- one number more
-pub pushed_at : (xs ys : List ℕ) (y n : ℕ) (f : ℕ → ℕ) → length xs ≡ n → ys ≡ xs ++ y ∷ [] → ((p : ℕ) → p < n → slice_index_or xs p 0 ≡ f p) → y ≡ f n → (p : ℕ) → p < n + 1 → slice_index_or ys p 0 ≡ f p
-pushed_at xs ys y n f e g h q p l = ap (λ zs. slice_index_or zs p 0) g ∙ at xs n f e h q p l
-  where
-    at : (xs : List ℕ) (n : ℕ) (f : ℕ → ℕ) → length xs ≡ n → ((p : ℕ) → p < n → slice_index_or xs p 0 ≡ f p) → y ≡ f n → (p : ℕ) → p < n + 1 → slice_index_or (xs ++ y ∷ []) p 0 ≡ f p
-    at [] n f e h q zero l = q ∙ ap f (sym e)
-    at [] n f e h q (suc p) l = absurd (omega arith)
-    at (x ∷ xs) zero f e h q p l = absurd (omega arith)
-    at (x ∷ xs) (suc n) f e h q zero l = h 0 (omega arith)
-    at (x ∷ xs) (suc n) f e h q (suc p) l = at xs n (λ k. f (suc k)) (omega arith) (λ k m. h (suc k) (omega arith)) q p (omega arith)
 
 -- names as the code has them
 

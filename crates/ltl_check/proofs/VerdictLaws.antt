@@ -1,5 +1,5 @@
 -- The verdict of the check, from what the search finds.
-use Rattle.std.proofs.Common.{◌≡◌, ℕ, ◌+◌, ◌*◌, ◌/◌, ◌<◌, ◌≤◌, Bool, true, cond, List, [], ◌∷◌, ◌++◌, map, length, inl, inr, refl, sym, ◌∙◌, subst, arith}
+use Rattle.std.proofs.Common.{◌≡◌, ℕ, ◌+◌, ◌*◌, ◌/◌, ◌<◌, ◌≤◌, Bool, true, cond, List, ◌++◌, map, length, inl, inr, sym, ◌∙◌, subst, arith}
 use Rattle.std.specs.Prelude.{All, filter}
 use Rattle.ltl_spec.specs.Collections.Sets.{Has}
 use Rattle.ltl_spec.specs.Transitions.Cubes.{Literal}
@@ -15,7 +15,7 @@ use Rattle.ltl_spec.specs.Checking.Check.{Contained, Violated, IsVerdict, IsComm
 use Rattle.ltl_spec.specs.Checking.Bounds.{HasNamesBelow, IsBuchi, IsProper}
 use Rattle.ltl_spec.proofs.Collections.SetLaws.{append_cases, append_left, append_right, filter_cases}
 use Rattle.ltl_spec.proofs.Collections.ListLaws.{All-at_has, All-from_has, Has-at}
-use Rattle.ltl_spec.proofs.Collections.MemberLaws.{map_cases, map_length}
+use Rattle.ltl_spec.proofs.Collections.MemberLaws.{map_cases}
 use Rattle.ltl_spec.proofs.Automata.ListedStates.{no_state, has_edge_below}
 use Rattle.ltl_spec.proofs.Words.LeastLaws.{least_form_is}
 use Rattle.ltl_spec.proofs.Words.UniqueLaws.{least_unique}
@@ -67,14 +67,6 @@ module _ (A : MarkedAutomaton) (names : List Name) (B : Automaton) (numbers : Li
   none_verdict none = contained_verdict A proper names B buchi (λ h. let w = walk_found A names B numbers ba.some marked.counted named maps h in none w.0 w.1 w.2)
 
   module _ (way turn : List Taken) (w : IsFullWalk (product_net A B numbers) (A.sets + 1) way turn) where
-    -- there is something to repeat
-    pub turn_cycles : 0 < length (letters_of turn)
-    turn_cycles = let e = map_length (λ (t : Taken). t.letter) turn in let l = longer turn w.moves in omega (arith, e, l)
-      where
-        longer : (ts : List Taken) → (ts ≡ [] → ⊥) → 0 < length ts
-        longer [] n = absurd (n refl)
-        longer (t ∷ ts) n = omega arith
-
     -- the letters hold propositions that have names
     within_of : (t : Taken) → Has (way ++ turn) t → (i : ℕ) → Has t.letter i → i < length all_names
     within_of t h i m =

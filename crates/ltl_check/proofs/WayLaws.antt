@@ -1,6 +1,6 @@
 -- Laws of ways, and of what holds of each step.
-use Rattle.std.proofs.Common.{◌≡◌, ◌≢◌, ℕ, ◌+◌, ◌<◌, List, [], ◌∷◌, ◌++◌, length, take, get_or, ◌⊎◌, inl, inr, refl, sym, subst, arith}
-use Rattle.std.proofs.lemmas.List.{take_more, take_all}
+use Rattle.std.proofs.Common.{◌≡◌, ◌≢◌, ℕ, ◌+◌, ◌<◌, List, [], ◌∷◌, ◌++◌, length, take, get_or, ◌⊎◌, inl, inr, refl, sym, subst}
+use Rattle.std.proofs.lemmas.List.{take_more}
 use Rattle.ltl_check.specs.declared.graph.Step.{Step}
 use Rattle.ltl_check.specs.declared.walk.Taken.{Taken}
 use Rattle.ltl_check.specs.Nets.{Net, IsArc, IsWay}
@@ -38,9 +38,6 @@ one_pop P (u ∷ ts) t (inr h) = elim (one_pop P ts t h) [ inl i ↦ inl (inr i)
 pub one_more : (P : Taken → Type 0) (ts : List Taken) (i : ℕ) (d : Taken) → i < length ts → (OneOf P (take i ts) → ⊥) → (P (get_or ts i d) → ⊥) → OneOf P (take (i + 1) ts) → ⊥
 one_more P ts i d l n m h =
     elim (one_pop P (take i ts) (get_or ts i d) (subst (OneOf P) (take_more ts i d l) h)) [ inl a ↦ n a | inr a ↦ m a ]
-
-pub one_all : (P : Taken → Type 0) (ts : List Taken) (i : ℕ) → i ≡ length ts → (OneOf P (take i ts) → ⊥) → OneOf P ts → ⊥
-one_all P ts i e n h = n (subst (OneOf P) (sym (take_all i ts (omega arith))) h)
 
 -- ---- apart
 pub apart_push : (ts : List Taken) (t : Taken) (n : ℕ) → Apart ts t.state → Each (λ u. u.state ≢ n) ts → t.state ≢ n → Apart (ts ++ t ∷ []) n

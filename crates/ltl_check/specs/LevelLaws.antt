@@ -13,7 +13,7 @@ use Rattle.ltl_spec.proofs.Construction.ClimbLaws.{next_level_most}
 use Rattle.ltl_check.specs.declared.graph.Step.{Step}
 use Rattle.ltl_check.specs.declared.levels.Placed.{Placed}
 use Rattle.ltl_check.specs.Marks.{in_set, MarksBelow}
-use Rattle.ltl_check.specs.Levels.{placed_step, on_level, numbered}
+use Rattle.ltl_check.specs.Levels.{placed_step}
 
 -- a member of numbers below n is below n
 pub member_below : (n : ℕ) (marks : List ℕ) (j : ℕ) → AllByRecursion (λ i. i < n) marks → Has marks j → j < n
@@ -36,9 +36,6 @@ climb_on sets at marks l h =
 pub climb_stop : (n : ℕ) (marks : List ℕ) (at : ℕ) → in_set marks at ≡ false → climb n marks at ≡ at
 climb_stop zero marks at h = refl
 climb_stop (suc n) marks at h = ap (λ b. cond b (climb n marks (at + 1)) at) h
-
-pub climb_end : (sets : ℕ) (marks : List ℕ) (at : ℕ) → sets ≤ at → climb (sets - at) marks at ≡ at
-climb_end sets marks at l = let e : sets - at ≡ 0 = omega arith in ap (λ n. climb n marks at) e
 
 -- one more step of a climb, by whether the marks hold the set
 climb_by : (P : ℕ → Type 0) (n : ℕ) (marks : List ℕ) (at : ℕ) (b : Bool) → in_set marks at ≡ b → (b ≡ true → P (climb n marks (at + 1))) → (b ≡ false → P at) → P (climb (suc n) marks at)
@@ -101,14 +98,3 @@ placed_back state n r s l e =
 pub fits_one : (a b m : ℕ) → 0 < a → a * b ≤ m → b ≤ m
 fits_one zero b m p l = absurd (omega arith)
 fits_one (suc a) b m p l = let e : suc a * b ≡ a * b + b = suc-mul a b in omega arith
-
--- a look at a placed state, by numbers
-pub look_some : {S : Type 0} (number : S → ℕ) (sets level : ℕ) (o : Option (Step S)) (t : Step (Placed S)) → option_map (placed_step sets level) o ≡ Some t → Some (record { target = number t.target.state * (sets + 1) + t.target.level; marks = t.marks; letter = t.letter }) ≡ option_map (on_level sets level) (option_map (numbered number) o)
-look_some number sets level o t e =
-    let m = mapped (placed_step sets level) o t e in
-    let f : option_map (on_level sets level) (option_map (numbered number) o) ≡ Some (on_level sets level (numbered number m.0)) = ap (λ p. option_map (on_level sets level) (option_map (numbered number) p)) m.1 in
-    ap (λ u. Some (record { target = number u.target.state * (sets + 1) + u.target.level; marks = u.marks; letter = u.letter })) (sym m.2) ∙ sym f
-
-pub look_none : {S : Type 0} (number : S → ℕ) (sets level : ℕ) (o : Option (Step S)) → option_map (placed_step sets level) o ≡ None → None ≡ option_map (on_level sets level) (option_map (numbered number) o)
-look_none number sets level None e = refl
-look_none number sets level (Some a) e = absurd (cc)

@@ -1,9 +1,8 @@
 -- Laws of the product's states and steps.
-use Rattle.std.proofs.Common.{◌≡◌, ℕ, zero, suc, ◌+◌, ◌*◌, ◌/◌, ◌%◌, ◌<◌, ◌≤◌, Bool, true, false, List, [], length, Some, inl, inr, sym, subst, arith}
+use Rattle.std.proofs.Common.{◌≡◌, ℕ, zero, suc, ◌+◌, ◌*◌, ◌/◌, ◌%◌, ◌<◌, Bool, true, false, List, [], length, Some, inl, inr, sym, subst, arith}
 use Rattle.std.specs.Prelude.{All, slice_index_or}
 use Rattle.std.specs.Ordering.{nat_cmp}
-use Rattle.std.proofs.Math.Nat.{mul_comm, mul-zero, mul-le-mul_right}
-use Rattle.std.proofs.lemmas.List.Sums.{get_or-le-sum_by}
+use Rattle.std.proofs.Math.Nat.{mul_comm, mul-zero}
 use Rattle.std.proofs.lemmas.Nat.{div-mul-add, mod-mul-add, mul-add-lt}
 use Rattle.std.proofs.lemmas.List.Elements.{All-get_or}
 use Rattle.ltl_spec.specs.Collections.Sets.{put}
@@ -15,9 +14,7 @@ use Rattle.ltl_spec.proofs.Collections.SetLaws.{has_Decides, put_cases}
 use Rattle.ltl_spec.proofs.Collections.ListLaws.{All-at_has}
 use Rattle.ltl_spec.proofs.Collections.Orders.{nat_linear}
 use Rattle.ltl_spec.proofs.Automata.ListedStates.{no_state}
-use Rattle.ltl_spec.specs.Tools.Limits.{stated_limits}
-use Rattle.ltl_hoa.specs.MarkedView.{IsMarked, IsEdgeWithin}
-use Rattle.ltl_buchi.specs.BaView.{IsBa}
+use Rattle.ltl_hoa.specs.MarkedView.{IsEdgeWithin}
 use Rattle.ltl_check.specs.declared.graph.Step.{Step}
 use Rattle.ltl_check.specs.declared.product.Pair.{Pair}
 use Rattle.ltl_check.specs.Marks.{MarksBelow}
@@ -96,40 +93,3 @@ module _ (A : MarkedAutomaton) (B : Automaton) where
   pair_marks_below numbers inside s k t h l e =
       let w = step_is numbers s k t e in
       subst (λ (u : Step Pair). MarksBelow u.marks (A.sets + 1)) w.2 (marks_inside (state_at B s.second).accepting (first_at s k).marks (first_within inside s h k l).marks)
-
-  -- what both types hold is enough
-  pub searchable : IsMarked A → IsBa B → IsSearchable A B
-  searchable m b = record {
-    counted = m.counted;
-    begins = m.begins;
-    few_firsts = m.few_states;
-    few_sets = m.few_sets;
-    few_first_edges = m.few_edges;
-    firsts = m.within;
-    some = b.some;
-    few_seconds = b.few_states;
-    few_second_edges = b.few_edges;
-    seconds = b.within;
-  }
-
-  -- the pairs of edges are not too many to count
-  pub first_few : IsSearchable A B → (s : Pair) → IsPair A B s → length (first_edges A B s.first) ≤ stated_limits.hoa_edges
-  first_few inside s h =
-      let n = inside.counted in
-      let l = h.0 in
-      let m = get_or-le-sum_by length A.edges s.first [] (omega arith) in
-      let f = inside.few_first_edges in
-      omega arith
-
-  pub second_few : IsSearchable A B → (s : Pair) → IsPair A B s → length (second_edges A B s.second) ≤ stated_limits.edges
-  second_few inside s h =
-      let m = get_or-le-sum_by (λ (x : State). length x.edges) B.states s.second no_state h.1 in
-      let f = inside.few_second_edges in
-      omega arith
-
-  pub number_few : IsSearchable A B → A.states * length B.states ≤ 4_294_967_296
-  number_few inside =
-      let a = inside.few_firsts in
-      let b = inside.few_seconds in
-      let m = mul-le-mul_right (length B.states) a in
-      omega arith

@@ -105,13 +105,6 @@ module _ (N : Normal) (Makes : Normal → Result Automaton spec.Refusal → Type
   abbrev Texting : Result (List ℕ) spec.Refusal → Type 0
   Texting = Then (KeepsRows stated_limits N) (λ M. Then (Makes M) (λ B r. r ≡ Ok (text B)))
 
-  pub text_refused : (e : spec.Refusal) → Making (Err e) → Texting (Err e)
-  text_refused e (inl h) = inl (h.0, h.1, err_same e h.0 h.2)
-    where
-      err_same : (x y : spec.Refusal) → ◌≡◌ {A = Result Automaton spec.Refusal} (Err x) (Err y) → ◌≡◌ {A = Result (List ℕ) spec.Refusal} (Err x) (Err y)
-      err_same x y p = cc
-  text_refused e (inr (M, k, h)) = inr (M, k, inl (e, h, refl))
-
   pub text_made : (B : Automaton) → Making (Ok B) → Texting (Ok (text B))
   text_made B (inl h) = absurd (never B h.0 (sym h.2))
   text_made B (inr (M, k, h)) = inr (M, k, inr (B, h, refl))
@@ -124,18 +117,6 @@ module _ (N : Normal) (Makes : Normal → Result Automaton spec.Refusal → Type
 
 -- The layouts. There is no automaton, or one
 module _ (R : Reading) (rewrite : Bool) (o : Options) where
-  pub claim_refused : (e : Refusal) → (e ≡ OutOfMemory) ⊎ MakesAutomaton R false rewrite o (Err (refusal_of e)) → (e ≡ OutOfMemory) ⊎ MakesText Claim R rewrite o (Err (refusal_of e))
-  claim_refused e (inl h) = inl h
-  claim_refused e (inr h) = inr (text_refused (core R.formula false rewrite) (λ M. Translates stated_limits M o) (λ B. never_text B R) (refusal_of e) h)
-
-  pub hoa_refused : (e : Refusal) → (e ≡ OutOfMemory) ⊎ MakesAutomaton R false rewrite o (Err (refusal_of e)) → (e ≡ OutOfMemory) ⊎ MakesText Hoa R rewrite o (Err (refusal_of e))
-  hoa_refused e (inl h) = inl h
-  hoa_refused e (inr h) = inr (text_refused (core R.formula false rewrite) (λ M. Translates stated_limits M o) (λ B. hoa_text B R) (refusal_of e) h)
-
-  pub sets_refused : (e : Refusal) → (e ≡ OutOfMemory) ⊎ MakesGeneralized R rewrite o (Err (refusal_of e)) → (e ≡ OutOfMemory) ⊎ MakesText Generalized R rewrite o (Err (refusal_of e))
-  sets_refused e (inl h) = inl h
-  sets_refused e (inr h) = inr (text_refused (core R.formula false rewrite) (λ M. TranslatesGeneralized stated_limits M o) (λ G. generalized_text G R) (refusal_of e) h)
-
   pub claim_made : (B : Automaton) → MakesAutomaton R false rewrite o (Ok B) → MakesText Claim R rewrite o (Ok (never_text B R))
   claim_made = text_made (core R.formula false rewrite) (λ M. Translates stated_limits M o) (λ B. never_text B R)
 

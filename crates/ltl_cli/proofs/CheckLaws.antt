@@ -16,7 +16,7 @@ use Rattle.ltl_spec.specs.Checking.Check.{Verdict, Contained, Violated, IsVerdic
 use Rattle.ltl_spec.specs.Tools.Limits.{stated_limits}
 use Rattle.ltl_spec.specs.Tools.Refusal as spec
 use Rattle.ltl_spec.specs.Tools.Outcome as outcome
-use Rattle.ltl_spec.specs.Tools.Outcome.{Answer, Input, Then, IsPromised, refused}
+use Rattle.ltl_spec.specs.Tools.Outcome.{Input, Then}
 use Rattle.ltl_spec.specs.Tools.Programs.{CheckerFinds, CheckerPlan, InputReads, Judges, KeepsRows, ReadsHoa, Translates, plain_options, verdict_answer}
 use Rattle.ltl_spec.proofs.Semantics.LanguageLaws.{translation_violations}
 use Rattle.ltl_formula.specs.FormulaView.{FormulaView, reading_of}
@@ -43,12 +43,6 @@ use Rattle.ltl_cli.proofs.RunLaws.{input_takes, run_shows, same_refusal, short_s
 
 never : {A B : Type 0} (a : A) (b : B) → Err b ≡ Ok a → ⊥
 never a b e = cc
-
-same_ok : {A B : Type 0} (a b : A) → ◌≡◌ {A = Result A B} (Ok a) (Ok b) → a ≡ b
-same_ok a b e = cc
-
-same_some : {A : Type 0} (a b : A) → Some a ≡ Some b → a ≡ b
-same_some a b e = cc
 
 -- ---- steps
 

@@ -1,16 +1,15 @@
 -- What a run of the evaluator shows.
-use Rattle.std.proofs.Common.{◌≡◌, sym, subst, refl, ℕ, ◌≤◌, Bool, true, false, inl, inr, List, [], Option, Some, None}
+use Rattle.std.proofs.Common.{◌≡◌, sym, subst, refl, ℕ, Bool, true, false, inl, inr, List, [], Option, Some, None}
 use Rattle.std.proofs.KnownBytes.{Keeps-refl}
 use Rattle.std.specs.Prelude.{Result, Ok, Err, ⊤, option_map}
 use Rattle.std.specs.Bool.{Decides}
-use Rattle.std.specs.Io.KnownBytes.{Appends}
 use Rattle.ltl_spec.specs.Semantics.Word.{Lasso}
 use Rattle.ltl_spec.specs.Semantics.Satisfaction.{Satisfies}
 use Rattle.ltl_spec.specs.Formulas.Formula.{Reading}
 use Rattle.ltl_spec.specs.Tools.Limits.{stated_limits}
 use Rattle.ltl_spec.specs.Tools.Refusal as spec
 use Rattle.ltl_spec.specs.Tools.Outcome as outcome
-use Rattle.ltl_spec.specs.Tools.Outcome.{Answer, Input, Then, TakesNoMemory, IsPromised, refused, printed}
+use Rattle.ltl_spec.specs.Tools.Outcome.{Input}
 use Rattle.ltl_spec.specs.Tools.Programs.{EvaluatorPlan, EvaluatorFinds, Evaluates, InputReads, ReadsWord, truth_answer}
 use Rattle.ltl_formula.specs.FormulaView.{FormulaView, reading_of}
 use Rattle.ltl_formula.specs.Streams.{AppendsBeginning}
@@ -28,7 +27,7 @@ use Rattle.ltl_cli.specs.Refusals.{of_plan, of_word, refusal_of}
 use Rattle.ltl_cli.specs.Plans.{formula_word, request_in}
 use Rattle.ltl_cli.specs.Words.{evaluator_plan}
 use Rattle.ltl_cli.specs.Inputs.{RefusesInput}
-use Rattle.ltl_cli.specs.Runs.{IsDone, Shows, message_with, status_with}
+use Rattle.ltl_cli.specs.Runs.{Shows, message_with, status_with}
 use Rattle.ltl_cli.specs.Evaluations.{EvaluatorGives, EvaluatorTakesNone, EvaluatorPromises, EvaluatorOutcome, RefusesEvaluation, RequestOutcome, with_word}
 use Rattle.ltl_cli.proofs.InputLaws.{reads_takes}
 use Rattle.ltl_cli.proofs.RunLaws.{input_takes, run_shows, same_refusal, short_shows}
@@ -102,16 +101,6 @@ silent_truth false = refl
 pub evaluation_broken : (p : Plan) (text : List ℕ) (input : Input) (o n : Option (List ℕ)) (b : Bool) (e : Refusal) → EvaluatorFinds stated_limits (with_word p text) input (Ok b) → e ≡ CannotWrite
     → AppendsBeginning o n (truth_answer stated_limits b).output → RequestOutcome (Some (with_word p text)) input o n (Err e)
 evaluation_broken p text input o n b e h c w = inl (c, record { answer = truth_answer stated_limits b; right = (Ok b, h, refl); silent = silent_truth b; written = w })
-
-pub evaluation_done : (p : Plan) (text : List ℕ) (input : Input) (o n : Option (List ℕ)) (b : Bool) (status : ℕ) → EvaluatorFinds stated_limits (with_word p text) input (Ok b)
-    → Appends o n (truth_answer stated_limits b).output → (truth_answer stated_limits b).status ≡ status → status ≤ 1 → IsDone (EvaluatorGives (Some (with_word p text)) input) o n status
-evaluation_done p text input o n b status h w s l = record { answer = truth_answer stated_limits b; right = (Ok b, h, refl); silent = silent_truth b; ends = s; low = l; written = w }
-
--- the outcome with the word of the plan
-pub word_outcome : (p : Plan) (text : List ℕ) (input : Input) (o n : Option (List ℕ)) (r : Result Status Refusal) → option_map (λ s. s.now) p.word ≡ Some text
-    → RequestOutcome (Some (with_word p text)) input o n r → EvaluatorOutcome (Ok p) input o n r
-word_outcome p text input o n r e h =
-    subst (λ (w : Option (List ℕ)). RequestOutcome (evaluator_plan (record (request_in p) { word = w })) input o n r) (sym e) h
 
 usage_outcome : (o : Option (List ℕ)) (input : Input) → RequestOutcome None input o o (Err Usage)
 usage_outcome o input = inr (Keeps-refl o, inr ((λ (m : Usage ≡ OutOfMemory). cc), refl))

@@ -6,7 +6,6 @@ use Rattle.std.proofs.lemmas.List.{take_all}
 use Rattle.std.specs.Prelude.{IfSome, IsErrOf, Result, Ok, Err}
 use Rattle.std.specs.Io.KnownBytes.{Consumes}
 use Rattle.ltl_spec.specs.Formulas.Formula.{Reading}
-use Rattle.ltl_spec.specs.Formulas.Grammar.{IsTextOf}
 use Rattle.ltl_spec.specs.Tools.Limits.{stated_limits}
 use Rattle.ltl_spec.specs.Tools.Refusal as spec
 use Rattle.ltl_spec.specs.Tools.Outcome as outcome
@@ -141,11 +140,6 @@ reads_takes (outcome.File name) input R h = λ m. closed (subst (λ (i : outcome
     closed : InputReads stated_limits outcome.NotOpened (Ok R) → ⊥
     closed (inl (e, p, q)) = never R e (sym q)
     closed (inr (a, p, q)) = never a spec.CannotOpen (sym p)
-
--- a formula that was read has a text
-pub has_text : (input : outcome.Input) (R : Reading) → InputReads stated_limits input (Ok R) → (text : List ℕ) × IsTextOf text R
-has_text input R (inl (e, p, q)) = absurd (never R e (sym q))
-has_text input R (inr (text, p, (l, t, n))) = (text, t)
 
 -- a text that is known is never refused for a read
 pub given_readable : (text : List ℕ) (input : outcome.Input) {A : Type 0} (r : Result FormulaView Refusal) → IsReadFrom (outcome.Given text) input r → IsErrOf r CannotRead → A

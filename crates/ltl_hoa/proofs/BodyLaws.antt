@@ -37,15 +37,6 @@ number_else_is v k text n = refl
 pub number_else : (v w : BodyView) (j k : TokenKind) (text : List ℕ) (r : Result Place Stop) → j ≡ k → (j ≡ made.Text → ⊥) → BodyLeads (view.after_name v (token_of j text)) r w → BodyLeads (view.after_number v (token_of k text)) r w
 number_else v w j k text r e n h = subst (λ i. BodyLeads (view.after_number v (token_of i text)) r w) e (subst (λ led. BodyLeads led r w) (sym (number_else_is v j text n)) h)
 
--- no sets follow a target
-target_else_is : (v : BodyView) (k : TokenKind) (text : List ℕ) → (k ≡ made.AndSign → ⊥) → (k ≡ made.OpenSets → ⊥) → view.after_target v (token_of k text) ≡ view.at_edge (view.filed v) (token_of k text)
-target_else_is v made.OpenSets text n nm = absurd (nm refl)
-target_else_is v made.AndSign text n nm = absurd (n refl)
-target_else_is v k text n nm = refl
-
-pub target_else : (v w : BodyView) (j k : TokenKind) (text : List ℕ) (r : Result Place Stop) → j ≡ k → (j ≡ made.AndSign → ⊥) → (j ≡ made.OpenSets → ⊥) → BodyLeads (view.at_edge (view.filed v) (token_of j text)) r w → BodyLeads (view.after_target v (token_of k text)) r w
-target_else v w j k text r e n nm h = subst (λ i. BodyLeads (view.after_target v (token_of i text)) r w) e (subst (λ led. BodyLeads led r w) (sym (target_else_is v j text n nm)) h)
-
 -- another token than `--ABORT--`
 pub abort_else : (place : BodyPlace) (v w : BodyView) (j k : TokenKind) (text : List ℕ) (r : Result Place Stop) → j ≡ k → (j ≡ made.Abort → ⊥) → view.TakesAt place v (token_of j text) r w → view.Takes place v (token_of k text) r w
 abort_else place v w j k text r e n h = subst (λ i. view.Takes place v (token_of i text) r w) e (go j n h)

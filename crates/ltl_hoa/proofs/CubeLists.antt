@@ -16,9 +16,6 @@ use Rattle.ltl_spec.proofs.Collections.ListLaws.{Has-at}
 use Rattle.ltl_spec.proofs.Collections.Orders.{cube_linear}
 use Rattle.ltl_hoa.specs.CubesView.{joins}
 
-cube_set : List Cube → List Cube
-cube_set xs = set_of cube_cmp xs
-
 -- lists with the same members are the same set
 pub same_cube_sets : (xs ys : List Cube) → ((z : Cube) → Has xs z → Has ys z) → ((z : Cube) → Has ys z → Has xs z) → set_of cube_cmp xs ≡ set_of cube_cmp ys
 same_cube_sets xs ys f g =

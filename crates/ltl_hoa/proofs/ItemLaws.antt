@@ -141,9 +141,6 @@ word_named l b bs rest e a =
 
 -- ---- numbers
 
-pub zero_first : (l : ℕ) (rest : List ℕ) → hoa_items_from 0 l (48 ∷ rest) ≡ record { token = Int 0; line = l } ∷ hoa_items_from 0 l rest
-zero_first l rest = refl
-
 -- a number
 pub number_ends : (l b : ℕ) (bs rest : List ℕ) → is_digit b ≡ true → (b == 48) ≡ false → list_all is_digit bs ≡ true → StopsAt is_digit rest
     → hoa_items_from 0 l (b ∷ bs ++ rest) ≡ record { token = Int (number_of (b ∷ bs)); line = l } ∷ hoa_items_from 0 l rest
@@ -259,10 +256,6 @@ string_first l rest = opened (string_rest false rest)
         one : (k : ℕ) → k + 1 - 1 ≡ k
         one k = omega arith
     opened None = refl
-
-pub string_ends : (start l : ℕ) (text rest : List ℕ)
-    → string_items start l text (string_rest false (34 ∷ rest)) (34 ∷ rest) ≡ record { token = StringToken (text ++ []); line = start } ∷ hoa_items_from 0 l rest
-string_ends start l text rest = refl
 
 -- a backslash
 pub string_keeps : (start l : ℕ) (text rest : List ℕ) → string_items start l text (string_rest false (92 ∷ rest)) (92 ∷ rest) ≡ string_items start l text (string_rest true rest) rest

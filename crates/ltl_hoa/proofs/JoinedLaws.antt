@@ -134,9 +134,6 @@ abbrev pub widened : Cube → List Cube → List Cube
 widened q xs = filter_map (λ c. join_cubes c q) xs
 
 module _ (q : Cube) where
-  inside : Cube → Bool
-  inside c = is_subset literal_cmp q c
-
   is_true : (b : Bool) → beq b true ≡ true → b ≡ true
   is_true true e = refl
   is_true false e = cc

@@ -15,11 +15,8 @@ use Rattle.ltl_spec.proofs.Collections.SetLaws.{IsRising-set_of, IsRising-union,
 use Rattle.ltl_spec.proofs.Hoa.BlockLaws.{same_first, same_behind}
 use Rattle.ltl_hoa.specs.CubesView.{few, constant_cubes, literal_cubes, both_cubes}
 use Rattle.ltl_hoa.specs.LabelView as view
-use Rattle.ltl_hoa.specs.LabelView.{PartView, LabelView}
+use Rattle.ltl_hoa.specs.LabelView.{LabelView}
 use Rattle.ltl_hoa.specs.Shown.{narrow_normal, narrow, is_odd, shown_part, sign_within, shown_around, shown_label}
-
-wide : List Normal → Bool
-wide ps = list_any (λ p. nat_lt stated_limits.label_cubes (length (cubes p))) ps
 
 -- cubes of a normal form are a set
 cubes_rise : (N : Normal) → IsRising cube_cmp (cubes N)
@@ -53,9 +50,6 @@ node a b c =
     last : (t : Bool) → (t || false) ≡ t
     last true = refl
     last false = refl
-
-chosen : Bool → List Cube → Option (List Cube)
-chosen w cs = if w then None else Some cs
 
 united : (xs ys : List Cube) → IsRising cube_cmp ys → union cube_cmp xs ys ≡ set_of cube_cmp (xs ++ ys)
 united xs ys r =

@@ -15,7 +15,7 @@ use Rattle.ltl_spec.specs.Hoa.HoaReading.{stated_form}
 use Rattle.ltl_spec.specs.Hoa.HoaFaultKind.{ItemMissing, NumberOutOfRange}
 use Rattle.ltl_spec.specs.Hoa.HoaPlace as spec
 use Rattle.ltl_spec.specs.Hoa.HoaStep as table
-use Rattle.ltl_spec.specs.Hoa.HoaPlace.{Before, HoaHeader, LabelPart, LabelParts, whole, with_operand}
+use Rattle.ltl_spec.specs.Hoa.HoaPlace.{Before, LabelPart, LabelParts, whole, with_operand}
 use Rattle.ltl_spec.specs.Hoa.HoaStep.{Step}
 use Rattle.ltl_hoa.specs.declared.marked.TheConstants.{MOST_SETS}
 use Rattle.ltl_hoa.specs.declared.fault.Stop.{Stop}
@@ -28,7 +28,7 @@ use Rattle.ltl_hoa.specs.declared.place.BodyPlace.TheVariants as at
 use Rattle.ltl_hoa.specs.NumberView.{capped}
 use Rattle.ltl_hoa.specs.LabelView as label
 use Rattle.ltl_hoa.specs.HeaderView as header
-use Rattle.ltl_hoa.specs.HeaderView.{HeaderView, Refuses, Leads}
+use Rattle.ltl_hoa.specs.HeaderView.{Refuses, Leads}
 use Rattle.ltl_hoa.specs.BodyView as body
 use Rattle.ltl_hoa.specs.BodyView.{BodyView, BodyLeads, new_body}
 use Rattle.ltl_hoa.specs.ParserView.{ParserView, at_place, Takes, TakesAt, TakesInHeader, TakesBody, BodyTakes, BeginsBody, Begins}
@@ -87,9 +87,6 @@ begin_shown v w b g r sh begun k =
     go b.header.states b.header.start b.header.names b.header.sets refl refl refl refl
     (subst (λ x. Begins x v r w) (λ i. header.counted (sh.states i) (sh.start i) (sh.names i) (sh.sets i)) k)
   where
-    Missing : Type 0
-    Missing = Begins (Err ItemMissing) v r w → StepShown (Err ItemMissing) g r w
-
     missing : (x : Result (Unit {0}) Stop) → Begins (Err ItemMissing) v x w → StepShown (Err ItemMissing) g x w
     missing (Ok u) m = m
     missing (Err stop) m = m

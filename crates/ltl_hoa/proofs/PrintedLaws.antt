@@ -271,9 +271,6 @@ module _ (B : Automaton) (F : Reading) (p : IsPrinted B F) where
 
   -- ---- what the text describes
 
-  marks_of : Bool → List ℕ
-  marks_of c = if c then 0 ∷ [] else []
-
   -- an edge for the one cube of its label
   one_edge : (s : State) → Has B.states s → (e : Edge) → Has s.edges e → cube_edges (if s.accepting then Some (0 ∷ []) else None) (written_edge e) ≡ marked_edge s.accepting e ∷ []
   one_edge s h e m =
@@ -349,10 +346,6 @@ module _ (B : Automaton) (F : Reading) (p : IsPrinted B F) where
       sym (ap (flat_map state_edges) (found_state 0 (length B.states) k (range_below 0 (length B.states) k h).0 (range_below 0 (length B.states) k h).1) ∙ append-nil (state_edges (written_state B k)) ∙ written_edges k h))
 
   -- ---- that nothing passes a count or a limit
-
-  both_true : (r s : Bool) → r ≡ true → s ≡ true → (r && s) ≡ true
-  both_true true s e f = f
-  both_true false s e f = e
 
   small_test : (m n : ℕ) → m < n → nat_lt m n ≡ true
   small_test m n l = grind (arith, nat_tests, l)

@@ -139,9 +139,6 @@ number_spelled (suc n) rest l s =
     some : (n : ℕ) → 0 < suc n
     some n = omega arith
 
-nat_stop : (b : ℕ) (rest : List ℕ) → is_digit b ≡ false → StopsAt is_digit (b ∷ rest)
-nat_stop b rest e = e
-
 -- an end of a line behind a number
 number_line : (n : ℕ) → n < 2 ^ 64 → Spells (decimal n ++ 10 ∷ []) (Int n ∷ [])
 number_line n l rest = ap hoa_tokens (append_assoc (decimal n) (10 ∷ []) rest) ∙ number_spelled n (10 ∷ rest) l refl ∙ ap (λ ts. Int n ∷ ts) (any_line 2 rest)
@@ -178,9 +175,6 @@ name_line text e rest =
     ap hoa_tokens (append_assoc (quoted text) (10 ∷ []) rest) ∙ string_spelled text e (10 ∷ rest) ∙ ap (λ ts. StringToken text ∷ ts) (any_line 2 rest))
 
 -- ---- the names
-
-blank_before : (text : List ℕ) → hoa_tokens (32 ∷ text) ≡ hoa_tokens text
-blank_before text = refl
 
 one_name : (text : List ℕ) → list_all is_clean text ≡ true → Spells (32 ∷ quoted text) (StringToken text ∷ [])
 one_name text e rest = string_spelled text e rest

@@ -12,18 +12,17 @@ use Rattle.ltl_spec.proofs.Hoa.HoaHeaderLaws.{whole_header}
 use Rattle.ltl_hoa.specs.declared.place.Place.TheVariants as place
 use Rattle.ltl_hoa.specs.NumberView.{capped}
 use Rattle.ltl_hoa.specs.HeaderView as header
-use Rattle.ltl_hoa.specs.HeaderView.{HeaderView, automaton_from, automaton_of, IsSomeMarked}
+use Rattle.ltl_hoa.specs.HeaderView.{HeaderView, automaton_from, IsSomeMarked}
 use Rattle.ltl_hoa.specs.BodyView.{BodyView}
 use Rattle.ltl_hoa.specs.ParserView.{ParserView, IsWhole, IsWholeWith, IsAutomaton, IsAutomatonWith}
 use Rattle.ltl_hoa.specs.Shown.{Came, Shows, ShowsPlace, ShowsBody, ShowsHeader}
-use Rattle.ltl_hoa.specs.declared.machine.Found.{Found}
 use Rattle.ltl_hoa.specs.declared.fault.HoaFaultKind as made
 use Rattle.ltl_spec.specs.Hoa.HoaFault.{hoa_fault}
 use Rattle.ltl_spec.specs.Hoa.HoaToken.{last_line}
 use Rattle.ltl_spec.proofs.Hoa.HoaBackLaws.{no_fault_reads}
 use Rattle.ltl_hoa.specs.TokenView.{kind_of}
 use Rattle.ltl_hoa.specs.MachineView.{MachineView}
-use Rattle.ltl_hoa.specs.Reading.{reached, fault_of, IsTold, IsToldIn, IsEnded}
+use Rattle.ltl_hoa.specs.Reading.{reached, IsTold, IsToldIn, IsEnded}
 use Rattle.ltl_hoa.proofs.EndLaws.{end_kind, at_line, told_fault}
 use Rattle.ltl_hoa.proofs.StepLaws.{capped_small}
 use Rattle.ltl_hoa.proofs.EdgeLaws.{IsReadAs, read_as}
@@ -138,7 +137,3 @@ pub end_refused : (w : MachineView) (text : List ℕ) (kind : made.HoaFaultKind)
     → hoa_fault stated_limits stated_form text ≡ Some (record { kind = kind_of kind; line = w.line })
 end_refused w text kind e n p =
     told_fault w text e.few (told w text e n) ∙ ap (λ k. at_line k (last_line text)) p ∙ ap (λ m. Some (record { kind = kind_of kind; line = m })) (sym e.line)
-
--- a fault was met
-pub met_refused : (w : MachineView) (text : List ℕ) (f : Found) → IsEnded w text → w.fault ≡ Some f → hoa_fault stated_limits stated_form text ≡ Some (fault_of f)
-met_refused w text f e n = subst (λ o. IsToldIn o w text) n e.inside

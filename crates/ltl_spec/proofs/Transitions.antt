@@ -4,7 +4,6 @@ pub mod JoinLaws
 pub mod TransitionLaws
 pub mod PartLaws
 pub mod UnimpliedLaws
-pub mod Pruning
 pub mod LeastPairs
 pub mod SafeLaws
 pub mod SafeTests
@@ -15,11 +14,9 @@ pub mod ApartMarks
 pub mod ProductTransitions
 pub mod PartJoins
 pub mod FactorLaws
-pub mod RowSetFactors
 pub mod JoinedLists
 pub mod RowPartLaws
 pub mod PartSets
 pub mod ApartTests
-pub mod ApartExact
 pub mod LinkLaws
 pub mod FactoredTransitions

@@ -1,12 +1,20 @@
--- Worked examples of the tests for pairs that are safe to drop.
-use Rattle.std.proofs.Common.{◌≡◌, ℕ, true, false, [], ◌∷◌, length, map, refl}
-use Rattle.ltl_spec.specs.Transitions.Cubes.{Literal, Cube}
+-- Worked examples of pairs that may be listed in place of others.
+use Rattle.std.proofs.Common.{◌≡◌, ℕ, Bool, true, false, ◌&&◌, ◌||◌, [], ◌∷◌, length, map, refl}
+use Rattle.std.specs.List.{list_any, list_all}
+use Rattle.ltl_spec.specs.Collections.Sets.{union}
+use Rattle.ltl_spec.specs.Transitions.Cubes.{Literal, Cube, literal_cmp, is_contradictory}
 use Rattle.ltl_spec.specs.NormalForms.Normal.{Normal, Top, Bottom, Leaf, And, Or, Until, Release}
 use Rattle.ltl_spec.specs.Transitions.Pairs.{RowSet, Pair, empty_pair}
-use Rattle.ltl_spec.specs.Transitions.RowTransitions.{table_of, place, is_marked, transitions}
+use Rattle.ltl_spec.specs.Transitions.RowTransitions.{Table, table_of, place, is_marked}
 use Rattle.ltl_spec.proofs.Transitions.TransitionLaws.{joined}
-use Rattle.ltl_spec.proofs.Transitions.PruningLaws.{few_successors_enough}
-use Rattle.ltl_spec.proofs.Transitions.Pruning.{is_within, least_pairs, own_pairs, is_safe, unimplied_of, few_successors}
+use Rattle.ltl_spec.specs.Transitions.Pruning.{is_within, own_pairs, asks_beyond}
+
+-- the rule, computed: u asks for no more than t, and for each own pair of an until row that t doesn't contradict there is one that asks for no more
+-- beyond u
+abbrev is_safe : Table → Pair → Pair → Bool
+is_safe table t u =
+    is_within u t
+    && list_all (λ f. list_all (λ m. is_contradictory (union literal_cmp t.cube m.cube) || list_any (λ n. asks_beyond n u m t) (own_pairs table f)) (own_pairs table f)) table.untils
 
 -- the literal of a proposition
 abbrev is : ℕ → Literal
@@ -37,7 +45,7 @@ either_place : place (table_of either) either ≡ 2
 either_place = refl
 
 -- it has two own pairs
-either_own : least_pairs (own_pairs (table_of either) either) ≡ pair (is 0 ∷ []) [] ∷ pair (is 1 ∷ []) [] ∷ []
+either_own : own_pairs (table_of either) either ≡ pair (is 0 ∷ []) [] ∷ pair (is 1 ∷ []) [] ∷ []
 either_own = refl
 
 -- to ask for less isn't enough: without p the row is put off
@@ -50,10 +58,10 @@ with_p = refl
 without_p : is_marked (table_of either) (pair [] (2 ∷ [])) either ≡ false
 without_p = refl
 
-not_safe : is_safe (table_of either) (own_pairs (table_of either)) (pair (is 0 ∷ []) (2 ∷ [])) (pair [] (2 ∷ [])) ≡ false
+not_safe : is_safe (table_of either) (pair (is 0 ∷ []) (2 ∷ [])) (pair [] (2 ∷ [])) ≡ false
 not_safe = refl
 
-yet_safe : is_safe (table_of either) (own_pairs (table_of either)) (pair (is 0 ∷ is 1 ∷ []) (2 ∷ [])) (pair (is 0 ∷ []) (2 ∷ [])) ≡ true
+yet_safe : is_safe (table_of either) (pair (is 0 ∷ is 1 ∷ []) (2 ∷ [])) (pair (is 0 ∷ []) (2 ∷ [])) ≡ true
 yet_safe = refl
 
 -- `<>(p && q)`, at place 2: where p is false now, q plays no part
@@ -62,7 +70,7 @@ yet_safe = refl
 abbrev both : Normal
 both = eventually (And (Leaf (is 0)) (Leaf (is 1)))
 
-contradicted : is_safe (table_of both) (own_pairs (table_of both)) (pair (is_not 0 ∷ is 1 ∷ []) (2 ∷ [])) (pair (is_not 0 ∷ []) (2 ∷ [])) ≡ true
+contradicted : is_safe (table_of both) (pair (is_not 0 ∷ is 1 ∷ []) (2 ∷ [])) (pair (is_not 0 ∷ []) (2 ∷ [])) ≡ true
 contradicted = refl
 
 -- `[]<>p && []<>q`, the set of all its until and release rows
@@ -78,11 +86,3 @@ again_places = refl
 -- there are 16 joined pairs
 all_pairs : length (joined (table_of again) (empty_pair ∷ []) (1 ∷ 2 ∷ 4 ∷ 5 ∷ [])) ≡ 16
 all_pairs = refl
-
--- and 4 are kept
-fewer_pairs : length (few_successors (table_of again) (1 ∷ 2 ∷ 4 ∷ 5 ∷ [])) ≡ 4
-fewer_pairs = refl
-
--- the transitions are the same
-same_transitions : transitions (table_of again) false (1 ∷ 2 ∷ 4 ∷ 5 ∷ []) ≡ unimplied_of (table_of again) (few_successors (table_of again) (1 ∷ 2 ∷ 4 ∷ 5 ∷ []))
-same_transitions = few_successors_enough (table_of again) (1 ∷ 2 ∷ 4 ∷ 5 ∷ [])

@@ -1,13 +1,11 @@
 -- What is left of `Acceptance:` while it is read: a reader keeps the number of sets, the set that comes next and a part of it, and no list of
 -- tokens.
-use Rattle.std.proofs.Common.{◌≡◌, ℕ, zero, suc, ◌+◌, ◌-◌, ◌<◌, ◌≤◌, true, false, List, [], ◌∷◌, ◌==◌, codes, refl, sym, ◌∙◌, ap, arith}
-use Rattle.std.specs.Prelude.{if◌then◌else◌, drop, flat_map}
+use Rattle.std.proofs.Common.{◌≡◌, ℕ, zero, suc, ◌+◌, ◌-◌, ◌<◌, ◌≤◌, true, List, [], ◌∷◌, codes, ap, arith}
+use Rattle.std.specs.Prelude.{drop, flat_map}
 use Rattle.std.specs.List.{range_with_len}
 use Rattle.std.proofs.lemmas.Bool.Decides.{nat_tests}
 use Rattle.ltl_spec.specs.Hoa.HoaToken.{HoaToken, Identifier, Int, OpenBracket, CloseBracket, AndSign}
 use Rattle.ltl_spec.specs.Hoa.HoaReading.{SetsUpTo, is_read, set_tokens, acceptance_tokens}
-use Rattle.ltl_spec.specs.Hoa.HoaPlace.{Before, AtItem, InAcceptance, Acceptance}
-use Rattle.ltl_spec.specs.Hoa.HoaStep.{go_to, expect}
 
 -- what comes next of a set: `Inf`, `(`, its number, `)`, and the `&` before the next set
 pub data SetPart : Type 0 where
@@ -34,22 +32,6 @@ sets_begin (suc n) l =
     less : (m : ℕ) → m ≡ suc m - (0 + 1)
     less m = omega arith
 
-pub none_begins : drop 1 (acceptance_tokens 0) ≡ Identifier (codes "t") ∷ []
-none_begins = refl
-
--- from one part to the next
-pub after_inf : (n k : ℕ) → sets_left n k AtInf ≡ Identifier (codes "Inf") ∷ sets_left n k AtOpen
-after_inf n k = refl
-
-pub after_open : (n k : ℕ) → sets_left n k AtOpen ≡ OpenBracket ∷ sets_left n k AtNumber
-after_open n k = refl
-
-pub after_number : (n k : ℕ) → sets_left n k AtNumber ≡ Int k ∷ sets_left n k AtClose
-after_number n k = refl
-
-pub after_close : (n k : ℕ) → sets_left n k AtClose ≡ CloseBracket ∷ sets_left n k AtAnd
-after_close n k = refl
-
 pub after_and : (n k : ℕ) → k + 1 < n → sets_left n k AtAnd ≡ AndSign ∷ sets_left n (k + 1) AtInf
 after_and n k l = ap (λ m. flat_map (λ j. AndSign ∷ set_tokens j) (range_with_len (k + 1) m)) (one_more n k l)
   where
@@ -63,23 +45,6 @@ after_last n k l = ap (λ m. flat_map (λ j. AndSign ∷ set_tokens j) (range_wi
     none : (n k : ℕ) → n ≤ k + 1 → n - (k + 1) ≡ 0
     none n k l = omega (arith, l)
 
--- so the place behind a `)` goes by the count
-pub close_leads : (b : Before) (n k : ℕ) → k < n → expect b (sets_left n k AtAnd) ≡ (if k + 1 == n then go_to b (AtItem Acceptance) else go_to b (InAcceptance (sets_left n k AtAnd)))
-close_leads b n k l =
-    elim (k + 1 == n) as (λ c. (k + 1 == n) ≡ c → expect b (sets_left n k AtAnd) ≡ (if c then go_to b (AtItem Acceptance) else go_to b (InAcceptance (sets_left n k AtAnd)))) [
-      | true ↦ λ e. ap (expect b) (after_last n k (last n k e))
-      | false ↦ λ e. let m = after_and n k (more n k l e) in ap (expect b) m ∙ ap (λ ts. go_to b (InAcceptance ts)) (sym m)
-    ] refl
-  where
-    last : (n k : ℕ) → (k + 1 == n) ≡ true → n ≤ k + 1
-    last n k e = grind (arith, nat_tests, e)
-
-    more : (n k : ℕ) → k < n → (k + 1 == n) ≡ false → k + 1 < n
-    more n k l e = grind (arith, nat_tests, l, e)
-
 -- a number that is read is none above the greatest
 pub read_below : (most n : ℕ) → is_read (SetsUpTo most) n ≡ true → n ≤ most
 read_below most n e = grind (arith, nat_tests, e)
-
-pub unread_above : (most n : ℕ) → is_read (SetsUpTo most) n ≡ false → most < n
-unread_above most n e = grind (arith, nat_tests, e)

@@ -22,13 +22,11 @@ use Rattle.ltl_spec.specs.Hoa.HoaToken.{HoaToken, StringToken, Identifier, Heade
 use Rattle.ltl_spec.specs.Hoa.HoaLabel.{is_wide}
 use Rattle.ltl_spec.specs.Hoa.HoaReading.{SetsUpTo, is_read, StatesItem, StartItem, SetsItem, NamesItem, OtherItem, WrittenEdge, WrittenState, HoaDocument, document_tokens, state_tokens, header_item_tokens, MarkedAutomaton, cube_edges, state_edges, edges_at, is_item, is_plain, begins_upper, is_edge_inside, is_state_inside, are_sets, HoaReadsWithin}
 use Rattle.ltl_spec.specs.Hoa.HoaPrinted.{IsPrintedEdge, IsPrinted, marked_of}
-use Rattle.ltl_spec.specs.Hoa.HoaFault.{hoa_fault}
 use Rattle.ltl_spec.proofs.Collections.CaseLaws.{left_true, right_true}
 use Rattle.ltl_spec.proofs.Collections.SetLaws.{set_of_same}
 use Rattle.ltl_spec.proofs.Collections.Orders.{nat_linear}
 use Rattle.ltl_spec.proofs.Collections.ListLaws.{Has-at, All-at_has}
 use Rattle.ltl_spec.proofs.Collections.MemberLaws.{all_Decides, all_append, all_weaker, map_cases}
-use Rattle.ltl_spec.proofs.Hoa.HoaLaws.{reads_without_fault}
 use Rattle.ltl_spec.proofs.Hoa.HoaUniqueLaws.{one_automaton}
 use Rattle.ltl_spec.proofs.Hoa.SpelledLaws.{Spells, spells_all, is_clean}
 use Rattle.ltl_spec.proofs.Hoa.SpelledStates.{format_line, name_line, states_line, start_line, names_spelled, name_of_acceptance, acceptance_name_line, acceptance_line, properties_line, body_line, end_line, written_marks, written_edge, written_state, IsSmallEdge, state_spelled}
@@ -465,9 +463,6 @@ module _ (l : Limits) (most : ℕ) (usual : AreUsual l most) (A : Automaton) (R 
       map_id [] = refl
       map_id (k ∷ ks) = ap (λ js. k ∷ js) (map_id ks)
 
-  -- so it has no fault, and reads as no other automaton
-  pub generalized_no_fault : length (generalized_text A R) ≤ l.hoa_bytes → hoa_fault l (SetsUpTo most) (generalized_text A R) ≡ None
-  generalized_no_fault few = reads_without_fault l (SetsUpTo most) (generalized_text A R) (marked_of A R.names) (generalized_reads few)
-
+  -- so it reads as no other automaton
   pub generalized_read_back : length (generalized_text A R) ≤ l.hoa_bytes → (M : MarkedAutomaton) → HoaReadsWithin l (SetsUpTo most) (generalized_text A R) M → M ≡ marked_of A R.names
   generalized_read_back few M r = one_automaton (SetsUpTo most) (generalized_text A R) M (marked_of A R.names) r.0 (generalized_reads few).0

@@ -53,9 +53,9 @@ module _ (l : Limits) (form : AcceptanceForm) where
       ∙ ap (fault_after l form text) (fold-append (take_item l form text) (Ok before_all) items later ∙ ap (λ o. fold (take_item l form text) o later) f ∙ fault_stays text fault later)
 
   -- So texts that begin with the same tokens, of which one is at fault, have the same fault, unless one is too long
-  pub same_fault : (text other : List ℕ) (items later others : List HoaItem) (fault : HoaFault) → length text ≤ l.hoa_bytes → length other ≤ l.hoa_bytes
+  pub fault_by_beginning : (text other : List ℕ) (items later others : List HoaItem) (fault : HoaFault) → length text ≤ l.hoa_bytes → length other ≤ l.hoa_bytes
       → hoa_items text ≡ items ++ later → hoa_items other ≡ items ++ others → IsTrue (list_all (λ i. has_end i.token) items)
       → fold (take_item l form text) (Ok before_all) items ≡ Err fault
       → (hoa_fault l form text ≡ Some fault) × (hoa_fault l form other ≡ Some fault)
-  same_fault text other items later others fault m n q r e f =
+  fault_by_beginning text other items later others fault m n q r e f =
       (first_fault text items later fault m q f, first_fault other items others fault n r (sym (same_steps text other (Ok before_all) items e) ∙ f))

@@ -9,7 +9,7 @@ use Rattle.ltl_spec.specs.Transitions.RowTransitions.{Table, place, is_marked}
 use Rattle.ltl_spec.proofs.Collections.SetLaws.{has_Decides}
 use Rattle.ltl_spec.proofs.Collections.Orders.{nat_linear, literal_linear}
 use Rattle.ltl_spec.proofs.Transitions.JoinLaws.{Within, within_refl, within_trans, united, within_left, within_right, IsConsistent, join_pair_is, joined_from, united_least}
-use Rattle.ltl_spec.proofs.Transitions.Pruning.{own_pairs, IsSafeToDrop}
+use Rattle.ltl_spec.specs.Transitions.Pruning.{own_pairs, IsSafeToDrop}
 use Rattle.ltl_spec.proofs.Transitions.LeastPairs.{is_within_Decides, marked_cases, marked_from, marked_alike}
 use Rattle.ltl_spec.proofs.Collections.CaseLaws.{false_is_true}
 use Rattle.ltl_spec.proofs.Collections.MemberLaws.{any_cases, any_true}

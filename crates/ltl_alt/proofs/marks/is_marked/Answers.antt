@@ -2,7 +2,7 @@ use Rattle.std.proofs.Common.{◌||◌, ◌∙◌, ap, not}
 use Rattle.std.specs.List.{list_any}
 use Rattle.std.specs.Ordering.{nat_cmp}
 use Rattle.ltl_spec.specs.Collections.Sets.{has}
-use Rattle.ltl_spec.proofs.Transitions.Pruning.{is_within}
+use Rattle.ltl_spec.specs.Transitions.Pruning.{is_within}
 use Rattle.ltl_alt.proofs.TransitionLaws.{marked_by_own}
 use Rattle.ltl_alt.proofs.marks.is_marked.Goals as goal
 

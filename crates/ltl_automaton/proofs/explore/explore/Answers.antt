@@ -1,17 +1,17 @@
-use Rattle.std.proofs.Common.{◌≡◌, ◌+◌, ◌++◌, ◌∷◌, [], ◌<◌, ◌≤◌, ◌∙◌, inl, inr, refl, sym, ap, subst, arith, ℕ, List, length, map, Result, Err, Option, Some, None}
+use Rattle.std.proofs.Common.{◌≡◌, ◌+◌, ◌++◌, ◌∷◌, [], ◌<◌, ◌≤◌, ◌∙◌, inl, inr, refl, sym, ap, subst, arith, ℕ, List, length, Result, Err, Option, Some, None}
 use Rattle.std.specs.Prelude.{fold, slice_get, slice_index_or, is_some, if◌then◌else◌, IfSome}
 use Rattle.std.specs.Result.{IsErrOf, IsErrAnd}
 use Rattle.std.proofs.lemmas.Option.{slice_get_within}
 use Rattle.ltl_spec.specs.Collections.Lists.{with_new}
 use Rattle.ltl_spec.specs.Automata.Automaton.{Automaton, state_at}
 use Rattle.ltl_automaton.specs.Listed.{Listed}
-use Rattle.ltl_automaton.specs.Net.{Net, HasArcsOf, edges_behind, edges_in, key_of, lengths_of, targets_of, with_made}
+use Rattle.ltl_automaton.specs.Net.{Net, HasArcsOf, edges_behind, edges_in, lengths_of, targets_of, with_made}
 use Rattle.ltl_automaton.specs.declared.fault.AutomatonFault.{AutomatonFault}
 use Rattle.ltl_automaton.specs.declared.fault.AutomatonFault.TheVariants.{TooLarge}
 use Rattle.ltl_automaton.specs.SharedView.{automaton_of, with_state}
 use Rattle.ltl_automaton.proofs.NetLaws.{decides_from}
 use Rattle.ltl_automaton.proofs.ReachableLaws.{bounded}
-use Rattle.ltl_automaton.proofs.WayLaws.{begins, goes_on, goes_on_like, keys_stay, length_at, lengths_next, lengths_count, states_count, twin_here, too_many_ahead, too_many_edges, too_many_states, arrives, fits_within}
+use Rattle.ltl_automaton.proofs.WayLaws.{begins, goes_on, goes_on_like, keys_stay, length_at, lengths_next, states_count, twin_here, too_many_ahead, too_many_edges, too_many_states, arrives, fits_within}
 use Rattle.ltl_automaton.proofs.explore.explore.Goals as goal
 
 passed_on : {T : Type 0} (r : Result T AutomatonFault) (P : AutomatonFault → Type 0) → IsErrAnd r P → IsErrOf r TooLarge → P TooLarge
