@@ -1,29 +1,13 @@
 -- The items with which a text begins.
-use Rattle.std.proofs.Common.{◌≡◌, ℕ, suc, ◌+◌, ◌-◌, Bool, true, false, cond, not, ◌&&◌, ◌||◌, ◌⊎◌, inl, inr, List, [], ◌∷◌, ◌++◌, length, take_while, Option, Some, None, nat_eq, ◌==◌, codes, refl, sym, ◌∙◌, ap, arith, append_assoc}
+use Rattle.std.proofs.Common.{◌≡◌, ℕ, suc, ◌+◌, ◌-◌, Bool, true, false, not, ◌&&◌, ◌||◌, ◌⊎◌, inl, inr, List, [], ◌∷◌, ◌++◌, length, take_while, Option, Some, None, nat_eq, ◌==◌, codes, refl, sym, ◌∙◌, ap, arith, append_assoc}
 use Rattle.std.specs.Prelude.{⊤, if◌then◌else◌, option_map}
 use Rattle.std.specs.List.{starts_with, list_all}
 use Rattle.std.proofs.lemmas.Bool.Decides.{nat_tests}
-use Rattle.std.proofs.lemmas.List.Sums.{take_while-cons}
 use Rattle.ltl_spec.specs.Formulas.Tokens.{is_blank, same_name}
-use Rattle.ltl_spec.specs.Hoa.HoaToken.{HoaToken, StringToken, Identifier, Header, Int, Body, End, Abort, Unknown, is_digit, begins_identifier, is_identifier_byte, number_of, Found, token_found, string_rest, string_found, comment_rest, comment_found, word_found, sign_found, found_first, hoa_item_before, hoa_items_from}
+use Rattle.ltl_spec.specs.Hoa.HoaToken.{HoaToken, StringToken, Identifier, Header, Body, End, Abort, Unknown, is_digit, begins_identifier, is_identifier_byte, Found, string_rest, string_found, comment_rest, comment_found, word_found, sign_found, found_first, hoa_item_before, hoa_items_from}
 use Rattle.ltl_hoa.specs.Resuming.{comment_items, string_items, has_mark}
 use Rattle.ltl_spec.proofs.Collections.CaseLaws.{left_true, right_true, false_is_true}
-
--- the items behind what a text begins with
-pub first_is : (l b : ℕ) (bs : List ℕ) → (b == 10) ≡ false
-    → hoa_items_from 0 l (b ∷ bs) ≡ hoa_item_before (found_first b bs).token l (hoa_items_from ((found_first b bs).size - 1) l bs)
-first_is l b bs e = ap (λ c. hoa_item_before (found_first b bs).token l (hoa_items_from ((found_first b bs).size - 1) (if c then l + 1 else l) bs)) e
-
--- bytes without LF are skipped
-pub skipped : (xs ys : List ℕ) (l : ℕ) → list_all (λ b. not (b == 10)) xs ≡ true → hoa_items_from (length xs) l (xs ++ ys) ≡ hoa_items_from 0 l ys
-skipped [] ys l e = refl
-skipped (x ∷ xs) ys l e =
-    ap (λ c. hoa_items_from (length xs) (if c then l + 1 else l) (xs ++ ys)) (negated (x == 10) (left_true (not (x == 10)) _ e))
-    ∙ skipped xs ys l (right_true (not (x == 10)) _ e)
-  where
-    negated : (c : Bool) → not c ≡ true → c ≡ false
-    negated true q = sym q
-    negated false q = refl
+use Rattle.ltl_spec.proofs.Hoa.SpelledLaws.{first_is, skipped, StopsAt, taken_while, less_one, within, succ}
 
 -- a blank is left out
 pub blank_first : (l b : ℕ) (bs : List ℕ) → is_blank b ≡ true → hoa_items_from 0 l (b ∷ bs) ≡ hoa_items_from 0 (if b == 10 then l + 1 else l) bs
@@ -32,21 +16,6 @@ blank_first l b bs e =
   where
     found_blank : is_blank b ≡ true → found_first b bs ≡ record { token = None; size = 1 }
     found_blank q = rw q refl
-
--- the list begins with no byte that passes
-abbrev pub StopsAt : (ℕ → Bool) → List ℕ → Type 0
-StopsAt p [] = ⊤
-StopsAt p (b ∷ bs) = p b ≡ false
-
-pub taken_while : (p : ℕ → Bool) (xs ys : List ℕ) → list_all p xs ≡ true → StopsAt p ys → take_while p (xs ++ ys) ≡ xs
-taken_while p [] [] a s = refl
-taken_while p [] (y ∷ ys) a s = take_while-cons p y ys ∙ ap (λ c. cond c (y ∷ take_while p ys) []) s
-taken_while p (x ∷ xs) ys a s =
-    take_while-cons p x (xs ++ ys) ∙ ap (λ c. cond c (x ∷ take_while p (xs ++ ys)) []) (left_true (p x) _ a)
-    ∙ ap (λ zs. x ∷ zs) (taken_while p xs ys (right_true (p x) _ a) s)
-
-less_one : (n : ℕ) → suc n - 1 ≡ n
-less_one n = omega arith
 
 -- ---- identifiers
 
@@ -60,16 +29,8 @@ identifier_first b bs e =
     let digit : is_digit b ≡ false = grind (arith, nat_tests, e) in
     rw (blank, slash, quote, naught, digit, e) refl
 
--- a class of bytes within another
-within : (p q : ℕ → Bool) → ((b : ℕ) → p b ≡ true → q b ≡ true) → (xs : List ℕ) → list_all p xs ≡ true → list_all q xs ≡ true
-within p q w [] e = refl
-within p q w (x ∷ xs) e = ap (λ c. c && list_all q xs) (w x (left_true (p x) _ e)) ∙ within p q w xs (right_true (p x) _ e)
-
 pub no_line : (b : ℕ) → is_identifier_byte b ≡ true → not (b == 10) ≡ true
 no_line b e = grind (arith, nat_tests, e)
-
-pub no_line_digit : (b : ℕ) → is_digit b ≡ true → not (b == 10) ≡ true
-no_line_digit b e = grind (arith, nat_tests, e)
 
 begins_goes : (b : ℕ) → begins_identifier b ≡ true → is_identifier_byte b ≡ true
 begins_goes b e = ap (λ c. c || is_digit b || b == 45) e
@@ -141,29 +102,7 @@ word_named l b bs rest e a =
 
 -- ---- numbers
 
--- a number
-pub number_ends : (l b : ℕ) (bs rest : List ℕ) → is_digit b ≡ true → (b == 48) ≡ false → list_all is_digit bs ≡ true → StopsAt is_digit rest
-    → hoa_items_from 0 l (b ∷ bs ++ rest) ≡ record { token = Int (number_of (b ∷ bs)); line = l } ∷ hoa_items_from 0 l rest
-number_ends l b bs rest e z a s =
-    let ten : (b == 10) ≡ false = grind (arith, nat_tests, e) in
-    first_is l b (bs ++ rest) ten ∙ ap (λ (f : Found). hoa_item_before f.token l (hoa_items_from (f.size - 1) l (bs ++ rest))) found
-    ∙ ap (λ items. record { token = Int (number_of (b ∷ bs)); line = l } ∷ items) (
-    ap (λ n. hoa_items_from n l (bs ++ rest)) (less_one (length bs)) ∙ skipped bs rest l (within _ _ no_line_digit bs a))
-  where
-    first : found_first b (bs ++ rest) ≡ token_found (Int (number_of (take_while is_digit (b ∷ bs ++ rest)))) (length (take_while is_digit (b ∷ bs ++ rest)))
-    first =
-        let blank : is_blank b ≡ false = grind (arith, nat_tests, e) in
-        let slash : nat_eq 47 b ≡ false = grind (arith, nat_tests, e) in
-        let quote : (b == 34) ≡ false = grind (arith, nat_tests, e) in
-        rw (blank, slash, quote, z, e) refl
-
-    found : found_first b (bs ++ rest) ≡ token_found (Int (number_of (b ∷ bs))) (length (b ∷ bs))
-    found = first ∙ ap (λ w. token_found (Int (number_of w)) (length w)) (taken_while is_digit (b ∷ bs) rest (ap (λ c. c && list_all is_digit bs) e ∙ a) s)
-
 -- ---- comments
-
-succ : (n : ℕ) → n + 1 ≡ suc n
-succ n = omega arith
 
 pub comment_first : (l : ℕ) (rest : List ℕ) → hoa_items_from 0 l (47 ∷ 42 ∷ rest) ≡ comment_items l l (comment_rest 0 1 rest) rest
 comment_first l rest = opened (comment_rest 0 1 rest)

@@ -12,7 +12,6 @@ pub mod MachineLaws
 pub mod MarkedLaws
 pub mod NameLaws
 pub mod ParserLaws
-pub mod PrintedLabels
 pub mod PrintedLaws
 pub mod PrintedTokens
 pub mod StepLaws

@@ -1,6 +1,6 @@
 -- The text of an automaton reads as that automaton.
 use Rattle.std.proofs.Common.{◌≡◌, ℕ, zero, suc, ◌+◌, ◌^◌, ◌<◌, ◌≤◌, Bool, true, false, not, ◌&&◌, ◌==◌, inl, inr, List, [], ◌∷◌, ◌++◌, length, map, Some, None, codes, refl, sym, ◌∙◌, ap, subst, arith, append_assoc}
-use Rattle.std.specs.Prelude.{if◌then◌else◌, nat_lt, filter, flat_map, decimal, sum_by, unwrap_or, slice_index_or, fold, All, Result, Ok, Err}
+use Rattle.std.specs.Prelude.{if◌then◌else◌, nat_lt, filter, flat_map, decimal, sum_by, unwrap_or, All, Result, Ok, Err}
 use Rattle.std.specs.List.{list_all, range_with_len}
 use Rattle.std.specs.Ordering.{nat_cmp}
 use Rattle.std.proofs.lemmas.Bool.{eqb-true}
@@ -8,11 +8,8 @@ use Rattle.std.proofs.lemmas.Bool.Decides.{nat_tests}
 use Rattle.std.proofs.lemmas.List.{append-nil}
 use Rattle.ltl_spec.specs.Collections.Sets.{Has, set_of}
 use Rattle.ltl_spec.specs.Collections.Lists.{HasNoRepeats}
-use Rattle.ltl_spec.specs.Semantics.Word.{Name}
-use Rattle.ltl_spec.specs.Formulas.Formula.{Formula, Constant, Proposition, Unary, Binary, UnaryOperator, Not, Next, Always, Eventually, BinaryOperator, And, Or, Implies, Iff, Until, Release, Reading}
-use Rattle.ltl_spec.specs.Formulas.Canonical.{formula_text, canonical_text, unary_text, binary_text}
-use Rattle.ltl_spec.specs.Formulas.Tokens.{is_lower, is_name_byte}
-use Rattle.ltl_spec.specs.Formulas.Names.{is_proposition, is_constant}
+use Rattle.ltl_spec.specs.Formulas.Formula.{Reading}
+use Rattle.ltl_spec.specs.Formulas.Canonical.{canonical_text}
 use Rattle.ltl_spec.specs.Automata.Automaton.{Automaton, Edge, State, state_at}
 use Rattle.ltl_spec.specs.Automata.ClaimText.{line}
 use Rattle.ltl_spec.specs.Automata.HoaText.{quoted, state_lines, names_line, hoa_text}
@@ -30,149 +27,19 @@ use Rattle.ltl_hoa.specs.declared.fault.HoaFault.{HoaFault}
 use Rattle.ltl_hoa.specs.declared.fault.HoaFault.TheVariants.{AtLine, CannotRead, OutOfMemory}
 use Rattle.ltl_hoa.specs.Reading.{Answers, IsOfText, RefusesText}
 use Rattle.ltl_spec.proofs.Collections.ListLaws.{Has-at, All-at_has}
-use Rattle.ltl_spec.proofs.Collections.MemberLaws.{all_Decides, all_append, all_weaker, map_cases, map_length}
-use Rattle.ltl_spec.proofs.Collections.CaseLaws.{left_true, right_true}
+use Rattle.ltl_spec.proofs.Collections.MemberLaws.{all_Decides, map_cases, map_length}
 use Rattle.ltl_hoa.specs.Printed.{IsPrintedEdge, IsPrinted, marked_edge, marked_of, IsAnswered, IsReadBack}
-use Rattle.ltl_hoa.proofs.PrintedTokens.{Spells, spells_all, is_clean, format_line, name_line, states_line, start_line, names_spelled, acceptance_name_line, acceptance_line, properties_line, body_line, end_line, written_edge, written_state, SmallEdge, state_spelled}
-use Rattle.ltl_hoa.proofs.PrintedLabels.{printed_cubes, printed_narrow, printed_fine}
+use Rattle.ltl_hoa.proofs.PrintedTokens.{acceptance_name_line, acceptance_line, properties_line, written_edge, written_state, SmallEdge, state_spelled}
+use Rattle.ltl_spec.proofs.Hoa.SpelledLabels.{printed_cubes, printed_narrow, printed_fine}
+use Rattle.ltl_spec.proofs.Hoa.GeneralizedBack.{name_clean, formula_clean, range_below, range_differs, by_place, map_same, map_equal, sum_same, Piece, AreSpelled, in_a_row, spelled_in_row}
+use Rattle.ltl_spec.proofs.Hoa.SpelledLaws.{Spells, spells_all}
+use Rattle.ltl_spec.proofs.Hoa.SpelledStates.{format_line, name_line, states_line, start_line, names_spelled, body_line, end_line}
 
 -- ---- no `"` and no `\` stands in a formula's text
 
-name_byte_clean : (b : ℕ) → is_name_byte b ≡ true → is_clean b ≡ true
-name_byte_clean b e = grind (arith, nat_tests, e)
-
-proposition_clean : (n : Name) → is_proposition n ≡ true → list_all is_clean n ≡ true
-proposition_clean [] e = refl
-proposition_clean (b ∷ bs) e =
-    let bytes = parts (is_lower b) (list_all is_name_byte bs) (not (is_constant (b ∷ bs))) e in
-    ap (λ c. c && list_all is_clean bs) (lower_clean b bytes.0) ∙ all_weaker is_name_byte is_clean name_byte_clean bs bytes.1
-  where
-    parts : (r s t : Bool) → (r && s && t) ≡ true → (r ≡ true) × (s ≡ true)
-    parts true true t e = (refl, refl)
-    parts true false t e = cc
-    parts false s t e = cc
-
-    lower_clean : (b : ℕ) → is_lower b ≡ true → is_clean b ≡ true
-    lower_clean b e = grind (arith, nat_tests, e)
-
-name_clean : (names : List Name) → list_all is_proposition names ≡ true → (n : Name) → Has names n → list_all is_clean n ≡ true
-name_clean names e n h = proposition_clean n ((all_Decides is_proposition names).0 e n h)
-
-name_at_clean : (names : List Name) → list_all is_proposition names ≡ true → (p : ℕ) → list_all is_clean (slice_index_or names p []) ≡ true
-name_at_clean [] e p = refl
-name_at_clean (n ∷ names) e zero = proposition_clean n (left_true (is_proposition n) _ e)
-name_at_clean (n ∷ names) e (suc p) = name_at_clean names (right_true (is_proposition n) _ e) p
-
-unary_clean : (op : UnaryOperator) → list_all is_clean (unary_text op) ≡ true
-unary_clean Not = refl
-unary_clean Next = refl
-unary_clean Always = refl
-unary_clean Eventually = refl
-
-binary_clean : (op : BinaryOperator) → list_all is_clean (binary_text op) ≡ true
-binary_clean And = refl
-binary_clean Or = refl
-binary_clean Implies = refl
-binary_clean Iff = refl
-binary_clean Until = refl
-binary_clean Release = refl
-
-formula_clean : (names : List Name) → list_all is_proposition names ≡ true → (f : Formula) → list_all is_clean (formula_text names f) ≡ true
-formula_clean names e (Constant true) = refl
-formula_clean names e (Constant false) = refl
-formula_clean names e (Proposition p) = name_at_clean names e p
-formula_clean names e (Unary op a) = all_append is_clean (unary_text op) (formula_text names a) (unary_clean op) (formula_clean names e a)
-formula_clean names e (Binary op a b) =
-    all_append is_clean (codes "(" ++ formula_text names a ++ binary_text op ++ formula_text names b) (codes ")")
-    (all_append is_clean (codes "(" ++ formula_text names a ++ binary_text op) (formula_text names b)
-    (all_append is_clean (codes "(" ++ formula_text names a) (binary_text op) (formula_clean names e a) (binary_clean op)) (formula_clean names e b)) refl
-
 -- ---- numbers in a row
 
-range_below : (a n k : ℕ) → Has (range_with_len a n) k → (a ≤ k) × (k < a + n)
-range_below a zero k h = absurd h
-range_below a (suc n) k (inl e) = (least e, inside e)
-  where
-    least : k ≡ a → a ≤ k
-    least e = omega (arith, e)
-
-    inside : k ≡ a → k < a + suc n
-    inside e = omega (arith, e)
-range_below a (suc n) k (inr h) = let r = range_below (a + 1) n k h in (least r.0, inside r.1)
-  where
-    least : a + 1 ≤ k → a ≤ k
-    least l = omega (arith, l)
-
-    inside : k < a + 1 + n → k < a + suc n
-    inside l = omega (arith, l)
-
-range_differs : (a n : ℕ) → HasNoRepeats (range_with_len a n)
-range_differs a zero = tt
-range_differs a (suc n) = ((λ h. above (range_below (a + 1) n a h).0), range_differs (a + 1) n)
-  where
-    above : a + 1 ≤ a → ⊥
-    above l = omega (arith, l)
-
--- a list by its places
-by_place : {X : Type 0} (a : ℕ) (xs : List X) (d : X) (f : ℕ → X) → ((k : ℕ) → k < length xs → f (a + k) ≡ slice_index_or xs k d) → map f (range_with_len a (length xs)) ≡ xs
-by_place a [] d f e = refl
-by_place a (x ∷ xs) d f e =
-    let first = ap f (none a) ∙ e 0 (some (length xs)) in
-    let rest = by_place (a + 1) xs d f (λ k l. ap f (next a k) ∙ e (suc k) (more k (length xs) l)) in
-    λ i. first i ∷ rest i
-  where
-    some : (n : ℕ) → 0 < suc n
-    some n = omega arith
-
-    none : (n : ℕ) → n ≡ n + 0
-    none n = omega arith
-
-    more : (k n : ℕ) → k < n → suc k < suc n
-    more k n l = omega (arith, l)
-
-    next : (n k : ℕ) → n + 1 + k ≡ n + suc k
-    next n k = omega arith
-
-map_same : {X Y Z : Type 0} (f : X → Y) (g : Y → Z) (xs : List X) → map g (map f xs) ≡ map (λ x. g (f x)) xs
-map_same f g [] = refl
-map_same f g (x ∷ xs) = ap (λ ys. g (f x) ∷ ys) (map_same f g xs)
-
-map_equal : {X Y : Type 0} (f g : X → Y) (xs : List X) → ((x : X) → Has xs x → f x ≡ g x) → map f xs ≡ map g xs
-map_equal f g [] e = refl
-map_equal f g (x ∷ xs) e =
-    let first = e x (inl refl) in
-    let rest = map_equal f g xs (λ y h. e y (inr h)) in
-    λ i. first i ∷ rest i
-
-sum_same : {X Y : Type 0} (f : X → Y) (g : Y → ℕ) (h : X → ℕ) (n : ℕ) (xs : List X) → ((x : X) → Has xs x → g (f x) ≡ h x) → fold (λ a y. a + g y) n (map f xs) ≡ fold (λ a x. a + h x) n xs
-sum_same f g h n [] e = refl
-sum_same f g h n (x ∷ xs) e = ap (λ m. fold (λ a y. a + g y) (n + m) (map f xs)) (e x (inl refl)) ∙ sum_same f g h (n + h x) xs (λ y m. e y (inr m))
-
 -- ---- pieces in a row
-
--- a piece of the text and its tokens
-abbrev Piece : Type 0
-Piece = List ℕ × List HoaToken
-
-abbrev text_of : List Piece → List ℕ
-text_of [] = []
-text_of (x ∷ xs) = x.0 ++ text_of xs
-
-abbrev tokens_of : List Piece → List HoaToken
-tokens_of [] = []
-tokens_of (x ∷ xs) = x.1 ++ tokens_of xs
-
-abbrev AreSpelled : List Piece → Type 0
-AreSpelled [] = Unit {0}
-AreSpelled (x ∷ xs) = Spells x.0 x.1 × AreSpelled xs
-
-in_a_row : (t : List ℕ) (xs : List Piece) → fold (λ u x. u ++ x.0) t xs ≡ t ++ text_of xs
-in_a_row t [] = sym (append-nil t)
-in_a_row t (x ∷ xs) = in_a_row (t ++ x.0) xs ∙ append_assoc t x.0 (text_of xs)
-
-spelled_in_row : (xs : List Piece) → AreSpelled xs → hoa_tokens (text_of xs) ≡ tokens_of xs
-spelled_in_row [] s = refl
-spelled_in_row (x ∷ xs) s = s.0 (text_of xs) ∙ ap (λ ts. x.1 ++ ts) (spelled_in_row xs s.1)
 
 module _ (B : Automaton) (F : Reading) (p : IsPrinted B F) where
   -- the text as it is written
@@ -375,7 +242,7 @@ module _ (B : Automaton) (F : Reading) (p : IsPrinted B F) where
   labels_narrow = (all_Decides (λ s. list_all (λ e. not (is_wide stated_limits.label_cubes e.label)) s.edges) document.states).1 (λ w m. go w (map_cases (written_state B) (range_with_len 0 (length B.states)) w m))
     where
       one : (s : State) → Has B.states s → (w : WrittenEdge) → (e : Edge) × Has s.edges e × (w ≡ written_edge e) → not (is_wide stated_limits.label_cubes w.label) ≡ true
-      one s h w (e, m, q) = let f = edge_fine s h e m in ap (λ v. not (is_wide stated_limits.label_cubes v.label)) q ∙ ap not (printed_narrow e.cube f.rising f.consistent)
+      one s h w (e, m, q) = let f = edge_fine s h e m in ap (λ v. not (is_wide stated_limits.label_cubes v.label)) q ∙ ap not (printed_narrow stated_limits.label_cubes (omega arith) e.cube f.rising f.consistent)
 
       go : (w : WrittenState) → (k : ℕ) × Has (range_with_len 0 (length B.states)) k × (w ≡ written_state B k) → list_all (λ e. not (is_wide stated_limits.label_cubes e.label)) w.edges ≡ true
       go w (k, h, q) =

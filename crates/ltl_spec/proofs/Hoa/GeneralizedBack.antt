@@ -34,10 +34,10 @@ use Rattle.ltl_spec.proofs.Hoa.SpelledLabels.{printed_cubes, printed_narrow, pri
 
 -- ---- no `"` and no `\` stands in a formula's text
 
-name_byte_clean : (b : ℕ) → is_name_byte b ≡ true → is_clean b ≡ true
+pub name_byte_clean : (b : ℕ) → is_name_byte b ≡ true → is_clean b ≡ true
 name_byte_clean b e = grind (arith, nat_tests, e)
 
-proposition_clean : (n : Name) → is_proposition n ≡ true → list_all is_clean n ≡ true
+pub proposition_clean : (n : Name) → is_proposition n ≡ true → list_all is_clean n ≡ true
 proposition_clean [] e = refl
 proposition_clean (b ∷ bs) e =
     let bytes = parts (is_lower b) (list_all is_name_byte bs) (not (is_constant (b ∷ bs))) e in
@@ -51,21 +51,21 @@ proposition_clean (b ∷ bs) e =
     lower_clean : (b : ℕ) → is_lower b ≡ true → is_clean b ≡ true
     lower_clean b e = grind (arith, nat_tests, e)
 
-name_clean : (names : List Name) → list_all is_proposition names ≡ true → (n : Name) → Has names n → list_all is_clean n ≡ true
+pub name_clean : (names : List Name) → list_all is_proposition names ≡ true → (n : Name) → Has names n → list_all is_clean n ≡ true
 name_clean names e n h = proposition_clean n ((all_Decides is_proposition names).0 e n h)
 
-name_at_clean : (names : List Name) → list_all is_proposition names ≡ true → (p : ℕ) → list_all is_clean (slice_index_or names p []) ≡ true
+pub name_at_clean : (names : List Name) → list_all is_proposition names ≡ true → (p : ℕ) → list_all is_clean (slice_index_or names p []) ≡ true
 name_at_clean [] e p = refl
 name_at_clean (n ∷ names) e zero = proposition_clean n (left_true (is_proposition n) _ e)
 name_at_clean (n ∷ names) e (suc p) = name_at_clean names (right_true (is_proposition n) _ e) p
 
-unary_clean : (op : UnaryOperator) → list_all is_clean (unary_text op) ≡ true
+pub unary_clean : (op : UnaryOperator) → list_all is_clean (unary_text op) ≡ true
 unary_clean Not = refl
 unary_clean Next = refl
 unary_clean Always = refl
 unary_clean Eventually = refl
 
-binary_clean : (op : BinaryOperator) → list_all is_clean (binary_text op) ≡ true
+pub binary_clean : (op : BinaryOperator) → list_all is_clean (binary_text op) ≡ true
 binary_clean And = refl
 binary_clean Or = refl
 binary_clean Implies = refl
@@ -73,7 +73,7 @@ binary_clean Iff = refl
 binary_clean Until = refl
 binary_clean Release = refl
 
-formula_clean : (names : List Name) → list_all is_proposition names ≡ true → (f : Formula) → list_all is_clean (formula_text names f) ≡ true
+pub formula_clean : (names : List Name) → list_all is_proposition names ≡ true → (f : Formula) → list_all is_clean (formula_text names f) ≡ true
 formula_clean names e (Constant true) = refl
 formula_clean names e (Constant false) = refl
 formula_clean names e (Proposition p) = name_at_clean names e p
@@ -85,7 +85,7 @@ formula_clean names e (Binary op a b) =
 
 -- ---- numbers in a row
 
-range_below : (a n k : ℕ) → Has (range_with_len a n) k → (a ≤ k) × (k < a + n)
+pub range_below : (a n k : ℕ) → Has (range_with_len a n) k → (a ≤ k) × (k < a + n)
 range_below a zero k h = absurd h
 range_below a (suc n) k (inl e) = (least e, inside e)
   where
@@ -102,7 +102,7 @@ range_below a (suc n) k (inr h) = let r = range_below (a + 1) n k h in (least r.
     inside : k < a + 1 + n → k < a + suc n
     inside l = omega (arith, l)
 
-range_differs : (a n : ℕ) → HasNoRepeats (range_with_len a n)
+pub range_differs : (a n : ℕ) → HasNoRepeats (range_with_len a n)
 range_differs a zero = tt
 range_differs a (suc n) = ((λ h. above (range_below (a + 1) n a h).0), range_differs (a + 1) n)
   where
@@ -110,7 +110,7 @@ range_differs a (suc n) = ((λ h. above (range_below (a + 1) n a h).0), range_di
     above l = omega (arith, l)
 
 -- a list by its places
-by_place : {X : Type 0} (a : ℕ) (xs : List X) (d : X) (f : ℕ → X) → ((k : ℕ) → k < length xs → f (a + k) ≡ slice_index_or xs k d) → map f (range_with_len a (length xs)) ≡ xs
+pub by_place : {X : Type 0} (a : ℕ) (xs : List X) (d : X) (f : ℕ → X) → ((k : ℕ) → k < length xs → f (a + k) ≡ slice_index_or xs k d) → map f (range_with_len a (length xs)) ≡ xs
 by_place a [] d f e = refl
 by_place a (x ∷ xs) d f e =
     let first = ap f (none a) ∙ e 0 (some (length xs)) in
@@ -129,44 +129,44 @@ by_place a (x ∷ xs) d f e =
     next : (n k : ℕ) → n + 1 + k ≡ n + suc k
     next n k = omega arith
 
-map_same : {X Y Z : Type 0} (f : X → Y) (g : Y → Z) (xs : List X) → map g (map f xs) ≡ map (λ x. g (f x)) xs
+pub map_same : {X Y Z : Type 0} (f : X → Y) (g : Y → Z) (xs : List X) → map g (map f xs) ≡ map (λ x. g (f x)) xs
 map_same f g [] = refl
 map_same f g (x ∷ xs) = ap (λ ys. g (f x) ∷ ys) (map_same f g xs)
 
-map_equal : {X Y : Type 0} (f g : X → Y) (xs : List X) → ((x : X) → Has xs x → f x ≡ g x) → map f xs ≡ map g xs
+pub map_equal : {X Y : Type 0} (f g : X → Y) (xs : List X) → ((x : X) → Has xs x → f x ≡ g x) → map f xs ≡ map g xs
 map_equal f g [] e = refl
 map_equal f g (x ∷ xs) e =
     let first = e x (inl refl) in
     let rest = map_equal f g xs (λ y h. e y (inr h)) in
     λ i. first i ∷ rest i
 
-sum_same : {X Y : Type 0} (f : X → Y) (g : Y → ℕ) (h : X → ℕ) (n : ℕ) (xs : List X) → ((x : X) → Has xs x → g (f x) ≡ h x) → fold (λ a y. a + g y) n (map f xs) ≡ fold (λ a x. a + h x) n xs
+pub sum_same : {X Y : Type 0} (f : X → Y) (g : Y → ℕ) (h : X → ℕ) (n : ℕ) (xs : List X) → ((x : X) → Has xs x → g (f x) ≡ h x) → fold (λ a y. a + g y) n (map f xs) ≡ fold (λ a x. a + h x) n xs
 sum_same f g h n [] e = refl
 sum_same f g h n (x ∷ xs) e = ap (λ m. fold (λ a y. a + g y) (n + m) (map f xs)) (e x (inl refl)) ∙ sum_same f g h (n + h x) xs (λ y m. e y (inr m))
 
 -- ---- pieces in a row
 
 -- a piece of the text and its tokens
-abbrev Piece : Type 0
+abbrev pub Piece : Type 0
 Piece = List ℕ × List HoaToken
 
-abbrev text_of : List Piece → List ℕ
+abbrev pub text_of : List Piece → List ℕ
 text_of [] = []
 text_of (x ∷ xs) = x.0 ++ text_of xs
 
-abbrev tokens_of : List Piece → List HoaToken
+abbrev pub tokens_of : List Piece → List HoaToken
 tokens_of [] = []
 tokens_of (x ∷ xs) = x.1 ++ tokens_of xs
 
-abbrev AreSpelled : List Piece → Type 0
+abbrev pub AreSpelled : List Piece → Type 0
 AreSpelled [] = Unit {0}
 AreSpelled (x ∷ xs) = Spells x.0 x.1 × AreSpelled xs
 
-in_a_row : (t : List ℕ) (xs : List Piece) → fold (λ u x. u ++ x.0) t xs ≡ t ++ text_of xs
+pub in_a_row : (t : List ℕ) (xs : List Piece) → fold (λ u x. u ++ x.0) t xs ≡ t ++ text_of xs
 in_a_row t [] = sym (append-nil t)
 in_a_row t (x ∷ xs) = in_a_row (t ++ x.0) xs ∙ append_assoc t x.0 (text_of xs)
 
-spelled_in_row : (xs : List Piece) → AreSpelled xs → hoa_tokens (text_of xs) ≡ tokens_of xs
+pub spelled_in_row : (xs : List Piece) → AreSpelled xs → hoa_tokens (text_of xs) ≡ tokens_of xs
 spelled_in_row [] s = refl
 spelled_in_row (x ∷ xs) s = s.0 (text_of xs) ∙ ap (λ ts. x.1 ++ ts) (spelled_in_row xs s.1)
 

@@ -12,12 +12,12 @@ use Rattle.ltl_spec.specs.Hoa.HoaToken.{HoaToken, StringToken, Int, Unknown, Unc
 use Rattle.ltl_spec.proofs.Collections.CaseLaws.{left_true, right_true}
 
 -- the items behind what a text begins with
-first_is : (l b : ℕ) (bs : List ℕ) → (b == 10) ≡ false
+pub first_is : (l b : ℕ) (bs : List ℕ) → (b == 10) ≡ false
     → hoa_items_from 0 l (b ∷ bs) ≡ hoa_item_before (found_first b bs).token l (hoa_items_from ((found_first b bs).size - 1) l bs)
 first_is l b bs e = ap (λ c. hoa_item_before (found_first b bs).token l (hoa_items_from ((found_first b bs).size - 1) (if c then l + 1 else l) bs)) e
 
 -- bytes without LF are skipped
-skipped : (xs ys : List ℕ) (l : ℕ) → list_all (λ b. not (b == 10)) xs ≡ true → hoa_items_from (length xs) l (xs ++ ys) ≡ hoa_items_from 0 l ys
+pub skipped : (xs ys : List ℕ) (l : ℕ) → list_all (λ b. not (b == 10)) xs ≡ true → hoa_items_from (length xs) l (xs ++ ys) ≡ hoa_items_from 0 l ys
 skipped [] ys l e = refl
 skipped (x ∷ xs) ys l e =
     ap (λ c. hoa_items_from (length xs) (if c then l + 1 else l) (xs ++ ys)) (negated (x == 10) (left_true (not (x == 10)) _ e))
@@ -32,21 +32,21 @@ abbrev pub StopsAt : (ℕ → Bool) → List ℕ → Type 0
 StopsAt p [] = ⊤
 StopsAt p (b ∷ bs) = p b ≡ false
 
-taken_while : (p : ℕ → Bool) (xs ys : List ℕ) → list_all p xs ≡ true → StopsAt p ys → take_while p (xs ++ ys) ≡ xs
+pub taken_while : (p : ℕ → Bool) (xs ys : List ℕ) → list_all p xs ≡ true → StopsAt p ys → take_while p (xs ++ ys) ≡ xs
 taken_while p [] [] a s = refl
 taken_while p [] (y ∷ ys) a s = take_while-cons p y ys ∙ ap (λ c. cond c (y ∷ take_while p ys) []) s
 taken_while p (x ∷ xs) ys a s =
     take_while-cons p x (xs ++ ys) ∙ ap (λ c. cond c (x ∷ take_while p (xs ++ ys)) []) (left_true (p x) _ a)
     ∙ ap (λ zs. x ∷ zs) (taken_while p xs ys (right_true (p x) _ a) s)
 
-less_one : (n : ℕ) → suc n - 1 ≡ n
+pub less_one : (n : ℕ) → suc n - 1 ≡ n
 less_one n = omega arith
 
-no_line_digit : (b : ℕ) → is_digit b ≡ true → not (b == 10) ≡ true
+pub no_line_digit : (b : ℕ) → is_digit b ≡ true → not (b == 10) ≡ true
 no_line_digit b e = grind (arith, nat_tests, e)
 
 -- a class of bytes within another
-within : (p q : ℕ → Bool) → ((b : ℕ) → p b ≡ true → q b ≡ true) → (xs : List ℕ) → list_all p xs ≡ true → list_all q xs ≡ true
+pub within : (p q : ℕ → Bool) → ((b : ℕ) → p b ≡ true → q b ≡ true) → (xs : List ℕ) → list_all p xs ≡ true → list_all q xs ≡ true
 within p q w [] e = refl
 within p q w (x ∷ xs) e = ap (λ c. c && list_all q xs) (w x (left_true (p x) _ e)) ∙ within p q w xs (right_true (p x) _ e)
 
@@ -76,10 +76,10 @@ abbrev string_items : ℕ → ℕ → List ℕ → Option (List ℕ × ℕ) → 
 string_items start line text (Some s) rest = record { token = StringToken (text ++ s.0); line = start } ∷ hoa_items_from s.1 line rest
 string_items start line text None rest = record { token = UnclosedString; line = start } ∷ []
 
-succ : (n : ℕ) → n + 1 ≡ suc n
+pub succ : (n : ℕ) → n + 1 ≡ suc n
 succ n = omega arith
 
-string_first : (l : ℕ) (rest : List ℕ) → hoa_items_from 0 l (34 ∷ rest) ≡ string_items l l [] (string_rest false rest) rest
+pub string_first : (l : ℕ) (rest : List ℕ) → hoa_items_from 0 l (34 ∷ rest) ≡ string_items l l [] (string_rest false rest) rest
 string_first l rest = opened (string_rest false rest)
   where
     opened : (o : Option (List ℕ × ℕ)) → (let f = string_found o in hoa_item_before f.token l (hoa_items_from (f.size - 1) l rest)) ≡ string_items l l [] o rest
@@ -90,14 +90,14 @@ string_first l rest = opened (string_rest false rest)
     opened None = refl
 
 -- a byte of the content
-string_adds : (start l b : ℕ) (text rest : List ℕ) (o : Option (List ℕ × ℕ))
+pub string_adds : (start l b : ℕ) (text rest : List ℕ) (o : Option (List ℕ × ℕ))
     → string_items start l text (option_map (λ r. (b ∷ r.0, r.1 + 1)) o) (b ∷ rest) ≡ string_items start (if b == 10 then l + 1 else l) (text ++ b ∷ []) o rest
 string_adds start l b text rest (Some s) =
     ap (λ k. record { token = StringToken (text ++ b ∷ s.0); line = start } ∷ hoa_items_from k l (b ∷ rest)) (succ s.1)
     ∙ ap (λ t. record { token = StringToken t; line = start } ∷ hoa_items_from s.1 (if b == 10 then l + 1 else l) rest) (sym (append_assoc text (b ∷ []) s.0))
 string_adds start l b text rest None = refl
 
-string_goes_on : (start l b : ℕ) (text rest : List ℕ) → (b == 34) ≡ false → (b == 92) ≡ false
+pub string_goes_on : (start l b : ℕ) (text rest : List ℕ) → (b == 34) ≡ false → (b == 92) ≡ false
     → string_items start l text (string_rest false (b ∷ rest)) (b ∷ rest) ≡ string_items start (if b == 10 then l + 1 else l) (text ++ b ∷ []) (string_rest false rest) rest
 string_goes_on start l b text rest e f =
     let one : string_rest false (b ∷ rest) ≡ option_map (λ r. (b ∷ r.0, r.1 + 1)) (string_rest false rest) = rw (e, f) refl in
@@ -108,14 +108,14 @@ string_goes_on start l b text rest e f =
 abbrev pub toks : List HoaItem → List HoaToken
 toks items = map (λ i. i.token) items
 
-before_line : (o : Option HoaToken) (l m : ℕ) (xs ys : List HoaItem) → toks xs ≡ toks ys → toks (hoa_item_before o l xs) ≡ toks (hoa_item_before o m ys)
+pub before_line : (o : Option HoaToken) (l m : ℕ) (xs ys : List HoaItem) → toks xs ≡ toks ys → toks (hoa_item_before o l xs) ≡ toks (hoa_item_before o m ys)
 before_line None l m xs ys e = e
 before_line (Some Unknown) l m xs ys e = refl
 before_line (Some UnclosedString) l m xs ys e = refl
 before_line (Some UnclosedComment) l m xs ys e = refl
 before_line (Some t) l m xs ys e = ap (λ ts. t ∷ ts) e
 
-same_tokens : (skip l m : ℕ) (text : List ℕ) → toks (hoa_items_from skip l text) ≡ toks (hoa_items_from skip m text)
+pub same_tokens : (skip l m : ℕ) (text : List ℕ) → toks (hoa_items_from skip l text) ≡ toks (hoa_items_from skip m text)
 same_tokens skip l m [] = refl
 same_tokens (suc skip) l m (b ∷ bs) = same_tokens skip (if b == 10 then l + 1 else l) (if b == 10 then m + 1 else m) bs
 same_tokens zero l m (b ∷ bs) =
@@ -139,7 +139,7 @@ spells_all f h g (x ∷ xs) e = spells_both (f x) (flat_map f xs) (g (h x)) (fla
 -- ---- numbers
 
 -- how a number is written
-record IsWritten (n : ℕ) (ds : List ℕ) : Type 0 where
+pub record IsWritten (n : ℕ) (ds : List ℕ) : Type 0 where
   first : ℕ
   rest : List ℕ
   spelled : ds ≡ first ∷ rest
@@ -148,7 +148,7 @@ record IsWritten (n : ℕ) (ds : List ℕ) : Type 0 where
   value : number_of ds ≡ n
   leads : 0 < n → (first == 48) ≡ false
 
-decimal_written : (n : ℕ) → n < 2 ^ 64 → IsWritten n (decimal n)
+pub decimal_written : (n : ℕ) → n < 2 ^ 64 → IsWritten n (decimal n)
 decimal_written = decimal_by_steps IsWritten one more
   where
     one : (n : ℕ) → n < 10 → IsWritten n ((48 + n) ∷ [])
@@ -210,11 +210,11 @@ number_line n l rest = ap hoa_tokens (append_assoc (decimal n) (10 ∷ []) rest)
 abbrev pub is_clean : ℕ → Bool
 is_clean b = not (b == 34) && not (b == 92)
 
-no : (c : Bool) → not c ≡ true → c ≡ false
+pub no : (c : Bool) → not c ≡ true → c ≡ false
 no true e = sym e
 no false e = refl
 
-string_inside : (start l : ℕ) (done text rest : List ℕ) → list_all is_clean text ≡ true
+pub string_inside : (start l : ℕ) (done text rest : List ℕ) → list_all is_clean text ≡ true
     → toks (string_items start l done (string_rest false (text ++ 34 ∷ rest)) (text ++ 34 ∷ rest)) ≡ StringToken (done ++ text) ∷ hoa_tokens rest
 string_inside start l done [] rest e = ap (λ ts. StringToken (done ++ []) ∷ ts) (any_line l rest)
 string_inside start l done (b ∷ text) rest e =

@@ -32,15 +32,15 @@ states_line n l rest = ap (λ ts. Header (codes "States") ∷ ts) (number_line n
 pub start_line : Spells (line (codes "Start: 0")) (Header (codes "Start") ∷ Int 0 ∷ [])
 start_line rest = ap (λ ts. Header (codes "Start") ∷ Int 0 ∷ ts) (any_line 2 rest)
 
-one_name : (text : List ℕ) → list_all is_clean text ≡ true → Spells (32 ∷ quoted text) (StringToken text ∷ [])
+pub one_name : (text : List ℕ) → list_all is_clean text ≡ true → Spells (32 ∷ quoted text) (StringToken text ∷ [])
 one_name text e rest = string_spelled text e rest
 
-all_names : (names : List Name) → ((n : Name) → Has names n → list_all is_clean n ≡ true) → Spells (flat_map (λ n. 32 ∷ quoted n) names) (map StringToken names)
+pub all_names : (names : List Name) → ((n : Name) → Has names n → list_all is_clean n ≡ true) → Spells (flat_map (λ n. 32 ∷ quoted n) names) (map StringToken names)
 all_names [] e = λ rest. refl
 all_names (n ∷ names) e = spells_both (32 ∷ quoted n) (flat_map (λ m. 32 ∷ quoted m) names) (StringToken n ∷ []) (map StringToken names) (one_name n (e n (inl refl))) (all_names names (λ m h. e m (inr h)))
 
 -- no digit stands before the names
-stops_names : (names : List Name) (rest : List ℕ) → StopsAt is_digit (flat_map (λ n. 32 ∷ quoted n) names ++ 10 ∷ rest)
+pub stops_names : (names : List Name) (rest : List ℕ) → StopsAt is_digit (flat_map (λ n. 32 ∷ quoted n) names ++ 10 ∷ rest)
 stops_names [] rest = refl
 stops_names (n ∷ names) rest = refl
 
@@ -70,7 +70,7 @@ set_spelled : (k : ℕ) → k < 2 ^ 64 → Spells (set_text k) (set_tokens k)
 set_spelled k l rest =
     ap (λ ts. Identifier (codes "Inf") ∷ OpenBracket ∷ ts) (ap hoa_tokens (append_assoc (decimal k) (41 ∷ []) rest) ∙ number_spelled k (41 ∷ rest) l refl)
 
-joined_pieces : (between x : List ℕ) (xs : List (List ℕ)) → joined_by between (x ∷ xs) ≡ x ++ flat_map (λ y. between ++ y) xs
+pub joined_pieces : (between x : List ℕ) (xs : List (List ℕ)) → joined_by between (x ∷ xs) ≡ x ++ flat_map (λ y. between ++ y) xs
 joined_pieces between x [] = sym (append-nil x)
 joined_pieces between x (y ∷ xs) =
     let more = flat_map (λ z. between ++ z) xs in
@@ -137,7 +137,7 @@ abbrev pub cube_label : Cube → Label
 cube_label [] = ConstantLabel true
 cube_label (l ∷ ls) = fold (λ a m. AndLabel a (literal_label m)) (literal_label l) ls
 
-literal_spelled : (l : Literal) (rest : List ℕ) → l.proposition < 2 ^ 64 → StopsAt is_digit rest → hoa_tokens (label_literal l ++ rest) ≡ label_tokens (literal_label l) ++ hoa_tokens rest
+pub literal_spelled : (l : Literal) (rest : List ℕ) → l.proposition < 2 ^ 64 → StopsAt is_digit rest → hoa_tokens (label_literal l ++ rest) ≡ label_tokens (literal_label l) ++ hoa_tokens rest
 literal_spelled l rest n s = go l.positive
   where
     go : (c : Bool) → hoa_tokens ((if c then decimal l.proposition else codes "!" ++ decimal l.proposition) ++ rest)
@@ -146,21 +146,21 @@ literal_spelled l rest n s = go l.positive
     go false = ap (λ ts. NotSign ∷ ts) (number_spelled l.proposition rest n s)
 
 -- the literals behind the first one, as text and as tokens
-abbrev more_text : Cube → List ℕ
+abbrev pub more_text : Cube → List ℕ
 more_text ls = flat_map (λ m. 38 ∷ label_literal m) ls
 
-abbrev more_tokens : Cube → List HoaToken
+abbrev pub more_tokens : Cube → List HoaToken
 more_tokens ls = flat_map (λ m. AndSign ∷ label_tokens (literal_label m)) ls
 
-folded_tokens : (a : Label) (ls : Cube) → label_tokens (fold (λ b m. AndLabel b (literal_label m)) a ls) ≡ label_tokens a ++ more_tokens ls
+pub folded_tokens : (a : Label) (ls : Cube) → label_tokens (fold (λ b m. AndLabel b (literal_label m)) a ls) ≡ label_tokens a ++ more_tokens ls
 folded_tokens a [] = sym (append-nil (label_tokens a))
 folded_tokens a (m ∷ ls) = folded_tokens (AndLabel a (literal_label m)) ls ∙ append_assoc (label_tokens a) (AndSign ∷ label_tokens (literal_label m)) (more_tokens ls)
 
-stops_more : (ls : Cube) (rest : List ℕ) → StopsAt is_digit (more_text ls ++ 93 ∷ rest)
+pub stops_more : (ls : Cube) (rest : List ℕ) → StopsAt is_digit (more_text ls ++ 93 ∷ rest)
 stops_more [] rest = refl
 stops_more (m ∷ ls) rest = refl
 
-more_spelled : (ls : Cube) (rest : List ℕ) → ((l : Literal) → Has ls l → l.proposition < 2 ^ 64) → hoa_tokens (more_text ls ++ 93 ∷ rest) ≡ more_tokens ls ++ CloseLabel ∷ hoa_tokens rest
+pub more_spelled : (ls : Cube) (rest : List ℕ) → ((l : Literal) → Has ls l → l.proposition < 2 ^ 64) → hoa_tokens (more_text ls ++ 93 ∷ rest) ≡ more_tokens ls ++ CloseLabel ∷ hoa_tokens rest
 more_spelled [] rest n = refl
 more_spelled (m ∷ ls) rest n =
     ap (λ ts. AndSign ∷ ts) (
