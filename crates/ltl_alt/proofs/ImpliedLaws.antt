@@ -1,28 +1,21 @@
 -- Only a transition that asks for less implies another one.
 use Rattle.std.proofs.Common.{◌≡◌, ℕ, ◌+◌, ◌<◌, Bool, true, false, cond, not, ◌&&◌, inl, inr, List, [], ◌∷◌, ◌++◌, length, map, take, refl, sym, ◌∙◌, ap, subst, arith}
 use Rattle.std.specs.List.{list_any, filter}
-use Rattle.std.specs.Ordering.{is_ne, ordering_then}
+use Rattle.std.specs.Ordering.{is_ne}
 use Rattle.std.specs.Prelude.{slice_index_or}
-use Rattle.std.proofs.lemmas.Cmp.{tied_itself}
 use Rattle.std.proofs.lemmas.List.{take_more}
 use Rattle.ltl_spec.specs.Collections.Sets.{Has}
-use Rattle.ltl_spec.specs.Transitions.Cubes.{cube_cmp}
-use Rattle.ltl_spec.specs.Transitions.Pairs.{Pair, row_set_cmp}
+use Rattle.ltl_spec.specs.Transitions.Pairs.{Pair}
 use Rattle.ltl_spec.specs.Transitions.RowTransitions.{Table, Transition, HasSets, implies, transition_cmp, unimplied_transitions, with_marks}
 use Rattle.ltl_spec.proofs.Collections.CaseLaws.{false_is_true, left_true, right_true}
 use Rattle.ltl_spec.proofs.Collections.MemberLaws.{any_cases, map_cases}
-use Rattle.ltl_spec.proofs.Collections.Orders.{cube_linear, row_set_linear}
 use Rattle.ltl_spec.proofs.Collections.SetLaws.{append_cases}
 use Rattle.ltl_spec.proofs.Transitions.TransitionLaws.{implies_true, fewer_or_same}
 use Rattle.ltl_spec.proofs.Transitions.SameJoins.{AreSound}
 use Rattle.ltl_alt.specs.StandIns.{IsListed, StandsFor}
 use Rattle.ltl_alt.specs.TransitionView.{AllSets, AreOfWeight, weight}
 use Rattle.ltl_alt.specs.declared.rule.Rule.{Rule}
-
-same_asks : (u t : Transition) → u.cube ≡ t.cube → u.targets ≡ t.targets → is_ne (transition_cmp u t) ≡ false
-same_asks u t c e = ap is_ne (ap (λ x. ordering_then (cube_cmp u.cube x) (row_set_cmp u.targets t.targets)) (sym c)
-    ∙ ap (λ r. ordering_then r (row_set_cmp u.targets t.targets)) (tied_itself cube_linear.total u.cube)
-    ∙ ap (row_set_cmp u.targets) (sym e) ∙ tied_itself row_set_linear.total u.targets)
+use Rattle.ltl_spec.proofs.Transitions.TransitionLaws.{same_asks}
 
 -- it asks for less
 lighter : (u t : Transition) → HasSets u → HasSets t → (is_ne (transition_cmp u t) && implies u t) ≡ true → weight u < weight t

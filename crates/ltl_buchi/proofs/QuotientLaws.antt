@@ -18,7 +18,7 @@ use Rattle.ltl_spec.proofs.Semantics.Runs.{IsClosed}
 use Rattle.ltl_spec.proofs.Construction.QuotientRuns.{IsNaming, HasSetEdges, number_inside, class_edge, number_start, edge_on}
 use Rattle.ltl_spec.proofs.Construction.EdgeBounds.{HasNoRepeats-rising, thin_length}
 use Rattle.ltl_buchi.specs.BaView.{IsReached, start, along}
-use Rattle.ltl_automaton.proofs.ReachableLaws.{set_short}
+use Rattle.ltl_spec.proofs.Collections.SumLaws.{set_of_length}
 use Rattle.ltl_automaton.proofs.WayLaws.{take_whole}
 use Rattle.ltl_buchi.proofs.Sums.{few_all}
 
@@ -28,7 +28,7 @@ use Rattle.ltl_buchi.proofs.Sums.{few_all}
 pub class_length : (keep_implied : Bool) (f : ℕ → ℕ) (s : State) → length (without_implied keep_implied (retargeted_state f s)).edges ≤ length s.edges
 class_length keep_implied f s =
     let a = thin_length keep_implied (retargeted_state f s) in
-    let b = set_short edge_cmp (map (retargeted_edge f) s.edges) in
+    let b = set_of_length edge_cmp (map (retargeted_edge f) s.edges) in
     let c = map_length (retargeted_edge f) s.edges in
     omega arith
 
@@ -45,7 +45,7 @@ module _ (A : Automaton) (names : List ℕ) (naming : IsNaming A names) where
   classes = set_of nat_cmp names
 
   pub classes_few : length classes ≤ length A.states
-  classes_few = let a = set_short nat_cmp names in let b = naming.long in omega arith
+  classes_few = let a = set_of_length nat_cmp names in let b = naming.long in omega arith
 
   named_inside : (n : ℕ) (ns : List ℕ) → ((k : ℕ) → k < length ns → slice_index ns k < n) → (c : ℕ) → Has ns c → c < n
   named_inside n [] l c h = absurd h

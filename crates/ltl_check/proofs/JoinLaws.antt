@@ -1,10 +1,10 @@
 -- The literals of two cubes, one after the other.
 use Rattle.std.proofs.Common.{◌≡◌, ℕ, ◌<◌, ◌%◌, Bool, true, false, cond, List, [], ◌∷◌, map, length, Option, Some, None, inl, inr, refl, sym, ◌∙◌, ap, subst}
-use Rattle.ltl_spec.specs.Collections.Sets.{Has, IsRising, has, put, set_of, union}
-use Rattle.ltl_spec.specs.Transitions.Cubes.{Literal, Cube, literal_cmp, opposite, is_contradictory, join_cubes}
+use Rattle.ltl_spec.specs.Collections.Sets.{Has, IsRising, put, set_of, union}
+use Rattle.ltl_spec.specs.Transitions.Cubes.{Literal, Cube, literal_cmp, is_contradictory, join_cubes}
 use Rattle.ltl_spec.specs.Checking.Product.{renamed_literal, renamed_cube}
-use Rattle.ltl_spec.proofs.Collections.SetLaws.{IsRising-set_of, has_Decides, union_cases, union_left, union_right, union_assoc, union_nil, Has-put}
-use Rattle.ltl_spec.proofs.Collections.MemberLaws.{any_cases, any_true, Has-map, map_length}
+use Rattle.ltl_spec.proofs.Collections.SetLaws.{IsRising-set_of, union_cases, union_left, union_right, union_assoc, union_nil, Has-put}
+use Rattle.ltl_spec.proofs.Collections.MemberLaws.{Has-map, map_length}
 use Rattle.ltl_spec.proofs.Collections.Orders.{literal_linear}
 use Rattle.ltl_spec.proofs.Transitions.CubeLaws.{join_cubes_is}
 use Rattle.std.specs.Prelude.{slice_index_or}
@@ -15,16 +15,11 @@ use Rattle.ltl_automaton.specs.declared.edge.Edge as code
 use Rattle.ltl_buchi.specs.BaView.{edge_of}
 use Rattle.ltl_sets.specs.declared.literal.Literal as made
 use Rattle.ltl_sets.specs.Literals.{literal_of, cube_of}
+use Rattle.ltl_spec.proofs.Transitions.SafeLaws.{contradiction_grows}
 
 -- the cube of these literals, unless it contradicts itself
 abbrev consistent : Cube → Option Cube
 consistent u = cond (is_contradictory u) None (Some u)
-
--- more literals contradict each other all the more
-contradictory_more : (a b : Cube) → ((l : Literal) → Has a l → Has b l) → is_contradictory a ≡ true → is_contradictory b ≡ true
-contradictory_more a b more e =
-    let (l, h, o) = any_cases (λ l. has literal_cmp (opposite l) a) a e in
-    any_true (λ l. has literal_cmp (opposite l) b) b l (more l h) ((has_Decides literal_linear (opposite l) b).1 (more (opposite l) ((has_Decides literal_linear (opposite l) a).0 o)))
 
 -- with one literal first
 pub join_one : (a : Cube) (x : Literal) (rest : List Literal) (c : Cube) → join_cubes a (x ∷ []) ≡ Some c → join_cubes a (set_of literal_cmp (x ∷ rest)) ≡ join_cubes c (set_of literal_cmp rest)
@@ -37,7 +32,7 @@ pub join_stop : (a : Cube) (x : Literal) (rest : List Literal) → join_cubes a 
 join_stop a x rest e = by (is_contradictory (union literal_cmp a (x ∷ []))) refl e
   where
     by : (b : Bool) → is_contradictory (union literal_cmp a (x ∷ [])) ≡ b → cond b None (Some (union literal_cmp a (x ∷ []))) ≡ None → join_cubes a (set_of literal_cmp (x ∷ rest)) ≡ None
-    by true f q = ap (λ b. cond b None (Some (union literal_cmp a (put literal_cmp x (set_of literal_cmp rest))))) (contradictory_more (union literal_cmp a (x ∷ [])) (union literal_cmp a (put literal_cmp x (set_of literal_cmp rest))) more f)
+    by true f q = ap (λ b. cond b None (Some (union literal_cmp a (put literal_cmp x (set_of literal_cmp rest))))) (contradiction_grows (union literal_cmp a (x ∷ [])) (union literal_cmp a (put literal_cmp x (set_of literal_cmp rest))) more f)
       where
         more : (l : Literal) → Has (union literal_cmp a (x ∷ [])) l → Has (union literal_cmp a (put literal_cmp x (set_of literal_cmp rest))) l
         more l h = elim (union_cases literal_linear a (x ∷ []) l h) [

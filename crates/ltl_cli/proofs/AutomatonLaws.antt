@@ -32,6 +32,7 @@ use Rattle.ltl_cli.specs.declared.refusal.Refusal.{Refusal}
 use Rattle.ltl_cli.specs.declared.refusal.Refusal.TheVariants.{OutOfMemory}
 use Rattle.ltl_cli.specs.Refusals.{of_translation, refusal_of}
 use Rattle.ltl_cli.specs.Runs.{MakesAutomaton, MakesGeneralized, MakesText}
+use Rattle.ltl_spec.proofs.Tools.StepLaws.{never}
 
 trees_long : (t : TableView) → length (row_trees t.rows) ≡ length t.rows
 trees_long t = trees_length (map node_of t.rows) ∙ map_length node_of t.rows
@@ -90,9 +91,6 @@ generalized_made t N o G h c made fits =
     inr (N, table_kept t N h c, subst (λ (M : Normal). IsGeneralizedTranslation M o G × ¬ (IsTooLarge M o.keep_implied stated_limits.states stated_limits.edges)) c (made, fits))
 
 -- ---- from the automaton to its text
-
-never : {A B : Type 0} (a : A) (b : B) → Err b ≡ Ok a → ⊥
-never a b e = cc
 
 inside : (x y : spec.Refusal) → ◌≡◌ {A = Result (List ℕ) spec.Refusal} (Err y) (Err x) → x ≡ y
 inside x y p = cc

@@ -40,9 +40,7 @@ use Rattle.ltl_cli.specs.Runs.{IsDone, Shows, message_with, status_with}
 use Rattle.ltl_cli.specs.Checks.{CheckerGives, CheckerOutcome, CheckerPromises, CheckOutcome, CheckTakesNone, IsChecked, Negates, ReadsAutomaton, RefusesCheck, check_in}
 use Rattle.ltl_cli.proofs.InputLaws.{failed_stream, not_long, reads_takes}
 use Rattle.ltl_cli.proofs.RunLaws.{input_takes, run_shows, same_refusal, short_shows}
-
-never : {A B : Type 0} (a : A) (b : B) → Err b ≡ Ok a → ⊥
-never a b e = cc
+use Rattle.ltl_spec.proofs.Tools.StepLaws.{never}
 
 -- ---- steps
 

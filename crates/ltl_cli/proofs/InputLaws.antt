@@ -20,6 +20,7 @@ use Rattle.ltl_cli.specs.declared.refusal.Refusal.{Refusal}
 use Rattle.ltl_cli.specs.declared.refusal.Refusal.TheVariants.{OutOfMemory, CannotRead}
 use Rattle.ltl_cli.specs.Refusals.{of_read, refusal_of}
 use Rattle.ltl_cli.specs.Inputs.{IsInputOf, IsReadFrom, IsStream, RefusesInput, TakesFewer, most_taken}
+use Rattle.ltl_spec.proofs.Tools.StepLaws.{never}
 
 -- a text is refused as the definitions say
 pub given_refused : (text : List ℕ) (e : ReadFault) → IsRefusedFor text e → RefusesInput (outcome.Given text) outcome.NotOpened (of_read e)
@@ -27,9 +28,6 @@ given_refused text fault.TooLong h = inr (inr (text, refl, h))
 given_refused text (fault.AtByte place kind) h = inr (inr (text, refl, h))
 given_refused text fault.TooManyPropositions h = inr (inr (text, refl, h))
 given_refused text fault.OutOfMemory h = inl (refl, λ m. absurd (omega (arith, h, m)))
-
-never : {A B : Type 0} (a : A) (b : B) → Err b ≡ Ok a → ⊥
-never a b e = cc
 
 ok_is : {A B : Type 0} (a b : A) → ◌≡◌ {A = Result A B} (Ok a) (Ok b) → a ≡ b
 ok_is a b e = cc

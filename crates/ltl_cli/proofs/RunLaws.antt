@@ -7,7 +7,7 @@ use Rattle.std.specs.Io.KnownBytes.{Appends, Keeps}
 use Rattle.ltl_spec.specs.Tools.Limits.{stated_limits}
 use Rattle.ltl_spec.specs.Tools.Refusal as spec
 use Rattle.ltl_spec.specs.Tools.Outcome as outcome
-use Rattle.ltl_spec.specs.Tools.Outcome.{Answer, Input, IsGiven, TakesNoMemory, refused, printed}
+use Rattle.ltl_spec.specs.Tools.Outcome.{Answer, Input, TakesNoMemory, refused, printed}
 use Rattle.ltl_spec.specs.Tools.Programs.{InputReads, TranslatorAnswers}
 use Rattle.ltl_formula.specs.FormulaView.{FormulaView, reading_of}
 use Rattle.ltl_formula.specs.Streams.{AppendsBeginning}
@@ -25,6 +25,7 @@ use Rattle.ltl_cli.specs.Inputs.{RefusesInput}
 use Rattle.ltl_cli.specs.Runs.{IsDone, IsKept, IsOutcome, MakesText, PlanOutcome, PlanPrints, RefusesPlan, Shows, TranslatorPromises, WordsOutcome, message_with, status_with, translator_word}
 use Rattle.ltl_cli.proofs.AutomatonLaws.{making_takes}
 use Rattle.ltl_cli.proofs.InputLaws.{reads_takes}
+use Rattle.ltl_spec.proofs.Tools.StepLaws.{never}
 
 -- ---- the translator's steps
 
@@ -45,9 +46,6 @@ module _ (p : Plan) (input : Input) (f : FormulaView) (reads : InputReads stated
   text_prints text h = inr (reading_of f, reads, h)
 
 -- ---- no step says that memory was refused
-
-never : {A B : Type 0} (a : A) (b : B) → Err b ≡ Ok a → ⊥
-never a b e = cc
 
 pub same_refusal : {A : Type 0} (x y : spec.Refusal) → ◌≡◌ {A = Result A spec.Refusal} (Err x) (Err y) → y ≡ x
 same_refusal x y p = cc

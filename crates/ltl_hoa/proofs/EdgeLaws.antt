@@ -17,9 +17,9 @@ use Rattle.ltl_spec.specs.Hoa.HoaReading.{AcceptanceForm, stated_form, WrittenEd
 use Rattle.ltl_spec.specs.Hoa.HoaFaultKind.{NumberOutOfRange, StateDefinedTwice, LimitPassed}
 use Rattle.ltl_spec.specs.Hoa.HoaPlace as spec
 use Rattle.ltl_spec.specs.Hoa.HoaFault as fault
-use Rattle.ltl_spec.specs.Hoa.HoaPlace.{BodyPlace, AtState, AtNumber, AfterNumber, AfterName, InStateSets, AtEdge, AtTarget, AfterTarget, InEdgeSets, AtOperand, AfterOperand, InBody, AtItem, PlainItem, AtEnd, Before, before_all, whole, empty_part, no_header}
+use Rattle.ltl_spec.specs.Hoa.HoaPlace.{BodyPlace, AtState, AtNumber, AfterNumber, AfterName, InStateSets, AtEdge, AtTarget, AfterTarget, InEdgeSets, AtOperand, AfterOperand, AtItem, PlainItem, AtEnd, Before, before_all, whole, empty_part, no_header}
 use Rattle.ltl_spec.specs.Hoa.HoaStep.{Step, step}
-use Rattle.ltl_spec.specs.Hoa.HoaFault.{take_item, with_line}
+use Rattle.ltl_spec.specs.Hoa.HoaFault.{with_line}
 use Rattle.ltl_spec.proofs.Hoa.HoaLabelLaws.{parts, label_taken}
 use Rattle.ltl_spec.proofs.Hoa.HoaHeaderLaws.{at, whole_header, not_true, IsHeader, Fits, items_run, new_names}
 use Rattle.ltl_spec.proofs.Hoa.HoaBodyLaws.{begins_edge, begins_state, body, one_edge, is_narrow, count_edges}
@@ -27,14 +27,7 @@ use Rattle.ltl_spec.proofs.Collections.CaseLaws.{left_true, right_true}
 use Rattle.ltl_hoa.specs.Shown.{Came, CameEdge, came_none, came_at, first_or, edges_of}
 use Rattle.ltl_hoa.specs.Reading.{Reached, reach, reached}
 use Rattle.ltl_hoa.proofs.CameLaws.{Told, tell_one, tell, tell-append, first_told, label_told, label_kept, header_told, items_kept}
-
-edge_begins_state : (place : BodyPlace) → IsTrue (begins_edge place) → IsTrue (begins_state place)
-edge_begins_state AtState e = refl
-edge_begins_state AfterNumber e = refl
-edge_begins_state AfterName e = refl
-edge_begins_state AtEdge e = refl
-edge_begins_state AfterTarget e = refl
-edge_begins_state _ e = cc
+use Rattle.ltl_spec.proofs.Hoa.HoaBodyLaws.{edge_begins_state}
 
 abbrev came_with : List ℕ → List Cube → CameEdge → List CameEdge → Came
 came_with sets cubes e es = record { sets = sets; cubes = cubes; edges = e ∷ es }

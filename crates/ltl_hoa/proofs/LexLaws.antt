@@ -7,7 +7,7 @@ use Rattle.std.proofs.lemmas.Bool.{eqb-true}
 use Rattle.std.proofs.lemmas.Option.{same_Some}
 use Rattle.std.proofs.lemmas.List.{append-nil}
 use Rattle.ltl_spec.specs.Formulas.Tokens.{is_blank, same_name}
-use Rattle.ltl_spec.specs.Hoa.HoaToken.{HoaItem, Unknown, is_digit, begins_identifier, is_identifier_byte, hoa_items_from, found_first, string_rest, comment_rest}
+use Rattle.ltl_spec.specs.Hoa.HoaToken.{Unknown, is_digit, begins_identifier, is_identifier_byte, hoa_items_from, comment_rest}
 use Rattle.ltl_spec.specs.Hoa.HoaToken as token
 use Rattle.ltl_spec.proofs.Collections.CaseLaws.{left_true, right_true, false_is_true}
 use Rattle.ltl_spec.proofs.Formulas.NameLaws.{same_exact}

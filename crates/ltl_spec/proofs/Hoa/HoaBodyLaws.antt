@@ -30,7 +30,7 @@ abbrev pub begins_state : BodyPlace → Bool
 begins_state AtState = true
 begins_state place = begins_edge place
 
-edge_begins_state : (place : BodyPlace) → IsTrue (begins_edge place) → IsTrue (begins_state place)
+pub edge_begins_state : (place : BodyPlace) → IsTrue (begins_edge place) → IsTrue (begins_state place)
 edge_begins_state AtState e = refl
 edge_begins_state AfterNumber e = refl
 edge_begins_state AfterName e = refl

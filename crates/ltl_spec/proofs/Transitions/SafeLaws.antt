@@ -17,7 +17,7 @@ use Rattle.ltl_spec.proofs.Collections.MemberLaws.{any_cases, any_true}
 -- contradiction
 
 -- more literals contradict each other too
-contradiction_grows : (a b : Cube) → ((l : Literal) → Has a l → Has b l) → is_contradictory a ≡ true → is_contradictory b ≡ true
+pub contradiction_grows : (a b : Cube) → ((l : Literal) → Has a l → Has b l) → is_contradictory a ≡ true → is_contradictory b ≡ true
 contradiction_grows a b f e =
     let (l, h, t) = any_cases (λ m. has literal_cmp (opposite m) a) a e in
     any_true (λ m. has literal_cmp (opposite m) b) b l (f l h) ((has_Decides literal_linear (opposite l) b).1 (f (opposite l) ((has_Decides literal_linear (opposite l) a).0 t)))

@@ -157,7 +157,7 @@ abbrev size : Transition → ℕ
 size t = length t.cube + length t.targets
 
 -- two that ask for the same compare as equal
-same_asks : (u t : Transition) → u.cube ≡ t.cube → u.targets ≡ t.targets → is_ne (transition_cmp u t) ≡ false
+pub same_asks : (u t : Transition) → u.cube ≡ t.cube → u.targets ≡ t.targets → is_ne (transition_cmp u t) ≡ false
 same_asks u t c e = ap is_ne (ap (λ x. ordering_then (cube_cmp u.cube x) (row_set_cmp u.targets t.targets)) (sym c)
     ∙ ap (λ r. ordering_then r (row_set_cmp u.targets t.targets)) (tied_itself cube_linear.total u.cube)
     ∙ ap (row_set_cmp u.targets) (sym e) ∙ tied_itself row_set_linear.total u.targets)
