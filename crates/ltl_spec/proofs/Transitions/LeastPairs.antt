@@ -1,4 +1,4 @@
--- Least pairs, and the marks of a pair by them.
+-- Pairs within others, pairs that are enough, and the marks of a pair by some that are enough.
 use Rattle.std.proofs.Common.{◌≡◌, Bool, true, false, not, ◌&&◌, ◌||◌, ◌⊎◌, inl, inr, List, refl, sym, ◌∙◌, ap}
 use Rattle.std.specs.Bool.{Decides}
 use Rattle.std.specs.List.{list_any, filter}
@@ -58,7 +58,7 @@ both_within q p s r w v =
     let e = same_members nat_linear q.targets p.targets s.targets r.targets w.targets v.targets in
     λ i. record { cube = c i; targets = e i }
 
--- the least pairs
+-- pairs that are enough
 
 -- each of all pairs has one of those that are enough within it
 pub enough_below : {ps qs : List Pair} → IsEnough ps qs → (p : Pair) → Has ps p → (q : Pair) × Has qs q × Within q p
