@@ -74,7 +74,8 @@ fn with_part<'a, A: Allocator>(
     number: usize,
 ) -> Result<Vec<Pair, &'a A>, AllocError>
     requires within { number < length parts.now.lists.items }
-    ensures { (T : spec.Table) → IsFit T pruning.now.rule pruning.now.own.now → IfOk result (λ v. IsListed (StandsFor T pruning.now.rule) (spec_pairs.join pairs.now (part_of parts.now.lists.items number)) v.items) }
+    ensures { (T : spec.Table) → IsFit T pruning.now.rule pruning.now.own.now
+        → IfOk result (λ v. IsListed (StandsFor T pruning.now.rule) (spec_pairs.join pairs.now (part_of parts.now.lists.items number)) v.items) }
 {
     let joined = join(alloc, pairs, parts.pairs(number))?;
     let pruned = prune(alloc, pruning, joined)?;
@@ -91,7 +92,8 @@ fn joined<'a, A: Allocator>(
 ) -> Result<Vec<Pair, &'a A>, AllocError>
     requires fit { IsFit (table_at table.now) pruning.now.rule pruning.now.own.now }
     requires inside { (k : ℕ) → Has group.now k → k < length parts.now.lists.items }
-    ensures { IfOk result (λ v. IsListed (StandsFor (table_at table.now) pruning.now.rule) (fold (λ ps k. spec_pairs.join ps (part_of parts.now.lists.items k)) (spec_pairs.empty_pair ∷ []) group.now) v.items) }
+    ensures { IfOk result (λ v. IsListed (StandsFor (table_at table.now) pruning.now.rule)
+        (fold (λ ps k. spec_pairs.join ps (part_of parts.now.lists.items k)) (spec_pairs.empty_pair ∷ []) group.now) v.items) }
 {
     let mut pairs = Vec::from_slice(alloc, &[Pair::empty()])?;
     let mut rest = group.iter();
@@ -190,7 +192,8 @@ impl<'a, A: Allocator> Groups<'a, A> {
     /// Forgets the last group.
     fn forget_last(&mut self)
         requires { 0 < length self.old.lists.items }
-        ensures groups { (T : spec.Table) → (keep : Bool) → (parts : List (List spec_pairs.Pair)) → AreGroups T keep parts self.old.keys.keys self.old.lists.items → AreGroups T keep parts self.new.keys.keys self.new.lists.items }
+        ensures groups { (T : spec.Table) → (keep : Bool) → (parts : List (List spec_pairs.Pair))
+            → AreGroups T keep parts self.old.keys.keys self.old.lists.items → AreGroups T keep parts self.new.keys.keys self.new.lists.items }
         ensures fewer { length self.new.lists.items < length self.old.lists.items }
     {
         self.keys.pop();
@@ -200,7 +203,8 @@ impl<'a, A: Allocator> Groups<'a, A> {
     /// Forgets the groups that were met last, behind the first `kept` ones, as long as they have more than `most` transitions. Large ones would take
     /// the memory of the automaton once more, and are seldom met again.
     pub(crate) fn forget(&mut self, kept: usize, most: usize)
-        ensures { (T : spec.Table) → (keep : Bool) → (parts : List (List spec_pairs.Pair)) → AreGroups T keep parts self.old.keys.keys self.old.lists.items → AreGroups T keep parts self.new.keys.keys self.new.lists.items }
+        ensures { (T : spec.Table) → (keep : Bool) → (parts : List (List spec_pairs.Pair)) → AreGroups T keep parts self.old.keys.keys self.old.lists.items
+            → AreGroups T keep parts self.new.keys.keys self.new.lists.items }
     {
         'groups: while self.lists.len() > kept && self.is_last_large(most) {
             self.forget_last();

@@ -148,7 +148,8 @@ impl<'a, A: Allocator> Parts<'a, A> {
         requires pieces { AreFew table.now pieces.now (length self.old.lists.items) }
         ensures lists { OnOk result (AreLists table.now pruning.now.rule rows.new.pairs.items rows.new.sets.items) }
         ensures linked { OnOk result (AreLinked (table_at table.now) pruning.now.own.now self.new.lists.items self.new.demands.items self.new.links.items) }
-        ensures added { OnOk result (AreAdded (table_at table.now) pruning.now.rule place (map (piece_pairs table.now) pieces.now) self.old.owners.items self.new.owners.items self.old.lists.items self.new.lists.items) }
+        ensures added { OnOk result (AreAdded (table_at table.now) pruning.now.rule place
+            (map (piece_pairs table.now) pieces.now) self.old.owners.items self.new.owners.items self.old.lists.items self.new.lists.items) }
         ensures made { OnOk result (self.new.made ≡ self.old.made) }
     {
         'pieces: for piece in pieces {

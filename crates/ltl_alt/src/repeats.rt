@@ -20,7 +20,8 @@ fn note_joins<A: Allocator>(
     left: &[Pair],
     right: &Pair,
 ) -> Result<(), AllocError>
-    ensures { OnOk result (once.new.keys ≡ fold (with_new (eq_by_cmp spec_pairs.pair_cmp)) once.old.keys (filter_map (λ p. spec_pairs.join_pair p right.now) left.now)) }
+    ensures { OnOk result (once.new.keys ≡ fold (with_new (eq_by_cmp spec_pairs.pair_cmp)) once.old.keys
+        (filter_map (λ p. spec_pairs.join_pair p right.now) left.now)) }
 {
     'left: for p in left {
         if let Some(pair) = p.join(right) {

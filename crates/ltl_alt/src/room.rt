@@ -55,7 +55,8 @@ fn make_room<'a, A: Allocator>(
     state: &RowSet,
 ) -> Result<(), AllocError>
     requires { length parts.old.lists.items ≤ RowSet.LIMIT }
-    ensures parts { OnOk result ((T : spec.Table) → (r : made_rule.Rule) → (own : List (List spec_pairs.Pair)) → HasParts T r own parts.old → HasParts T r own parts.new) }
+    ensures parts { OnOk result ((T : spec.Table) → (r : made_rule.Rule) → (own : List (List spec_pairs.Pair)) → HasParts T r own parts.old
+        → HasParts T r own parts.new) }
     ensures groups { OnOk result ((T : spec.Table) → (keep : Bool) → HasGroups T keep parts.old groups.old → HasGroups T keep parts.new groups.new) }
     ensures room { OnOk result (HasRoom parts.new.made parts.new.lists.items state.now) }
 {
@@ -85,7 +86,8 @@ pub(crate) fn prepare<'a, A: Allocator>(
     ensures lists { OnOk result (AreLists table.now pruning.now.rule rows.new.pairs.items rows.new.sets.items) }
     ensures parts { OnOk result (HasParts (table_at table.now) pruning.now.rule pruning.now.own.now parts.new) }
     ensures made { OnOk result ((i : ℕ) → Has state.now i → Has parts.new.made i) }
-    ensures groups { OnOk result ((keep : Bool) → HasGroups (table_at table.now) keep parts.old groups.old → HasGroups (table_at table.now) keep parts.new groups.new) }
+    ensures groups { OnOk result ((keep : Bool) → HasGroups (table_at table.now) keep parts.old groups.old
+        → HasGroups (table_at table.now) keep parts.new groups.new) }
 {
     make_room(alloc, table, parts, groups, state)?;
     parts.prepare(alloc, table, rows, pruning, state)?;

@@ -122,7 +122,8 @@ impl<'a, A: Allocator> RowLists<'a, A> {
         requires lists { AreLists table.now pruning.now.rule self.old.pairs.items self.old.sets.items }
         requires fit { IsFit (table_at table.now) pruning.now.rule pruning.now.own.now }
         requires within { row < length table.now.rows }
-        requires have { is_needed ≡ true → (r : made.Row) → slice_get table.now.rows row ≡ Some r → HavePairs table.now pruning.now.rule (list_at self.old.pairs.items) (list_at self.old.sets.items) r }
+        requires have { is_needed ≡ true → (r : made.Row) → slice_get table.now.rows row ≡ Some r
+            → HavePairs table.now pruning.now.rule (list_at self.old.pairs.items) (list_at self.old.sets.items) r }
         ensures lists { OnOk result (AreLists table.now pruning.now.rule self.new.pairs.items self.new.sets.items) }
         ensures more { OnOk result (IsMore self.old.pairs.items self.new.pairs.items) }
         ensures made { OnOk result (is_needed ≡ true → is_made self.new.pairs.items row ≡ true) }
@@ -150,7 +151,8 @@ impl<'a, A: Allocator> RowLists<'a, A> {
         requires lists { AreLists table.now pruning.now.rule self.old.pairs.items self.old.sets.items }
         requires fit { IsFit (table_at table.now) pruning.now.rule pruning.now.own.now }
         requires within { row < length table.now.rows }
-        requires have { is_needed ≡ true → (r : made.Row) → slice_get table.now.rows row ≡ Some r → HaveSets table.now pruning.now.rule (list_at self.old.sets.items) r }
+        requires have { is_needed ≡ true → (r : made.Row) → slice_get table.now.rows row ≡ Some r
+            → HaveSets table.now pruning.now.rule (list_at self.old.sets.items) r }
         ensures lists { OnOk result (AreLists table.now pruning.now.rule self.new.pairs.items self.new.sets.items) }
         ensures more { OnOk result (IsMore self.old.sets.items self.new.sets.items) }
         ensures made { OnOk result (is_needed ≡ true → is_made self.new.sets.items row ≡ true) }
@@ -177,7 +179,8 @@ impl<'a, A: Allocator> RowLists<'a, A> {
         requires lists { AreLists table.now pruning.now.rule self.old.pairs.items self.old.sets.items }
         requires fit { IsFit (table_at table.now) pruning.now.rule pruning.now.own.now }
         requires within { row < length table.now.rows }
-        requires have { (r : made.Row) → slice_get table.now.rows row ≡ Some r → HavePairs table.now pruning.now.rule (list_at self.old.pairs.items) (list_at self.old.sets.items) r }
+        requires have { (r : made.Row) → slice_get table.now.rows row ≡ Some r
+            → HavePairs table.now pruning.now.rule (list_at self.old.pairs.items) (list_at self.old.sets.items) r }
         ensures pairs { OnOk result (HasAdded (IsListedRow table.now pruning.now.rule row) row self.old.pairs.items self.new.pairs.items) }
         ensures sets { self.new.sets.items ≡ self.old.sets.items }
     {
@@ -217,7 +220,8 @@ impl<'a, A: Allocator> RowLists<'a, A> {
         requires lists { AreLists table.now pruning.now.rule self.now.pairs.items self.now.sets.items }
         requires fit { IsFit (table_at table.now) pruning.now.rule pruning.now.own.now }
         requires within { row < length table.now.rows }
-        requires have { (r : made.Row) → slice_get table.now.rows row ≡ Some r → HavePairs table.now pruning.now.rule (list_at self.now.pairs.items) (list_at self.now.sets.items) r }
+        requires have { (r : made.Row) → slice_get table.now.rows row ≡ Some r
+            → HavePairs table.now pruning.now.rule (list_at self.now.pairs.items) (list_at self.now.sets.items) r }
         ensures { IfOk result (IsListedRow table.now pruning.now.rule row) }
     {
         let _ = table.len();
@@ -238,7 +242,8 @@ impl<'a, A: Allocator> RowLists<'a, A> {
         requires sets { IsBelow (length self.now.sets.items) row }
         requires literal { IsNamedBelow RowSet.LIMIT row }
         requires place { is_elementary_row row ≡ true → place < RowSet.LIMIT }
-        ensures { IfOk result (λ v. set_of pair_cmp v.items ≡ set_of pair_cmp (pairs_from (list_at self.now.pairs.items) (list_at self.now.sets.items) place row)) }
+        ensures { IfOk result (λ v. set_of pair_cmp v.items ≡ set_of pair_cmp
+            (pairs_from (list_at self.now.pairs.items) (list_at self.now.sets.items) place row)) }
     {
         match row {
             Row::True => Vec::from_slice(alloc, &[Pair::empty()]),

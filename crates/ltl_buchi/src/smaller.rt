@@ -22,7 +22,8 @@ fn changed<'a, A: Allocator>(
     options: &Options,
 ) -> Result<Option<SharedStates<'a, A>>, AllocError>
     requires within { IsWithinStates (automaton_of states.now).states }
-    ensures { IfOk result (λ o. MatchOption o (automaton_of states.now ≡ merged_automaton options.now.keep_implied options.now.keep_equal (automaton_of states.now)) (λ m. automaton_of m ≡ merged_automaton options.now.keep_implied options.now.keep_equal (automaton_of states.now))) }
+    ensures { IfOk result (λ o. let merged = merged_automaton options.now.keep_implied options.now.keep_equal (automaton_of states.now) in
+        MatchOption o (automaton_of states.now ≡ merged) (λ m. automaton_of m ≡ merged)) }
 {
     let names = names(alloc, states, options.keep_equal)?;
     if stands(alloc, states, names.as_slice(), options.keep_implied)? {

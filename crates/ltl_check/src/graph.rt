@@ -83,9 +83,11 @@ pub trait Graph {
 
     ghost state_is: { (g : Self) (n : ℕ) → n < count_of g → IsState g (state_of g n) };
 
-    ghost target_is: { (g : Self) (s : Self.State) (k : ℕ) (t : Step Self.State) → IsState g s → k < pairs_of g s → step_of g s k ≡ Some t → IsState g t.target };
+    ghost target_is: { (g : Self) (s : Self.State) (k : ℕ) (t : Step Self.State) → IsState g s → k < pairs_of g s → step_of g s k ≡ Some t
+        → IsState g t.target };
 
-    ghost marks_below: { (g : Self) (s : Self.State) (k : ℕ) (t : Step Self.State) → IsState g s → k < pairs_of g s → step_of g s k ≡ Some t → MarksBelow t.marks (sets_of g) };
+    ghost marks_below: { (g : Self) (s : Self.State) (k : ℕ) (t : Step Self.State) → IsState g s → k < pairs_of g s → step_of g s k ≡ Some t
+        → MarksBelow t.marks (sets_of g) };
 
     ghost below: { (g : Self) (s : Self.State) → IsState g s → number_of g s < count_of g };
 

@@ -143,21 +143,29 @@ impl<'a, G: Graph> Graph for Levels<'a, G> {
 
     ghost start_is = { λ g. (G.start_is g.graph.now, none_below (G.sets_of g.graph.now)) };
 
-    ghost state_is = { λ g n h. (G.state_is g.graph.now (n / (G.sets_of g.graph.now + 1)) (place_within n (G.count_of g.graph.now) (G.sets_of g.graph.now) h), place_level n (G.sets_of g.graph.now)) };
+    ghost state_is = { λ g n h. (
+      G.state_is g.graph.now (n / (G.sets_of g.graph.now + 1))
+          (place_within n (G.count_of g.graph.now) (G.sets_of g.graph.now) h),
+      place_level n (G.sets_of g.graph.now),
+    ) };
 
-    ghost target_is = { λ g s k t own inside e. placed_target (G.IsState g.graph.now) (G.sets_of g.graph.now) s.level (G.step_of g.graph.now s.state k) t own.1 e (λ a f. G.target_is g.graph.now s.state k a own.0 inside f) };
+    ghost target_is = { λ g s k t own inside e. placed_target (G.IsState g.graph.now) (G.sets_of g.graph.now) s.level
+        (G.step_of g.graph.now s.state k) t own.1 e (λ a f. G.target_is g.graph.now s.state k a own.0 inside f) };
 
     ghost marks_below = { λ g s k t own inside e. placed_marks (G.sets_of g.graph.now) s.level (G.step_of g.graph.now s.state k) t e };
 
-    ghost below = { λ g s own. place_below (G.number_of g.graph.now s.state) s.level (G.count_of g.graph.now) (G.sets_of g.graph.now) (G.below g.graph.now s.state own.0) own.1 };
+    ghost below = { λ g s own. place_below (G.number_of g.graph.now s.state) s.level (G.count_of g.graph.now) (G.sets_of g.graph.now)
+        (G.below g.graph.now s.state own.0) own.1 };
 
-    ghost back = { λ g s own. placed_back (G.state_of g.graph.now) (G.number_of g.graph.now s.state) (G.sets_of g.graph.now) s own.1 (G.back g.graph.now s.state own.0) };
+    ghost back = { λ g s own. placed_back (G.state_of g.graph.now) (G.number_of g.graph.now s.state) (G.sets_of g.graph.now) s own.1
+        (G.back g.graph.now s.state own.0) };
 }
 
 impl<'a, G: Graph> Numbered for Levels<'a, G> {
     type Looks = G::Looks;
 
-    ghost net = { λ l. levels_net (G.sets_of l.graph.now) (net_of (G.count_of l.graph.now) (G.start_of l.graph.now) (G.number_of l.graph.now) (G.state_of l.graph.now) (G.pairs_of l.graph.now) (G.step_of l.graph.now)) };
+    ghost net = { λ l. levels_net (G.sets_of l.graph.now) (net_of (G.count_of l.graph.now) (G.start_of l.graph.now) (G.number_of l.graph.now)
+        (G.state_of l.graph.now) (G.pairs_of l.graph.now) (G.step_of l.graph.now)) };
 
     ghost looked_of = { G.looked_of };
 

@@ -34,7 +34,8 @@ pub fn printable_of<'a, A: Allocator>(
     formula: &Formula<'_, A>,
     plan: &Plan<'_>,
 ) -> Result<Printable<'a, A>, Refusal>
-    ensures step { Takes (MakesText (layout_in plan.now.layout) (reading_of formula.now) plan.now.rewrite plan.now.options) (λ t. text_of t formula.now) result }
+    ensures step { Takes (MakesText (layout_in plan.now.layout) (reading_of formula.now) plan.now.rewrite plan.now.options)
+        (λ t. text_of t formula.now) result }
     ensures models { IfOk result (λ t. AcceptsModels (automaton_in t) (reading_of formula.now).formula) }
     ensures named { IfOk result (λ t. (text : List ℕ) → IsTextOf text (reading_of formula.now) → HasNamesBelow (length formula.now.names) (automaton_in t)) }
 {

@@ -10,7 +10,8 @@ use crate::limits::TEXT_LIMIT;
 
 /// The canonical text of a formula that was read is read as that formula, if it is within the limit.
 pub fn canonical_text_is_read_back()
-    ensures { (text : List ℕ) (f : FormulaView) → IsReadAs text f → length (canonical_text (reading_of f)) ≤ TEXT_LIMIT → IsReadAs (canonical_text (reading_of f)) f }
+    ensures { (text : List ℕ) (f : FormulaView) → IsReadAs text f → length (canonical_text (reading_of f)) ≤ TEXT_LIMIT
+        → IsReadAs (canonical_text (reading_of f)) f }
 {}
 
 /// A text is read as one formula at most, and what is read is refused for want of memory alone.

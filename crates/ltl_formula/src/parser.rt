@@ -131,7 +131,12 @@ impl<'a, 't, A: Allocator> Model for Parser<'a, 't, A> {
 
     ghost view = { λ p. record { nodes = p.nodes.items; frames = p.frames.items; names = map (λ k. k.now) p.names.keys; has_operand = p.has_operand } };
 
-    ghost invariant = { λ p. IsParsing (record { nodes = p.nodes.items; frames = p.frames.items; names = map (λ k. k.now) p.names.keys; has_operand = p.has_operand }) };
+    ghost invariant = { λ p. IsParsing (record {
+      nodes = p.nodes.items;
+      frames = p.frames.items;
+      names = map (λ k. k.now) p.names.keys;
+      has_operand = p.has_operand;
+    }) };
 }
 
 impl<'a, 't, A: Allocator> Parser<'a, 't, A> {
@@ -222,7 +227,8 @@ impl<'a, 't, A: Allocator> Parser<'a, 't, A> {
     fn push_operand(&mut self, node: Node) -> Result<(), AllocError>
         requires { StandsAt (length self.old.names) (length self.old.nodes) node }
         ensures after { OnOk result (self.new ≡ record self.old { nodes = self.old.nodes ++ node ∷ []; has_operand = true }) }
-        ensures reader { OnOk result (reader_of self.new ≡ machine.Having (tree_of (trees self.old.nodes) node) (frames_of (trees self.old.nodes) self.old.frames)) }
+        ensures reader { OnOk result (reader_of self.new ≡ machine.Having (tree_of (trees self.old.nodes) node)
+            (frames_of (trees self.old.nodes) self.old.frames)) }
     {
         self.nodes.push(node)?;
         self.has_operand = true;
@@ -233,7 +239,8 @@ impl<'a, 't, A: Allocator> Parser<'a, 't, A> {
     fn push_pending(&mut self, operator: BinaryOperator) -> Result<(), AllocError>
         requires { self.old.has_operand ≡ true }
         ensures names { OnOk result (self.new.names ≡ self.old.names) }
-        ensures reader { OnOk result ((names : List Name) → machine.read_step names (reader_of self.old) (tokens.BinarySign (binary_of operator)) ≡ Some (reader_of self.new)) }
+        ensures reader { OnOk result ((names : List Name) → machine.read_step names (reader_of self.old) (tokens.BinarySign (binary_of operator))
+            ≡ Some (reader_of self.new)) }
     {
         close(&mut self.nodes, &mut self.frames, left_rank(operator))?;
         self.frames
@@ -246,7 +253,8 @@ impl<'a, 't, A: Allocator> Parser<'a, 't, A> {
     fn close_bracket(&mut self) -> Result<bool, AllocError>
         requires { self.old.has_operand ≡ true }
         ensures names { OnOk result (self.new.names ≡ self.old.names) }
-        ensures reader { IfOk result (λ b. (names : List Name) → machine.read_step names (reader_of self.old) tokens.Close ≡ (if b then Some (reader_of self.new) else None)) }
+        ensures reader { IfOk result (λ b. (names : List Name) → machine.read_step names (reader_of self.old) tokens.Close
+            ≡ (if b then Some (reader_of self.new) else None)) }
     {
         close(&mut self.nodes, &mut self.frames, LOOSEST)?;
         Ok(self.frames.pop().is_some_and(is_bracket))

@@ -229,7 +229,8 @@ impl<'a, A: Allocator> Graph<'a, A> {
     ) -> Result<Forms, AllocError>
         requires left { AreInside self.old a }
         requires right { AreInside self.old b }
-        ensures { IfOk result (λ p. MakesBoth self.old self.new p (both_binary self.old.rewrite (binary_of operator) (forms_at self.old a) (forms_at self.old b))) }
+        ensures { IfOk result (λ p. MakesBoth self.old self.new p
+            (both_binary self.old.rewrite (binary_of operator) (forms_at self.old a) (forms_at self.old b))) }
     {
         match operator {
             BinaryOperator::And => self.and_forms(a, b),

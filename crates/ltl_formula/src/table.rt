@@ -56,8 +56,10 @@ impl<'a, A: Allocator> Table<'a, A> {
 
         // The faults come where a limit is passed. Memory may be refused at any time.
         ensures rows { IsErrOf result BuildFault.TooManyRows → stated_limits.rows < length (rows (core (reading_of formula.now).formula negate rewrite)) }
-        ensures few { IsErrOf result BuildFault.TooManyElementaryRows → length (rows (core (reading_of formula.now).formula negate rewrite)) ≤ stated_limits.rows }
-        ensures elementary { IsErrOf result BuildFault.TooManyElementaryRows → stated_limits.elementary_rows < length (elementary_rows (core (reading_of formula.now).formula negate rewrite)) }
+        ensures few { IsErrOf result BuildFault.TooManyElementaryRows → length
+            (rows (core (reading_of formula.now).formula negate rewrite)) ≤ stated_limits.rows }
+        ensures elementary { IsErrOf result BuildFault.TooManyElementaryRows
+            → stated_limits.elementary_rows < length (elementary_rows (core (reading_of formula.now).formula negate rewrite)) }
     {
         let mut graph = Graph::new(alloc, rewrite)?;
         let root = core_number(alloc, &mut graph, formula, negate)?;
@@ -72,7 +74,8 @@ impl<'a, A: Allocator> Table<'a, A> {
         ensures core { IfOk result (λ t. core_of t ≡ tree_at graph.now.nodes root) }
         ensures rows { IsErrOf result BuildFault.TooManyRows → stated_limits.rows < length (rows (tree_at graph.now.nodes root)) }
         ensures few { IsErrOf result BuildFault.TooManyElementaryRows → length (rows (tree_at graph.now.nodes root)) ≤ stated_limits.rows }
-        ensures elementary { IsErrOf result BuildFault.TooManyElementaryRows → stated_limits.elementary_rows < length (elementary_rows (tree_at graph.now.nodes root)) }
+        ensures elementary { IsErrOf result BuildFault.TooManyElementaryRows
+            → stated_limits.elementary_rows < length (elementary_rows (tree_at graph.now.nodes root)) }
     {
         let numbers = row_numbers(alloc, graph, root)?;
         let rows = numbered_rows(alloc, graph, &numbers)?;

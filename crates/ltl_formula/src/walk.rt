@@ -50,7 +50,8 @@ fn step<A: Allocator>(
     requires numbers { All (λ k. k < length graph.now.nodes) listed.old.items }
     ensures long { OnOk result (length flags.new.items ≡ length graph.now.nodes) }
     ensures flags { OnOk result (AreFlags flags.new.items listed.new.items) }
-    ensures done { OnOk result (IsTaskDone (tree_at graph.now.nodes) (length graph.now.nodes) (map task_of stack.old.items) (task_of task) listed.old.items (map task_of stack.new.items) listed.new.items) }
+    ensures done { OnOk result (IsTaskDone (tree_at graph.now.nodes) (length graph.now.nodes) (map task_of stack.old.items) (task_of task) listed.old.items
+        (map task_of stack.new.items) listed.new.items) }
 {
     match task {
         Task::Leave(k) => {

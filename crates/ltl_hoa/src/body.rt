@@ -45,9 +45,31 @@ impl<'a, A: Allocator> Model for Body<'a, A> {
 
     ghost Value = { BodyView };
 
-    ghost view = { λ b. record { counts = b.counts; defined = b.defined.items; edges = map (λ s. map edge_of s.items) b.edges.items; made = b.made; at = b.at; sets = b.sets; label = b.label; cubes = b.cubes.items; target = b.target; own = b.own } };
+    ghost view = { λ b. record {
+      counts = b.counts;
+      defined = b.defined.items;
+      edges = map (λ s. map edge_of s.items) b.edges.items;
+      made = b.made;
+      at = b.at;
+      sets = b.sets;
+      label = b.label;
+      cubes = b.cubes.items;
+      target = b.target;
+      own = b.own;
+    } };
 
-    ghost invariant = { λ b. IsBody (record { counts = b.counts; defined = b.defined.items; edges = map (λ s. map edge_of s.items) b.edges.items; made = b.made; at = b.at; sets = b.sets; label = b.label; cubes = b.cubes.items; target = b.target; own = b.own }) };
+    ghost invariant = { λ b. IsBody (record {
+      counts = b.counts;
+      defined = b.defined.items;
+      edges = map (λ s. map edge_of s.items) b.edges.items;
+      made = b.made;
+      at = b.at;
+      sets = b.sets;
+      label = b.label;
+      cubes = b.cubes.items;
+      target = b.target;
+      own = b.own;
+    }) };
 }
 
 /// Takes a token where a state may begin, or the end come.
@@ -96,7 +118,8 @@ fn file_all<A: Allocator>(
     target: usize,
     sets: RowSet,
 ) -> Result<(), AllocError>
-    ensures { OnOk result (map edge_of edges.new.items ≡ map edge_of edges.old.items ++ map (λ c. record { cube = c; target = target; marks = sets }) cubes.now) }
+    ensures { OnOk result (map edge_of edges.new.items ≡ map edge_of edges.old.items
+        ++ map (λ c. record { cube = c; target = target; marks = sets }) cubes.now) }
 {
     'cubes: for cube in cubes {
         edges.push(MarkedEdge {

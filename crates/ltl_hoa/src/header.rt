@@ -44,9 +44,21 @@ impl<'a, A: Allocator> Model for Header<'a, A> {
 
     ghost Value = { HeaderView };
 
-    ghost view = { λ h. record { states = h.states; start = h.start; names = option_map (λ v. map string_bytes v.items) h.names; left = h.left; sets = h.sets } };
+    ghost view = { λ h. record {
+      states = h.states;
+      start = h.start;
+      names = option_map (λ v. map string_bytes v.items) h.names;
+      left = h.left;
+      sets = h.sets;
+    } };
 
-    ghost invariant = { λ h. IsHeader (record { states = h.states; start = h.start; names = option_map (λ v. map string_bytes v.items) h.names; left = h.left; sets = h.sets }) };
+    ghost invariant = { λ h. IsHeader (record {
+      states = h.states;
+      start = h.start;
+      names = option_map (λ v. map string_bytes v.items) h.names;
+      left = h.left;
+      sets = h.sets;
+    }) };
 }
 
 /// The fault, but a bad token where none begins or one has no end.

@@ -236,7 +236,8 @@ fn part<'a, A: Allocator>(
     literals: &Cube,
     waiting: &mut Vec<Sides<'a, A>, &'a A>,
 ) -> Result<(), AllocError>
-    ensures joins { OnOk result (SameCubes (flat_map (λ s. joins s.left.items s.right.items) waiting.new.items) (flat_map (λ s. joins s.left.items s.right.items) waiting.old.items ++ joins sides.now.left.items sides.now.right.items)) }
+    ensures joins { OnOk result (SameCubes (flat_map (λ s. joins s.left.items s.right.items) waiting.new.items)
+        (flat_map (λ s. joins s.left.items s.right.items) waiting.old.items ++ joins sides.now.left.items sides.now.right.items)) }
     ensures three { OnOk result (length waiting.new.items ≡ length waiting.old.items + 3) }
 {
     literals.literals_rise();

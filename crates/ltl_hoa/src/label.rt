@@ -27,7 +27,12 @@ impl<'a, A: Allocator> Model for Part<'a, A> {
 
     ghost Value = { PartView };
 
-    ghost view = { λ p. record { positive = p.positive; negated = p.negated; sum = option_map (option_map (λ v. v.items)) p.sum; product = option_map (option_map (λ v. v.items)) p.product } };
+    ghost view = { λ p. record {
+      positive = p.positive;
+      negated = p.negated;
+      sum = option_map (option_map (λ v. v.items)) p.sum;
+      product = option_map (option_map (λ v. v.items)) p.product;
+    } };
 }
 
 /// A part of no label.

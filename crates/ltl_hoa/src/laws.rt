@@ -20,7 +20,8 @@ use crate::marked::MOST_SETS;
 pub fn printed_automata_are_read_back()
     ensures reads { (B : Automaton) (F : Reading) → IsPrinted B F → length (hoa_text B F) ≤ stated_limits.hoa_bytes
         → HoaReadsWithin stated_limits stated_form (hoa_text B F) (marked_of B F.names) }
-    ensures answered { (B : Automaton) (F : Reading) (answer : Result MarkedAutomaton HoaFault) → IsPrinted B F → length (hoa_text B F) ≤ stated_limits.hoa_bytes
+    ensures answered { (B : Automaton) (F : Reading) (answer : Result MarkedAutomaton HoaFault) → IsPrinted B F
+        → length (hoa_text B F) ≤ stated_limits.hoa_bytes
         → Answers (hoa_text B F) answer → IsReadBack B F answer }
 {}
 
@@ -37,7 +38,9 @@ pub fn printed_generalized_automata_are_read_back()
 /// A text reads as an automaton exactly where it has no fault, and then as one alone. So of two answers about it one can't be an automaton and
 /// the other a fault.
 pub fn texts_are_read_one_way()
-    ensures exactly { (text : List ℕ) → (hoa_fault stated_limits stated_form text ≡ None) ↔ ((A : MarkedAutomaton) × HoaReadsWithin stated_limits stated_form text A) }
-    ensures once { (text : List ℕ) (A B : MarkedAutomaton) → HoaReadsWithin stated_limits stated_form text A → HoaReadsWithin stated_limits stated_form text B → A ≡ B }
+    ensures exactly { (text : List ℕ) → (hoa_fault stated_limits stated_form text ≡ None)
+        ↔ ((A : MarkedAutomaton) × HoaReadsWithin stated_limits stated_form text A) }
+    ensures once { (text : List ℕ) (A B : MarkedAutomaton) → HoaReadsWithin stated_limits stated_form text A → HoaReadsWithin stated_limits stated_form text B
+        → A ≡ B }
     ensures alone { (text : List ℕ) (A : MarkedAutomaton) (fault : HoaFault) → Answers text (Ok A) → Answers text (Err fault) → ¬ (IsOfText fault) }
 {}

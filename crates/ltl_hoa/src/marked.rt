@@ -46,9 +46,21 @@ impl<'a, A: Allocator> Model for Marked<'a, A> {
 
     ghost coded = { marked_code };
 
-    ghost view = { λ m. record { states = count m.states.items; start = m.start; sets = m.sets; names = map string_bytes m.names.items; edges = map (λ s. map edge_of s.items) m.states.items } };
+    ghost view = { λ m. record {
+      states = count m.states.items;
+      start = m.start;
+      sets = m.sets;
+      names = map string_bytes m.names.items;
+      edges = map (λ s. map edge_of s.items) m.states.items;
+    } };
 
-    ghost invariant = { λ m. IsMarked (record { states = count m.states.items; start = m.start; sets = m.sets; names = map string_bytes m.names.items; edges = map (λ s. map edge_of s.items) m.states.items }) };
+    ghost invariant = { λ m. IsMarked (record {
+      states = count m.states.items;
+      start = m.start;
+      sets = m.sets;
+      names = map string_bytes m.names.items;
+      edges = map (λ s. map edge_of s.items) m.states.items;
+    }) };
 }
 
 impl<'a, A: Allocator> Marked<'a, A> {
@@ -59,8 +71,20 @@ impl<'a, A: Allocator> Marked<'a, A> {
         names: Vec<String<&'a A>, &'a A>,
         states: Vec<Vec<MarkedEdge, &'a A>, &'a A>,
     ) -> Marked<'a, A>
-        requires { IsMarked (record { states = length states.items; start = start; sets = sets; names = map string_bytes names.items; edges = map (λ s. map edge_of s.items) states.items }) }
-        ensures { result ≡ record { states = length states.entry.items; start = start; sets = sets; names = map string_bytes names.entry.items; edges = map (λ s. map edge_of s.items) states.entry.items } }
+        requires { IsMarked (record {
+          states = length states.items;
+          start = start;
+          sets = sets;
+          names = map string_bytes names.items;
+          edges = map (λ s. map edge_of s.items) states.items;
+        }) }
+        ensures { result ≡ record {
+          states = length states.entry.items;
+          start = start;
+          sets = sets;
+          names = map string_bytes names.entry.items;
+          edges = map (λ s. map edge_of s.items) states.entry.items;
+        } }
     {
         Marked {
             start,

@@ -20,7 +20,8 @@ pub fn hoa_read<'a, A: Allocator, R: Read>(
     reader: &mut R,
 ) -> Result<Marked<'a, A>, HoaFault>
     ensures read { AnswersHeld (R.remaining reader.old) result }
-    ensures taken { MatchResult result (λ _. TakesText (R.remaining reader.old) (R.remaining reader.new)) (λ fault. IsOfText fault → TakesText (R.remaining reader.old) (R.remaining reader.new)) }
+    ensures taken { MatchResult result (λ _. TakesText (R.remaining reader.old) (R.remaining reader.new))
+        (λ fault. IsOfText fault → TakesText (R.remaining reader.old) (R.remaining reader.new)) }
     ensures failed { IsErrOf result HoaFault.CannotRead → TakesFewer (R.remaining reader.old) (R.remaining reader.new) }
     ensures bounded { TakesUpTo (R.remaining reader.old) (R.remaining reader.new) }
 {

@@ -168,7 +168,8 @@ fn unary_row<'a, A: Allocator, C: Allocator>(
     row: &Bits<'a, A>,
 ) -> Result<Bits<'a, A>, AllocError>
     requires { length row.now ≡ size word.now / 64 + 1 }
-    ensures { IfOk result (λ bits. (names : List Name) (F : spec.Formula) → IsRowOf names word.now F row.now → IsRowOf names word.now (spec.Unary (unary_of operator) F) bits) }
+    ensures { IfOk result (λ bits. (names : List Name) (F : spec.Formula) → IsRowOf names word.now F row.now
+        → IsRowOf names word.now (spec.Unary (unary_of operator) F) bits) }
 {
     match operator {
         UnaryOperator::Not => row.inverted(alloc),
@@ -184,7 +185,8 @@ fn always_row<'a, A: Allocator, C: Allocator>(
     row: &Bits<'a, A>,
 ) -> Result<Bits<'a, A>, AllocError>
     requires { length row.now ≡ size word.now / 64 + 1 }
-    ensures { IfOk result (λ bits. (names : List Name) (F : spec.Formula) → IsRowOf names word.now F row.now → IsRowOf names word.now (spec.Unary spec.Always F) bits) }
+    ensures { IfOk result (λ bits. (names : List Name) (F : spec.Formula) → IsRowOf names word.now F row.now
+        → IsRowOf names word.now (spec.Unary spec.Always F) bits) }
 {
     let going = Going {
         left: None,
@@ -200,7 +202,8 @@ fn eventually_row<'a, A: Allocator, C: Allocator>(
     row: &Bits<'a, A>,
 ) -> Result<Bits<'a, A>, AllocError>
     requires { length row.now ≡ size word.now / 64 + 1 }
-    ensures { IfOk result (λ bits. (names : List Name) (F : spec.Formula) → IsRowOf names word.now F row.now → IsRowOf names word.now (spec.Unary spec.Eventually F) bits) }
+    ensures { IfOk result (λ bits. (names : List Name) (F : spec.Formula) → IsRowOf names word.now F row.now
+        → IsRowOf names word.now (spec.Unary spec.Eventually F) bits) }
 {
     let going = Going {
         left: None,
@@ -237,7 +240,8 @@ fn binary_row<'a, A: Allocator, C: Allocator>(
 ) -> Result<Bits<'a, A>, AllocError>
     requires left { length left.now ≡ size word.now / 64 + 1 }
     requires right { length right.now ≡ size word.now / 64 + 1 }
-    ensures { IfOk result (λ bits. (names : List Name) (F G : spec.Formula) → IsRowOf names word.now F left.now → IsRowOf names word.now G right.now → IsRowOf names word.now (spec.Binary (binary_of operator) F G) bits) }
+    ensures { IfOk result (λ bits. (names : List Name) (F G : spec.Formula) → IsRowOf names word.now F left.now → IsRowOf names word.now G right.now
+        → IsRowOf names word.now (spec.Binary (binary_of operator) F G) bits) }
 {
     match operator {
         BinaryOperator::And => left.with(alloc, Junction::And, right),
@@ -258,7 +262,8 @@ fn going_row<'a, A: Allocator, C: Allocator>(
 ) -> Result<Bits<'a, A>, AllocError>
     requires left { length left.now ≡ size word.now / 64 + 1 }
     requires right { length right.now ≡ size word.now / 64 + 1 }
-    ensures { IfOk result (λ bits. (names : List Name) (F G : spec.Formula) → IsRowOf names word.now F left.now → IsRowOf names word.now G right.now → IsRowOf names word.now (spec.Binary (going_of is_release) F G) bits) }
+    ensures { IfOk result (λ bits. (names : List Name) (F G : spec.Formula) → IsRowOf names word.now F left.now → IsRowOf names word.now G right.now
+        → IsRowOf names word.now (spec.Binary (going_of is_release) F G) bits) }
 {
     let going = Going {
         left: Some(left),

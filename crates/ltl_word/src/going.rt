@@ -49,7 +49,8 @@ impl<'r, 'a, A: Allocator> Going<'r, 'a, A> {
     fn last_word(&self, count: usize, later: bool) -> u64
         requires right { count / 64 < length self.now.right.now }
         requires left { IsLong count (option_map (λ b. b.now) self.now.left) }
-        ensures { IsBackWord (left_at self.now.negated (option_map (λ b. b.now) self.now.left)) (right_at self.now.negated self.now.right.now) count later (count / 64 * 64) result }
+        ensures { IsBackWord (left_at self.now.negated (option_map (λ b. b.now) self.now.left)) (right_at self.now.negated self.now.right.now) count later
+            (count / 64 * 64) result }
     {
         let left = with_bit(self.left_word(count / 64), count % 64, false);
         let right = with_bit(self.right_word(count / 64), count % 64, later);
@@ -60,7 +61,8 @@ impl<'r, 'a, A: Allocator> Going<'r, 'a, A> {
     fn pass(&self, alloc: &'a A, count: usize, later: bool) -> Result<Bits<'a, A>, AllocError>
         requires right { count / 64 < length self.now.right.now }
         requires left { IsLong count (option_map (λ b. b.now) self.now.left) }
-        ensures { IfOk result (IsBackRow self.now.negated (left_at self.now.negated (option_map (λ b. b.now) self.now.left)) (right_at self.now.negated self.now.right.now) count later) }
+        ensures { IfOk result (IsBackRow self.now.negated (left_at self.now.negated (option_map (λ b. b.now) self.now.left))
+            (right_at self.now.negated self.now.right.now) count later) }
     {
         let mut row = Bits::all(alloc, count, false)?;
         let mut word = self.last_word(count, later);

@@ -14,7 +14,8 @@ use std::alloc::Allocator;
 
 /// The text of a word is read back as that word, if it is within the limit, beside a formula with which the names are within theirs.
 pub fn text_is_read_back<A: Allocator>(word: &Lasso<'_, A>)
-    ensures { (names : List words.Name) → length (lasso_text word.now) ≤ TEXT_LIMIT → ¬ (HasTooManyNames NAME_LIMIT names word.now) → IsReadAs names (lasso_text word.now) word.now }
+    ensures { (names : List words.Name) → length (lasso_text word.now) ≤ TEXT_LIMIT → ¬ (HasTooManyNames NAME_LIMIT names word.now)
+        → IsReadAs names (lasso_text word.now) word.now }
 {
     let _ = &word.letters;
 }
@@ -22,7 +23,8 @@ pub fn text_is_read_back<A: Allocator>(word: &Lasso<'_, A>)
 /// A text is read as one word at most, and what is read is refused for want of memory alone.
 pub fn texts_are_read_one_way()
     ensures once { (names : List words.Name) (text : List ℕ) (v w : words.Lasso) → IsReadAs names text v → IsReadAs names text w → v ≡ w }
-    ensures alone { (names : List words.Name) (text : List ℕ) (w : words.Lasso) (fault : WordFault) → IsReadAs names text w → IsRefusedFor names text fault → fault ≡ WordFault.OutOfMemory }
+    ensures alone { (names : List words.Name) (text : List ℕ) (w : words.Lasso) (fault : WordFault) → IsReadAs names text w → IsRefusedFor names text fault
+        → fault ≡ WordFault.OutOfMemory }
 {}
 
 /// A word has one least form, and the same formulas hold on it.

@@ -83,7 +83,8 @@ impl<'t, 'a, A: Allocator> NameList<'t, 'a, A> {
 
     /// Puts a name, if there are not too many then.
     fn add(&mut self, name: &'t [u8]) -> Result<(), WordFault>
-        ensures { MatchResult result (λ _. (self.new ≡ sets.put name_cmp name.now self.old) × (length self.new ≤ NAME_LIMIT)) (RefusesNames (length (sets.put name_cmp name.now self.old))) }
+        ensures { MatchResult result (λ _. (self.new ≡ sets.put name_cmp name.now self.old) × (length self.new ≤ NAME_LIMIT))
+            (RefusesNames (length (sets.put name_cmp name.now self.old))) }
     {
         self.put(name)?;
         if self.len() > NAME_LIMIT {
@@ -95,7 +96,8 @@ impl<'t, 'a, A: Allocator> NameList<'t, 'a, A> {
     /// Puts the names of a letter.
     fn add_letter(&mut self, letter: &[&'t [u8]]) -> Result<(), WordFault>
         requires { length self.old ≤ NAME_LIMIT }
-        ensures { MatchResult result (λ _. AddsNames self.old (map (λ n. n.now) letter.now) self.new) (RefusesNames (length (with_names self.old (map (λ n. n.now) letter.now)))) }
+        ensures { MatchResult result (λ _. AddsNames self.old (map (λ n. n.now) letter.now) self.new)
+            (RefusesNames (length (with_names self.old (map (λ n. n.now) letter.now)))) }
     {
         for i in 0..letter.len() {
             self.add(letter[i])?;
@@ -138,7 +140,8 @@ pub(crate) fn gather<'t, 'a, A: Allocator, B: Allocator>(
     formula: &'t Formula<'_, B>,
     word: &Written<'t, 'a, A>,
 ) -> Result<NameList<'t, 'a, A>, WordFault>
-    ensures { MatchResult result (AddsNames [] (formula.now.names ++ names_in (letters_of word.now))) (RefusesNames (length (with_names [] (formula.now.names ++ names_in (letters_of word.now))))) }
+    ensures { MatchResult result (AddsNames [] (formula.now.names ++ names_in (letters_of word.now)))
+        (RefusesNames (length (with_names [] (formula.now.names ++ names_in (letters_of word.now))))) }
 {
     let mut names = NameList::new(alloc);
     for number in 0..formula.name_count() {

@@ -32,7 +32,8 @@ fn put_other_names<A: Allocator, W: Write>(
     writer: &mut W,
 ) -> Result<(), WriteFault>
     requires { AllByRecursion (λ i. i < length names.now) places }
-    ensures { Puts result (W.contents writer.old) piece.old (W.contents writer.new) piece.new (flat_map (λ n. codes "," ++ n) (letter_of (map (λ n. n.items) names.now) places)) }
+    ensures { Puts result (W.contents writer.old) piece.old (W.contents writer.new) piece.new
+        (flat_map (λ n. codes "," ++ n) (letter_of (map (λ n. n.items) names.now) places)) }
 {
     for place in places {
         put_next_name(names[place].as_slice(), piece, writer)?;
@@ -48,7 +49,8 @@ fn put_names<A: Allocator, W: Write>(
     writer: &mut W,
 ) -> Result<(), WriteFault>
     requires { AllByRecursion (λ i. i < length names.now) letter.now }
-    ensures { Puts result (W.contents writer.old) piece.old (W.contents writer.new) piece.new (joined_by (codes ",") (letter_of (map (λ n. n.items) names.now) letter.now)) }
+    ensures { Puts result (W.contents writer.old) piece.old (W.contents writer.new) piece.new
+        (joined_by (codes ",") (letter_of (map (λ n. n.items) names.now) letter.now)) }
 {
     let mut places = letter.iter();
     let Some(first) = places.next() else {
@@ -66,7 +68,8 @@ fn put_letter<A: Allocator, W: Write>(
     writer: &mut W,
 ) -> Result<(), WriteFault>
     requires { AllByRecursion (λ i. i < length names.now) letter.now }
-    ensures { Puts result (W.contents writer.old) piece.old (W.contents writer.new) piece.new (letter_text (letter_of (map (λ n. n.items) names.now) letter.now)) }
+    ensures { Puts result (W.contents writer.old) piece.old (W.contents writer.new) piece.new
+        (letter_text (letter_of (map (λ n. n.items) names.now) letter.now)) }
 {
     piece.put(b"{", writer)?;
     put_names(names, letter, piece, writer)?;
@@ -81,7 +84,8 @@ fn put_stem<A: Allocator, W: Write>(
     writer: &mut W,
 ) -> Result<(), WriteFault>
     requires { AllByRecursion (AllByRecursion (λ i. i < length names.now)) letters.now }
-    ensures { Puts result (W.contents writer.old) piece.old (W.contents writer.new) piece.new (flat_map (λ a. letter_text a ++ codes "; ") (map (letter_of (map (λ n. n.items) names.now)) letters.now)) }
+    ensures { Puts result (W.contents writer.old) piece.old (W.contents writer.new) piece.new
+        (flat_map (λ a. letter_text a ++ codes "; ") (map (letter_of (map (λ n. n.items) names.now)) letters.now)) }
 {
     for i in 0..letters.len() {
         put_letter(names, &letters[i], piece, writer)?;
@@ -98,7 +102,8 @@ fn put_other_letters<A: Allocator, W: Write>(
     writer: &mut W,
 ) -> Result<(), WriteFault>
     requires { AllByRecursion (AllByRecursion (λ i. i < length names.now)) letters.now }
-    ensures { Puts result (W.contents writer.old) piece.old (W.contents writer.new) piece.new (flat_map (λ a. codes "; " ++ letter_text a) (map (letter_of (map (λ n. n.items) names.now)) letters.now)) }
+    ensures { Puts result (W.contents writer.old) piece.old (W.contents writer.new) piece.new
+        (flat_map (λ a. codes "; " ++ letter_text a) (map (letter_of (map (λ n. n.items) names.now)) letters.now)) }
 {
     for i in 0..letters.len() {
         piece.put(b"; ", writer)?;
@@ -115,7 +120,8 @@ fn put_cycle<A: Allocator, W: Write>(
     writer: &mut W,
 ) -> Result<(), WriteFault>
     requires { AllByRecursion (AllByRecursion (λ i. i < length names.now)) letters.now }
-    ensures { Puts result (W.contents writer.old) piece.old (W.contents writer.new) piece.new (joined_by (codes "; ") (map letter_text (map (letter_of (map (λ n. n.items) names.now)) letters.now))) }
+    ensures { Puts result (W.contents writer.old) piece.old (W.contents writer.new) piece.new
+        (joined_by (codes "; ") (map letter_text (map (letter_of (map (λ n. n.items) names.now)) letters.now))) }
 {
     let Some((first, others)) = letters.split_first() else {
         return Ok(());

@@ -59,7 +59,12 @@ impl<'t, 'a, A: Allocator> Written<'t, 'a, A> {
         stem: Letters<'t, 'a, A>,
         cycle: Letters<'t, 'a, A>,
     ) -> Written<'t, 'a, A>
-        ensures { result ≡ record { in_cycle = true; stem = map (λ a. map (λ n. n.now) a.items) stem.entry.items; cycle = map (λ a. map (λ n. n.now) a.items) cycle.entry.items; letter = [] } }
+        ensures { result ≡ record {
+          in_cycle = true;
+          stem = map (λ a. map (λ n. n.now) a.items) stem.entry.items;
+          cycle = map (λ a. map (λ n. n.now) a.items) cycle.entry.items;
+          letter = [];
+        } }
     {
         Written {
             alloc,
@@ -94,7 +99,8 @@ impl<'t, 'a, A: Allocator> Written<'t, 'a, A> {
 
     /// Ends the open letter.
     pub(crate) fn close(&mut self) -> Result<(), AllocError>
-        ensures { OnOk result ((text : List ℕ) (at : ℕ) → after text at AfterLetter self.new ≡ machine.closed self.old.in_cycle self.old.stem self.old.cycle self.old.letter) }
+        ensures { OnOk result ((text : List ℕ) (at : ℕ) → after text at AfterLetter self.new
+            ≡ machine.closed self.old.in_cycle self.old.stem self.old.cycle self.old.letter) }
     {
         let letter = std::mem::replace(&mut self.letter, SmallVec::new(self.alloc));
         if self.in_cycle {
