@@ -142,7 +142,8 @@ impl<'a, A: Allocator> Lasso<'a, A> {
         put_cycle(names, cycle, piece, writer)
     }
 
-    /// Writes the text of the word, the names of each letter sorted by their bytes, each once, in pieces of up to 4 KiB. No memory is taken.
+    /// Writes the text of the word, the names of each letter sorted by their bytes, each once, in pieces of up to 4 KiB, and a longer name by
+    /// itself. No memory is taken.
     pub fn text_to<W: Write>(&self, w: &mut W) -> Result<(), WriteFault>
         ensures ok { OnOk result (Appends (W.contents w.old) (W.contents w.new) (lasso_text self.now)) }
         ensures err { OnErr result (AppendsBeginning (W.contents w.old) (W.contents w.new) (lasso_text self.now)) }
