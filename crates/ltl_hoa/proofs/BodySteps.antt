@@ -24,7 +24,7 @@ use Rattle.ltl_hoa.specs.declared.place.Place.TheVariants as place
 use Rattle.ltl_hoa.specs.declared.place.BodyPlace.{BodyPlace}
 use Rattle.ltl_hoa.specs.declared.place.BodyPlace.TheVariants as at
 use Rattle.ltl_hoa.specs.NumberView.{capped}
-use Rattle.ltl_hoa.specs.LabelView as label
+use Rattle.ltl_label.specs.LabelView as label
 use Rattle.ltl_hoa.specs.BodyView as view
 use Rattle.ltl_hoa.specs.BodyView.{BodyView, Led}
 use Rattle.ltl_hoa.specs.Shown.{Came, CameEdge, IsShown, ShowsBody, ShowsBodyPlace, AreAt, AreFiled, AreOpen, is_open, first_or, with_set, cube_edges, edges_of, shown_label, shown_part, shown_around, sign_within, came_in}

@@ -1,11 +1,9 @@
 pub mod BodyLaws
 pub mod BodySteps
 pub mod CameLaws
-pub mod CubeLists
 pub mod EdgeLaws
 pub mod EndLaws
 pub mod ItemLaws
-pub mod JoinedLaws
 pub mod LabelLaws
 pub mod LexLaws
 pub mod MachineLaws

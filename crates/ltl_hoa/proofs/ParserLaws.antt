@@ -26,7 +26,7 @@ use Rattle.ltl_hoa.specs.declared.place.Place.TheVariants as place
 use Rattle.ltl_hoa.specs.declared.place.BodyPlace.{BodyPlace}
 use Rattle.ltl_hoa.specs.declared.place.BodyPlace.TheVariants as at
 use Rattle.ltl_hoa.specs.NumberView.{capped}
-use Rattle.ltl_hoa.specs.LabelView as label
+use Rattle.ltl_label.specs.LabelView as label
 use Rattle.ltl_hoa.specs.HeaderView as header
 use Rattle.ltl_hoa.specs.HeaderView.{Refuses, Leads}
 use Rattle.ltl_hoa.specs.BodyView as body

@@ -18,8 +18,8 @@ use Rattle.ltl_hoa.specs.declared.place.Place.TheVariants.{Body, End}
 use Rattle.ltl_hoa.specs.declared.place.BodyPlace.{BodyPlace}
 use Rattle.ltl_hoa.specs.declared.place.BodyPlace.TheVariants as at
 use Rattle.ltl_hoa.specs.NumberView.{capped}
-use Rattle.ltl_hoa.specs.LabelView as label
-use Rattle.ltl_hoa.specs.LabelView.{LabelView}
+use Rattle.ltl_label.specs.LabelView as label
+use Rattle.ltl_label.specs.LabelView.{LabelView}
 use Rattle.ltl_hoa.specs.HeaderView.{Refuses}
 use Rattle.ltl_hoa.specs.TokenView.{kind_of}
 

@@ -1,7 +1,5 @@
 pub mod BodyView
-pub mod CubesView
 pub mod HeaderView
-pub mod LabelView
 pub mod LexerView
 pub mod MachineView
 pub mod MarkedView

@@ -26,7 +26,7 @@ use Rattle.ltl_hoa.specs.declared.place.BodyPlace.{BodyPlace}
 use Rattle.ltl_hoa.specs.declared.place.BodyPlace.TheVariants as at
 use Rattle.ltl_hoa.specs.declared.header.Counts.{Counts}
 use Rattle.ltl_hoa.specs.NumberView.{capped}
-use Rattle.ltl_hoa.specs.LabelView.{LabelView, PartView}
+use Rattle.ltl_label.specs.LabelView.{LabelView, PartView}
 use Rattle.ltl_hoa.specs.HeaderView.{HeaderView}
 use Rattle.ltl_hoa.specs.BodyView.{BodyView}
 use Rattle.ltl_hoa.specs.ParserView.{ParserView}

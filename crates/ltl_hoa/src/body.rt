@@ -6,14 +6,13 @@ ghost use Rattle.ltl_hoa.specs.MarkedView.{edge_of};
 ghost use Rattle.ltl_hoa.specs.BodyView as view;
 ghost use Rattle.ltl_hoa.specs.BodyView.{BodyLeads};
 
-use crate::cubes::CubeList;
 use crate::fault::{HoaFaultKind, Stop};
 use crate::header::Counts;
-use crate::label::Label;
 use crate::marked::{MOST_EDGES, MOST_NAMES, MOST_SETS, MarkedEdge};
 use crate::number::number;
 use crate::place::{BodyPlace, Place};
 use crate::token::TokenKind;
+use ltl_label::{CubeList, Label};
 use ltl_sets::{Cube, RowSet};
 use smallvec::SmallVec;
 use std::alloc::{AllocError, Allocator};

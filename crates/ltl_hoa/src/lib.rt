@@ -23,11 +23,8 @@
 
 mod body;
 mod bytes;
-mod cubes;
 pub mod fault;
 mod header;
-mod joins;
-mod label;
 pub mod laws;
 mod lexer;
 mod machine;
@@ -35,7 +32,6 @@ pub mod marked;
 mod names;
 mod number;
 mod parser;
-mod parting;
 mod place;
 mod read;
 mod token;

@@ -1,0 +1,2 @@
+pub mod CubeLists
+pub mod JoinedLaws

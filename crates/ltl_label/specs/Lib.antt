@@ -1,0 +1,2 @@
+pub mod CubesView
+pub mod LabelView

@@ -1,0 +1,151 @@
+//! Sets of cubes of a label's parts, each at most of a size.
+
+ghost use Rattle.std.specs.Prelude.{◌≡◌, ◌<◌, ◌≤◌, ◌++◌, length, IfOk, IfErr, OnOk, option_map};
+ghost use Rattle.ltl_spec.specs.Collections.Sets as spec_sets;
+ghost use Rattle.ltl_spec.specs.Transitions.Cubes as spec_cubes;
+ghost use Rattle.ltl_label.specs.CubesView.{SameCubes, both_cubes, constant_cubes, few, literal_cubes};
+
+use crate::joins::join;
+use ltl_sets::{Cube, RowSet};
+use smallvec::SmallVec;
+use std::alloc::{AllocError, Allocator};
+use std::cmp::Ordering;
+
+/// The most cubes that a part of a label may have.
+pub const MOST_CUBES: usize = 4_096;
+
+/// Cubes, of which one takes no memory.
+pub type CubeList<'a, A> = SmallVec<Cube, 1, &'a A>;
+
+/// The cubes of a part of a label; `None` where the part, or one inside it, has more than `MOST_CUBES`.
+pub type Cubes<'a, A> = Option<CubeList<'a, A>>;
+
+/// Up to so many cubes are put into others one by one, without sorting them.
+const MOST_INSERTED: usize = 8;
+
+/// Sorts the cubes, and keeps each once.
+pub(crate) fn make_distinct<A: Allocator>(cubes: &mut CubeList<'_, A>)
+    ensures { cubes.new.items ≡ spec_sets.set_of spec_cubes.cube_cmp cubes.old.items }
+{
+    cubes.sort_unstable_by(|c, d| c.cmp_list(d));
+    cubes.dedup();
+}
+
+/// The cubes, unless there are too many.
+pub(crate) fn few<'a, A: Allocator>(cubes: CubeList<'a, A>) -> Cubes<'a, A>
+    ensures { option_map (λ v. v.items) result ≡ few cubes.entry.items }
+{
+    if cubes.len() > MOST_CUBES {
+        None
+    } else {
+        Some(cubes)
+    }
+}
+
+/// The cubes of a constant.
+pub(crate) fn constant<'a, A: Allocator>(
+    alloc: &'a A,
+    value: bool,
+) -> Result<Cubes<'a, A>, AllocError>
+    ensures { IfOk result (λ r. option_map (λ v. v.items) r ≡ constant_cubes value) }
+{
+    let mut cubes = SmallVec::new(alloc);
+    if value {
+        cubes.push(Cube::empty())?;
+    }
+    Ok(Some(cubes))
+}
+
+/// The cube of one literal.
+pub(crate) fn literal<'a, A: Allocator>(
+    alloc: &'a A,
+    proposition: usize,
+    sign: bool,
+) -> Result<Cubes<'a, A>, AllocError>
+    requires { proposition < RowSet.LIMIT }
+    ensures { IfOk result (λ r. option_map (λ v. v.items) r ≡ literal_cubes proposition sign) }
+{
+    let mut cubes = SmallVec::new(alloc);
+    cubes.push(Cube::literal(proposition, sign))?;
+    Ok(Some(cubes))
+}
+
+/// Where the cube stands in a rising list, or where it would. Of another list the answer may be that the cube isn't there.
+pub(crate) fn place_of(cubes: &[Cube], cube: &Cube) -> Result<usize, usize>
+    ensures found { IfOk result (λ i. spec_sets.Has cubes.now cube.now) }
+    ensures within { IfErr result (λ i. i ≤ length cubes.now) }
+{
+    let (mut low, mut high) = (0, cubes.len());
+    'halves: while low < high {
+        let middle = low + (high - low) / 2;
+        match cubes[middle].cmp_list(cube) {
+            Ordering::Less => low = middle + 1,
+            Ordering::Equal => return Ok(middle),
+            Ordering::Greater => high = middle,
+        }
+    }
+    Err(low)
+}
+
+/// The same, looking first at the place where the cube is likely to stand.
+pub(crate) fn place_near(cubes: &[Cube], likely: usize, cube: &Cube) -> Result<usize, usize>
+    ensures found { IfOk result (λ i. spec_sets.Has cubes.now cube.now) }
+    ensures within { IfErr result (λ i. i ≤ length cubes.now) }
+{
+    if likely < cubes.len() {
+        if let Ordering::Equal = cubes[likely].cmp_list(cube) {
+            return Ok(likely);
+        }
+    }
+    place_of(cubes, cube)
+}
+
+/// Puts each cube of a short list into the cubes.
+fn insert_each<A: Allocator>(cubes: &mut CubeList<'_, A>, more: &[Cube]) -> Result<(), AllocError>
+    ensures { OnOk result (SameCubes cubes.new.items (cubes.old.items ++ more.now)) }
+{
+    'more: for cube in more {
+        match place_of(cubes.as_slice(), cube) {
+            Ok(_) => {}
+            Err(place) => cubes.insert(place, *cube)?,
+        }
+    }
+    Ok(())
+}
+
+/// The cubes of both sides.
+fn unite<'a, A: Allocator>(
+    mut left: CubeList<'a, A>,
+    right: &[Cube],
+) -> Result<Cubes<'a, A>, AllocError>
+    ensures { IfOk result (λ r. option_map (λ v. v.items) r ≡ few (spec_sets.set_of spec_cubes.cube_cmp (left.entry.items ++ right.now))) }
+{
+    if right.len() <= MOST_INSERTED {
+        insert_each(&mut left, right)?;
+    } else {
+        left.extend_from_slice(right)?;
+    }
+    make_distinct(&mut left);
+    Ok(few(left))
+}
+
+/// The cubes of two parts: where `meet`, of their conjunction, else of their disjunction.
+pub(crate) fn both<'a, A: Allocator>(
+    alloc: &'a A,
+    meet: bool,
+    left: Cubes<'a, A>,
+    right: Cubes<'a, A>,
+) -> Result<Cubes<'a, A>, AllocError>
+    ensures { IfOk result (λ r. option_map (λ v. v.items) r ≡ both_cubes meet (option_map (λ v. v.items) left.entry) (option_map (λ v. v.items) right.entry)) }
+{
+    match (left, right) {
+        (Some(left), Some(right)) => {
+            if meet {
+                join(alloc, left, right)
+            } else {
+                unite(left, right.as_slice())
+            }
+        }
+        _ => Ok(None),
+    }
+}

@@ -1,0 +1,279 @@
+//! Joins of two sets of cubes. Large sets are parted by literals, so that most cubes that contradict each other, or that make what others
+//! make, are never joined.
+
+ghost use Rattle.std.specs.Prelude.{◌≡◌, ◌++◌, ◌+◌, length, flat_map, filter_map, IfOk, OnOk, option_map, true, false};
+ghost use Rattle.std.specs.Bool.{beq};
+ghost use Rattle.std.specs.List.{filter};
+ghost use Rattle.ltl_spec.specs.Collections.Sets as spec_sets;
+ghost use Rattle.ltl_spec.specs.Transitions.Cubes as spec_cubes;
+ghost use Rattle.ltl_label.specs.CubesView.{HasFew, SameCubes, few, joined_cubes, joins};
+
+use crate::cubes::{CubeList, Cubes, MOST_CUBES, few, make_distinct, place_near};
+use crate::parting::parting_literals;
+use ltl_sets::Cube;
+use smallvec::SmallVec;
+use std::alloc::{AllocError, Allocator};
+
+/// How often sets are parted for one join.
+const MOST_PARTINGS: usize = 16_384;
+
+/// How many joins may wait at a time.
+const MOST_WAITING: usize = 64;
+
+/// Two sets of cubes, of which each cube of the one is to be joined with each of the other.
+#[derive(Drop)]
+struct Sides<'a, A: Allocator> {
+    left: CubeList<'a, A>,
+    right: CubeList<'a, A>,
+}
+
+/// Puts the joins of a cube with each of a list behind the others.
+fn join_one<A: Allocator>(
+    joined: &mut CubeList<'_, A>,
+    left: &Cube,
+    right: &[Cube],
+) -> Result<(), AllocError>
+    ensures { OnOk result (joined.new.items ≡ joined.old.items ++ filter_map (spec_cubes.join_cubes left.now) right.now) }
+{
+    'right: for cube in right {
+        if let Some(cube) = left.join(cube) {
+            joined.push(cube)?;
+        }
+    }
+    Ok(())
+}
+
+/// Puts one cube of each side joined, in every way, behind the others; false where there are too many. No more than twice as many as may be are
+/// held at a time.
+fn join_each<A: Allocator>(
+    joined: &mut CubeList<'_, A>,
+    left: &[Cube],
+    right: &[Cube],
+) -> Result<bool, AllocError>
+    ensures { IfOk result (λ is_few. HasFew (joined.old.items ++ joins left.now right.now) is_few joined.new.items) }
+{
+    'left: for cube in left {
+        join_one(joined, cube, right)?;
+        if joined.len() > MOST_CUBES {
+            make_distinct(joined);
+            if joined.len() > MOST_CUBES {
+                return Ok(false);
+            }
+        }
+    }
+    Ok(true)
+}
+
+/// Puts the cubes behind the others; false where there are too many.
+fn put_behind<A: Allocator>(joined: &mut CubeList<'_, A>, made: &[Cube]) -> Result<bool, AllocError>
+    ensures { IfOk result (λ is_few. HasFew (joined.old.items ++ made.now) is_few joined.new.items) }
+{
+    joined.extend_from_slice(made)?;
+    if joined.len() > 2 * MOST_CUBES {
+        make_distinct(joined);
+        if joined.len() > MOST_CUBES {
+            return Ok(false);
+        }
+    }
+    Ok(true)
+}
+
+/// Puts one cube of each side joined, in every way, behind the others; false where there are too many. Behind others each comes once, so that these
+/// are seldom sorted.
+fn join_sides<'a, A: Allocator>(
+    alloc: &'a A,
+    joined: &mut CubeList<'_, A>,
+    sides: &Sides<'a, A>,
+) -> Result<bool, AllocError>
+    ensures { IfOk result (λ is_few. HasFew (joined.old.items ++ joins sides.now.left.items sides.now.right.items) is_few joined.new.items) }
+{
+    if joined.is_empty() {
+        return join_each(joined, sides.left.as_slice(), sides.right.as_slice());
+    }
+    let mut made = SmallVec::new(alloc);
+    if !join_each(&mut made, sides.left.as_slice(), sides.right.as_slice())? {
+        return Ok(false);
+    }
+    make_distinct(&mut made);
+    put_behind(joined, made.as_slice())
+}
+
+/// The cubes that have all of these literals, or else those that don't.
+fn having<'a, A: Allocator>(
+    alloc: &'a A,
+    cubes: &[Cube],
+    literals: &Cube,
+    all: bool,
+) -> Result<CubeList<'a, A>, AllocError>
+    ensures { IfOk result (λ r. r.items ≡ filter (λ c. beq (spec_sets.is_subset spec_cubes.literal_cmp literals.now c) all) cubes.now) }
+{
+    let mut found = SmallVec::new(alloc);
+    'cubes: for cube in cubes {
+        if literals.implies_of(cube) == all {
+            found.push(*cube)?;
+        }
+    }
+    Ok(found)
+}
+
+/// What the cubes join to with these literals and isn't among the others. As a rule the others stand in the order in which they are found.
+fn widened<'a, A: Allocator>(
+    alloc: &'a A,
+    cubes: &[Cube],
+    literals: &Cube,
+    others: &[Cube],
+) -> Result<CubeList<'a, A>, AllocError>
+    ensures { IfOk result (λ r. SameCubes (others.now ++ r.items) (others.now ++ filter_map (λ c. spec_cubes.join_cubes c literals.now) cubes.now)) }
+{
+    let mut made = SmallVec::new(alloc);
+    let mut likely = 0usize;
+    'cubes: for cube in cubes {
+        if let Some(cube) = cube.join(literals) {
+            match place_near(others, likely, &cube) {
+                Ok(place) => likely = place.saturating_add(1),
+                Err(_) => made.push(cube)?,
+            }
+        }
+    }
+    Ok(made)
+}
+
+/// For proofs: each cube is a set of literals.
+fn cubes_rise(cubes: &[Cube])
+    ensures { (c : spec_cubes.Cube) → spec_sets.Has cubes.now c → spec_sets.IsRising spec_cubes.literal_cmp c }
+{
+    'cubes: for cube in cubes {
+        cube.literals_rise();
+    }
+}
+
+/// A side, parted by some literals: the cubes that have them all, those that don't, and what those join to with the literals and isn't among the
+/// first.
+#[derive(Drop)]
+struct Parted<'a, A: Allocator> {
+    with: CubeList<'a, A>,
+    without: CubeList<'a, A>,
+    made: CubeList<'a, A>,
+}
+
+/// The side of these cubes, parted by these literals.
+fn side_by<'a, A: Allocator>(
+    alloc: &'a A,
+    cubes: &[Cube],
+    literals: &Cube,
+) -> Result<Parted<'a, A>, AllocError>
+    ensures with { IfOk result (λ p. p.with.items ≡ filter (λ c. beq (spec_sets.is_subset spec_cubes.literal_cmp literals.now c) true) cubes.now) }
+    ensures without { IfOk result (λ p. p.without.items ≡ filter (λ c. beq (spec_sets.is_subset spec_cubes.literal_cmp literals.now c) false) cubes.now) }
+    ensures made { IfOk result (λ p. SameCubes (p.with.items ++ p.made.items)
+        (p.with.items ++ filter_map (λ c. spec_cubes.join_cubes c literals.now) p.without.items)) }
+{
+    let with = having(alloc, cubes, literals, true)?;
+    let without = having(alloc, cubes, literals, false)?;
+    let made = widened(alloc, without.as_slice(), literals, with.as_slice())?;
+    Ok(Parted {
+        with,
+        without,
+        made,
+    })
+}
+
+/// The cubes of a side that have the literals and those that were made, each once.
+fn all_with<'a, A: Allocator>(
+    alloc: &'a A,
+    side: &Parted<'_, A>,
+) -> Result<CubeList<'a, A>, AllocError>
+    ensures { IfOk result (λ r. r.items ≡ spec_sets.set_of spec_cubes.cube_cmp (side.now.with.items ++ side.now.made.items)) }
+{
+    let mut all = SmallVec::new(alloc);
+    all.extend_from_slice(side.with.as_slice())?;
+    all.extend_from_slice(side.made.as_slice())?;
+    make_distinct(&mut all);
+    Ok(all)
+}
+
+/// Lets what lacks the literals on both sides wait, then what was made on the left and what has them on the right, then what has them on the left
+/// and all of the right.
+fn put_waiting<'a, A: Allocator>(
+    waiting: &mut Vec<Sides<'a, A>, &'a A>,
+    left: Parted<'a, A>,
+    right: Parted<'a, A>,
+    right_all: CubeList<'a, A>,
+) -> Result<(), AllocError>
+    ensures joins { OnOk result (SameCubes (flat_map (λ s. joins s.left.items s.right.items) waiting.new.items)
+        (flat_map (λ s. joins s.left.items s.right.items) waiting.old.items ++ (joins left.entry.without.items right.entry.without.items
+        ++ (joins left.entry.made.items right.entry.with.items ++ joins left.entry.with.items right_all.entry.items)))) }
+    ensures three { OnOk result (length waiting.new.items ≡ length waiting.old.items + 3) }
+{
+    let Parted {
+        with: left_with,
+        without: left_without,
+        made,
+    } = left;
+    let Parted {
+        with: right_with,
+        without: right_without,
+        made: _,
+    } = right;
+    waiting.push(Sides {
+        left: left_without,
+        right: right_without,
+    })?;
+    waiting.push(Sides {
+        left: made,
+        right: right_with,
+    })?;
+    waiting.push(Sides {
+        left: left_with,
+        right: right_all,
+    })?;
+    Ok(())
+}
+
+/// Parts both sides by whether their cubes have these literals. Whatever joins to a cube with them is joined with them before.
+fn part<'a, A: Allocator>(
+    alloc: &'a A,
+    sides: &Sides<'a, A>,
+    literals: &Cube,
+    waiting: &mut Vec<Sides<'a, A>, &'a A>,
+) -> Result<(), AllocError>
+    ensures joins { OnOk result (SameCubes (flat_map (λ s. joins s.left.items s.right.items) waiting.new.items)
+        (flat_map (λ s. joins s.left.items s.right.items) waiting.old.items ++ joins sides.now.left.items sides.now.right.items)) }
+    ensures three { OnOk result (length waiting.new.items ≡ length waiting.old.items + 3) }
+{
+    literals.literals_rise();
+    cubes_rise(sides.right.as_slice());
+    let mut left = side_by(alloc, sides.left.as_slice(), literals)?;
+    let right = side_by(alloc, sides.right.as_slice(), literals)?;
+    make_distinct(&mut left.made);
+    let right_all = all_with(alloc, &right)?;
+    put_waiting(waiting, left, right, right_all)
+}
+
+/// One cube of each side joined, in every way.
+pub(crate) fn join<'a, A: Allocator>(
+    alloc: &'a A,
+    left: CubeList<'a, A>,
+    right: CubeList<'a, A>,
+) -> Result<Cubes<'a, A>, AllocError>
+    ensures { IfOk result (λ r. option_map (λ v. v.items) r ≡ few (joined_cubes left.entry.items right.entry.items)) }
+{
+    let mut joined = SmallVec::new(alloc);
+    let mut waiting = Vec::new(alloc);
+    waiting.push(Sides { left, right })?;
+    let mut partings = MOST_PARTINGS;
+    'sides: while let Some(sides) = waiting.pop() {
+        match parting_literals(sides.left.as_slice(), sides.right.as_slice()) {
+            Some(literals) if 0 < partings && waiting.len() < MOST_WAITING => {
+                part(alloc, &sides, &literals, &mut waiting)?;
+                partings -= 1;
+            }
+            _ => {
+                if !join_sides(alloc, &mut joined, &sides)? {
+                    return Ok(None);
+                }
+            }
+        }
+    }
+    make_distinct(&mut joined);
+    Ok(few(joined))
+}

@@ -1,0 +1,213 @@
+//! Labels: what is open of one, with the cubes of its complete parts.
+
+ghost use Rattle.std.specs.Prelude.{◌≡◌, ◌<◌, [], ◌∷◌, ◌++◌, IfOk, OnOk, option_map};
+ghost use Rattle.ltl_label.specs.LabelView as view;
+
+use crate::cubes::{Cubes, both, constant, literal};
+use ltl_sets::RowSet;
+use smallvec::SmallVec;
+use std::alloc::{AllocError, Allocator};
+use std::marker::Model;
+use std::mem;
+
+/// A label, or what stands in open brackets: the cubes of what `|` and what `&` join to the operand that comes next.
+#[derive(Drop)]
+pub(crate) struct Part<'a, A: Allocator> {
+    /// Whether an even number of negations stands around the part.
+    positive: bool,
+    /// Whether an odd number of negations stands before the operand that comes next.
+    negated: bool,
+    sum: Option<Cubes<'a, A>>,
+    product: Option<Cubes<'a, A>>,
+}
+
+impl<'a, A: Allocator> Model for Part<'a, A> {
+    ghost use Rattle.std.specs.Prelude.{option_map};
+    ghost use Rattle.ltl_label.specs.LabelView.{PartView};
+
+    ghost Value = { PartView };
+
+    ghost view = { λ p. record {
+      positive = p.positive;
+      negated = p.negated;
+      sum = option_map (option_map (λ v. v.items)) p.sum;
+      product = option_map (option_map (λ v. v.items)) p.product;
+    } };
+}
+
+/// A part of no label.
+impl<'a, A: Allocator> Default for Part<'a, A> {
+    fn default() -> Part<'a, A> {
+        Part::new(true)
+    }
+}
+
+impl<'a, A: Allocator> Part<'a, A> {
+    fn new(positive: bool) -> Part<'a, A>
+        ensures { result ≡ view.new_part positive }
+    {
+        Part {
+            positive,
+            negated: false,
+            sum: None,
+            product: None,
+        }
+    }
+
+    /// Whether an even number of negations stands around the operand that comes next.
+    fn sign(&self) -> bool
+        ensures { result ≡ view.sign_of self.now }
+    {
+        self.positive != self.negated
+    }
+
+    fn negate(&mut self)
+        ensures { self.new ≡ view.negate self.old }
+    {
+        self.negated = !self.negated;
+    }
+
+    /// Joins an operand to what stands before it.
+    fn add(&mut self, alloc: &'a A, cubes: Cubes<'a, A>) -> Result<(), AllocError>
+        ensures { OnOk result (self.new ≡ view.add self.old (option_map (λ v. v.items) cubes.entry)) }
+    {
+        let product = match self.product.take() {
+            Some(before) => both(alloc, self.positive, before, cubes)?,
+            None => cubes,
+        };
+        self.product = Some(product);
+        self.negated = false;
+        Ok(())
+    }
+
+    /// The cubes of the part, which has none after it.
+    fn whole(&mut self, alloc: &'a A) -> Result<Cubes<'a, A>, AllocError>
+        ensures cubes { IfOk result (λ r. option_map (λ v. v.items) r ≡ view.whole self.old) }
+        ensures spent { OnOk result (self.new ≡ view.spent_part self.old) }
+    {
+        let product = match self.product.take() {
+            Some(product) => product,
+            None => constant(alloc, self.positive)?,
+        };
+        match self.sum.take() {
+            Some(sum) => both(alloc, !self.positive, sum, product),
+            None => Ok(product),
+        }
+    }
+
+    /// Leaves the part behind `|`.
+    fn alternative(&mut self, alloc: &'a A) -> Result<(), AllocError>
+        ensures { OnOk result (self.new ≡ view.alternative self.old) }
+    {
+        let sum = self.whole(alloc)?;
+        self.sum = Some(sum);
+        self.product = None;
+        self.negated = false;
+        Ok(())
+    }
+}
+
+/// What is open of a label: the innermost part, and those around it, the innermost of them last. Up to 4 of them take no memory.
+#[derive(Drop)]
+pub struct Label<'a, A: Allocator> {
+    alloc: &'a A,
+    inner: Part<'a, A>,
+    around: SmallVec<Part<'a, A>, 4, &'a A>,
+}
+
+impl<'a, A: Allocator> Model for Label<'a, A> {
+    ghost use Rattle.ltl_label.specs.LabelView.{LabelView};
+
+    ghost Value = { LabelView };
+
+    ghost view = { λ x. record { inner = x.inner; around = x.around.items } };
+}
+
+impl<'a, A: Allocator> Label<'a, A> {
+    pub fn new(alloc: &'a A) -> Label<'a, A>
+        ensures { result ≡ view.new_label }
+    {
+        Label {
+            alloc,
+            inner: Part::new(true),
+            around: SmallVec::new(alloc),
+        }
+    }
+
+    /// Begins a label.
+    pub fn begin(&mut self)
+        ensures { self.new ≡ view.new_label }
+    {
+        self.inner = Part::new(true);
+        self.around.clear();
+    }
+
+    /// Takes `!`.
+    pub fn negate(&mut self)
+        ensures { self.new ≡ view.negate_inner self.old }
+    {
+        self.inner.negate();
+    }
+
+    /// Takes an opening bracket.
+    pub fn open(&mut self) -> Result<(), AllocError>
+        ensures { OnOk result (self.new ≡ view.open_bracket self.old) }
+    {
+        let part = Part::new(self.inner.sign());
+        let outer = mem::replace(&mut self.inner, part);
+        self.around.push(outer)?;
+        Ok(())
+    }
+
+    /// Takes `t` or `f`.
+    pub fn constant(&mut self, value: bool) -> Result<(), AllocError>
+        ensures { OnOk result (self.new ≡ view.take_constant self.old value) }
+    {
+        let cubes = constant(self.alloc, value == self.inner.sign())?;
+        self.inner.add(self.alloc, cubes)
+    }
+
+    /// Takes the number of a proposition.
+    pub fn proposition(&mut self, number: usize) -> Result<(), AllocError>
+        requires { number < RowSet.LIMIT }
+        ensures { OnOk result (self.new ≡ view.take_proposition self.old number) }
+    {
+        let cubes = literal(self.alloc, number, self.inner.sign())?;
+        self.inner.add(self.alloc, cubes)
+    }
+
+    /// Takes `|`.
+    pub fn alternative(&mut self) -> Result<(), AllocError>
+        ensures { OnOk result (self.new ≡ view.take_alternative self.old) }
+    {
+        self.inner.alternative(self.alloc)
+    }
+
+    /// Whether no bracket is open.
+    pub fn is_closed(&self) -> bool
+        ensures { result ≡ view.is_closed self.now }
+    {
+        self.around.is_empty()
+    }
+
+    /// Takes a closing bracket. Without an open one the answer is false.
+    pub fn close(&mut self) -> Result<bool, AllocError>
+        ensures { IfOk result (λ b. view.Closes self.old b self.new) }
+    {
+        let Some(outer) = self.around.pop() else {
+            return Ok(false);
+        };
+        let cubes = self.inner.whole(self.alloc)?;
+        self.inner = outer;
+        self.inner.add(self.alloc, cubes)?;
+        Ok(true)
+    }
+
+    /// The cubes of the label, which ends.
+    pub fn whole(&mut self) -> Result<Cubes<'a, A>, AllocError>
+        ensures cubes { IfOk result (λ r. option_map (λ v. v.items) r ≡ view.whole self.old.inner) }
+        ensures spent { OnOk result (self.new ≡ view.spent self.old) }
+    {
+        self.inner.whole(self.alloc)
+    }
+}
