@@ -5,7 +5,7 @@
 //! is told, with its line. Sets on a state are those of its edges: a `Marked` has sets on edges alone.
 //!
 //! What flows: pieces of 4,096 bytes of a reader; bytes to tokens (`lexer`), of which only the current one is kept; tokens to places, which say what
-//! may come next (`place`, `parser`), in the header and in the body; a label to its cubes as its brackets close (`label`, `cubes`, `joins`), each
+//! may come next (`place`, `parser`), in the header and in the body; a label to its cubes as its brackets close (the crate `ltl_label`), each
 //! cube an edge; states and edges to a `Marked`. However long a text, beside the automaton only its current token, open labels and names are held.
 //!
 //! ```
