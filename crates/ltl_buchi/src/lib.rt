@@ -23,7 +23,7 @@
 pub mod automaton;
 mod chains;
 mod classes;
-pub mod copies;
+mod copies;
 pub mod fault;
 mod implied;
 pub mod merging;
