@@ -4,4 +4,5 @@ pub mod HoaLaws
 pub mod LabelLaws
 pub mod NameLaws
 pub mod OptionLaws
+pub mod OutputLaws
 pub mod TextLaws

@@ -7,12 +7,13 @@ ghost use Rattle.ltl_spec.specs.Checking.Bounds.{HasNamesBelow};
 ghost use Rattle.ltl_formula.specs.FormulaView.{reading_of};
 ghost use Rattle.ltl_formula.specs.Streams.{AppendsBeginning};
 ghost use Rattle.ltl_text.specs.Blocks.{blocks_text, others_text};
-ghost use Rattle.ltl_formula.specs.Sending.{Puts};
+ghost use Rattle.ltl_text.specs.Writing.{Writes};
 
 use crate::label::{put_label, skip_state};
 use crate::options::put_options;
+use crate::output::Output;
 use ltl_buchi::Ba;
-use ltl_formula::{Formula, Piece, WriteFault, text_to, write_whole};
+use ltl_formula::{Formula, WriteFault, text_to, write_whole};
 use std::alloc::Allocator;
 use std::io::Write;
 
@@ -22,23 +23,22 @@ fn put_body<A: Allocator, B: Allocator, W: Write>(
     formula: &Formula<'_, B>,
     skip: usize,
     k: usize,
-    piece: &mut Piece,
-    writer: &mut W,
+    output: &mut Output<'_, W>,
 ) -> Result<(), WriteFault>
     requires within { k < length automaton.now.states }
     requires named { HasNamesBelow (length formula.now.names) automaton.now }
     requires least { skip ≡ claim.skip_state automaton.now }
-    ensures { Puts result (W.contents writer.old) piece.old (W.contents writer.new) piece.new (claim.body automaton.now formula.now.names k) }
+    ensures { Writes W.contents result output.old output.new (claim.body automaton.now formula.now.names k) }
 {
     if k == skip {
-        return piece.put(b"\tskip\n", writer);
+        return output.put(b"\tskip\n");
     }
     if automaton.edges(k).is_empty() {
-        return piece.put(b"\tfalse;\n", writer);
+        return output.put(b"\tfalse;\n");
     }
-    piece.put(b"\tif\n", writer)?;
-    put_options(automaton, formula, skip, k, piece, writer)?;
-    piece.put(b"\tfi;\n", writer)
+    output.put(b"\tif\n")?;
+    put_options(automaton, formula, skip, k, output)?;
+    output.put(b"\tfi;\n")
 }
 
 /// Puts the block of a state.
@@ -47,17 +47,16 @@ fn put_block<A: Allocator, B: Allocator, W: Write>(
     formula: &Formula<'_, B>,
     skip: usize,
     k: usize,
-    piece: &mut Piece,
-    writer: &mut W,
+    output: &mut Output<'_, W>,
 ) -> Result<(), WriteFault>
     requires within { k < length automaton.now.states }
     requires named { HasNamesBelow (length formula.now.names) automaton.now }
     requires least { skip ≡ claim.skip_state automaton.now }
-    ensures { Puts result (W.contents writer.old) piece.old (W.contents writer.new) piece.new (claim.block automaton.now formula.now.names k) }
+    ensures { Writes W.contents result output.old output.new (claim.block automaton.now formula.now.names k) }
 {
-    put_label(automaton, skip, k, piece, writer)?;
-    piece.put(b":\n", writer)?;
-    put_body(automaton, formula, skip, k, piece, writer)
+    put_label(automaton, skip, k, output)?;
+    output.put(b":\n")?;
+    put_body(automaton, formula, skip, k, output)
 }
 
 /// Puts the blocks of all states but the skipping one.
@@ -65,18 +64,17 @@ fn put_others<A: Allocator, B: Allocator, W: Write>(
     automaton: &Ba<'_, A>,
     formula: &Formula<'_, B>,
     skip: usize,
-    piece: &mut Piece,
-    writer: &mut W,
+    output: &mut Output<'_, W>,
 ) -> Result<(), WriteFault>
     requires named { HasNamesBelow (length formula.now.names) automaton.now }
     requires least { skip ≡ claim.skip_state automaton.now }
-    ensures { Puts result (W.contents writer.old) piece.old (W.contents writer.new) piece.new (others_text automaton.now formula.now.names) }
+    ensures { Writes W.contents result output.old output.new (others_text automaton.now formula.now.names) }
 {
     for k in 0..automaton.len() {
         if k == skip {
             continue;
         }
-        put_block(automaton, formula, skip, k, piece, writer)?;
+        put_block(automaton, formula, skip, k, output)?;
     }
     Ok(())
 }
@@ -85,18 +83,17 @@ fn put_others<A: Allocator, B: Allocator, W: Write>(
 fn put_blocks<A: Allocator, B: Allocator, W: Write>(
     automaton: &Ba<'_, A>,
     formula: &Formula<'_, B>,
-    piece: &mut Piece,
-    writer: &mut W,
+    output: &mut Output<'_, W>,
 ) -> Result<(), WriteFault>
     requires { HasNamesBelow (length formula.now.names) automaton.now }
-    ensures { Puts result (W.contents writer.old) piece.old (W.contents writer.new) piece.new (blocks_text automaton.now formula.now.names) }
+    ensures { Writes W.contents result output.old output.new (blocks_text automaton.now formula.now.names) }
 {
     let skip = skip_state(automaton);
-    put_others(automaton, formula, skip, piece, writer)?;
+    put_others(automaton, formula, skip, output)?;
     if skip >= automaton.len() {
         return Ok(());
     }
-    put_block(automaton, formula, skip, skip, piece, writer)
+    put_block(automaton, formula, skip, skip, output)
 }
 
 /// Writes the automaton as a never claim of Spin, with the formula's text in a comment. State 0 is `accept_init` or `T0_init`, `accept_all`
@@ -113,9 +110,9 @@ pub fn never_to<A: Allocator, B: Allocator, W: Write>(
 {
     write_whole(writer, b"never { /* ")?;
     text_to(formula, writer)?;
-    let mut piece = Piece::new();
-    piece.put(b" */\n", writer)?;
-    put_blocks(automaton, formula, &mut piece, writer)?;
-    piece.put(b"}\n", writer)?;
-    piece.send(writer)
+    let mut output = Output::new(writer);
+    output.put(b" */\n")?;
+    put_blocks(automaton, formula, &mut output)?;
+    output.put(b"}\n")?;
+    output.send()
 }

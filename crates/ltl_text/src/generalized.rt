@@ -8,50 +8,47 @@ ghost use Rattle.ltl_formula.specs.FormulaView.{reading_of};
 ghost use Rattle.ltl_formula.specs.Streams.{AppendsBeginning};
 ghost use Rattle.ltl_alt.specs.GbaView.{edge_of};
 ghost use Rattle.ltl_text.specs.HoaPieces.{condition_text, marked_states_text, set_text};
-ghost use Rattle.ltl_formula.specs.Sending.{Puts};
+ghost use Rattle.ltl_text.specs.Writing.{Writes};
 
 use crate::hoa::{put_counts, put_number, put_state_number, put_step, write_title};
+use crate::output::Output;
 use ltl_alt::GbaEdge;
 use ltl_buchi::Gen;
-use ltl_formula::{Formula, Piece, WriteFault};
+use ltl_formula::{Formula, WriteFault};
 use ltl_sets::RowSet;
 use std::alloc::Allocator;
 use std::io::Write;
 
 /// Puts the numbers of the sets in braces behind a blank, and nothing where there is none.
-fn put_marks<W: Write>(marks: &RowSet, piece: &mut Piece, writer: &mut W) -> Result<(), WriteFault>
-    ensures { Puts result (W.contents writer.old) piece.old (W.contents writer.new) piece.new (text.marks_text marks.now) }
+fn put_marks<W: Write>(marks: &RowSet, output: &mut Output<'_, W>) -> Result<(), WriteFault>
+    ensures { Writes W.contents result output.old output.new (text.marks_text marks.now) }
 {
     let mut numbers = marks.iter();
     let Some(first) = numbers.next() else {
         return Ok(());
     };
-    piece.put(b" {", writer)?;
-    put_number(first, piece, writer)?;
+    output.put(b" {")?;
+    put_number(first, output)?;
     for number in numbers {
-        piece.put(b" ", writer)?;
-        put_number(number, piece, writer)?;
+        output.put(b" ")?;
+        put_number(number, output)?;
     }
-    piece.put(b"}", writer)
+    output.put(b"}")
 }
 
-fn put_edge<W: Write>(edge: &GbaEdge, piece: &mut Piece, writer: &mut W) -> Result<(), WriteFault>
-    ensures { Puts result (W.contents writer.old) piece.old (W.contents writer.new) piece.new (text.marked_edge_line (edge_of edge.now)) }
+fn put_edge<W: Write>(edge: &GbaEdge, output: &mut Output<'_, W>) -> Result<(), WriteFault>
+    ensures { Writes W.contents result output.old output.new (text.marked_edge_line (edge_of edge.now)) }
 {
-    put_step(&edge.cube, edge.target, piece, writer)?;
-    put_marks(&edge.marks, piece, writer)?;
-    piece.put(b"\n", writer)
+    put_step(&edge.cube, edge.target, output)?;
+    put_marks(&edge.marks, output)?;
+    output.put(b"\n")
 }
 
-fn put_edges<W: Write>(
-    edges: &[GbaEdge],
-    piece: &mut Piece,
-    writer: &mut W,
-) -> Result<(), WriteFault>
-    ensures { Puts result (W.contents writer.old) piece.old (W.contents writer.new) piece.new (flat_map text.marked_edge_line (map edge_of edges.now)) }
+fn put_edges<W: Write>(edges: &[GbaEdge], output: &mut Output<'_, W>) -> Result<(), WriteFault>
+    ensures { Writes W.contents result output.old output.new (flat_map text.marked_edge_line (map edge_of edges.now)) }
 {
     for edge in edges {
-        put_edge(edge, piece, writer)?;
+        put_edge(edge, output)?;
     }
     Ok(())
 }
@@ -60,86 +57,73 @@ fn put_edges<W: Write>(
 fn put_state<A: Allocator, W: Write>(
     automaton: &Gen<'_, A>,
     k: usize,
-    piece: &mut Piece,
-    writer: &mut W,
+    output: &mut Output<'_, W>,
 ) -> Result<(), WriteFault>
     requires { k < length automaton.now.states }
-    ensures { Puts result (W.contents writer.old) piece.old (W.contents writer.new) piece.new (text.marked_state_lines automaton.now k) }
+    ensures { Writes W.contents result output.old output.new (text.marked_state_lines automaton.now k) }
 {
-    put_state_number(k, piece, writer)?;
-    piece.put(b"\n", writer)?;
-    put_edges(automaton.edges(k), piece, writer)
+    put_state_number(k, output)?;
+    output.put(b"\n")?;
+    put_edges(automaton.edges(k), output)
 }
 
 fn put_states<A: Allocator, W: Write>(
     automaton: &Gen<'_, A>,
-    piece: &mut Piece,
-    writer: &mut W,
+    output: &mut Output<'_, W>,
 ) -> Result<(), WriteFault>
-    ensures { Puts result (W.contents writer.old) piece.old (W.contents writer.new) piece.new (marked_states_text automaton.now) }
+    ensures { Writes W.contents result output.old output.new (marked_states_text automaton.now) }
 {
     for k in 0..automaton.len() {
-        put_state(automaton, k, piece, writer)?;
+        put_state(automaton, k, output)?;
     }
     Ok(())
 }
 
 /// Puts the name of the acceptance of so many sets.
-fn put_acceptance_name<W: Write>(
-    sets: usize,
-    piece: &mut Piece,
-    writer: &mut W,
-) -> Result<(), WriteFault>
-    ensures { Puts result (W.contents writer.old) piece.old (W.contents writer.new) piece.new (text.acceptance_name sets) }
+fn put_acceptance_name<W: Write>(sets: usize, output: &mut Output<'_, W>) -> Result<(), WriteFault>
+    ensures { Writes W.contents result output.old output.new (text.acceptance_name sets) }
 {
     if sets == 0 {
-        return piece.put(b"all", writer);
+        return output.put(b"all");
     }
-    piece.put(b"generalized-Buchi ", writer)?;
-    put_number(sets, piece, writer)
+    output.put(b"generalized-Buchi ")?;
+    put_number(sets, output)
 }
 
-fn put_set<W: Write>(k: usize, piece: &mut Piece, writer: &mut W) -> Result<(), WriteFault>
-    ensures { Puts result (W.contents writer.old) piece.old (W.contents writer.new) piece.new (set_text k) }
+fn put_set<W: Write>(k: usize, output: &mut Output<'_, W>) -> Result<(), WriteFault>
+    ensures { Writes W.contents result output.old output.new (set_text k) }
 {
-    piece.put(b"Inf(", writer)?;
-    put_number(k, piece, writer)?;
-    piece.put(b")", writer)
+    output.put(b"Inf(")?;
+    put_number(k, output)?;
+    output.put(b")")
 }
 
 /// Puts how many sets there are, and then all of them with `&` between them.
-fn put_acceptance<W: Write>(
-    sets: usize,
-    piece: &mut Piece,
-    writer: &mut W,
-) -> Result<(), WriteFault>
-    ensures { Puts result (W.contents writer.old) piece.old (W.contents writer.new) piece.new (text.acceptance_text sets) }
+fn put_acceptance<W: Write>(sets: usize, output: &mut Output<'_, W>) -> Result<(), WriteFault>
+    ensures { Writes W.contents result output.old output.new (text.acceptance_text sets) }
 {
     if sets == 0 {
-        return piece.put(b"0 t", writer);
+        return output.put(b"0 t");
     }
-    put_number(sets, piece, writer)?;
-    piece.put(b" ", writer)?;
-    put_set(0, piece, writer)?;
+    put_number(sets, output)?;
+    output.put(b" ")?;
+    put_set(0, output)?;
     for k in 1..sets {
-        piece.put(b"&", writer)?;
-        put_set(k, piece, writer)?;
+        output.put(b"&")?;
+        put_set(k, output)?;
     }
     Ok(())
 }
 
 /// Puts the end of the line of names and the lines from the acceptance to the states.
-fn put_condition<W: Write>(sets: usize, piece: &mut Piece, writer: &mut W) -> Result<(), WriteFault>
-    ensures { Puts result (W.contents writer.old) piece.old (W.contents writer.new) piece.new (condition_text sets) }
+fn put_condition<W: Write>(sets: usize, output: &mut Output<'_, W>) -> Result<(), WriteFault>
+    ensures { Writes W.contents result output.old output.new (condition_text sets) }
 {
-    piece.put(b"\nacc-name: ", writer)?;
-    put_acceptance_name(sets, piece, writer)?;
-    piece.put(b"\nAcceptance: ", writer)?;
-    put_acceptance(sets, piece, writer)?;
-    piece.put(
-        b"\nproperties: trans-labels explicit-labels trans-acc\n--BODY--\n",
-        writer,
-    )
+    output.put(b"\nacc-name: ")?;
+    put_acceptance_name(sets, output)?;
+    output.put(b"\nAcceptance: ")?;
+    put_acceptance(sets, output)?;
+    output.put(b"\nproperties: trans-labels explicit-labels trans-acc\n--BODY--\n")
 }
 
 /// Writes the automaton in the Hanoi Omega-Automata format, version 1, with the formula's text as its name and the sets on the edges. No
@@ -153,10 +137,10 @@ pub fn gen_to<A: Allocator, B: Allocator, W: Write>(
     ensures err { OnErr result (AppendsBeginning (W.contents writer.old) (W.contents writer.new) (text.generalized_text automaton.now (reading_of formula.now))) }
 {
     write_title(formula, writer)?;
-    let mut piece = Piece::new();
-    put_counts(automaton.len(), formula, &mut piece, writer)?;
-    put_condition(automaton.sets(), &mut piece, writer)?;
-    put_states(automaton, &mut piece, writer)?;
-    piece.put(b"--END--\n", writer)?;
-    piece.send(writer)
+    let mut output = Output::new(writer);
+    put_counts(automaton.len(), formula, &mut output)?;
+    put_condition(automaton.sets(), &mut output)?;
+    put_states(automaton, &mut output)?;
+    output.put(b"--END--\n")?;
+    output.send()
 }

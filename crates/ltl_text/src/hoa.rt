@@ -10,51 +10,47 @@ ghost use Rattle.ltl_formula.specs.FormulaView.{reading_of};
 ghost use Rattle.ltl_formula.specs.Streams.{AppendsBeginning};
 ghost use Rattle.ltl_buchi.specs.BaView.{edge_of};
 ghost use Rattle.ltl_text.specs.HoaPieces.{acceptance_text, counts_text, quoted_names, state_number, states_text, step_text, title_text};
-ghost use Rattle.ltl_formula.specs.Sending.{Puts};
+ghost use Rattle.ltl_text.specs.Writing.{Writes};
 
 use crate::digits::Digits;
+use crate::output::Output;
 use ltl_buchi::{Ba, Edge};
-use ltl_formula::{Formula, Piece, WriteFault, text_to, write_whole};
+use ltl_formula::{Formula, WriteFault, text_to, write_whole};
 use ltl_sets::{Cube, Literal};
 use std::alloc::Allocator;
 use std::io::Write;
 
 pub(crate) fn put_number<W: Write>(
     number: usize,
-    piece: &mut Piece,
-    writer: &mut W,
+    output: &mut Output<'_, W>,
 ) -> Result<(), WriteFault>
-    ensures { Puts result (W.contents writer.old) piece.old (W.contents writer.new) piece.new (decimal number) }
+    ensures { Writes W.contents result output.old output.new (decimal number) }
 {
-    piece.put(Digits::of(number as u64).as_slice(), writer)
+    output.put(Digits::of(number as u64).as_slice())
 }
 
-fn put_literal<W: Write>(
-    literal: Literal,
-    piece: &mut Piece,
-    writer: &mut W,
-) -> Result<(), WriteFault>
-    ensures { Puts result (W.contents writer.old) piece.old (W.contents writer.new) piece.new (text.label_literal (literal_of literal)) }
+fn put_literal<W: Write>(literal: Literal, output: &mut Output<'_, W>) -> Result<(), WriteFault>
+    ensures { Writes W.contents result output.old output.new (text.label_literal (literal_of literal)) }
 {
     if literal.positive {
-        return put_number(literal.proposition, piece, writer);
+        return put_number(literal.proposition, output);
     }
-    piece.put(b"!", writer)?;
-    put_number(literal.proposition, piece, writer)
+    output.put(b"!")?;
+    put_number(literal.proposition, output)
 }
 
 /// Puts the literals with `&` between them, and `t` where there is none.
-fn put_literals<W: Write>(cube: &Cube, piece: &mut Piece, writer: &mut W) -> Result<(), WriteFault>
-    ensures { Puts result (W.contents writer.old) piece.old (W.contents writer.new) piece.new (text.label_text cube.now) }
+fn put_literals<W: Write>(cube: &Cube, output: &mut Output<'_, W>) -> Result<(), WriteFault>
+    ensures { Writes W.contents result output.old output.new (text.label_text cube.now) }
 {
     let mut literals = cube.iter();
     let Some(first) = literals.next() else {
-        return piece.put(b"t", writer);
+        return output.put(b"t");
     };
-    put_literal(first, piece, writer)?;
+    put_literal(first, output)?;
     for literal in literals {
-        piece.put(b"&", writer)?;
-        put_literal(literal, piece, writer)?;
+        output.put(b"&")?;
+        put_literal(literal, output)?;
     }
     Ok(())
 }
@@ -63,83 +59,75 @@ fn put_literals<W: Write>(cube: &Cube, piece: &mut Piece, writer: &mut W) -> Res
 pub(crate) fn put_step<W: Write>(
     cube: &Cube,
     target: usize,
-    piece: &mut Piece,
-    writer: &mut W,
+    output: &mut Output<'_, W>,
 ) -> Result<(), WriteFault>
-    ensures { Puts result (W.contents writer.old) piece.old (W.contents writer.new) piece.new (step_text cube.now target) }
+    ensures { Writes W.contents result output.old output.new (step_text cube.now target) }
 {
-    piece.put(b"[", writer)?;
-    put_literals(cube, piece, writer)?;
-    piece.put(b"] ", writer)?;
-    put_number(target, piece, writer)
+    output.put(b"[")?;
+    put_literals(cube, output)?;
+    output.put(b"] ")?;
+    put_number(target, output)
 }
 
-fn put_edge<W: Write>(edge: &Edge, piece: &mut Piece, writer: &mut W) -> Result<(), WriteFault>
-    ensures { Puts result (W.contents writer.old) piece.old (W.contents writer.new) piece.new (text.edge_line (edge_of edge.now)) }
+fn put_edge<W: Write>(edge: &Edge, output: &mut Output<'_, W>) -> Result<(), WriteFault>
+    ensures { Writes W.contents result output.old output.new (text.edge_line (edge_of edge.now)) }
 {
-    put_step(&edge.cube, edge.target, piece, writer)?;
-    piece.put(b"\n", writer)
+    put_step(&edge.cube, edge.target, output)?;
+    output.put(b"\n")
 }
 
-fn put_edges<W: Write>(edges: &[Edge], piece: &mut Piece, writer: &mut W) -> Result<(), WriteFault>
-    ensures { Puts result (W.contents writer.old) piece.old (W.contents writer.new) piece.new (flat_map text.edge_line (map edge_of edges.now)) }
+fn put_edges<W: Write>(edges: &[Edge], output: &mut Output<'_, W>) -> Result<(), WriteFault>
+    ensures { Writes W.contents result output.old output.new (flat_map text.edge_line (map edge_of edges.now)) }
 {
     for edge in edges {
-        put_edge(edge, piece, writer)?;
+        put_edge(edge, output)?;
     }
     Ok(())
 }
 
 /// Puts the end of a state's line.
-fn put_acceptance<W: Write>(
-    accepting: bool,
-    piece: &mut Piece,
-    writer: &mut W,
-) -> Result<(), WriteFault>
-    ensures { Puts result (W.contents writer.old) piece.old (W.contents writer.new) piece.new (acceptance_text accepting) }
+fn put_acceptance<W: Write>(accepting: bool, output: &mut Output<'_, W>) -> Result<(), WriteFault>
+    ensures { Writes W.contents result output.old output.new (acceptance_text accepting) }
 {
     if accepting {
-        return piece.put(b" {0}\n", writer);
+        return output.put(b" {0}\n");
     }
-    piece.put(b"\n", writer)
+    output.put(b"\n")
 }
 
 /// Puts the beginning of a state's line.
 pub(crate) fn put_state_number<W: Write>(
     k: usize,
-    piece: &mut Piece,
-    writer: &mut W,
+    output: &mut Output<'_, W>,
 ) -> Result<(), WriteFault>
-    ensures { Puts result (W.contents writer.old) piece.old (W.contents writer.new) piece.new (state_number k) }
+    ensures { Writes W.contents result output.old output.new (state_number k) }
 {
-    piece.put(b"State: ", writer)?;
-    put_number(k, piece, writer)
+    output.put(b"State: ")?;
+    put_number(k, output)
 }
 
 /// Puts a state's number, whether it is accepting, and its edges.
 fn put_state<A: Allocator, W: Write>(
     automaton: &Ba<'_, A>,
     k: usize,
-    piece: &mut Piece,
-    writer: &mut W,
+    output: &mut Output<'_, W>,
 ) -> Result<(), WriteFault>
     requires { k < length automaton.now.states }
-    ensures { Puts result (W.contents writer.old) piece.old (W.contents writer.new) piece.new (text.state_lines automaton.now k) }
+    ensures { Writes W.contents result output.old output.new (text.state_lines automaton.now k) }
 {
-    put_state_number(k, piece, writer)?;
-    put_acceptance(automaton.accepting(k), piece, writer)?;
-    put_edges(automaton.edges(k), piece, writer)
+    put_state_number(k, output)?;
+    put_acceptance(automaton.accepting(k), output)?;
+    put_edges(automaton.edges(k), output)
 }
 
 fn put_states<A: Allocator, W: Write>(
     automaton: &Ba<'_, A>,
-    piece: &mut Piece,
-    writer: &mut W,
+    output: &mut Output<'_, W>,
 ) -> Result<(), WriteFault>
-    ensures { Puts result (W.contents writer.old) piece.old (W.contents writer.new) piece.new (states_text automaton.now) }
+    ensures { Writes W.contents result output.old output.new (states_text automaton.now) }
 {
     for k in 0..automaton.len() {
-        put_state(automaton, k, piece, writer)?;
+        put_state(automaton, k, output)?;
     }
     Ok(())
 }
@@ -147,15 +135,14 @@ fn put_states<A: Allocator, W: Write>(
 /// Puts the names in quotes, each behind a blank.
 fn put_names<A: Allocator, W: Write>(
     formula: &Formula<'_, A>,
-    piece: &mut Piece,
-    writer: &mut W,
+    output: &mut Output<'_, W>,
 ) -> Result<(), WriteFault>
-    ensures { Puts result (W.contents writer.old) piece.old (W.contents writer.new) piece.new (quoted_names formula.now.names) }
+    ensures { Writes W.contents result output.old output.new (quoted_names formula.now.names) }
 {
     for k in 0..formula.name_count() {
-        piece.put(b" \"", writer)?;
-        piece.put(formula.name(k).as_bytes(), writer)?;
-        piece.put(b"\"", writer)?;
+        output.put(b" \"")?;
+        output.put(formula.name(k).as_bytes())?;
+        output.put(b"\"")?;
     }
     Ok(())
 }
@@ -176,16 +163,15 @@ pub(crate) fn write_title<A: Allocator, W: Write>(
 pub(crate) fn put_counts<A: Allocator, W: Write>(
     count: usize,
     formula: &Formula<'_, A>,
-    piece: &mut Piece,
-    writer: &mut W,
+    output: &mut Output<'_, W>,
 ) -> Result<(), WriteFault>
-    ensures { Puts result (W.contents writer.old) piece.old (W.contents writer.new) piece.new (counts_text count formula.now.names) }
+    ensures { Writes W.contents result output.old output.new (counts_text count formula.now.names) }
 {
-    piece.put(b"\"\nStates: ", writer)?;
-    put_number(count, piece, writer)?;
-    piece.put(b"\nStart: 0\nAP: ", writer)?;
-    put_number(formula.name_count(), piece, writer)?;
-    put_names(formula, piece, writer)
+    output.put(b"\"\nStates: ")?;
+    put_number(count, output)?;
+    output.put(b"\nStart: 0\nAP: ")?;
+    put_number(formula.name_count(), output)?;
+    put_names(formula, output)
 }
 
 /// Writes the automaton in the Hanoi Omega-Automata format, version 1, with the formula's text as its name. No memory is taken, and after a
@@ -199,13 +185,12 @@ pub fn hoa_to<A: Allocator, B: Allocator, W: Write>(
     ensures err { OnErr result (AppendsBeginning (W.contents writer.old) (W.contents writer.new) (text.hoa_text automaton.now (reading_of formula.now))) }
 {
     write_title(formula, writer)?;
-    let mut piece = Piece::new();
-    put_counts(automaton.len(), formula, &mut piece, writer)?;
-    piece.put(
+    let mut output = Output::new(writer);
+    put_counts(automaton.len(), formula, &mut output)?;
+    output.put(
         b"\nacc-name: Buchi\nAcceptance: 1 Inf(0)\nproperties: trans-labels explicit-labels state-acc\n--BODY--\n",
-        writer,
     )?;
-    put_states(automaton, &mut piece, writer)?;
-    piece.put(b"--END--\n", writer)?;
-    piece.send(writer)
+    put_states(automaton, &mut output)?;
+    output.put(b"--END--\n")?;
+    output.send()
 }

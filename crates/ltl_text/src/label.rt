@@ -7,11 +7,12 @@ ghost use Rattle.ltl_spec.specs.Automata.ClaimText as claim;
 ghost use Rattle.ltl_spec.specs.Construction.Merging.{same_edge};
 ghost use Rattle.ltl_buchi.specs.BaView.{edge_of};
 ghost use Rattle.ltl_text.specs.Options.{is_empty};
-ghost use Rattle.ltl_formula.specs.Sending.{Puts};
+ghost use Rattle.ltl_text.specs.Writing.{Writes};
 
 use crate::digits::Digits;
+use crate::output::Output;
 use ltl_buchi::{Ba, Edge};
-use ltl_formula::{Piece, WriteFault};
+use ltl_formula::WriteFault;
 use ltl_sets::Cube;
 use std::alloc::Allocator;
 use std::io::Write;
@@ -56,13 +57,12 @@ pub fn skip_state<A: Allocator>(automaton: &Ba<'_, A>) -> usize
 fn put_numbered<W: Write>(
     beginning: &[u8],
     k: usize,
-    piece: &mut Piece,
-    writer: &mut W,
+    output: &mut Output<'_, W>,
 ) -> Result<(), WriteFault>
-    ensures { Puts result (W.contents writer.old) piece.old (W.contents writer.new) piece.new (beginning.now ++ decimal k) }
+    ensures { Writes W.contents result output.old output.new (beginning.now ++ decimal k) }
 {
-    piece.put(beginning, writer)?;
-    piece.put(Digits::of(k as u64).as_slice(), writer)
+    output.put(beginning)?;
+    output.put(Digits::of(k as u64).as_slice())
 }
 
 /// Puts the label of a state, where `skip` is the one that is called `accept_all`.
@@ -70,25 +70,24 @@ pub fn put_label<A: Allocator, W: Write>(
     automaton: &Ba<'_, A>,
     skip: usize,
     k: usize,
-    piece: &mut Piece,
-    writer: &mut W,
+    output: &mut Output<'_, W>,
 ) -> Result<(), WriteFault>
     requires within { k < length automaton.now.states }
     requires least { skip ≡ claim.skip_state automaton.now }
-    ensures { Puts result (W.contents writer.old) piece.old (W.contents writer.new) piece.new (claim.label_of automaton.now k) }
+    ensures { Writes W.contents result output.old output.new (claim.label_of automaton.now k) }
 {
     let accepting = automaton.accepting(k);
     if k == 0 {
         if accepting {
-            return piece.put(b"accept_init", writer);
+            return output.put(b"accept_init");
         }
-        return piece.put(b"T0_init", writer);
+        return output.put(b"T0_init");
     }
     if k == skip {
-        return piece.put(b"accept_all", writer);
+        return output.put(b"accept_all");
     }
     if accepting {
-        return put_numbered(b"accept_S", k, piece, writer);
+        return put_numbered(b"accept_S", k, output);
     }
-    put_numbered(b"T0_S", k, piece, writer)
+    put_numbered(b"T0_S", k, output)
 }

@@ -21,6 +21,7 @@ mod guard;
 mod hoa;
 mod label;
 mod options;
+mod output;
 
 pub use claim::never_to;
 pub use digits::Digits;

@@ -8,12 +8,13 @@ ghost use Rattle.ltl_spec.specs.Checking.Bounds.{HasNamesBelow};
 ghost use Rattle.ltl_buchi.specs.BaView.{edge_of, target_at};
 ghost use Rattle.ltl_text.specs.Names.{AllHaveNames};
 ghost use Rattle.ltl_text.specs.Options.{guards_text, options_text};
-ghost use Rattle.ltl_formula.specs.Sending.{Puts};
+ghost use Rattle.ltl_text.specs.Writing.{Writes};
 
 use crate::guard::put_guard;
 use crate::label::put_label;
+use crate::output::Output;
 use ltl_buchi::{Ba, Edge};
-use ltl_formula::{Formula, Piece, WriteFault};
+use ltl_formula::{Formula, WriteFault};
 use std::alloc::Allocator;
 use std::io::Write;
 
@@ -35,20 +36,19 @@ fn put_guards<A: Allocator, W: Write>(
     edges: &[Edge],
     places: &[usize],
     formula: &Formula<'_, A>,
-    piece: &mut Piece,
-    writer: &mut W,
+    output: &mut Output<'_, W>,
 ) -> Result<(), WriteFault>
     requires within { All (λ p. p < length edges.now) places.now }
     requires named { AllHaveNames (length formula.now.names) edges.now }
-    ensures { Puts result (W.contents writer.old) piece.old (W.contents writer.new) piece.new (guards_text formula.now.names (map edge_of edges.now) places.now) }
+    ensures { Writes W.contents result output.old output.new (guards_text formula.now.names (map edge_of edges.now) places.now) }
 {
     let Some((first, others)) = places.split_first() else {
         return Ok(());
     };
-    put_guard(&edges[*first].cube, formula, piece, writer)?;
+    put_guard(&edges[*first].cube, formula, output)?;
     for place in others {
-        piece.put(b" || ", writer)?;
-        put_guard(&edges[*place].cube, formula, piece, writer)?;
+        output.put(b" || ")?;
+        put_guard(&edges[*place].cube, formula, output)?;
     }
     Ok(())
 }
@@ -59,24 +59,23 @@ pub fn put_options<A: Allocator, B: Allocator, W: Write>(
     formula: &Formula<'_, B>,
     skip: usize,
     k: usize,
-    piece: &mut Piece,
-    writer: &mut W,
+    output: &mut Output<'_, W>,
 ) -> Result<(), WriteFault>
     requires within { k < length automaton.now.states }
     requires named { HasNamesBelow (length formula.now.names) automaton.now }
     requires least { skip ≡ skip_state automaton.now }
-    ensures { Puts result (W.contents writer.old) piece.old (W.contents writer.new) piece.new (options_text automaton.now formula.now.names (state_at automaton.now k)) }
+    ensures { Writes W.contents result output.old output.new (options_text automaton.now formula.now.names (state_at automaton.now k)) }
 {
     let edges = automaton.edges(k);
     let mut rest = automaton.by_target(k);
     'options: while let Some((place, _)) = rest.split_first() {
         let target = edges[*place].target;
         let (group, others) = rest.split_at(group_len(edges, rest, target));
-        piece.put(b"\t:: ", writer)?;
-        put_guards(edges, group, formula, piece, writer)?;
-        piece.put(b" -> goto ", writer)?;
-        put_label(automaton, skip, target, piece, writer)?;
-        piece.put(b"\n", writer)?;
+        output.put(b"\t:: ")?;
+        put_guards(edges, group, formula, output)?;
+        output.put(b" -> goto ")?;
+        put_label(automaton, skip, target, output)?;
+        output.put(b"\n")?;
         rest = others;
     }
     Ok(())

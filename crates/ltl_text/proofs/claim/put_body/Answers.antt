@@ -1,25 +1,25 @@
 use Rattle.std.proofs.Common.{◌∙◌, length, refl, sym}
 use Rattle.ltl_text.proofs.BlockLaws.{body_some}
 use Rattle.ltl_text.proofs.EdgeLaws.{some_by_test, some_edges}
-use Rattle.ltl_formula.proofs.SendLaws.{leaves_all, leaves_fails, leaves_puts, leaves_step}
+use Rattle.ltl_text.proofs.OutputLaws.{remains_all, remains_fails, remains_puts, remains_step}
 use Rattle.ltl_text.proofs.claim.put_body.Goals as goal
 
 pub returns-in_err-put : goal.returns-in_err-put
 returns-in_err-put g c =
     let many = some_by_test (length c.edges.result.now) c.if-is_empty.ensures in
     let e = body_some c.args.automaton.now c.args.formula.now.names c.args.k (λ k. c.if-k-skip.false (k ∙ sym c.requires.least)) (some_edges c.edges.result.now _ c.edges.ensures.edges many) in
-    leaves_fails (leaves_all _ _ _) _ _ _ c.from_residual.ensures.0 (sym e) c.in_err-put.ensures
+    remains_fails (remains_all _ _) _ _ c.from_residual.ensures.0 (sym e) c.in_err-put.ensures
 
 pub returns-in_err-put_options : goal.returns-in_err-put_options
 returns-in_err-put_options g c =
     let many = some_by_test (length c.edges.result.now) c.if-is_empty.ensures in
     let e = body_some c.args.automaton.now c.args.formula.now.names c.args.k (λ k. c.if-k-skip.false (k ∙ sym c.requires.least)) (some_edges c.edges.result.now _ c.edges.ensures.edges many) in
-    let first = leaves_step (leaves_all _ _ _) _ (sym e) c.in_ok-put.ensures in
-    leaves_fails first _ _ _ c.from_residual-in_err-put_options.ensures.0 refl c.in_err-put_options.ensures
+    let first = remains_step (remains_all _ _) _ (sym e) c.in_ok-put.ensures in
+    remains_fails first _ _ c.from_residual-in_err-put_options.ensures.0 refl c.in_err-put_options.ensures
 
 pub returns : goal.returns
 returns g c =
     let many = some_by_test (length c.edges.result.now) c.if-is_empty.ensures in
     let e = body_some c.args.automaton.now c.args.formula.now.names c.args.k (λ k. c.if-k-skip.false (k ∙ sym c.requires.least)) (some_edges c.edges.result.now _ c.edges.ensures.edges many) in
-    let first = leaves_step (leaves_all _ _ _) _ (sym e) c.in_ok-put.ensures in
-    leaves_puts (leaves_step first _ refl c.in_ok-put_options.ensures) _ _ _ c.put-3.ensures
+    let first = remains_step (remains_all _ _) _ (sym e) c.in_ok-put.ensures in
+    remains_puts (remains_step first _ refl c.in_ok-put_options.ensures) _ _ c.put-3.ensures

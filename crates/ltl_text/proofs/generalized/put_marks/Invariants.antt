@@ -2,10 +2,10 @@ use Rattle.std.proofs.Common.{◌++◌, map}
 use Rattle.std.specs.Prelude.{codes}
 use Rattle.std.specs.Fmt.{decimal}
 use Rattle.ltl_spec.specs.Automata.GeneralizedText.{marks_text}
-use Rattle.ltl_formula.proofs.SendLaws.{Leaves}
+use Rattle.ltl_text.proofs.OutputLaws.{Remains}
 use Rattle.ltl_text.proofs.TextLaws.{led}
 use Rattle.ltl_text.proofs.generalized.put_marks.Given as goal
 
 abbrev pub invariant-loop-number : goal.invariant-loop-number
 invariant-loop-number g l =
-    Leaves (g.W.Write.contents l.fn.writer) l.fn.piece (g.W.Write.contents l.writer) l.piece (led (codes " ") (map decimal l.number-iterator) ++ codes "}") (marks_text l.marks)
+    Remains g.W.Write.contents l.fn.output l.output (led (codes " ") (map decimal l.number-iterator) ++ codes "}") (marks_text l.marks)

@@ -1,12 +1,12 @@
 use Rattle.std.proofs.Common.{refl}
-use Rattle.ltl_formula.proofs.SendLaws.{leaves_all, leaves_fails, leaves_puts, leaves_step, sends_nothing}
+use Rattle.ltl_text.proofs.OutputLaws.{passes_nothing, remains_all, remains_fails, remains_puts, remains_step}
 use Rattle.ltl_text.proofs.TextLaws.{first_name, guard_begins, guard_ends, guard_goes_on, has_names, other_names}
 use Rattle.ltl_text.proofs.guard.put_guard.Goals as goal
 
 pub returns-in_err-put : goal.returns-in_err-put
 returns-in_err-put g c =
     let e = guard_begins c.args.formula.now.names _ _ _ _ c.iter-literals.ensures.literals c.in-Some.ensures.steps in
-    leaves_fails (leaves_all _ _ _) _ _ _ c.from_residual.ensures.0 e c.in_err-put.ensures
+    remains_fails (remains_all _ _) _ _ c.from_residual.ensures.0 e c.in_err-put.ensures
 
 pub put_literal-requires : goal.put_literal-requires
 put_literal-requires g c =
@@ -15,23 +15,23 @@ put_literal-requires g c =
 pub returns-in_err-put_literal : goal.returns-in_err-put_literal
 returns-in_err-put_literal g c =
     let e = guard_begins c.args.formula.now.names _ _ _ _ c.iter-literals.ensures.literals c.in-Some.ensures.steps in
-    let opened = leaves_step (leaves_all _ _ _) _ e c.in_ok-put.ensures in
-    leaves_fails opened _ _ _ c.from_residual-in_err-put_literal.ensures.0 refl c.in_err-put_literal.ensures
+    let opened = remains_step (remains_all _ _) _ e c.in_ok-put.ensures in
+    remains_fails opened _ _ c.from_residual-in_err-put_literal.ensures.0 refl c.in_err-put_literal.ensures
 
 pub loop-literal-init : goal.loop-literal-init
 loop-literal-init g c =
     let e = guard_begins c.args.formula.now.names _ _ _ _ c.iter-literals.ensures.literals c.in-Some.ensures.steps in
-    let opened = leaves_step (leaves_all _ _ _) _ e c.in_ok-put.ensures in
+    let opened = remains_step (remains_all _ _) _ e c.in_ok-put.ensures in
     rw c.into_iter-literal-iterator.ensures.into_iter_gives
     record {
       named = other_names _ _ _ _ c.in-Some.ensures.steps (has_names _ _ _ c.iter-literals.ensures.literals c.requires);
-      text = leaves_step opened _ refl c.in_ok-put_literal.ensures;
+      text = remains_step opened _ refl c.in_ok-put_literal.ensures;
     }
 
 pub returns-in_err-put-2 : goal.returns-in_err-put-2
 returns-in_err-put-2 g c =
     let e = guard_goes_on c.args.formula.now.names _ _ _ c.in-Some-literal.ensures.steps in
-    leaves_fails c.loop-literal.invariant.text _ _ _ c.from_residual-in_err-put-2.ensures.0 e c.in_err-put-2.ensures
+    remains_fails c.loop-literal.invariant.text _ _ c.from_residual-in_err-put-2.ensures.0 e c.in_err-put-2.ensures
 
 pub put_literal-requires-in-loop-literal : goal.put_literal-requires-in-loop-literal
 put_literal-requires-in-loop-literal g c = first_name _ _ _ _ c.in-Some-literal.ensures.steps c.loop-literal.invariant.named
@@ -41,16 +41,16 @@ loop-literal-preserved g c =
     let e = guard_goes_on c.args.formula.now.names _ _ _ c.in-Some-literal.ensures.steps in
     record {
       named = other_names _ _ _ _ c.in-Some-literal.ensures.steps c.loop-literal.invariant.named;
-      text = leaves_step (leaves_step c.loop-literal.invariant.text _ e c.in_ok-put-2.ensures) _ refl c.in_ok-put_literal-2.ensures;
+      text = remains_step (remains_step c.loop-literal.invariant.text _ e c.in_ok-put-2.ensures) _ refl c.in_ok-put_literal-2.ensures;
     }
 
 pub returns-in_err-put_literal-2 : goal.returns-in_err-put_literal-2
 returns-in_err-put_literal-2 g c =
     let e = guard_goes_on c.args.formula.now.names _ _ _ c.in-Some-literal.ensures.steps in
-    let between = leaves_step c.loop-literal.invariant.text _ e c.in_ok-put-2.ensures in
-    leaves_fails between _ _ _ c.from_residual-in_err-put_literal-2.ensures.0 refl c.in_err-put_literal-2.ensures
+    let between = remains_step c.loop-literal.invariant.text _ e c.in_ok-put-2.ensures in
+    remains_fails between _ _ c.from_residual-in_err-put_literal-2.ensures.0 refl c.in_err-put_literal-2.ensures
 
 pub returns : goal.returns
 returns g c =
     let e = guard_ends c.args.formula.now.names _ c.in-None.ensures.steps.0 in
-    leaves_puts (leaves_step c.loop-literal.invariant.text _ e (sends_nothing _ _)) _ _ _ c.put-3.ensures
+    remains_puts (remains_step c.loop-literal.invariant.text _ e (passes_nothing _)) _ _ c.put-3.ensures

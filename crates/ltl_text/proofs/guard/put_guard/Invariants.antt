@@ -3,13 +3,13 @@ use Rattle.std.specs.Prelude.{codes}
 use Rattle.ltl_spec.specs.Automata.ClaimText.{cube_text}
 use Rattle.ltl_sets.specs.Literals.{cube_of}
 use Rattle.ltl_text.specs.Names.{HasNames}
-use Rattle.ltl_formula.proofs.SendLaws.{Leaves}
+use Rattle.ltl_text.proofs.OutputLaws.{Remains}
 use Rattle.ltl_text.proofs.TextLaws.{led, texts_of}
 use Rattle.ltl_text.proofs.guard.put_guard.Given as goal
 
 abbrev pub invariant-loop-literal : goal.invariant-loop-literal
 invariant-loop-literal g l = record {
   named : HasNames (length l.formula.names) (cube_of l.literal-iterator);
-  text : Leaves (g.W.Write.contents l.fn.writer) l.fn.piece (g.W.Write.contents l.writer) l.piece
+  text : Remains g.W.Write.contents l.fn.output l.output
       (led (codes " && ") (texts_of l.formula.names l.literal-iterator) ++ codes ")") (cube_text l.formula.names l.cube);
 }

@@ -2,10 +2,10 @@ use Rattle.std.proofs.Common.{drop, map}
 use Rattle.std.specs.List.{flat_map}
 use Rattle.ltl_spec.specs.Automata.HoaText.{edge_line}
 use Rattle.ltl_buchi.specs.BaView.{edge_of}
-use Rattle.ltl_formula.proofs.SendLaws.{Leaves}
+use Rattle.ltl_text.proofs.OutputLaws.{Remains}
 use Rattle.ltl_text.proofs.hoa.put_edges.Given as goal
 
 abbrev pub invariant-loop-edge : goal.invariant-loop-edge
 invariant-loop-edge g l =
-    Leaves (g.W.Write.contents l.fn.writer) l.fn.piece (g.W.Write.contents l.writer) l.piece
+    Remains g.W.Write.contents l.fn.output l.output
     (flat_map edge_line (map edge_of (drop l.edge-index l.edges))) (flat_map edge_line (map edge_of l.edges))

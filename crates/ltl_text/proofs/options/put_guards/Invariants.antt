@@ -2,13 +2,13 @@ use Rattle.std.proofs.Common.{◌<◌, length, map}
 use Rattle.std.specs.Prelude.{codes, drop, All}
 use Rattle.ltl_buchi.specs.BaView.{edge_of}
 use Rattle.ltl_text.specs.Options.{guards_text}
-use Rattle.ltl_formula.proofs.SendLaws.{Leaves}
+use Rattle.ltl_text.proofs.OutputLaws.{Remains}
 use Rattle.ltl_text.proofs.TextLaws.{led, guards_of}
 use Rattle.ltl_text.proofs.options.put_guards.Given as goal
 
 abbrev pub invariant-loop-place : goal.invariant-loop-place
 invariant-loop-place g l = record {
   within : All (λ p. p < length l.edges) l.others;
-  text : Leaves (g.W.Write.contents l.fn.writer) l.fn.piece (g.W.Write.contents l.writer) l.piece
+  text : Remains g.W.Write.contents l.fn.output l.output
       (led (codes " || ") (guards_of l.formula.names (map edge_of l.edges) (drop l.place-index l.others))) (guards_text l.formula.names (map edge_of l.edges) l.places);
 }

@@ -5,7 +5,7 @@ use Rattle.ltl_buchi.specs.BaView.{edge_of, target_at}
 use Rattle.ltl_text.proofs.EdgeLaws.{places_within, target_there}
 use Rattle.ltl_text.proofs.NameLaws.{all_have_names}
 use Rattle.ltl_text.proofs.OptionLaws.{entries_whole, options_fall, options_rise, options_step, options_within, place_cmp}
-use Rattle.ltl_formula.proofs.SendLaws.{leaves_all, leaves_fails, leaves_step, sends_nothing}
+use Rattle.ltl_text.proofs.OutputLaws.{passes_nothing, remains_all, remains_fails, remains_step}
 use Rattle.ltl_text.proofs.TextLaws.{first_all}
 use Rattle.ltl_text.proofs.options.put_options.Goals as goal
 
@@ -18,7 +18,7 @@ options-init g c =
     record {
       within = places_within c.edges-edges.result.now _ _ e c.by_target-rest.ensures.order.within;
       rising = subst (λ l. IsRising (place_cmp (target_at l)) ps) (sym e) rising;
-      text = leaves_step (leaves_all _ _ _) _ (sym (entries_whole c.args.automaton.now c.args.formula.now.names s (map edge_of c.edges-edges.result.now) ps e c.by_target-rest.ensures.order)) (sends_nothing _ _);
+      text = remains_step (remains_all _ _) _ (sym (entries_whole c.args.automaton.now c.args.formula.now.names s (map edge_of c.edges-edges.result.now) ps e c.by_target-rest.ensures.order)) (passes_nothing _);
     }
 
 pub put_guards-requires-clause-named : goal.put_guards-requires-clause-named
@@ -30,7 +30,7 @@ returns-in_err-put g c =
     let within = first_all P _ _ _ c.in-Some.ensures.cases.0 c.options.invariant.within in
     let f = target_there c.edges-edges.result.now _ c.index-edges-place.result within in
     let e = options_step c.args.automaton.now c.args.formula.now.names (map edge_of c.edges-edges.result.now) _ _ _ _ _ _ _ c.in-Some.ensures.cases.0 f c.group_len.ensures.group c.options.invariant.rising c.split_at.ensures.front c.split_at.ensures.back in
-    leaves_fails c.options.invariant.text _ _ _ c.from_residual.ensures.0 e c.in_err-put.ensures
+    remains_fails c.options.invariant.text _ _ c.from_residual.ensures.0 e c.in_err-put.ensures
 
 pub returns-in_err-put_guards : goal.returns-in_err-put_guards
 returns-in_err-put_guards g c =
@@ -38,8 +38,8 @@ returns-in_err-put_guards g c =
     let within = first_all P _ _ _ c.in-Some.ensures.cases.0 c.options.invariant.within in
     let f = target_there c.edges-edges.result.now _ c.index-edges-place.result within in
     let e = options_step c.args.automaton.now c.args.formula.now.names (map edge_of c.edges-edges.result.now) _ _ _ _ _ _ _ c.in-Some.ensures.cases.0 f c.group_len.ensures.group c.options.invariant.rising c.split_at.ensures.front c.split_at.ensures.back in
-    let first = leaves_step c.options.invariant.text _ e c.in_ok-put.ensures in
-    leaves_fails first _ _ _ c.from_residual-in_err-put_guards.ensures.0 refl c.in_err-put_guards.ensures
+    let first = remains_step c.options.invariant.text _ e c.in_ok-put.ensures in
+    remains_fails first _ _ c.from_residual-in_err-put_guards.ensures.0 refl c.in_err-put_guards.ensures
 
 pub returns-in_err-put-2 : goal.returns-in_err-put-2
 returns-in_err-put-2 g c =
@@ -47,9 +47,9 @@ returns-in_err-put-2 g c =
     let within = first_all P _ _ _ c.in-Some.ensures.cases.0 c.options.invariant.within in
     let f = target_there c.edges-edges.result.now _ c.index-edges-place.result within in
     let e = options_step c.args.automaton.now c.args.formula.now.names (map edge_of c.edges-edges.result.now) _ _ _ _ _ _ _ c.in-Some.ensures.cases.0 f c.group_len.ensures.group c.options.invariant.rising c.split_at.ensures.front c.split_at.ensures.back in
-    let first = leaves_step c.options.invariant.text _ e c.in_ok-put.ensures in
-    let second = leaves_step first _ refl c.in_ok-put_guards.ensures in
-    leaves_fails second _ _ _ c.from_residual-in_err-put-2.ensures.0 refl c.in_err-put-2.ensures
+    let first = remains_step c.options.invariant.text _ e c.in_ok-put.ensures in
+    let second = remains_step first _ refl c.in_ok-put_guards.ensures in
+    remains_fails second _ _ c.from_residual-in_err-put-2.ensures.0 refl c.in_err-put-2.ensures
 
 pub returns-in_err-put_label : goal.returns-in_err-put_label
 returns-in_err-put_label g c =
@@ -57,10 +57,10 @@ returns-in_err-put_label g c =
     let within = first_all P _ _ _ c.in-Some.ensures.cases.0 c.options.invariant.within in
     let f = target_there c.edges-edges.result.now _ c.index-edges-place.result within in
     let e = options_step c.args.automaton.now c.args.formula.now.names (map edge_of c.edges-edges.result.now) _ _ _ _ _ _ _ c.in-Some.ensures.cases.0 f c.group_len.ensures.group c.options.invariant.rising c.split_at.ensures.front c.split_at.ensures.back in
-    let first = leaves_step c.options.invariant.text _ e c.in_ok-put.ensures in
-    let second = leaves_step first _ refl c.in_ok-put_guards.ensures in
-    let third = leaves_step second _ refl c.in_ok-put-2.ensures in
-    leaves_fails third _ _ _ c.from_residual-in_err-put_label.ensures.0 refl c.in_err-put_label.ensures
+    let first = remains_step c.options.invariant.text _ e c.in_ok-put.ensures in
+    let second = remains_step first _ refl c.in_ok-put_guards.ensures in
+    let third = remains_step second _ refl c.in_ok-put-2.ensures in
+    remains_fails third _ _ c.from_residual-in_err-put_label.ensures.0 refl c.in_err-put_label.ensures
 
 pub returns-in_err-put-3 : goal.returns-in_err-put-3
 returns-in_err-put-3 g c =
@@ -68,11 +68,11 @@ returns-in_err-put-3 g c =
     let within = first_all P _ _ _ c.in-Some.ensures.cases.0 c.options.invariant.within in
     let f = target_there c.edges-edges.result.now _ c.index-edges-place.result within in
     let e = options_step c.args.automaton.now c.args.formula.now.names (map edge_of c.edges-edges.result.now) _ _ _ _ _ _ _ c.in-Some.ensures.cases.0 f c.group_len.ensures.group c.options.invariant.rising c.split_at.ensures.front c.split_at.ensures.back in
-    let first = leaves_step c.options.invariant.text _ e c.in_ok-put.ensures in
-    let second = leaves_step first _ refl c.in_ok-put_guards.ensures in
-    let third = leaves_step second _ refl c.in_ok-put-2.ensures in
-    let fourth = leaves_step third _ refl c.in_ok-put_label.ensures in
-    leaves_fails fourth _ _ _ c.from_residual-in_err-put-3.ensures.0 refl c.in_err-put-3.ensures
+    let first = remains_step c.options.invariant.text _ e c.in_ok-put.ensures in
+    let second = remains_step first _ refl c.in_ok-put_guards.ensures in
+    let third = remains_step second _ refl c.in_ok-put-2.ensures in
+    let fourth = remains_step third _ refl c.in_ok-put_label.ensures in
+    remains_fails fourth _ _ c.from_residual-in_err-put-3.ensures.0 refl c.in_err-put-3.ensures
 
 pub options-smaller : goal.options-smaller
 options-smaller g c =
@@ -87,12 +87,12 @@ options-preserved g c =
     let within = first_all P _ _ _ c.in-Some.ensures.cases.0 c.options.invariant.within in
     let f = target_there c.edges-edges.result.now _ c.index-edges-place.result within in
     let e = options_step c.args.automaton.now c.args.formula.now.names (map edge_of c.edges-edges.result.now) _ _ _ _ _ _ _ c.in-Some.ensures.cases.0 f c.group_len.ensures.group c.options.invariant.rising c.split_at.ensures.front c.split_at.ensures.back in
-    let first = leaves_step c.options.invariant.text _ e c.in_ok-put.ensures in
-    let second = leaves_step first _ refl c.in_ok-put_guards.ensures in
-    let third = leaves_step second _ refl c.in_ok-put-2.ensures in
-    let fourth = leaves_step third _ refl c.in_ok-put_label.ensures in
+    let first = remains_step c.options.invariant.text _ e c.in_ok-put.ensures in
+    let second = remains_step first _ refl c.in_ok-put_guards.ensures in
+    let third = remains_step second _ refl c.in_ok-put-2.ensures in
+    let fourth = remains_step third _ refl c.in_ok-put_label.ensures in
     record {
       within = options_within c.args.automaton.now c.args.formula.now.names (map edge_of c.edges-edges.result.now) _ _ _ _ _ _ _ c.in-Some.ensures.cases.0 f c.group_len.ensures.group c.options.invariant.rising c.split_at.ensures.front c.split_at.ensures.back P c.options.invariant.within;
       rising = options_rise c.args.automaton.now c.args.formula.now.names (map edge_of c.edges-edges.result.now) _ _ _ _ _ _ _ c.in-Some.ensures.cases.0 f c.group_len.ensures.group c.options.invariant.rising c.split_at.ensures.front c.split_at.ensures.back;
-      text = leaves_step fourth _ refl c.in_ok-put-3.ensures;
+      text = remains_step fourth _ refl c.in_ok-put-3.ensures;
     }

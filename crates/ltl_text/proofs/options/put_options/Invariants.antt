@@ -5,14 +5,14 @@ use Rattle.ltl_spec.specs.Automata.Automaton.{state_at}
 use Rattle.ltl_buchi.specs.BaView.{edge_of, target_at}
 use Rattle.ltl_text.specs.Options.{option_text, options_text}
 use Rattle.ltl_text.proofs.OptionLaws.{entries, place_cmp}
-use Rattle.ltl_formula.proofs.SendLaws.{Leaves}
+use Rattle.ltl_text.proofs.OutputLaws.{Remains}
 use Rattle.ltl_text.proofs.options.put_options.Given as goal
 
 abbrev pub invariant-options : goal.invariant-options
 invariant-options g l = record {
   within : All (λ p. p < length l.edges) l.rest;
   rising : IsRising (place_cmp (target_at (map edge_of l.edges))) l.rest;
-  text : Leaves (g.W.Write.contents l.fn.writer) l.fn.piece (g.W.Write.contents l.writer) l.piece
+  text : Remains g.W.Write.contents l.fn.output l.output
       (entries (target_at (map edge_of l.edges)) (option_text l.automaton l.formula.names (map edge_of l.edges)) l.rest)
       (options_text l.automaton l.formula.names (state_at l.automaton l.k));
 }
