@@ -1,6 +1,7 @@
 -- Worked examples: whole texts and answers by computation.
 pub mod Claims
 pub mod Texts
+pub mod MarkExamples
 pub mod ReaderTexts
 pub mod PruningExamples
 pub mod FactorExamples
