@@ -59,7 +59,7 @@ const OPTIONS: Options = Options {
 
 type Read<'a, B> = Formula<'a, Memory<B>>;
 
-type Rows<'a, B> = Table<'a, Memory<B>>;
+type BuiltTable<'a, B> = Table<'a, Memory<B>>;
 
 fn formula<'a, B: Allocator>(alloc: &'a Memory<B>, text: &str) -> Option<Read<'a, B>> {
     Some(made!(
@@ -74,7 +74,7 @@ fn table<'a, B: Allocator>(
     alloc: &'a Memory<B>,
     formula: &Read<'a, B>,
     negate: bool,
-) -> Option<Rows<'a, B>> {
+) -> Option<BuiltTable<'a, B>> {
     Some(made!(
         alloc,
         of_formula(formula),
@@ -83,7 +83,11 @@ fn table<'a, B: Allocator>(
     ))
 }
 
-fn pairs_of<B: Allocator>(alloc: &Memory<B>, table: &Rows<'_, B>, row: usize) -> Option<Digest>
+fn pairs_of<B: Allocator>(
+    alloc: &Memory<B>,
+    table: &BuiltTable<'_, B>,
+    row: usize,
+) -> Option<Digest>
     requires { row < length table.now.rows }
 {
     let found = made!(alloc, of_table(table), _, pairs(alloc, table, row));
@@ -92,7 +96,7 @@ fn pairs_of<B: Allocator>(alloc: &Memory<B>, table: &Rows<'_, B>, row: usize) ->
 
 fn reached<'a, B: Allocator>(
     alloc: &'a Memory<B>,
-    table: &Rows<'a, B>,
+    table: &BuiltTable<'a, B>,
 ) -> Option<Gba<'a, Memory<B>>> {
     Some(made!(
         alloc,
@@ -140,7 +144,7 @@ fn numbered<'a, B: Allocator>(
     Some(made!(alloc, of_ba(ba), BaFault::OutOfMemory, renumber(alloc, ba)))
 }
 
-fn translated<B: Allocator>(alloc: &Memory<B>, table: &Rows<'_, B>) -> Option<Digest> {
+fn translated<B: Allocator>(alloc: &Memory<B>, table: &BuiltTable<'_, B>) -> Option<Digest> {
     let found = made!(
         alloc,
         of_table(table),
@@ -150,7 +154,7 @@ fn translated<B: Allocator>(alloc: &Memory<B>, table: &Rows<'_, B>) -> Option<Di
     Some(of_ba(&found))
 }
 
-fn generalized_of<B: Allocator>(alloc: &Memory<B>, table: &Rows<'_, B>) -> Option<Digest> {
+fn generalized_of<B: Allocator>(alloc: &Memory<B>, table: &BuiltTable<'_, B>) -> Option<Digest> {
     let found = made!(
         alloc,
         of_table(table),
@@ -161,7 +165,7 @@ fn generalized_of<B: Allocator>(alloc: &Memory<B>, table: &Rows<'_, B>) -> Optio
 }
 
 /// What the automata of a table are.
-fn automata<'a, B: Allocator>(alloc: &'a Memory<B>, table: &Rows<'a, B>) -> Option<Digest> {
+fn automata<'a, B: Allocator>(alloc: &'a Memory<B>, table: &BuiltTable<'a, B>) -> Option<Digest> {
     let gba = reached(alloc, table)?;
     let merged = merged(alloc, &gba)?;
     let ba = copied(alloc, &merged)?;
@@ -172,7 +176,10 @@ fn automata<'a, B: Allocator>(alloc: &'a Memory<B>, table: &Rows<'a, B>) -> Opti
 }
 
 /// What is made of a table is.
-fn made_of_table<'a, B: Allocator>(alloc: &'a Memory<B>, table: &Rows<'a, B>) -> Option<Digest> {
+fn made_of_table<'a, B: Allocator>(
+    alloc: &'a Memory<B>,
+    table: &BuiltTable<'a, B>,
+) -> Option<Digest> {
     let mut digest = of_table(table);
     for row in 0..table.len() {
         digest = digest.with(pairs_of(alloc, table, row)?);

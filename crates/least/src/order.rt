@@ -37,7 +37,7 @@ fn tallied<T: Below>(items: &[T]) -> ([u32; ELEMENTS], u32) {
     let step = items.len() / SAMPLE + 1;
     let mut counts = [0u32; ELEMENTS];
     let mut all = 0u32;
-    'sample: for k in 0..SAMPLE {
+    for k in 0..SAMPLE {
         if let Some(item) = items.get(k.saturating_mul(step)) {
             item.tally(&mut counts);
             all = all.saturating_add(1);
@@ -51,7 +51,7 @@ fn dividing<T: Below>(items: &[T]) -> Option<usize> {
     let (counts, all) = tallied(items);
     let mut best = None;
     let mut most = 0;
-    'elements: for (element, count) in counts.iter().enumerate() {
+    for (element, count) in counts.iter().enumerate() {
         let smaller = (*count).min(all.saturating_sub(*count));
         if smaller > most {
             most = smaller;

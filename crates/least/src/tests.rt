@@ -46,7 +46,7 @@ impl Below for Bits {
     }
 
     fn tally(&self, counts: &mut [u32]) {
-        'elements: for element in 0..64usize {
+        for element in 0..64usize {
             if self.has(element) {
                 if let Some(count) = counts.get_mut(element) {
                     *count = count.saturating_add(1);

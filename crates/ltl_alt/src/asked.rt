@@ -126,7 +126,7 @@ fn awaited_by<A: Allocator>(table: &Table<'_, A>, own: &[PairSet<'_, A>], target
     requires own { AreOwn (table_at table.now) own.now }
     ensures { AwaitsAll (table_at table.now) own.now targets.now (length (table_at table.now).untils) result }
 {
-    let _ = table.len();
+    table.invariant();
     let mut awaited = Asked::nothing();
     'untils: for number in 0..until_count(table) {
         let place = place(table, until_row(table, number));

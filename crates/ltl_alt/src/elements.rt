@@ -32,7 +32,7 @@ pub fn count(counts: &mut [u32], element: usize) {
 
 /// Adds one to the count of each literal.
 pub fn tally_literals(cube: &Cube, counts: &mut [u32]) {
-    'literals: for literal in cube.iter() {
+    for literal in cube.iter() {
         if literal.positive {
             count(counts, literal.proposition);
         } else {
@@ -43,7 +43,7 @@ pub fn tally_literals(cube: &Cube, counts: &mut [u32]) {
 
 /// Adds one to the count of each row.
 pub fn tally_rows(rows: &RowSet, counts: &mut [u32]) {
-    'rows: for row in rows.iter() {
+    for row in rows.iter() {
         count(counts, row.saturating_add(LITERALS));
     }
 }

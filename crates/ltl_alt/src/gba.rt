@@ -6,7 +6,7 @@ ghost use Rattle.ltl_spec.specs.Automata.Generalized.{IsGeneralized, IsTooLarge}
 ghost use Rattle.ltl_spec.specs.Tools.Limits.{stated_limits};
 ghost use Rattle.ltl_formula.specs.TableView.{core_of};
 ghost use Rattle.ltl_automaton.specs.SharedView.{automaton_of};
-ghost use Rattle.ltl_alt.specs.GbaView.{IsGba, IsAcceptingGba, edge_of};
+ghost use Rattle.ltl_alt.specs.GbaView.{IsAcceptingGba, edge_of};
 
 use crate::reach::reach;
 use ltl_automaton::{AutomatonFault as AltFault, Edge as GbaEdge, SharedStates};
@@ -91,16 +91,9 @@ impl<'a, A: Allocator> Gba<'a, A> {
         self.states.edges(i)
     }
 
-    /// Hands what the type holds to callers.
-    pub fn stays_within(&self)
-        ensures { IsGba self.now }
-    {
-        let _ = &self.states;
-    }
-
-    /// Hands to callers that every state is accepting, so that only the acceptance sets count.
-    pub fn accepts_everywhere(&self)
-        ensures { All (λ s. s.accepting ≡ true) self.now.states }
+    /// Hands what the type promises to callers.
+    pub fn invariant(&self)
+        ensures { IsAcceptingGba self.now }
     {
         let _ = &self.states;
     }

@@ -95,7 +95,7 @@ impl<'a, A: Allocator> Joins<'a, A> {
     fn number(&self, pairs: &[Pair]) -> Option<usize>
         ensures { IfSome result (IsListAt self.now.lists.items pairs.now) }
     {
-        'lists: for k in 0..self.lists.len() {
+        for k in 0..self.lists.len() {
             if are_same(self.lists[k].as_slice(), pairs) {
                 return Some(k);
             }

@@ -44,7 +44,7 @@ fn is_marked<A: Allocator>(
     requires within { number < length table.now.untils }
     ensures { result ≡ is_marked_at table.now pair.now number }
 {
-    let _ = table.len();
+    table.invariant();
     let row = until_row(table, number);
     is_kept_up(place(table, row), own[number].as_slice(), pair)
 }
@@ -54,7 +54,7 @@ fn marks<A: Allocator>(table: &Table<'_, A>, own: &[PairSet<'_, A>], pair: &Pair
     requires { AreOwn (table_at table.now) own.now }
     ensures { result ≡ (spec.with_marks (table_at table.now) pair.now).marks }
 {
-    let _ = table.len();
+    table.invariant();
     let mut marks = RowSet::empty();
     'untils: for number in 0..until_count(table) {
         let is_mark = is_marked(table, own, pair, number);

@@ -81,7 +81,7 @@ pub(crate) fn needs<'a, A: Allocator>(
         pairs: false,
         sets: false,
     };
-    let _ = table.len();
+    table.invariant();
     let mut needs: Vec<Need, &'a A> = Vec::new(alloc);
     needs.resize(row + 1, nothing)?;
     needs[row].pairs = true;

@@ -49,7 +49,7 @@ fn own_pairs<'a, A: Allocator>(
     ensures lists { OnOk result (AreLists table.now Contained lists.new.pairs.items lists.new.sets.items) }
     ensures enough { IfOk result (λ s. IsEnough (own_pairs (table_at table.now) (slice_index_or (table_at table.now).untils number Bottom)) s) }
 {
-    let _ = table.len();
+    table.invariant();
     let row = until_row(table, number);
     let pruning = Pruning {
         rule: Rule::Contained,
@@ -67,7 +67,7 @@ pub(crate) fn all_own<'a, A: Allocator>(
 ) -> Result<Vec<PairSet<'a, A>, &'a A>, AllocError>
     ensures { IfOk result (λ v. AreOwn (table_at table.now) v.items) }
 {
-    let _ = table.len();
+    table.invariant();
     let mut lists = RowLists::new(alloc, table)?;
     let mut all = Vec::new(alloc);
     'untils: for number in 0..until_count(table) {

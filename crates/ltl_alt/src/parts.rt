@@ -205,7 +205,7 @@ impl<'a, A: Allocator> Parts<'a, A> {
         ensures longer { OnOk result (IsLonger self.old.lists.items self.new.lists.items) }
     {
         let unmade = state.without(&self.made);
-        unmade.members_rise();
+        unmade.invariant();
         let mut left = count(&unmade);
         let mut rest = unmade.iter();
         'members: while let Some(place) = rest.next() {
@@ -230,7 +230,7 @@ impl<'a, A: Allocator> Parts<'a, A> {
         requires few { length self.now.owners.items ≤ RowSet.LIMIT }
         ensures { result ≡ numbers_in self.now.owners.items state.now }
     {
-        self.made.members_rise();
+        self.made.invariant();
         let mut numbers = RowSet::empty();
         'parts: for k in 0..self.owners.len() {
             put_if(&mut numbers, k, state.contains(self.owners[k]));
@@ -242,7 +242,7 @@ impl<'a, A: Allocator> Parts<'a, A> {
     pub(crate) fn are_few(&self, numbers: &RowSet, most: usize) -> bool {
         let mut count = 1usize;
         let mut rest = numbers.iter();
-        'members: while let Some(number) = rest.next() {
+        while let Some(number) = rest.next() {
             if let Some(list) = self.lists.get(number) {
                 count = count.saturating_mul(list.as_slice().len());
             }

@@ -33,7 +33,7 @@ pub(crate) fn piece_at<A: Allocator>(table: &Table<'_, A>, place: usize) -> Piec
     ensures piece { IsPiece table.now result }
     ensures pairs { spec.pairs_at (table_at table.now) place ≡ piece_pairs table.now result }
 {
-    let _ = table.len();
+    table.invariant();
     match elementary_row(table, place) {
         Some(row) => Piece::Whole(row),
         None => Piece::Never,
@@ -66,7 +66,7 @@ fn opened<A: Allocator>(
     let Piece::Whole(row) = piece else {
         return None;
     };
-    let _ = table.len();
+    table.invariant();
     match table.row(row) {
         Row::And(left, right) => Some((Piece::Whole(left), Piece::Whole(right))),
         Row::Release(left, right) => {

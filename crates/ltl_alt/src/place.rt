@@ -25,7 +25,7 @@ pub(crate) fn place<A: Allocator>(table: &Table<'_, A>, row: usize) -> usize
     ensures place { result ≡ row_place table.now (row_tree table.now row) }
     ensures small { Has table.now.elementary row → result < RowSet.LIMIT }
 {
-    let _ = table.len();
+    table.invariant();
     let elementary = table.elementary();
     index_of(elementary, row).unwrap_or(elementary.len())
 }
@@ -36,7 +36,7 @@ pub(crate) fn until_count<A: Allocator>(table: &Table<'_, A>) -> usize
     ensures count { result ≡ length table.now.untils }
     ensures few { result ≤ stated_limits.elementary_rows }
 {
-    let _ = table.len();
+    table.invariant();
     table.untils().len()
 }
 
@@ -48,7 +48,7 @@ pub(crate) fn until_row<A: Allocator>(table: &Table<'_, A>, number: usize) -> us
     ensures within { result < length table.now.rows }
     ensures elementary { Has table.now.elementary result }
 {
-    let _ = table.len();
+    table.invariant();
     table.untils()[number]
 }
 
@@ -65,7 +65,7 @@ pub(crate) fn elementary_row<A: Allocator>(table: &Table<'_, A>, place: usize) -
     ensures found { result ≡ slice_get table.now.elementary place }
     ensures within { IfSome result (λ k. k < length table.now.rows) }
 {
-    let _ = table.len();
+    table.invariant();
     elementary_at(table, place)
 }
 

@@ -102,7 +102,7 @@ fn measure<'a, A: Allocator>(
 /// The greatest size.
 fn largest(measured: &[Measured]) -> usize {
     let mut most = 0;
-    'measured: for m in measured {
+    for m in measured {
         most = most.max(m.size);
     }
     most
@@ -135,7 +135,7 @@ fn seem_least<A: Allocator>(
     if measured.len() <= MANY {
         return false;
     }
-    'sample: for k in 0..SAMPLE {
+    for k in 0..SAMPLE {
         if let Some(m) = measured.get(k.wrapping_mul(APART) % measured.len()) {
             if lookup.has_lesser(pruning, m) {
                 return false;

@@ -129,7 +129,7 @@ impl<'t, 's, 'a, A: Allocator> Successors<RowSet> for RowSets<'t, 's, 'a, A> {
 
 /// Whether an until or a release row stands at a place among the elementary rows.
 fn is_temporal<A: Allocator>(table: &Table<'_, A>, place: usize) -> bool {
-    let _ = table.len();
+    table.invariant();
     match elementary_row(table, place) {
         Some(row) => matches!(table.row(row), Row::Until(_, _) | Row::Release(_, _)),
         None => false,
@@ -157,7 +157,7 @@ pub(crate) fn reach<'a, A: Allocator>(
     ensures fits { IfOk result (λ _. ¬ (IsTooLarge (core_of table.now) keep_implied stated_limits.states stated_limits.edges)) }
     ensures large { IsErrOf result AltFault.TooLarge → IsTooLarge (core_of table.now) keep_implied stated_limits.states stated_limits.edges }
 {
-    let _ = table.len();
+    table.invariant();
     let mut lists = RowLists::new(alloc, table)?;
     let own = all_own(alloc, table)?;
     let mut groups = Groups::new(alloc);

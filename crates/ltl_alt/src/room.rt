@@ -64,7 +64,7 @@ fn make_room<'a, A: Allocator>(
     if have_room(alloc, table, parts, &unmade)? {
         return Ok(());
     }
-    state.members_rise();
+    state.invariant();
     parts.forget(alloc);
     *groups = Groups::new(alloc);
     Ok(())

@@ -224,7 +224,7 @@ impl<'a, A: Allocator> RowLists<'a, A> {
             → HavePairs table.now pruning.now.rule (list_at self.now.pairs.items) (list_at self.now.sets.items) r }
         ensures { IfOk result (IsListedRow table.now pruning.now.rule row) }
     {
-        let _ = table.len();
+        table.invariant();
         let all = self.pairs_from(alloc, table.row(row), place(table, row))?;
         let pairs = prune(alloc, pruning, all)?;
         Ok(PairSet { pairs })
@@ -279,7 +279,7 @@ impl<'a, A: Allocator> RowLists<'a, A> {
         requires have { (r : made.Row) → slice_get table.now.rows row ≡ Some r → HaveSets table.now pruning.now.rule (list_at self.now.sets.items) r }
         ensures { IfOk result (IsListedSet table.now pruning.now.rule row) }
     {
-        let _ = table.len();
+        table.invariant();
         let all = self.sets_from(alloc, table.row(row), place(table, row))?;
         let pairs = prune(alloc, pruning, all)?;
         Ok(PairSet { pairs })

@@ -116,7 +116,7 @@ impl<'a, A: Allocator> Shapes<'a, A> {
         ensures { (T : spec.Table) → (keep : Bool) → AreShapes T keep self.now.shapes.items self.now.states.items
             → IfSome result (IsShape T keep (map (made_of groups.now.lists.items) numbers.now)) }
     {
-        'shapes: for k in 0..self.shapes.len() {
+        for k in 0..self.shapes.len() {
             if self.shapes[k].is_of(groups, numbers) {
                 return self.states.get(k).copied();
             }

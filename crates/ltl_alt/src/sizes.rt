@@ -37,7 +37,7 @@ pub(crate) fn transitions_at_least<'a, A: Allocator>(
         own,
     };
     prepare(alloc, table, rows, parts, groups, &pruning, state)?;
-    state.members_rise();
+    state.invariant();
     let all = parts.numbers(state);
     match known_numbers(alloc, table, own, parts, groups, &all)? {
         Some(numbers) => Ok(combinations(groups, numbers.as_slice())),

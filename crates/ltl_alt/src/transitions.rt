@@ -64,9 +64,9 @@ fn group_numbers<'a, A: Allocator>(
     let mut numbers: GroupNumbers<'a, A> = SmallVec::new(alloc);
     let mut rest = *all;
     'groups: while let Some(part) = first(&rest) {
-        rest.members_rise();
+        rest.invariant();
         let group = parts.group(part, &rest);
-        group.members_rise();
+        group.invariant();
         numbers.push(groups.number(alloc, table, parts, joins, pruning, keep_implied, &group)?)?;
         rest = rest.without(&group);
     }
@@ -98,7 +98,7 @@ pub(crate) fn transitions<'a, A: Allocator>(
         own,
     };
     prepare(alloc, table, rows, parts, groups, &pruning, state)?;
-    state.members_rise();
+    state.invariant();
     let all = parts.numbers(state);
     let remembered = groups.len();
     let numbers = group_numbers(

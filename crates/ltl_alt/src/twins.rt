@@ -45,9 +45,9 @@ pub(crate) fn known_numbers<'a, A: Allocator>(
     let mut numbers: GroupNumbers<'a, A> = SmallVec::new(alloc);
     let mut rest = *all;
     'groups: while let Some(part) = first(&rest) {
-        rest.members_rise();
+        rest.invariant();
         let group = parts.group(part, &rest);
-        group.members_rise();
+        group.invariant();
         let Some(number) = groups.find(&group) else {
             return Ok(None);
         };
@@ -81,7 +81,7 @@ fn twin_by_pairs<'a, A: Allocator>(
     if parts.are_few(all, FEW) {
         return Ok(None);
     }
-    all.members_rise();
+    all.invariant();
     let Some(part) = first(all) else {
         return Ok(None);
     };
@@ -125,9 +125,9 @@ pub(crate) fn twin<'a, A: Allocator>(
         own,
     };
     prepare(alloc, table, rows, parts, groups, &pruning, state)?;
-    state.members_rise();
+    state.invariant();
     let all = parts.numbers(state);
-    all.members_rise();
+    all.invariant();
     let Some(numbers) = known_numbers(alloc, table, own, parts, groups, &all)? else {
         let twin = twin_by_pairs(
             alloc,

@@ -14,24 +14,24 @@ use Rattle.ltl_spec.proofs.Collections.ListLaws.{HasNoRepeats-with_new}
 use Rattle.ltl_spec.proofs.Automata.ListingLaws.{with_new_behind}
 use Rattle.ltl_automaton.specs.EdgeView.{same_edges, edges_Decides}
 use Rattle.ltl_automaton.specs.SharedView.{Shared, state_in, states_in, automaton_of, ArePlaces, IsShared, with_state}
-use Rattle.ltl_automaton.specs.declared.shared.Place.{Place}
+use Rattle.ltl_automaton.specs.declared.shared.SharedState.{SharedState}
 
 -- states have lists where more lists are put behind
-places_longer : (lists new : List (List Edge)) (ps qs : List Place) → (more : List (List Edge)) × (new ≡ lists ++ more) → qs ≡ ps → ArePlaces lists ps → ArePlaces new qs
+places_longer : (lists new : List (List Edge)) (ps qs : List SharedState) → (more : List (List Edge)) × (new ≡ lists ++ more) → qs ≡ ps → ArePlaces lists ps → ArePlaces new qs
 places_longer lists new ps qs w e a =
     let l = ap length w.1 ∙ length-append lists w.0 in
-    subst (ArePlaces new) (sym e) (All-weaker (λ (p : Place). p.list < length lists) (λ (p : Place). p.list < length new) (λ p h. omega arith) ps a)
+    subst (ArePlaces new) (sym e) (All-weaker (λ (p : SharedState). p.list < length lists) (λ (p : SharedState). p.list < length new) (λ p h. omega arith) ps a)
 
 -- also with one more state
-places_pushed : (lists new : List (List Edge)) (ps qs : List Place) (p : Place) → (more : List (List Edge)) × (new ≡ lists ++ more) → qs ≡ ps ++ p ∷ [] → p.list < length new → ArePlaces lists ps → ArePlaces new qs
-places_pushed lists new ps qs p w e l a = subst (ArePlaces new) (sym e) (All-push (λ (q : Place). q.list < length new) ps p (places_longer lists new ps ps w refl a) l)
+places_pushed : (lists new : List (List Edge)) (ps qs : List SharedState) (p : SharedState) → (more : List (List Edge)) × (new ≡ lists ++ more) → qs ≡ ps ++ p ∷ [] → p.list < length new → ArePlaces lists ps → ArePlaces new qs
+places_pushed lists new ps qs p w e l a = subst (ArePlaces new) (sym e) (All-push (λ (q : SharedState). q.list < length new) ps p (places_longer lists new ps ps w refl a) l)
 
 -- and have the same edges
-states_stay : (lists more : List (List Edge)) (ps : List Place) → ArePlaces lists ps → states_in (lists ++ more) ps ≡ states_in lists ps
+states_stay : (lists more : List (List Edge)) (ps : List SharedState) → ArePlaces lists ps → states_in (lists ++ more) ps ≡ states_in lists ps
 states_stay lists more [] a = refl
 states_stay lists more (p ∷ ps) a =
-    let first = index_append lists more p.list [] (All-head (λ (q : Place). q.list < length lists) p ps a) in
-    let rest = states_stay lists more ps (All-tail (λ (q : Place). q.list < length lists) p ps a) in
+    let first = index_append lists more p.list [] (All-head (λ (q : SharedState). q.list < length lists) p ps a) in
+    let rest = states_stay lists more ps (All-tail (λ (q : SharedState). q.list < length lists) p ps a) in
     λ i. (let s : State = record { accepting = p.accepting; edges = first i } in s) ∷ rest i
 
 index_there : {K : Type 0} (xs : List K) (i : ℕ) (x d : K) → slice_get xs i ≡ Some x → (i < length xs) × (slice_index_or xs i d ≡ x)
@@ -46,7 +46,7 @@ index_there (y ∷ ys) (suc i) x d e = let w = index_there ys i x d e in (omega 
 pub found_within : (new : List (List Edge)) (i : ℕ) (edges : List Edge) → slice_get new i ≡ Some edges → i < length new
 found_within new i edges e = (index_there new i edges [] e).0
 
-pub shared_pushed : (sets : ℕ) (lists new : List (List Edge)) (ps qs : List Place) (p : Place) (edges : List Edge) (old : Shared) → (more : List (List Edge)) × (new ≡ lists ++ more) → qs ≡ ps ++ p ∷ []
+pub shared_pushed : (sets : ℕ) (lists new : List (List Edge)) (ps qs : List SharedState) (p : SharedState) (edges : List Edge) (old : Shared) → (more : List (List Edge)) × (new ≡ lists ++ more) → qs ≡ ps ++ p ∷ []
     → slice_get new p.list ≡ Some edges → ArePlaces lists ps → (let s : Shared = record { sets = sets; lists = lists; states = ps } in s) ≡ old
     → automaton_of (record { sets = sets; lists = new; states = qs }) ≡ with_state (automaton_of old) p.accepting edges
 shared_pushed sets lists new ps qs p edges old w e f a o =
@@ -57,14 +57,14 @@ shared_pushed sets lists new ps qs p edges old w e f a o =
     (λ i. let A : Automaton = record { sets = sets; states = all i } in A) ∙ ap (λ s. with_state (automaton_of s) p.accepting edges) o
 
 -- one more state with the list of another
-pub shared_again : (lists : List (List Edge)) (ps qs : List Place) (p : Place) → qs ≡ ps ++ p ∷ [] → p.list < length lists → IsShared lists ps → IsShared lists qs
+pub shared_again : (lists : List (List Edge)) (ps qs : List SharedState) (p : SharedState) → qs ≡ ps ++ p ∷ [] → p.list < length lists → IsShared lists ps → IsShared lists qs
 shared_again lists ps qs p q l w = record {
-  places = subst (ArePlaces lists) (sym q) (All-push (λ (r : Place). r.list < length lists) ps p w.places l);
+  places = subst (ArePlaces lists) (sym q) (All-push (λ (r : SharedState). r.list < length lists) ps p w.places l);
   distinct = w.distinct;
   used = λ k m. let u = w.used k m in (u.0, subst (λ xs. Has xs u.0) (sym q) (append_left ps (p ∷ []) u.0 u.1), u.2);
 }
 
-pub again_is : (sets : ℕ) (lists : List (List Edge)) (ps qs : List Place) (p : Place) (edges : List Edge) (old : Shared) → qs ≡ ps ++ p ∷ [] → slice_get lists p.list ≡ Some edges → IsShared lists ps
+pub again_is : (sets : ℕ) (lists : List (List Edge)) (ps qs : List SharedState) (p : SharedState) (edges : List Edge) (old : Shared) → qs ≡ ps ++ p ∷ [] → slice_get lists p.list ≡ Some edges → IsShared lists ps
     → (let s : Shared = record { sets = sets; lists = lists; states = ps } in s) ≡ old → automaton_of (record { sets = sets; lists = lists; states = qs }) ≡ with_state (automaton_of old) p.accepting edges
 again_is sets lists ps qs p edges old q e w o = shared_pushed sets lists lists ps qs p edges old ([], sym (append-nil lists)) q e w.places o
 
@@ -90,15 +90,15 @@ module _ (lists new : List (List Edge)) (x : List Edge) (e : new ≡ insert_key 
   distinct : HasNoRepeats lists → HasNoRepeats new
   distinct d = subst HasNoRepeats (sym e) (HasNoRepeats-with_new same_edges edges_Decides lists x d)
 
-  module _ (p : Place) (edges : List Edge) (is : x ≡ edges) (found : (k : List Edge) × (slice_get new p.list ≡ Some k) × (same_edges x k ≡ true)) where
+  module _ (p : SharedState) (edges : List Edge) (is : x ≡ edges) (found : (k : List Edge) × (slice_get new p.list ≡ Some k) × (same_edges x k ≡ true)) where
     there : slice_get new p.list ≡ Some edges
     there = found.1 ∙ ap (λ (es : List Edge). Some es) (sym ((edges_Decides x found.0).0 found.2) ∙ is)
 
-    pub shared_more : (ps qs : List Place) → qs ≡ ps ++ p ∷ [] → IsShared lists ps → IsShared new qs
+    pub shared_more : (ps qs : List SharedState) → qs ≡ ps ++ p ∷ [] → IsShared lists ps → IsShared new qs
     shared_more ps qs q w = record {
       places = places_pushed lists new ps qs p grown q (found_within new p.list edges there) w.places;
       distinct = distinct w.distinct;
-      used = λ k l. subst (λ xs. (r : Place) × Has xs r × (r.list ≡ k)) (sym q) (elim (below_or_last k l) [
+      used = λ k l. subst (λ xs. (r : SharedState) × Has xs r × (r.list ≡ k)) (sym q) (elim (below_or_last k l) [
         | inl m ↦ let u = w.used k m in (u.0, append_left ps (p ∷ []) u.0 u.1, u.2)
         | inr m ↦ (p, append_right ps (p ∷ []) p (inl refl), got_once new p.list k edges (distinct w.distinct) there m)
       ]);
@@ -122,6 +122,6 @@ module _ (lists new : List (List Edge)) (x : List Edge) (e : new ≡ insert_key 
                 one : length (x ∷ []) ≡ 1
                 one = refl
 
-    pub shared_is : (sets : ℕ) (ps qs : List Place) (old : Shared) → qs ≡ ps ++ p ∷ [] → IsShared lists ps → (let s : Shared = record { sets = sets; lists = lists; states = ps } in s) ≡ old
+    pub shared_is : (sets : ℕ) (ps qs : List SharedState) (old : Shared) → qs ≡ ps ++ p ∷ [] → IsShared lists ps → (let s : Shared = record { sets = sets; lists = lists; states = ps } in s) ≡ old
         → automaton_of (record { sets = sets; lists = new; states = qs }) ≡ with_state (automaton_of old) p.accepting edges
     shared_is sets ps qs old q w o = shared_pushed sets lists new ps qs p edges old grown q there w.places o

@@ -3,19 +3,19 @@ use Rattle.std.specs.Prelude.{◌≡◌, ℕ, ◌<◌, Bool, List, [], ◌∷◌
 use Rattle.ltl_spec.specs.Automata.Automaton.{Automaton, State, Edge}
 use Rattle.ltl_spec.specs.Collections.Lists.{HasNoRepeats}
 use Rattle.ltl_spec.specs.Collections.Sets.{Has}
-use Rattle.ltl_automaton.specs.declared.shared.Place.{Place}
+use Rattle.ltl_automaton.specs.declared.shared.SharedState.{SharedState}
 
 -- the lists of edges, and for each state the number of its list
 pub record Shared : Type 0 where
   pub sets : ℕ
   pub lists : List (List Edge)
-  pub states : List Place
+  pub states : List SharedState
 
 -- the state at a place
-abbrev pub state_in : List (List Edge) → Place → State
+abbrev pub state_in : List (List Edge) → SharedState → State
 state_in lists p = record { accepting = p.accepting; edges = slice_index_or lists p.list [] }
 
-abbrev pub states_in : List (List Edge) → List Place → List State
+abbrev pub states_in : List (List Edge) → List SharedState → List State
 states_in lists places = map (state_in lists) places
 
 -- the automaton that it is
@@ -23,14 +23,14 @@ abbrev pub automaton_of : Shared → Automaton
 automaton_of s = record { sets = s.sets; states = states_in s.lists s.states }
 
 -- each state has a list
-abbrev pub ArePlaces : List (List Edge) → List Place → Type 0
+abbrev pub ArePlaces : List (List Edge) → List SharedState → Type 0
 ArePlaces lists places = All (λ p. p.list < length lists) places
 
 -- and each list stands once, and is the list of a state
-pub record IsShared (lists : List (List Edge)) (states : List Place) : Type 0 where
+pub record IsShared (lists : List (List Edge)) (states : List SharedState) : Type 0 where
   pub places : ArePlaces lists states
   pub distinct : HasNoRepeats lists
-  pub used : (k : ℕ) → k < length lists → (p : Place) × Has states p × (p.list ≡ k)
+  pub used : (k : ℕ) → k < length lists → (p : SharedState) × Has states p × (p.list ≡ k)
 
 -- the automaton with one more state
 abbrev pub with_state : Automaton → Bool → List Edge → Automaton

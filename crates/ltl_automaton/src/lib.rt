@@ -28,12 +28,11 @@ pub mod edge_list;
 pub mod explore;
 pub mod fault;
 pub mod keys;
+pub mod level;
 pub mod listing;
 pub mod shared;
 pub mod sorting;
 pub mod successors;
-#[cfg(test)]
-mod tests;
 
 pub use arc::Arc;
 pub use distinct::Distinct;
@@ -41,7 +40,8 @@ pub use edge::Edge;
 pub use edge_list::EdgeList;
 pub use explore::{Limits, explore_from};
 pub use fault::AutomatonFault;
+pub use level::next_level;
 pub use listing::{Key, Listing};
-pub use shared::{Place, SharedStates};
+pub use shared::{SharedState, SharedStates};
 pub use sorting::sort_edges;
 pub use successors::Successors;

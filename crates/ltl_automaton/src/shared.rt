@@ -16,7 +16,7 @@ type Lists<'a, A> = Distinct<'a, EdgeList<'a, A>, A>;
 
 /// A state: the number of its list of edges, and whether it is accepting.
 #[derive(Clone, Copy, Debug, PartialEq, Eq, Hash)]
-pub struct Place {
+pub struct SharedState {
     pub list: usize,
     pub accepting: bool,
 }
@@ -26,7 +26,7 @@ pub struct Place {
 pub struct SharedStates<'a, A: Allocator> {
     sets: usize,
     lists: Lists<'a, A>,
-    states: Vec<Place, &'a A>,
+    states: Vec<SharedState, &'a A>,
 }
 
 impl<'a, A: Allocator> Model for SharedStates<'a, A> {
@@ -89,9 +89,9 @@ impl<'a, A: Allocator> SharedStates<'a, A> {
     }
 
     /// A state, with the number of its list.
-    pub fn place(&self, i: usize) -> Place
+    pub fn state(&self, i: usize) -> SharedState
         requires { i < length (automaton_of self.now).states }
-        ensures place { slice_get self.now.states i ≡ Some result }
+        ensures state { slice_get self.now.states i ≡ Some result }
         ensures within { result.list < length self.now.lists }
     {
         self.states[i]
@@ -114,8 +114,8 @@ impl<'a, A: Allocator> SharedStates<'a, A> {
         self.list_edges(self.list(i))
     }
 
-    /// Hands to callers that each list stands once, and is the list of a state.
-    pub fn shares(&self)
+    /// Hands what the type promises to callers: each list stands once, and is the list of a state.
+    pub fn invariant(&self)
         ensures { IsShared self.now.lists self.now.states }
     {
         let _ = &self.states;
@@ -127,7 +127,7 @@ impl<'a, A: Allocator> SharedStates<'a, A> {
     {
         self.states.reserve(1)?;
         let list = self.lists.number(EdgeList::new(edges))?;
-        self.states.push(Place { list, accepting })?;
+        self.states.push(SharedState { list, accepting })?;
         Ok(())
     }
 
@@ -137,7 +137,7 @@ impl<'a, A: Allocator> SharedStates<'a, A> {
         ensures ok { OnOk result (automaton_of self.new ≡ with_state (automaton_of self.old) accepting (state_at (automaton_of self.old) i).edges) }
     {
         let list = self.list(i);
-        self.states.push(Place { list, accepting })?;
+        self.states.push(SharedState { list, accepting })?;
         Ok(())
     }
 }

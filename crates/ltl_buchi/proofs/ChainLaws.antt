@@ -6,7 +6,7 @@ use Rattle.std.proofs.lemmas.Bool.{false_from_ne_true}
 use Rattle.std.proofs.lemmas.List.{get_or-set_same, get_or-set_other}
 use Rattle.ltl_spec.specs.Collections.Sets.{Has}
 use Rattle.ltl_spec.specs.Construction.Merging.{same_edge, implies_edge, unimplied_edges}
-use Rattle.ltl_spec.specs.Construction.ImpliedEdges.{is_above}
+use Rattle.ltl_spec.specs.Construction.ImpliedEdges.{implies_other}
 use Rattle.ltl_spec.proofs.Collections.CaseLaws.{below_equal_above, right_true}
 use Rattle.ltl_spec.proofs.Collections.ListLaws.{Has-at, index_append, index_done}
 use Rattle.ltl_spec.proofs.Collections.MemberLaws.{any_cases, any_true, map_cases, Has-map, filter_all}
@@ -19,10 +19,10 @@ use Rattle.ltl_buchi.proofs.AskedLaws.{same_test}
 use Rattle.ltl_buchi.proofs.Within.{pushed_longer}
 
 -- the tests of one other edge
-pub not_above_itself : (o e : made.Edge) (s : Bool) → s ≡ same_code o e → s ≡ true → false ≡ is_above (edge_of o) (edge_of e)
+pub not_above_itself : (o e : made.Edge) (s : Bool) → s ≡ same_code o e → s ≡ true → false ≡ implies_other (edge_of o) (edge_of e)
 not_above_itself o e s i t = ap (λ b. not b && implies_edge (edge_of o) (edge_of e)) (sym t ∙ i ∙ same_test o e)
 
-pub above_if_implied : (o e : made.Edge) (s r : Bool) → s ≡ same_code o e → s ≡ false → r ≡ implies_edge (edge_of o) (edge_of e) → r ≡ is_above (edge_of o) (edge_of e)
+pub above_if_implied : (o e : made.Edge) (s r : Bool) → s ≡ same_code o e → s ≡ false → r ≡ implies_edge (edge_of o) (edge_of e) → r ≡ implies_other (edge_of o) (edge_of e)
 above_if_implied o e s r i t w = w ∙ ap (λ b. not b && implies_edge (edge_of o) (edge_of e)) (sym t ∙ i ∙ same_test o e)
 
 -- an edge of the list stands at a place
@@ -81,9 +81,9 @@ links_next es links more n p w e v = record {
 pub record IsUnderWay (es : List made.Edge) (k p : ℕ) : Type 0 where
   pub within : p ≤ length es
   pub same : 0 < p → target_at es (p - 1) ≡ target_at es k
-  pub left : (j : ℕ) → j < length es → is_above (edge_of (edge_at es j)) (edge_of (edge_at es k)) ≡ true → j < p
+  pub left : (j : ℕ) → j < length es → implies_other (edge_of (edge_at es j)) (edge_of (edge_at es k)) ≡ true → j < p
 
-pub above_target : (f e : made.Edge) → is_above (edge_of f) (edge_of e) ≡ true → f.target ≡ e.target
+pub above_target : (f e : made.Edge) → implies_other (edge_of f) (edge_of e) ≡ true → f.target ≡ e.target
 above_target f e t = ((implies_edge_Decides (edge_of f) (edge_of e)).0 (right_true (not (same_edge (edge_of f) (edge_of e))) _ t)).target
 
 pub way_begins : (es : List made.Edge) (heads : List ℕ) (k : ℕ) → k < length es → AreHeads es heads (length es) → IsUnderWay es k (slice_index heads (target_at es k))
@@ -91,7 +91,7 @@ way_begins es heads k l w =
     let v = w k l in
     record { within = v.within; same = v.same; left = λ j m t. v.last j m (above_target (edge_at es j) (edge_at es k) t) }
 
-pub way_goes_on : (es : List made.Edge) (links : List ℕ) (k p : ℕ) → AreLinks es links (length es) → IsUnderWay es k p → 0 < p → is_above (edge_of (edge_at es (p - 1))) (edge_of (edge_at es k)) ≡ false → IsUnderWay es k (slice_index links (p - 1))
+pub way_goes_on : (es : List made.Edge) (links : List ℕ) (k p : ℕ) → AreLinks es links (length es) → IsUnderWay es k p → 0 < p → implies_other (edge_of (edge_at es (p - 1))) (edge_of (edge_at es k)) ≡ false → IsUnderWay es k (slice_index links (p - 1))
 way_goes_on es links k p w u s n =
     let a = u.within in
     let v = w.each (p - 1) (omega (arith, a, s)) in
@@ -101,33 +101,33 @@ way_goes_on es links k p w u s n =
       same = λ q. v.same q ∙ u.same s;
       left = λ j m t.
           let c = u.left j m t in
-          v.last j (earlier j c (λ q. absurd (differ (ap (λ i. is_above (edge_of (edge_at es i)) (edge_of (edge_at es k))) (sym q) ∙ t)))) (above_target (edge_at es j) (edge_at es k) t ∙ sym (u.same s));
+          v.last j (earlier j c (λ q. absurd (differ (ap (λ i. implies_other (edge_of (edge_at es i)) (edge_of (edge_at es k))) (sym q) ∙ t)))) (above_target (edge_at es j) (edge_at es k) t ∙ sym (u.same s));
     }
   where
-    differ : is_above (edge_of (edge_at es (p - 1))) (edge_of (edge_at es k)) ≡ true → ⊥
+    differ : implies_other (edge_of (edge_at es (p - 1))) (edge_of (edge_at es k)) ≡ true → ⊥
     differ t = let d : true ≡ false = sym t ∙ n in cc
 
     earlier : (j : ℕ) → j < p → (j ≡ p - 1 → ⊥) → j < p - 1
     earlier j c q = elim (below_equal_above j (p - 1)) [ inl a ↦ a | inr r ↦ elim r [ inl a ↦ absurd (q a) | inr a ↦ absurd (omega (arith, c, a)) ] ]
 
 -- what is found
-pub way_ends : (es : List made.Edge) (k p : ℕ) → IsUnderWay es k p → p ≡ 0 → false ≡ list_any (λ f. is_above f (edge_of (edge_at es k))) (map edge_of es)
+pub way_ends : (es : List made.Edge) (k p : ℕ) → IsUnderWay es k p → p ≡ 0 → false ≡ list_any (λ f. implies_other f (edge_of (edge_at es k))) (map edge_of es)
 way_ends es k p u z = sym (false_from_ne_true _ (λ t.
-    let (f, h, a) = any_cases (λ f. is_above f (edge_of (edge_at es k))) (map edge_of es) t in
+    let (f, h, a) = any_cases (λ f. implies_other f (edge_of (edge_at es k))) (map edge_of es) t in
     let (g, i, c) = map_cases edge_of es f h in
     let (j, l, d) = place_in es g i in
-    let b = u.left j l (ap (λ x. is_above (edge_of x) (edge_of (edge_at es k))) d ∙ ap (λ x. is_above x (edge_of (edge_at es k))) (sym c) ∙ a) in
+    let b = u.left j l (ap (λ x. implies_other (edge_of x) (edge_of (edge_at es k))) d ∙ ap (λ x. implies_other x (edge_of (edge_at es k))) (sym c) ∙ a) in
     omega (arith, b, z)))
 
-pub way_finds : (es : List made.Edge) (k p : ℕ) → p < length es → is_above (edge_of (edge_at es p)) (edge_of (edge_at es k)) ≡ true → true ≡ list_any (λ f. is_above f (edge_of (edge_at es k))) (map edge_of es)
-way_finds es k p l t = sym (any_true (λ f. is_above f (edge_of (edge_at es k))) (map edge_of es) (edge_of (edge_at es p)) (Has-map edge_of es (edge_at es p) (Has-at es p _ l)) t)
+pub way_finds : (es : List made.Edge) (k p : ℕ) → p < length es → implies_other (edge_of (edge_at es p)) (edge_of (edge_at es k)) ≡ true → true ≡ list_any (λ f. implies_other f (edge_of (edge_at es k))) (map edge_of es)
+way_finds es k p l t = sym (any_true (λ f. implies_other f (edge_of (edge_at es k))) (map edge_of es) (edge_of (edge_at es p)) (Has-map edge_of es (edge_at es p) (Has-at es p _ l)) t)
 
 -- where none is implied all stay
-pub all_stay : (es : List made.Edge) → ((k : ℕ) → k < length es → list_any (λ f. is_above f (edge_of (edge_at es k))) (map edge_of es) ≡ false) → unimplied_edges (map edge_of es) ≡ map edge_of es
-all_stay es h = filter_all (λ e. not (list_any (λ f. is_above f e) (map edge_of es))) (map edge_of es) (λ e i.
+pub all_stay : (es : List made.Edge) → ((k : ℕ) → k < length es → list_any (λ f. implies_other f (edge_of (edge_at es k))) (map edge_of es) ≡ false) → unimplied_edges (map edge_of es) ≡ map edge_of es
+all_stay es h = filter_all (λ e. not (list_any (λ f. implies_other f e) (map edge_of es))) (map edge_of es) (λ e i.
     let (g, k, c) = map_cases edge_of es e i in
     let (j, l, d) = place_in es g k in
-    ap not (ap (λ x. list_any (λ f. is_above f x) (map edge_of es)) (c ∙ ap edge_of (sym d)) ∙ h j l))
+    ap not (ap (λ x. list_any (λ f. implies_other f x) (map edge_of es)) (c ∙ ap edge_of (sym d)) ∙ h j l))
 
 -- what was read of two edges
 pub any_edge : (es : List made.Edge) (k : ℕ) (c d : made.Edge) → k < length es → slice_index_or es k c ≡ slice_index_or es k d
@@ -138,17 +138,17 @@ any_edge (x ∷ xs) (suc k) c d l = any_edge xs k c d (omega arith)
 edge_is : (es : List made.Edge) (k : ℕ) (e : made.Edge) → k < length es → e ≡ slice_index_or es k e → edge_at es k ≡ e
 edge_is es k e l i = any_edge es k _ e l ∙ sym i
 
-pub seen_above : (es : List made.Edge) (k p : ℕ) (o e : made.Edge) (r b : Bool) → k < length es → p < length es → e ≡ slice_index_or es k e → o ≡ slice_index_or es p o → r ≡ is_above (edge_of o) (edge_of e) → r ≡ b
-    → is_above (edge_of (edge_at es p)) (edge_of (edge_at es k)) ≡ b
-seen_above es k p o e r b l m i j w t = (λ n. is_above (edge_of (edge_is es p o m j n)) (edge_of (edge_is es k e l i n))) ∙ sym w ∙ t
+pub seen_above : (es : List made.Edge) (k p : ℕ) (o e : made.Edge) (r b : Bool) → k < length es → p < length es → e ≡ slice_index_or es k e → o ≡ slice_index_or es p o → r ≡ implies_other (edge_of o) (edge_of e) → r ≡ b
+    → implies_other (edge_of (edge_at es p)) (edge_of (edge_at es k)) ≡ b
+seen_above es k p o e r b l m i j w t = (λ n. implies_other (edge_of (edge_is es p o m j n)) (edge_of (edge_is es k e l i n))) ∙ sym w ∙ t
 
 pub target_seen : (es : List made.Edge) (k : ℕ) (e : made.Edge) → k < length es → (slice_index_or es k e).target ≡ target_at es k
 target_seen es k e l = ap (λ (x : made.Edge). x.target) (any_edge es k e _ l)
 
 -- one more edge that is or isn't implied
-pub none_next : (es : List made.Edge) (n : ℕ) (b : Bool) → ((k : ℕ) → k < n → list_any (λ f. is_above f (edge_of (edge_at es k))) (map edge_of es) ≡ false) → b ≡ list_any (λ f. is_above f (edge_of (edge_at es n))) (map edge_of es) → b ≡ false
-    → (k : ℕ) → k < n + 1 → list_any (λ f. is_above f (edge_of (edge_at es k))) (map edge_of es) ≡ false
+pub none_next : (es : List made.Edge) (n : ℕ) (b : Bool) → ((k : ℕ) → k < n → list_any (λ f. implies_other f (edge_of (edge_at es k))) (map edge_of es) ≡ false) → b ≡ list_any (λ f. implies_other f (edge_of (edge_at es n))) (map edge_of es) → b ≡ false
+    → (k : ℕ) → k < n + 1 → list_any (λ f. implies_other f (edge_of (edge_at es k))) (map edge_of es) ≡ false
 none_next es n b w e t k l = elim (below_equal_above k n) [
   | inl a ↦ w k a
-  | inr r ↦ elim r [ inl q ↦ ap (λ i. list_any (λ f. is_above f (edge_of (edge_at es i))) (map edge_of es)) q ∙ sym e ∙ t | inr a ↦ absurd (omega (arith, l, a)) ]
+  | inr r ↦ elim r [ inl q ↦ ap (λ i. list_any (λ f. implies_other f (edge_of (edge_at es i))) (map edge_of es)) q ∙ sym e ∙ t | inr a ↦ absurd (omega (arith, l, a)) ]
 ]

@@ -14,7 +14,7 @@ use Rattle.std.proofs.lemmas.Option.{get_or_from_slice_get, slice_get_within}
 use Rattle.ltl_spec.specs.Automata.Automaton.{Edge}
 use Rattle.ltl_automaton.specs.EdgeView.{edge_of}
 use Rattle.ltl_automaton.specs.declared.edge.Edge as code
-use Rattle.ltl_automaton.specs.declared.shared.Place.{Place}
+use Rattle.ltl_automaton.specs.declared.shared.SharedState.{SharedState}
 use Rattle.ltl_buchi.proofs.Within.{All_from_map}
 use Rattle.ltl_buchi.specs.Classes.{AreListsWithin, IsCoded, IsFirstPlaces, IsLeastAlike, IsLeastPlaces, coded_place, list_view, retargeted_list}
 
@@ -144,21 +144,21 @@ module _ {K : Type 0} (count : ℕ) (old_view new_view : ℕ → K) where
       Some_injective x y e = cc
 
 -- equal places are one place
-abbrev pub same_place : Place → Place → Bool
+abbrev pub same_place : SharedState → SharedState → Bool
 same_place p q = nat_eq p.list q.list && beq p.accepting q.accepting
 
-pub place_Decides : (p q : Place) → Decides (same_place p q) (p ≡ q)
+pub place_Decides : (p q : SharedState) → Decides (same_place p q) (p ≡ q)
 place_Decides p q = (
   (λ t.
       let l = (Decides-eqb p.list q.list).0 (first_so _ _ t) in
       let a = beq_true p.accepting q.accepting (second_so (nat_eq p.list q.list) _ t) in
-      λ i. let r : Place = record { list = l i; accepting = a i } in r),
-  (λ h. ap (λ b. b && beq p.accepting q.accepting) ((Decides-eqb p.list q.list).1 (ap (λ (r : Place). r.list) h)) ∙ ap (λ a. beq p.accepting a) (sym (ap (λ (r : Place). r.accepting) h)) ∙ beq_refl p.accepting),
+      λ i. let r : SharedState = record { list = l i; accepting = a i } in r),
+  (λ h. ap (λ b. b && beq p.accepting q.accepting) ((Decides-eqb p.list q.list).1 (ap (λ (r : SharedState). r.list) h)) ∙ ap (λ a. beq p.accepting a) (sym (ap (λ (r : SharedState). r.accepting) h)) ∙ beq_refl p.accepting),
 )
 
 -- the place that was read, by the code of its list
-pub place_coded : (places : List Place) (codes : List ℕ) (s : ℕ) (p : Place) → slice_get places s ≡ Some p → (let q : Place = record { list = slice_index codes p.list; accepting = p.accepting } in q) ≡ coded_place places codes s
-place_coded places codes s p e = ap (λ (r : Place). let q : Place = record { list = slice_index codes r.list; accepting = r.accepting } in q) (sym (get_or_from_slice_get places s p (record { list = 0; accepting = true }) e))
+pub place_coded : (places : List SharedState) (codes : List ℕ) (s : ℕ) (p : SharedState) → slice_get places s ≡ Some p → (let q : SharedState = record { list = slice_index codes p.list; accepting = p.accepting } in q) ≡ coded_place places codes s
+place_coded places codes s p e = ap (λ (r : SharedState). let q : SharedState = record { list = slice_index codes r.list; accepting = r.accepting } in q) (sym (get_or_from_slice_get places s p (record { list = 0; accepting = true }) e))
 
 -- the list that was read
 pub list_seen : (lists : List (List Edge)) (f : ℕ → ℕ) (k : ℕ) (es : List Edge) → slice_get lists k ≡ Some es → retargeted_list f es ≡ list_view lists f k

@@ -13,7 +13,7 @@ use Rattle.ltl_spec.proofs.Construction.NamingLaws.{IsNames, IsWithin, seen_unde
 use Rattle.ltl_automaton.specs.EdgeView.{edge_of}
 use Rattle.ltl_automaton.specs.SharedView.{Shared, IsShared, automaton_of, state_in}
 use Rattle.ltl_automaton.specs.declared.edge.Edge as plain
-use Rattle.ltl_automaton.specs.declared.shared.Place.{Place}
+use Rattle.ltl_automaton.specs.declared.shared.SharedState.{SharedState}
 use Rattle.ltl_automaton.proofs.EdgeLaws.{map_pushed}
 use Rattle.ltl_automaton.proofs.SharedLaws.{got_once}
 use Rattle.ltl_buchi.specs.Classes.{AreListsWithin, IsCoded, IsLeastAlike, IsWithinStates, coded_place, list_view, retargeted_list}
@@ -49,7 +49,7 @@ module _ (S : Shared) (shared : IsShared S.lists S.states) where
   abbrev A : Automaton
   A = automaton_of S
 
-  abbrev pub place : ℕ → Place
+  abbrev pub place : ℕ → SharedState
   place s = slice_index_or S.states s (record { list = 0; accepting = true })
 
   long : length A.states ≡ length S.states
@@ -69,7 +69,7 @@ module _ (S : Shared) (shared : IsShared S.lists S.states) where
       let here = All-at_has (λ (s : State). P s.edges) A.states w (state_in S.lists u.0) (has_state S.states u.0 u.1) in
       subst P (ap (λ i. slice_index_or S.lists i []) u.2 ∙ any S.lists k [] d l) here
     where
-      has_state : (ps : List Place) (p : Place) → Has ps p → Has (map (state_in S.lists) ps) (state_in S.lists p)
+      has_state : (ps : List SharedState) (p : SharedState) → Has ps p → Has (map (state_in S.lists) ps) (state_in S.lists p)
       has_state [] p h = absurd h
       has_state (q ∷ ps) p (inl e) = inl (ap (state_in S.lists) e)
       has_state (q ∷ ps) p (inr h) = inr (has_state ps p h)
@@ -106,8 +106,8 @@ module _ (S : Shared) (shared : IsShared S.lists S.states) where
       to : IsWithin A next (class_names A (suc n))
       to s t m k e =
           let f : coded_place S.states codes s ≡ coded_place S.states codes t = sym (l.same s (inside s m)) ∙ ap (coded_place S.states codes) e ∙ l.same t (inside t k) in
-          let code = ap (λ (p : Place). p.list) f in
-          let accepting = ap (λ (p : Place). p.accepting) f in
+          let code = ap (λ (p : SharedState). p.list) f in
+          let accepting = ap (λ (p : SharedState). p.accepting) f in
           let edges : view (place s).list ≡ view (place t).list = Some_injective _ _ (sym (c.seen (place s).list (has_list s m)) ∙ ap (slice_get keys) code ∙ c.seen (place t).list (has_list t k)) in
           next_equal A n s t m k (seen s m ∙ (λ i. let u : State = record { accepting = accepting i; edges = edges i } in u) ∙ sym (seen t k))
         where
@@ -120,7 +120,7 @@ module _ (S : Shared) (shared : IsShared S.lists S.states) where
           let accepting = ap (λ (u : State). u.accepting) f in
           let edges = ap (λ (u : State). u.edges) f in
           let code = got_once keys (slice_index codes (place s).list) (slice_index codes (place t).list) (view (place s).list) c.distinct (c.seen (place s).list (has_list s m)) (c.seen (place t).list (has_list t k) ∙ ap (λ (es : List Edge). Some es) (sym edges)) in
-          l.once s t (inside s m) (inside t k) (λ i. let p : Place = record { list = code i; accepting = accepting i } in p)
+          l.once s t (inside s m) (inside t k) (λ i. let p : SharedState = record { list = code i; accepting = accepting i } in p)
 
 module _ (A : Automaton) where
   -- where a round changes nothing, no later one does

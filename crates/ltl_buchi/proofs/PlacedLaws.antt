@@ -27,34 +27,34 @@ use Rattle.ltl_automaton.proofs.WayLaws.{take_got}
 use Rattle.ltl_automaton.specs.EdgeView.{edge_of}
 use Rattle.ltl_buchi.specs.BaView.{target_at, place_cmp, HaveOrders, IsTargetOrder}
 use Rattle.ltl_automaton.specs.declared.edge.Edge as code
-use Rattle.ltl_buchi.specs.declared.automaton.Placed.{Placed}
+use Rattle.ltl_buchi.specs.declared.automaton.TargetPlace.{TargetPlace}
 use Rattle.ltl_spec.proofs.Collections.SortedSets.{tied}
 
-abbrev placed_cmp : Placed → Placed → Ordering
+abbrev placed_cmp : TargetPlace → TargetPlace → Ordering
 placed_cmp = then_cmp (on (λ p. p.target) nat_cmp) (on (λ p. p.place) nat_cmp)
 
-abbrev pub placed_at : List Edge → ℕ → Placed
+abbrev pub placed_at : List Edge → ℕ → TargetPlace
 placed_at es k = record { target = target_at es k; place = k }
 
 -- the first n edges stand in the list, each once
-pub record IsPlaced (es : List Edge) (n : ℕ) (items : List Placed) : Type 0 where
-  pub below : (p : Placed) → Has items p → p.place < n
-  pub target : (p : Placed) → Has items p → p.target ≡ target_at es p.place
+pub record IsPlaced (es : List Edge) (n : ℕ) (items : List TargetPlace) : Type 0 where
+  pub below : (p : TargetPlace) → Has items p → p.place < n
+  pub target : (p : TargetPlace) → Has items p → p.target ≡ target_at es p.place
   pub whole : (k : ℕ) → k < n → Has items (placed_at es k)
   pub distinct : HasNoRepeats items
 
 pub placed_none : (es : List Edge) → IsPlaced es 0 []
 placed_none es = record { below = λ p h. absurd h; target = λ p h. absurd h; whole = λ k l. absurd (omega arith); distinct = tt }
 
-pub placed_next : (es : List Edge) (n : ℕ) (items more : List Placed) (x : Placed) → IsPlaced es n items → x ≡ placed_at es n → more ≡ items ++ x ∷ [] → IsPlaced es (n + 1) more
+pub placed_next : (es : List Edge) (n : ℕ) (items more : List TargetPlace) (x : TargetPlace) → IsPlaced es n items → x ≡ placed_at es n → more ≡ items ++ x ∷ [] → IsPlaced es (n + 1) more
 placed_next es n items more x w e p = subst (IsPlaced es (n + 1)) (sym (p ∙ ap (λ y. items ++ y ∷ []) e)) (record {
   below = λ q h. elim (append_cases items (placed_at es n ∷ []) q h) [
     | inl k ↦ let l = w.below q k in omega arith
-    | inr k ↦ elim k [ inl i ↦ let j = ap (λ (r : Placed). r.place) i in omega arith | inr z ↦ absurd z ]
+    | inr k ↦ elim k [ inl i ↦ let j = ap (λ (r : TargetPlace). r.place) i in omega arith | inr z ↦ absurd z ]
   ];
   target = λ q h. elim (append_cases items (placed_at es n ∷ []) q h) [
     | inl k ↦ w.target q k
-    | inr k ↦ elim k [ inl i ↦ ap (λ (r : Placed). r.target) i ∙ ap (λ (r : Placed). target_at es r.place) (sym i) | inr z ↦ absurd z ]
+    | inr k ↦ elim k [ inl i ↦ ap (λ (r : TargetPlace). r.target) i ∙ ap (λ (r : TargetPlace). target_at es r.place) (sym i) | inr z ↦ absurd z ]
   ];
   whole = λ k l. elim (below_or_last k n l) [
     | inl m ↦ append_left items (placed_at es n ∷ []) (placed_at es k) (w.whole k m)
@@ -63,44 +63,44 @@ placed_next es n items more x w e p = subst (IsPlaced es (n + 1)) (sym (p ∙ ap
   distinct = HasNoRepeats-push items (placed_at es n) w.distinct (λ h. let l = w.below (placed_at es n) h in omega arith);
 })
 
-abbrev same_placed : Placed → Placed → Bool
+abbrev same_placed : TargetPlace → TargetPlace → Bool
 same_placed p q = nat_eq p.target q.target && nat_eq p.place q.place
 
-same_parts : (p q : Placed) → p.target ≡ q.target → p.place ≡ q.place → p ≡ q
-same_parts p q t k = λ i. let r : Placed = record { target = t i; place = k i } in r
+same_parts : (p q : TargetPlace) → p.target ≡ q.target → p.place ≡ q.place → p ≡ q
+same_parts p q t k = λ i. let r : TargetPlace = record { target = t i; place = k i } in r
 
-placed_Decides : (p q : Placed) → Decides (same_placed p q) (p ≡ q)
+placed_Decides : (p q : TargetPlace) → Decides (same_placed p q) (p ≡ q)
 placed_Decides p q = (
   (λ t. same_parts p q ((Decides-eqb p.target q.target).0 (first_so _ _ t)) ((Decides-eqb p.place q.place).0 (second_so _ _ t))),
-  (λ h. both _ _ ((Decides-eqb p.target q.target).1 (ap (λ (r : Placed). r.target) h)) ((Decides-eqb p.place q.place).1 (ap (λ (r : Placed). r.place) h))),
+  (λ h. both _ _ ((Decides-eqb p.target q.target).1 (ap (λ (r : TargetPlace). r.target) h)) ((Decides-eqb p.place q.place).1 (ap (λ (r : TargetPlace). r.place) h))),
 )
   where
     both : (a b : Bool) → a ≡ true → b ≡ true → (a && b) ≡ true
     both a b p q = ap (λ x. x && b) p ∙ q
 
-flips : (p q : Placed) → same_placed p q ≡ same_placed q p
+flips : (p q : TargetPlace) → same_placed p q ≡ same_placed q p
 flips p q = same_from_decides (same_placed p q) (same_placed q p) (placed_Decides p q) ((λ e. sym ((placed_Decides q p).0 e)), λ e. (placed_Decides q p).1 (sym e))
 
-differs : (p q : Placed) → (p ≡ q → ⊥) → same_placed p q ≡ false
+differs : (p q : TargetPlace) → (p ≡ q → ⊥) → same_placed p q ≡ false
 differs p q n = elim (same_placed p q) as (λ b. Decides b (p ≡ q) → b ≡ false) [ true ↦ λ c. absurd (n (c.0 refl)) | false ↦ λ c. refl ] (placed_Decides p q)
 
-distinct_of : (ps : List Placed) → HasNoRepeats ps → IsDistinct same_placed ps
+distinct_of : (ps : List TargetPlace) → HasNoRepeats ps → IsDistinct same_placed ps
 unfolding IsDistinct
 distinct_of [] r = tt
 distinct_of (p ∷ ps) r = (all_from (λ q. same_placed p q ≡ false) ps (λ q h. differs p q (λ e. r.0 (subst (Has ps) (sym e) h))), distinct_of ps r.1)
 
 -- nothing is dropped from a list in which no neighbours are the same
-kept_all : (p : Placed) (ps : List Placed) → IsDistinct same_placed (p ∷ ps) → dedup_from same_placed p ps ≡ p ∷ ps
+kept_all : (p : TargetPlace) (ps : List TargetPlace) → IsDistinct same_placed (p ∷ ps) → dedup_from same_placed p ps ≡ p ∷ ps
 unfolding IsDistinct
 kept_all p [] d = refl
 kept_all p (q ∷ ps) d = ap (λ b. cond b (dedup_from same_placed p ps) (p ∷ dedup_from same_placed q ps)) (flips q p ∙ d.0.0) ∙ ap (λ l. p ∷ l) (kept_all q ps d.1)
 
-dedup_all : (ps : List Placed) → IsDistinct same_placed ps → dedup same_placed ps ≡ ps
+dedup_all : (ps : List TargetPlace) → IsDistinct same_placed ps → dedup same_placed ps ≡ ps
 dedup_all [] d = refl
 dedup_all (p ∷ ps) d = kept_all p ps d
 
 placed_total : IsTotalOrder placed_cmp
-placed_total = then_total (on_total (λ (p : Placed). p.target) nat_cmp_total) (on_total (λ (p : Placed). p.place) nat_cmp_total)
+placed_total = then_total (on_total (λ (p : TargetPlace). p.target) nat_cmp_total) (on_total (λ (p : TargetPlace). p.place) nat_cmp_total)
 
 placed_linear : IsLinearOrder placed_cmp
 placed_linear = record {
@@ -108,13 +108,13 @@ placed_linear = record {
   exact = λ p q e. same_parts p q (nat_linear.exact p.target q.target (first_equal _ _ e)) (nat_linear.exact p.place q.place (second_equal _ _ e));
 }
 
-rising_places : (es : List Edge) (ps : List Placed) → ((p : Placed) → Has ps p → p.target ≡ target_at es p.place) → IsStrictlySortedBy placed_cmp ps → IsRising (place_cmp es) (map (λ (p : Placed). p.place) ps)
+rising_places : (es : List Edge) (ps : List TargetPlace) → ((p : TargetPlace) → Has ps p → p.target ≡ target_at es p.place) → IsStrictlySortedBy placed_cmp ps → IsRising (place_cmp es) (map (λ (p : TargetPlace). p.place) ps)
 unfolding IsStrictlySortedBy
 rising_places es [] t s = tt
 rising_places es (p ∷ ps) t s = (
-  all_from (λ k. place_cmp es p.place k ≡ Less) (map (λ (q : Placed). q.place) ps)
+  all_from (λ k. place_cmp es p.place k ≡ Less) (map (λ (q : TargetPlace). q.place) ps)
       (λ k h.
-      let w = map_cases (λ (q : Placed). q.place) ps k h in
+      let w = map_cases (λ (q : TargetPlace). q.place) ps k h in
       let here = t p (inl refl) in
       let there = t w.0 (inr w.1) in
       subst (λ j. place_cmp es p.place j ≡ Less) (sym w.2)
@@ -124,33 +124,33 @@ rising_places es (p ∷ ps) t s = (
 )
 
 -- sorted they are the places of all edges by target
-pub placed_order : (es : List Edge) (n : ℕ) (xs ys : List Placed) → IsPlaced es n xs → n ≡ length es → IsPermutation xs ys → IsSorted placed_cmp ys → IsTargetOrder es (map (λ (p : Placed). p.place) ys)
+pub placed_order : (es : List Edge) (n : ℕ) (xs ys : List TargetPlace) → IsPlaced es n xs → n ≡ length es → IsPermutation xs ys → IsSorted placed_cmp ys → IsTargetOrder es (map (λ (p : TargetPlace). p.place) ys)
 placed_order es n xs ys w e p s =
-    let back : (q : Placed) → Has ys q → Has xs q = λ q h. Has-from_contains xs q (Contains-permutation ys xs q (IsPermutation-sym xs ys p) (Contains-from_has ys q h)) in
-    let forth : (q : Placed) → Has xs q → Has ys q = λ q h. Has-from_contains ys q (Contains-permutation xs ys q p (Contains-from_has xs q h)) in
+    let back : (q : TargetPlace) → Has ys q → Has xs q = λ q h. Has-from_contains xs q (Contains-permutation ys xs q (IsPermutation-sym xs ys p) (Contains-from_has ys q h)) in
+    let forth : (q : TargetPlace) → Has xs q → Has ys q = λ q h. Has-from_contains ys q (Contains-permutation xs ys q p (Contains-from_has xs q h)) in
     let distinct : IsDistinct same_placed ys = IsDistinct-IsPermutation same_placed flips xs ys p (distinct_of xs w.distinct) in
     let up : IsStrictlySortedBy placed_cmp ys =
-    subst (IsStrictlySortedBy placed_cmp) (dedup_all ys distinct) (IsStrictlySortedBy-dedup placed_total (λ q r. same_from_decides (same_placed q r) (is_eq (placed_cmp q r)) (placed_Decides q r) (tied placed_linear (λ (z : Placed). z) (λ x y h. h) q r)) ys s) in
+    subst (IsStrictlySortedBy placed_cmp) (dedup_all ys distinct) (IsStrictlySortedBy-dedup placed_total (λ q r. same_from_decides (same_placed q r) (is_eq (placed_cmp q r)) (placed_Decides q r) (tied placed_linear (λ (z : TargetPlace). z) (λ x y h. h) q r)) ys s) in
     record {
       within = λ k d l.
-          let h = Has-at (map (λ (q : Placed). q.place) ys) k d l in
-          let v = map_cases (λ (q : Placed). q.place) ys (slice_index_or (map (λ (q : Placed). q.place) ys) k d) h in
+          let h = Has-at (map (λ (q : TargetPlace). q.place) ys) k d l in
+          let v = map_cases (λ (q : TargetPlace). q.place) ys (slice_index_or (map (λ (q : TargetPlace). q.place) ys) k d) h in
           subst (λ j. j < length es) (sym v.2) (subst (λ m. v.0.place < m) e (w.below v.0 (back v.0 v.1)));
       rising = rising_places es ys (λ q h. w.target q (back q h)) up;
-      whole = λ k l. Has-map (λ (q : Placed). q.place) ys (placed_at es k) (forth (placed_at es k) (w.whole k (subst (λ m. k < m) (sym e) l)));
+      whole = λ k l. Has-map (λ (q : TargetPlace). q.place) ys (placed_at es k) (forth (placed_at es k) (w.whole k (subst (λ m. k < m) (sym e) l)));
     }
 
 -- an edge of the code at its place
-pub placed_here : (edges : List code.Edge) (k : ℕ) (e : code.Edge) → k < length edges → e ≡ slice_index_or edges k e → (let p : Placed = record { target = e.target; place = k } in p) ≡ placed_at (map edge_of edges) k
+pub placed_here : (edges : List code.Edge) (k : ℕ) (e : code.Edge) → k < length edges → e ≡ slice_index_or edges k e → (let p : TargetPlace = record { target = e.target; place = k } in p) ≡ placed_at (map edge_of edges) k
 placed_here edges k e l h =
-    ap (λ t. let p : Placed = record { target = t; place = k } in p)
+    ap (λ t. let p : TargetPlace = record { target = t; place = k } in p)
     (ap (λ (f : code.Edge). f.target) h ∙ sym (ap (λ (f : Edge). f.target) (get_or-map edge_of edges k e (record { cube = []; target = 0; marks = [] }) l)))
 
 -- the places of one element more
-pub places_more : (xs : List Placed) (i : ℕ) (ps : List ℕ) (d : Placed) → i < length xs → ps ≡ map (λ (p : Placed). p.place) (take i xs)
-    → ps ++ (slice_index_or xs i d).place ∷ [] ≡ map (λ (p : Placed). p.place) (take (i + 1) xs)
+pub places_more : (xs : List TargetPlace) (i : ℕ) (ps : List ℕ) (d : TargetPlace) → i < length xs → ps ≡ map (λ (p : TargetPlace). p.place) (take i xs)
+    → ps ++ (slice_index_or xs i d).place ∷ [] ≡ map (λ (p : TargetPlace). p.place) (take (i + 1) xs)
 places_more xs i ps d l e =
-    ap (λ (w : List ℕ). w ++ (slice_index_or xs i d).place ∷ []) e ∙ sym (map_push (λ (p : Placed). p.place) (take i xs) (slice_index_or xs i d)) ∙ ap (map (λ (p : Placed). p.place)) (sym (take_more xs i d l))
+    ap (λ (w : List ℕ). w ++ (slice_index_or xs i d).place ∷ []) e ∙ sym (map_push (λ (p : TargetPlace). p.place) (take i xs) (slice_index_or xs i d)) ∙ ap (map (λ (p : TargetPlace). p.place)) (sym (take_more xs i d l))
 
 -- the places of one list more
 module _ (edges : List Edge) (ps : List ℕ) (o : IsTargetOrder edges ps) where

@@ -10,18 +10,18 @@ use Rattle.ltl_spec.proofs.Collections.CaseLaws.{below_equal_above, false_is_tru
 use Rattle.ltl_spec.proofs.Collections.MemberLaws.{any_cases, map_cases, filter_all}
 use Rattle.ltl_spec.proofs.Collections.Orders.{nat_linear, literal_linear}
 use Rattle.ltl_spec.proofs.Collections.SetLaws.{append_cases}
-use Rattle.ltl_spec.proofs.Construction.ImpliedEdges.{implies_edge_Decides, is_above}
+use Rattle.ltl_spec.proofs.Construction.ImpliedEdges.{implies_edge_Decides, implies_other}
 use Rattle.ltl_spec.proofs.Construction.RoundLaws.{same_edge_Decides}
 use Rattle.ltl_spec.proofs.Transitions.TransitionLaws.{subset_length}
 use Rattle.ltl_automaton.specs.EdgeView.{edge_of}
 use Rattle.ltl_automaton.specs.declared.edge.Edge as made
-use Rattle.ltl_buchi.specs.Asked.{IsOfWeight, AreOfWeight, IsWeighedLike}
+use Rattle.ltl_buchi.specs.IndexedEdge.{IsOfWeight, AreOfWeight, IsWeighedLike}
 use Rattle.ltl_buchi.specs.Chains.{AreLinks, IsLatest, edge_at, target_at}
 use Rattle.ltl_buchi.proofs.ChainLaws.{above_target, all_stay, place_in}
 use Rattle.std.proofs.lemmas.Bool.{false_from_ne_true}
 
 -- two that ask for as much don't imply each other
-not_above : (w : ℕ) (f e : Edge) → IsOfWeight w f → IsOfWeight w e → is_above f e ≡ true → ⊥
+not_above : (w : ℕ) (f e : Edge) → IsOfWeight w f → IsOfWeight w e → implies_other f e ≡ true → ⊥
 not_above w f e v u t =
     let c = (implies_edge_Decides f e).0 (right_true (not (same_edge f e)) _ t) in
     let cubes = subset_length literal_linear f.cube e.cube v.sets.cube u.sets.cube c.cube in
@@ -31,10 +31,10 @@ not_above w f e v u t =
     let equal : f ≡ e = λ i. let g : Edge = record { cube = p i; target = c.target i; marks = sym m i } in g in
     false_is_true (ap not (sym ((same_edge_Decides f e).1 equal)) ∙ left_true (not (same_edge f e)) _ t)
 
-none_above : (es : List made.Edge) → AreOfWeight es → (e : Edge) → Has (map edge_of es) e → (b : Bool) → list_any (λ f. is_above f e) (map edge_of es) ≡ b → not b ≡ true
+none_above : (es : List made.Edge) → AreOfWeight es → (e : Edge) → Has (map edge_of es) e → (b : Bool) → list_any (λ f. implies_other f e) (map edge_of es) ≡ b → not b ≡ true
 none_above es (w, all) e h false t = refl
 none_above es (w, all) e h true t =
-    let (f, k, a) = any_cases (λ f. is_above f e) (map edge_of es) t in
+    let (f, k, a) = any_cases (λ f. implies_other f e) (map edge_of es) t in
     let (g, i, c) = map_cases edge_of es f k in
     let (j, l, d) = map_cases edge_of es e h in
     absurd (not_above w f e (subst (IsOfWeight w) (sym c) (all g i)) (subst (IsOfWeight w) (sym d) (all j l)) a)
@@ -43,7 +43,7 @@ none_above es (w, all) e h true t =
 pub one_weight : (es gs : List made.Edge) → AreOfWeight es → gs ≡ es → map edge_of gs ≡ unimplied_edges (map edge_of es)
 one_weight es gs all e =
     ap (map edge_of) e
-    ∙ sym (filter_all (λ e. not (list_any (λ f. is_above f e) (map edge_of es))) (map edge_of es) (λ e h. none_above es all e h (list_any (λ f. is_above f e) (map edge_of es)) refl))
+    ∙ sym (filter_all (λ e. not (list_any (λ f. implies_other f e) (map edge_of es))) (map edge_of es) (λ e h. none_above es all e h (list_any (λ f. implies_other f e) (map edge_of es)) refl))
 
 -- one more that asks for as much
 pub weight_more : (es : List made.Edge) (i w v : ℕ) (e : made.Edge) → i < length es → e ≡ slice_index_or es i e → IsOfWeight v (edge_of e) → v ≡ w → ((g : made.Edge) → Has (take i es) g → IsOfWeight w (edge_of g))
@@ -90,12 +90,12 @@ alike_next es links n link all inside before is like k l j less target = elim (b
 -- where all with one target ask for as much none is implied
 pub alike_stay : (es : List made.Edge) → AreAlike es (length es) → unimplied_edges (map edge_of es) ≡ map edge_of es
 alike_stay es alike = all_stay es (λ k l. false_from_ne_true _ (λ t.
-    let (f, h, a) = any_cases (λ f. is_above f (edge_of (edge_at es k))) (map edge_of es) t in
+    let (f, h, a) = any_cases (λ f. implies_other f (edge_of (edge_at es k))) (map edge_of es) t in
     let (g, i, c) = map_cases edge_of es f h in
     let (j, m, d) = place_in es g i in
-    none k l j m (ap (λ x. is_above (edge_of x) (edge_of (edge_at es k))) d ∙ ap (λ x. is_above x (edge_of (edge_at es k))) (sym c) ∙ a)))
+    none k l j m (ap (λ x. implies_other (edge_of x) (edge_of (edge_at es k))) d ∙ ap (λ x. implies_other x (edge_of (edge_at es k))) (sym c) ∙ a)))
   where
-    none : (k : ℕ) → k < length es → (j : ℕ) → j < length es → is_above (edge_of (edge_at es j)) (edge_of (edge_at es k)) ≡ true → ⊥
+    none : (k : ℕ) → k < length es → (j : ℕ) → j < length es → implies_other (edge_of (edge_at es j)) (edge_of (edge_at es k)) ≡ true → ⊥
     none k l j m t =
         let s = above_target (edge_at es j) (edge_at es k) t in
         let e = edge_of (edge_at es k) in

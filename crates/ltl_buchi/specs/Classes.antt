@@ -5,7 +5,7 @@ use Rattle.ltl_spec.specs.Collections.Sets.{set_of}
 use Rattle.ltl_spec.specs.Collections.Lists.{HasNoRepeats, place_of}
 use Rattle.ltl_spec.specs.Automata.Automaton.{Edge, State, edge_cmp}
 use Rattle.ltl_spec.specs.Construction.Merging.{retargeted_edge, unimplied_edges}
-use Rattle.ltl_automaton.specs.declared.shared.Place.{Place}
+use Rattle.ltl_automaton.specs.declared.shared.SharedState.{SharedState}
 
 -- each edge leads to a state
 abbrev pub IsWithinStates : List State → Type 0
@@ -28,7 +28,7 @@ abbrev pub list_view : List (List Edge) → (ℕ → ℕ) → ℕ → List Edge
 list_view lists f k = retargeted_list f (slice_index_or lists k [])
 
 -- what is seen of a state where its list has this code
-abbrev pub coded_place : List Place → List ℕ → ℕ → Place
+abbrev pub coded_place : List SharedState → List ℕ → ℕ → SharedState
 coded_place places codes s = let p = slice_index_or places s (record { list = 0; accepting = true }) in record { list = slice_index codes p.list; accepting = p.accepting }
 
 -- the code of each of so many things is the place, among different views, of what is seen of it

@@ -1,10 +1,9 @@
-pub mod Asked
+pub mod IndexedEdge
 pub mod BaView
 pub mod Chains
 pub mod Classes
 pub mod CopyCodes
 pub mod Copies
-pub mod FaultOf
 pub mod Named
 pub mod Numbered
 pub mod OptionsView

@@ -18,7 +18,7 @@ type Places<'a, A> = SmallVec<usize, 4, &'a A>;
 
 /// An edge's target and its place.
 #[derive(Clone, Copy, Default, PartialEq, Eq, PartialOrd, Ord)]
-struct Placed {
+struct TargetPlace {
     target: usize,
     place: usize,
 }
@@ -30,9 +30,9 @@ fn places_by_target<'a, A: Allocator>(
 ) -> Result<Places<'a, A>, AllocError>
     ensures order { IfOk result (λ ps. IsTargetOrder (map view.edge_of edges.now) ps.items) }
 {
-    let mut placed: SmallVec<Placed, 4, &'a A> = SmallVec::with_capacity(alloc, edges.len())?;
+    let mut placed: SmallVec<TargetPlace, 4, &'a A> = SmallVec::with_capacity(alloc, edges.len())?;
     for (place, edge) in edges.iter().enumerate() {
-        placed.push(Placed {
+        placed.push(TargetPlace {
             target: edge.target,
             place,
         })?;
@@ -43,16 +43,19 @@ fn places_by_target<'a, A: Allocator>(
 }
 
 /// Sorts by target and then by place.
-fn sort_placed(placed: &mut [Placed])
+fn sort_placed(placed: &mut [TargetPlace])
     ensures permutation { IsPermutation placed.old placed.new }
     ensures len { length placed.new ≡ length placed.old }
-    ensures sorted { IsSorted ⟦<Placed as Ord>⟧.cmp placed.new }
+    ensures sorted { IsSorted ⟦<TargetPlace as Ord>⟧.cmp placed.new }
 {
     placed.sort_unstable();
 }
 
 /// The places alone.
-fn places<'a, A: Allocator>(alloc: &'a A, placed: &[Placed]) -> Result<Places<'a, A>, AllocError>
+fn places<'a, A: Allocator>(
+    alloc: &'a A,
+    placed: &[TargetPlace],
+) -> Result<Places<'a, A>, AllocError>
     ensures { IfOk result (λ ps. ps.items ≡ map (λ p. p.place) placed.now) }
 {
     let mut places: Places<'a, A> = SmallVec::with_capacity(alloc, placed.len())?;
@@ -152,8 +155,8 @@ impl<'a, A: Allocator> Ba<'a, A> {
         self.orders[list].as_slice()
     }
 
-    /// Hands what the type holds to callers.
-    pub fn stays_within(&self)
+    /// Hands what the type promises to callers.
+    pub fn invariant(&self)
         ensures { IsBa self.now }
     {
         let _ = &self.states;

@@ -16,6 +16,9 @@ use std::alloc::{AllocError, Allocator};
 /// Places of edges, counted from 1, and 0 for none. Most lists are short.
 pub(crate) type Links<'a, A> = SmallVec<usize, 4, &'a A>;
 
+/// For each state, or class, the place of the latest edge to it, counted from 1, and 0 for none. Small automata have few.
+pub(crate) type Heads<'a, A> = SmallVec<usize, 8, &'a A>;
+
 /// That place, unless no edge before the given one with its target stands there.
 fn checked(edges: &[Edge], last: usize, place: usize) -> usize
     requires place { place < length edges.now }
@@ -63,8 +66,8 @@ fn implies(other: &Edge, edge: &Edge) -> bool
 }
 
 /// Whether the first edge is another one than the second and implies it.
-fn is_above(other: &Edge, edge: &Edge) -> bool
-    ensures { result ≡ implied.is_above (edge_of other.now) (edge_of edge.now) }
+fn implies_other(other: &Edge, edge: &Edge) -> bool
+    ensures { result ≡ implied.implies_other (edge_of other.now) (edge_of edge.now) }
 {
     if *other == *edge {
         return false;
@@ -85,7 +88,7 @@ pub(crate) fn is_implied(
     requires within { All (λ e. e.target < length heads.now) edges.now }
     requires heads { AreHeads edges.now heads.now (length edges.now) }
     requires links { AreLinks edges.now links.now (length edges.now) }
-    ensures { IfSome result (λ b. b ≡ list_any (λ f. implied.is_above f (edge_of (edge_at edges.now place))) (map edge_of edges.now)) }
+    ensures { IfSome result (λ b. b ≡ list_any (λ f. implied.implies_other f (edge_of (edge_at edges.now place))) (map edge_of edges.now)) }
 {
     let edge = &edges[place];
     let mut at = heads[edge.target];
@@ -93,7 +96,7 @@ pub(crate) fn is_implied(
         if at == 0 {
             return Some(false);
         }
-        if is_above(&edges[at - 1], edge) {
+        if implies_other(&edges[at - 1], edge) {
             return Some(true);
         }
         at = links[at - 1];

@@ -11,14 +11,14 @@ ghost use Rattle.ltl_buchi.specs.Classes.{AreListsWithin, IsCoded, IsFirstPlaces
 
 use crate::retargeting::{are_renamed, retargeted};
 use crate::standing::all_rise;
-use ltl_automaton::{Distinct, Edge, EdgeList, Place, SharedStates};
+use ltl_automaton::{Distinct, Edge, EdgeList, SharedState, SharedStates};
 use std::alloc::{AllocError, Allocator};
 
 /// How lists of edges were seen, each once.
 type Seen<'a, A> = Distinct<'a, EdgeList<'a, A>, A>;
 
 /// States by the codes of their lists, each once.
-type Places<'a, A> = Distinct<'a, Place, A>;
+type SeenStates<'a, A> = Distinct<'a, SharedState, A>;
 
 /// Each state as its own name.
 pub(crate) fn own_names<'a, A: Allocator>(
@@ -127,19 +127,22 @@ fn least_places<'a, A: Allocator>(
 }
 
 /// The code of a state: the place of what is seen of it, the next one where it has none.
-fn place_code<A: Allocator>(places: &mut Places<'_, A>, place: Place) -> Result<usize, AllocError>
-    ensures place { IfOk result (λ i. slice_get places.new.keys i ≡ Some place) }
+fn state_code<A: Allocator>(
+    places: &mut SeenStates<'_, A>,
+    state: SharedState,
+) -> Result<usize, AllocError>
+    ensures place { IfOk result (λ i. slice_get places.new.keys i ≡ Some state) }
     ensures distinct { OnOk result (HasNoRepeats places.old.keys → HasNoRepeats places.new.keys) }
-    ensures extends { OnOk result ((more : List Place) × (places.new.keys ≡ places.old.keys ++ more)) }
+    ensures extends { OnOk result ((more : List SharedState) × (places.new.keys ≡ places.old.keys ++ more)) }
 {
-    let code = places.number(place)?;
+    let code = places.number(state)?;
     Ok(code)
 }
 
 /// The codes of the states by those of their lists.
 fn state_codes<'a, A: Allocator>(
     alloc: &'a A,
-    places: &mut Places<'a, A>,
+    places: &mut SeenStates<'a, A>,
     states: &SharedStates<'_, A>,
     list_codes: &[usize],
 ) -> Result<Vec<usize, &'a A>, AllocError>
@@ -149,12 +152,12 @@ fn state_codes<'a, A: Allocator>(
 {
     let mut codes = Vec::new(alloc);
     for s in 0..states.len() {
-        let place = states.place(s);
-        let coded = Place {
-            list: list_codes[place.list],
-            accepting: place.accepting,
+        let state = states.state(s);
+        let coded = SharedState {
+            list: list_codes[state.list],
+            accepting: state.accepting,
         };
-        codes.push(place_code(places, coded)?)?;
+        codes.push(state_code(places, coded)?)?;
     }
     Ok(codes)
 }
@@ -168,7 +171,7 @@ fn least_alike<'a, A: Allocator>(
     requires long { length list_codes.now ≡ length states.now.lists }
     ensures { IfOk result (λ v. IsLeastAlike (length states.now.states) (coded_place states.now.states list_codes.now) v.items) }
 {
-    let mut places: Places<'a, A> = Distinct::new(alloc);
+    let mut places: SeenStates<'a, A> = Distinct::new(alloc);
     let codes = state_codes(alloc, &mut places, states, list_codes)?;
     least_places(alloc, codes.as_slice(), places.len())
 }
@@ -184,7 +187,7 @@ fn refined<'a, A: Allocator>(
     requires round { coarse.items ≡ merging.class_names (automaton_of states.now) from }
     ensures { IfOk result (λ v. v.items ≡ merging.class_names (automaton_of states.now) (length (automaton_of states.now).states)) }
 {
-    states.shares();
+    states.invariant();
     let mut names = coarse;
     let mut seen: Seen<'a, A> = Distinct::new(alloc);
     let mut codes = first_codes(alloc, &mut seen, states, names.as_slice())?;
@@ -215,7 +218,7 @@ pub(crate) fn class_names<'a, A: Allocator>(
     requires within { IsWithinStates (automaton_of states.now).states }
     ensures { IfOk result (λ v. v.items ≡ merging.class_names (automaton_of states.now) (length (automaton_of states.now).states)) }
 {
-    states.shares();
+    states.invariant();
     let names = own_names(alloc, states.len())?;
     if !all_rise(states) {
         return refined(alloc, states, names, 0);

@@ -1,6 +1,6 @@
 //! Levels: from acceptance sets on edges to accepting states. Each state has a copy for each number of sets met in turn.
 
-ghost use Rattle.std.specs.Prelude.{◌≡◌, ◌≤◌, map, IfOk, IfSome, OnOk, IsErrOf};
+ghost use Rattle.std.specs.Prelude.{◌≡◌, map, IfOk, IfSome, OnOk, IsErrOf};
 ghost use Rattle.ltl_spec.specs.Collections.Sets.{set_of};
 ghost use Rattle.ltl_spec.specs.Construction.Levels as levels_of;
 ghost use Rattle.ltl_spec.specs.Tools.Limits.{stated_limits};
@@ -13,7 +13,7 @@ use crate::automaton::Ba;
 use crate::fault::BaFault;
 use ltl_alt::{Gba, GbaEdge, MOST_EDGES, MOST_STATES};
 use ltl_automaton::{
-    Arc, AutomatonFault, Distinct, Key, Limits, SharedStates, Successors, explore_from,
+    Arc, AutomatonFault, Distinct, Key, Limits, SharedStates, Successors, explore_from, next_level,
 };
 use ltl_sets::{Cube, RowSet};
 use std::alloc::{AllocError, Allocator};
@@ -115,21 +115,8 @@ impl CopyEdge {
     }
 }
 
-/// The level to which an edge with these marks leads: up as long as the marks hold the set that comes next, from the last level as from the first.
-fn next_level(sets: usize, marks: &RowSet, level: usize) -> usize
-    requires few { sets ≤ RowSet.LIMIT }
-    ensures level { result ≡ levels_of.next_level sets marks.now level }
-{
-    let mut reached = if level == sets { 0 } else { level };
-    'climb: while reached < sets && marks.contains(reached) {
-        reached += 1;
-    }
-    reached
-}
-
 /// An edge of a copy on a level.
 fn copy_edge(sets: usize, edge: &GbaEdge, level: usize) -> CopyEdge
-    requires few { sets ≤ RowSet.LIMIT }
     ensures lifted { copy_edge_of result ≡ lifted_edge sets level (gba.edge_of edge.now) }
 {
     CopyEdge {
@@ -148,7 +135,6 @@ fn copy_edges<'a, A: Allocator>(
     edges: &[GbaEdge],
     level: usize,
 ) -> Result<Vec<CopyEdge, &'a A>, AllocError>
-    requires few { sets ≤ RowSet.LIMIT }
     ensures set { IfOk result (λ es. map copy_edge_of es.items ≡ set_of levels_of.copy_edge_cmp (map (lifted_edge sets level) (map gba.edge_of edges.now))) }
 {
     let mut copied = Vec::with_capacity(alloc, edges.len())?;
@@ -252,7 +238,7 @@ impl<'b, 'g, 'a, A: Allocator> Successors<Copied> for Copies<'b, 'g, 'a, A> {
         _most: usize,
     ) -> Result<Vec<Arc<Copied>, &'c B>, AutomatonFault> {
         let automaton = self.automaton;
-        automaton.stays_within();
+        automaton.invariant();
         if key.state < automaton.len() {
             let edges = automaton.edges(key.state);
             let copied = copy_edges(alloc, automaton.sets(), edges, key.level)?;
@@ -275,7 +261,7 @@ pub(crate) fn level_states<'a, A: Allocator>(
     ensures few { OnOk result (¬ levels_of.HasTooManyCopies automaton.now stated_limits.states stated_limits.edges) }
     ensures many { IsErrOf result BaFault.TooLarge → levels_of.HasTooManyCopies automaton.now stated_limits.states stated_limits.edges }
 {
-    automaton.stays_within();
+    automaton.invariant();
     let start = Copied { state: 0, level: 0 };
     let limits = Limits {
         states: MOST_STATES,

@@ -3,7 +3,7 @@
 ghost use Rattle.std.specs.Prelude.{◌≡◌, ◌<◌, ◌≤◌, length, map, All, IfOk, true};
 ghost use Rattle.ltl_spec.specs.Construction.Merging as merging;
 ghost use Rattle.ltl_automaton.specs.EdgeView.{edge_of};
-ghost use Rattle.ltl_buchi.specs.Asked.{AreAsked, AreOfWeight, IsAsked, IsOfWeight, IsWeighedLike};
+ghost use Rattle.ltl_buchi.specs.IndexedEdge.{AreAsked, AreOfWeight, IsAsked, IsOfWeight, IsWeighedLike};
 ghost use Rattle.ltl_buchi.specs.Chains.{AreLinks};
 
 use crate::chains::{are_unimplied, linked, unimplied_of_few};
@@ -23,18 +23,18 @@ const MORE: usize = 32;
 /// An edge, with the ones and the zeros of its target's number, each as the bits of a word. What two edges have in common is such a thing too: it has
 /// those digits that both targets have, and the target of its edge plays no part.
 #[derive(Clone, Copy)]
-struct Asked {
+struct IndexedEdge {
     ones: usize,
     zeros: usize,
     edge: Edge,
 }
 
 /// Edges with the digits of their targets. Most lists are short.
-type AskedEdges<'a, A> = SmallVec<Asked, 4, &'a A>;
+type AskedEdges<'a, A> = SmallVec<IndexedEdge, 4, &'a A>;
 
-impl Default for Asked {
-    fn default() -> Asked {
-        Asked {
+impl Default for IndexedEdge {
+    fn default() -> IndexedEdge {
+        IndexedEdge {
             ones: 0,
             zeros: 0,
             edge: Edge {
@@ -46,12 +46,12 @@ impl Default for Asked {
     }
 }
 
-impl Asked {
-    fn of(edge: &Edge) -> Asked
+impl IndexedEdge {
+    fn of(edge: &Edge) -> IndexedEdge
         ensures asked { IsAsked result }
         ensures edge { result.edge ≡ edge.now }
     {
-        Asked {
+        IndexedEdge {
             ones: edge.target,
             zeros: !edge.target,
             edge: *edge,
@@ -65,20 +65,20 @@ impl Asked {
 }
 
 /// An edge is below those that it implies: it has the same target, asks for no more, and is in each set that the other one is in.
-impl Below for Asked {
-    ghost use Rattle.ltl_buchi.specs.Asked.{is_below, below_transitive};
+impl Below for IndexedEdge {
+    ghost use Rattle.ltl_buchi.specs.IndexedEdge.{is_below, below_transitive};
 
     ghost below = { is_below };
 
-    fn is_below(&self, other: &Asked) -> bool {
+    fn is_below(&self, other: &IndexedEdge) -> bool {
         self.ones | other.ones == other.ones
             && self.zeros | other.zeros == other.zeros
             && self.edge.cube.implies_of(&other.edge.cube)
             && other.edge.marks.is_subset(&self.edge.marks)
     }
 
-    fn common(&self, other: &Asked) -> Asked {
-        Asked {
+    fn common(&self, other: &IndexedEdge) -> IndexedEdge {
+        IndexedEdge {
             ones: self.ones & other.ones,
             zeros: self.zeros & other.zeros,
             edge: Edge {
@@ -99,7 +99,7 @@ impl Below for Asked {
 
     fn tally(&self, counts: &mut [u32]) {
         tally_literals(&self.edge.cube, counts);
-        'places: for place in 0..64usize {
+        for place in 0..64usize {
             if self.has_one(place) {
                 count(counts, LITERALS + place);
             }
@@ -112,13 +112,13 @@ impl Below for Asked {
 /// Another edge counts.
 struct Differing;
 
-impl Counting<Asked> for Differing {
-    ghost use Rattle.ltl_buchi.specs.Asked.{is_other};
+impl Counting<IndexedEdge> for Differing {
+    ghost use Rattle.ltl_buchi.specs.IndexedEdge.{is_other};
 
     ghost counts = { λ _ k l. is_other k l };
 
     #[tactic(auto, using(crate::proofs::AskedLaws::same_test))]
-    fn counts(&self, other: &Asked, item: &Asked) -> bool {
+    fn counts(&self, other: &IndexedEdge, item: &IndexedEdge) -> bool {
         !(other.edge == item.edge)
     }
 }
@@ -129,7 +129,7 @@ fn ask_all<'a, A: Allocator>(alloc: &'a A, edges: &[Edge]) -> Result<AskedEdges<
 {
     let mut all: AskedEdges<'a, A> = SmallVec::with_capacity(alloc, edges.len())?;
     'edges: for edge in edges {
-        all.push(Asked::of(edge))?;
+        all.push(IndexedEdge::of(edge))?;
     }
     Ok(all)
 }
@@ -138,8 +138,8 @@ fn ask_all<'a, A: Allocator>(alloc: &'a A, edges: &[Edge]) -> Result<AskedEdges<
 fn weight(edge: &Edge) -> usize
     ensures { IsOfWeight result (edge_of edge.now) }
 {
-    edge.cube.literals_rise();
-    edge.marks.members_rise();
+    edge.cube.invariant();
+    edge.marks.invariant();
     let literals = edge.cube.iter().count();
     let marks = edge.marks.iter().count();
     literals + (RowSet::LIMIT - marks)
@@ -202,7 +202,7 @@ fn unimplied_of_many<'a, A: Allocator>(
     let lookup = Lookup::new(alloc, asked.as_slice())?;
     let mut kept = Vec::with_capacity(alloc, edges.len())?;
     for edge in edges {
-        if !lookup.has_lesser(&Differing, &Asked::of(edge)) {
+        if !lookup.has_lesser(&Differing, &IndexedEdge::of(edge)) {
             kept.push(*edge)?;
         }
     }

@@ -51,8 +51,8 @@ fn are_sets(edges: &[Edge])
     ensures { All IsSetEdge (map edge_of edges.now) }
 {
     for edge in edges {
-        edge.cube.literals_rise();
-        edge.marks.members_rise();
+        edge.cube.invariant();
+        edge.marks.invariant();
     }
 }
 
@@ -75,8 +75,7 @@ pub fn merge<'a, A: Allocator>(
     ensures merged { IfOk result (λ m. m ≡ merged_automaton options.now.keep_implied options.now.keep_equal gba.now) }
     ensures fault { IfErr result (λ f. f ≡ BaFault.OutOfMemory) }
 {
-    gba.stays_within();
-    gba.accepts_everywhere();
+    gba.invariant();
     let states = merged(alloc, gba.states(), options)?;
     Ok(Gba::new(states))
 }
@@ -108,7 +107,7 @@ pub fn merge_ba<'a, A: Allocator>(
     ensures merged { IfOk result (λ m. m ≡ merged_automaton options.now.keep_implied options.now.keep_equal ba.now) }
     ensures fault { IfErr result (λ f. f ≡ BaFault.OutOfMemory) }
 {
-    ba.stays_within();
+    ba.invariant();
     let states = merged_states(alloc, ba.states(), options)?;
     Ok(Ba::new(alloc, states)?)
 }

@@ -2,7 +2,7 @@
 
 ghost use Rattle.std.specs.Prelude.{◌≡◌, ◌<◌, ◌≤◌, length, map, All};
 ghost use Rattle.ltl_spec.specs.Automata.Automaton.{state_at};
-ghost use Rattle.ltl_alt.specs.GbaView.{IsGba, IsEdgeWithin, edge_of};
+ghost use Rattle.ltl_alt.specs.GbaView.{IsAcceptingGba, IsEdgeWithin, edge_of};
 
 use ltl_alt::{Gba, GbaEdge};
 use std::alloc::Allocator;
@@ -17,7 +17,7 @@ pub struct Gen<'a, A: Allocator> {
 
 impl<'a, A: Allocator> Model for Gen<'a, A> {
     ghost use Rattle.ltl_spec.specs.Automata.Automaton.{Automaton};
-    ghost use Rattle.ltl_alt.specs.GbaView.{IsGba, automaton_code};
+    ghost use Rattle.ltl_alt.specs.GbaView.{automaton_code};
 
     ghost Value = { Automaton };
 
@@ -39,7 +39,7 @@ impl<'a, A: Allocator> Gen<'a, A> {
         ensures some { 0 < result }
         ensures few { result ≤ 65_536 }
     {
-        self.automaton.stays_within();
+        self.automaton.invariant();
         self.automaton.len()
     }
 
@@ -56,14 +56,14 @@ impl<'a, A: Allocator> Gen<'a, A> {
         ensures edges { map edge_of result.now ≡ (state_at self.now i).edges }
         ensures within { All (λ e. IsEdgeWithin (length self.now.states) self.now.sets (edge_of e)) result.now }
     {
-        self.automaton.stays_within();
+        self.automaton.invariant();
         self.automaton.edges(i)
     }
 
-    /// Hands what the type holds to callers.
-    pub fn stays_within(&self)
-        ensures { IsGba self.now }
+    /// Hands what the type promises to callers.
+    pub fn invariant(&self)
+        ensures { IsAcceptingGba self.now }
     {
-        self.automaton.stays_within();
+        self.automaton.invariant();
     }
 }

@@ -95,10 +95,10 @@ impl<'b, 's, 'a, A: Allocator> Successors<usize> for Numbers<'b, 's, 'a, A> {
 fn renumbered<'a, A: Allocator>(
     alloc: &'a A,
     states: &SharedStates<'_, A>,
-) -> Result<SharedStates<'a, A>, AutomatonFault>
+) -> Result<SharedStates<'a, A>, BaFault>
     requires { IsNumberable (automaton_of states.now) }
     ensures renumbered { IfOk result (λ s. automaton_of s ≡ renumbered_automaton (automaton_of states.now)) }
-    ensures fits { ¬ IsErrOf result AutomatonFault.TooLarge }
+    ensures fits { ¬ IsErrOf result BaFault.TooLarge }
 {
     let mut firsts = Vec::new(alloc);
     firsts.resize(states.list_count(), 0)?;
@@ -129,7 +129,7 @@ pub fn renumber<'a, A: Allocator>(alloc: &'a A, automaton: &Ba<'_, A>) -> Result
     ensures renumbered { IfOk result (λ b. b ≡ renumbered_automaton automaton.now) }
     ensures fits { ¬ IsErrOf result BaFault.TooLarge }
 {
-    automaton.stays_within();
+    automaton.invariant();
     let states = renumbered_states(alloc, automaton.states())?;
     Ok(Ba::new(alloc, states)?)
 }
@@ -143,8 +143,7 @@ pub(crate) fn renumber_generalized<'a, A: Allocator>(
     ensures renumbered { IfOk result (λ g. g ≡ renumbered_automaton automaton.now) }
     ensures fits { ¬ IsErrOf result BaFault.TooLarge }
 {
-    automaton.stays_within();
-    automaton.accepts_everywhere();
+    automaton.invariant();
     let states = renumbered(alloc, automaton.states())?;
     Ok(Gen::new(Gba::new(states)))
 }

@@ -6,14 +6,12 @@ ghost use Rattle.ltl_automaton.specs.EdgeView.{edge_of};
 ghost use Rattle.ltl_automaton.specs.SharedView.{automaton_of};
 ghost use Rattle.ltl_buchi.specs.Classes.{AreNames, IsNumbering, IsWithinStates, retargeted_list, thinned};
 
+use crate::chains::Heads;
 use crate::implied::unimplied;
 use crate::retargeting::retargeted;
 use ltl_automaton::{Edge, SharedStates};
 use smallvec::SmallVec;
 use std::alloc::{AllocError, Allocator};
-
-/// Places of edges. Small automata have few classes.
-type Heads<'a, A> = SmallVec<usize, 8, &'a A>;
 
 /// The names of the classes, rising, and the number of each state's class.
 #[derive(Drop)]

@@ -43,8 +43,7 @@ pub(crate) fn smaller_gba<'a, A: Allocator>(
     ensures merged { IfOk result (λ m. m ≡ merged_automaton options.now.keep_implied options.now.keep_equal gba.entry) }
     ensures fault { IfErr result (λ f. f ≡ BaFault.OutOfMemory) }
 {
-    gba.stays_within();
-    gba.accepts_everywhere();
+    gba.invariant();
     match changed(alloc, gba.states(), options)? {
         Some(states) => Ok(Gba::new(states)),
         None => Ok(gba),

@@ -11,14 +11,12 @@ ghost use Rattle.ltl_automaton.specs.EdgeView.{edge_of};
 ghost use Rattle.ltl_automaton.specs.SharedView.{automaton_of};
 ghost use Rattle.ltl_buchi.specs.Classes.{AreListsWithin, IsWithinStates};
 
+use crate::chains::Heads;
 use crate::implied::are_found_unimplied;
 use ltl_automaton::{Edge, SharedStates};
 use smallvec::SmallVec;
 use std::alloc::{AllocError, Allocator};
 use std::cmp::Ordering;
-
-/// Places of edges. Small automata have few states.
-type Heads<'a, A> = SmallVec<usize, 8, &'a A>;
 
 /// Whether each edge is below the next one.
 fn are_rising(edges: &[Edge]) -> bool
@@ -85,7 +83,7 @@ pub(crate) fn stands<'a, A: Allocator>(
     requires long { length names.now ≡ length (automaton_of states.now).states }
     ensures { IfOk result (λ b. b ≡ true → merging.quotient keep_implied names.now (automaton_of states.now) ≡ automaton_of states.now) }
 {
-    states.shares();
+    states.invariant();
     if !are_own(names) || !all_rise(states) {
         return Ok(false);
     }

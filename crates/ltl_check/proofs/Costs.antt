@@ -5,7 +5,7 @@ use Rattle.std.proofs.lemmas.List.{get_or-set_same, get_or-set_other, length-set
 use Rattle.ltl_check.specs.declared.graph.Step.{Step}
 use Rattle.ltl_check.specs.declared.walk.Taken.{Taken}
 use Rattle.ltl_check.specs.declared.search.Colour.{Colour}
-use Rattle.ltl_check.specs.declared.search.Colour.TheVariants.{New, Open, Left, Marked}
+use Rattle.ltl_check.specs.declared.search.Colour.TheVariants.{New, Open, Left, Probed}
 use Rattle.ltl_check.specs.Nets.{Net, IsWay, Turns, IsFound}
 use Rattle.ltl_check.specs.declared.search.Front.{Front}
 use Rattle.ltl_check.specs.declared.search.Met.{Met}
@@ -77,7 +77,7 @@ module _ (N : Net) where
   -- ---- the second pass
   module _ (cs : List Colour) (way : List Taken) (root past : ℕ) (path : List Taken) (at next : ℕ) (x : IsProbedAt N way root past cs path at next) (more : next < N.pairs at) (room : next + 1 < 2 ^ 64) where
     -- a look that finds nothing, or no state to go to
-    pub probed : ((a : Step ℕ) → N.arc at next ≡ Some a → colour_at cs a.target ≡ Marked) → IsProbedOn N way root past cs path at next cs path at (next + 1)
+    pub probed : ((a : Step ℕ) → N.arc at next ≡ Some a → colour_at cs a.target ≡ Probed) → IsProbedOn N way root past cs path at next cs path at (next + 1)
     probed f = record {
       stands = record { sized = x.sized; explored = x.explored; probed = pass_by N (colour_at cs) root path at next x.probed (λ a i. f a i.found) };
       falls = omega arith;
@@ -86,21 +86,21 @@ module _ (N : Net) where
     }
 
     -- a state that was left is marked
-    pub marked : (later : List Taken) (a : Step ℕ) → a.target < N.count → N.arc at next ≡ Some a → colour_at cs a.target ≡ Left → later ≡ path ++ record { state = at; pick = next; letter = a.letter } ∷ [] → IsProbedOn N way root past cs path at next (set cs a.target Marked) later a.target 0
+    pub marked : (later : List Taken) (a : Step ℕ) → a.target < N.count → N.arc at next ≡ Some a → colour_at cs a.target ≡ Left → later ≡ path ++ record { state = at; pick = next; letter = a.letter } ∷ [] → IsProbedOn N way root past cs path at next (set cs a.target Probed) later a.target 0
     marked later a inside found was pushed =
         let within : a.target < length cs = (let z = x.sized in omega arith) in
-        let changed = changed_set cs a.target Marked within in
-        let c = total_change (cost N) cs a.target Left Marked within was in
-        let m = total_change (to_mark N) cs a.target Left Marked within was in
-        let e = total_change (to_enter N) cs a.target Left Marked within was in
+        let changed = changed_set cs a.target Probed within in
+        let c = total_change (cost N) cs a.target Left Probed within was in
+        let m = total_change (to_mark N) cs a.target Left Probed within was in
+        let e = total_change (to_enter N) cs a.target Left Probed within was in
         let r = pushed_rest path later at next a.letter pushed in
         let l = pushed_length path later at next a.letter pushed in
         record {
           stands = record {
-            sized = length-set cs a.target Marked ∙ x.sized;
-            explored = mark_explored N (colour_at cs) (colour_at (set cs a.target Marked)) a.target was changed way root past x.explored;
-            probed = subst (λ w. IsProbed N (colour_at (set cs a.target Marked)) root w a.target 0) (sym pushed)
-                (descend N (colour_at cs) (colour_at (set cs a.target Marked)) a.target was changed way root past path at next a (record { state = at; pick = next; letter = a.letter }) x.explored x.probed inside (record { within = more; found = found }) refl refl refl refl room);
+            sized = length-set cs a.target Probed ∙ x.sized;
+            explored = mark_explored N (colour_at cs) (colour_at (set cs a.target Probed)) a.target was changed way root past x.explored;
+            probed = subst (λ w. IsProbed N (colour_at (set cs a.target Probed)) root w a.target 0) (sym pushed)
+                (descend N (colour_at cs) (colour_at (set cs a.target Probed)) a.target was changed way root past path at next a (record { state = at; pick = next; letter = a.letter }) x.explored x.probed inside (record { within = more; found = found }) refl refl refl refl room);
           };
           falls = omega arith;
           pays = omega arith;
@@ -235,7 +235,7 @@ module _ (N : Net) where
   cost_le n New = omega arith
   cost_le n Open = omega arith
   cost_le n Left = omega arith
-  cost_le n Marked = omega arith
+  cost_le n Probed = omega arith
 
   pub twice : (cs : List Colour) → length cs ≡ N.count → total (cost N) 0 cs ≤ 2 * sum_below N.pairs N.count
   twice cs sized =
@@ -287,16 +287,16 @@ module _ (N : Net) where
     pub left_cost : total (cost N) 0 (set cs here Left) ≡ total (cost N) 0 cs
     left_cost = let h = total_change (cost N) cs here Open Left within x.opened in omega arith
 
-    pub marked_cost : total (cost N) 0 (set cs here Marked) ≡ total (cost N) 0 cs + N.pairs here
-    marked_cost = let h = total_change (cost N) cs here Open Marked within x.opened in omega arith
+    pub marked_cost : total (cost N) 0 (set cs here Probed) ≡ total (cost N) 0 cs + N.pairs here
+    marked_cost = let h = total_change (cost N) cs here Open Probed within x.opened in omega arith
 
     pub most_marked : total (cost N) 0 cs + N.pairs here ≤ 2 * sum_below N.pairs N.count
     most_marked =
         let h = marked_cost in
-        let t = twice (set cs here Marked) (length-set cs here Marked ∙ sized) in
+        let t = twice (set cs here Probed) (length-set cs here Probed ∙ sized) in
         omega arith
 
-    left_by : (c : Colour) → N.pairs here ≤ next → IsClosed N (colour_at cs) → (c ≡ Left) ⊎ (c ≡ Marked) → (N.accepts here ≡ true → Turns N here → ⊥) → (c ≡ Marked → IsMarkedTo N (colour_at cs) here (N.pairs here)) → HasLeftAt N cs (set cs here c) way
+    left_by : (c : Colour) → N.pairs here ≤ next → IsClosed N (colour_at cs) → (c ≡ Left) ⊎ (c ≡ Probed) → (N.accepts here ≡ true → Turns N here → ⊥) → (c ≡ Probed → IsMarkedTo N (colour_at cs) here (N.pairs here)) → HasLeftAt N cs (set cs here c) way
     left_by c done closed leaves turnless leads =
         let changed = changed_set cs here c within in
         record {
@@ -310,17 +310,17 @@ module _ (N : Net) where
           enters = enters leaves (total_change (to_enter N) cs here Open c within x.opened);
         }
       where
-        enters : (c ≡ Left) ⊎ (c ≡ Marked) → total (to_enter N) 0 (set cs here c) + 0 ≡ total (to_enter N) 0 cs + to_enter N here c → total (to_enter N) 0 (set cs here c) ≡ total (to_enter N) 0 cs
+        enters : (c ≡ Left) ⊎ (c ≡ Probed) → total (to_enter N) 0 (set cs here c) + 0 ≡ total (to_enter N) 0 cs + to_enter N here c → total (to_enter N) 0 (set cs here c) ≡ total (to_enter N) 0 cs
         enters (inl e) h = let z : to_enter N here c ≡ 0 = ap (to_enter N here) e in omega arith
         enters (inr e) h = let z : to_enter N here c ≡ 0 = ap (to_enter N here) e in omega arith
 
   pub left_unmarked : (cs : List Colour) (way : List Taken) (here next : ℕ) → IsAt N cs way here next → N.pairs here ≤ next → N.accepts here ≡ false → HasLeftAt N cs (set cs here Left) way
   left_unmarked cs way here next x done no_accept = left_by cs way here next x.explored x.sized Left done x.closed (inl refl) (λ a. absurd (cc)) (λ q. absurd (cc))
 
-  pub left_marked : (bs cs : List Colour) (way : List Taken) (here next : ℕ) → N.pairs here ≤ next → HasProbedAt N way here next bs cs → HasLeftAt N bs (set cs here Marked) way
+  pub left_marked : (bs cs : List Colour) (way : List Taken) (here next : ℕ) → N.pairs here ≤ next → HasProbedAt N way here next bs cs → HasLeftAt N bs (set cs here Probed) way
   left_marked bs cs way here next done p =
       let x = p.stands in
-      let h = left_by cs way here next x.explored x.sized Marked done x.closed (inr refl) (λ a. p.turnless) (λ q. p.leads) in
+      let h = left_by cs way here next x.explored x.sized Probed done x.closed (inr refl) (λ a. p.turnless) (λ q. p.leads) in
       record { sized = h.sized; closed = h.closed; back = h.back; enters = h.enters ∙ p.enters }
 
   -- back to the step before

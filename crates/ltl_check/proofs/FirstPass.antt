@@ -4,7 +4,7 @@ use Rattle.std.proofs.lemmas.Bool.{cases_eq}
 use Rattle.ltl_check.specs.declared.graph.Step.{Step}
 use Rattle.ltl_check.specs.declared.walk.Taken.{Taken}
 use Rattle.ltl_check.specs.declared.search.Colour.{Colour}
-use Rattle.ltl_check.specs.declared.search.Colour.TheVariants.{New, Open, Left, Marked}
+use Rattle.ltl_check.specs.declared.search.Colour.TheVariants.{New, Open, Left, Probed}
 use Rattle.ltl_check.specs.Nets.{Net, IsArc, IsWay, Turns}
 use Rattle.ltl_check.specs.Explored.{Each, OneOf, Apart, IsChanged, IsLeft, IsSeen, IsMarkedTo, IsOpenStep, IsExplored, IsClosed, IsOver}
 use Rattle.ltl_check.proofs.WayLaws.{each_push, each_pop, each_weaker, one_push, one_last, one_pop, apart_push, apart_pop, way_push, way_split}
@@ -57,12 +57,12 @@ module _ (N : Net) where
     left_is : Left ≢ Open
     left_is e = cc
 
-    marked_is : Marked ≢ Open
+    marked_is : Probed ≢ Open
     marked_is e = cc
 
     left_back : (m : ℕ) → IsLeft N after m → IsLeft N col m
     left_back m (inl e) = inl (back m Left e left_is)
-    left_back m (inr e) = inr (back m Marked e marked_is)
+    left_back m (inr e) = inr (back m Probed e marked_is)
 
     enter_step : (t : Taken) → IsOpenStep N col t → IsOpenStep N after t
     enter_step t o = record { inside = o.inside; within = o.within; room = o.room; opened = other t.state Open o.opened open_is; seen = seen_kept col after entered t.state (t.pick + 1) o.seen }
@@ -104,10 +104,10 @@ module _ (N : Net) where
         target_entered b a j i to = subst (λ m. after m ≢ New) (sym (ap (λ s. s.target) (same_arc b a j i) ∙ to)) entered_here
 
     pub enter_closed : IsClosed N col → IsClosed N after
-    enter_closed c m e k t l i = other t.target Marked (c m (back m Marked e marked_is) k t l i) (λ q. cc)
+    enter_closed c m e k t l i = other t.target Probed (c m (back m Probed e marked_is) k t l i) (λ q. cc)
 
   -- ---- a state is left
-  module _ (col after : ℕ → Colour) (way : List Taken) (here next : ℕ) (c : Colour) (x : IsExplored N col way here next) (done : N.pairs here ≤ next) (changed : IsChanged col after here c) (leaves : (c ≡ Left) ⊎ (c ≡ Marked)) (turnless : N.accepts here ≡ true → Turns N here → ⊥) where
+  module _ (col after : ℕ → Colour) (way : List Taken) (here next : ℕ) (c : Colour) (x : IsExplored N col way here next) (done : N.pairs here ≤ next) (changed : IsChanged col after here c) (leaves : (c ≡ Left) ⊎ (c ≡ Probed)) (turnless : N.accepts here ≡ true → Turns N here → ⊥) where
     c_new : c ≢ New
     c_new e = elim leaves [ inl q ↦ (cc) | inr q ↦ (cc) ]
 
@@ -176,15 +176,15 @@ module _ (N : Net) where
     }
 
     -- marks stay closed where the state isn't marked, or leads to marked states alone
-    pub leave_closed : IsClosed N col → (c ≡ Marked → IsMarkedTo N col here (N.pairs here)) → IsClosed N after
+    pub leave_closed : IsClosed N col → (c ≡ Probed → IsMarkedTo N col here (N.pairs here)) → IsClosed N after
     leave_closed closed leads m e k t l i =
         marked_stays t.target (elim (cases_eq m here) [
-          | inl q ↦ leads (sym changed.here ∙ subst (λ j. after j ≡ Marked) q e) k t (subst (λ j. k < N.pairs j) q l) (subst (λ j. IsArc N j k t) q i)
+          | inl q ↦ leads (sym changed.here ∙ subst (λ j. after j ≡ Probed) q e) k t (subst (λ j. k < N.pairs j) q l) (subst (λ j. IsArc N j k t) q i)
           | inr q ↦ closed m (sym (changed.there m q) ∙ e) k t l i
         ])
       where
-        marked_stays : (n : ℕ) → col n ≡ Marked → after n ≡ Marked
+        marked_stays : (n : ℕ) → col n ≡ Probed → after n ≡ Probed
         marked_stays n h = elim (cases_eq n here) [
-          | inl q ↦ absurd (let o = x.opened in let h' : col here ≡ Marked = subst (λ j. col j ≡ Marked) q h in cc)
+          | inl q ↦ absurd (let o = x.opened in let h' : col here ≡ Probed = subst (λ j. col j ≡ Probed) q h in cc)
           | inr q ↦ changed.there n q ∙ h
         ]

@@ -11,7 +11,8 @@ use Rattle.ltl_check.specs.Nets.{Net, IsArc, IsWay, Passes, IsFound}
 use Rattle.ltl_spec.specs.Construction.Levels.{climb, next_level}
 use Rattle.ltl_spec.proofs.Construction.ClimbLaws.{first_level}
 use Rattle.ltl_check.specs.Levels.{on_level, levels_net, without_level, Takes, IsFullWalk}
-use Rattle.ltl_check.specs.LevelLaws.{mapped, after_most, climb_up, climb_on, climb_bound, place_level}
+use Rattle.ltl_spec.proofs.Construction.LevelLaws.{climb_on}
+use Rattle.ltl_check.specs.LevelLaws.{mapped, after_most, climb_up, climb_bound, place_level}
 use Rattle.ltl_spec.proofs.Semantics.Pigeonhole.{pigeonhole}
 use Rattle.ltl_check.proofs.WayLaws.{way_append, way_split}
 

@@ -4,17 +4,17 @@ use Rattle.std.proofs.lemmas.Bool.{cases_eq}
 use Rattle.ltl_check.specs.declared.graph.Step.{Step}
 use Rattle.ltl_check.specs.declared.walk.Taken.{Taken}
 use Rattle.ltl_check.specs.declared.search.Colour.{Colour}
-use Rattle.ltl_check.specs.declared.search.Colour.TheVariants.{New, Open, Left, Marked}
+use Rattle.ltl_check.specs.declared.search.Colour.TheVariants.{New, Open, Left, Probed}
 use Rattle.ltl_check.specs.Nets.{Net, IsArc, IsWay, Passes, Turns, IsFound}
 use Rattle.ltl_check.specs.Explored.{Each, OneOf, IsChanged, IsLeft, IsSeen, IsMarkedTo, IsOpenStep, IsExplored, IsClosed, IsOver, IsMarkedStep, IsProbed}
 use Rattle.ltl_check.proofs.WayLaws.{each_push, each_pop, each_weaker, one_push, one_last, one_pop, way_append, way_push, way_split}
 use Rattle.ltl_check.proofs.FirstPass.{below_more, seen_kept}
 
-marked_left : Marked ≢ Left
+marked_left : Probed ≢ Left
 marked_left e = cc
 
 module _ (N : Net) where
-  pub marked_more : (col : ℕ → Colour) (n next : ℕ) → IsMarkedTo N col n next → ((t : Step ℕ) → IsArc N n next t → col t.target ≡ Marked) → IsMarkedTo N col n (next + 1)
+  pub marked_more : (col : ℕ → Colour) (n next : ℕ) → IsMarkedTo N col n next → ((t : Step ℕ) → IsArc N n next t → col t.target ≡ Probed) → IsMarkedTo N col n (next + 1)
   marked_more col n next s f k t l i =
       elim (cases_eq k next) [
         | inl e ↦ f t (subst (λ j. IsArc N n j t) e i)
@@ -33,7 +33,7 @@ module _ (N : Net) where
   }
 
   -- a look that finds nothing, or a marked state
-  pub pass_by : (col : ℕ → Colour) (root : ℕ) (path : List Taken) (at next : ℕ) → IsProbed N col root path at next → ((t : Step ℕ) → IsArc N at next t → col t.target ≡ Marked) → IsProbed N col root path at (next + 1)
+  pub pass_by : (col : ℕ → Colour) (root : ℕ) (path : List Taken) (at next : ℕ) → IsProbed N col root path at next → ((t : Step ℕ) → IsArc N at next t → col t.target ≡ Probed) → IsProbed N col root path at (next + 1)
   pass_by col root path at next p f = record {
     inside = p.inside;
     arrives = p.arrives;
@@ -63,16 +63,16 @@ module _ (N : Net) where
       }
 
   -- ---- a state that was left is marked
-  module _ (col after : ℕ → Colour) (n : ℕ) (was : col n ≡ Left) (changed : IsChanged col after n Marked) where
+  module _ (col after : ℕ → Colour) (n : ℕ) (was : col n ≡ Left) (changed : IsChanged col after n Probed) where
     marked_kept : (m : ℕ) (c : Colour) → col m ≡ c → c ≢ Left → after m ≡ c
     marked_kept m c e d = elim (cases_eq m n) [
       | inl q ↦ absurd (d (sym e ∙ subst (λ j. col j ≡ Left) (sym q) was))
       | inr q ↦ changed.there m q ∙ e
     ]
 
-    before : (m : ℕ) (c : Colour) → after m ≡ c → c ≢ Marked → col m ≡ c
+    before : (m : ℕ) (c : Colour) → after m ≡ c → c ≢ Probed → col m ≡ c
     before m c e d = elim (cases_eq m n) [
-      | inl q ↦ absurd (d (sym e ∙ subst (λ j. after j ≡ Marked) (sym q) changed.here))
+      | inl q ↦ absurd (d (sym e ∙ subst (λ j. after j ≡ Probed) (sym q) changed.here))
       | inr q ↦ sym (changed.there m q) ∙ e
     ]
 
@@ -86,7 +86,7 @@ module _ (N : Net) where
     ]
 
     marked_on : (m next : ℕ) → IsMarkedTo N col m next → IsMarkedTo N after m next
-    marked_on m next s k t l i = marked_kept t.target Marked (s k t l i) marked_left
+    marked_on m next s k t l i = marked_kept t.target Probed (s k t l i) marked_left
 
     pub mark_explored : (way : List Taken) (here next : ℕ) → IsExplored N col way here next → IsExplored N after way here next
     mark_explored way here next x = record {
@@ -131,16 +131,16 @@ module _ (N : Net) where
         same_arc : (b : Step ℕ) → IsArc N at next b → b ≡ a
         same_arc b r = let p = r.found in let q = i.found in cc
 
-        target_marked : (b : Step ℕ) → IsArc N at next b → after b.target ≡ Marked
-        target_marked b r = subst (λ m. after m ≡ Marked) (sym (ap (λ s. s.target) (same_arc b r) ∙ to)) changed.here
+        target_marked : (b : Step ℕ) → IsArc N at next b → after b.target ≡ Probed
+        target_marked b r = subst (λ m. after m ≡ Probed) (sym (ap (λ s. s.target) (same_arc b r) ∙ to)) changed.here
 
   -- ---- it ends, and nothing was found
   module _ (col : ℕ → Colour) (way : List Taken) (root past : ℕ) (at next : ℕ) (x : IsExplored N col way root past) (p : IsProbed N col root [] at next) (done : N.pairs at ≤ next) where
     pub root_leads : IsMarkedTo N col root (N.pairs root)
     root_leads = subst (λ j. IsMarkedTo N col j (N.pairs j)) (sym p.arrives) (λ k t l i. p.marked k t (omega arith) i)
 
-    not_root : (n : ℕ) → col n ≡ Marked → n ≢ root
-    not_root n m q = let o = x.opened in let h : col root ≡ Marked = subst (λ j. col j ≡ Marked) q m in cc
+    not_root : (n : ℕ) → col n ≡ Probed → n ≢ root
+    not_root n m q = let o = x.opened in let h : col root ≡ Probed = subst (λ j. col j ≡ Probed) q m in cc
 
     pub root_closed : IsClosed N col
     root_closed n m = elim (p.closed n m) [
@@ -148,10 +148,10 @@ module _ (N : Net) where
       | inr h ↦ elim h [ inl q ↦ absurd (not_root n m (q ∙ sym p.arrives)) | inr q ↦ absurd q ]
     ]
 
-    never_back : (n : ℕ) (ts : List Taken) → col n ≡ Marked → IsWay N n ts root → ⊥
+    never_back : (n : ℕ) (ts : List Taken) → col n ≡ Probed → IsWay N n ts root → ⊥
     never_back n [] m w = not_root n m w
     never_back n (t ∷ ts) m w =
-        never_back w.1.0.target ts (root_closed t.state (subst (λ j. col j ≡ Marked) (sym w.0) m) t.pick w.1.0 w.1.1.within w.1.1) w.1.3
+        never_back w.1.0.target ts (root_closed t.state (subst (λ j. col j ≡ Probed) (sym w.0) m) t.pick w.1.0 w.1.1.within w.1.1) w.1.3
 
     pub root_turnless : Turns N root → ⊥
     root_turnless h =
@@ -181,7 +181,7 @@ module _ (N : Net) where
     left_from n New e d = absurd (d refl)
     left_from n Open e d = absurd (o.none n e)
     left_from n Left e d = inl e
-    left_from n Marked e d = inr e
+    left_from n Probed e d = inr e
 
     pub left_on : (n m : ℕ) (ts : List Taken) → IsLeft N col n → IsWay N n ts m → IsLeft N col m
     left_on n m [] f w = subst (IsLeft N col) w f

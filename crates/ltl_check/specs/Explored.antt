@@ -6,7 +6,7 @@ use Rattle.ltl_check.specs.declared.search.Colour.{Colour}
 use Rattle.ltl_check.specs.declared.search.Front.{Front}
 use Rattle.ltl_check.specs.declared.search.Met.{Met}
 use Rattle.ltl_check.specs.declared.search.Search.{Search}
-use Rattle.ltl_check.specs.declared.search.Colour.TheVariants.{New, Open, Left, Marked}
+use Rattle.ltl_check.specs.declared.search.Colour.TheVariants.{New, Open, Left, Probed}
 use Rattle.ltl_check.specs.Nets.{Net, IsArc, IsWay, Turns}
 
 abbrev pub colour_at : List Colour → ℕ → Colour
@@ -35,7 +35,7 @@ pub record IsChanged (col after : ℕ → Colour) (n : ℕ) (c : Colour) : Type 
 module _ (N : Net) (col : ℕ → Colour) where
   -- the state has been left
   abbrev pub IsLeft : ℕ → Type 0
-  IsLeft n = (col n ≡ Left) ⊎ (col n ≡ Marked)
+  IsLeft n = (col n ≡ Left) ⊎ (col n ≡ Probed)
 
   -- the first looks find only states that have been entered
   abbrev pub IsSeen : ℕ → ℕ → Type 0
@@ -43,7 +43,7 @@ module _ (N : Net) (col : ℕ → Colour) where
 
   -- the first looks find only marked states
   abbrev pub IsMarkedTo : ℕ → ℕ → Type 0
-  IsMarkedTo n next = (k : ℕ) (t : Step ℕ) → k < next → IsArc N n k t → col t.target ≡ Marked
+  IsMarkedTo n next = (k : ℕ) (t : Step ℕ) → k < next → IsArc N n k t → col t.target ≡ Probed
 
   -- a step of the way: its state is open, and its looks up to the one taken are seen
   pub record IsOpenStep (t : Taken) : Type 0 where
@@ -67,7 +67,7 @@ module _ (N : Net) (col : ℕ → Colour) where
 
   -- the edges of marked states lead to marked states
   abbrev pub IsClosed : Type 0
-  IsClosed = (n : ℕ) → col n ≡ Marked → IsMarkedTo n (N.pairs n)
+  IsClosed = (n : ℕ) → col n ≡ Probed → IsMarkedTo n (N.pairs n)
 
   -- the first pass has come to its end
   pub record IsOver : Type 0 where
@@ -91,7 +91,7 @@ module _ (N : Net) (col : ℕ → Colour) where
     pub seen : IsSeen at (N.pairs at)
     pub marked : IsMarkedTo at next
     pub steps : Each IsMarkedStep path
-    pub closed : (n : ℕ) → col n ≡ Marked → IsMarkedTo n (N.pairs n) ⊎ ((n ≡ at) ⊎ OneOf (λ t. t.state ≡ n) path)
+    pub closed : (n : ℕ) → col n ≡ Probed → IsMarkedTo n (N.pairs n) ⊎ ((n ≡ at) ⊎ OneOf (λ t. t.state ≡ n) path)
 
 -- a number for each state, by its colour, and their sum; the first colour is that of state i
 abbrev pub total : (ℕ → Colour → ℕ) → ℕ → List Colour → ℕ
@@ -117,21 +117,21 @@ module _ (N : Net) where
   cost n New = 0
   cost n Open = N.pairs n
   cost n Left = N.pairs n
-  cost n Marked = N.pairs n + N.pairs n
+  cost n Probed = N.pairs n + N.pairs n
 
   -- what the first pass has yet to enter
   abbrev pub to_enter : ℕ → Colour → ℕ
   to_enter n New = N.pairs n + 1
   to_enter n Open = 0
   to_enter n Left = 0
-  to_enter n Marked = 0
+  to_enter n Probed = 0
 
   -- what the second pass has yet to mark
   abbrev pub to_mark : ℕ → Colour → ℕ
   to_mark n New = 0
   to_mark n Open = 0
   to_mark n Left = N.pairs n + 1
-  to_mark n Marked = 0
+  to_mark n Probed = 0
 
 -- the count of looks, after so many more: it stays at the greatest number
 abbrev pub counted : ℕ → ℕ → ℕ

@@ -1,41 +1,17 @@
 -- Laws of marks and levels.
-use Rattle.std.proofs.Common.{◌≡◌, ℕ, zero, suc, ◌+◌, ◌-◌, ◌*◌, ◌/◌, ◌%◌, ◌<◌, ◌≤◌, Bool, true, false, cond, eqb, List, [], ◌∷◌, Option, Some, None, inl, inr, refl, sym, ◌∙◌, ap, subst, arith}
+use Rattle.std.proofs.Common.{◌≡◌, ℕ, zero, suc, ◌+◌, ◌*◌, ◌/◌, ◌%◌, ◌<◌, ◌≤◌, Bool, true, false, cond, eqb, List, [], ◌∷◌, Option, Some, None, inl, inr, refl, sym, ◌∙◌, ap, subst, arith}
 use Rattle.std.proofs.Math.Nat.{suc-mul}
 use Rattle.std.proofs.lemmas.Bool.{cases_eq}
 use Rattle.std.proofs.lemmas.Nat.{div-mul-add, mod-mul-add, rows}
 use Rattle.std.specs.Prelude.{option_map}
-use Rattle.std.specs.List.{AllByRecursion}
-use Rattle.ltl_spec.specs.Collections.Sets.{Has}
 use Rattle.ltl_spec.specs.Construction.Levels.{climb, next_level}
 use Rattle.ltl_spec.proofs.Collections.SetLaws.{has_Decides}
 use Rattle.ltl_spec.proofs.Collections.Orders.{nat_linear}
 use Rattle.ltl_spec.proofs.Construction.ClimbLaws.{next_level_most}
 use Rattle.ltl_check.specs.declared.graph.Step.{Step}
-use Rattle.ltl_check.specs.declared.levels.Placed.{Placed}
+use Rattle.ltl_check.specs.declared.levels.LevelState.{LevelState}
 use Rattle.ltl_check.specs.Marks.{in_set, MarksBelow}
 use Rattle.ltl_check.specs.Levels.{placed_step}
-
--- a member of numbers below n is below n
-pub member_below : (n : ℕ) (marks : List ℕ) (j : ℕ) → AllByRecursion (λ i. i < n) marks → Has marks j → j < n
-member_below n [] j all h = absurd h
-member_below n (m ∷ marks) j all (inl e) = subst (λ i. i < n) (sym e) all.0
-member_below n (m ∷ marks) j all (inr h) = member_below n marks j all.1 h
-
-pub in_set_high : (marks : List ℕ) (j : ℕ) → AllByRecursion (λ i. i < 256) marks → 256 ≤ j → in_set marks j ≡ false
-in_set_high marks j all l = by (in_set marks j) refl
-  where
-    by : (b : Bool) → in_set marks j ≡ b → b ≡ false
-    by false e = refl
-    by true e = absurd (let h = member_below 256 marks j all ((has_Decides nat_linear j marks).0 e) in omega arith)
-
-pub climb_on : (sets at : ℕ) (marks : List ℕ) → at < sets → in_set marks at ≡ true → climb (sets - at) marks at ≡ climb (sets - (at + 1)) marks (at + 1)
-climb_on sets at marks l h =
-    let e : sets - at ≡ suc (sets - (at + 1)) = omega arith in
-    ap (λ n. climb n marks at) e ∙ ap (λ b. cond b (climb (sets - (at + 1)) marks (at + 1)) at) h
-
-pub climb_stop : (n : ℕ) (marks : List ℕ) (at : ℕ) → in_set marks at ≡ false → climb n marks at ≡ at
-climb_stop zero marks at h = refl
-climb_stop (suc n) marks at h = ap (λ b. cond b (climb n marks (at + 1)) at) h
 
 -- one more step of a climb, by whether the marks hold the set
 climb_by : (P : ℕ → Type 0) (n : ℕ) (marks : List ℕ) (at : ℕ) (b : Bool) → in_set marks at ≡ b → (b ≡ true → P (climb n marks (at + 1))) → (b ≡ false → P at) → P (climb (suc n) marks at)
@@ -74,7 +50,7 @@ pub mapped : {A B : Type 0} (f : A → B) (o : Option A) (t : B) → option_map 
 mapped f None t e = absurd (cc)
 mapped f (Some a) t e = (a, refl, (cc))
 
-pub placed_target : {S : Type 0} (P : S → Type 0) (sets level : ℕ) (o : Option (Step S)) (t : Step (Placed S)) → level ≤ sets → option_map (placed_step sets level) o ≡ Some t → ((a : Step S) → o ≡ Some a → P a.target) → P t.target.state × (t.target.level ≤ sets)
+pub placed_target : {S : Type 0} (P : S → Type 0) (sets level : ℕ) (o : Option (Step S)) (t : Step (LevelState S)) → level ≤ sets → option_map (placed_step sets level) o ≡ Some t → ((a : Step S) → o ≡ Some a → P a.target) → P t.target.state × (t.target.level ≤ sets)
 placed_target P sets level o t l e f =
     let m = mapped (placed_step sets level) o t e in
     subst (λ u. P u.target.state × (u.target.level ≤ sets)) m.2 (f m.0 m.1, after_most sets m.0.marks level l)
@@ -83,12 +59,12 @@ placed_marks_by : (b : Bool) → MarksBelow (cond b (0 ∷ []) []) 1
 placed_marks_by true j e = elim ((has_Decides nat_linear j (0 ∷ [])).0 e) [ inl q ↦ omega arith | inr h ↦ absurd h ]
 placed_marks_by false j e = absurd ((has_Decides nat_linear j []).0 e)
 
-pub placed_marks : {S : Type 0} (sets level : ℕ) (o : Option (Step S)) (t : Step (Placed S)) → option_map (placed_step sets level) o ≡ Some t → MarksBelow t.marks 1
+pub placed_marks : {S : Type 0} (sets level : ℕ) (o : Option (Step S)) (t : Step (LevelState S)) → option_map (placed_step sets level) o ≡ Some t → MarksBelow t.marks 1
 placed_marks sets level o t e =
     let m = mapped (placed_step sets level) o t e in
     subst (λ u. MarksBelow u.marks 1) m.2 (placed_marks_by (eqb level sets))
 
-pub placed_back : {S : Type 0} (state : ℕ → S) (n r : ℕ) (s : Placed S) → s.level ≤ r → state n ≡ s.state → record { state = state ((n * (r + 1) + s.level) / (r + 1)); level = (n * (r + 1) + s.level) % (r + 1) } ≡ s
+pub placed_back : {S : Type 0} (state : ℕ → S) (n r : ℕ) (s : LevelState S) → s.level ≤ r → state n ≡ s.state → record { state = state ((n * (r + 1) + s.level) / (r + 1)); level = (n * (r + 1) + s.level) % (r + 1) } ≡ s
 placed_back state n r s l e =
     let d : (n * (r + 1) + s.level) / (r + 1) ≡ n = div-mul-add n (r + 1) s.level (omega arith) in
     let m : (n * (r + 1) + s.level) % (r + 1) ≡ s.level = mod-mul-add n (r + 1) s.level (omega arith) in

@@ -1,7 +1,7 @@
 -- From sets of edges to accepting states: each state on levels, one for each number of sets met in turn.
 use Rattle.std.specs.Prelude.{◌≡◌, ◌≢◌, ℕ, ◌+◌, ◌*◌, ◌/◌, ◌%◌, ◌<◌, true, false, cond, ◌==◌, List, [], ◌∷◌, Option, option_map, ◌⊎◌}
 use Rattle.ltl_check.specs.declared.graph.Step.{Step}
-use Rattle.ltl_check.specs.declared.levels.Placed.{Placed}
+use Rattle.ltl_check.specs.declared.levels.LevelState.{LevelState}
 use Rattle.ltl_check.specs.declared.walk.Taken.{Taken}
 use Rattle.ltl_spec.specs.Construction.Levels.{next_level}
 use Rattle.ltl_check.specs.Marks.{in_set}
@@ -56,7 +56,7 @@ module _ (N : Net) where
     pub takes : (j : ℕ) → j < sets → Takes turn j
 
 -- a step of the graph, on a level
-abbrev pub placed_step : {S : Type 0} → ℕ → ℕ → Step S → Step (Placed S)
+abbrev pub placed_step : {S : Type 0} → ℕ → ℕ → Step S → Step (LevelState S)
 placed_step sets level a = record {
   target = record { state = a.target; level = next_level sets a.marks level };
   marks = cond (level == sets) (0 ∷ []) [];

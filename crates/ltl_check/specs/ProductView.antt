@@ -15,7 +15,7 @@ use Rattle.ltl_sets.specs.Words.{letter_of}
 use Rattle.ltl_hoa.specs.declared.marked.TheConstants.{MOST_SETS}
 use Rattle.ltl_hoa.specs.MarkedView.{IsEdgeWithin}
 use Rattle.ltl_check.specs.declared.graph.Step.{Step}
-use Rattle.ltl_check.specs.declared.product.Pair.{Pair}
+use Rattle.ltl_check.specs.declared.product.ProductState.{ProductState}
 use Rattle.ltl_check.specs.Nets.{Net}
 use Rattle.ltl_check.specs.Levels.{net_of}
 
@@ -44,7 +44,7 @@ abbrev pub pair_marks : ℕ → Bool → List ℕ → List ℕ
 pair_marks sets accepting marks = cond accepting (put nat_cmp sets marks) marks
 
 -- the step along two edges whose literals joined are these; its letter has the positive ones
-abbrev pub step_with : ℕ → Bool → Edge → Edge → Cube → Step Pair
+abbrev pub step_with : ℕ → Bool → Edge → Edge → Cube → Step ProductState
 step_with sets accepting e f c = record {
   target = record { first = e.target; second = f.target };
   marks = pair_marks sets accepting e.marks;
@@ -52,7 +52,7 @@ step_with sets accepting e f c = record {
 }
 
 -- the step along two edges, unless their literals contradict each other; `number` is that of a proposition of the second one
-abbrev pub joined_step : ℕ → Bool → (ℕ → ℕ) → Edge → Edge → Option (Step Pair)
+abbrev pub joined_step : ℕ → Bool → (ℕ → ℕ) → Edge → Edge → Option (Step ProductState)
 joined_step sets accepting number e f = option_map (step_with sets accepting e f) (join_cubes e.cube (renamed_cube number f.cube))
 
 -- the numbers of both are below their counts, and there are not too many edges
@@ -76,32 +76,32 @@ module _ (A : MarkedAutomaton) (B : Automaton) where
   second_edges t = (state_at B t).edges
 
   -- both are states
-  abbrev pub IsPair : Pair → Type 0
+  abbrev pub IsPair : ProductState → Type 0
   IsPair s = (s.first < A.states) × (s.second < length B.states)
 
   abbrev pub pair_count : ℕ
   pair_count = A.states * length B.states
 
   -- the number of a pair, and the pair of a number
-  abbrev pub pair_place : Pair → ℕ
+  abbrev pub pair_place : ProductState → ℕ
   pair_place s = s.first * length B.states + s.second
 
-  abbrev pub pair_at : ℕ → Pair
+  abbrev pub pair_at : ℕ → ProductState
   pair_at n = record { first = n / length B.states; second = n % length B.states }
 
   -- how many pairs of edges leave a pair of states
-  abbrev pub edge_pairs : Pair → ℕ
+  abbrev pub edge_pairs : ProductState → ℕ
   edge_pairs s = length (first_edges s.first) * length (second_edges s.second)
 
   -- what a look at one of them finds
-  abbrev pub pair_step : List ℕ → Pair → ℕ → Option (Step Pair)
+  abbrev pub pair_step : List ℕ → ProductState → ℕ → Option (Step ProductState)
   pair_step numbers s k =
       joined_step A.sets (state_at B s.second).accepting (number_in numbers)
       (slice_index_or (first_edges s.first) (k / length (second_edges s.second)) no_edge)
       (slice_index_or (second_edges s.second) (k % length (second_edges s.second)) no_edge)
 
   -- the start: that of the first one, and state 0 of the second
-  abbrev pub start_pair : Pair
+  abbrev pub start_pair : ProductState
   start_pair = record { first = A.start; second = 0 }
 
   -- the product, by the numbers of its states

@@ -90,9 +90,9 @@ fn search_product<'a, A: Allocator>(
         → LooksAtCopies product.now.first.now formula.now.names product.now.second.now steps.old.count steps.new.count) }
     ensures memory { IfErr result (λ fault. fault ≡ CheckFault.OutOfMemory) }
 {
-    product.first.stays_within();
-    product.second.stays_within();
-    formula.len();
+    product.first.invariant();
+    product.second.invariant();
+    formula.invariant();
     match find(alloc, product, steps)? {
         Some(walk) => Ok(Outcome::Violated(word(alloc, names, &walk)?)),
         None => Ok(Outcome::Contained),
@@ -103,8 +103,8 @@ fn search_product<'a, A: Allocator>(
 fn product_states<'a, A: Allocator>(automaton: &Marked<'a, A>, ba: &Ba<'a, A>) -> usize
     ensures { result ≡ product_size automaton.now [] ba.now }
 {
-    automaton.stays_within();
-    ba.stays_within();
+    automaton.invariant();
+    ba.invariant();
     automaton.len() * ba.len() * (automaton.sets() + 2)
 }
 

@@ -1,7 +1,7 @@
 //! Why there is no verdict.
 
 use ltl_formula::PROPOSITION_LIMIT;
-use std::alloc::{AllocError, AllocFailed};
+use std::alloc::AllocError;
 use thiserror::Error;
 
 /// Why there is no verdict. The faults stand in the order in which they are looked for; memory may be refused at any time.
@@ -25,17 +25,6 @@ impl From<AllocError> for CheckFault {
     ghost from_gives = { λ _ e. e ≡ OutOfMemory };
 
     fn from(_: AllocError) -> CheckFault {
-        CheckFault::OutOfMemory
-    }
-}
-
-impl<T: Drop> From<AllocFailed<T>> for CheckFault {
-    ghost use Rattle.std.specs.Prelude.{◌≡◌};
-    ghost use Rattle.ltl_check.specs.declared.fault.CheckFault.TheVariants.{OutOfMemory};
-
-    ghost from_gives = { λ _ e. e ≡ OutOfMemory };
-
-    fn from(_: AllocFailed<T>) -> CheckFault {
         CheckFault::OutOfMemory
     }
 }

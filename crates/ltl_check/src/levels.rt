@@ -2,46 +2,19 @@
 
 ghost use Rattle.std.specs.Prelude.{◌≡◌, ℕ, ◌+◌, ◌-◌, ◌*◌, ◌/◌, ◌%◌, ◌<◌, ◌≤◌, ◌==◌, cond, option_map};
 ghost use Rattle.ltl_check.specs.declared.graph.Step.{Step};
-ghost use Rattle.ltl_check.specs.Marks.{in_set};
-ghost use Rattle.ltl_spec.specs.Construction.Levels.{next_level};
 ghost use Rattle.ltl_spec.specs.Tools.Limits.{stated_limits};
 ghost use Rattle.ltl_check.specs.Levels.{placed_step, levels_net, net_of};
 
 use crate::graph::{Graph, Step};
 use crate::net::Numbered;
+use ltl_automaton::next_level;
 use ltl_sets::RowSet;
 
 /// A state on a level.
 #[derive(Clone, Copy, Debug)]
-pub struct Placed<S> {
+pub struct LevelState<S> {
     pub state: S,
     pub level: usize,
-}
-
-/// Whether the marks hold the set.
-#[tactic(auto, using(crate::specs::LevelLaws::in_set_high))]
-fn holds(marks: &RowSet, j: usize) -> bool
-    ensures { result ≡ in_set marks.now j }
-{
-    marks.members_rise();
-    if j < RowSet::LIMIT {
-        marks.contains(j)
-    } else {
-        false
-    }
-}
-
-/// The level to which an edge with the marks leads.
-fn next_level(sets: usize, marks: &RowSet, level: usize) -> usize
-    requires { level ≤ sets }
-    ensures is { result ≡ next_level sets marks.now level }
-    ensures within { result ≤ sets }
-{
-    let mut at = if level == sets { 0 } else { level };
-    'climbing: while at < sets && holds(marks, at) {
-        at += 1;
-    }
-    at
 }
 
 /// A graph on levels, from 0 to the number of its sets. An edge climbs past each level whose set it is in, as far as they follow on one
@@ -63,7 +36,7 @@ impl<'a, G: Graph> Levels<'a, G> {
 }
 
 impl<'a, G: Graph> Graph for Levels<'a, G> {
-    type State = Placed<G::State>;
+    type State = LevelState<G::State>;
 
     type Looks = G::Looks;
 
@@ -94,7 +67,7 @@ impl<'a, G: Graph> Graph for Levels<'a, G> {
     }
 
     fn start(&self) -> Self::State {
-        Placed {
+        LevelState {
             state: self.graph.start(),
             level: 0,
         }
@@ -106,7 +79,7 @@ impl<'a, G: Graph> Graph for Levels<'a, G> {
 
     fn state(&self, n: usize) -> Self::State {
         let height = self.graph.sets() + 1;
-        Placed {
+        LevelState {
             state: self.graph.state(n / height),
             level: n % height,
         }
@@ -120,7 +93,7 @@ impl<'a, G: Graph> Graph for Levels<'a, G> {
         let sets = self.graph.sets();
         match self.graph.at(s.state, k, looks) {
             Some(step) => Some(Step {
-                target: Placed {
+                target: LevelState {
                     state: step.target,
                     level: next_level(sets, &step.marks, s.level),
                 },

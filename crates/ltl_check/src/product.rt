@@ -17,7 +17,7 @@ use std::alloc::Allocator;
 
 /// A state of the product: a state of each side, by its number.
 #[derive(Clone, Copy, Debug)]
-pub struct Pair {
+pub struct ProductState {
     pub first: usize,
     pub second: usize,
 }
@@ -60,7 +60,7 @@ fn joined(mine: &Cube, other: &Cube, numbers: &[usize]) -> Option<Cube>
             None => return None,
         }
     }
-    cube.literals_rise();
+    cube.invariant();
     Some(cube)
 }
 
@@ -89,8 +89,8 @@ impl<'p, 'a, A: Allocator> Product<'p, 'a, A> {
         ensures second { result.second.now ≡ second.now }
         ensures numbers { result.numbers.now ≡ numbers.now }
     {
-        first.stays_within();
-        second.stays_within();
+        first.invariant();
+        second.invariant();
         Product {
             first,
             second,
@@ -112,7 +112,7 @@ impl<'p, 'a, A: Allocator> Product<'p, 'a, A> {
 }
 
 impl<'p, 'a, A: Allocator> Graph for Product<'p, 'a, A> {
-    type State = Pair;
+    type State = ProductState;
 
     type Looks = Steps;
 
@@ -145,37 +145,37 @@ impl<'p, 'a, A: Allocator> Graph for Product<'p, 'a, A> {
         self.first.sets() + 1
     }
 
-    fn start(&self) -> Pair {
-        Pair {
+    fn start(&self) -> ProductState {
+        ProductState {
             first: self.first.start(),
             second: 0,
         }
     }
 
-    fn number(&self, s: Pair) -> usize {
+    fn number(&self, s: ProductState) -> usize {
         s.first * self.second.len() + s.second
     }
 
-    fn state(&self, n: usize) -> Pair {
+    fn state(&self, n: usize) -> ProductState {
         let count = self.second.len();
-        Pair {
+        ProductState {
             first: n / count,
             second: n % count,
         }
     }
 
-    fn pairs(&self, s: Pair) -> usize {
+    fn pairs(&self, s: ProductState) -> usize {
         self.first.edges(s.first).len() * self.second.edges(s.second).len()
     }
 
-    fn at(&self, s: Pair, k: usize, looks: &mut Steps) -> Option<Step<Pair>> {
+    fn at(&self, s: ProductState, k: usize, looks: &mut Steps) -> Option<Step<ProductState>> {
         looks.count = looks.count.saturating_add(1);
         let others = self.second.edges(s.second);
         let edge = self.first.edges(s.first)[k / others.len()];
         let other = others[k % others.len()];
         match joined(&edge.cube, &other.cube, self.numbers) {
             Some(cube) => Some(Step {
-                target: Pair {
+                target: ProductState {
                     first: edge.target,
                     second: other.target,
                 },

@@ -17,7 +17,7 @@ pub enum Colour {
     New,
     Open,
     Left,
-    Marked,
+    Probed,
 }
 
 /// Where a pass stands: the steps that led there, the state, and the next look.
@@ -97,12 +97,12 @@ fn second_look<'a, N: Numbered, A: Allocator>(
                 }
                 Colour::Left => {
                     path.way.push(taken)?;
-                    colours[step.target] = Colour::Marked;
+                    colours[step.target] = Colour::Probed;
                     path.here = step.target;
                     path.next = 0;
                     Ok(None)
                 }
-                Colour::New | Colour::Marked => {
+                Colour::New | Colour::Probed => {
                     path.next += 1;
                     Ok(None)
                 }
@@ -241,7 +241,7 @@ impl<'a, A: Allocator> Search<'a, A> {
         match probe(alloc, net, &self.front, &mut self.colours, looks)? {
             Some(walk) => Ok(Some(walk)),
             None => {
-                self.colours[self.front.here] = Colour::Marked;
+                self.colours[self.front.here] = Colour::Probed;
                 Ok(None)
             }
         }

@@ -26,12 +26,11 @@ use Rattle.ltl_spec.proofs.Checking.BelowLaws.{parsed_below}
 use Rattle.ltl_spec.proofs.Semantics.LanguageLaws.{generalized_models, translation_models}
 use Rattle.ltl_formula.specs.TableView.{TableView, IsTable, core_of, row_trees}
 use Rattle.ltl_buchi.specs.Named.{HasNamesOf}
-use Rattle.ltl_buchi.specs.declared.fault.BaFault.{BaFault}
-use Rattle.ltl_buchi.specs.declared.fault.BaFault.TheVariants as fault
-use Rattle.ltl_cli.specs.declared.refusal.Refusal.{Refusal}
+use Rattle.ltl_automaton.specs.declared.fault.AutomatonFault.{AutomatonFault}
+use Rattle.ltl_automaton.specs.declared.fault.AutomatonFault.TheVariants as fault
 use Rattle.ltl_cli.specs.declared.refusal.Refusal.TheVariants.{OutOfMemory}
 use Rattle.ltl_cli.specs.Refusals.{of_translation, refusal_of}
-use Rattle.ltl_cli.specs.Runs.{MakesAutomaton, MakesGeneralized, MakesText}
+use Rattle.ltl_cli.specs.Translations.{MakesAutomaton, MakesGeneralized, MakesText}
 use Rattle.ltl_spec.proofs.Tools.StepLaws.{never}
 
 trees_long : (t : TableView) → length (row_trees t.rows) ≡ length t.rows
@@ -64,8 +63,8 @@ table_kept t N h e = subst (λ (M : Normal). KeepsRows stated_limits M (Ok M)) e
         omega (arith, counted, most)
 
 -- the automaton is too large, or memory was refused
-pub translation_refused : (t : TableView) (N : Normal) (o : Options) (e : BaFault) → IsTable t → core_of t ≡ N
-    → (◌≡◌ {A = Result Automaton BaFault} (Err e) (Err fault.TooLarge) → IsTranslationTooLarge (core_of t) o stated_limits.states stated_limits.edges)
+pub translation_refused : (t : TableView) (N : Normal) (o : Options) (e : AutomatonFault) → IsTable t → core_of t ≡ N
+    → (◌≡◌ {A = Result Automaton AutomatonFault} (Err e) (Err fault.TooLarge) → IsTranslationTooLarge (core_of t) o stated_limits.states stated_limits.edges)
     → (of_translation e ≡ OutOfMemory) ⊎ Then (KeepsRows stated_limits N) (λ M. Translates stated_limits M o) (Err (refusal_of (of_translation e)))
 translation_refused t N o fault.TooLarge h c large =
     inr (inr (N, table_kept t N h c, subst (λ (M : Normal). IsTranslationTooLarge M o stated_limits.states stated_limits.edges) c (large refl)))
@@ -78,8 +77,8 @@ translation_made t N o B h c made fits =
 
 -- the same for the generalized automaton
 
-pub generalized_refused : (t : TableView) (N : Normal) (o : Options) (e : BaFault) → IsTable t → core_of t ≡ N
-    → (◌≡◌ {A = Result Automaton BaFault} (Err e) (Err fault.TooLarge) → IsTooLarge (core_of t) o.keep_implied stated_limits.states stated_limits.edges)
+pub generalized_refused : (t : TableView) (N : Normal) (o : Options) (e : AutomatonFault) → IsTable t → core_of t ≡ N
+    → (◌≡◌ {A = Result Automaton AutomatonFault} (Err e) (Err fault.TooLarge) → IsTooLarge (core_of t) o.keep_implied stated_limits.states stated_limits.edges)
     → (of_translation e ≡ OutOfMemory) ⊎ Then (KeepsRows stated_limits N) (λ M. TranslatesGeneralized stated_limits M o) (Err (refusal_of (of_translation e)))
 generalized_refused t N o fault.TooLarge h c large =
     inr (inr (N, table_kept t N h c, subst (λ (M : Normal). IsTooLarge M o.keep_implied stated_limits.states stated_limits.edges) c (large refl)))

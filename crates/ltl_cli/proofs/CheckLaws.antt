@@ -1,8 +1,6 @@
--- What a run of the checker shows.
-use Rattle.std.proofs.Common.{◌≡◌, sym, subst, refl, ℕ, ◌+◌, ◌≤◌, ◌<◌, Bool, true, false, cond, nat_lt, length, inl, inr, ◌⊎◌, List, [], Option, Some, None, arith}
-use Rattle.std.proofs.KnownBytes.{Keeps-refl}
-use Rattle.std.specs.Prelude.{IfSome, Result, Ok, Err, ⊤}
-use Rattle.std.specs.Io.KnownBytes.{Appends}
+-- What the checker knows before it prints.
+use Rattle.std.proofs.Common.{◌≡◌, sym, subst, refl, ℕ, ◌+◌, ◌≤◌, ◌<◌, true, length, inl, inr, ◌⊎◌, List, [], Option, Some, None, arith}
+use Rattle.std.specs.Prelude.{IfSome, Result, Ok, Err}
 use Rattle.ltl_spec.specs.Formulas.Formula.{Reading}
 use Rattle.ltl_spec.specs.Formulas.Names.{unified}
 use Rattle.ltl_spec.specs.Semantics.Word.{Name, Lasso}
@@ -17,29 +15,22 @@ use Rattle.ltl_spec.specs.Tools.Limits.{stated_limits}
 use Rattle.ltl_spec.specs.Tools.Refusal as spec
 use Rattle.ltl_spec.specs.Tools.Outcome as outcome
 use Rattle.ltl_spec.specs.Tools.Outcome.{Input, Then}
-use Rattle.ltl_spec.specs.Tools.Programs.{CheckerFinds, CheckerPlan, InputReads, Judges, KeepsRows, ReadsHoa, Translates, plain_options, verdict_answer}
+use Rattle.ltl_spec.specs.Tools.Programs.{InputReads, Judges, KeepsRows, ReadsHoa, Translates, plain_options, verdict_answer}
 use Rattle.ltl_spec.proofs.Semantics.LanguageLaws.{translation_violations}
-use Rattle.ltl_formula.specs.FormulaView.{FormulaView, reading_of}
-use Rattle.ltl_formula.specs.Streams.{AppendsBeginning}
 use Rattle.ltl_hoa.specs.declared.fault.HoaFault.{HoaFault}
 use Rattle.ltl_hoa.specs.declared.fault.HoaFault.TheVariants as hoa
 use Rattle.ltl_hoa.specs.Reading.{AnswersHeld, TakesFewer}
 use Rattle.ltl_check.specs.declared.fault.CheckFault.{CheckFault}
 use Rattle.ltl_check.specs.declared.fault.CheckFault.TheVariants as fault
 use Rattle.ltl_cli.specs.declared.refusal.Refusal.{Refusal}
-use Rattle.ltl_cli.specs.declared.refusal.Refusal.TheVariants.{OutOfMemory, CannotWrite, Usage}
-use Rattle.ltl_cli.specs.declared.status.Status.{Status}
+use Rattle.ltl_cli.specs.declared.refusal.Refusal.TheVariants.{OutOfMemory}
 use Rattle.ltl_cli.specs.declared.request.Plan.{Plan}
-use Rattle.ltl_cli.specs.declared.request.FormulaWord.{FormulaWord}
-use Rattle.ltl_cli.specs.declared.request.PlanFault.{PlanFault}
-use Rattle.ltl_cli.specs.declared.request.PlanFault.TheVariants as plan
-use Rattle.ltl_cli.specs.Refusals.{Takes, of_check, of_hoa, of_plan, refusal_of}
+use Rattle.ltl_cli.specs.Refusals.{Takes, of_check, of_hoa, refusal_of}
 use Rattle.ltl_cli.specs.Plans.{formula_word}
 use Rattle.ltl_cli.specs.Inputs.{IsStream, RefusesInput}
-use Rattle.ltl_cli.specs.Runs.{IsDone, Shows, message_with, status_with}
-use Rattle.ltl_cli.specs.Checks.{CheckerGives, CheckerOutcome, CheckerPromises, CheckOutcome, CheckTakesNone, IsChecked, Negates, ReadsAutomaton, RefusesCheck, check_in}
+use Rattle.ltl_cli.specs.Checks.{FindsVerdict, IsChecked, Negates, ReadsAutomaton, RefusesCheck}
 use Rattle.ltl_cli.proofs.InputLaws.{failed_stream, not_long, reads_takes}
-use Rattle.ltl_cli.proofs.RunLaws.{input_takes, run_shows, same_refusal, short_shows}
+use Rattle.ltl_cli.proofs.RunLaws.{DecidesAnswers, input_refused, input_takes, taken_takes, then_takes}
 use Rattle.ltl_spec.proofs.Tools.StepLaws.{never}
 
 -- ---- steps
@@ -59,12 +50,6 @@ then_goes : {A B C : Type 0} (First : Result A spec.Refusal → Type 0) (Second 
 then_goes First Second Third b r (inl (x, h, q)) t = absurd (never b x (sym q))
 then_goes First Second Third b r (inr (a, h, k)) t = inr (a, h, inr (b, k, t))
 
--- where a step says that memory was refused, one of its parts does
-then_takes : {A B : Type 0} (First : Result A spec.Refusal → Type 0) (Second : A → Result B spec.Refusal → Type 0) → (First (Err spec.OutOfMemory) → ⊥) → ((a : A) → Second a (Err spec.OutOfMemory) → ⊥)
-    → Then First Second (Err spec.OutOfMemory) → ⊥
-then_takes First Second f g (inl (x, h, q)) = f (subst (λ (y : spec.Refusal). First (Err y)) (same_refusal spec.OutOfMemory x q) h)
-then_takes First Second f g (inr (a, h, k)) = g a k
-
 -- what follows the automaton of the negation
 abbrev Rest : Reading → Input → Automaton → Result Verdict spec.Refusal → Type 0
 Rest R file B = Then (λ r. r ≡ outcome.taken stated_limits.hoa_bytes file) (λ text. Then (ReadsHoa stated_limits stated_form text) (λ A. Judges stated_limits A R.names B (IsViolation A R)))
@@ -72,19 +57,11 @@ Rest R file B = Then (λ r. r ≡ outcome.taken stated_limits.hoa_bytes file) (�
 -- ---- the formula and its automaton
 
 -- the formula was refused
-pub formula_refused : (p : Plan) (input file : Input) (word : FormulaWord) (e : Refusal) → word ≡ p.formula → RefusesInput (formula_word word) input e → RefusesCheck p input file e
-formula_refused p input file word e same h = moved (subst (λ (w : FormulaWord). RefusesInput (formula_word w) input e) same h)
-  where
-    moved : RefusesInput (formula_word p.formula) input e → RefusesCheck p input file e
-    moved (inl k) = inl k
-    moved (inr k) = inr (inl (refusal_of e, k, refl))
-
-pub plan_reads : (p : Plan) (input : Input) (f : FormulaView) (word : FormulaWord) → word ≡ p.formula → InputReads stated_limits (outcome.input_of (formula_word word) input) (Ok (reading_of f))
-    → InputReads stated_limits (outcome.input_of (formula_word p.formula) input) (Ok (reading_of f))
-plan_reads p input f word same h = subst (λ (w : FormulaWord). InputReads stated_limits (outcome.input_of (formula_word w) input) (Ok (reading_of f))) same h
+pub formula_refused : (p : Plan) (input file : Input) (e : Refusal) → RefusesInput (formula_word p.formula) input e → RefusesCheck p input file e
+formula_refused p input file = input_refused (formula_word p.formula) input (λ R. Then (KeepsRows stated_limits (core R.formula true true)) (λ N. Then (Translates stated_limits N plain_options) (Rest R file)))
 
 module _ (p : Plan) (input : Input) (R : Reading) (reads : InputReads stated_limits (outcome.input_of (formula_word p.formula) input) (Ok R)) where
-  takes : ¬ (CheckTakesNone p input)
+  takes : ¬ (outcome.TakesNoMemory stated_limits.formula_bytes (Some (formula_word p.formula)) input)
   takes = reads_takes (formula_word p.formula) input R reads
 
   -- the negation has no automaton
@@ -94,7 +71,7 @@ module _ (p : Plan) (input : Input) (R : Reading) (reads : InputReads stated_lim
       inr (inr (R, reads, then_refused (KeepsRows stated_limits (core R.formula true true)) (λ N. Translates stated_limits N plain_options) (Rest R file) (refusal_of e) h))
 
   module _ (B : Automaton) (negates : Negates R (Ok B)) (file : Input) where
-    found : (r : Result Verdict spec.Refusal) → Rest R file B r → CheckerFinds stated_limits stated_form (check_in p) input file r
+    found : (r : Result Verdict spec.Refusal) → Rest R file B r → FindsVerdict p input file r
     found r h = inr (R, reads, then_goes (KeepsRows stated_limits (core R.formula true true)) (λ N. Translates stated_limits N plain_options) (Rest R file) B r negates h)
 
     -- the given automaton was refused
@@ -104,7 +81,7 @@ module _ (p : Plan) (input : Input) (R : Reading) (reads : InputReads stated_lim
         inr (found (Err (refusal_of e)) (then_refused (λ r. r ≡ outcome.taken stated_limits.hoa_bytes file) (ReadsHoa stated_limits stated_form) (λ A. Judges stated_limits A R.names B (IsViolation A R)) (refusal_of e) h))
 
     module _ (A : MarkedAutomaton) (automaton : ReadsAutomaton file (Ok A)) where
-      judges : (r : Result Verdict spec.Refusal) → Judges stated_limits A R.names B (IsViolation A R) r → CheckerFinds stated_limits stated_form (check_in p) input file r
+      judges : (r : Result Verdict spec.Refusal) → Judges stated_limits A R.names B (IsViolation A R) r → FindsVerdict p input file r
       judges r h = found r (then_goes (λ s. s ≡ outcome.taken stated_limits.hoa_bytes file) (ReadsHoa stated_limits stated_form) (λ M. Judges stated_limits M R.names B (IsViolation M R)) A r automaton h)
 
       -- there is no verdict
@@ -166,74 +143,23 @@ verdict_refused A names B Found fault.TooManyPropositions many large = inr (many
 verdict_refused A names B Found fault.ProductTooLarge many large = inr (large refl)
 verdict_refused A names B Found fault.OutOfMemory many large = inl refl
 
--- ---- outcomes
+-- ---- what was found decides the answers
 
-taken_takes : (file : Input) → Err spec.OutOfMemory ≡ outcome.taken stated_limits.hoa_bytes file → ⊥
-taken_takes (outcome.Text bs) p = never bs spec.OutOfMemory p
-taken_takes outcome.NotOpened p = cc
-taken_takes (outcome.Ended bs) p = never bs spec.OutOfMemory p
-taken_takes (outcome.Failed bs) p = chosen (nat_lt stated_limits.hoa_bytes (length bs)) bs p
+pub checker_decides : (p : Plan) (input file : Input) → DecidesAnswers spec.Checker p input file (FindsVerdict p input file) (verdict_answer stated_limits)
+checker_decides p input file = record { right = λ r h. (r, h, refl); takes = λ t. t; other = other; silent = silent; low = low }
   where
-    chosen : (b : Bool) (bs : List ℕ) → Err spec.OutOfMemory ≡ cond b (Ok bs) (Err spec.CannotRead) → ⊥
-    chosen true bs p = never bs spec.OutOfMemory p
-    chosen false bs p = cc
+    other : FindsVerdict p input file (Err spec.OutOfMemory) → ⊥
+    other = then_takes (InputReads stated_limits (outcome.input_of (formula_word p.formula) input)) (λ R. Then (KeepsRows stated_limits (core R.formula true true)) (λ N. Then (Translates stated_limits N plain_options) (Rest R file)))
+        (input_takes (outcome.input_of (formula_word p.formula) input))
+        (λ R. then_takes (KeepsRows stated_limits (core R.formula true true)) (λ N. Then (Translates stated_limits N plain_options) (Rest R file)) (λ z. z)
+        (λ N. then_takes (Translates stated_limits N plain_options) (Rest R file) (λ z. z)
+        (λ B. then_takes (λ r. r ≡ outcome.taken stated_limits.hoa_bytes file) (λ text. Then (ReadsHoa stated_limits stated_form text) (λ A. Judges stated_limits A R.names B (IsViolation A R))) (taken_takes stated_limits.hoa_bytes file)
+        (λ text. then_takes (ReadsHoa stated_limits stated_form text) (λ A. Judges stated_limits A R.names B (IsViolation A R)) (λ z. z) (λ A z. z)))))
 
--- no step says that memory was refused
-finds_takes : (p : CheckerPlan) (input file : Input) → CheckerFinds stated_limits stated_form p input file (Err spec.OutOfMemory) → ⊥
-finds_takes p input file h =
-    then_takes (InputReads stated_limits (outcome.input_of p.formula input)) (λ R. Then (KeepsRows stated_limits (core R.formula true true)) (λ N. Then (Translates stated_limits N plain_options) (Rest R file))) (input_takes (outcome.input_of p.formula input))
-    (λ R k. then_takes (KeepsRows stated_limits (core R.formula true true)) (λ N. Then (Translates stated_limits N plain_options) (Rest R file)) (λ z. z)
-    (λ N m. then_takes (Translates stated_limits N plain_options) (Rest R file) (λ z. z)
-    (λ B n. then_takes (λ r. r ≡ outcome.taken stated_limits.hoa_bytes file) (λ text. Then (ReadsHoa stated_limits stated_form text) (λ A. Judges stated_limits A R.names B (IsViolation A R))) (taken_takes file)
-    (λ text o. then_takes (ReadsHoa stated_limits stated_form text) (λ A. Judges stated_limits A R.names B (IsViolation A R)) (λ z. z) (λ A q. q) o) n) m) k) h
+    silent : (v : Verdict) → (verdict_answer stated_limits v).message ≡ []
+    silent Contained = refl
+    silent (Violated w) = refl
 
-pub outcome_refused : (p : Plan) (input file : Input) (o : Option (List ℕ)) (e : Refusal) → RefusesCheck p input file e → CheckOutcome p input file o o (Err e)
-outcome_refused p input file o e (inl h) = inr (Keeps-refl o, inl h)
-outcome_refused p input file o e (inr h) =
-    inr (
-      Keeps-refl o,
-      inr (
-        (λ m. finds_takes (check_in p) input file (subst (λ (x : Refusal). CheckerFinds stated_limits stated_form (check_in p) input file (Err (refusal_of x))) m h)),
-        (Err (refusal_of e), h, refl),
-      ),
-    )
-
-silent_verdict : (v : Verdict) → (verdict_answer stated_limits v).message ≡ []
-silent_verdict Contained = refl
-silent_verdict (Violated w) = refl
-
-low_verdict : (v : Verdict) → (verdict_answer stated_limits v).status ≤ 1
-low_verdict Contained = omega arith
-low_verdict (Violated w) = omega arith
-
-pub outcome_broken : (p : Plan) (input file : Input) (o n : Option (List ℕ)) (v : Verdict) (e : Refusal) → CheckerFinds stated_limits stated_form (check_in p) input file (Ok v) → e ≡ CannotWrite
-    → AppendsBeginning o n (verdict_answer stated_limits v).output → CheckOutcome p input file o n (Err e)
-outcome_broken p input file o n v e h c w = inl (c, record { answer = verdict_answer stated_limits v; right = (Ok v, h, refl); silent = silent_verdict v; written = w })
-
-pub outcome_done : (p : Plan) (input file : Input) (o n : Option (List ℕ)) (v : Verdict) (status : ℕ) → CheckerFinds stated_limits stated_form (check_in p) input file (Ok v)
-    → Appends o n (verdict_answer stated_limits v).output → status ≡ (verdict_answer stated_limits v).status → IsDone (CheckerGives (Some (check_in p)) input file) o n status
-outcome_done p input file o n v status h w s = record {
-  answer = verdict_answer stated_limits v;
-  right = (Ok v, h, refl);
-  silent = silent_verdict v;
-  ends = sym s;
-  low = subst (λ k. k ≤ 1) (sym s) (low_verdict v);
-  written = w;
-}
-
-of_fault : (o : Option (List ℕ)) (input file : Input) (f : PlanFault) → CheckerOutcome (Err f) input file o o (Err (of_plan f))
-of_fault o input file plan.Usage = inr (Keeps-refl o, inr ((λ (m : Usage ≡ OutOfMemory). cc), refl))
-of_fault o input file plan.OutOfMemory = (refl, Keeps-refl o)
-
--- there is no plan
-pub words_refused : (plan : Result Plan PlanFault) (o : Option (List ℕ)) (input file : Input) (f : PlanFault) (e : Refusal) → plan ≡ Err f → e ≡ of_plan f → CheckerOutcome plan input file o o (Err e)
-words_refused plan o input file f e p q =
-    subst (λ (x : Result Plan PlanFault). CheckerOutcome x input file o o (Err e)) (sym p) (subst (λ (x : Refusal). CheckerOutcome (Err f) input file o o (Err x)) (sym q) (of_fault o input file f))
-
--- ---- whole runs
-
-pub checker_shows : (plan : Result Plan PlanFault) (input file : Input) (o n mo mn : Option (List ℕ)) (status : ℕ) (r : Result Status Refusal) → CheckerOutcome plan input file o n r
-    → status ≡ status_with r → AppendsBeginning mo mn (message_with spec.Checker r) → Shows (CheckerPromises plan input file) o n mo mn status
-checker_shows (Ok p) input file o n mo mn status r h st m = run_shows spec.Checker (CheckerGives (Some (check_in p)) input file) (CheckTakesNone p input) o n mo mn status r h st m
-checker_shows (Err plan.Usage) input file o n mo mn status r h st m = run_shows spec.Checker (CheckerGives None input file) ⊤ o n mo mn status r h st m
-checker_shows (Err plan.OutOfMemory) input file o n mo mn status r h st m = short_shows spec.Checker o n mo mn status r h.0 h.1 st m
+    low : (v : Verdict) → (verdict_answer stated_limits v).status ≤ 1
+    low Contained = omega arith
+    low (Violated w) = omega arith

@@ -3,7 +3,7 @@ pub mod CheckLaws
 pub mod EvaluationLaws
 pub mod InputLaws
 pub mod MessageLaws
-pub mod PromiseLaws
 pub mod RunLaws
 pub mod StreamLaws
+pub mod TranslationLaws
 pub mod WordLaws

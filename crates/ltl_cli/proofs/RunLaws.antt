@@ -1,15 +1,19 @@
--- What a run shows.
-use Rattle.std.proofs.Common.{◌≡◌, ◌∙◌, ap, sym, subst, refl, ℕ, Bool, true, false, cond, nat_lt, length, inl, inr, ◌⊎◌, List, [], take, Option, Some, None, arith}
-use Rattle.std.proofs.KnownBytes.{Keeps-refl}
+-- What a run shows: the same laws for all three programs.
+use Rattle.std.proofs.Common.{◌≡◌, ap, sym, subst, refl, ℕ, ◌≤◌, Bool, true, false, cond, nat_lt, length, inl, inr, List, [], take, Option, Some, None, arith}
 use Rattle.std.proofs.lemmas.List.{append-nil}
-use Rattle.std.specs.Prelude.{Result, Ok, Err, ⊤}
-use Rattle.std.specs.Io.KnownBytes.{Appends, Keeps}
+use Rattle.std.specs.Prelude.{Result, Ok, Err}
+use Rattle.std.specs.Io.KnownBytes.{Appends}
+use Rattle.clap.specs.Words.{Text}
+use Rattle.ltl_spec.specs.Formulas.Formula.{Reading}
+use Rattle.ltl_spec.specs.Hoa.HoaReading.{stated_form}
 use Rattle.ltl_spec.specs.Tools.Limits.{stated_limits}
 use Rattle.ltl_spec.specs.Tools.Refusal as spec
 use Rattle.ltl_spec.specs.Tools.Outcome as outcome
-use Rattle.ltl_spec.specs.Tools.Outcome.{Answer, Input, TakesNoMemory, refused, printed}
-use Rattle.ltl_spec.specs.Tools.Programs.{InputReads, TranslatorAnswers}
-use Rattle.ltl_formula.specs.FormulaView.{FormulaView, reading_of}
+use Rattle.ltl_spec.specs.Tools.Outcome.{Answer, FormulaWord, Input, IsPromised, IsShortOfMemory, TakesNoMemory, Then, answer_by, refused}
+use Rattle.ltl_spec.specs.Tools.Programs.{InputReads, ReadsFormula}
+use Rattle.ltl_spec.specs.Tools.Run.{MayShow, ToolAnswers}
+use Rattle.ltl_spec.proofs.Tools.RunLaws.{promised_shown}
+use Rattle.ltl_spec.proofs.Tools.StepLaws.{never}
 use Rattle.ltl_formula.specs.Streams.{AppendsBeginning}
 use Rattle.ltl_cli.specs.declared.refusal.Refusal.{Refusal}
 use Rattle.ltl_cli.specs.declared.refusal.Refusal.TheVariants as code
@@ -18,88 +22,47 @@ use Rattle.ltl_cli.specs.declared.status.Status.{Status}
 use Rattle.ltl_cli.specs.declared.request.Plan.{Plan}
 use Rattle.ltl_cli.specs.declared.request.PlanFault.{PlanFault}
 use Rattle.ltl_cli.specs.declared.request.PlanFault.TheVariants as fault
-use Rattle.ltl_cli.specs.Refusals.{of_plan, refusal_of}
-use Rattle.ltl_cli.specs.Plans.{formula_word, layout_in, request_in}
-use Rattle.ltl_cli.specs.Words.{translator_plan}
-use Rattle.ltl_cli.specs.Inputs.{RefusesInput}
-use Rattle.ltl_cli.specs.Runs.{IsDone, IsKept, IsOutcome, MakesText, PlanOutcome, PlanPrints, RefusesPlan, Shows, TranslatorPromises, WordsOutcome, message_with, status_with, translator_word}
-use Rattle.ltl_cli.proofs.AutomatonLaws.{making_takes}
-use Rattle.ltl_cli.proofs.InputLaws.{reads_takes}
-use Rattle.ltl_spec.proofs.Tools.StepLaws.{never}
-
--- ---- the translator's steps
-
--- the formula was refused
-pub formula_refused : (p : Plan) (input : Input) (e : Refusal) → RefusesInput (formula_word p.formula) input e → RefusesPlan p input e
-formula_refused p input e (inl h) = inl h
-formula_refused p input e (inr h) = inr (inl (refusal_of e, h, refl))
-
--- it was read
-module _ (p : Plan) (input : Input) (f : FormulaView) (reads : InputReads stated_limits (outcome.input_of (formula_word p.formula) input) (Ok (reading_of f))) where
-  -- it has no automaton
-  pub text_refused : (e : Refusal) → (e ≡ OutOfMemory) ⊎ MakesText (layout_in p.layout) (reading_of f) p.rewrite p.options (Err (refusal_of e)) → RefusesPlan p input e
-  text_refused e (inl h) = inl (h, reads_takes (formula_word p.formula) input (reading_of f) reads)
-  text_refused e (inr h) = inr (inr (reading_of f, reads, h))
-
-  -- it has one
-  pub text_prints : (text : List ℕ) → MakesText (layout_in p.layout) (reading_of f) p.rewrite p.options (Ok text) → PlanPrints p input (Ok text)
-  text_prints text h = inr (reading_of f, reads, h)
+use Rattle.ltl_cli.specs.Refusals.{of_plan, refusal_of, status_number}
+use Rattle.ltl_cli.specs.Words.{Request, plan_of, meaning_of}
+use Rattle.ltl_cli.specs.Plans.{Plans, formula_word, planned}
+use Rattle.ltl_cli.specs.Inputs.{RefusesFor, RefusesInput}
+use Rattle.ltl_cli.specs.Headline.{WordsMayShow}
+use Rattle.ltl_cli.specs.Runs.{IsOutcome, Shows, TakesNone, ToolRun, message_with, status_with}
 
 -- ---- no step says that memory was refused
 
 pub same_refusal : {A : Type 0} (x y : spec.Refusal) → ◌≡◌ {A = Result A spec.Refusal} (Err x) (Err y) → y ≡ x
 same_refusal x y p = cc
 
-taken_takes : (input : Input) → Err spec.OutOfMemory ≡ outcome.taken stated_limits.formula_bytes input → ⊥
-taken_takes (outcome.Text bs) p = never bs spec.OutOfMemory p
-taken_takes outcome.NotOpened p = cc
-taken_takes (outcome.Ended bs) p = never bs spec.OutOfMemory p
-taken_takes (outcome.Failed bs) p = chosen (nat_lt stated_limits.formula_bytes (length bs)) bs p
+-- where a step says that memory was refused, one of its parts does
+pub then_takes : {A B : Type 0} (First : Result A spec.Refusal → Type 0) (Second : A → Result B spec.Refusal → Type 0) → (First (Err spec.OutOfMemory) → ⊥) → ((a : A) → Second a (Err spec.OutOfMemory) → ⊥)
+    → Then First Second (Err spec.OutOfMemory) → ⊥
+then_takes First Second f g (inl (x, h, q)) = f (subst (λ (y : spec.Refusal). First (Err y)) (same_refusal spec.OutOfMemory x q) h)
+then_takes First Second f g (inr (a, h, k)) = g a k
+
+pub taken_takes : (most : ℕ) (input : Input) → Err spec.OutOfMemory ≡ outcome.taken most input → ⊥
+taken_takes most (outcome.Text bs) p = never bs spec.OutOfMemory p
+taken_takes most outcome.NotOpened p = cc
+taken_takes most (outcome.Ended bs) p = never bs spec.OutOfMemory p
+taken_takes most (outcome.Failed bs) p = chosen (nat_lt most (length bs)) bs p
   where
     chosen : (b : Bool) (bs : List ℕ) → Err spec.OutOfMemory ≡ cond b (Ok bs) (Err spec.CannotRead) → ⊥
     chosen true bs p = never bs spec.OutOfMemory p
     chosen false bs p = cc
 
 pub input_takes : (input : Input) → InputReads stated_limits input (Err spec.OutOfMemory) → ⊥
-input_takes input (inl (x, p, q)) = taken_takes input (subst (λ (y : spec.Refusal). Err y ≡ outcome.taken stated_limits.formula_bytes input) (same_refusal spec.OutOfMemory x q) p)
-input_takes input (inr (a, p, h)) = h
+input_takes input = then_takes (λ r. r ≡ outcome.taken stated_limits.formula_bytes input) (ReadsFormula stated_limits) (taken_takes stated_limits.formula_bytes input) (λ text h. h)
 
-pub plan_takes : (p : Plan) (input : Input) → PlanPrints p input (Err spec.OutOfMemory) → ⊥
-plan_takes p input (inl (x, h, q)) =
-    input_takes (outcome.input_of (formula_word p.formula) input)
-    (subst (λ (y : spec.Refusal). InputReads stated_limits (outcome.input_of (formula_word p.formula) input) (Err y)) (same_refusal spec.OutOfMemory x q) h)
-plan_takes p input (inr (R, h, k)) = making_takes (layout_in p.layout) R p.rewrite p.options k
+-- a program whose formula was refused
+pub input_refused : {A : Type 0} (word : FormulaWord) (input : Input) (Rest : Reading → Result A spec.Refusal → Type 0) (e : Refusal) → RefusesInput word input e → RefusesFor word input (Then (InputReads stated_limits (outcome.input_of word input)) Rest) e
+input_refused word input Rest e (inl h) = inl h
+input_refused word input Rest e (inr h) = inr (inl (refusal_of e, h, refl))
 
 -- ---- outcomes
 
-pub plan_refused : (p : Plan) (input : Input) (o : Option (List ℕ)) (e : Refusal) → RefusesPlan p input e → PlanOutcome p input o o (Err e)
-plan_refused p input o e (inl h) = inr (Keeps-refl o, inl h)
-plan_refused p input o e (inr h) =
-    inr (Keeps-refl o, inr ((λ m. plan_takes p input (subst (λ (x : Refusal). PlanPrints p input (Err (refusal_of x))) m h)), (Err (refusal_of e), h, refl)))
-
-pub plan_broken : (p : Plan) (input : Input) (o n : Option (List ℕ)) (text : List ℕ) (e : Refusal) → PlanPrints p input (Ok text) → e ≡ CannotWrite → AppendsBeginning o n text → PlanOutcome p input o n (Err e)
-plan_broken p input o n text e h c w = inl (c, record { answer = printed text 0; right = (Ok text, h, refl); silent = refl; written = w })
-
-pub plan_done : (p : Plan) (input : Input) (o n : Option (List ℕ)) (text : List ℕ) → PlanPrints p input (Ok text) → Appends o n text → IsDone (TranslatorAnswers stated_limits (Some (translator_plan (request_in p))) input) o n 0
-plan_done p input o n text h w = record { answer = printed text 0; right = (Ok text, h, refl); silent = refl; ends = refl; low = omega arith; written = w }
-
-usage_outcome : (o : Option (List ℕ)) (input : Input) → WordsOutcome (Err fault.Usage) input o o (Err Usage)
-usage_outcome o input = inr (Keeps-refl o, inr ((λ (m : Usage ≡ OutOfMemory). cc), refl))
-
-of_fault : (o : Option (List ℕ)) (input : Input) (f : PlanFault) → WordsOutcome (Err f) input o o (Err (of_plan f))
-of_fault o input fault.Usage = usage_outcome o input
-of_fault o input fault.OutOfMemory = (refl, Keeps-refl o)
-
--- there is no plan
-pub words_refused : (plan : Result Plan PlanFault) (o : Option (List ℕ)) (input : Input) (f : PlanFault) (e : Refusal) → plan ≡ Err f → e ≡ of_plan f → WordsOutcome plan input o o (Err e)
-words_refused plan o input f e p q = subst (λ (x : Result Plan PlanFault). WordsOutcome x input o o (Err e)) (sym p) (subst (λ (x : Refusal). WordsOutcome (Err f) input o o (Err x)) (sym q) (of_fault o input f))
-
--- ---- whole runs
-
-kept_nothing : (o n : Option (List ℕ)) → Keeps o n → Appends o n []
-kept_nothing None n h = tt
-kept_nothing (Some x) (Some y) h = h ∙ sym (append-nil x)
-kept_nothing (Some x) None h = absurd h
+wrote_nothing : (o : Option (List ℕ)) → Appends o o []
+wrote_nothing None = tt
+wrote_nothing (Some x) = sym (append-nil x)
 
 -- only a want of memory has that status
 only_memory : (e : Refusal) → spec.status_of (refusal_of e) ≡ 4 → e ≡ OutOfMemory
@@ -119,56 +82,95 @@ only_memory (code.BadFormula place kind) h = absurd (omega (arith, h))
 only_memory (code.BadWord place) h = absurd (omega (arith, h))
 only_memory (code.BadAutomaton line kind) h = absurd (omega (arith, h))
 
-module _ (tool : spec.Tool) (Answers : Answer → Type 0) (TakesNone : Type 0) (o n mo mn : Option (List ℕ)) (status : ℕ) where
-  pub run_shows : (r : Result Status Refusal) → IsOutcome tool Answers TakesNone o n r → status ≡ status_with r → AppendsBeginning mo mn (message_with tool r)
-      → Shows (IsKept tool Answers TakesNone) o n mo mn status
-  run_shows (Ok s) d st (k, m) = record {
-    output = d.answer.output;
-    message = take k [];
-    written = d.written;
-    told = m;
-    promised = (inl (d.answer, d.right, (st ∙ sym d.ends, refl, (k, ap (take k) (sym d.silent)))), λ t e. absurd (omega (arith, st, d.low, e)));
-  }
-  run_shows (Err e) (inl (c, b)) st (k, m) =
-      let (j, w) = b.written in
-      let ends : status ≡ 5 = subst (λ (x : Refusal). status ≡ spec.status_of (refusal_of x)) c st in
-      record {
-        output = take j b.answer.output;
-        message = take k (spec.message stated_limits tool (refusal_of e));
-        written = w;
-        told = m;
-        promised = (inr (inr (b.answer, b.right, b.silent, ends, (j, refl), (k, ap (λ (x : Refusal). take k (spec.message stated_limits tool (refusal_of x))) c))), λ t d. absurd (omega (arith, ends, d)));
-      }
-  run_shows (Err e) (inr (w, inl (c, takes))) st (k, m) = record {
+-- a promise that was kept, as a run
+promised_run : (tool : spec.Tool) (plan : Result Plan PlanFault) (input file : Input) (seen : Answer) → IsPromised stated_limits tool (ToolAnswers stated_limits stated_form tool (planned tool plan) input file) seen
+    → (TakesNone tool plan input → ¬ (seen.status ≡ 4)) → (plan ≡ Err fault.OutOfMemory → IsShortOfMemory stated_limits tool seen) → ToolRun tool plan input file seen
+promised_run tool plan input file seen promised memory short = record { shown = promised_shown stated_limits stated_form tool (planned tool plan) input file seen promised; memory = memory; short = short }
+
+-- What is found for a plan decides the program's right answers. One that is no refusal has no message, and a status below theirs
+pub record DecidesAnswers {A : Type 0} (tool : spec.Tool) (p : Plan) (input file : Input) (Finds : Result A spec.Refusal → Type 0) (answer : A → Answer) : Type 0 where
+  pub right : (r : Result A spec.Refusal) → Finds r → ToolAnswers stated_limits stated_form tool (planned tool (Ok p)) input file (answer_by stated_limits tool answer r)
+  pub takes : TakesNone tool (Ok p) input → TakesNoMemory stated_limits.formula_bytes (Some (formula_word p.formula)) input
+  pub other : Finds (Err spec.OutOfMemory) → ⊥
+  pub silent : (a : A) → (answer a).message ≡ []
+  pub low : (a : A) → (answer a).status ≤ 1
+
+module _ {A : Type 0} {tool : spec.Tool} {p : Plan} {input file : Input} {Finds : Result A spec.Refusal → Type 0} {answer : A → Answer} (d : DecidesAnswers tool p input file Finds answer) where
+  plan_run : (seen : Answer) → IsPromised stated_limits tool (ToolAnswers stated_limits stated_form tool (planned tool (Ok p)) input file) seen → (TakesNone tool (Ok p) input → ¬ (seen.status ≡ 4)) → ToolRun tool (Ok p) input file seen
+  plan_run seen promised memory = promised_run tool (Ok p) input file seen promised memory (λ q. absurd (never p fault.OutOfMemory (sym q)))
+
+  -- nothing was found
+  pub outcome_refused : (o : Option (List ℕ)) (e : Refusal) → RefusesFor (formula_word p.formula) input Finds e → IsOutcome tool (Ok p) input file o o (Err e)
+  outcome_refused o e (inl (c, some)) = subst (λ (x : Refusal). IsOutcome tool (Ok p) input file o o (Err x)) (sym c) (record {
     output = [];
-    message = take k (spec.message stated_limits tool (refusal_of e));
-    written = kept_nothing o n w;
-    told = m;
-    promised = (inr (inl (subst (λ (x : Refusal). status ≡ spec.status_of (refusal_of x)) c st, refl, (k, ap (λ (x : Refusal). take k (spec.message stated_limits tool (refusal_of x))) c))), λ t. absurd (takes t));
-  }
-  run_shows (Err e) (inr (w, inr (other, a))) st (k, m) = record {
+    written = wrote_nothing o;
+    ends = λ k. plan_run _ (inr (inl (refl, refl, (k, refl)))) (λ none. absurd (some (d.takes none)));
+  })
+  outcome_refused o e (inr h) = record {
     output = [];
-    message = take k (spec.message stated_limits tool (refusal_of e));
-    written = kept_nothing o n w;
-    told = m;
-    promised = (inl (refused stated_limits tool (refusal_of e), a, (st, refl, (k, refl))), λ t d. other (only_memory e (sym st ∙ d)));
+    written = wrote_nothing o;
+    ends = λ k. plan_run _ (inl (refused stated_limits tool (refusal_of e), d.right (Err (refusal_of e)) h, (refl, refl, (k, refl)))) (λ none s. d.other (subst (λ (x : Refusal). Finds (Err (refusal_of x))) (only_memory e s) h));
   }
 
-pub short_shows : (tool : spec.Tool) (o n mo mn : Option (List ℕ)) (status : ℕ) (r : Result Status Refusal) → r ≡ Err OutOfMemory → Keeps o n → status ≡ status_with r → AppendsBeginning mo mn (message_with tool r)
-    → Shows (outcome.IsShortOfMemory stated_limits tool) o n mo mn status
-short_shows tool o n mo mn status r c w st m =
-    let (k, t) = subst (λ (x : Result Status Refusal). AppendsBeginning mo mn (message_with tool x)) c m in
-    record {
-      output = [];
-      message = take k (spec.message stated_limits tool spec.OutOfMemory);
-      written = kept_nothing o n w;
-      told = t;
-      promised = (st ∙ ap status_with c, refl, (k, refl));
-    }
+  -- it was found, and a write failed
+  pub outcome_broken : (o n : Option (List ℕ)) (a : A) → Finds (Ok a) → AppendsBeginning o n (answer a).output → IsOutcome tool (Ok p) input file o n (Err CannotWrite)
+  outcome_broken o n a h (j, w) = record {
+    output = take j (answer a).output;
+    written = w;
+    ends = λ k. plan_run _ (inr (inr (answer a, d.right (Ok a) h, d.silent a, refl, (j, refl), (k, refl)))) (λ none s. absurd (omega (arith, s)));
+  }
 
-pub translator_shows : (plan : Result Plan PlanFault) (input : Input) (o n mo mn : Option (List ℕ)) (status : ℕ) (r : Result Status Refusal) → WordsOutcome plan input o n r
-    → status ≡ status_with r → AppendsBeginning mo mn (message_with spec.Translator r) → Shows (TranslatorPromises plan input) o n mo mn status
-translator_shows (Ok p) input o n mo mn status r h st m =
-    run_shows spec.Translator (TranslatorAnswers stated_limits (Some (translator_plan (request_in p))) input) (TakesNoMemory stated_limits.formula_bytes (Some (translator_word p)) input) o n mo mn status r h st m
-translator_shows (Err fault.Usage) input o n mo mn status r h st m = run_shows spec.Translator (TranslatorAnswers stated_limits None input) ⊤ o n mo mn status r h st m
-translator_shows (Err fault.OutOfMemory) input o n mo mn status r h st m = short_shows spec.Translator o n mo mn status r h.0 h.1 st m
+  -- it was written
+  pub outcome_done : (o n : Option (List ℕ)) (a : A) (s : Status) → Finds (Ok a) → Appends o n (answer a).output → status_number s ≡ (answer a).status → IsOutcome tool (Ok p) input file o n (Ok s)
+  outcome_done o n a s h w e = record {
+    output = (answer a).output;
+    written = w;
+    ends = λ k. plan_run _ (inl (answer a, d.right (Ok a) h, (e, refl, (k, ap (take k) (sym (d.silent a)))))) (λ none t. let low = d.low a in absurd (omega (arith, e, t, low)));
+  }
+
+module _ (tool : spec.Tool) (plan : Result Plan PlanFault) (input file : Input) (o : Option (List ℕ)) where
+  usage_answers : (t : spec.Tool) → ToolAnswers stated_limits stated_form t None input file (refused stated_limits t spec.Usage)
+  usage_answers spec.Translator = refl
+  usage_answers spec.Checker = refl
+  usage_answers spec.Evaluator = refl
+
+  -- nothing is asked for
+  pub nothing_asked : planned tool plan ≡ None → (plan ≡ Err fault.OutOfMemory → ⊥) → IsOutcome tool plan input file o o (Err Usage)
+  nothing_asked none other = record {
+    output = [];
+    written = wrote_nothing o;
+    ends = λ k. promised_run tool plan input file _
+        (inl (refused stated_limits tool spec.Usage, subst (λ x. ToolAnswers stated_limits stated_form tool x input file (refused stated_limits tool spec.Usage)) (sym none) (usage_answers tool), (refl, refl, (k, refl))))
+        (λ t s. absurd (omega (arith, s))) (λ q. absurd (other q));
+  }
+
+of_fault : (tool : spec.Tool) (input file : Input) (o : Option (List ℕ)) (f : PlanFault) → IsOutcome tool (Err f) input file o o (Err (of_plan f))
+of_fault tool input file o fault.Usage = nothing_asked tool (Err fault.Usage) input file o refl (λ q. cc)
+of_fault tool input file o fault.OutOfMemory = record {
+  output = [];
+  written = wrote_nothing o;
+  ends = λ k. promised_run tool (Err fault.OutOfMemory) input file _ (inr (inl (refl, refl, (k, refl)))) (λ none. absurd none) (λ q. (refl, refl, (k, refl)));
+}
+
+-- there is no plan
+pub words_refused : (tool : spec.Tool) (plan : Result Plan PlanFault) (input file : Input) (o : Option (List ℕ)) (f : PlanFault) (e : Refusal) → plan ≡ Err f → e ≡ of_plan f → IsOutcome tool plan input file o o (Err e)
+words_refused tool plan input file o f e p q =
+    subst (λ (x : Result Plan PlanFault). IsOutcome tool x input file o o (Err e)) (sym p) (subst (λ (x : Refusal). IsOutcome tool (Err f) input file o o (Err x)) (sym q) (of_fault tool input file o f))
+
+-- ---- whole runs
+
+-- an outcome and its message
+pub outcome_shows : (tool : spec.Tool) (plan : Result Plan PlanFault) (input file : Input) (o n mo mn : Option (List ℕ)) (status : ℕ) (r : Result Status Refusal) → IsOutcome tool plan input file o n r
+    → status ≡ status_with r → AppendsBeginning mo mn (message_with tool r) → Shows (ToolRun tool plan input file) o n mo mn status
+outcome_shows tool plan input file o n mo mn status r h st (k, m) =
+    subst (λ (x : ℕ). Shows (ToolRun tool plan input file) o n mo mn x) (sym st) (record { output = h.output; message = take k (message_with tool r); written = h.written; told = m; promised = h.ends k })
+
+-- what is shown, and follows from it
+pub shows_more : {P Q : Answer → Type 0} → ((seen : Answer) → P seen → Q seen) → (o n mo mn : Option (List ℕ)) (status : ℕ) → Shows P o n mo mn status → Shows Q o n mo mn status
+shows_more f o n mo mn status s = record { output = s.output; message = s.message; written = s.written; told = s.told; promised = f _ s.promised }
+
+-- what was planned for the words is what they mean, or memory was refused
+pub words_shown : (tool : spec.Tool) (words : List Text) (plan : Result Plan PlanFault) (input file : Input) (seen : Answer) → Plans tool words plan → ToolRun tool plan input file seen → WordsMayShow tool words input file seen
+words_shown tool words (Ok p) input file seen e h = subst (λ (r : Option Request). MayShow stated_limits stated_form tool (plan_of tool r) input file seen) (sym e) h.shown
+words_shown tool words (Err fault.Usage) input file seen e h = subst (λ (r : Option Request). MayShow stated_limits stated_form tool (plan_of tool r) input file seen) (sym e) h.shown
+words_shown tool words (Err fault.OutOfMemory) input file seen e h = promised_shown stated_limits stated_form tool (meaning_of tool words) input file seen (inr (inl (h.short refl)))

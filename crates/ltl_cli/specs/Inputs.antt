@@ -2,6 +2,7 @@
 use Rattle.std.specs.Prelude.{◌≡◌, ◌<◌, ◌≤◌, ◌⊎◌, ◌+◌, ℕ, List, [], length, Option, Some, None, Result, Ok, Err, MatchResult, ⊤}
 use Rattle.std.specs.Io.KnownBytes.{Consumes}
 use Rattle.ltl_spec.specs.Tools.Limits.{stated_limits}
+use Rattle.ltl_spec.specs.Tools.Refusal as tools
 use Rattle.ltl_spec.specs.Tools.Outcome as spec
 use Rattle.ltl_spec.specs.Tools.Programs.{InputReads}
 use Rattle.ltl_formula.specs.FormulaView.{FormulaView, reading_of}
@@ -43,14 +44,20 @@ IsInputOf remaining Text input = input ≡ spec.NotOpened
 IsInputOf remaining (Input r) input = IsStream (remaining r) input
 IsInputOf remaining NotOpened input = input ≡ spec.NotOpened
 
--- The input reads as this formula, or is refused so. Memory may be refused where some is taken
+-- What the definitions find for the formula of this word is found, or they refuse it so. Memory may be refused where some is taken
+
+abbrev pub RefusesFor : {A : Type 0} → spec.FormulaWord → spec.Input → (Result A tools.Refusal → Type 0) → Refusal → Type 0
+RefusesFor word input Finds e = (e ≡ OutOfMemory) × ¬ (spec.TakesNoMemory stated_limits.formula_bytes (Some word) input) ⊎ Finds (Err (refusal_of e))
+
+abbrev pub IsFound : {A F : Type 0} → spec.FormulaWord → spec.Input → (Result A tools.Refusal → Type 0) → (F → A) → Result F Refusal → Type 0
+IsFound word input Finds view r = MatchResult r (λ f. Finds (Ok (view f))) (RefusesFor word input Finds)
+
+-- the input reads as this formula, or is refused so
 abbrev pub RefusesInput : spec.FormulaWord → spec.Input → Refusal → Type 0
-RefusesInput word input e =
-    (e ≡ OutOfMemory) × ¬ (spec.TakesNoMemory stated_limits.formula_bytes (Some word) input)
-    ⊎ InputReads stated_limits (spec.input_of word input) (Err (refusal_of e))
+RefusesInput word input = RefusesFor word input (InputReads stated_limits (spec.input_of word input))
 
 abbrev pub IsReadFrom : spec.FormulaWord → spec.Input → Result FormulaView Refusal → Type 0
-IsReadFrom word input r = MatchResult r (λ f. InputReads stated_limits (spec.input_of word input) (Ok (reading_of f))) (RefusesInput word input)
+IsReadFrom word input = IsFound word input (InputReads stated_limits (spec.input_of word input)) reading_of
 
 -- the words hold the text
 abbrev pub HoldsText : spec.FormulaWord → Type 0

@@ -6,4 +6,5 @@ pub mod Messages
 pub mod Plans
 pub mod Refusals
 pub mod Runs
+pub mod Translations
 pub mod Words

@@ -4,7 +4,7 @@ use Rattle.ltl_spec.specs.Tools.Refusal as spec
 use Rattle.ltl_formula.specs.ParserView.{kind_of}
 use Rattle.ltl_formula.specs.declared.fault.ReadFault as read
 use Rattle.ltl_formula.specs.declared.build_fault.BuildFault as build
-use Rattle.ltl_buchi.specs.declared.fault.BaFault as translation
+use Rattle.ltl_automaton.specs.declared.fault.AutomatonFault as translation
 use Rattle.ltl_word.specs.declared.fault.WordFault as word
 use Rattle.ltl_hoa.specs.TokenView as hoa_view
 use Rattle.ltl_hoa.specs.declared.fault.HoaFault as hoa
@@ -62,7 +62,7 @@ of_build build.TheVariants.TooManyRows = TooManyRows
 of_build build.TheVariants.TooManyElementaryRows = TooManyElementaryRows
 of_build build.TheVariants.OutOfMemory = OutOfMemory
 
-abbrev pub of_translation : translation.BaFault → Refusal
+abbrev pub of_translation : translation.AutomatonFault → Refusal
 of_translation translation.TheVariants.TooLarge = LargeAutomaton
 of_translation translation.TheVariants.OutOfMemory = OutOfMemory
 

@@ -5,7 +5,7 @@ ghost use Rattle.ltl_spec.specs.Formulas.Grammar.{IsTextOf};
 ghost use Rattle.ltl_spec.specs.Checking.Bounds.{HasNamesBelow};
 ghost use Rattle.ltl_formula.specs.FormulaView.{reading_of};
 ghost use Rattle.ltl_cli.specs.Refusals.{Takes};
-ghost use Rattle.ltl_cli.specs.Runs.{MakesAutomaton, MakesGeneralized};
+ghost use Rattle.ltl_cli.specs.Translations.{MakesAutomaton, MakesGeneralized};
 
 use crate::refusal::Refusal;
 use ltl_buchi::{Ba, Gen, Options, generalized, translate};

@@ -6,6 +6,7 @@ ghost use Rattle.ltl_spec.specs.Automata.ClaimText.{line};
 ghost use Rattle.ltl_spec.specs.Words.LassoText.{lasso_text};
 ghost use Rattle.ltl_spec.specs.Checking.Bounds.{HasNamesBelow};
 ghost use Rattle.ltl_spec.specs.Semantics.Language.{AcceptsViolations};
+ghost use Rattle.ltl_spec.specs.Tools.Refusal.{Checker};
 ghost use Rattle.ltl_spec.specs.Tools.Outcome as spec;
 ghost use Rattle.ltl_formula.specs.FormulaView.{reading_of};
 ghost use Rattle.ltl_formula.specs.Streams.{AppendsBeginning};
@@ -13,8 +14,8 @@ ghost use Rattle.ltl_check.specs.VerdictView.{verdict_of};
 ghost use Rattle.ltl_cli.specs.declared.request.Plan as asked;
 ghost use Rattle.ltl_cli.specs.Inputs.{IsInputOf};
 ghost use Rattle.ltl_cli.specs.Refusals.{Takes, status_number};
-ghost use Rattle.ltl_cli.specs.Runs.{Shows};
-ghost use Rattle.ltl_cli.specs.Checks.{CheckOutcome, CheckerOutcome, CheckerRun, IsChecked, IsNegated, JudgesFormula, ReadsAutomaton, answer_for};
+ghost use Rattle.ltl_cli.specs.Runs.{IsOutcome, Shows, ToolRun};
+ghost use Rattle.ltl_cli.specs.Checks.{IsChecked, IsNegated, JudgesFormula, ReadsAutomaton, answer_for};
 
 use crate::automaton::automaton_of;
 use crate::finish::{finish, flush};
@@ -49,7 +50,7 @@ fn negated<'a, A: Allocator, R: Read>(
         × IsNegated plan.now input (λ t. reading_of t.formula) (λ t. t.violations) result }
     ensures named { IfOk result (λ t. HasNamesBelow (length t.formula.names) t.violations) }
 {
-    let formula = read_formula(alloc, plan.formula(), source)?;
+    let formula = read_formula(alloc, plan.formula, source)?;
     let options = Options {
         keep_implied: false,
         keep_equal: false,
@@ -176,7 +177,7 @@ fn printed<A: Allocator, R: Read, S: Read, W: Write>(
     output: &mut W,
 ) -> Result<Status, Refusal>
     ensures { (input : spec.Input) × IsInputOf R.remaining source.old input × (file : spec.Input) × IsInputOf S.remaining automaton.old file
-        × CheckOutcome plan.now input file (W.contents output.old) (W.contents output.new) result }
+        × IsOutcome Checker (Ok plan.now) input file (W.contents output.old) (W.contents output.new) result }
 {
     let verdict = found(alloc, plan, source, automaton)?;
     let printed = print(verdict.outcome(), output);
@@ -195,7 +196,7 @@ fn answered<A: Allocator, R: Read, S: Read, W: Write>(
     output: &mut W,
 ) -> Result<Status, Refusal>
     ensures { (input : spec.Input) × IsInputOf R.remaining source.old input × (file : spec.Input) × IsInputOf S.remaining automaton.old file
-        × CheckerOutcome plan.now input file (W.contents output.old) (W.contents output.new) result }
+        × IsOutcome Checker plan.now input file (W.contents output.old) (W.contents output.new) result }
 {
     match plan {
         Ok(plan) => printed(alloc, plan, source, automaton, output),
@@ -215,7 +216,7 @@ pub fn run_check<A: Allocator, R: Read + Drop, S: Read + Drop, W: Write, E: Writ
     message: &mut E,
 ) -> u8
     ensures { (input : spec.Input) × IsInputOf R.remaining source input × (file : spec.Input) × IsInputOf S.remaining automaton file
-        × Shows (CheckerRun plan.now input file) (W.contents output.old) (W.contents output.new) (E.contents message.old) (E.contents message.new) result }
+        × Shows (ToolRun Checker plan.now input file) (W.contents output.old) (W.contents output.new) (E.contents message.old) (E.contents message.new) result }
 {
     let mut source = source;
     let mut automaton = automaton;

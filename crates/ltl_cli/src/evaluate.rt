@@ -1,14 +1,15 @@
 //! The evaluator: whether a formula holds at the beginning of a word.
 
-ghost use Rattle.std.specs.Prelude.{◌≡◌, OnOk, OnErr, Some};
+ghost use Rattle.std.specs.Prelude.{◌≡◌, OnOk, OnErr, Ok, Some, option_map};
 ghost use Rattle.std.specs.Io.KnownBytes.{Appends};
 ghost use Rattle.ltl_spec.specs.Tools.Limits.{stated_limits};
+ghost use Rattle.ltl_spec.specs.Tools.Refusal.{Evaluator};
 ghost use Rattle.ltl_spec.specs.Tools.Outcome as spec;
 ghost use Rattle.ltl_spec.specs.Tools.Programs.{truth_answer};
 ghost use Rattle.ltl_formula.specs.Streams.{AppendsBeginning};
 ghost use Rattle.ltl_cli.specs.Inputs.{IsInputOf};
-ghost use Rattle.ltl_cli.specs.Runs.{Shows};
-ghost use Rattle.ltl_cli.specs.Evaluations.{EvaluatorOutcome, EvaluatorRun, IsEvaluated, RequestOutcome, with_word};
+ghost use Rattle.ltl_cli.specs.Runs.{IsOutcome, Shows, ToolRun};
+ghost use Rattle.ltl_cli.specs.Evaluations.{IsEvaluated};
 
 use crate::finish::{finish, flush};
 use crate::input::read_formula;
@@ -31,7 +32,7 @@ fn evaluated<A: Allocator, R: Read>(
 ) -> Result<bool, Refusal>
     ensures { (input : spec.Input) × IsInputOf R.remaining source.old input × IsEvaluated plan.now text.now input result }
 {
-    let formula = read_formula(alloc, plan.formula(), source)?;
+    let formula = read_formula(alloc, plan.formula, source)?;
     let word = Lasso::read(alloc, text.as_bytes(), &formula)?;
     let truth = holds(alloc, &formula, &word)?;
     Ok(truth)
@@ -53,7 +54,7 @@ fn print<W: Write>(truth: bool, output: &mut W) -> Result<(), WriteFault>
     flush(output)
 }
 
-/// Prints what the plan asks for, of the word of this text.
+/// Prints what the plan asks for, whose word has this text.
 fn printed<A: Allocator, R: Read, W: Write>(
     alloc: &A,
     plan: &Plan<'_>,
@@ -61,8 +62,9 @@ fn printed<A: Allocator, R: Read, W: Write>(
     source: &mut Source<R>,
     output: &mut W,
 ) -> Result<Status, Refusal>
-    ensures { (input : spec.Input) × IsInputOf R.remaining source.old input
-        × RequestOutcome (Some (with_word plan.now text.now)) input (W.contents output.old) (W.contents output.new) result }
+    requires { option_map (λ s. s.now) plan.now.word ≡ Some text.now }
+    ensures { (input : spec.Input) × IsInputOf R.remaining source.old input × ((file : spec.Input)
+        → IsOutcome Evaluator (Ok plan.now) input file (W.contents output.old) (W.contents output.new) result) }
 {
     let truth = evaluated(alloc, plan, text, source)?;
     print(truth, output)?;
@@ -79,11 +81,11 @@ fn answered<A: Allocator, R: Read, W: Write>(
     source: &mut Source<R>,
     output: &mut W,
 ) -> Result<Status, Refusal>
-    ensures { (input : spec.Input) × IsInputOf R.remaining source.old input
-        × EvaluatorOutcome plan.now input (W.contents output.old) (W.contents output.new) result }
+    ensures { (input : spec.Input) × IsInputOf R.remaining source.old input × ((file : spec.Input)
+        → IsOutcome Evaluator plan.now input file (W.contents output.old) (W.contents output.new) result) }
 {
     match plan {
-        Ok(plan) => match plan.word() {
+        Ok(plan) => match plan.word {
             Some(text) => printed(alloc, plan, text, source, output),
             None => Err(Refusal::Usage),
         },
@@ -101,8 +103,9 @@ pub fn run_eval<A: Allocator, R: Read + Drop, W: Write, E: Write>(
     output: &mut W,
     message: &mut E,
 ) -> u8
-    ensures { (input : spec.Input) × IsInputOf R.remaining source input
-        × Shows (EvaluatorRun plan.now input) (W.contents output.old) (W.contents output.new) (E.contents message.old) (E.contents message.new) result }
+    ensures { (input : spec.Input) × IsInputOf R.remaining source input × ((file : spec.Input)
+        → Shows (ToolRun Evaluator plan.now input file)
+        (W.contents output.old) (W.contents output.new) (E.contents message.old) (E.contents message.new) result) }
 {
     let mut source = source;
     let outcome = answered(alloc, plan, &mut source, output);

@@ -7,7 +7,7 @@ ghost use Rattle.ltl_spec.specs.Semantics.Language.{AcceptsModels};
 ghost use Rattle.ltl_formula.specs.FormulaView.{reading_of};
 ghost use Rattle.ltl_cli.specs.Plans.{layout_in};
 ghost use Rattle.ltl_cli.specs.Refusals.{Takes};
-ghost use Rattle.ltl_cli.specs.Runs.{MakesText, automaton_in, text_of};
+ghost use Rattle.ltl_cli.specs.Translations.{MakesText, automaton_in, text_of};
 
 use crate::automaton::{automaton_of, generalized_of};
 use crate::layout::Layout;

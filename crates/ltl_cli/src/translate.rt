@@ -1,14 +1,16 @@
 //! The translator: from a formula's text to the text of its automaton.
 
-ghost use Rattle.std.specs.Prelude.{◌≡◌, ◌<◌, length, OnOk, OnErr, IfOk, Some};
+ghost use Rattle.std.specs.Prelude.{◌≡◌, ◌<◌, length, OnOk, OnErr, IfOk, Ok};
 ghost use Rattle.std.specs.Io.KnownBytes.{Appends};
 ghost use Rattle.ltl_spec.specs.Checking.Bounds.{HasNamesBelow};
 ghost use Rattle.ltl_spec.specs.Semantics.Language.{AcceptsModels};
+ghost use Rattle.ltl_spec.specs.Tools.Refusal.{Translator};
 ghost use Rattle.ltl_spec.specs.Tools.Outcome as spec;
 ghost use Rattle.ltl_formula.specs.FormulaView.{reading_of};
 ghost use Rattle.ltl_formula.specs.Streams.{AppendsBeginning};
 ghost use Rattle.ltl_cli.specs.Inputs.{IsInputOf};
-ghost use Rattle.ltl_cli.specs.Runs.{IsTranslated, PlanOutcome, Shows, TakesNone, TranslatorRun, WordsOutcome, automaton_in, text_of};
+ghost use Rattle.ltl_cli.specs.Runs.{IsOutcome, Shows, TakesNone, ToolRun};
+ghost use Rattle.ltl_cli.specs.Translations.{IsTranslated, automaton_in, text_of};
 
 use crate::finish::{finish, flush};
 use crate::input::read_formula;
@@ -82,8 +84,8 @@ fn printed<A: Allocator, R: Read, W: Write>(
     source: &mut Source<R>,
     output: &mut W,
 ) -> Result<Status, Refusal>
-    ensures { (input : spec.Input) × IsInputOf R.remaining source.old input
-        × PlanOutcome plan.now input (W.contents output.old) (W.contents output.new) result }
+    ensures { (input : spec.Input) × IsInputOf R.remaining source.old input × ((file : spec.Input)
+        → IsOutcome Translator (Ok plan.now) input file (W.contents output.old) (W.contents output.new) result) }
 {
     let translated = translated(alloc, plan, source)?;
     let printed = print(&translated, output);
@@ -99,8 +101,8 @@ fn answered<A: Allocator, R: Read, W: Write>(
     source: &mut Source<R>,
     output: &mut W,
 ) -> Result<Status, Refusal>
-    ensures { (input : spec.Input) × IsInputOf R.remaining source.old input
-        × WordsOutcome plan.now input (W.contents output.old) (W.contents output.new) result }
+    ensures { (input : spec.Input) × IsInputOf R.remaining source.old input × ((file : spec.Input)
+        → IsOutcome Translator plan.now input file (W.contents output.old) (W.contents output.new) result) }
 {
     match plan {
         Ok(plan) => printed(alloc, plan, source, output),
@@ -119,9 +121,10 @@ pub fn run_translate<A: Allocator, R: Read + Drop, W: Write, E: Write>(
     output: &mut W,
     message: &mut E,
 ) -> u8
-    ensures shown { (input : spec.Input) × IsInputOf R.remaining source input
-        × Shows (TranslatorRun plan.now input) (W.contents output.old) (W.contents output.new) (E.contents message.old) (E.contents message.new) result }
-    ensures memory { ((input : spec.Input) → IsInputOf R.remaining source input → TakesNone plan.now input) → ¬ (result ≡ 4) }
+    ensures shown { (input : spec.Input) × IsInputOf R.remaining source input × ((file : spec.Input)
+        → Shows (ToolRun Translator plan.now input file)
+        (W.contents output.old) (W.contents output.new) (E.contents message.old) (E.contents message.new) result) }
+    ensures memory { ((input : spec.Input) → IsInputOf R.remaining source input → TakesNone Translator plan.now input) → ¬ (result ≡ 4) }
 {
     let mut source = source;
     let outcome = answered(alloc, plan, &mut source, output);

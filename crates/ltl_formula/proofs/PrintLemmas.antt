@@ -9,19 +9,19 @@ use Rattle.ltl_formula.specs.declared.operators.Node.{Node}
 use Rattle.ltl_formula.specs.declared.operators.Node.TheVariants.{Constant, Proposition, Unary, Binary}
 use Rattle.ltl_formula.specs.declared.operators.UnaryOperator.{UnaryOperator}
 use Rattle.ltl_formula.specs.declared.operators.BinaryOperator.{BinaryOperator}
-use Rattle.ltl_formula.specs.declared.canonical.Work.{Work}
-use Rattle.ltl_formula.specs.declared.canonical.Work.TheVariants.{Visit, Middle, Close}
+use Rattle.ltl_formula.specs.declared.canonical.Task.{Task}
+use Rattle.ltl_formula.specs.declared.canonical.Task.TheVariants.{Visit, Middle, Close}
 use Rattle.ltl_formula.specs.FormulaView.{StandsAt, tree_of, trees, unary_of}
 use Rattle.ltl_formula.specs.CanonicalWork.{HasOperands, Points, size, stack_text, weight, work_text}
 use Rattle.ltl_formula.proofs.TreeLemmas.{tree_at}
 
 module _ (names : List Name) (ts : List Formula) where
   -- what is put behind is written first
-  pub stack_text_more : (ws vs : List Work) → stack_text names ts (ws ++ vs) ≡ stack_text names ts vs ++ stack_text names ts ws
+  pub stack_text_more : (ws vs : List Task) → stack_text names ts (ws ++ vs) ≡ stack_text names ts vs ++ stack_text names ts ws
   stack_text_more [] vs = sym (append-nil (stack_text names ts vs))
   stack_text_more (x ∷ xs) vs = ap (λ t. t ++ work_text names ts x) (stack_text_more xs vs) ∙ append_assoc (stack_text names ts vs) (stack_text names ts xs) (work_text names ts x)
 
-  pub stack_text_push : (ws : List Work) (w : Work) → stack_text names ts (ws ++ w ∷ []) ≡ work_text names ts w ++ stack_text names ts ws
+  pub stack_text_push : (ws : List Task) (w : Task) → stack_text names ts (ws ++ w ∷ []) ≡ work_text names ts w ++ stack_text names ts ws
   stack_text_push ws w = stack_text_more ws (w ∷ [])
 
 -- what a call that may lack memory put behind, where it didn't
@@ -34,7 +34,7 @@ pub where_ok : {T E P Q : Type 0} (r : Result T E) → OnOk r P → (P → Q) �
 where_ok (Ok u) p f = f p
 where_ok (Err x) p f = tt
 
-module _ (names : List Name) (count : ℕ) (ns : List Node) (o : HasOperands count ns) (w : Work) (i : ℕ) (is : w ≡ Visit i) (points : Points (length ns) w) where
+module _ (names : List Name) (count : ℕ) (ns : List Node) (o : HasOperands count ns) (w : Task) (i : ℕ) (is : w ≡ Visit i) (points : Points (length ns) w) where
   within : i < length ns
   within = subst (Points (length ns)) is points
 
@@ -45,19 +45,19 @@ module _ (names : List Name) (count : ℕ) (ns : List Node) (o : HasOperands cou
   same_weight n e = ap (weight (trees ns)) is ∙ ap size (tree_at count ns o i within ∙ ap (tree_of (trees ns)) e)
 
   -- a node with no operand
-  pub leaf_text : (t t' bs : List ℕ) (s : List Work) (n : Node) → slice_index_or ns i (Constant false) ≡ n → bs ≡ formula_text names (tree_of (trees ns) n) → t' ≡ t ++ bs
+  pub leaf_text : (t t' bs : List ℕ) (s : List Task) (n : Node) → slice_index_or ns i (Constant false) ≡ n → bs ≡ formula_text names (tree_of (trees ns) n) → t' ≡ t ++ bs
       → t' ++ stack_text names (trees ns) s ≡ t ++ (work_text names (trees ns) w ++ stack_text names (trees ns) s)
   leaf_text t t' bs s n e b et =
       ap (λ z. z ++ stack_text names (trees ns) s) et ∙ append_assoc t bs (stack_text names (trees ns) s)
       ∙ ap (λ z. t ++ (z ++ stack_text names (trees ns) s)) (b ∙ sym (same_text n e))
 
-  pub unary_node_text : (t t' bs : List ℕ) (s s' : List Work) (op : UnaryOperator) (a : ℕ) → slice_index_or ns i (Constant false) ≡ Unary op a
+  pub unary_node_text : (t t' bs : List ℕ) (s s' : List Task) (op : UnaryOperator) (a : ℕ) → slice_index_or ns i (Constant false) ≡ Unary op a
       → bs ≡ unary_text (unary_of op) → t' ≡ t ++ bs → s' ≡ s ++ Visit a ∷ []
       → t' ++ stack_text names (trees ns) s' ≡ t ++ (work_text names (trees ns) w ++ stack_text names (trees ns) s)
   unary_node_text t t' bs s s' op a e b et es =
       rw (et, es, same_text (Unary op a) e, stack_text_push names (trees ns) s (Visit a), b) (simp append_assoc)
 
-  pub binary_node_text : (t t' : List ℕ) (s s' : List Work) (op : BinaryOperator) (a b : ℕ) → slice_index_or ns i (Constant false) ≡ Binary op a b → t' ≡ t ++ 40 ∷ []
+  pub binary_node_text : (t t' : List ℕ) (s s' : List Task) (op : BinaryOperator) (a b : ℕ) → slice_index_or ns i (Constant false) ≡ Binary op a b → t' ≡ t ++ 40 ∷ []
       → s' ≡ s ++ Close ∷ Visit b ∷ Middle op ∷ Visit a ∷ []
       → t' ++ stack_text names (trees ns) s' ≡ t ++ (work_text names (trees ns) w ++ stack_text names (trees ns) s)
   binary_node_text t t' s s' op a b e et es =

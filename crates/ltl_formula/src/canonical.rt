@@ -11,7 +11,7 @@ use std::alloc::{AllocError, Allocator};
 
 /// What is still to be written.
 #[derive(Clone, Copy, Default)]
-enum Work {
+enum Task {
     Visit(usize),
     Middle(BinaryOperator),
     #[default]
@@ -19,7 +19,7 @@ enum Work {
 }
 
 /// What is still to be written, the last first. Most formulas of the benchmark leave no more than 32 parts, which need no memory.
-type Works<'a, A> = SmallVec<Work, 32, &'a A>;
+type Tasks<'a, A> = SmallVec<Task, 32, &'a A>;
 
 fn constant_text(value: bool) -> &'static [u8]
     ensures { result.now ≡ spec.constant_text value }
@@ -57,7 +57,7 @@ fn visit<A: Allocator>(
     names: &[String<&A>],
     i: usize,
     text: &mut Vec<u8, &A>,
-    stack: &mut Works<'_, A>,
+    stack: &mut Tasks<'_, A>,
 ) -> Result<(), AllocError>
     requires ordered { HasOperands (length names.now) nodes.now }
     requires within { i < length nodes.now }
@@ -65,25 +65,25 @@ fn visit<A: Allocator>(
     ensures points { OnOk result (All (Points (length nodes.now)) stack.new.items) }
     ensures text { OnOk result (let names = map string_bytes names.now in
         text.new.items ++ stack_text names (trees nodes.now) stack.new.items
-        ≡ text.old.items ++ (work_text names (trees nodes.now) (Work.Visit i) ++ stack_text names (trees nodes.now) stack.old.items)) }
+        ≡ text.old.items ++ (work_text names (trees nodes.now) (Task.Visit i) ++ stack_text names (trees nodes.now) stack.old.items)) }
     ensures falls { OnOk result (sum_by (weight (trees nodes.now)) stack.new.items
-        < weight (trees nodes.now) (Work.Visit i) + sum_by (weight (trees nodes.now)) stack.old.items) }
+        < weight (trees nodes.now) (Task.Visit i) + sum_by (weight (trees nodes.now)) stack.old.items) }
 {
     match nodes[i] {
         Node::Constant(value) => text.extend_from_slice(constant_text(value)),
         Node::Proposition(number) => text.extend_from_slice(names[number].as_bytes()),
         Node::Unary(operator, operand) => {
             text.extend_from_slice(unary_text(operator))?;
-            stack.push(Work::Visit(operand))?;
+            stack.push(Task::Visit(operand))?;
             Ok(())
         }
         Node::Binary(operator, left, right) => {
             text.push(b'(')?;
             stack.extend_from_slice(&[
-                Work::Close,
-                Work::Visit(right),
-                Work::Middle(operator),
-                Work::Visit(left),
+                Task::Close,
+                Task::Visit(right),
+                Task::Middle(operator),
+                Task::Visit(left),
             ])
         }
     }
@@ -93,9 +93,9 @@ fn visit<A: Allocator>(
 fn step<A: Allocator>(
     nodes: &[Node],
     names: &[String<&A>],
-    work: Work,
+    work: Task,
     text: &mut Vec<u8, &A>,
-    stack: &mut Works<'_, A>,
+    stack: &mut Tasks<'_, A>,
 ) -> Result<(), AllocError>
     requires ordered { HasOperands (length names.now) nodes.now }
     requires points { Points (length nodes.now) work }
@@ -108,12 +108,12 @@ fn step<A: Allocator>(
         < weight (trees nodes.now) work + sum_by (weight (trees nodes.now)) stack.old.items) }
 {
     match work {
-        Work::Middle(operator) => text.extend_from_slice(binary_text(operator)),
-        Work::Close => {
+        Task::Middle(operator) => text.extend_from_slice(binary_text(operator)),
+        Task::Close => {
             text.push(b')')?;
             Ok(())
         }
-        Work::Visit(i) => visit(nodes, names, i, text, stack),
+        Task::Visit(i) => visit(nodes, names, i, text, stack),
     }
 }
 
@@ -129,8 +129,8 @@ pub(crate) fn canonical<'a, A: Allocator>(
 {
     // Most texts have no more than eight bytes for each node.
     let mut text = Vec::with_capacity(alloc, nodes.len().saturating_mul(8))?;
-    let mut stack: Works<'a, A> = SmallVec::new(alloc);
-    stack.push(Work::Visit(nodes.len() - 1))?;
+    let mut stack: Tasks<'a, A> = SmallVec::new(alloc);
+    stack.push(Task::Visit(nodes.len() - 1))?;
     'work: while let Some(work) = stack.pop() {
         step(nodes, names, work, &mut text, &mut stack)?;
     }

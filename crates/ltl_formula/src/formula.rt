@@ -61,6 +61,13 @@ impl<'a, A: Allocator> Formula<'a, A> {
         self.nodes.len()
     }
 
+    /// Hands what the type promises to callers.
+    pub fn invariant(&self)
+        ensures { IsFormula self.now.nodes self.now.names }
+    {
+        let _ = &self.nodes;
+    }
+
     /// A node by its number.
     pub fn node(&self, i: usize) -> Node
         requires { i < length self.now.nodes }

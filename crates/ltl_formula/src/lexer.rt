@@ -7,7 +7,8 @@ ghost use Rattle.std.specs.Iterator.{at_most};
 
 use crate::sign::sign_from;
 use crate::token::{Token, TokenKind};
-use crate::word::{is_lower, word_kind, word_length};
+use crate::word::{word_kind, word_length};
+use ltl_names::{is_blank, is_lower};
 use std::marker::Model;
 
 /// The tokens of a text that are still to come.
@@ -34,13 +35,6 @@ pub fn lex(text: &[u8]) -> Tokens<'_>
     ensures rest { result.rest ≡ tokens.items text.now }
 {
     Tokens { text, at: 0 }
-}
-
-/// Space, tab, CR and LF.
-fn is_blank(byte: u8) -> bool
-    ensures { result ≡ tokens.is_blank byte }
-{
-    matches!(byte, b' ' | b'\t' | b'\r' | b'\n')
 }
 
 /// The place of the first byte from `at` on that is no blank.

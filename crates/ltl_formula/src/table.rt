@@ -99,6 +99,13 @@ impl<'a, A: Allocator> Table<'a, A> {
         self.rows.len()
     }
 
+    /// Hands what the type promises to callers.
+    pub fn invariant(&self)
+        ensures { IsTable self.now }
+    {
+        let _ = &self.rows;
+    }
+
     /// A row by its number.
     pub fn row(&self, i: usize) -> Row
         requires { i < length self.now.rows }

@@ -5,20 +5,7 @@ ghost use Rattle.ltl_spec.specs.Formulas.Tokens as tokens;
 ghost use Rattle.ltl_formula.specs.TokenView.{token_of};
 
 use crate::token::TokenKind;
-
-/// Whether a word may begin with the byte.
-pub(crate) fn is_lower(byte: u8) -> bool
-    ensures { result ≡ tokens.is_lower byte }
-{
-    byte.is_ascii_lowercase()
-}
-
-/// Whether a word may go on with the byte.
-fn is_name_byte(byte: u8) -> bool
-    ensures { result ≡ tokens.is_name_byte byte }
-{
-    is_lower(byte) || byte.is_ascii_digit() || byte == b'_'
-}
+use ltl_names::is_name_byte;
 
 /// How many bytes the word has that the text begins with.
 pub(crate) fn word_length(text: &[u8]) -> usize

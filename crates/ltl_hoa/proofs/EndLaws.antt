@@ -58,8 +58,9 @@ string_line : (q : Place) (pl : spec.Place) (text : List ℕ) (start last : ℕ)
     → fault_line q kind.UnclosedText start last ≡ fault.fault_line pl (token_of kind.UnclosedText text) start last
 string_line place.End spec.AtEnd text start last v b g s = refl
 string_line place.End pl text start last v b g s = absurd s
-string_line q spec.AtEnd text start last v b g s = absurd s
-string_line q pl text start last v b g s = refl
+string_line (place.Body p) (spec.InBody q) text start last v b g s = refl
+string_line (place.Body p) pl text start last v b g s = absurd s
+string_line q pl text start last v b g s = subst (λ x. last ≡ fault.fault_line x (token_of kind.UnclosedText text) start last) s.1 refl
 
 place_line : (q : Place) (pl : spec.Place) (k : TokenKind) (text : List ℕ) (start last : ℕ) (v : ParserView) (b : Before) (g : Came) → ShowsPlace q v pl b g → fault_line q k start last ≡ fault.fault_line pl (token_of k text) start last
 place_line q pl kind.UnclosedText text start last v b g s = string_line q pl text start last v b g s
@@ -78,17 +79,10 @@ at_line (Some k) last = fault_at k last
 
 end_line : (q : Place) (pl : spec.Place) (last : ℕ) (v : ParserView) (b : Before) (g : Came) → ShowsPlace q v pl b g → end_fault pl last ≡ at_line (end_kind q) last
 end_line place.End spec.AtEnd last v b g s = refl
-end_line place.Format spec.AtFormat last v b g s = refl
-end_line place.Version spec.AtVersion last v b g s = refl
-end_line (place.Item i) (spec.AtItem j) last v b g s = refl
-end_line place.States spec.AtStates last v b g s = refl
-end_line place.Start spec.AtStart last v b g s = refl
-end_line place.Count spec.AtCount last v b g s = refl
-end_line place.Names (spec.AtNames n) last v b g s = refl
-end_line place.Sets spec.AtSets last v b g s = refl
-end_line (place.Acceptance p) (spec.InAcceptance ts) last v b g s = refl
+end_line place.End pl last v b g s = absurd s
 end_line (place.Body p) (spec.InBody q) last v b g s = refl
-end_line q pl last v b g s = absurd s
+end_line (place.Body p) pl last v b g s = absurd s
+end_line q pl last v b g s = subst (λ x. end_fault x last ≡ at_line (end_kind q) last) s.1 refl
 
 -- at the end without a token that is open
 pub ended_between : (v : MachineView) (text : List ℕ) → IsSound v text → last_kind v.lexer.phase ≡ None → IsTold v text

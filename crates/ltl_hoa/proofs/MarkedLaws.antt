@@ -11,15 +11,19 @@ use Rattle.ltl_spec.specs.Automata.Automaton.{Edge}
 use Rattle.ltl_spec.specs.Transitions.Cubes.{Cube}
 use Rattle.ltl_spec.specs.Tools.Limits.{stated_limits}
 use Rattle.ltl_spec.specs.Hoa.HoaLabel.{label_cubes, is_grouped, has_names_below}
-use Rattle.ltl_spec.specs.Hoa.HoaReading.{AcceptanceForm, stated_form, WrittenEdge, WrittenState, HoaDocument, cube_edges, state_edges, edges_at, MarkedAutomaton, are_sets, is_edge_inside, is_state_inside, IsDocumentOf, HoaReadsWithin}
+use Rattle.ltl_spec.specs.Hoa.HoaReading.{AcceptanceForm, SetsUpTo, is_read, stated_form, WrittenEdge, WrittenState, HoaDocument, cube_edges, state_edges, edges_at, MarkedAutomaton, are_sets, is_edge_inside, is_state_inside, IsDocumentOf, HoaReadsWithin}
 use Rattle.ltl_spec.proofs.Collections.CaseLaws.{left_true, right_true}
 use Rattle.ltl_spec.proofs.Collections.ListLaws.{All-from_has}
+use Rattle.std.proofs.lemmas.Bool.Decides.{nat_tests}
 use Rattle.ltl_spec.proofs.Collections.SetLaws.{filter_cases}
 use Rattle.ltl_spec.proofs.Collections.MemberLaws.{map_cases, flat_map_cases, all_Decides}
 use Rattle.ltl_spec.proofs.Checking.DocumentLaws.{document_proper}
-use Rattle.ltl_spec.proofs.Hoa.AcceptanceLaws.{read_below}
 use Rattle.ltl_hoa.specs.declared.marked.TheConstants.{MOST_SETS}
 use Rattle.ltl_hoa.specs.MarkedView.{IsMarked, IsEdgeWithin}
+
+-- a number that is read is none above the greatest
+read_below : (most n : ℕ) → is_read (SetsUpTo most) n ≡ true → n ≤ most
+read_below most n e = grind (arith, nat_tests, e)
 
 -- ---- the edges of all states are no more than those that are written
 

@@ -2,11 +2,9 @@
 use Rattle.std.proofs.Common.{◌≡◌, ℕ, zero, suc, ◌<◌, ◌≤◌, Bool, true, false, not, ◌&&◌, List, [], ◌∷◌, ◌++◌, length, Option, Some, None, ◌==◌, refl, sym, ◌∙◌, ap, subst, arith}
 use Rattle.std.specs.Prelude.{nat_lt, if◌then◌else◌, option_map, unwrap_or, is_some, slice_index_or, replicate, Result, Ok, Err}
 use Rattle.std.specs.List.{list_any}
-use Rattle.std.proofs.lemmas.Bool.{ltb-true}
 use Rattle.std.proofs.lemmas.List.{length-replicate}
 use Rattle.std.specs.Ordering.{nat_cmp}
 use Rattle.ltl_spec.specs.Collections.Sets.{set_of}
-use Rattle.ltl_spec.specs.Semantics.Word.{Name}
 use Rattle.ltl_spec.specs.Tools.Limits.{stated_limits}
 use Rattle.ltl_spec.specs.Hoa.HoaToken as token
 use Rattle.ltl_spec.specs.Hoa.HoaToken.{HoaToken}
@@ -15,7 +13,7 @@ use Rattle.ltl_spec.specs.Hoa.HoaReading.{stated_form}
 use Rattle.ltl_spec.specs.Hoa.HoaFaultKind.{ItemMissing, NumberOutOfRange}
 use Rattle.ltl_spec.specs.Hoa.HoaPlace as spec
 use Rattle.ltl_spec.specs.Hoa.HoaStep as table
-use Rattle.ltl_spec.specs.Hoa.HoaPlace.{Before, LabelPart, LabelParts, whole, with_operand}
+use Rattle.ltl_spec.specs.Hoa.HoaPlace.{Before, HoaHeader, LabelPart, LabelParts, whole, with_operand}
 use Rattle.ltl_spec.specs.Hoa.HoaStep.{Step}
 use Rattle.ltl_hoa.specs.declared.marked.TheConstants.{MOST_SETS}
 use Rattle.ltl_hoa.specs.declared.fault.Stop.{Stop}
@@ -23,17 +21,18 @@ use Rattle.ltl_hoa.specs.declared.fault.Stop.TheVariants.{Fault, OutOfMemory}
 use Rattle.ltl_hoa.specs.declared.header.Counts.{Counts}
 use Rattle.ltl_hoa.specs.declared.place.Place.{Place}
 use Rattle.ltl_hoa.specs.declared.place.Place.TheVariants as place
+use Rattle.ltl_hoa.specs.declared.place.ItemBefore.{ItemBefore}
 use Rattle.ltl_hoa.specs.declared.place.BodyPlace.{BodyPlace}
 use Rattle.ltl_hoa.specs.declared.place.BodyPlace.TheVariants as at
 use Rattle.ltl_hoa.specs.NumberView.{capped}
 use Rattle.ltl_label.specs.LabelView as label
 use Rattle.ltl_hoa.specs.HeaderView as header
-use Rattle.ltl_hoa.specs.HeaderView.{Refuses, Leads}
+use Rattle.ltl_hoa.specs.HeaderView.{Refuses, Leads, Fits, place_of, stepped}
 use Rattle.ltl_hoa.specs.BodyView as body
 use Rattle.ltl_hoa.specs.BodyView.{BodyView, BodyLeads, new_body}
-use Rattle.ltl_hoa.specs.ParserView.{ParserView, at_place, Takes, TakesAt, TakesInHeader, TakesBody, BodyTakes, BeginsBody, Begins}
-use Rattle.ltl_hoa.specs.Shown.{Came, came_in, came_at, Shows, ShowsHeader, ShowsPlace, ShowsBody, ShowsBodyPlace, IsBegun, shown_label, shown_part, shown_around, sign_within, edges_of, first_or}
-use Rattle.ltl_hoa.proofs.StepLaws.{Agrees, capped_under, format, version, in_items, states, start, count, names, sets, acceptance}
+use Rattle.ltl_hoa.specs.ParserView.{ParserView, at_place, Takes, TakesAt, TakesInHeader, TakesBody, BodyTakes, Begins}
+use Rattle.ltl_hoa.specs.Shown.{Came, came_none, came_in, came_at, Shows, ShowsHeader, ShowsPlace, ShowsBody, ShowsBodyPlace, IsBegun, shown_label, shown_part, shown_around, sign_within, edges_of, first_or}
+use Rattle.ltl_hoa.proofs.StepLaws.{Agrees, capped_under, step_agrees}
 use Rattle.ltl_hoa.proofs.BodySteps.{IsAt, AgreesAt, at_state, after_number, after_name, state_sets, at_edge, number, operand, behind_operand, target, behind_target, edge_sets}
 use Rattle.ltl_hoa.proofs.LabelLaws.{shows_closed}
 
@@ -46,15 +45,29 @@ StepShown (Err k) h (Err stop) w = Refuses k stop
 
 -- ---- in the header
 
-by_header : (L : header.Led) (S : Step) (g : Came) (v w : ParserView) (t : HoaToken) (r : Result (Unit {0}) Stop) (q : Place) → header.take q v.header t ≡ L → Agrees L S g → TakesInHeader q v t r w → StepShown S g r w
-by_header (Ok p) (Ok c) g v w t (Ok u) q e a k =
-    let l = subst (λ led. Leads led (Ok w.place) w.header) e k.0 in
-    subst (λ (x : ParserView). Shows x c g) (λ i. record { place = (sym l.0) i; header = (sym l.1) i; body = w.body }) (a w.body)
-by_header (Ok p) (Ok c) g v w t (Err stop) q e a k = subst (λ led. Leads led (Err stop) w.header) e k
-by_header (Ok p) (Err j) g v w t r q e a k = absurd a
-by_header (Err i) (Ok c) g v w t r q e a k = absurd a
-by_header (Err i) (Err j) g v w t (Ok u) q e a k = absurd (subst (λ led. Leads led (Ok w.place) w.header) e k.0)
-by_header (Err i) (Err j) g v w t (Err stop) q e a k = subst (λ m. Refuses m stop) a (subst (λ led. Leads led (Err stop) w.header) e k)
+by_header : (S T : Step) (g : Came) (w : ParserView) (r : Result (Unit {0}) Stop) → g ≡ came_none → Agrees S T → Leads S (at_place r w.place) w.header → StepShown T g r w
+by_header (Ok c) (Ok d) g w (Ok u) n (e, few, none, made) k = record {
+  header = record { items = sym (ap (λ (x : Before). x.header) k.0) ∙ ap (λ (x : Before). x.header) e; few = few };
+  place = shown w.place (sym (ap (λ (x : Before). x.place) k.0) ∙ ap (λ (x : Before). x.place) e) k.1;
+}
+  where
+    shown : (q : Place) → place_of q w.header ≡ d.place → Fits q w.header → ShowsPlace q w d.place d g
+    shown (place.Body p) l f = absurd f
+    shown place.End l f = absurd f
+    shown q l f = ((none, made, n), l, f)
+by_header (Ok c) (Ok d) g w (Err stop) n a k = k
+by_header (Ok c) (Err j) g w r n a k = absurd a
+by_header (Err i) (Ok d) g w r n a k = absurd a
+by_header (Err i) (Err j) g w (Ok u) n a k = absurd k
+by_header (Err i) (Err j) g w (Err stop) n a k = subst (λ m. Refuses m stop) a k
+
+in_header : (q : Place) (pl : spec.Place) (v w : ParserView) (b : Before) (g : Came) (t : HoaToken) (r : Result (Unit {0}) Stop) → ShowsHeader v.header b.header → IsBegun b g × (place_of q v.header ≡ pl) × Fits q v.header
+    → came_at (place_of q v.header) b t g ≡ g → ((i : ItemBefore) → q ≡ place.Item i → t ≡ token.Body → ⊥) → Leads (stepped q v.header t) (at_place r w.place) w.header
+    → StepShown (table.step stated_limits stated_form pl b t) (came_at pl b t g) r w
+in_header q pl v w b g t r sh (begun, e, f) c n k =
+    subst (λ x. StepShown (table.step stated_limits stated_form x b t) (came_at x b t g) r w) e
+    (subst (λ h. StepShown (table.step stated_limits stated_form (place_of q v.header) b t) h r w) (sym c)
+    (by_header _ _ g w r begun.2 (step_agrees q v.header b t sh.items sh.few begun.0 begun.1 f n) k))
 
 -- ---- the beginning of the body
 
@@ -66,10 +79,10 @@ replicate_get (suc n) (suc k) d = replicate_get n k d
 replicate_length : {T : Type 0} (n : ℕ) (d : T) → length (replicate n d) ≡ n
 replicate_length n d = length-replicate n d
 
-new_shows : (c : Counts) (b : Before) (g : Came) (names : List Name) → IsBegun b g → b.header.states ≡ Some c.states → c.states ≤ stated_limits.hoa_states → b.header.sets ≡ Some c.sets → b.header.names ≡ Some names → c.names ≡ length names
+new_shows : (c : Counts) (b : Before) (g : Came) → IsBegun b g → b.header.states ≡ Some c.states → c.states ≤ stated_limits.hoa_states → b.header.sets ≡ Some c.sets → option_map length b.header.names ≡ Some c.names
     → c.names ≤ stated_limits.propositions → c.sets ≤ MOST_SETS → 0 < c.states → ShowsBody (new_body c) spec.AtState (record b { place = spec.InBody spec.AtState }) g
-new_shows c b g names begun st few se na le fn fs some = record {
-  counts = record { states = st; few_states = few; sets = se; names = ap (option_map length) na ∙ ap Some (sym le); well = (fn, fs) };
+new_shows c b g begun st few se na fn fs some = record {
+  counts = record { states = st; few_states = few; sets = se; names = na; well = (fn, fs) };
   states = record {
     stood = λ k l. replicate_get c.states k false ∙ ap (list_any (λ m. m == k)) (sym begun.0);
     counted = replicate_length c.states false;
@@ -82,41 +95,53 @@ new_shows c b g names begun st few se na le fn fs some = record {
   edges = λ k l. replicate_get c.states k [] ∙ ap (λ (x : Came). edges_of k x.edges) (sym begun.2);
 }
 
-begin_shown : (v w : ParserView) (b : Before) (g : Came) (r : Result (Unit {0}) Stop) → ShowsHeader v.header b.header → IsBegun b g → BeginsBody v r w → StepShown (table.begin_body b b.header) g r w
-begin_shown v w b g r sh begun k =
-    go b.header.states b.header.start b.header.names b.header.sets refl refl refl refl
-    (subst (λ x. Begins x v r w) (λ i. header.counted (sh.states i) (sh.start i) (sh.names i) (sh.sets i)) k)
+begin_shown : (v w : ParserView) (b : Before) (g : Came) (r : Result (Unit {0}) Stop) → ShowsHeader v.header b.header → IsBegun b g → Begins (header.body_begun v.header) v r w → StepShown (table.begin_body b b.header) g r w
+begin_shown v w b g r sh begun k = go missing below r turned
   where
-    missing : (x : Result (Unit {0}) Stop) → Begins (Err ItemMissing) v x w → StepShown (Err ItemMissing) g x w
-    missing (Ok u) m = m
-    missing (Err stop) m = m
+    missing : Bool
+    missing = not (is_some b.header.states && is_some b.header.start && is_some b.header.names && is_some b.header.sets)
 
-    present : (states start : ℕ) (names : List Name) (sets : ℕ) → b.header.states ≡ Some states → b.header.names ≡ Some names → b.header.sets ≡ Some sets → states ≤ stated_limits.hoa_states
-        → (c : Bool) → nat_lt start states ≡ c → (x : Result (Unit {0}) Stop)
-        → Begins (if c then Ok (record { states = states; names = length names; sets = sets }) else Err NumberOutOfRange) v x w
-        → StepShown (if c then table.in_body b spec.AtState else Err NumberOutOfRange) g x w
-    present states start names sets st na se few true q (Ok u) m =
-        let some : 0 < states = let l = ltb-true start states q in omega (arith, l) in
-        let shown : Shows (record { place = place.Body at.State; header = v.header; body = Some (new_body (record { states = states; names = length names; sets = sets })) }) (record b { place = spec.InBody spec.AtState }) g = record {
-          header = sh;
-          place = (new_body (record { states = states; names = length names; sets = sets }), refl, tt, new_shows _ b g names begun st few se na refl m.1 m.2 some);
-        } in
-        subst (λ (x : ParserView). Shows x (record b { place = spec.InBody spec.AtState }) g) (sym m.0) shown
-    present states start names sets st na se few true q (Err stop) m = m
-    present states start names sets st na se few false q (Ok u) m = m
-    present states start names sets st na se few false q (Err stop) m = m
+    below : Bool
+    below = nat_lt (unwrap_or b.header.start 0) (unwrap_or b.header.states 0)
 
-    go : (s t : Option ℕ) (n : Option (List Name)) (e : Option ℕ) → b.header.states ≡ s → b.header.start ≡ t → b.header.names ≡ n → b.header.sets ≡ e
-        → Begins (header.counted s (option_map capped t) n e) v r w
-        → StepShown (if not (is_some s && is_some t && is_some n && is_some e) then Err ItemMissing else table.if_below (unwrap_or t 0) s (table.in_body b spec.AtState)) g r w
-    go (Some s) (Some t) (Some n) (Some e) p1 p2 p3 p4 m =
-        let few : s ≤ stated_limits.hoa_states = subst (λ o. unwrap_or o 0 ≤ stated_limits.hoa_states) p1 sh.few_states in
-        let wide : s ≤ stated_limits.hoa_edges = omega (arith, few) in
-        present s t n e p1 p3 p4 few (nat_lt t s) refl r (subst (λ c. Begins (if c then Ok (record { states = s; names = length n; sets = e }) else Err NumberOutOfRange) v r w) (capped_under t s wide) m)
-    go None t n e p1 p2 p3 p4 m = missing r m
-    go (Some s) None n e p1 p2 p3 p4 m = missing r m
-    go (Some s) (Some t) None e p1 p2 p3 p4 m = missing r m
-    go (Some s) (Some t) (Some n) None p1 p2 p3 p4 m = missing r m
+    stands : (o : Option ℕ) → is_some (option_map capped o) ≡ is_some o
+    stands None = refl
+    stands (Some n) = refl
+
+    same : (o : Option ℕ) (m : ℕ) → m ≤ stated_limits.hoa_states → nat_lt (unwrap_or (option_map capped o) 0) m ≡ nat_lt (unwrap_or o 0) m
+    same None m l = refl
+    same (Some n) m l = capped_under n m (omega (arith, l))
+
+    state : Before
+    state = record { place = spec.InBody spec.AtState; header = v.header.items; numbers = []; edges = 0 }
+
+    turned : Begins (if missing then Err ItemMissing else if below then Ok state else Err NumberOutOfRange) v r w
+    turned =
+        subst (λ c. Begins (if missing then Err ItemMissing else if c then Ok state else Err NumberOutOfRange) v r w) (same b.header.start (unwrap_or b.header.states 0) sh.few.0)
+        (subst (λ c. Begins (if not (is_some b.header.states && c && is_some b.header.names && is_some b.header.sets) then Err ItemMissing
+        else if nat_lt (unwrap_or (option_map capped b.header.start) 0) (unwrap_or b.header.states 0) then Ok state else Err NumberOutOfRange) v r w) (stands b.header.start)
+        (subst (λ (h : HoaHeader). Begins (if not (is_some h.states && is_some h.start && is_some h.names && is_some h.sets) then Err ItemMissing
+        else if nat_lt (unwrap_or h.start 0) (unwrap_or h.states 0) then Ok state else Err NumberOutOfRange) v r w) sh.items k))
+
+    go : (c d : Bool) (x : Result (Unit {0}) Stop) → Begins (if c then Err ItemMissing else if d then Ok state else Err NumberOutOfRange) v x w
+        → StepShown (if c then Err ItemMissing else if d then table.in_body b spec.AtState else Err NumberOutOfRange) g x w
+    go true d (Ok u) m = m
+    go true d (Err stop) m = m
+    go false true (Ok u) (c, m) =
+        subst (λ (x : ParserView). Shows x (record b { place = spec.InBody spec.AtState }) g) (sym m.parser)
+        (record { header = sh; place = (new_body c, refl, tt, new_shows c b g begun (ap (λ h. h.states) (sym sh.items) ∙ m.counts.0) few_states sets names m.names m.sets m.some) })
+      where
+        names : option_map length b.header.names ≡ Some c.names
+        names = ap (λ (h : HoaHeader). option_map length h.names) (sym sh.items) ∙ m.counts.1
+
+        sets : b.header.sets ≡ Some c.sets
+        sets = ap (λ (h : HoaHeader). h.sets) (sym sh.items) ∙ m.counts.2
+
+        few_states : c.states ≤ stated_limits.hoa_states
+        few_states = subst (λ o. unwrap_or o 0 ≤ stated_limits.hoa_states) (ap (λ h. h.states) (sym sh.items) ∙ m.counts.0) sh.few.0
+    go false true (Err stop) m = m
+    go false false (Ok u) m = m
+    go false false (Err stop) m = m
 
 -- ---- in the body
 
@@ -213,22 +238,24 @@ in_body_shown p q v w b g t r own e sh l s k = go w.body refl k.0 r refl
         ended (Ok d) a = a
         ended (Err j) a = a
 
+header_takes : (q : Place) (v w : ParserView) (t : HoaToken) (r : Result (Unit {0}) Stop) → TakesInHeader q v t r w → header.Takes q v.header t (at_place r w.place) w.header
+header_takes q v w t (Ok u) k = k
+header_takes q v w t (Err stop) k = k
+
 places : (q : Place) (pl : spec.Place) (v w : ParserView) (b : Before) (g : Came) (t : HoaToken) (r : Result (Unit {0}) Stop) → b.place ≡ pl → ShowsHeader v.header b.header → ShowsPlace q v pl b g
     → TakesAt q v t r w → StepShown (table.step stated_limits stated_form pl b t) (came_at pl b t g) r w
-places place.Format spec.AtFormat v w b g t r e sh s k = by_header _ _ g v w t r place.Format refl (format v.header b g sh s t) k
-places place.Version spec.AtVersion v w b g t r e sh s k = by_header _ _ g v w t r place.Version refl (version v.header b g sh s t) k
-places (place.Item i) (spec.AtItem j) v w b g token.Body r e sh s k = begin_shown v w b g r sh s.0 k
-places (place.Item i) (spec.AtItem j) v w b g t r e sh s k = by_header (header.take (place.Item i) v.header t) (table.step stated_limits stated_form (spec.AtItem j) b t) g v w t r (place.Item i) refl (in_items v.header b g sh s.0 i j t s.1 (λ x. cc)) k
-places place.States spec.AtStates v w b g t r e sh s k = by_header _ _ g v w t r place.States refl (states v.header b g sh s t) k
-places place.Start spec.AtStart v w b g t r e sh s k = by_header _ _ g v w t r place.Start refl (start v.header b g sh s t) k
-places place.Count spec.AtCount v w b g t r e sh s k = by_header _ _ g v w t r place.Count refl (count v.header b g sh s t) k
-places place.Names (spec.AtNames left) v w b g t r e sh s k = by_header _ _ g v w t r place.Names refl (names v.header b g sh s.0 left t s.1 s.2 s.3.0 s.3.1) k
-places place.Sets spec.AtSets v w b g t r e sh s k = by_header _ _ g v w t r place.Sets refl (sets v.header b g sh s t) k
-places (place.Acceptance p) (spec.InAcceptance ts) v w b g t r e sh s k =
-    let (n, some, few, inside, left) = s.1 in
-    subst (λ us. StepShown (table.step stated_limits stated_form (spec.InAcceptance us) b t) g r w) (sym left) (by_header _ _ g v w t r (place.Acceptance p) refl (acceptance v.header b g sh s.0 n some few p inside t) k)
+places (place.Item i) pl v w b g token.Body r e sh s k = subst (λ x. StepShown (table.step stated_limits stated_form x b token.Body) (came_at x b token.Body g) r w) s.1 (begin_shown v w b g r sh s.0 k)
+places place.Format pl v w b g t r e sh s k = in_header place.Format pl v w b g t r sh s refl (λ i x y. cc) (header_takes place.Format v w t r k s.2)
+places place.Version pl v w b g t r e sh s k = in_header place.Version pl v w b g t r sh s refl (λ i x y. cc) (header_takes place.Version v w t r k s.2)
+places (place.Item i) pl v w b g t r e sh s k = in_header (place.Item i) pl v w b g t r sh s refl (λ i x y. cc) (header_takes (place.Item i) v w t r k s.2)
+places place.States pl v w b g t r e sh s k = in_header place.States pl v w b g t r sh s refl (λ i x y. cc) (header_takes place.States v w t r k s.2)
+places place.Start pl v w b g t r e sh s k = in_header place.Start pl v w b g t r sh s refl (λ i x y. cc) (header_takes place.Start v w t r k s.2)
+places place.Count pl v w b g t r e sh s k = in_header place.Count pl v w b g t r sh s refl (λ i x y. cc) (header_takes place.Count v w t r k s.2)
+places place.Names pl v w b g t r e sh s k = in_header place.Names pl v w b g t r sh s refl (λ i x y. cc) (header_takes place.Names v w t r k s.2)
+places place.Sets pl v w b g t r e sh s k = in_header place.Sets pl v w b g t r sh s refl (λ i x y. cc) (header_takes place.Sets v w t r k s.2)
+places (place.Acceptance p) pl v w b g t r e sh s k = in_header (place.Acceptance p) pl v w b g t r sh s refl (λ i x y. cc) (header_takes (place.Acceptance p) v w t r k s.2)
 places (place.Body p) (spec.InBody q) v w b g t r e sh (own, f, l, s) k = in_body_shown p q v w b g t r own e sh l s (subst (λ o. TakesBody p v o t r w) f k)
-places place.End spec.AtEnd v w b g t (Ok u) e sh s k = k.0
+places place.End spec.AtEnd v w b g t (Ok u) e sh s k = k
 places place.End spec.AtEnd v w b g t (Err stop) e sh s k = k
 places q pl v w b g t r e sh s k = absurd s
 

@@ -1,6 +1,6 @@
--- A token of the header takes the parser where the definition goes.
-use Rattle.std.proofs.Common.{◌≡◌, ℕ, zero, suc, ◌+◌, ◌-◌, ◌<◌, ◌≤◌, Bool, true, false, not, ◌&&◌, ◌||◌, List, [], ◌∷◌, ◌++◌, Option, Some, None, nat_eq, ◌==◌, codes, refl, sym, ◌∙◌, ap, subst, arith}
-use Rattle.std.specs.Prelude.{nat_le, nat_lt, drop, if◌then◌else◌, option_map, unwrap_or, is_some, Ok, Err}
+-- A step of the header is the same for numbers as they are read.
+use Rattle.std.proofs.Common.{◌≡◌, ℕ, ◌-◌, ◌≤◌, Bool, true, false, not, ◌&&◌, List, [], ◌∷◌, Option, Some, None, ◌==◌, codes, refl, sym, ◌∙◌, subst, arith}
+use Rattle.std.specs.Prelude.{⊤, nat_le, nat_lt, drop, if◌then◌else◌, option_map, unwrap_or, is_some, Result, Ok, Err}
 use Rattle.std.specs.List.{list_any}
 use Rattle.std.proofs.lemmas.Bool.Decides.{nat_tests}
 use Rattle.ltl_spec.specs.Semantics.Word.{Name}
@@ -9,36 +9,37 @@ use Rattle.ltl_spec.specs.Formulas.Names.{is_proposition}
 use Rattle.ltl_spec.specs.Tools.Limits.{stated_limits}
 use Rattle.ltl_spec.specs.Hoa.HoaToken as token
 use Rattle.ltl_spec.specs.Hoa.HoaToken.{HoaToken}
-use Rattle.ltl_spec.specs.Hoa.HoaReading.{stated_form, begins_upper, is_plain, acceptance_tokens}
-use Rattle.ltl_spec.specs.Hoa.HoaFaultKind.{Unsupported, BadPropositionList, LimitPassed}
+use Rattle.ltl_spec.specs.Hoa.HoaReading.{stated_form, begins_upper, acceptance_tokens}
+use Rattle.ltl_spec.specs.Hoa.HoaFaultKind.{Unsupported, LimitPassed}
 use Rattle.ltl_spec.specs.Hoa.HoaPlace as spec
-use Rattle.ltl_spec.specs.Hoa.HoaStep as table
 use Rattle.ltl_spec.specs.Hoa.HoaPlace.{Before, HoaHeader}
-use Rattle.ltl_spec.specs.Hoa.HoaStep.{Step, go_to}
-use Rattle.ltl_spec.proofs.Hoa.AcceptanceLaws.{sets_begin, after_and, after_last}
+use Rattle.ltl_spec.specs.Hoa.HoaStep as table
+use Rattle.ltl_spec.specs.Hoa.HoaStep.{Step, step, go_to}
 use Rattle.ltl_hoa.specs.declared.marked.TheConstants.{MOST_SETS}
+use Rattle.ltl_hoa.specs.declared.fault.Stop.{Stop}
+use Rattle.ltl_hoa.specs.declared.token.TokenKind.{TokenKind}
+use Rattle.ltl_hoa.specs.declared.token.TokenKind.TheVariants as kind
 use Rattle.ltl_hoa.specs.declared.place.Place.{Place}
 use Rattle.ltl_hoa.specs.declared.place.Place.TheVariants as place
 use Rattle.ltl_hoa.specs.declared.place.ItemBefore.{ItemBefore}
 use Rattle.ltl_hoa.specs.declared.place.ItemBefore.TheVariants as item
 use Rattle.ltl_hoa.specs.declared.place.AcceptancePart.{AcceptancePart}
 use Rattle.ltl_hoa.specs.declared.place.AcceptancePart.TheVariants as part
-use Rattle.ltl_hoa.specs.NumberView.{capped}
-use Rattle.ltl_hoa.specs.HeaderView as view
-use Rattle.ltl_hoa.specs.HeaderView.{HeaderView, Led}
-use Rattle.ltl_hoa.specs.BodyView.{BodyView}
-use Rattle.ltl_hoa.specs.Shown.{Came, Shows, ShowsHeader, ShowsItem, ShowsPlace, IsBegun, IsPartOf, acceptance_left, later_sets}
+use Rattle.ltl_hoa.specs.NumberView.{capped, capped_token}
+use Rattle.ltl_hoa.specs.HeaderView.{HeaderView, Fits, IsPartOf, Leads, Takes, acceptance_left, before_of, item_of, place_of, read, stepped}
+use Rattle.ltl_hoa.specs.TokenView.{token_of}
+use Rattle.ltl_hoa.specs.Shown.{IsFew, capped_header}
 
--- both go on to places that show each other, or meet the same fault
-abbrev pub Agrees : Led → Step → Came → Type 0
-Agrees (Ok p) (Ok b) g = (body : Option BodyView) → Shows (record { place = p.0; header = p.1; body = body }) b g
-Agrees (Ok p) (Err k) g = ⊥
-Agrees (Err k) (Ok b) g = ⊥
-Agrees (Err k) (Err j) g = k ≡ j
+-- the first is the second with a start as it is read, within the limits, or it is the same fault
+abbrev pub Agrees : Step → Step → Type 0
+Agrees (Ok c) (Ok d) = (c ≡ record d { header = capped_header d.header }) × IsFew d.header × (d.numbers ≡ []) × (d.edges ≡ 0)
+Agrees (Ok c) (Err k) = ⊥
+Agrees (Err k) (Ok d) = ⊥
+Agrees (Err k) (Err j) = k ≡ j
 
-if_agrees : (c : Bool) (x x' : Led) (y y' : Step) (g : Came) → Agrees x y g → Agrees x' y' g → Agrees (if c then x else x') (if c then y else y') g
-if_agrees true x x' y y' g a n = a
-if_agrees false x x' y y' g a n = n
+if_agrees : (c : Bool) (x x' y y' : Step) → Agrees x y → Agrees x' y' → Agrees (if c then x else x') (if c then y else y')
+if_agrees true x x' y y' a n = a
+if_agrees false x x' y y' a n = n
 
 -- ---- numbers
 
@@ -60,201 +61,151 @@ small_of m n l e = grind (arith, nat_tests, l, e)
 pub below_small : (n m : ℕ) → m ≤ stated_limits.hoa_edges → nat_lt n m ≡ true → capped n ≡ n
 below_small n m l e = grind (arith, nat_tests, l, e)
 
-same_turned : (s t : List ℕ) → same_name s t ≡ same_name t s
-same_turned [] [] = refl
-same_turned [] (y ∷ t) = refl
-same_turned (x ∷ s) [] = refl
-same_turned (x ∷ s) (y ∷ t) = ap (λ c. c && same_name s t) (turned x y) ∙ ap (λ c. nat_eq y x && c) (same_turned s t)
+-- a number that is at most a limit
+limited : (m n : ℕ) → m ≤ stated_limits.hoa_edges → (f g : ℕ → Step) → ((k : ℕ) → k ≤ m → Agrees (f k) (g k))
+    → Agrees (if nat_lt m (capped n) then Err LimitPassed else f (capped n)) (if nat_lt m n then Err LimitPassed else g n)
+limited m n l f g a = go (nat_lt m n) refl
   where
-    turned : (m n : ℕ) → nat_eq m n ≡ nat_eq n m
-    turned m n = grind (arith, nat_tests)
+    few : (i j : ℕ) → nat_lt i j ≡ false → j ≤ i
+    few i j e = grind (arith, nat_tests, e)
 
-module _ (h : HeaderView) (b : Before) (g : Came) (sh : ShowsHeader h b.header) (begun : IsBegun b g) where
-  to : (q : Place) (p : spec.Place) → ((body : Option BodyView) → ShowsPlace q (record { place = q; header = h; body = body }) p (record b { place = p }) g) → Agrees (Ok (q, h)) (go_to b p) g
-  to q p s = λ body. record { header = sh; place = s body }
+    go : (c : Bool) → nat_lt m n ≡ c → Agrees (if nat_lt m (capped n) then Err LimitPassed else f (capped n)) (if c then Err LimitPassed else g n)
+    go true e = subst (λ x. Agrees (if x then Err LimitPassed else f (capped n)) (Err LimitPassed)) (sym (capped_over m n l ∙ e)) refl
+    go false e =
+        subst (λ x. Agrees (if x then Err LimitPassed else f (capped n)) (g n)) (sym (capped_over m n l ∙ e))
+        (subst (λ k. Agrees (f k) (g n)) (sym (small_of m n l e)) (a n (few m n e)))
 
-  pub format : (t : HoaToken) → Agrees (view.take place.Format h t) (table.step stated_limits stated_form spec.AtFormat b t) g
-  format (token.Header name) = if_agrees (same_name name (codes "HOA")) _ _ _ _ g (to place.Version spec.AtVersion (λ body. begun)) refl
-  format t = refl
+-- a token that is wanted
+abbrev IsSmall : List HoaToken → Type 0
+IsSmall (token.Int k ∷ ts) = k ≤ stated_limits.hoa_edges
+IsSmall _ = ⊤
 
-  pub version : (t : HoaToken) → Agrees (view.take place.Version h t) (table.step stated_limits stated_form spec.AtVersion b t) g
-  version (token.Identifier name) = if_agrees (same_name name (codes "v1")) _ _ _ _ g (to (place.Item item.Plain) (spec.AtItem spec.PlainItem) (λ body. (begun, tt))) refl
-  version t = refl
+same_token : (w : HoaToken) (ts : List HoaToken) (t : HoaToken) → IsSmall (w ∷ ts) → table.is_token w (capped_token t) ≡ table.is_token w t
+same_token w ts (token.Int m) l = with_number w l
+  where
+    turned : (i j : ℕ) → (i == j) ≡ (j == i)
+    turned i j = grind (arith, nat_tests)
 
-  once : (c d : Bool) (q : Place) (p : spec.Place) → c ≡ d → Agrees (Ok (q, h)) (go_to b p) g → Agrees (view.once h c q) (table.begin_once b d p) g
-  once c d q p e a = subst (λ x. Agrees (view.once h c q) (table.begin_once b x p) g) e (if_agrees c _ _ _ _ g refl a)
+    with_number : (w : HoaToken) → IsSmall (w ∷ ts) → table.is_token w (token.Int (capped m)) ≡ table.is_token w (token.Int m)
+    with_number (token.Int k) l = turned k (capped m) ∙ capped_same m k l ∙ turned m k
+    with_number w l = refl
+same_token w ts t l = refl
 
-  item_begins : (name : List ℕ) → Agrees (view.begin_item h name) (table.begin_item b name) g
+same_broken : (t : HoaToken) → table.unless_broken (capped_token t) Unsupported ≡ table.unless_broken t Unsupported
+same_broken (token.Int m) = refl
+same_broken t = refl
+
+small_part : (n : ℕ) (p : AcceptancePart) → n ≤ MOST_SETS → IsPartOf n p → IsSmall (acceptance_left n p)
+small_part n (part.Number k) l inside = omega (arith, l, inside)
+small_part n p l inside = tt
+
+-- ---- places
+
+-- the definition's state, and the same with the start as it is read
+module _ (h : HoaHeader) (at : spec.Place) (few : IsFew h) where
+  abbrev b : Before
+  b = record { place = at; header = h; numbers = []; edges = 0 }
+
+  abbrev c : Before
+  c = record { place = spec.AtFormat; header = capped_header h; numbers = []; edges = 0 }
+
+  to : (p : spec.Place) → Agrees (go_to c p) (go_to b p)
+  to p = (refl, few, refl, refl)
+
+  once : (d e : Bool) (p : spec.Place) → d ≡ e → Agrees (table.begin_once c d p) (table.begin_once b e p)
+  once d e p q = subst (λ x. Agrees (table.begin_once c d p) (table.begin_once b x p)) q (if_agrees d _ _ _ _ refl (to p))
+
+  item_begins : (name : List ℕ) → Agrees (table.begin_item c name) (table.begin_item b name)
   item_begins name =
-      if_agrees (same_name name (codes "HOA")) _ _ _ _ g refl (
-      if_agrees (same_name name (codes "States")) _ _ _ _ g (once _ _ place.States spec.AtStates (ap is_some sh.states) (to place.States spec.AtStates (λ body. begun))) (
-      if_agrees (same_name name (codes "Start")) _ _ _ _ g (once _ _ place.Start spec.AtStart (ap is_some sh.start ∙ stands b.header.start) (to place.Start spec.AtStart (λ body. begun))) (
-      if_agrees (same_name name (codes "AP")) _ _ _ _ g (once _ _ place.Count spec.AtCount (ap is_some sh.names) (to place.Count spec.AtCount (λ body. begun))) (
-      if_agrees (same_name name (codes "Acceptance")) _ _ _ _ g (once _ _ place.Sets spec.AtSets (ap is_some sh.sets) (to place.Sets spec.AtSets (λ body. begun))) (
-      if_agrees (same_name name (codes "Alias")) _ _ _ _ g refl (
-      if_agrees (begins_upper name) _ _ _ _ g refl (to (place.Item item.Other) (spec.AtItem spec.OtherItem) (λ body. (begun, tt)))))))))
+      if_agrees (same_name name (codes "HOA")) _ _ _ _ refl (
+      if_agrees (same_name name (codes "States")) _ _ _ _ (once _ _ spec.AtStates refl) (
+      if_agrees (same_name name (codes "Start")) _ _ _ _ (once _ _ spec.AtStart (stands h.start)) (
+      if_agrees (same_name name (codes "AP")) _ _ _ _ (once _ _ spec.AtCount refl) (
+      if_agrees (same_name name (codes "Acceptance")) _ _ _ _ (once _ _ spec.AtSets refl) (
+      if_agrees (same_name name (codes "Alias")) _ _ _ _ refl (
+      if_agrees (begins_upper name) _ _ _ _ refl (to (spec.AtItem spec.OtherItem))))))))
     where
       stands : (o : Option ℕ) → is_some (option_map capped o) ≡ is_some o
       stands None = refl
       stands (Some n) = refl
 
-  goes_on : (i : ItemBefore) (j : spec.ItemBefore) (t : HoaToken) → ShowsItem i j → Agrees (view.go_on i h t) (table.go_on b j t) g
-  goes_on item.Plain spec.PlainItem t s = refl
-  goes_on item.StartNumber spec.StartNumber token.AndSign s = refl
-  goes_on item.StartNumber spec.StartNumber t s = refl
-  goes_on item.ListedNames spec.ListedNames (token.StringToken x) s = refl
-  goes_on item.ListedNames spec.ListedNames t s = refl
-  goes_on item.Acceptance spec.Acceptance t s = refl
-  goes_on item.Other spec.OtherItem t s = if_agrees (is_plain t) _ _ _ _ g (to (place.Item item.Other) (spec.AtItem spec.OtherItem) (λ body. (begun, tt))) refl
-  goes_on i j t s = absurd s
+  goes_on : (i : ItemBefore) (t : HoaToken) → Agrees (table.go_on c (item_of i) (capped_token t)) (table.go_on b (item_of i) t)
+  goes_on item.Other (token.StringToken s) = to (spec.AtItem spec.OtherItem)
+  goes_on item.Other (token.Identifier s) = to (spec.AtItem spec.OtherItem)
+  goes_on item.Other (token.Int n) = to (spec.AtItem spec.OtherItem)
+  goes_on i (token.Int n) = refl
+  goes_on i t = refl
 
-  pub in_items : (i : ItemBefore) (j : spec.ItemBefore) (t : HoaToken) → ShowsItem i j → (t ≡ token.Body → ⊥) → Agrees (view.take (place.Item i) h t) (table.step stated_limits stated_form (spec.AtItem j) b t) g
-  in_items i j (token.Header name) s n = item_begins name
-  in_items i j token.Body s n = absurd (n refl)
-  in_items i j t s n = goes_on i j t s
+  listed : (names : List Name) (left : ℕ) → Agrees (table.with_names c names left) (table.with_names b names left)
+  listed names left = (refl, few, refl, refl)
 
-  pub states : (t : HoaToken) → Agrees (view.take place.States h t) (table.step stated_limits stated_form spec.AtStates b t) g
-  states (token.Int n) = go (nat_lt stated_limits.hoa_states n) refl
+  expected : (n : Option ℕ) → unwrap_or n 0 ≤ MOST_SETS → (ts : List HoaToken)
+      → Agrees (table.expect (record c { header = record c.header { sets = n } }) ts) (table.expect (record b { header = record b.header { sets = n } }) ts)
+  expected n l [] = (refl, (few.0, l), refl, refl)
+  expected n l (t ∷ ts) = (refl, (few.0, l), refl, refl)
+
+  wanted : (ts : List HoaToken) (t : HoaToken) → IsSmall ts → Agrees (step stated_limits stated_form (spec.InAcceptance ts) c (capped_token t)) (step stated_limits stated_form (spec.InAcceptance ts) b t)
+  wanted [] t l = same_broken t
+  wanted (w ∷ ts) t l =
+      subst (λ x. Agrees (if x then table.expect c ts else Err (table.unless_broken (capped_token t) Unsupported)) (if table.is_token w t then table.expect b ts else Err (table.unless_broken t Unsupported)))
+      (sym (same_token w ts t l)) (if_agrees (table.is_token w t) _ _ _ _ (expected h.sets few.1 ts) (same_broken t))
+
+  places : (q : Place) (left : ℕ) (t : HoaToken) → Fits q (record { items = capped_header h; left = left }) → ((i : ItemBefore) → q ≡ place.Item i → t ≡ token.Body → ⊥)
+      → let p = place_of q (record { items = capped_header h; left = left }) in Agrees (step stated_limits stated_form p c (capped_token t)) (step stated_limits stated_form p b t)
+  places place.Format left (token.Header name) f n = if_agrees (same_name name (codes "HOA")) _ _ _ _ (to spec.AtVersion) refl
+  places place.Format left t f n = refl
+  places place.Version left (token.Identifier name) f n = if_agrees (same_name name (codes "v1")) _ _ _ _ (to (spec.AtItem spec.PlainItem)) refl
+  places place.Version left t f n = refl
+  places (place.Item i) left (token.Header name) f n = item_begins name
+  places (place.Item i) left token.Body f n = absurd (n i refl refl)
+  places (place.Item i) left t f n = goes_on i t
+  places place.States left (token.Int k) f n =
+      limited stated_limits.hoa_states k (omega arith) (λ m. Ok (record c { place = spec.AtItem spec.PlainItem; header = record c.header { states = Some m } }))
+      (λ m. Ok (record b { place = spec.AtItem spec.PlainItem; header = record b.header { states = Some m } })) (λ m l. (refl, (l, few.1), refl, refl))
+  places place.States left t f n = refl
+  places place.Start left (token.Int k) f n = (refl, few, refl, refl)
+  places place.Start left t f n = refl
+  places place.Count left (token.Int k) f n = limited stated_limits.propositions k (omega arith) (table.with_names c []) (table.with_names b []) (λ m l. listed [] m)
+  places place.Count left t f n = refl
+  places place.Names left (token.StringToken name) f n = if_agrees (is_proposition name && not (list_any (same_name name) (unwrap_or h.names []))) _ _ _ _ (listed _ (left - 1)) refl
+  places place.Names left t f n = refl
+  places place.Sets left (token.Int k) f n =
+      subst (λ x. Agrees (if x then own (capped k) else Err LimitPassed) (if nat_le k MOST_SETS then all k else Err LimitPassed)) (sym (below MOST_SETS (capped k)))
+      (subst (λ x. Agrees (if not (nat_lt MOST_SETS (capped k)) then own (capped k) else Err LimitPassed) (if x then all k else Err LimitPassed)) (sym (below MOST_SETS k))
+      (turned (nat_lt MOST_SETS (capped k)) (nat_lt MOST_SETS k) _ _ (limited MOST_SETS k (omega arith) own all (λ m l. expected (Some m) l (drop 1 (acceptance_tokens m))))))
     where
-      go : (c : Bool) → nat_lt stated_limits.hoa_states n ≡ c
-          → Agrees (if nat_lt stated_limits.hoa_states (capped n) then Err LimitPassed else Ok (place.Item item.Plain, record h { states = Some (capped n) }))
-          (if c then Err LimitPassed else Ok (record b { place = spec.AtItem spec.PlainItem; header = record b.header { states = Some n } })) g
-      go true e = subst (λ x. Agrees (if x then Err LimitPassed else Ok (place.Item item.Plain, record h { states = Some (capped n) })) (Err LimitPassed) g) (sym (capped_over stated_limits.hoa_states n (omega arith) ∙ e)) refl
-      go false e =
-          subst (λ x. Agrees (if x then Err LimitPassed else Ok (place.Item item.Plain, record h { states = Some (capped n) }))
-          (Ok (record b { place = spec.AtItem spec.PlainItem; header = record b.header { states = Some n } })) g) (sym (capped_over stated_limits.hoa_states n (omega arith) ∙ e))
-          (λ body. record {
-            header = record { states = ap Some (small_of stated_limits.hoa_states n (omega arith) e); few_states = few n e; start = sh.start; names = sh.names; sets = sh.sets };
-            place = (begun, tt);
-          })
-        where
-          few : (m : ℕ) → nat_lt stated_limits.hoa_states m ≡ false → m ≤ stated_limits.hoa_states
-          few m q = grind (arith, nat_tests, q)
-  states t = refl
+      own : ℕ → Step
+      own m = table.expect (record c { header = record c.header { sets = Some m } }) (drop 1 (acceptance_tokens m))
 
-  pub start : (t : HoaToken) → Agrees (view.take place.Start h t) (table.step stated_limits stated_form spec.AtStart b t) g
-  start (token.Int n) = λ body. record { header = record { states = sh.states; few_states = sh.few_states; start = refl; names = sh.names; sets = sh.sets }; place = (begun, tt) }
-  start t = refl
+      all : ℕ → Step
+      all m = table.expect (record b { header = record b.header { sets = Some m } }) (drop 1 (acceptance_tokens m))
 
-  -- the names that were read, and how many have to come
-  listed : (names : List Name) (left n : ℕ) → left ≡ n
-      → Agrees (Ok (view.after_name left, record h { names = Some names; left = left })) (table.with_names b names n) g
-  listed names left n e = subst (λ k. Agrees (Ok (view.after_name left, record h { names = Some names; left = left })) (table.with_names b names k) g) e (go (left == 0) refl)
-    where
-      go : (c : Bool) → (left == 0) ≡ c
-          → Agrees (Ok ((if c then place.Item item.ListedNames else place.Names), record h { names = Some names; left = left }))
-          (Ok (record b { place = if c then spec.AtItem spec.ListedNames else spec.AtNames left; header = record b.header { names = Some names } })) g
-      go true q = λ body. record { header = record { states = sh.states; few_states = sh.few_states; start = sh.start; names = refl; sets = sh.sets }; place = (begun, tt) }
-      go false q = λ body. record { header = record { states = sh.states; few_states = sh.few_states; start = sh.start; names = refl; sets = sh.sets }; place = (begun, refl, q, (names, refl)) }
+      below : (m k : ℕ) → nat_le k m ≡ not (nat_lt m k)
+      below m k = grind (arith, nat_tests)
 
-  pub count : (t : HoaToken) → Agrees (view.take place.Count h t) (table.step stated_limits stated_form spec.AtCount b t) g
-  count (token.Int n) = go (nat_lt stated_limits.propositions n) refl
-    where
-      go : (c : Bool) → nat_lt stated_limits.propositions n ≡ c
-          → Agrees (if nat_lt stated_limits.propositions (capped n) then Err LimitPassed else Ok (view.after_name (capped n), record h { names = Some []; left = capped n })) (if c then Err LimitPassed else table.with_names b [] n) g
-      go true e = subst (λ x. Agrees (if x then Err LimitPassed else Ok (view.after_name (capped n), record h { names = Some []; left = capped n })) (Err LimitPassed) g) (sym (capped_over stated_limits.propositions n (omega arith) ∙ e)) refl
-      go false e =
-          subst (λ x. Agrees (if x then Err LimitPassed else Ok (view.after_name (capped n), record h { names = Some []; left = capped n })) (table.with_names b [] n) g)
-          (sym (capped_over stated_limits.propositions n (omega arith) ∙ e)) (listed [] (capped n) n (small_of stated_limits.propositions n (omega arith) e))
-  count t = refl
+      turned : (d e : Bool) (x y : Step) → Agrees (if d then Err LimitPassed else x) (if e then Err LimitPassed else y) → Agrees (if not d then x else Err LimitPassed) (if not e then y else Err LimitPassed)
+      turned true true x y a = a
+      turned true false x y a = a
+      turned false true x y a = a
+      turned false false x y a = a
+  places place.Sets left t f n = refl
+  places (place.Acceptance p) left t f n = wanted (acceptance_left (unwrap_or h.sets 0) p) t (small_part (unwrap_or h.sets 0) p few.1 f)
+  places q left t f n = absurd f
 
-  pub names : (left : ℕ) (t : HoaToken) → h.left ≡ left → (left == 0) ≡ false → (ns : List Name) → h.names ≡ Some ns → Agrees (view.take place.Names h t) (table.step stated_limits stated_form (spec.AtNames left) b t) g
-  names left (token.StringToken name) e z ns q =
-      subst (λ o. Agrees (view.add_to h o name) (table.step stated_limits stated_form (spec.AtNames left) b (token.StringToken name)) g) (sym q)
-      (subst (λ o. Agrees (view.add_to h (Some ns) name) (listed_with (unwrap_or o [])) g) (sym q ∙ sh.names) (go (is_proposition name) (list_any (same_name name) ns)))
-    where
-      listed_with : List Name → Step
-      listed_with done = if is_proposition name && not (list_any (same_name name) done) then table.with_names b (done ++ name ∷ []) (left - 1) else Err BadPropositionList
+-- a step of the header's is that of the definition
+pub step_agrees : (q : Place) (v : HeaderView) (b : Before) (t : HoaToken) → v.items ≡ capped_header b.header → IsFew b.header → (b.numbers ≡ []) → (b.edges ≡ 0) → Fits q v → ((i : ItemBefore) → q ≡ place.Item i → t ≡ token.Body → ⊥)
+    → Agrees (stepped q v t) (step stated_limits stated_form (place_of q v) b t)
+step_agrees q v b t e few none made f n =
+    subst (λ (x : HoaHeader). Agrees (stepped q (record { items = x; left = v.left }) t) (step stated_limits stated_form (place_of q (record { items = x; left = v.left })) b t)) (sym e)
+    (subst (λ (x : Before). Agrees (stepped q (record { items = capped_header b.header; left = v.left }) t) (step stated_limits stated_form (place_of q (record { items = capped_header b.header; left = v.left })) x t))
+    (λ i. record { place = b.place; header = b.header; numbers = (sym none) i; edges = (sym made) i })
+    (places b.header b.place few q v.left t (subst (λ (x : HoaHeader). Fits q (record { items = x; left = v.left })) e f) n))
 
-      go : (p l : Bool)
-          → Agrees (if not p || l || h.left == 0 then Err BadPropositionList else Ok (view.after_name (h.left - 1), record h { names = Some (ns ++ name ∷ []); left = h.left - 1 }))
-          (if p && not l then table.with_names b (ns ++ name ∷ []) (left - 1) else Err BadPropositionList) g
-      go false l = refl
-      go true true = refl
-      go true false =
-          subst (λ c. Agrees (if c then Err BadPropositionList else Ok (view.after_name (h.left - 1), record h { names = Some (ns ++ name ∷ []); left = h.left - 1 })) (table.with_names b (ns ++ name ∷ []) (left - 1)) g)
-          (sym (ap (λ k. k == 0) e ∙ z)) (listed (ns ++ name ∷ []) (h.left - 1) (left - 1) (ap (λ k. k - 1) e))
-  names left t e z ns q = refl
+-- ---- tokens behind an item
 
-  -- behind the number of sets
-  sets_begun : (n : ℕ) → n ≤ MOST_SETS
-      → Agrees (Ok (place.Acceptance (view.first_part n), record h { sets = Some n })) (table.expect (record b { header = record b.header { sets = Some n } }) (drop 1 (acceptance_tokens n))) g
-  sets_begun zero l = λ body. record { header = record { states = sh.states; few_states = sh.few_states; start = sh.start; names = sh.names; sets = refl }; place = (begun, (0, refl, l, refl, refl)) }
-  sets_begun (suc n) l =
-      subst (λ c. Agrees (Ok (place.Acceptance (if c then part.True else part.Inf 0), record h { sets = Some (suc n) })) (table.expect (record b { header = record b.header { sets = Some (suc n) } }) (drop 1 (acceptance_tokens (suc n)))) g)
-      (sym (some n))
-      (λ body. record {
-        header = record { states = sh.states; few_states = sh.few_states; start = sh.start; names = sh.names; sets = refl };
-        place = (begun, (suc n, refl, l, omega arith, sets_begin (suc n) (omega arith)));
-      })
-    where
-      some : (m : ℕ) → (suc m == 0) ≡ false
-      some m = grind (arith, nat_tests)
-
-  pub sets : (t : HoaToken) → Agrees (view.take place.Sets h t) (table.step stated_limits stated_form spec.AtSets b t) g
-  sets (token.Int n) = subst (λ c. Agrees (made (capped n) (nat_lt MOST_SETS (capped n))) (if c then wanted n else Err LimitPassed) g) (sym (turned MOST_SETS n)) (go (nat_lt MOST_SETS n) refl)
-    where
-      turned : (m k : ℕ) → nat_le k m ≡ not (nat_lt m k)
-      turned m k = grind (arith, nat_tests)
-
-      wanted : ℕ → Step
-      wanted m = table.expect (record b { header = record b.header { sets = Some m } }) (drop 1 (acceptance_tokens m))
-
-      made : ℕ → Bool → Led
-      made m c = if c then Err LimitPassed else Ok (place.Acceptance (view.first_part m), record h { sets = Some m })
-
-      go : (c : Bool) → nat_lt MOST_SETS n ≡ c → Agrees (made (capped n) (nat_lt MOST_SETS (capped n))) (if not c then wanted n else Err LimitPassed) g
-      go true e = subst (λ x. Agrees (made (capped n) x) (Err LimitPassed) g) (sym (capped_over MOST_SETS n (omega arith) ∙ e)) refl
-      go false e =
-          subst (λ x. Agrees (made (capped n) x) (wanted n) g) (sym (capped_over MOST_SETS n (omega arith) ∙ e))
-          (subst (λ m. Agrees (made m false) (wanted n) g) (sym (small_of MOST_SETS n (omega arith) e)) (sets_begun n (few n e)))
-        where
-          few : (m : ℕ) → nat_lt MOST_SETS m ≡ false → m ≤ MOST_SETS
-          few m q = grind (arith, nat_tests, q)
-  sets t = refl
-
-  module _ (n : ℕ) (some : h.sets ≡ Some n) (few : n ≤ MOST_SETS) where
-    part_agrees : (p : AcceptancePart) → IsPartOf n p → (t : HoaToken) → Agrees (view.part_taken n p h t) (table.step stated_limits stated_form (spec.InAcceptance (acceptance_left n p)) b t) g
-    part_agrees part.True inside (token.Identifier s) =
-        subst (λ c. Agrees (view.part_taken n part.True h (token.Identifier s)) (if c then table.expect b [] else Err Unsupported) g) (same_turned s (codes "t"))
-        (if_agrees (same_name s (codes "t")) _ _ _ _ g (to (place.Item item.Acceptance) (spec.AtItem spec.Acceptance) (λ body. (begun, tt))) refl)
-    part_agrees (part.Inf k) inside (token.Identifier s) =
-        subst (λ c. Agrees (view.part_taken n (part.Inf k) h (token.Identifier s)) (if c then table.expect b (acceptance_left n (part.Open k)) else Err Unsupported) g) (same_turned s (codes "Inf"))
-        (if_agrees (same_name s (codes "Inf")) _ _ _ _ g (to (place.Acceptance (part.Open k)) (spec.InAcceptance (acceptance_left n (part.Open k))) (λ body. (begun, (n, some, few, inside, refl)))) refl)
-    part_agrees (part.Open k) inside token.OpenBracket = to (place.Acceptance (part.Number k)) (spec.InAcceptance (acceptance_left n (part.Number k))) (λ body. (begun, (n, some, few, inside, refl)))
-    part_agrees (part.Number k) inside (token.Int m) =
-        subst (λ c. Agrees (if c then Ok (place.Acceptance (part.Close k), h) else Err Unsupported) (if k == m then table.expect b (acceptance_left n (part.Close k)) else Err Unsupported) g)
-        (turned k m ∙ sym (capped_same m k (small k inside)))
-        (if_agrees (k == m) _ _ _ _ g (to (place.Acceptance (part.Close k)) (spec.InAcceptance (acceptance_left n (part.Close k))) (λ body. (begun, (n, some, few, inside, refl)))) refl)
-      where
-        turned : (i j : ℕ) → (i == j) ≡ (j == i)
-        turned i j = grind (arith, nat_tests)
-
-        small : (i : ℕ) → i < n → i ≤ stated_limits.hoa_edges
-        small i l = omega (arith, l, few)
-    part_agrees (part.Close k) inside token.CloseBracket = go (nat_lt k (n - 1)) refl
-      where
-        more : (i m : ℕ) → nat_lt i (m - 1) ≡ true → i + 1 < m
-        more i m e = grind (arith, nat_tests, e)
-
-        last : (i m : ℕ) → nat_lt i (m - 1) ≡ false → m ≤ i + 1
-        last i m e = grind (arith, nat_tests, e)
-
-        go : (c : Bool) → nat_lt k (n - 1) ≡ c → Agrees (Ok ((if c then place.Acceptance (part.And (k + 1)) else place.Item item.Acceptance), h)) (table.expect b (later_sets n (k + 1))) g
-        go true e =
-            let next : later_sets n (k + 1) ≡ acceptance_left n (part.And (k + 1)) = after_and n k (more k n e) in
-            subst (λ ts. Agrees (Ok (place.Acceptance (part.And (k + 1)), h)) (table.expect b ts) g) (sym next)
-            (to (place.Acceptance (part.And (k + 1))) (spec.InAcceptance (acceptance_left n (part.And (k + 1)))) (λ body. (begun, (n, some, few, more k n e, refl))))
-        go false e =
-            let none : later_sets n (k + 1) ≡ [] = after_last n k (last k n e) in
-            subst (λ ts. Agrees (Ok (place.Item item.Acceptance, h)) (table.expect b ts) g) (sym none) (to (place.Item item.Acceptance) (spec.AtItem spec.Acceptance) (λ body. (begun, tt)))
-    part_agrees (part.And k) inside token.AndSign = to (place.Acceptance (part.Inf k)) (spec.InAcceptance (acceptance_left n (part.Inf k))) (λ body. (begun, (n, some, few, inside, refl)))
-    part_agrees part.True inside t = refl
-    part_agrees (part.Inf k) inside t = refl
-    part_agrees (part.Open k) inside t = refl
-    part_agrees (part.Number k) inside t = refl
-    part_agrees (part.Close k) inside t = refl
-    part_agrees (part.And k) inside t = refl
-
-    pub acceptance : (p : AcceptancePart) → IsPartOf n p → (t : HoaToken) → Agrees (view.take (place.Acceptance p) h t) (table.step stated_limits stated_form (spec.InAcceptance (acceptance_left n p)) b t) g
-    acceptance p inside t = subst (λ o. Agrees (view.part_taken (unwrap_or o 0) p h t) (table.step stated_limits stated_form (spec.InAcceptance (acceptance_left n p)) b t) g) (sym some) (part_agrees p inside t)
+-- one that begins no item
+pub behind_item : (k : TokenKind) (text : List ℕ) (i : ItemBefore) (v : HeaderView) (r : Result Place Stop) → (k ≡ kind.Header → ⊥) → Leads (table.go_on (before_of v) (item_of i) (read k text)) r v
+    → Takes (place.Item i) v (token_of k text) r v
+behind_item kind.Header text i v r n l = absurd (n refl)
+behind_item kind.Body text i v r n l = tt
+behind_item k text i v r n l = λ fits. l

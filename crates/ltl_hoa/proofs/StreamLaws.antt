@@ -69,8 +69,8 @@ new_after = record {
     came = came_none;
     reached = λ whole. refl;
     shows = record {
-      header = record { states = refl; few_states = omega arith; start = refl; names = refl; sets = refl };
-      place = (refl, refl, refl);
+      header = record { items = refl; few = (omega arith, omega arith) };
+      place = ((refl, refl, refl), refl, tt);
     };
   };
 }

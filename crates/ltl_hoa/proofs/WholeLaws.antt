@@ -1,6 +1,6 @@
 -- What the parser holds at the end of a text that reads as an automaton.
 use Rattle.std.proofs.Common.{◌≡◌, ℕ, suc, ◌+◌, ◌<◌, ◌≤◌, List, [], ◌∷◌, length, refl, sym, ◌∙◌, ap, subst, arith, Option, Some, None}
-use Rattle.std.specs.Prelude.{map, slice_index_or, unwrap_or, option_map, Ok}
+use Rattle.std.specs.Prelude.{map, slice_index_or, unwrap_or, Ok}
 use Rattle.std.specs.List.{range_with_len}
 use Rattle.ltl_spec.specs.Automata.Automaton.{Edge}
 use Rattle.ltl_spec.specs.Tools.Limits.{stated_limits}
@@ -10,12 +10,11 @@ use Rattle.ltl_spec.specs.Hoa.HoaPlace as spec
 use Rattle.ltl_spec.specs.Hoa.HoaPlace.{Before}
 use Rattle.ltl_spec.proofs.Hoa.HoaHeaderLaws.{whole_header}
 use Rattle.ltl_hoa.specs.declared.place.Place.TheVariants as place
-use Rattle.ltl_hoa.specs.NumberView.{capped}
 use Rattle.ltl_hoa.specs.HeaderView as header
 use Rattle.ltl_hoa.specs.HeaderView.{HeaderView, automaton_from, IsSomeMarked}
 use Rattle.ltl_hoa.specs.BodyView.{BodyView}
 use Rattle.ltl_hoa.specs.ParserView.{ParserView, IsWhole, IsWholeWith, IsAutomaton, IsAutomatonWith}
-use Rattle.ltl_hoa.specs.Shown.{Came, Shows, ShowsPlace, ShowsBody, ShowsHeader}
+use Rattle.ltl_hoa.specs.Shown.{Came, Shows, ShowsPlace, ShowsBody, ShowsHeader, capped_header}
 use Rattle.ltl_hoa.specs.declared.fault.HoaFaultKind as made
 use Rattle.ltl_spec.specs.Hoa.HoaFault.{hoa_fault}
 use Rattle.ltl_spec.specs.Hoa.HoaToken.{last_line}
@@ -50,7 +49,7 @@ listed a (x ∷ xs) d f e =
 
 at_end : (pl : spec.Place) (v : ParserView) (b : Before) (g : Came) → ShowsPlace place.End v pl b g → (body : BodyView) × (v.body ≡ Some body) × ShowsBody body spec.AtState b g
 at_end spec.AtEnd v b g s = s
-at_end _ v b g s = absurd s
+at_end pl v b g s = absurd s
 
 some_same : (m n : ℕ) → Some m ≡ Some n → m ≡ n
 some_same m n e = ap (λ o. unwrap_or o m) e
@@ -64,9 +63,10 @@ automaton_made A start sets names edges s k n c e =
 header_made : (A : MarkedAutomaton) (v : HeaderView) (h : spec.HoaHeader) (b : BodyView) (before : Before) (g : Came) → ShowsHeader v h → h ≡ whole_header A → A.start < A.states → A.states ≤ stated_limits.hoa_states
     → length b.edges ≡ A.states → b.edges ≡ A.edges → header.IsAutomaton v b.edges A
 header_made A v h b before g s e l m c q =
-    automaton_made A v.start v.sets v.names b.edges
-    (s.start ∙ ap (λ x. option_map capped x.start) e ∙ ap Some (capped_small A.start (small A.start A.states l m)))
-    (s.sets ∙ ap (λ x. x.sets) e) (s.names ∙ ap (λ x. x.names) e) c q
+    let items = s.items ∙ ap capped_header e in
+    automaton_made A v.items.start v.items.sets v.items.names b.edges
+    (ap (λ x. x.start) items ∙ ap Some (capped_small A.start (small A.start A.states l m)))
+    (ap (λ x. x.sets) items) (ap (λ x. x.names) items) c q
   where
     small : (m n : ℕ) → m < n → n ≤ stated_limits.hoa_states → m ≤ 4_294_967_295
     small m n l k = omega (arith, l, k)

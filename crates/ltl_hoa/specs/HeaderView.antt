@@ -1,12 +1,14 @@
--- The header so far, and what a token makes of it.
-use Rattle.std.specs.Prelude.{◌≡◌, ℕ, ◌+◌, ◌-◌, ◌≤◌, Bool, not, ◌||◌, ◌==◌, nat_lt, if◌then◌else◌, List, [], ◌∷◌, ◌++◌, length, Option, Some, None, is_some, unwrap_or, Result, Ok, Err, codes, ⊤}
-use Rattle.std.specs.List.{list_any}
+-- The header so far as a state of the definition, and what the definition's step makes of it.
+use Rattle.std.specs.Prelude.{◌≡◌, ℕ, ◌+◌, ◌-◌, ◌<◌, ◌≤◌, true, List, [], ◌∷◌, ◌++◌, length, flat_map, Option, Some, None, is_some, option_map, unwrap_or, Result, Ok, Err, codes, ⊤}
+use Rattle.std.specs.List.{range_with_len}
 use Rattle.ltl_spec.specs.Semantics.Word.{Name}
-use Rattle.ltl_spec.specs.Formulas.Tokens.{same_name}
-use Rattle.ltl_spec.specs.Formulas.Names.{is_proposition}
 use Rattle.ltl_spec.specs.Tools.Limits.{stated_limits}
-use Rattle.ltl_spec.specs.Hoa.HoaToken.{HoaToken, StringToken, Identifier, Header, Int, AndSign, OpenBracket, CloseBracket}
-use Rattle.ltl_spec.specs.Hoa.HoaFaultKind.{HoaFaultKind, NotHoaVersion1, BadToken, ItemTwice, ItemMissing, UnknownItem, Unsupported, NumberOutOfRange, BadPropositionList, TextAfterEnd, LimitPassed}
+use Rattle.ltl_spec.specs.Hoa.HoaToken as token
+use Rattle.ltl_spec.specs.Hoa.HoaToken.{HoaToken, Identifier, Int, AndSign, OpenBracket, CloseBracket}
+use Rattle.ltl_spec.specs.Hoa.HoaFaultKind.{HoaFaultKind}
+use Rattle.ltl_spec.specs.Hoa.HoaPlace as spec
+use Rattle.ltl_spec.specs.Hoa.HoaPlace.{HoaHeader, Before, no_header, before_all}
+use Rattle.ltl_spec.specs.Hoa.HoaStep.{Step, step, begin_body, with_names, expect}
 use Rattle.ltl_hoa.specs.declared.fault.HoaFaultKind as made
 use Rattle.ltl_hoa.specs.declared.fault.Stop.{Stop}
 use Rattle.ltl_hoa.specs.declared.fault.Stop.TheVariants.{Fault, OutOfMemory}
@@ -17,135 +19,131 @@ use Rattle.ltl_hoa.specs.declared.place.Place.TheVariants.{Format, Version, Item
 use Rattle.ltl_hoa.specs.declared.place.ItemBefore.{ItemBefore}
 use Rattle.ltl_hoa.specs.declared.place.ItemBefore.TheVariants as before
 use Rattle.ltl_hoa.specs.declared.place.AcceptancePart.{AcceptancePart}
-use Rattle.ltl_hoa.specs.declared.place.AcceptancePart.TheVariants.{True, Inf, Open, Number, Close, And}
+use Rattle.ltl_hoa.specs.declared.place.AcceptancePart.TheVariants as part
+use Rattle.ltl_hoa.specs.declared.token.TokenKind.{TokenKind}
 use Rattle.ltl_spec.specs.Automata.Automaton.{Edge}
-use Rattle.ltl_spec.specs.Hoa.HoaReading.{MarkedAutomaton, begins_upper, is_plain}
-use Rattle.ltl_spec.specs.Hoa.HoaStep.{unless_broken}
+use Rattle.ltl_spec.specs.Hoa.HoaReading.{MarkedAutomaton, stated_form, set_tokens}
 use Rattle.ltl_hoa.specs.MarkedView.{IsMarked}
-use Rattle.ltl_hoa.specs.NumberView.{capped}
-use Rattle.ltl_hoa.specs.TokenView.{kind_of}
+use Rattle.ltl_hoa.specs.NumberView.{capped_token}
+use Rattle.ltl_hoa.specs.TokenView.{token_of, kind_of}
 
+-- the items that have stood, a start as it is read, and how many names have still to come
 pub record HeaderView : Type 0 where
-  pub states : Option ℕ
-  pub start : Option ℕ
-  pub names : Option (List Name)
-  -- how many names have still to come
+  pub items : HoaHeader
   pub left : ℕ
-  pub sets : Option ℕ
 
 -- the counts stay within their limits
 pub record IsHeader (h : HeaderView) : Type 0 where
-  pub names : length (unwrap_or h.names []) + h.left ≤ stated_limits.propositions
-  pub sets : unwrap_or h.sets 0 ≤ MOST_SETS
+  pub names : length (unwrap_or h.items.names []) + h.left ≤ stated_limits.propositions
+  pub sets : unwrap_or h.items.sets 0 ≤ MOST_SETS
 
-abbrev pub no_header : HeaderView
-no_header = record { states = None; start = None; names = None; left = 0; sets = None }
+abbrev pub new_header : HeaderView
+new_header = record { items = no_header; left = 0 }
 
--- the next place and the header behind the token, or the kind of the fault
-abbrev pub Led : Type 0
-Led = Result (Place × HeaderView) HoaFaultKind
+-- ---- places of the definition
+
+abbrev pub item_of : ItemBefore → spec.ItemBefore
+item_of before.Plain = spec.PlainItem
+item_of before.StartNumber = spec.StartNumber
+item_of before.ListedNames = spec.ListedNames
+item_of before.Acceptance = spec.Acceptance
+item_of before.Other = spec.OtherItem
+
+-- the sets of n from one on, each behind `&`
+abbrev pub later_sets : ℕ → ℕ → List HoaToken
+later_sets n k = flat_map (λ j. AndSign ∷ set_tokens j) (range_with_len k (n - k))
+
+-- the tokens of the acceptance condition of n sets from a part on
+abbrev pub acceptance_left : ℕ → AcceptancePart → List HoaToken
+acceptance_left n part.True = Identifier (codes "t") ∷ []
+acceptance_left n (part.Inf k) = set_tokens k ++ later_sets n (k + 1)
+acceptance_left n (part.Open k) = OpenBracket ∷ Int k ∷ CloseBracket ∷ later_sets n (k + 1)
+acceptance_left n (part.Number k) = Int k ∷ CloseBracket ∷ later_sets n (k + 1)
+acceptance_left n (part.Close k) = CloseBracket ∷ later_sets n (k + 1)
+acceptance_left n (part.And k) = AndSign ∷ set_tokens k ++ later_sets n (k + 1)
+
+-- the part is of one of n sets
+abbrev pub IsPartOf : ℕ → AcceptancePart → Type 0
+IsPartOf n part.True = ⊤
+IsPartOf n (part.Inf k) = k < n
+IsPartOf n (part.Open k) = k < n
+IsPartOf n (part.Number k) = k < n
+IsPartOf n (part.Close k) = k < n
+IsPartOf n (part.And k) = k < n
+
+-- the header's place in the definition. Behind the header there is none
+abbrev pub place_of : Place → HeaderView → spec.Place
+place_of Format v = spec.AtFormat
+place_of Version v = spec.AtVersion
+place_of (Item item) v = spec.AtItem (item_of item)
+place_of States v = spec.AtStates
+place_of Start v = spec.AtStart
+place_of Count v = spec.AtCount
+place_of Names v = spec.AtNames v.left
+place_of Sets v = spec.AtSets
+place_of (Acceptance part) v = spec.InAcceptance (acceptance_left (unwrap_or v.items.sets 0) part)
+place_of _ v = spec.AtEnd
+
+abbrev pub Fits : Place → HeaderView → Type 0
+Fits Names v = (is_some v.items.names ≡ true) × (0 < v.left)
+Fits (Acceptance part) v = IsPartOf (unwrap_or v.items.sets 0) part
+Fits (Body place) v = ⊥
+Fits End v = ⊥
+Fits _ v = ⊤
+
+-- the definition's state, but for its place: no state of the automaton has stood
+abbrev pub before_of : HeaderView → Before
+before_of v = record before_all { header = v.items }
+
+-- ---- steps of the definition
+
+-- a token with its number as it is read
+abbrev pub read : TokenKind → List ℕ → HoaToken
+read kind text = capped_token (token_of kind text)
+
+-- its step there
+abbrev pub stepped : Place → HeaderView → HoaToken → Step
+stepped place v t = step stated_limits stated_form (place_of place v) (before_of v) (capped_token t)
 
 -- the fault is of that kind, or memory was refused
 abbrev pub Refuses : HoaFaultKind → Stop → Type 0
 Refuses kind (Fault k) = kind_of k ≡ kind
 Refuses kind OutOfMemory = ⊤
 
-abbrev pub Leads : Led → Result Place Stop → HeaderView → Type 0
-Leads (Ok p) (Ok place) new = (place ≡ p.0) × (new ≡ p.1)
-Leads (Ok p) (Err stop) new = stop ≡ OutOfMemory
+-- the place and the header show what the step came to
+abbrev pub Leads : Step → Result Place Stop → HeaderView → Type 0
+Leads (Ok b) (Ok place) new = (b ≡ record (before_of new) { place = place_of place new }) × Fits place new
+Leads (Ok b) (Err stop) new = stop ≡ OutOfMemory
 Leads (Err kind) (Ok place) new = ⊥
 Leads (Err kind) (Err stop) new = Refuses kind stop
 
-abbrev pub once : HeaderView → Bool → Place → Led
-once v stood place = if stood then Err ItemTwice else Ok (place, v)
+-- a token at a place of the header, but for `--BODY--` where an item may begin
+abbrev pub Takes : Place → HeaderView → HoaToken → Result Place Stop → HeaderView → Type 0
+Takes (Item item) v token.Body r new = ⊤
+Takes place v t r new = Fits place v → Leads (stepped place v t) r new
 
-abbrev pub begin_item : HeaderView → List ℕ → Led
-begin_item v name =
-    if same_name name (codes "HOA") then Err ItemTwice else
-    if same_name name (codes "States") then once v (is_some v.states) States else
-    if same_name name (codes "Start") then once v (is_some v.start) Start else
-    if same_name name (codes "AP") then once v (is_some v.names) Count else
-    if same_name name (codes "Acceptance") then once v (is_some v.sets) Sets else
-    if same_name name (codes "Alias") then Err Unsupported else
-    if begins_upper name then Err UnknownItem else Ok (Item before.Other, v)
+-- where the next name stands, if there is one
+abbrev pub IsBehindNames : HeaderView → Place → Type 0
+IsBehindNames v place = (names : List Name) → v.items.names ≡ Some names → Leads (with_names (before_of v) names v.left) (Ok place) v
 
-abbrev pub go_on : ItemBefore → HeaderView → HoaToken → Led
-go_on before.Plain v t = Err BadToken
-go_on before.StartNumber v AndSign = Err Unsupported
-go_on before.StartNumber v _ = Err BadToken
-go_on before.ListedNames v (StringToken s) = Err BadPropositionList
-go_on before.ListedNames v _ = Err BadToken
-go_on before.Acceptance v t = Err (unless_broken t Unsupported)
-go_on before.Other v t = if is_plain t then Ok (Item before.Other, v) else Err BadToken
+-- where the set behind this one stands, if there is one
+abbrev pub IsBehindSet : ℕ → HeaderView → Place → Type 0
+IsBehindSet k v place = Leads (expect (before_of v) (later_sets (unwrap_or v.items.sets 0) (k + 1))) (Ok place) v
 
-abbrev pub after_name : ℕ → Place
-after_name left = if left == 0 then Item before.ListedNames else Names
+-- what is counted
+abbrev pub AreCounts : Counts → HoaHeader → Type 0
+AreCounts c h = (h.states ≡ Some c.states) × (option_map length h.names ≡ Some c.names) × (h.sets ≡ Some c.sets)
 
-abbrev pub add_to : HeaderView → Option (List Name) → Name → Led
-add_to v None name = Err BadPropositionList
-add_to v (Some names) name =
-    if not (is_proposition name) || list_any (same_name name) names || v.left == 0 then Err BadPropositionList else
-    Ok (after_name (v.left - 1), record v { names = Some (names ++ name ∷ []); left = v.left - 1 })
+-- `--BODY--` may stand there, or is the fault
+abbrev pub Counted : Step → HoaHeader → Result Counts made.HoaFaultKind → Type 0
+Counted (Ok b) h (Ok c) = AreCounts c h
+Counted (Ok b) h (Err k) = ⊥
+Counted (Err kind) h (Ok c) = ⊥
+Counted (Err kind) h (Err k) = kind_of k ≡ kind
 
-abbrev pub add_name : HeaderView → Name → Led
-add_name v name = add_to v v.names name
-
-abbrev pub first_part : ℕ → AcceptancePart
-first_part n = if n == 0 then True else Inf 0
-
--- where the next one of n sets stands, if there is one
-abbrev pub behind_set : ℕ → ℕ → Place
-behind_set n k = if nat_lt k (n - 1) then Acceptance (And (k + 1)) else Item before.Acceptance
-
--- a token of the acceptance condition of n sets
-abbrev pub part_taken : ℕ → AcceptancePart → HeaderView → HoaToken → Led
-part_taken n True v (Identifier s) = if same_name s (codes "t") then Ok (Item before.Acceptance, v) else Err Unsupported
-part_taken n (Inf k) v (Identifier s) = if same_name s (codes "Inf") then Ok (Acceptance (Open k), v) else Err Unsupported
-part_taken n (Open k) v OpenBracket = Ok (Acceptance (Number k), v)
-part_taken n (Number k) v (Int m) = if capped m == k then Ok (Acceptance (Close k), v) else Err Unsupported
-part_taken n (Close k) v CloseBracket = Ok (behind_set n k, v)
-part_taken n (And k) v AndSign = Ok (Acceptance (Inf k), v)
-part_taken n part v t = Err (unless_broken t Unsupported)
-
--- a token at its place, but for `--BODY--` where an item may begin
-abbrev pub take : Place → HeaderView → HoaToken → Led
-take Format v (Header name) = if same_name name (codes "HOA") then Ok (Version, v) else Err NotHoaVersion1
-take Format v _ = Err NotHoaVersion1
-take Version v (Identifier name) = if same_name name (codes "v1") then Ok (Item before.Plain, v) else Err NotHoaVersion1
-take Version v _ = Err NotHoaVersion1
-take (Item item) v (Header name) = begin_item v name
-take (Item item) v t = go_on item v t
-take States v (Int n) = if nat_lt stated_limits.hoa_states (capped n) then Err LimitPassed else Ok (Item before.Plain, record v { states = Some (capped n) })
-take States v _ = Err BadToken
-take Start v (Int n) = Ok (Item before.StartNumber, record v { start = Some (capped n) })
-take Start v _ = Err BadToken
-take Count v (Int n) = if nat_lt stated_limits.propositions (capped n) then Err LimitPassed else Ok (after_name (capped n), record v { names = Some []; left = capped n })
-take Count v _ = Err BadToken
-take Names v (StringToken name) = add_name v name
-take Names v t = Err (unless_broken t BadPropositionList)
-take Sets v (Int n) = if nat_lt MOST_SETS (capped n) then Err LimitPassed else Ok (Acceptance (first_part (capped n)), record v { sets = Some (capped n) })
-take Sets v t = Err (unless_broken t Unsupported)
-take (Acceptance part) v t = part_taken (unwrap_or v.sets 0) part v t
-take (Body place) v t = Err BadToken
-take End v t = Err TextAfterEnd
-
--- what is counted, where nothing is missing and the start is a state
-abbrev pub counted : Option ℕ → Option ℕ → Option (List Name) → Option ℕ → Result Counts HoaFaultKind
-counted (Some states) (Some start) (Some names) (Some sets) =
-    if nat_lt start states then Ok (record { states = states; names = length names; sets = sets }) else Err NumberOutOfRange
-counted _ _ _ _ = Err ItemMissing
-
-abbrev pub counts_of : HeaderView → Result Counts HoaFaultKind
-counts_of v = counted v.states v.start v.names v.sets
-
-abbrev pub AreCounts : Result Counts HoaFaultKind → Result Counts made.HoaFaultKind → Type 0
-AreCounts (Ok c) (Ok d) = d ≡ c
-AreCounts (Ok c) (Err kind) = ⊥
-AreCounts (Err kind) (Ok d) = ⊥
-AreCounts (Err kind) (Err k) = kind_of k ≡ kind
-
-abbrev pub CountsAre : HeaderView → Result Counts made.HoaFaultKind → Type 0
-CountsAre v r = AreCounts (counts_of v) r
+-- the definition's step at `--BODY--`
+abbrev pub body_begun : HeaderView → Step
+body_begun v = begin_body (before_of v) v.items
 
 -- the header and these edges, by state
 abbrev pub automaton_from : Option ℕ → Option ℕ → Option (List Name) → List (List Edge) → Option MarkedAutomaton
@@ -157,7 +155,7 @@ IsSomeMarked (Some A) = IsMarked A
 IsSomeMarked None = ⊥
 
 abbrev pub automaton_of : HeaderView → List (List Edge) → Option MarkedAutomaton
-automaton_of h edges = automaton_from h.start h.sets h.names edges
+automaton_of h edges = automaton_from h.items.start h.items.sets h.items.names edges
 
 -- they are an automaton
 abbrev pub IsWhole : HeaderView → List (List Edge) → Type 0

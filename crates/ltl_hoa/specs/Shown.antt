@@ -1,33 +1,27 @@
 -- How the parser's state shows that of the definition.
-use Rattle.std.specs.Prelude.{◌≡◌, ℕ, zero, suc, ◌+◌, ◌-◌, ◌<◌, ◌≤◌, Bool, true, false, not, ◌==◌, nat_lt, if◌then◌else◌, List, [], ◌∷◌, ◌++◌, length, map, flat_map, slice_index_or, Option, Some, None, option_map, unwrap_or, codes, ⊤}
+use Rattle.std.specs.Prelude.{◌≡◌, ℕ, zero, suc, ◌<◌, ◌≤◌, Bool, true, false, not, ◌==◌, nat_lt, if◌then◌else◌, List, [], ◌∷◌, ◌++◌, length, map, slice_index_or, Option, Some, None, option_map, unwrap_or, ⊤}
 use Rattle.std.specs.Bool.{beq}
-use Rattle.std.specs.List.{list_any, range_with_len}
+use Rattle.std.specs.List.{list_any}
 use Rattle.std.specs.Ordering.{nat_cmp}
 use Rattle.ltl_spec.specs.Collections.Sets.{set_of}
-use Rattle.ltl_spec.specs.Semantics.Word.{Name}
 use Rattle.ltl_spec.specs.NormalForms.Normal.{Normal}
 use Rattle.ltl_spec.specs.NormalForms.NormalForm.{normal_form, postorder}
 use Rattle.ltl_spec.specs.Transitions.Cubes.{Cube}
 use Rattle.ltl_spec.specs.Automata.Automaton.{Edge}
 use Rattle.ltl_spec.specs.Tools.Limits.{stated_limits}
-use Rattle.ltl_spec.specs.Hoa.HoaToken.{HoaToken, Identifier, Int, AndSign, OpenBracket, CloseBracket, CloseLabel}
-use Rattle.ltl_spec.specs.Hoa.HoaReading.{set_tokens}
+use Rattle.ltl_spec.specs.Hoa.HoaToken.{HoaToken, Int, CloseLabel}
 use Rattle.ltl_spec.specs.Hoa.HoaLabel.{Label, label_formula, cubes, label_cubes}
 use Rattle.ltl_spec.specs.Hoa.HoaPlace as spec
 use Rattle.ltl_spec.specs.Hoa.HoaPlace.{Before, HoaHeader, LabelPart, LabelParts, whole}
 use Rattle.ltl_hoa.specs.declared.marked.TheConstants.{MOST_SETS}
 use Rattle.ltl_hoa.specs.declared.place.Place.{Place}
 use Rattle.ltl_hoa.specs.declared.place.Place.TheVariants as place
-use Rattle.ltl_hoa.specs.declared.place.ItemBefore.{ItemBefore}
-use Rattle.ltl_hoa.specs.declared.place.ItemBefore.TheVariants as item
-use Rattle.ltl_hoa.specs.declared.place.AcceptancePart.{AcceptancePart}
-use Rattle.ltl_hoa.specs.declared.place.AcceptancePart.TheVariants as part
 use Rattle.ltl_hoa.specs.declared.place.BodyPlace.{BodyPlace}
 use Rattle.ltl_hoa.specs.declared.place.BodyPlace.TheVariants as at
 use Rattle.ltl_hoa.specs.declared.header.Counts.{Counts}
 use Rattle.ltl_hoa.specs.NumberView.{capped}
 use Rattle.ltl_label.specs.LabelView.{LabelView, PartView}
-use Rattle.ltl_hoa.specs.HeaderView.{HeaderView}
+use Rattle.ltl_hoa.specs.HeaderView.{HeaderView, place_of, Fits}
 use Rattle.ltl_hoa.specs.BodyView.{BodyView}
 use Rattle.ltl_hoa.specs.ParserView.{ParserView}
 
@@ -111,36 +105,6 @@ edges_of k (e ∷ es) = edges_of k es ++ (if e.state == k then cube_edges e else
 
 -- ---- places
 
-abbrev pub ShowsItem : ItemBefore → spec.ItemBefore → Type 0
-ShowsItem item.Plain spec.PlainItem = ⊤
-ShowsItem item.StartNumber spec.StartNumber = ⊤
-ShowsItem item.ListedNames spec.ListedNames = ⊤
-ShowsItem item.Acceptance spec.Acceptance = ⊤
-ShowsItem item.Other spec.OtherItem = ⊤
-ShowsItem _ _ = ⊥
-
--- the sets of n from one on, each behind `&`
-abbrev pub later_sets : ℕ → ℕ → List HoaToken
-later_sets n k = flat_map (λ j. AndSign ∷ set_tokens j) (range_with_len k (n - k))
-
--- the tokens of the acceptance condition of n sets from a part on
-abbrev pub acceptance_left : ℕ → AcceptancePart → List HoaToken
-acceptance_left n part.True = Identifier (codes "t") ∷ []
-acceptance_left n (part.Inf k) = set_tokens k ++ later_sets n (k + 1)
-acceptance_left n (part.Open k) = OpenBracket ∷ Int k ∷ CloseBracket ∷ later_sets n (k + 1)
-acceptance_left n (part.Number k) = Int k ∷ CloseBracket ∷ later_sets n (k + 1)
-acceptance_left n (part.Close k) = CloseBracket ∷ later_sets n (k + 1)
-acceptance_left n (part.And k) = AndSign ∷ set_tokens k ++ later_sets n (k + 1)
-
--- the part is of one of n sets
-abbrev pub IsPartOf : ℕ → AcceptancePart → Type 0
-IsPartOf n part.True = n ≡ 0
-IsPartOf n (part.Inf k) = k < n
-IsPartOf n (part.Open k) = k < n
-IsPartOf n (part.Number k) = k < n
-IsPartOf n (part.Close k) = k < n
-IsPartOf n (part.And k) = k < n
-
 abbrev pub ShowsBodyPlace : BodyPlace → BodyView → spec.BodyPlace → Type 0
 ShowsBodyPlace at.State b spec.AtState = ⊤
 ShowsBodyPlace at.Number b spec.AtNumber = ⊤
@@ -204,12 +168,16 @@ ShowsBody v place b g = IsShown v (is_open place) b.header b.numbers b.edges g
 
 -- ---- the header
 
+abbrev pub capped_header : HoaHeader → HoaHeader
+capped_header h = record h { start = option_map capped h.start }
+
+-- the counts stay within their limits
+abbrev pub IsFew : HoaHeader → Type 0
+IsFew h = (unwrap_or h.states 0 ≤ stated_limits.hoa_states) × (unwrap_or h.sets 0 ≤ MOST_SETS)
+
 pub record ShowsHeader (v : HeaderView) (h : HoaHeader) : Type 0 where
-  pub states : v.states ≡ h.states
-  pub few_states : unwrap_or h.states 0 ≤ stated_limits.hoa_states
-  pub start : v.start ≡ option_map capped h.start
-  pub names : v.names ≡ h.names
-  pub sets : v.sets ≡ h.sets
+  pub items : v.items ≡ capped_header h
+  pub few : IsFew h
 
 -- ---- all
 
@@ -218,18 +186,11 @@ abbrev pub IsBegun : Before → Came → Type 0
 IsBegun b g = (b.numbers ≡ []) × (b.edges ≡ 0) × (g ≡ came_none)
 
 abbrev pub ShowsPlace : Place → ParserView → spec.Place → Before → Came → Type 0
-ShowsPlace place.Format v spec.AtFormat b g = IsBegun b g
-ShowsPlace place.Version v spec.AtVersion b g = IsBegun b g
-ShowsPlace (place.Item i) v (spec.AtItem j) b g = IsBegun b g × ShowsItem i j
-ShowsPlace place.States v spec.AtStates b g = IsBegun b g
-ShowsPlace place.Start v spec.AtStart b g = IsBegun b g
-ShowsPlace place.Count v spec.AtCount b g = IsBegun b g
-ShowsPlace place.Names v (spec.AtNames left) b g = IsBegun b g × (v.header.left ≡ left) × ((left == 0) ≡ false) × ((ns : List Name) × (v.header.names ≡ Some ns))
-ShowsPlace place.Sets v spec.AtSets b g = IsBegun b g
-ShowsPlace (place.Acceptance p) v (spec.InAcceptance ts) b g = IsBegun b g × ((n : ℕ) × (v.header.sets ≡ Some n) × (n ≤ MOST_SETS) × IsPartOf n p × (ts ≡ acceptance_left n p))
 ShowsPlace (place.Body p) v (spec.InBody q) b g = (body : BodyView) × (v.body ≡ Some body) × ShowsBodyPlace p body q × ShowsBody body q b g
+ShowsPlace (place.Body p) v _ b g = ⊥
 ShowsPlace place.End v spec.AtEnd b g = (body : BodyView) × (v.body ≡ Some body) × ShowsBody body spec.AtState b g
-ShowsPlace _ v _ b g = ⊥
+ShowsPlace place.End v _ b g = ⊥
+ShowsPlace p v q b g = IsBegun b g × (place_of p v.header ≡ q) × Fits p v.header
 
 -- the parser's state shows that of the definition, and what came of the body
 pub record Shows (v : ParserView) (b : Before) (g : Came) : Type 0 where

@@ -1,18 +1,10 @@
 //! Classes of bytes, signs and marks.
 
 ghost use Rattle.std.specs.Prelude.{◌≡◌};
-ghost use Rattle.ltl_spec.specs.Formulas.Tokens as tokens;
 ghost use Rattle.ltl_spec.specs.Hoa.HoaToken as hoa;
 ghost use Rattle.ltl_hoa.specs.TokenView.{begins_mark, mark_kind, sign_kind};
 
 use crate::token::TokenKind;
-
-/// Space, tab, CR and LF.
-pub(crate) fn is_blank(byte: u8) -> bool
-    ensures { result ≡ tokens.is_blank byte }
-{
-    matches!(byte, b' ' | b'\t' | b'\r' | b'\n')
-}
 
 pub(crate) fn is_digit(byte: u8) -> bool
     ensures { result ≡ hoa.is_digit byte }

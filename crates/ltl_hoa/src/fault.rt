@@ -4,7 +4,7 @@ ghost use Rattle.std.specs.Prelude.{◌≡◌};
 ghost use Rattle.ltl_hoa.specs.declared.fault.HoaFault.TheVariants as hoa;
 ghost use Rattle.ltl_hoa.specs.declared.fault.Stop.TheVariants as stop;
 
-use std::alloc::{AllocError, AllocFailed};
+use std::alloc::AllocError;
 use thiserror::Error;
 
 /// Why a text is no automaton.
@@ -73,14 +73,6 @@ impl From<AllocError> for Stop {
     ghost from_gives = { λ _ e. e ≡ stop.OutOfMemory };
 
     fn from(_error: AllocError) -> Stop {
-        Stop::OutOfMemory
-    }
-}
-
-impl<T: Drop> From<AllocFailed<T>> for Stop {
-    ghost from_gives = { λ _ e. e ≡ stop.OutOfMemory };
-
-    fn from(_error: AllocFailed<T>) -> Stop {
         Stop::OutOfMemory
     }
 }

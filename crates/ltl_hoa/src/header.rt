@@ -1,20 +1,23 @@
 //! The header: its items in any order.
 
-ghost use Rattle.std.specs.Prelude.{◌≡◌, ◌<◌, ◌≤◌, List, ℕ, map, IfOk};
+ghost use Rattle.std.specs.Prelude.{◌≡◌, ◌<◌, ◌≤◌, List, ℕ, map, drop, IfOk};
 ghost use Rattle.ltl_hoa.specs.MarkedView.{edge_of};
-ghost use Rattle.ltl_spec.specs.Formulas.Names as spec_names;
 ghost use Rattle.ltl_hoa.specs.TokenView.{token_of, kind_of};
 ghost use Rattle.ltl_spec.specs.Hoa.HoaReading as reading;
 ghost use Rattle.ltl_spec.specs.Hoa.HoaStep as table;
 ghost use Rattle.ltl_hoa.specs.HeaderView as view;
-ghost use Rattle.ltl_hoa.specs.HeaderView.{Leads, CountsAre};
+ghost use Rattle.ltl_hoa.specs.HeaderView.{Leads, IsPartOf, acceptance_left, before_of, item_of, place_of};
+ghost use Rattle.ltl_spec.specs.Hoa.HoaPlace.{Before, InAcceptance};
+ghost use Rattle.ltl_spec.specs.Hoa.HoaReading.{acceptance_tokens};
+ghost use Rattle.ltl_spec.specs.Hoa.HoaToken.{StringToken};
 
 use crate::fault::{HoaFaultKind, Stop};
 use crate::marked::{MOST_NAMES, MOST_SETS, MOST_STATES, Marked, MarkedEdge};
-use crate::names::{is_listed, is_proposition, list_name};
+use crate::names::{is_listed, list_name};
 use crate::number::number;
 use crate::place::{AcceptancePart, ItemBefore, Place};
 use crate::token::TokenKind;
+use ltl_names::is_proposition;
 use std::alloc::Allocator;
 use std::marker::Model;
 
@@ -45,25 +48,19 @@ impl<'a, A: Allocator> Model for Header<'a, A> {
     ghost Value = { HeaderView };
 
     ghost view = { λ h. record {
-      states = h.states;
-      start = h.start;
-      names = option_map (λ v. map string_bytes v.items) h.names;
+      items = record { states = h.states; start = h.start; names = option_map (λ v. map string_bytes v.items) h.names; sets = h.sets };
       left = h.left;
-      sets = h.sets;
     } };
 
     ghost invariant = { λ h. IsHeader (record {
-      states = h.states;
-      start = h.start;
-      names = option_map (λ v. map string_bytes v.items) h.names;
+      items = record { states = h.states; start = h.start; names = option_map (λ v. map string_bytes v.items) h.names; sets = h.sets };
       left = h.left;
-      sets = h.sets;
     }) };
 }
 
 /// The fault, but a bad token where none begins or one has no end.
 fn unless_broken(kind: TokenKind, fault: HoaFaultKind) -> HoaFaultKind
-    ensures { (text : List ℕ) → kind_of result ≡ table.unless_broken (token_of kind text) (kind_of fault) }
+    ensures { (text : List ℕ) → kind_of result ≡ table.unless_broken (view.read kind text) (kind_of fault) }
 {
     match kind {
         TokenKind::Unknown | TokenKind::UnclosedText | TokenKind::UnclosedComment => {
@@ -85,7 +82,7 @@ fn begins_upper(name: &[u8]) -> bool
 
 /// Begins an item that may stand once.
 fn once(stood: bool, place: Place) -> Result<Place, Stop>
-    ensures { (v : view.HeaderView) → Leads (view.once v stood place) result v }
+    ensures { (v : view.HeaderView) → view.Fits place v → Leads (table.begin_once (before_of v) stood (place_of place v)) result v }
 {
     if stood {
         Err(Stop::Fault(HoaFaultKind::ItemTwice))
@@ -96,7 +93,7 @@ fn once(stood: bool, place: Place) -> Result<Place, Stop>
 
 /// Takes a token that begins no item, behind one.
 fn go_on(before: ItemBefore, kind: TokenKind) -> Result<Place, Stop>
-    ensures { (v : view.HeaderView) (text : List ℕ) → Leads (view.go_on before v (token_of kind text)) result v }
+    ensures { (v : view.HeaderView) (text : List ℕ) → Leads (table.go_on (before_of v) (item_of before) (view.read kind text)) result v }
 {
     let fault = match (before, kind) {
         (ItemBefore::Other, TokenKind::Text | TokenKind::Identifier | TokenKind::Int) => {
@@ -112,7 +109,8 @@ fn go_on(before: ItemBefore, kind: TokenKind) -> Result<Place, Stop>
 
 /// The first token behind so many sets' number.
 fn first_part(sets: usize) -> AcceptancePart
-    ensures { result ≡ view.first_part sets }
+    ensures next { (b : Before) → table.expect b (drop 1 (acceptance_tokens sets)) ≡ table.go_to b (InAcceptance (acceptance_left sets result)) }
+    ensures inside { IsPartOf sets result }
 {
     if sets == 0 {
         AcceptancePart::True
@@ -121,50 +119,9 @@ fn first_part(sets: usize) -> AcceptancePart
     }
 }
 
-/// Where the next one of so many sets stands, if there is one.
-fn behind_set(sets: usize, set: usize) -> Place
-    ensures { result ≡ view.behind_set sets set }
-{
-    if set < sets.saturating_sub(1) {
-        Place::Acceptance(AcceptancePart::And(set + 1))
-    } else {
-        Place::Item(ItemBefore::Acceptance)
-    }
-}
-
-/// Takes a token of the acceptance condition of so many sets.
-fn in_acceptance(
-    sets: usize,
-    part: AcceptancePart,
-    kind: TokenKind,
-    text: &[u8],
-) -> Result<Place, Stop>
-    ensures { (v : view.HeaderView) → Leads (view.part_taken sets part v (token_of kind text.now)) result v }
-{
-    match (part, kind) {
-        (AcceptancePart::True, TokenKind::Identifier) if text == b"t".as_slice() => {
-            Ok(Place::Item(ItemBefore::Acceptance))
-        }
-        (AcceptancePart::Inf(set), TokenKind::Identifier) if text == b"Inf".as_slice() => {
-            Ok(Place::Acceptance(AcceptancePart::Open(set)))
-        }
-        (AcceptancePart::Open(set), TokenKind::OpenBracket) => {
-            Ok(Place::Acceptance(AcceptancePart::Number(set)))
-        }
-        (AcceptancePart::Number(set), TokenKind::Int) if number(text) == set => {
-            Ok(Place::Acceptance(AcceptancePart::Close(set)))
-        }
-        (AcceptancePart::Close(set), TokenKind::CloseBracket) => Ok(behind_set(sets, set)),
-        (AcceptancePart::And(set), TokenKind::AndSign) => {
-            Ok(Place::Acceptance(AcceptancePart::Inf(set)))
-        }
-        _ => Err(Stop::Fault(unless_broken(kind, HoaFaultKind::Unsupported))),
-    }
-}
-
 /// Takes the beginning of the format's name.
 fn at_format(kind: TokenKind, text: &[u8]) -> Result<Place, Stop>
-    ensures { (v : view.HeaderView) → Leads (view.take Place.Format v (token_of kind text.now)) result v }
+    ensures { (v : view.HeaderView) → Leads (view.stepped Place.Format v (token_of kind text.now)) result v }
 {
     match kind {
         TokenKind::Header if text == b"HOA".as_slice() => Ok(Place::Version),
@@ -174,7 +131,7 @@ fn at_format(kind: TokenKind, text: &[u8]) -> Result<Place, Stop>
 
 /// Takes the format's version.
 fn at_version(kind: TokenKind, text: &[u8]) -> Result<Place, Stop>
-    ensures { (v : view.HeaderView) → Leads (view.take Place.Version v (token_of kind text.now)) result v }
+    ensures { (v : view.HeaderView) → Leads (view.stepped Place.Version v (token_of kind text.now)) result v }
 {
     match kind {
         TokenKind::Identifier if text == b"v1".as_slice() => Ok(Place::Item(ItemBefore::Plain)),
@@ -184,7 +141,7 @@ fn at_version(kind: TokenKind, text: &[u8]) -> Result<Place, Stop>
 
 impl<'a, A: Allocator> Header<'a, A> {
     pub(crate) fn new(alloc: &'a A) -> Header<'a, A>
-        ensures { result ≡ view.no_header }
+        ensures { result ≡ view.new_header }
     {
         Header {
             alloc,
@@ -198,7 +155,7 @@ impl<'a, A: Allocator> Header<'a, A> {
 
     /// Takes a token at its place, but for `--BODY--` where an item may begin.
     pub(crate) fn take(&mut self, place: Place, kind: TokenKind, text: &[u8]) -> Result<Place, Stop>
-        ensures { Leads (view.take place self.old (token_of kind text.now)) result self.new }
+        ensures { view.Takes place self.old (token_of kind text.now) result self.new }
     {
         match place {
             Place::Format => at_format(kind, text),
@@ -209,23 +166,22 @@ impl<'a, A: Allocator> Header<'a, A> {
             Place::Count => self.at_count(kind, text),
             Place::Names => self.at_names(kind, text),
             Place::Sets => self.at_sets(kind, text),
-            Place::Acceptance(part) => in_acceptance(self.sets.unwrap_or(0), part, kind, text),
-            Place::Body(_) => Err(Stop::Fault(HoaFaultKind::BadToken)),
-            Place::End => Err(Stop::Fault(HoaFaultKind::TextAfterEnd)),
+            Place::Acceptance(part) => self.in_acceptance(part, kind, text),
+            Place::Body(_) | Place::End => Err(Stop::Fault(HoaFaultKind::BadToken)),
         }
     }
 
     fn at_item(&self, before: ItemBefore, kind: TokenKind, text: &[u8]) -> Result<Place, Stop>
-        ensures { Leads (view.take (Place.Item before) self.now (token_of kind text.now)) result self.now }
+        ensures { view.Takes (Place.Item before) self.now (token_of kind text.now) result self.now }
     {
         match kind {
             TokenKind::Header => self.begin_item(text),
-            kind => go_on(before, kind),
+            _ => go_on(before, kind),
         }
     }
 
     fn begin_item(&self, name: &[u8]) -> Result<Place, Stop>
-        ensures { Leads (view.begin_item self.now name.now) result self.now }
+        ensures { Leads (table.begin_item (before_of self.now) name.now) result self.now }
     {
         if name == b"HOA".as_slice() {
             Err(Stop::Fault(HoaFaultKind::ItemTwice))
@@ -247,7 +203,7 @@ impl<'a, A: Allocator> Header<'a, A> {
     }
 
     fn at_states(&mut self, kind: TokenKind, text: &[u8]) -> Result<Place, Stop>
-        ensures { Leads (view.take Place.States self.old (token_of kind text.now)) result self.new }
+        ensures { Leads (view.stepped Place.States self.old (token_of kind text.now)) result self.new }
     {
         if !matches!(kind, TokenKind::Int) {
             return Err(Stop::Fault(HoaFaultKind::BadToken));
@@ -261,7 +217,7 @@ impl<'a, A: Allocator> Header<'a, A> {
     }
 
     fn at_start(&mut self, kind: TokenKind, text: &[u8]) -> Result<Place, Stop>
-        ensures { Leads (view.take Place.Start self.old (token_of kind text.now)) result self.new }
+        ensures { Leads (view.stepped Place.Start self.old (token_of kind text.now)) result self.new }
     {
         if !matches!(kind, TokenKind::Int) {
             return Err(Stop::Fault(HoaFaultKind::BadToken));
@@ -271,7 +227,7 @@ impl<'a, A: Allocator> Header<'a, A> {
     }
 
     fn at_count(&mut self, kind: TokenKind, text: &[u8]) -> Result<Place, Stop>
-        ensures { Leads (view.take Place.Count self.old (token_of kind text.now)) result self.new }
+        ensures { Leads (view.stepped Place.Count self.old (token_of kind text.now)) result self.new }
     {
         if !matches!(kind, TokenKind::Int) {
             return Err(Stop::Fault(HoaFaultKind::BadToken));
@@ -287,7 +243,7 @@ impl<'a, A: Allocator> Header<'a, A> {
 
     /// Where the next name stands, if there is one.
     fn after_name(&self) -> Place
-        ensures { result ≡ view.after_name self.now.left }
+        ensures { view.IsBehindNames self.now result }
     {
         if self.left == 0 {
             Place::Item(ItemBefore::ListedNames)
@@ -297,7 +253,7 @@ impl<'a, A: Allocator> Header<'a, A> {
     }
 
     fn at_names(&mut self, kind: TokenKind, text: &[u8]) -> Result<Place, Stop>
-        ensures { Leads (view.take Place.Names self.old (token_of kind text.now)) result self.new }
+        ensures { view.Fits Place.Names self.old → Leads (view.stepped Place.Names self.old (token_of kind text.now)) result self.new }
     {
         match kind {
             TokenKind::Text => self.add_name(text),
@@ -306,7 +262,7 @@ impl<'a, A: Allocator> Header<'a, A> {
     }
 
     fn add_name(&mut self, name: &[u8]) -> Result<Place, Stop>
-        ensures { Leads (view.add_name self.old name.now) result self.new }
+        ensures { view.Fits Place.Names self.old → Leads (view.stepped Place.Names self.old (StringToken name.now)) result self.new }
     {
         let Some(names) = &mut self.names else {
             return Err(Stop::Fault(HoaFaultKind::BadPropositionList));
@@ -320,7 +276,7 @@ impl<'a, A: Allocator> Header<'a, A> {
     }
 
     fn at_sets(&mut self, kind: TokenKind, text: &[u8]) -> Result<Place, Stop>
-        ensures { Leads (view.take Place.Sets self.old (token_of kind text.now)) result self.new }
+        ensures { Leads (view.stepped Place.Sets self.old (token_of kind text.now)) result self.new }
     {
         if !matches!(kind, TokenKind::Int) {
             let fault = unless_broken(kind, HoaFaultKind::Unsupported);
@@ -334,9 +290,50 @@ impl<'a, A: Allocator> Header<'a, A> {
         Ok(Place::Acceptance(first_part(count)))
     }
 
+    /// Takes a token of the acceptance condition.
+    fn in_acceptance(
+        &self,
+        part: AcceptancePart,
+        kind: TokenKind,
+        text: &[u8],
+    ) -> Result<Place, Stop>
+        ensures { view.Takes (Place.Acceptance part) self.now (token_of kind text.now) result self.now }
+    {
+        match (part, kind) {
+            (AcceptancePart::True, TokenKind::Identifier) if b"t".as_slice() == text => {
+                Ok(Place::Item(ItemBefore::Acceptance))
+            }
+            (AcceptancePart::Inf(set), TokenKind::Identifier) if b"Inf".as_slice() == text => {
+                Ok(Place::Acceptance(AcceptancePart::Open(set)))
+            }
+            (AcceptancePart::Open(set), TokenKind::OpenBracket) => {
+                Ok(Place::Acceptance(AcceptancePart::Number(set)))
+            }
+            (AcceptancePart::Number(set), TokenKind::Int) if set == number(text) => {
+                Ok(Place::Acceptance(AcceptancePart::Close(set)))
+            }
+            (AcceptancePart::Close(set), TokenKind::CloseBracket) => Ok(self.behind_set(set)),
+            (AcceptancePart::And(set), TokenKind::AndSign) => {
+                Ok(Place::Acceptance(AcceptancePart::Inf(set)))
+            }
+            _ => Err(Stop::Fault(unless_broken(kind, HoaFaultKind::Unsupported))),
+        }
+    }
+
+    /// Where the next set stands, if there is one.
+    fn behind_set(&self, set: usize) -> Place
+        ensures { view.IsBehindSet set self.now result }
+    {
+        if set < self.sets.unwrap_or(0).saturating_sub(1) {
+            Place::Acceptance(AcceptancePart::And(set + 1))
+        } else {
+            Place::Item(ItemBefore::Acceptance)
+        }
+    }
+
     /// What the header counts, where nothing is missing and the start is a state.
     pub(crate) fn counts(&self) -> Result<Counts, HoaFaultKind>
-        ensures counts { CountsAre self.now result }
+        ensures counts { view.Counted (view.body_begun self.now) self.now.items result }
         ensures names { IfOk result (λ c. c.names ≤ MOST_NAMES) }
         ensures sets { IfOk result (λ c. c.sets ≤ MOST_SETS) }
         ensures some { IfOk result (λ c. 0 < c.states) }

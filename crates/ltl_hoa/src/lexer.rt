@@ -4,9 +4,10 @@ ghost use Rattle.std.specs.Prelude.{◌≡◌, ◌<◌, ◌≤◌, ◌^◌, ◌+
 ghost use Rattle.ltl_hoa.specs.LexerView.{begun, beginning, depth_of, ended_kind, last_kind, rested, taken, commented, quoted, spelled};
 
 use crate::bytes::{
-    begins_identifier, begins_mark, is_blank, is_digit, is_identifier_byte, mark_kind, sign_kind,
+    begins_identifier, begins_mark, is_digit, is_identifier_byte, mark_kind, sign_kind,
 };
 use crate::token::TokenKind;
+use ltl_names::is_blank;
 use std::alloc::{AllocError, Allocator};
 use std::marker::Model;
 

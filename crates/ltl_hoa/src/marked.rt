@@ -4,6 +4,7 @@ ghost use Rattle.std.specs.Prelude.{◌≡◌, ◌<◌, length, map, string_byte
 ghost use Rattle.ltl_spec.specs.Hoa.HoaReading as spec;
 ghost use Rattle.ltl_hoa.specs.MarkedView.{IsMarked, edge_of};
 
+use ltl_names::PROPOSITION_LIMIT;
 use ltl_sets::{Cube, RowSet};
 use std::alloc::Allocator;
 use std::marker::Model;
@@ -15,7 +16,7 @@ pub const MOST_STATES: usize = 65_536;
 pub const MOST_EDGES: usize = 1_048_576;
 
 /// The most names that an automaton may list.
-pub const MOST_NAMES: usize = 256;
+pub const MOST_NAMES: usize = PROPOSITION_LIMIT;
 
 /// The most acceptance sets that an automaton may have.
 pub const MOST_SETS: usize = 32;
@@ -131,8 +132,8 @@ impl<'a, A: Allocator> Marked<'a, A> {
         self.states[i].as_slice()
     }
 
-    /// Hands what the type holds to callers.
-    pub fn stays_within(&self)
+    /// Hands what the type promises to callers.
+    pub fn invariant(&self)
         ensures { IsMarked self.now }
     {
         let _ = &self.states;

@@ -1,42 +1,11 @@
 //! Names of propositions.
 
 ghost use Rattle.std.specs.Prelude.{◌≡◌, ◌++◌, ◌∷◌, [], map, string_bytes, true, OnOk, OnErr};
-ghost use Rattle.std.specs.List.{list_all, list_any};
+ghost use Rattle.std.specs.List.{list_any};
 ghost use Rattle.ltl_spec.specs.Formulas.Tokens as tokens;
 ghost use Rattle.ltl_spec.specs.Formulas.Names as spec_names;
 
-use crate::bytes::is_digit;
 use std::alloc::{AllocError, Allocator};
-
-fn is_name_byte(byte: u8) -> bool
-    ensures { result ≡ tokens.is_name_byte byte }
-{
-    byte.is_ascii_lowercase() || is_digit(byte) || byte == b'_'
-}
-
-fn is_constant(name: &[u8]) -> bool
-    ensures { result ≡ spec_names.is_constant name.now }
-{
-    name == b"true".as_slice() || name == b"false".as_slice()
-}
-
-fn are_name_bytes(bytes: &[u8]) -> bool
-    ensures { result ≡ list_all tokens.is_name_byte bytes.now }
-{
-    bytes.iter().all(|byte| is_name_byte(*byte))
-}
-
-/// Whether the bytes are a name that a formula may hold.
-pub(crate) fn is_proposition(name: &[u8]) -> bool
-    ensures { result ≡ spec_names.is_proposition name.now }
-{
-    match name {
-        [first, rest @ ..] => {
-            first.is_ascii_lowercase() && are_name_bytes(rest) && !is_constant(name)
-        }
-        [] => false,
-    }
-}
 
 /// Whether the name is one of those.
 pub(crate) fn is_listed<A: Allocator>(names: &[String<&A>], name: &[u8]) -> bool

@@ -2,6 +2,7 @@
 
 ghost use Rattle.std.specs.Prelude.{◌≡◌, List, ℕ, IfOk, OnOk, MatchResult, map, string_bytes, Some, None};
 ghost use Rattle.ltl_hoa.specs.TokenView.{token_of, kind_of};
+ghost use Rattle.ltl_hoa.specs.HeaderView.{body_begun};
 ghost use Rattle.ltl_hoa.specs.ParserView as view;
 
 use crate::body::Body;
@@ -58,11 +59,17 @@ impl<'a, A: Allocator> Parser<'a, A> {
         match self.place {
             Place::Body(place) => self.take_in_body(place, kind, text),
             Place::Item(_) if matches!(kind, TokenKind::Body) => self.begin_body(),
-            place => {
-                self.place = self.header.take(place, kind, text)?;
-                Ok(())
-            }
+            Place::End => Err(Stop::Fault(HoaFaultKind::TextAfterEnd)),
+            place => self.take_in_header(place, kind, text),
         }
+    }
+
+    /// Takes a token at a place of the header.
+    fn take_in_header(&mut self, place: Place, kind: TokenKind, text: &[u8]) -> Result<(), Stop>
+        ensures { view.TakesInHeader place self.old (token_of kind text.now) result self.new }
+    {
+        self.place = self.header.take(place, kind, text)?;
+        Ok(())
     }
 
     /// Takes a token in the body.
@@ -78,7 +85,7 @@ impl<'a, A: Allocator> Parser<'a, A> {
 
     /// Takes `--BODY--` where an item may begin.
     fn begin_body(&mut self) -> Result<(), Stop>
-        ensures { view.BeginsBody self.old result self.new }
+        ensures { view.Begins (body_begun self.old.header) self.old result self.new }
     {
         match self.header.counts() {
             Ok(counts) => {

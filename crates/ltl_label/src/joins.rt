@@ -143,7 +143,7 @@ fn cubes_rise(cubes: &[Cube])
     ensures { (c : spec_cubes.Cube) → spec_sets.Has cubes.now c → spec_sets.IsRising spec_cubes.literal_cmp c }
 {
     'cubes: for cube in cubes {
-        cube.literals_rise();
+        cube.invariant();
     }
 }
 
@@ -240,7 +240,7 @@ fn part<'a, A: Allocator>(
         (flat_map (λ s. joins s.left.items s.right.items) waiting.old.items ++ joins sides.now.left.items sides.now.right.items)) }
     ensures three { OnOk result (length waiting.new.items ≡ length waiting.old.items + 3) }
 {
-    literals.literals_rise();
+    literals.invariant();
     cubes_rise(sides.right.as_slice());
     let mut left = side_by(alloc, sides.left.as_slice(), literals)?;
     let right = side_by(alloc, sides.right.as_slice(), literals)?;

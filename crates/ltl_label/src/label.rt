@@ -12,7 +12,7 @@ use std::mem;
 
 /// A label, or what stands in open brackets: the cubes of what `|` and what `&` join to the operand that comes next.
 #[derive(Drop)]
-pub(crate) struct Part<'a, A: Allocator> {
+pub(crate) struct LabelPart<'a, A: Allocator> {
     /// Whether an even number of negations stands around the part.
     positive: bool,
     /// Whether an odd number of negations stands before the operand that comes next.
@@ -21,7 +21,7 @@ pub(crate) struct Part<'a, A: Allocator> {
     product: Option<Cubes<'a, A>>,
 }
 
-impl<'a, A: Allocator> Model for Part<'a, A> {
+impl<'a, A: Allocator> Model for LabelPart<'a, A> {
     ghost use Rattle.std.specs.Prelude.{option_map};
     ghost use Rattle.ltl_label.specs.LabelView.{PartView};
 
@@ -36,17 +36,17 @@ impl<'a, A: Allocator> Model for Part<'a, A> {
 }
 
 /// A part of no label.
-impl<'a, A: Allocator> Default for Part<'a, A> {
-    fn default() -> Part<'a, A> {
-        Part::new(true)
+impl<'a, A: Allocator> Default for LabelPart<'a, A> {
+    fn default() -> LabelPart<'a, A> {
+        LabelPart::new(true)
     }
 }
 
-impl<'a, A: Allocator> Part<'a, A> {
-    fn new(positive: bool) -> Part<'a, A>
+impl<'a, A: Allocator> LabelPart<'a, A> {
+    fn new(positive: bool) -> LabelPart<'a, A>
         ensures { result ≡ view.new_part positive }
     {
-        Part {
+        LabelPart {
             positive,
             negated: false,
             sum: None,
@@ -111,8 +111,8 @@ impl<'a, A: Allocator> Part<'a, A> {
 #[derive(Drop)]
 pub struct Label<'a, A: Allocator> {
     alloc: &'a A,
-    inner: Part<'a, A>,
-    around: SmallVec<Part<'a, A>, 4, &'a A>,
+    inner: LabelPart<'a, A>,
+    around: SmallVec<LabelPart<'a, A>, 4, &'a A>,
 }
 
 impl<'a, A: Allocator> Model for Label<'a, A> {
@@ -129,7 +129,7 @@ impl<'a, A: Allocator> Label<'a, A> {
     {
         Label {
             alloc,
-            inner: Part::new(true),
+            inner: LabelPart::new(true),
             around: SmallVec::new(alloc),
         }
     }
@@ -138,7 +138,7 @@ impl<'a, A: Allocator> Label<'a, A> {
     pub fn begin(&mut self)
         ensures { self.new ≡ view.new_label }
     {
-        self.inner = Part::new(true);
+        self.inner = LabelPart::new(true);
         self.around.clear();
     }
 
@@ -153,7 +153,7 @@ impl<'a, A: Allocator> Label<'a, A> {
     pub fn open(&mut self) -> Result<(), AllocError>
         ensures { OnOk result (self.new ≡ view.open_bracket self.old) }
     {
-        let part = Part::new(self.inner.sign());
+        let part = LabelPart::new(self.inner.sign());
         let outer = mem::replace(&mut self.inner, part);
         self.around.push(outer)?;
         Ok(())

@@ -117,30 +117,13 @@ fn best_literal(left: &[Cube], right: &[Cube]) -> Option<Cube> {
     best
 }
 
-/// The literals that both cubes have.
-fn common(cube: &Cube, other: &Cube) -> Cube {
-    if cube.implies_of(other) {
-        return *cube;
-    }
-    let mut common = Cube::empty();
-    for literal in cube.iter() {
-        if literal.proposition < RowSet::LIMIT {
-            let one = Cube::literal(literal.proposition, literal.positive);
-            if one.implies_of(other) {
-                common = common.join(&one).unwrap_or(common);
-            }
-        }
-    }
-    common
-}
-
 /// What all of the cubes with these literals have, if there is such a cube.
 fn shared(cubes: &[Cube], literals: &Cube) -> Option<Cube> {
-    let mut shared = None;
+    let mut shared: Option<Cube> = None;
     for cube in cubes {
         if literals.implies_of(cube) {
             shared = match shared {
-                Some(before) => Some(common(&before, cube)),
+                Some(before) => Some(before.common(cube)),
                 None => Some(*cube),
             };
         }

@@ -6,7 +6,7 @@ use Rattle.std.specs.Bool.{Decides, beq}
 use Rattle.std.specs.Simd.Lanes.{zip2}
 use Rattle.std.specs.declared.cmp.Ordering.TheVariants.{Less, Equal, Greater}
 use Rattle.std.specs.Ordering.{nat_cmp, ordering_reverse}
-use Rattle.std.specs.List.{filter, list_any, range_with_len}
+use Rattle.std.specs.List.{AllByRecursion, filter, list_any, range_with_len}
 use Rattle.std.specs.Iterator.{YieldsFirst, MakesProgress, item_count}
 use Rattle.std.specs.Iterator.Runs.{YieldsInOrder}
 use Rattle.std.proofs.iter.runs.Sources.{from_front, as_is}
@@ -17,6 +17,7 @@ use Rattle.std.proofs.lemmas.Cmp.{tied_itself}
 use Rattle.ltl_spec.specs.Collections.Sets.{put, union, has, is_subset}
 use Rattle.ltl_spec.proofs.Collections.Orders.{nat_linear, row_set_linear}
 use Rattle.ltl_spec.proofs.Collections.CaseLaws.{nat_eq_is, nat_eq_same, nat_eq_other}
+use Rattle.ltl_spec.proofs.Collections.SetLaws.{all_at, has_Decides}
 use Rattle.ltl_spec.proofs.Collections.SumLaws.{filter_length}
 use Rattle.ltl_sets.specs.Words.{IsWords, bit_in, HasNone, Reaches, IsLowest, FindsLowest, LosesBit, places, members}
 use Rattle.ltl_sets.specs.SubsetLaws.{filter_none, same_filter, union_tests, common_tests, put_test, subset_tests, first_taken, cmp_goes_on, cmp_ends, either_true, left_or, right_or}
@@ -262,3 +263,7 @@ first_runs {A} p s = as_is p p.from (from_front (YieldsFirst {A = A} (λ rest. r
 pub members_few : (ws : List ℕ) → length (members ws) ≤ 256
 unfolding members places
 members_few ws = omega (arith, filter_length (bit_in ws) (range_with_len 0 256), length-range_with_len 0 256)
+
+-- a number past those that a set can hold is not in it
+pub none_high : (all : List ℕ) (i : ℕ) → AllByRecursion (λ j. j < 256) all → 256 ≤ i → has nat_cmp i all ≡ false
+none_high all i below l = false_if (has nat_cmp i all) (λ e. let h : i < 256 = all_at (λ j. j < 256) all i below ((has_Decides nat_linear i all).0 e) in omega (arith, h, l))

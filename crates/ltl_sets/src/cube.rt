@@ -13,7 +13,7 @@ ghost use Rattle.ltl_sets.specs.Words.{letter_of, forbidden_of};
 
 use crate::lanes;
 use crate::literal::Literal;
-use crate::row_set::{RowSet, Rows};
+use crate::row_set::{Members, RowSet};
 use std::alloc::AllocError;
 use std::cmp::Ordering;
 use std::fmt;
@@ -180,9 +180,9 @@ impl Cube {
         }
     }
 
-    /// What each cube is, for proofs: a rising list of literals of propositions below
+    /// Hands what the type promises to callers: each cube is a rising list of literals of propositions below
     /// [`RowSet::LIMIT`], without contradiction.
-    pub fn literals_rise(&self)
+    pub fn invariant(&self)
         ensures rising { sets.IsRising cubes.literal_cmp self.now }
         ensures below { AllByRecursion (λ l. l.proposition < RowSet.LIMIT) self.now }
         ensures few { length self.now ≤ RowSet.LIMIT }
@@ -246,7 +246,7 @@ impl fmt::Debug for Cube {
 /// The literals of a cube that are left, rising, seen as the list of them.
 #[derive(Clone, Debug, Drop)]
 pub struct Literals {
-    places: Rows,
+    places: Members,
     positive: RowSet,
 }
 

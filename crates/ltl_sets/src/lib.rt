@@ -24,4 +24,4 @@ pub mod row_set;
 
 pub use cube::{Cube, Literals};
 pub use literal::Literal;
-pub use row_set::{RowSet, Rows};
+pub use row_set::{Members, RowSet};

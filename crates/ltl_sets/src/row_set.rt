@@ -78,6 +78,15 @@ impl RowSet {
         lanes::has(&self.lanes, i)
     }
 
+    /// Whether the set holds any number, one at the limit or above it too.
+    #[tactic(auto, using(crate::proofs::RowSetLaws::none_high))]
+    pub fn holds(&self, i: usize) -> bool
+        ensures { result ≡ sets.has nat_cmp i self.now }
+    {
+        self.invariant();
+        i < RowSet::LIMIT && self.contains(i)
+    }
+
     pub fn union(&self, other: &RowSet) -> RowSet
         ensures { result ≡ sets.union nat_cmp self.now other.now }
     {
@@ -130,18 +139,18 @@ impl RowSet {
     }
 
     /// The members, rising.
-    pub fn iter(&self) -> Rows
+    pub fn iter(&self) -> Members
         ensures members { result ≡ self.now }
         ensures few { length result ≤ RowSet.LIMIT }
         ensures runs { YieldsInOrder (YieldsFirst {A = ℕ} (λ rest. rest)) (λ rest. rest) }
     {
-        Rows {
+        Members {
             words: self.lanes.to_array(),
         }
     }
 
-    /// What each set is, for proofs: a rising list of numbers below [`RowSet::LIMIT`].
-    pub fn members_rise(&self)
+    /// Hands what the type promises to callers: each set is a rising list of numbers below [`RowSet::LIMIT`].
+    pub fn invariant(&self)
         ensures rising { sets.IsRising nat_cmp self.now }
         ensures below { AllByRecursion (λ i. i < RowSet.LIMIT) self.now }
         ensures few { length self.now ≤ RowSet.LIMIT }
@@ -206,11 +215,11 @@ impl fmt::Debug for RowSet {
 
 /// The members of a set that are left, rising, seen as the list of them.
 #[derive(Clone, Debug, Drop)]
-pub struct Rows {
+pub struct Members {
     words: [u64; 4],
 }
 
-impl Model for Rows {
+impl Model for Members {
     ghost use Rattle.std.specs.Prelude.{ℕ, List};
     ghost use Rattle.std.specs.Coded.{coded_ℕ, coded_list};
     ghost use Rattle.ltl_sets.specs.Words.{IsWords, members};
@@ -224,7 +233,7 @@ impl Model for Rows {
     ghost invariant = { λ a. IsWords a.words };
 }
 
-impl Iterator for Rows {
+impl Iterator for Members {
     type Item = usize;
 
     ghost next_gives = { YieldsFirst (λ rest. rest) };

@@ -14,4 +14,3 @@ pub mod SpelledLaws
 pub mod SpelledStates
 pub mod SpelledLabels
 pub mod GeneralizedBack
-pub mod AcceptanceLaws

@@ -1,13 +1,15 @@
 //! Tests of libraries, over their public calls alone.
 //!
-//! A clause that pins a result leaves a test nothing to show, so the tests here are few: sets, pairs of rows, the reader of automata and its faults
-//! by their lines, words, generalized automata and their texts, looks of a search, messages of faults, what the mains share, and each growth of
-//! memory, read and write failing in turn, which no clause tells of. Wanted values come from the definitions, by hand or by a reference in another
-//! language. Whole programs are tested as they are built, by `tests/run.py`.
+//! A clause that pins a result leaves a test nothing to show, so the tests here are few: sets, lists of edges, pairs of rows, the reader of automata
+//! and its faults by their lines, words, generalized automata and their texts, looks of a search, messages of faults, what the mains share, and each
+//! growth of memory, read and write failing in turn, which no clause tells of. Wanted values come from the definitions, by hand or by a reference in
+//! another language. Whole programs are tested as they are built, by `tests/run.py`.
 //!
 //! `rt try --test` in this folder runs them without a proof, `rt test` with one.
 #![tactic(auto)]
 
+#[cfg(test)]
+mod automata;
 #[cfg(test)]
 mod checks;
 #[cfg(test)]

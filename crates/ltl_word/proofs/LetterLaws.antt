@@ -1,5 +1,5 @@
 -- Letters as sets of places.
-use Rattle.std.proofs.Common.{◌≡◌, ◌∙◌, ap, sym, refl, subst, ℕ, zero, suc, Bool, true, false, ◌+◌, ◌/◌, ◌<◌, ◌≤◌, arith, inl, inr, List, [], ◌∷◌, ◌++◌, length, map, take, drop}
+use Rattle.std.proofs.Common.{◌≡◌, ◌∙◌, ap, sym, refl, subst, ℕ, zero, suc, ◌+◌, ◌/◌, ◌<◌, ◌≤◌, arith, inl, inr, List, [], ◌∷◌, ◌++◌, length, map, take, drop}
 use Rattle.std.specs.Prelude.{slice_index_or, ◌≢◌, IsTrue}
 use Rattle.std.specs.Bool.{Decides}
 use Rattle.std.specs.List.{AllByRecursion}
@@ -9,7 +9,6 @@ use Rattle.std.proofs.lemmas.Bool.Decides.{same_from_decides}
 use Rattle.std.proofs.lemmas.List.{get_or-map, map-append}
 use Rattle.std.specs.declared.cmp.Ordering.TheVariants.{Less}
 use Rattle.ltl_spec.specs.Collections.Sets.{Has, IsRising, has}
-use Rattle.ltl_sets.specs.declared.row_set.TheConstants.RowSet.{LIMIT}
 use Rattle.ltl_spec.specs.Semantics.Word.{Name, name_cmp, Lasso, letter_at}
 use Rattle.ltl_spec.proofs.Collections.SetLaws.{all_at, has_Decides, irreflexive}
 use Rattle.ltl_spec.proofs.Collections.ListLaws.{Has-at}
@@ -114,11 +113,3 @@ one_earlier f xs x at name l e n h k m q =
 
 pub found_here : {X : Type 0} (f : X → Name) (xs : List X) (x : X) (at : ℕ) → at < length xs → slice_index_or xs at x ≡ x → slice_index_or (map f xs) at [] ≡ f x
 found_here f xs x at l e = get_or-map f xs at x [] l ∙ ap f e
-
--- a number past those that a set can hold is not in it
-pub has_none_high : (letter : List ℕ) (place : ℕ) → AllByRecursion (λ i. i < LIMIT) letter → LIMIT ≤ place → has nat_cmp place letter ≡ false
-has_none_high letter place all l = by (has nat_cmp place letter) refl
-  where
-    by : (b : Bool) → has nat_cmp place letter ≡ b → b ≡ false
-    by false e = refl
-    by true e = absurd (let h : place < LIMIT = all_at (λ i. i < LIMIT) letter place all ((has_Decides nat_linear place letter).0 e) in omega (arith, h, l))

@@ -10,8 +10,8 @@ use Rattle.ltl_spec.proofs.Words.LassoTextLaws as machine
 use Rattle.ltl_spec.proofs.Words.LassoTextLaws.{text_run}
 use Rattle.ltl_spec.proofs.Words.WordReadingLaws.{run_word, fault_at_byte, fault_at_end}
 use Rattle.std.proofs.lemmas.Option.{same_Some}
-use Rattle.ltl_word.specs.declared.place.Place.{Place}
-use Rattle.ltl_word.specs.declared.place.Place.TheVariants.{FirstName, InName, AfterLetter}
+use Rattle.ltl_word.specs.declared.place.WordPlace.{WordPlace}
+use Rattle.ltl_word.specs.declared.place.WordPlace.TheVariants.{FirstName, InName, AfterLetter}
 use Rattle.ltl_word.specs.WrittenView.{WrittenView, after, place_of, NextIs, letters_of}
 use Rattle.ltl_word.specs.ReadText.{IsWritten, IsSpelled}
 
@@ -91,23 +91,23 @@ take_all (x ∷ xs) zero l = absurd (omega arith)
 take_all (x ∷ xs) (suc i) l = ap (λ ys. x ∷ ys) (take_all xs i (omega arith))
 
 -- no word's text goes on with the byte
-pub bad_byte : (text : List ℕ) (at : ℕ) (place : Place) (old new : WrittenView) (next : Option Place) → at < length text → machine.run (Some machine.start) (take at text) ≡ Some (after text at place old)
+pub bad_byte : (text : List ℕ) (at : ℕ) (place : WordPlace) (old new : WrittenView) (next : Option WordPlace) → at < length text → machine.run (Some machine.start) (take at text) ≡ Some (after text at place old)
     → NextIs text at (slice_index text at) place old next new → next ≡ None → IsBadWord text at
 bad_byte text at place old new next l r s n =
     let none : machine.word_step (place_of text at place) (after text at place old) (slice_index text at) ≡ None = s ∙ ap (option_map (λ p. after text (at + 1) p new)) n in
     subst (λ t. IsBadWord t at) (split_at text at l)
     (subst (IsBadWord (take at text ++ slice_index text at ∷ drop (at + 1) text)) (take_size text at (omega arith)) (fault_at_byte (take at text) (slice_index text at) (drop (at + 1) text) (after text at place old) r none))
 
-whole_run : (text : List ℕ) (at : ℕ) (place : Place) (v : WrittenView) → length text ≤ at → machine.run (Some machine.start) (take at text) ≡ Some (after text at place v) → machine.run (Some machine.start) text ≡ Some (after text at place v)
+whole_run : (text : List ℕ) (at : ℕ) (place : WordPlace) (v : WrittenView) → length text ≤ at → machine.run (Some machine.start) (take at text) ≡ Some (after text at place v) → machine.run (Some machine.start) text ≡ Some (after text at place v)
 whole_run text at place v l r = ap (machine.run (Some machine.start)) (sym (take_all text at l)) ∙ r
 
-pub bad_end : (text : List ℕ) (at : ℕ) (place : Place) (v : WrittenView) (finished : Bool) → at ≤ length text → length text ≤ at → machine.run (Some machine.start) (take at text) ≡ Some (after text at place v)
+pub bad_end : (text : List ℕ) (at : ℕ) (place : WordPlace) (v : WrittenView) (finished : Bool) → at ≤ length text → length text ≤ at → machine.run (Some machine.start) (take at text) ≡ Some (after text at place v)
     → ((t : List ℕ) (i : ℕ) → finished ≡ machine.is_finished (place_of t i place) v.in_cycle) → finished ≡ false → IsBadWord text at
 bad_end text at place v finished k l r f n =
     let e : length text ≡ at = omega arith in
     subst (IsBadWord text) e (fault_at_end text (after text at place v) (whole_run text at place v l r) (sym (f text at) ∙ n))
 
-pub good_end : (text : List ℕ) (at : ℕ) (place : Place) (v : WrittenView) (finished : Bool) → length text ≤ at → machine.run (Some machine.start) (take at text) ≡ Some (after text at place v)
+pub good_end : (text : List ℕ) (at : ℕ) (place : WordPlace) (v : WrittenView) (finished : Bool) → length text ≤ at → machine.run (Some machine.start) (take at text) ≡ Some (after text at place v)
     → ((t : List ℕ) (i : ℕ) → finished ≡ machine.is_finished (place_of t i place) v.in_cycle) → finished ≡ true → IsWritten text v
 good_end text at place v finished l r f y =
     let run = whole_run text at place v l r in

@@ -1,7 +1,7 @@
 //! Why a text is not read as a word.
 
 use crate::limits::{NAME_LIMIT, TEXT_LIMIT};
-use std::alloc::{AllocError, AllocFailed};
+use std::alloc::AllocError;
 use thiserror::Error;
 
 /// Why a text is not read as a word. Of several reasons the first of these is told.
@@ -27,17 +27,6 @@ impl From<AllocError> for WordFault {
     ghost from_gives = { λ _ fault. fault ≡ OutOfMemory };
 
     fn from(_: AllocError) -> WordFault {
-        WordFault::OutOfMemory
-    }
-}
-
-impl<T: Drop> From<AllocFailed<T>> for WordFault {
-    ghost use Rattle.std.specs.Prelude.{◌≡◌};
-    ghost use Rattle.ltl_word.specs.declared.fault.WordFault.TheVariants.{OutOfMemory};
-
-    ghost from_gives = { λ _ fault. fault ≡ OutOfMemory };
-
-    fn from(_: AllocFailed<T>) -> WordFault {
         WordFault::OutOfMemory
     }
 }

@@ -75,22 +75,9 @@ impl<'a, A: Allocator> Lasso<'a, A> {
         let mut i = self.letters.len();
         'positions: while i > 0 {
             i -= 1;
-            row.put(i, holds(&self.letters[i], place));
+            row.put(i, self.letters[i].holds(place));
         }
         Ok(row)
-    }
-}
-
-/// Whether the name at a place is in the letter.
-#[tactic(auto, using(crate::proofs::LetterLaws::has_none_high))]
-fn holds(letter: &RowSet, place: usize) -> bool
-    ensures { result ≡ has nat_cmp place letter.now }
-{
-    letter.members_rise();
-    if place < RowSet::LIMIT {
-        letter.contains(place)
-    } else {
-        false
     }
 }
 

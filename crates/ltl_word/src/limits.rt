@@ -1,6 +1,6 @@
 //! Limits of words.
 
-use ltl_formula::PROPOSITION_LIMIT;
+use ltl_names::PROPOSITION_LIMIT;
 
 /// How many bytes the text of a word may have.
 pub const TEXT_LIMIT: usize = 65_536;

@@ -2,7 +2,7 @@
 
 /// What may come next.
 #[derive(Clone, Copy)]
-pub(crate) enum Place {
+pub(crate) enum WordPlace {
     Letter,
     FirstName,
     Name,

@@ -12,7 +12,7 @@ ghost use Rattle.ltl_word.specs.LassoView.{letter_of};
 use crate::lasso::Lasso;
 use crate::name::OwnedName;
 use ltl_formula::{Piece, WriteFault};
-use ltl_sets::{RowSet, Rows};
+use ltl_sets::{Members, RowSet};
 use std::alloc::Allocator;
 use std::io::Write;
 
@@ -27,7 +27,7 @@ fn put_next_name<W: Write>(name: &[u8], piece: &mut Piece, writer: &mut W) -> Re
 /// Puts the names that follow the first one.
 fn put_other_names<A: Allocator, W: Write>(
     names: &[OwnedName<'_, A>],
-    places: Rows,
+    places: Members,
     piece: &mut Piece,
     writer: &mut W,
 ) -> Result<(), WriteFault>

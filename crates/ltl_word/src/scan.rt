@@ -5,44 +5,44 @@ ghost use Rattle.std.specs.Option.{option_map};
 ghost use Rattle.ltl_spec.specs.Formulas.Tokens.{is_lower};
 ghost use Rattle.ltl_spec.specs.Words.LassoMachine as machine;
 ghost use Rattle.ltl_word.specs.WrittenView.{WrittenView, NextIs, IsInside, after, place_of};
-ghost use Rattle.ltl_word.specs.declared.place.Place.TheVariants as places;
+ghost use Rattle.ltl_word.specs.declared.place.WordPlace.TheVariants as places;
 ghost use Rattle.ltl_word.specs.ReadText.{IsWritten, RefusesLetters};
 
 use crate::fault::WordFault;
-use crate::name::{is_lower, is_name_byte, is_proposition};
-use crate::place::Place;
+use crate::place::WordPlace;
 use crate::written::Written;
+use ltl_names::{is_lower, is_name_byte, is_proposition};
 use std::alloc::{AllocError, Allocator};
 
 /// Where a letter or the word `cycle ` has to begin.
-fn at_letter(in_cycle: bool, byte: u8) -> Option<Place>
+fn at_letter(in_cycle: bool, byte: u8) -> Option<WordPlace>
     ensures next { (text : List ℕ) (at : ℕ) (v : WrittenView) → v.in_cycle ≡ in_cycle → NextIs text at byte places.Letter v result v }
     ensures inside { (at : ℕ) → IfSome result (IsInside at) }
 {
     if byte == b'{' {
-        return Some(Place::FirstName);
+        return Some(WordPlace::FirstName);
     }
     if byte == b'c' && !in_cycle {
-        return Some(Place::InWord(b"ycle "));
+        return Some(WordPlace::InWord(b"ycle "));
     }
     None
 }
 
 /// Where a name has to begin.
-fn at_name(text: &[u8], at: usize) -> Option<Place>
+fn at_name(text: &[u8], at: usize) -> Option<WordPlace>
     requires { at < length text.now }
     ensures next { (v : WrittenView) → NextIs text.now at (slice_index text.now at) places.Name v result v }
     ensures inside { IfSome result (IsInside (at + 1)) }
 {
     if is_lower(text[at]) {
-        Some(Place::InName(at))
+        Some(WordPlace::InName(at))
     } else {
         None
     }
 }
 
 /// Where one byte has to come.
-fn expect(byte: u8, wanted: u8, place: Place) -> Option<Place>
+fn expect(byte: u8, wanted: u8, place: WordPlace) -> Option<WordPlace>
     ensures { result ≡ (if byte == wanted then Some place else None) }
 {
     if byte == wanted { Some(place) } else { None }
@@ -53,7 +53,7 @@ fn in_word<A: Allocator>(
     written: &mut Written<'_, '_, A>,
     rest: &'static [u8],
     byte: u8,
-) -> Option<Place>
+) -> Option<WordPlace>
     ensures next { (text : List ℕ) (at : ℕ) → NextIs text at byte (places.InWord rest.entry) written.old result written.new }
     ensures inside { (at : ℕ) → IfSome result (IsInside at) }
 {
@@ -65,9 +65,9 @@ fn in_word<A: Allocator>(
     }
     if rest.is_empty() {
         written.turn();
-        return Some(Place::Letter);
+        return Some(WordPlace::Letter);
     }
-    Some(Place::InWord(rest))
+    Some(WordPlace::InWord(rest))
 }
 
 /// Behind a whole name.
@@ -75,7 +75,7 @@ fn end_name<'t, A: Allocator>(
     written: &mut Written<'t, '_, A>,
     name: &'t [u8],
     byte: u8,
-) -> Result<Option<Place>, AllocError>
+) -> Result<Option<WordPlace>, AllocError>
     ensures next { IfOk result (λ next. (text : List ℕ) (at : ℕ) (b : machine.WordPlace)
         → machine.end_name (record (after text at places.Name written.old) { place = b }) (written.old.letter ++ name.now ∷ []) byte
         ≡ option_map (λ p. after text (at + 1) p written.new) next) }
@@ -83,12 +83,12 @@ fn end_name<'t, A: Allocator>(
 {
     if byte == b',' {
         written.push(name)?;
-        return Ok(Some(Place::Name));
+        return Ok(Some(WordPlace::Name));
     }
     if byte == b'}' {
         written.push(name)?;
         written.close()?;
-        return Ok(Some(Place::AfterLetter));
+        return Ok(Some(WordPlace::AfterLetter));
     }
     Ok(None)
 }
@@ -98,7 +98,7 @@ fn at_first_name<A: Allocator>(
     written: &mut Written<'_, '_, A>,
     text: &[u8],
     at: usize,
-) -> Result<Option<Place>, AllocError>
+) -> Result<Option<WordPlace>, AllocError>
     requires { at < length text.now }
     ensures next { IfOk result (λ next. NextIs text.now at (slice_index text.now at) places.FirstName written.old next written.new) }
     ensures inside { IfOk result (λ next. IfSome next (IsInside (at + 1))) }
@@ -106,7 +106,7 @@ fn at_first_name<A: Allocator>(
     if text[at] == b'}' {
         written.clear();
         written.close()?;
-        return Ok(Some(Place::AfterLetter));
+        return Ok(Some(WordPlace::AfterLetter));
     }
     Ok(at_name(text, at))
 }
@@ -117,7 +117,7 @@ fn in_name<'t, A: Allocator>(
     text: &'t [u8],
     at: usize,
     start: usize,
-) -> Result<Option<Place>, AllocError>
+) -> Result<Option<WordPlace>, AllocError>
     requires within { at < length text.now }
     requires begins { start ≤ at }
     ensures next { IfOk result (λ next. NextIs text.now at (slice_index text.now at) (places.InName start) written.old next written.new) }
@@ -125,7 +125,7 @@ fn in_name<'t, A: Allocator>(
 {
     let byte = text[at];
     if is_name_byte(byte) {
-        return Ok(Some(Place::InName(start)));
+        return Ok(Some(WordPlace::InName(start)));
     }
     let name = &text[start..at];
     if is_proposition(name) {
@@ -139,8 +139,8 @@ fn step<'t, A: Allocator>(
     written: &mut Written<'t, '_, A>,
     text: &'t [u8],
     at: usize,
-    place: Place,
-) -> Result<Option<Place>, AllocError>
+    place: WordPlace,
+) -> Result<Option<WordPlace>, AllocError>
     requires within { at < length text.now }
     requires inside { IsInside at place }
     ensures next { IfOk result (λ next. NextIs text.now at (slice_index text.now at) place written.old next written.new) }
@@ -148,22 +148,22 @@ fn step<'t, A: Allocator>(
 {
     let byte = text[at];
     match place {
-        Place::Letter => Ok(at_letter(written.in_cycle, byte)),
-        Place::FirstName => at_first_name(written, text, at),
-        Place::Name => Ok(at_name(text, at)),
-        Place::InName(start) => in_name(written, text, at, start),
-        Place::AfterLetter => Ok(expect(byte, b';', Place::Blank)),
-        Place::Blank => Ok(expect(byte, b' ', Place::Letter)),
-        Place::InWord(rest) => Ok(in_word(written, rest, byte)),
+        WordPlace::Letter => Ok(at_letter(written.in_cycle, byte)),
+        WordPlace::FirstName => at_first_name(written, text, at),
+        WordPlace::Name => Ok(at_name(text, at)),
+        WordPlace::InName(start) => in_name(written, text, at, start),
+        WordPlace::AfterLetter => Ok(expect(byte, b';', WordPlace::Blank)),
+        WordPlace::Blank => Ok(expect(byte, b' ', WordPlace::Letter)),
+        WordPlace::InWord(rest) => Ok(in_word(written, rest, byte)),
     }
 }
 
 /// Whether all of a word was read.
-fn is_finished(place: Place, in_cycle: bool) -> bool
+fn is_finished(place: WordPlace, in_cycle: bool) -> bool
     ensures { (text : List ℕ) (at : ℕ) → result ≡ machine.is_finished (place_of text at place) in_cycle }
 {
     match place {
-        Place::AfterLetter => in_cycle,
+        WordPlace::AfterLetter => in_cycle,
         _ => false,
     }
 }
@@ -176,7 +176,7 @@ pub(crate) fn read_letters<'t, 'a, A: Allocator>(
     ensures { MatchResult result (IsWritten text.now) (RefusesLetters text.now) }
 {
     let mut written = Written::new(alloc);
-    let mut place = Place::Letter;
+    let mut place = WordPlace::Letter;
     let mut at = 0;
     'bytes: while at < text.len() {
         match step(&mut written, text, at, place)? {

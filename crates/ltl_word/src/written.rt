@@ -3,7 +3,7 @@
 ghost use Rattle.std.specs.Prelude.{◌≡◌, ℕ, List, [], ◌∷◌, ◌++◌, false, true, map, OnOk, IfOk};
 ghost use Rattle.ltl_spec.specs.Words.LassoMachine as machine;
 ghost use Rattle.ltl_word.specs.WrittenView.{WrittenView, after};
-ghost use Rattle.ltl_word.specs.declared.place.Place.TheVariants.{AfterLetter};
+ghost use Rattle.ltl_word.specs.declared.place.WordPlace.TheVariants.{AfterLetter};
 
 use smallvec::SmallVec;
 use std::alloc::{AllocError, Allocator};

@@ -14,7 +14,7 @@ use Rattle.ltl_spec.proofs.Collections.Orders.{nat_linear, literal_linear}
 use Rattle.ltl_spec.proofs.Construction.RoundLaws.{same_edge_Decides}
 use Rattle.ltl_spec.proofs.Collections.CaseLaws.{false_is_true, left_true, right_true}
 use Rattle.ltl_spec.proofs.Transitions.CubeLaws.{allows_Decides}
-pub use Rattle.ltl_spec.specs.Construction.ImpliedEdges.{IsSetEdge, is_above}
+pub use Rattle.ltl_spec.specs.Construction.ImpliedEdges.{IsSetEdge, implies_other}
 
 -- an element that none is above
 
@@ -127,17 +127,17 @@ covers_both f e sf se a b =
 not_same : (f e : Edge) → not (same_edge f e) ≡ true → f ≡ e → ⊥
 not_same f e n i = false_is_true (ap not (sym ((same_edge_Decides f e).1 i)) ∙ n)
 
-above_covers : (f e : Edge) → is_above f e ≡ true → Covers f e
+above_covers : (f e : Edge) → implies_other f e ≡ true → Covers f e
 above_covers f e t = (implies_edge_Decides f e).0 (right_true (not (same_edge f e)) _ t)
 
-above_other : (f e : Edge) → is_above f e ≡ true → f ≡ e → ⊥
+above_other : (f e : Edge) → implies_other f e ≡ true → f ≡ e → ⊥
 above_other f e t = not_same f e (left_true _ _ t)
 
 other_is : (f e : Edge) → (f ≡ e → ⊥) → not (same_edge f e) ≡ true
 other_is f e n = ap not (false_from_ne_true (same_edge f e) (λ t. n ((same_edge_Decides f e).0 t)))
 
 -- to be implied by another edge is a strict order on edges whose literals and marks are sets
-above_strict : IsStrict is_above IsSetEdge
+above_strict : IsStrict implies_other IsSetEdge
 above_strict = record {
   never = λ a s t. above_other a a t refl;
   on = λ a b c sa sb sc t u.
@@ -156,18 +156,18 @@ Kept es e = (f : Edge) × Has es f × Covers f e
 
 -- each edge is implied by one that stays
 pub unimplied_kept : (es : List Edge) → ((e : Edge) → Has es e → IsSetEdge e) → (e : Edge) → Has es e → Kept (unimplied_edges es) e
-unimplied_kept es sets e h = found (highest is_above IsSetEdge above_strict es sets e (sets e h))
+unimplied_kept es sets e h = found (highest implies_other IsSetEdge above_strict es sets e (sets e h))
   where
-    found : Highest is_above IsSetEdge es e → Kept (unimplied_edges es) e
+    found : Highest implies_other IsSetEdge es e → Kept (unimplied_edges es) e
     found r = (
       r.top,
-      Has-filter (λ g. not (list_any (λ f. is_above f g) es)) es r.top (elim r.inside [ inl i ↦ subst (λ t. Has es t) (sym i) h | inr k ↦ k ]) (ap not (none_passes (λ f. is_above f r.top) es r.last)),
+      Has-filter (λ g. not (list_any (λ f. implies_other f g) es)) es r.top (elim r.inside [ inl i ↦ subst (λ t. Has es t) (sym i) h | inr k ↦ k ]) (ap not (none_passes (λ f. implies_other f r.top) es r.last)),
       elim r.over [ inl i ↦ Covers-same r.top e i | inr k ↦ above_covers r.top e k ],
     )
 
 -- what stays was there
 pub unimplied_cases : (es : List Edge) (e : Edge) → Has (unimplied_edges es) e → Has es e
-unimplied_cases es e h = (filter_cases (λ g. not (list_any (λ f. is_above f g) es)) es e h).0
+unimplied_cases es e h = (filter_cases (λ g. not (list_any (λ f. implies_other f g) es)) es e h).0
 
 -- the same for a state, whether or not the implied edges are left out
 pub thin_kept : (keep_implied : Bool) (s : State) → ((e : Edge) → Has s.edges e → IsSetEdge e) → (e : Edge) → Has s.edges e → Kept (without_implied keep_implied s).edges e

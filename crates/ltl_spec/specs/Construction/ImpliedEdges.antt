@@ -12,5 +12,5 @@ pub record IsSetEdge (e : Edge) : Type 0 where
   pub marks : IsRising nat_cmp e.marks
 
 -- f is another edge than e and implies it
-abbrev pub is_above : Edge → Edge → Bool
-is_above f e = not (same_edge f e) && implies_edge f e
+abbrev pub implies_other : Edge → Edge → Bool
+implies_other f e = not (same_edge f e) && implies_edge f e

@@ -24,4 +24,4 @@ pub returns : goal.returns
 returns g c =
     let all = c.until_count-number-end.ensures.count in
     let whole : c.untils.number ≡ length c.args.table.now.untils = omega arith in
-    own_end c.args.table.now c.untils.number c.untils.all.items c.len.ensures.table c.untils.invariant.count whole c.untils.invariant.enough
+    own_end c.args.table.now c.untils.number c.untils.all.items c.invariant.ensures c.untils.invariant.count whole c.untils.invariant.enough

@@ -6,5 +6,5 @@ use Rattle.ltl_alt.proofs.own.own_pairs.Goals as goal
 
 pub returns-clause-enough : goal.returns-clause-enough
 returns-clause-enough g c =
-    own_listed c.args.table.now c.args.number c.until_row-row.result c.place.result c.pairs.result.now c.in_ok-own.own c.len.ensures.table c.until_row-row.ensures.found c.place.ensures.place
+    own_listed c.args.table.now c.args.number c.until_row-row.result c.place.result c.pairs.result.now c.in_ok-own.own c.invariant.ensures c.until_row-row.ensures.found c.place.ensures.place
     (subst (IsListedRow c.args.table.now Contained c.until_row-row.result) (sym c.pairs.ensures) c.in_ok-prepare.ensures.pairs) c.in_ok-own.ensures

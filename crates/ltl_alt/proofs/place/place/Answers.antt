@@ -13,7 +13,7 @@ returns-clause-place g c =
     ∙ ap (λ o. unwrap_or o (length xs)) c.index_of.ensures
     ∙ unwrap_position (λ k. k == c.args.row) xs
     ∙ ap (position_or_len (λ k. k == c.args.row)) c.elementary-elementary.ensures
-    ∙ place_right c.args.table.now c.args.row c.len.ensures.table c.requires
+    ∙ place_right c.args.table.now c.args.row c.invariant.ensures c.requires
 
 pub returns-clause-small : goal.returns-clause-small
 returns-clause-small g c =
@@ -23,4 +23,4 @@ returns-clause-small g c =
     ∙ ap (λ o. unwrap_or o (length xs)) c.index_of.ensures
     ∙ unwrap_position (λ k. k == c.args.row) xs
     ∙ ap (position_or_len (λ k. k == c.args.row)) c.elementary-elementary.ensures in
-    few_places c.args.table.now c.args.row c.unwrap_or.result c.len.ensures.table at
+    few_places c.args.table.now c.args.row c.unwrap_or.result c.invariant.ensures at

@@ -23,7 +23,7 @@ passed_on : {T : Type 0} (r : Result T AutomatonFault) (P : AutomatonFault → T
 passed_on r P a e = subst (λ q. IsErrAnd q P) e a
 
 pub single-root-requires : goal.single-root-requires
-single-root-requires g c = c.place.ensures.small (root_stands c.args.table.now c.root.result c.len.ensures.table c.root.ensures.last)
+single-root-requires g c = c.place.ensures.small (root_stands c.args.table.now c.root.result c.invariant.ensures c.root.ensures.last)
 
 pub prepare-requires-clause-lists : goal.prepare-requires-clause-lists
 prepare-requires-clause-lists g c = c.in_ok-lists.ensures c.of.result
@@ -62,7 +62,7 @@ new-requires-2 g c =
     let root : c.single-root.result ≡ root_set F keep = c.single-root.ensures ∙ ap (λ (k : ℕ). k ∷ []) (c.place.ensures.place ∙ ap (λ k. row_place c.args.table.now (row_tree c.args.table.now k)) c.root.ensures.last) in
     let A = automaton_of c.in_ok-states.states in
     let reachable = subst (λ (s : RowSet). IsReachable same_row_set false (net_of F keep) s c.until_count.result A) root c.in_ok-states.ensures.reachable in
-    is_gba F keep c.until_count.result (c.until_count.ensures.count ∙ sym (untils_count c.args.table.now c.len.ensures.table)) A reachable c.in_ok-states.ensures.bounded c.until_count.ensures.few
+    is_gba F keep c.until_count.result (c.until_count.ensures.count ∙ sym (untils_count c.args.table.now c.invariant.ensures)) A reachable c.in_ok-states.ensures.bounded c.until_count.ensures.few
 
 pub returns-clause-generalized : goal.returns-clause-generalized
 returns-clause-generalized g c =
@@ -71,7 +71,7 @@ returns-clause-generalized g c =
     let root : c.single-root.result ≡ root_set F keep = c.single-root.ensures ∙ ap (λ (k : ℕ). k ∷ []) (c.place.ensures.place ∙ ap (λ k. row_place c.args.table.now (row_tree c.args.table.now k)) c.root.ensures.last) in
     let A = automaton_of c.in_ok-states.states in
     let reachable = subst (λ (s : RowSet). IsReachable same_row_set false (net_of F keep) s c.until_count.result A) root c.in_ok-states.ensures.reachable in
-    subst (IsGeneralized F keep) (sym c.new-2.ensures) (is_generalized F keep c.until_count.result (c.until_count.ensures.count ∙ sym (untils_count c.args.table.now c.len.ensures.table)) A reachable)
+    subst (IsGeneralized F keep) (sym c.new-2.ensures) (is_generalized F keep c.until_count.result (c.until_count.ensures.count ∙ sym (untils_count c.args.table.now c.invariant.ensures)) A reachable)
 
 pub returns-clause-fits : goal.returns-clause-fits
 returns-clause-fits g c =

@@ -8,4 +8,4 @@ pub returns-clause-groups : goal.returns-clause-groups
 returns-clause-groups g c = λ T keep w. c.new.ensures T keep c.forget.new.self.lists.items
 
 pub returns-clause-room : goal.returns-clause-room
-returns-clause-room g c = room_for_all c.forget.new.self.made c.args.state.now c.forget.new.self.lists.items c.forget.ensures.lists c.members_rise.ensures.few
+returns-clause-room g c = room_for_all c.forget.new.self.made c.args.state.now c.forget.new.self.lists.items c.forget.ensures.lists c.invariant.ensures.few

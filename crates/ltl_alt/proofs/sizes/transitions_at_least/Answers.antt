@@ -40,6 +40,6 @@ returns-in-Some-clause-least g c =
     let known : AreGroupsOf T own new.lists.items keys c.numbers-all.result numbers [] = some_is _ _ _ c.in_ok-numbers.ensures c.in-Some.is in
     let taken = subst (λ all. AreGroupsOf T own new.lists.items keys all numbers []) c.numbers-all.ensures known in
     let count = factored_count T own keep new.made new.owners.items new.lists.items new.demands.items new.links.items keys lists c.args.state.now numbers c.requires.prepared.own_pairs parts
-    (c.in_ok-prepare.ensures.groups keep c.requires.prepared.groups) c.members_rise.ensures.rising c.in_ok-prepare.ensures.made taken.taken taken.within in
+    (c.in_ok-prepare.ensures.groups keep c.requires.prepared.groups) c.invariant.ensures.rising c.in_ok-prepare.ensures.made taken.taken taken.within in
     let least = subst (λ ns. c.combinations.result ≤ product_size (map (made_of lists) ns)) c.as_slice.ensures c.combinations.ensures in
     omega (arith, count, least)

@@ -54,7 +54,7 @@ returns-clause-transitions g c =
     let groups = subst (λ all. AreGroupsOf T own new.lists.items keys all numbers []) c.numbers-all.ensures c.in_ok-numbers.ensures.numbers in
     let parts = subst (λ r. AreParts T r own new.made new.owners.items new.lists.items new.demands.items new.links.items) c.of.ensures c.in_ok-prepare.ensures.parts in
     factored T own keep new.made new.owners.items new.lists.items new.demands.items new.links.items keys lists c.args.state.now numbers c.in_ok-products.products.items c.sort.new.transitions.items c.requires.prepared.own_pairs parts
-    c.in_ok-numbers.ensures.groups c.members_rise.ensures.rising c.in_ok-prepare.ensures.made groups.taken groups.within (subst (λ ns. IsPermutation (all_products T (map (made_of lists) ns)) c.in_ok-products.products.items) c.as_slice-2.ensures c.in_ok-products.ensures)
+    c.in_ok-numbers.ensures.groups c.invariant.ensures.rising c.in_ok-prepare.ensures.made groups.taken groups.within (subst (λ ns. IsPermutation (all_products T (map (made_of lists) ns)) c.in_ok-products.products.items) c.as_slice-2.ensures c.in_ok-products.ensures)
     c.in_ok-sort.ensures.permutation c.in_ok-sort.ensures.sorted
 
 pub prepare-requires-clause-lists : goal.prepare-requires-clause-lists
@@ -77,7 +77,7 @@ returns-then-combinations-most-clause-large g c = λ _.
     let groups = subst (λ all. AreGroupsOf T own new.lists.items keys all numbers []) c.numbers-all.ensures c.in_ok-numbers.ensures.numbers in
     let parts = subst (λ r. AreParts T r own new.made new.owners.items new.lists.items new.demands.items new.links.items) c.of.ensures c.in_ok-prepare.ensures.parts in
     let count = factored_count T own keep new.made new.owners.items new.lists.items new.demands.items new.links.items keys lists c.args.state.now numbers c.requires.prepared.own_pairs parts
-    c.in_ok-numbers.ensures.groups c.members_rise.ensures.rising c.in_ok-prepare.ensures.made groups.taken groups.within in
+    c.in_ok-numbers.ensures.groups c.invariant.ensures.rising c.in_ok-prepare.ensures.made groups.taken groups.within in
     let least = subst (λ ns. c.combinations.result ≤ product_size (map (made_of lists) ns)) c.as_slice.ensures c.combinations.ensures in
     omega (arith, count, least, c.if-combinations-most.true)
 

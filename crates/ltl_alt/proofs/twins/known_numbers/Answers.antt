@@ -15,7 +15,7 @@ groups-init g c = record {
 }
 
 pub group-group-requires-clause-first : goal.group-group-requires-clause-first
-group-group-requires-clause-first g c = all_at (λ x. x < 256) c.groups.rest c.in-Some.part c.members_rise.ensures.below c.in-Some.ensures
+group-group-requires-clause-first g c = all_at (λ x. x < 256) c.groups.rest c.in-Some.part c.invariant.ensures.below c.in-Some.ensures
 
 pub groups-smaller : goal.groups-smaller
 groups-smaller g c = fewer_left c.groups.rest c.group-group.result c.without-rest.result c.in-Some.part c.in-Some.ensures c.group-group.ensures.there c.without-rest.ensures
@@ -27,6 +27,6 @@ groups-preserved g c =
     record {
       numbers = groups_of_more (table_at c.args.table.now) c.args.own.now lists c.args.parts.now.demands.items c.args.parts.now.links.items c.args.all.now keys keys
           c.groups.numbers.items c.push.new.self.items c.groups.rest c.group-group.result c.without-rest.result c.in-Some.part c.in-Some-find.number c.requires.linked c.groups.invariant.inside c.groups.invariant.numbers
-          c.members_rise.ensures.rising c.members_rise-in-Some.ensures.rising c.group-group.ensures (keys_stay keys) c.in-Some-find.ensures c.in_ok-push.ensures.ok c.without-rest.ensures;
+          c.invariant.ensures.rising c.invariant-in-Some.ensures.rising c.group-group.ensures (keys_stay keys) c.in-Some-find.ensures c.in_ok-push.ensures.ok c.without-rest.ensures;
       inside = λ k h. c.groups.invariant.inside k (filter_cases (λ i. not (has nat_cmp i c.group-group.result)) c.groups.rest k (subst (λ xs. Has xs k) c.without-rest.ensures h)).0;
     }

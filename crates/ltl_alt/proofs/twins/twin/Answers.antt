@@ -41,7 +41,7 @@ returns-in-Some-find-clause-twin g c =
     let groups = c.in_ok-prepare.ensures.groups keep c.requires.prepared.groups in
     let taken : AreGroupsOf T own new.lists.items keys c.numbers-all.result numbers [] = some_is _ _ _ c.in_ok-numbers.ensures c.in-Some.is in
     let shape : IsShape T keep (map (made_of lists) numbers) c.args.state.now =
-    shaped T own keep new.made new.owners.items new.lists.items new.demands.items new.links.items keys lists c.args.state.now c.numbers-all.result numbers c.requires.prepared.own_pairs parts groups c.members_rise.ensures.rising
+    shaped T own keep new.made new.owners.items new.lists.items new.demands.items new.links.items keys lists c.args.state.now c.numbers-all.result numbers c.requires.prepared.own_pairs parts groups c.invariant.ensures.rising
     c.in_ok-prepare.ensures.made c.numbers-all.ensures taken in
     let found : IsShape T keep (map (made_of lists) c.as_slice-2.result.now) c.in-Some-find.twin = some_is _ _ _ (c.find.ensures T keep c.requires.shapes) c.in-Some-find.is in
     found ∙ ap (λ ns. in_order (all_products T (map (made_of lists) ns))) c.as_slice-2.ensures ∙ sym shape
@@ -59,7 +59,7 @@ returns-clause-shapes g c =
     let groups = c.in_ok-prepare.ensures.groups keep c.requires.prepared.groups in
     let taken : AreGroupsOf T own new.lists.items keys c.numbers-all.result numbers [] = some_is _ _ _ c.in_ok-numbers.ensures c.in-Some.is in
     let shape : IsShape T keep (map (made_of lists) numbers) c.args.state.now =
-    shaped T own keep new.made new.owners.items new.lists.items new.demands.items new.links.items keys lists c.args.state.now c.numbers-all.result numbers c.requires.prepared.own_pairs parts groups c.members_rise.ensures.rising
+    shaped T own keep new.made new.owners.items new.lists.items new.demands.items new.links.items keys lists c.args.state.now c.numbers-all.result numbers c.requires.prepared.own_pairs parts groups c.invariant.ensures.rising
     c.in_ok-prepare.ensures.made c.numbers-all.ensures taken in
     c.in_ok-remember.ensures T keep (subst (λ ns. IsShape T keep (map (made_of lists) ns) c.args.state.now) (sym c.as_slice-3.ensures) shape) c.requires.shapes
 
@@ -99,5 +99,5 @@ twin_by_pairs-requires-clause-whole g c =
     let new = c.prepare.new.parts in
     let parts = subst (λ r. AreParts T r own new.made new.owners.items new.lists.items new.demands.items new.links.items) c.of.ensures c.in_ok-prepare.ensures.parts in
     let inside = numbers_inside new.owners.items new.lists.items c.args.state.now c.numbers-all.result parts.rows.owner_count c.numbers-all.ensures in
-    whole_shape T own c.args.keep_implied new.made new.owners.items new.lists.items new.demands.items new.links.items c.args.state.now c.numbers-all.result c.requires.prepared.own_pairs parts c.members_rise.ensures.rising
-    c.in_ok-prepare.ensures.made c.numbers-all.ensures c.members_rise-2.ensures.rising inside
+    whole_shape T own c.args.keep_implied new.made new.owners.items new.lists.items new.demands.items new.links.items c.args.state.now c.numbers-all.result c.requires.prepared.own_pairs parts c.invariant.ensures.rising
+    c.in_ok-prepare.ensures.made c.numbers-all.ensures c.invariant-2.ensures.rising inside

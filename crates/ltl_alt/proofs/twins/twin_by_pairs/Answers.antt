@@ -13,7 +13,7 @@ use Rattle.ltl_alt.proofs.ShapeLaws.{some_is}
 use Rattle.ltl_alt.proofs.twins.twin_by_pairs.Goals as goal
 
 pub group-requires-clause-first : goal.group-requires-clause-first
-group-requires-clause-first g c = all_at (λ x. x < 256) c.args.all.now c.in-Some.part c.members_rise.ensures.below c.in-Some.ensures
+group-requires-clause-first g c = all_at (λ x. x < 256) c.args.all.now c.in-Some.part c.invariant.ensures.below c.in-Some.ensures
 
 pub returns-in-Some-find-clause-twin : goal.returns-in-Some-find-clause-twin
 returns-in-Some-find-clause-twin g c =

@@ -1,5 +1,5 @@
-use Rattle.std.proofs.Common.{◌≡◌, ◌≤◌, ◌+◌, ◌∙◌, length, subst, arith}
-use Rattle.ltl_automaton.specs.Net.{Net, edges_behind}
+use Rattle.std.proofs.Common.{◌≤◌, ◌∙◌, length, subst, arith}
+use Rattle.ltl_automaton.specs.Net.{Net}
 use Rattle.ltl_automaton.proofs.WayLaws.{behind_next}
 use Rattle.ltl_automaton.proofs.ahead.are_more_behind.Goals as goal
 

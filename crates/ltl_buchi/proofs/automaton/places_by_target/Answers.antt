@@ -4,7 +4,7 @@ use Rattle.std.proofs.lemmas.List.{length-map}
 use Rattle.ltl_alt.proofs.SortLaws.{refilled}
 use Rattle.ltl_automaton.specs.EdgeView.{edge_of}
 use Rattle.ltl_buchi.specs.BaView.{IsTargetOrder}
-use Rattle.ltl_buchi.specs.declared.automaton.Placed.{Placed}
+use Rattle.ltl_buchi.specs.declared.automaton.TargetPlace.{TargetPlace}
 use Rattle.ltl_buchi.proofs.PlacedLaws.{IsPlaced, placed_none, placed_next, placed_order, placed_here}
 use Rattle.ltl_buchi.proofs.automaton.places_by_target.Goals as goal
 
@@ -25,4 +25,4 @@ returns g c =
     let moved = subst (λ xs. IsPermutation xs new) shown c.sort_placed.ensures.permutation in
     let ordered = placed_order (map edge_of c.args.edges.now) c.loop-place.place c.loop-place.placed.items new c.loop-place.invariant all moved c.sort_placed.ensures.sorted in
     let listed = c.as_slice.ensures ∙ refilled c.loop-place.placed.items c.as_mut_slice.result.now new shown c.sort_placed.ensures.len in
-    record { order = subst (IsTargetOrder (map edge_of c.args.edges.now)) (sym (c.in_ok-places.ensures ∙ ap (map (λ (p : Placed). p.place)) listed)) ordered }
+    record { order = subst (IsTargetOrder (map edge_of c.args.edges.now)) (sym (c.in_ok-places.ensures ∙ ap (map (λ (p : TargetPlace). p.place)) listed)) ordered }

@@ -2,7 +2,7 @@ use Rattle.std.proofs.Common.{◌≡◌, Bool, true, false, List, ◌++◌, ◌�
 use Rattle.std.specs.Prelude.{map, take}
 use Rattle.std.specs.List.{list_any}
 use Rattle.ltl_spec.specs.Automata.Automaton.{Edge}
-use Rattle.ltl_spec.specs.Construction.ImpliedEdges.{is_above}
+use Rattle.ltl_spec.specs.Construction.ImpliedEdges.{implies_other}
 use Rattle.ltl_automaton.specs.EdgeView.{edge_of}
 use Rattle.ltl_automaton.specs.declared.edge.Edge as made
 use Rattle.ltl_automaton.proofs.NetLaws.{took}
@@ -18,7 +18,7 @@ loop-place-preserved g c =
     let n = c.loop-place.place in
     let l = c.loop-place-test.true in
     let x = edge_at es n in
-    let q : Edge → Bool = λ e. not (list_any (λ f. is_above f e) (map edge_of es)) in
+    let q : Edge → Bool = λ e. not (list_any (λ f. implies_other f e) (map edge_of es)) in
     let taken : take (n + 1) es ≡ take n es ++ x ∷ [] = took es n x l (any_edge es n _ _ l) in
     elim c.if-not-implied.branch [
       | then-not-implied+in_ok-push w ↦

@@ -13,11 +13,11 @@ returns-then-eq g c =
     let S = c.args.states.now in
     let own = c.as_slice.ensures.value ∙ c.in_ok-codes.ensures ∙ ap (range_with_len 0) c.list_count.ensures in
     let same = sym c.as_slice-2.ensures.value ∙ same_list _ _ (sym c.eq.ensures ∙ c.if-eq.true) ∙ c.as_slice-3.ensures.value in
-    first_done S c.shares.ensures c.requires.within (c.all_rise.ensures c.if-not-all_rise.false) c.as_slice.result.now c.in_ok-next.next.items own c.in_ok-next.ensures c.in_ok-names.names.items
+    first_done S c.invariant.ensures c.requires.within (c.all_rise.ensures c.if-not-all_rise.false) c.as_slice.result.now c.in_ok-next.next.items own c.in_ok-next.ensures c.in_ok-names.names.items
     (c.in_ok-names.ensures ∙ ap (range_with_len 0) c.len.ensures) same
 
 pub refined-requires-2-clause-round : goal.refined-requires-2-clause-round
 refined-requires-2-clause-round g c =
     let S = c.args.states.now in
     let own = c.as_slice.ensures.value ∙ c.in_ok-codes.ensures ∙ ap (range_with_len 0) c.list_count.ensures in
-    first_round S c.shares.ensures c.requires.within (c.all_rise.ensures c.if-not-all_rise.false) c.as_slice.result.now c.in_ok-next.next.items own c.in_ok-next.ensures
+    first_round S c.invariant.ensures c.requires.within (c.all_rise.ensures c.if-not-all_rise.false) c.as_slice.result.now c.in_ok-next.next.items own c.in_ok-next.ensures

@@ -12,7 +12,7 @@ pub first_codes-requires-clause-within : goal.first_codes-requires-clause-within
 first_codes-requires-clause-within g c =
     let S = c.args.states.now in
     let long = ap length c.as_slice.ensures.value ∙ long_of_round (automaton_of S) c.args.from _ c.requires.round in
-    subst (AreListsWithin S.lists) (sym long) (lists_within S c.shares.ensures c.requires.within)
+    subst (AreListsWithin S.lists) (sym long) (lists_within S c.invariant.ensures c.requires.within)
 
 pub returns-then-eq : goal.returns-then-eq
 returns-then-eq g c =
@@ -22,13 +22,13 @@ returns-then-eq g c =
     let same = sym c.as_slice-in-loop-round-2.ensures.value ∙ same_list _ _ (sym c.eq.ensures ∙ c.if-eq.true) ∙ c.as_slice-in-loop-round-3.ensures.value in
     let below = c.loop-round-test.true in
     let count = c.len-round-end.ensures in
-    round_done S c.shares.ensures c.loop-round.round c.loop-round.names.items c.loop-round.codes.items next c.loop-round.seen.keys (omega arith) c.loop-round.invariant.names c.loop-round.invariant.coded least same
+    round_done S c.invariant.ensures c.loop-round.round c.loop-round.names.items c.loop-round.codes.items next c.loop-round.seen.keys (omega arith) c.loop-round.invariant.names c.loop-round.invariant.coded least same
 
 pub recode-requires-clause-within : goal.recode-requires-clause-within
 recode-requires-clause-within g c =
     let S = c.args.states.now in
     let long = ap length c.as_slice-in-loop-round-4.ensures.value ∙ long_of_round (automaton_of S) c.loop-round.round _ c.loop-round.invariant.names in
-    subst (AreListsWithin S.lists) (sym long) (lists_within S c.shares.ensures c.requires.within)
+    subst (AreListsWithin S.lists) (sym long) (lists_within S c.invariant.ensures c.requires.within)
 
 pub recode-requires-clause-long : goal.recode-requires-clause-long
 recode-requires-clause-long g c =
@@ -42,7 +42,7 @@ loop-round-preserved g c =
     let next = c.in_ok-next.next.items in
     let least = subst (λ cs. IsLeastAlike (length S.states) (coded_place S.states cs) next) c.as_slice-in-loop-round.ensures.value c.in_ok-next.ensures in
     record {
-      names = round_on S c.shares.ensures c.loop-round.round c.loop-round.names.items c.loop-round.codes.items next c.loop-round.seen.keys c.loop-round.invariant.names c.loop-round.invariant.coded least;
+      names = round_on S c.invariant.ensures c.loop-round.round c.loop-round.names.items c.loop-round.codes.items next c.loop-round.seen.keys c.loop-round.invariant.names c.loop-round.invariant.coded least;
       coded = subst (λ ns. IsCoded (length S.lists) (list_view S.lists (slice_index ns)) c.recode.new.seen.keys c.recode.new.codes.items) c.as_slice-in-loop-round-5.ensures.value c.in_ok-recode.ensures;
     }
 

@@ -1,5 +1,5 @@
 use Rattle.std.proofs.Common.{◌∙◌, ap, arith, length, Some}
-use Rattle.ltl_automaton.specs.declared.shared.Place.{Place}
+use Rattle.ltl_automaton.specs.declared.shared.SharedState.{SharedState}
 use Rattle.ltl_buchi.specs.Classes.{coded_place}
 use Rattle.ltl_buchi.proofs.ClassLaws.{recoded_push, place_coded}
 use Rattle.ltl_buchi.proofs.Within.{pushed_longer}
@@ -11,7 +11,7 @@ loop-s-preserved g c =
     let view = coded_place c.args.states.now.states c.args.list_codes.now in
     record {
       long = omega (arith, long, c.loop-s.invariant.long);
-      coded = recoded_push (length c.args.states.now.states) view view c.loop-s.s c.loop-s.places.keys c.place_code.new.places.keys c.loop-s.codes.items c.push.new.self.items c.in_ok-place_code.field-0 c.loop-s.invariant.coded c.loop-s.invariant.long
-          (c.in_ok-place_code.ensures.distinct c.loop-s.invariant.coded.distinct) c.in_ok-place_code.ensures.extends c.in_ok-push.ensures.items
-          (c.in_ok-place_code.ensures.place ∙ ap (λ (p : Place). Some p) (place_coded c.args.states.now.states c.args.list_codes.now c.loop-s.s c.place-place.result c.place-place.ensures.place));
+      coded = recoded_push (length c.args.states.now.states) view view c.loop-s.s c.loop-s.places.keys c.state_code.new.places.keys c.loop-s.codes.items c.push.new.self.items c.in_ok-state_code.field-0 c.loop-s.invariant.coded c.loop-s.invariant.long
+          (c.in_ok-state_code.ensures.distinct c.loop-s.invariant.coded.distinct) c.in_ok-state_code.ensures.extends c.in_ok-push.ensures.items
+          (c.in_ok-state_code.ensures.place ∙ ap (λ (p : SharedState). Some p) (place_coded c.args.states.now.states c.args.list_codes.now c.loop-s.s c.state-state.result c.state-state.ensures.state));
     }

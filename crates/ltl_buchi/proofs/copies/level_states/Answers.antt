@@ -1,38 +1,28 @@
-use Rattle.std.proofs.Common.{◌≡◌, ap, subst, Result, Err}
+use Rattle.std.proofs.Common.{ap, subst, sym, Result, Err}
 use Rattle.std.specs.Result.{IsErrOf, IsErrAnd}
 use Rattle.ltl_automaton.specs.SharedView.{automaton_of}
 use Rattle.ltl_automaton.specs.declared.fault.AutomatonFault.{AutomatonFault}
-use Rattle.ltl_automaton.specs.declared.fault.AutomatonFault.TheVariants as listed
-use Rattle.ltl_buchi.specs.FaultOf.{fault_of}
-use Rattle.ltl_buchi.specs.declared.fault.BaFault.{BaFault}
-use Rattle.ltl_buchi.specs.declared.fault.BaFault.TheVariants.{TooLarge, OutOfMemory}
+use Rattle.ltl_automaton.specs.declared.fault.AutomatonFault.TheVariants.{TooLarge}
 use Rattle.ltl_buchi.proofs.CopyLaws.{is_ba, is_plain, is_leveled, is_too_large, is_not_too_large}
 use Rattle.ltl_buchi.proofs.copies.level_states.Goals as goal
 
-passed_on : {T : Type 0} (r : Result T BaFault) (P : BaFault → Type 0) → IsErrAnd r P → IsErrOf r TooLarge → P TooLarge
+passed_on : {T : Type 0} (r : Result T AutomatonFault) (P : AutomatonFault → Type 0) → IsErrAnd r P → IsErrOf r TooLarge → P TooLarge
 passed_on r P a e = subst (λ q. IsErrAnd q P) e a
 
-too_large : (f : AutomatonFault) → TooLarge ≡ fault_of f → f ≡ listed.TooLarge
-too_large listed.TooLarge e = λ i. listed.TooLarge
-too_large listed.OutOfMemory e = absurd (never e)
-  where
-    never : TooLarge ≡ OutOfMemory → ⊥
-    never q = cc
-
 pub returns-in_err-states-clause-many : goal.returns-in_err-states-clause-many
-returns-in_err-states-clause-many g c = λ e. is_too_large c.args.automaton.now (c.in_err-states.ensures.large (ap (λ (f : AutomatonFault). Err f) (too_large _ (passed_on _ _ c.from_residual.ensures.1 e))))
+returns-in_err-states-clause-many g c = λ e. is_too_large c.args.automaton.now (c.in_err-states.ensures.large (ap (λ (f : AutomatonFault). Err f) (sym (passed_on _ _ c.from_residual.ensures.1 e))))
 
 pub returns-clause-plain : goal.returns-clause-plain
 returns-clause-plain g c =
     let A = c.args.automaton.now in
     let B = automaton_of c.in_ok-states.states in
     record {
-      inside = is_ba A c.stays_within.ensures B c.in_ok-states.ensures.reachable c.in_ok-states.ensures.bounded;
-      plain = is_plain A c.stays_within.ensures B c.in_ok-states.ensures.reachable;
+      inside = is_ba A c.invariant.ensures.inside B c.in_ok-states.ensures.reachable c.in_ok-states.ensures.bounded;
+      plain = is_plain A c.invariant.ensures.inside B c.in_ok-states.ensures.reachable;
     }
 
 pub returns-clause-copies : goal.returns-clause-copies
-returns-clause-copies g c = is_leveled c.args.automaton.now c.stays_within.ensures (automaton_of c.in_ok-states.states) c.in_ok-states.ensures.reachable
+returns-clause-copies g c = is_leveled c.args.automaton.now c.invariant.ensures.inside (automaton_of c.in_ok-states.states) c.in_ok-states.ensures.reachable
 
 pub returns-clause-few : goal.returns-clause-few
 returns-clause-few g c = is_not_too_large c.args.automaton.now c.in_ok-states.ensures.fits

@@ -2,7 +2,7 @@ use Rattle.std.proofs.Common.{take}
 use Rattle.ltl_spec.specs.Collections.Sets.{Has}
 use Rattle.ltl_automaton.specs.EdgeView.{edge_of}
 use Rattle.ltl_automaton.specs.declared.edge.Edge as made
-use Rattle.ltl_buchi.specs.Asked.{IsOfWeight}
+use Rattle.ltl_buchi.specs.IndexedEdge.{IsOfWeight}
 use Rattle.ltl_buchi.proofs.implied.are_of_one_weight.Given as goal
 
 abbrev pub invariant-edges : goal.invariant-edges

@@ -1,7 +1,7 @@
 use Rattle.std.proofs.Common.{take}
 use Rattle.std.specs.Prelude.{map}
 use Rattle.ltl_automaton.specs.EdgeView.{edge_of}
-use Rattle.ltl_buchi.specs.Asked.{AreAsked}
+use Rattle.ltl_buchi.specs.IndexedEdge.{AreAsked}
 use Rattle.ltl_buchi.proofs.implied.ask_all.Given as goal
 
 abbrev pub invariant-edges : goal.invariant-edges

@@ -2,10 +2,10 @@ use Rattle.std.proofs.Common.{◌≡◌, List, Bool, true, false, ◌∙◌, sym
 use Rattle.std.specs.Prelude.{map, take}
 use Rattle.std.specs.List.{list_any}
 use Rattle.ltl_spec.specs.Automata.Automaton.{Edge}
-use Rattle.ltl_spec.proofs.Construction.ImpliedEdges.{is_above}
+use Rattle.ltl_spec.proofs.Construction.ImpliedEdges.{implies_other}
 use Rattle.ltl_automaton.specs.EdgeView.{edge_of}
 use Rattle.ltl_automaton.specs.declared.edge.Edge as made
-use Rattle.ltl_buchi.specs.Asked.{is_below, is_other}
+use Rattle.ltl_buchi.specs.IndexedEdge.{is_below, is_other}
 use Rattle.ltl_buchi.proofs.AskedLaws.{implied_test}
 use Rattle.ltl_automaton.proofs.NetLaws.{took}
 use Rattle.ltl_buchi.proofs.MergeLaws.{kept_next, dropped_next}
@@ -18,9 +18,9 @@ returns-then-are_of_one_weight g c = one_weight c.args.edges.now c.in_ok-all.all
 
 pub loop-edge-preserved : goal.loop-edge-preserved
 loop-edge-preserved g c =
-    let q : Edge → Bool = λ e. not (list_any (λ f. is_above f e) (map edge_of c.args.edges.now)) in
+    let q : Edge → Bool = λ e. not (list_any (λ f. implies_other f e) (map edge_of c.args.edges.now)) in
     let at = c.edge-item.result in
-    let same : c.has_lesser.result ≡ list_any (λ f. is_above f (edge_of at)) (map edge_of c.args.edges.now) =
+    let same : c.has_lesser.result ≡ list_any (λ f. implies_other f (edge_of at)) (map edge_of c.args.edges.now) =
     c.has_lesser.ensures ∙ ap (list_any (λ k. is_other k c.of.result && is_below k c.of.result)) (c.in_ok-lookup.ensures ∙ c.as_slice.ensures)
     ∙ implied_test (map edge_of c.args.edges.now) c.in_ok-asked.asked.items c.of.result at c.in_ok-asked.ensures c.of.ensures.asked c.of.ensures.edge in
     let taken = took c.args.edges.now c.loop-edge.edge-index c.edge-item.result c.loop-edge-test.true c.edge-item.is in

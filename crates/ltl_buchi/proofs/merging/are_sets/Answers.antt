@@ -15,7 +15,7 @@ loop-edge-preserved c =
     let i = c.loop-edge.edge-index in
     let e = c.edge-item.result in
     subst (All IsSetEdge) (sym (map_pushed edge_of (take i edges) _ e (took edges i e c.loop-edge-test.true c.edge-item.is)))
-    (All-push IsSetEdge (map edge_of (take i edges)) (edge_of e) c.loop-edge.invariant (record { cube = c.literals_rise.ensures.rising; marks = c.members_rise.ensures.rising }))
+    (All-push IsSetEdge (map edge_of (take i edges)) (edge_of e) c.loop-edge.invariant (record { cube = c.invariant.ensures.rising; marks = c.invariant-in-loop-edge.ensures.rising }))
 
 pub returns : goal.returns
 returns c = subst (λ (es : List code.Edge). All IsSetEdge (map edge_of es)) (take_whole c.loop-edge.edge-index c.args.edges.now c.loop-edge-test.false) c.loop-edge.invariant

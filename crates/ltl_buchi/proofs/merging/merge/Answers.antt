@@ -7,13 +7,13 @@ use Rattle.ltl_buchi.proofs.MergedLaws.{merged_accepting_gba, gba_within}
 use Rattle.ltl_buchi.proofs.merging.merge.Goals as goal
 
 pub merged-requires : goal.merged-requires
-merged-requires g c = record { within = subst (λ (B : Automaton). IsWithinStates B.states) (sym c.states.ensures) (gba_within c.args.gba.now c.stays_within.ensures) }
+merged-requires g c = record { within = subst (λ (B : Automaton). IsWithinStates B.states) (sym c.states.ensures) (gba_within c.args.gba.now c.invariant.ensures.inside) }
 
 pub new-requires : goal.new-requires
 new-requires g c =
     let o = c.args.options.now in
     let e = c.in_ok-states.ensures ∙ ap (merged_automaton o.keep_implied o.keep_equal) c.states.ensures in
-    subst IsAcceptingGba (sym e) (merged_accepting_gba c.args.gba.now o.keep_implied o.keep_equal c.stays_within.ensures c.accepts_everywhere.ensures)
+    subst IsAcceptingGba (sym e) (merged_accepting_gba c.args.gba.now o.keep_implied o.keep_equal c.invariant.ensures.inside c.invariant.ensures.accepting)
 
 pub returns-clause-merged : goal.returns-clause-merged
 returns-clause-merged g c =

@@ -4,7 +4,7 @@ use Rattle.ltl_buchi.specs.BaView.{IsPlainBa}
 use Rattle.ltl_buchi.proofs.merging.merge_ba.Goals as goal
 
 pub merged_states-requires : goal.merged_states-requires
-merged_states-requires g c = record { plain = subst IsPlainBa (sym c.states.ensures.same) (record { inside = c.stays_within.ensures; plain = c.states.ensures.plain }) }
+merged_states-requires g c = record { plain = subst IsPlainBa (sym c.states.ensures.same) (record { inside = c.invariant.ensures; plain = c.states.ensures.plain }) }
 
 pub returns-clause-merged : goal.returns-clause-merged
 returns-clause-merged g c =

@@ -9,7 +9,7 @@ use Rattle.ltl_buchi.proofs.MergedLaws.{merged_accepting_gba, gba_within}
 use Rattle.ltl_buchi.proofs.smaller.smaller_gba.Goals as goal
 
 pub changed-requires : goal.changed-requires
-changed-requires g c = record { within = subst (λ (B : Automaton). IsWithinStates B.states) (sym c.states.ensures) (gba_within c.args.gba c.stays_within.ensures) }
+changed-requires g c = record { within = subst (λ (B : Automaton). IsWithinStates B.states) (sym c.states.ensures) (gba_within c.args.gba c.invariant.ensures.inside) }
 
 pub new-requires : goal.new-requires
 new-requires g c =
@@ -17,4 +17,4 @@ new-requires g c =
     let merged = merged_automaton o.keep_implied o.keep_equal in
     let e : automaton_of c.in-Some.states ≡ merged (automaton_of c.states.result.now) =
     subst (λ p. MatchOption p (automaton_of c.states.result.now ≡ merged (automaton_of c.states.result.now)) (λ m. automaton_of m ≡ merged (automaton_of c.states.result.now))) c.in-Some.is c.in_ok-states.ensures in
-    subst IsAcceptingGba (sym (e ∙ ap merged c.states.ensures)) (merged_accepting_gba c.args.gba o.keep_implied o.keep_equal c.stays_within.ensures c.accepts_everywhere.ensures)
+    subst IsAcceptingGba (sym (e ∙ ap merged c.states.ensures)) (merged_accepting_gba c.args.gba o.keep_implied o.keep_equal c.invariant.ensures.inside c.invariant.ensures.accepting)

@@ -10,7 +10,7 @@ use Rattle.ltl_buchi.proofs.standing.stands.Goals as goal
 
 pub returns-then-keep_implied : goal.returns-then-keep_implied
 returns-then-keep_implied g c = λ _.
-    stands_by c.args.states.now c.shares.ensures c.args.keep_implied c.args.names.now c.requires.within c.requires.long (c.are_own.ensures c.if-not-are_own.false) (c.all_rise.ensures c.if-not-all_rise.false)
+    stands_by c.args.states.now c.invariant.ensures c.args.keep_implied c.args.names.now c.requires.within c.requires.long (c.are_own.ensures c.if-not-are_own.false) (c.all_rise.ensures c.if-not-all_rise.false)
     (λ k. absurd (never (sym c.if-keep_implied.true ∙ k)))
   where
     never : true ≡ false → ⊥
@@ -20,10 +20,10 @@ pub none_implied-requires : goal.none_implied-requires
 none_implied-requires g c =
     let S = c.args.states.now in
     let long : length c.as_mut_slice.result.now ≡ length (automaton_of S).states = ap length c.as_mut_slice.ensures.value ∙ c.in_ok-resize.ensures.len ∙ c.len.ensures in
-    record { within = subst (AreListsWithin S.lists) (sym long) (lists_within S c.shares.ensures c.requires.within) }
+    record { within = subst (AreListsWithin S.lists) (sym long) (lists_within S c.invariant.ensures c.requires.within) }
 
 pub returns : goal.returns
 returns g c =
     let S = c.args.states.now in
     IfOk-weaker c.none_implied.result (λ b. b ≡ true → All (λ es. unimplied_edges es ≡ es) S.lists) (λ b. b ≡ true → quotient c.args.keep_implied c.args.names.now (automaton_of S) ≡ automaton_of S)
-    (λ b h t. stands_by S c.shares.ensures c.args.keep_implied c.args.names.now c.requires.within c.requires.long (c.are_own.ensures c.if-not-are_own.false) (c.all_rise.ensures c.if-not-all_rise.false) (λ _. h t)) c.none_implied.ensures
+    (λ b h t. stands_by S c.invariant.ensures c.args.keep_implied c.args.names.now c.requires.within c.requires.long (c.are_own.ensures c.if-not-are_own.false) (c.all_rise.ensures c.if-not-all_rise.false) (λ _. h t)) c.none_implied.ensures

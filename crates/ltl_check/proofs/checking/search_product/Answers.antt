@@ -15,7 +15,7 @@ word-requires-clause-distinct g c = subst HasNoRepeats (sym c.requires.names.all
 pub word-requires-clause-propositions : goal.word-requires-clause-propositions
 word-requires-clause-propositions g c =
     subst (λ ns. IsTrue (list_all is_proposition ns)) (sym c.requires.names.all)
-    (unified_propositions c.args.product.now.first.now.names c.args.formula.now.names c.stays_within.ensures.propositions c.len.ensures.formula.propositions)
+    (unified_propositions c.args.product.now.first.now.names c.args.formula.now.names c.invariant.ensures.propositions c.invariant-3.ensures.propositions)
 
 pub word-requires-clause-few : goal.word-requires-clause-few
 word-requires-clause-few g c = omega (arith, c.requires.names.few, map_length (λ n. n.now) c.args.names.now)
@@ -23,19 +23,19 @@ word-requires-clause-few g c = omega (arith, c.requires.names.few, map_length (�
 pub word-requires-clause-within : goal.word-requires-clause-within
 word-requires-clause-within g c =
     let w = rw c.in-Some.is at c.in_ok-walk.ensures.found in
-    letters_within c.args.product.now.first.now c.args.formula.now.names c.args.product.now.second.now c.args.product.now.numbers.now c.stays_within.ensures c.stays_within-2.ensures c.requires.named c.requires.numbers
+    letters_within c.args.product.now.first.now c.args.formula.now.names c.args.product.now.second.now c.args.product.now.numbers.now c.invariant.ensures c.invariant-2.ensures c.requires.named c.requires.numbers
     c.in-Some.walk.way.items c.in-Some.walk.turn.items w (length c.args.names.now) (sym (map_length _ c.args.names.now) ∙ ap length c.requires.names.all)
 
 pub returns-in_ok-word-in-Some-clause-verdict : goal.returns-in_ok-word-in-Some-clause-verdict
 returns-in_ok-word-in-Some-clause-verdict g c =
     let w = rw c.in-Some.is at c.in_ok-walk.ensures.found in
-    walk_verdict c.args.product.now.first.now c.args.formula.now.names c.args.product.now.second.now c.args.product.now.numbers.now c.stays_within.ensures c.stays_within-2.ensures c.requires.named c.requires.numbers
+    walk_verdict c.args.product.now.first.now c.args.formula.now.names c.args.product.now.second.now c.args.product.now.numbers.now c.invariant.ensures c.invariant-2.ensures c.requires.named c.requires.numbers
     c.in-Some.walk.way.items c.in-Some.walk.turn.items w _ c.requires.names.all c.in_ok-word-in-Some.field-0 c.in_ok-word-in-Some.ensures
 
 pub returns-in-None-clause-verdict : goal.returns-in-None-clause-verdict
 returns-in-None-clause-verdict g c =
     let e : c.find.result ≡ Ok None = (let w = c.in_ok-walk.was in let i = c.in-None.is in cc) in
-    none_verdict c.args.product.now.first.now c.args.formula.now.names c.args.product.now.second.now c.args.product.now.numbers.now c.stays_within.ensures c.stays_within-2.ensures c.requires.named c.requires.numbers
+    none_verdict c.args.product.now.first.now c.args.formula.now.names c.args.product.now.second.now c.args.product.now.numbers.now c.invariant.ensures c.invariant-2.ensures c.requires.named c.requires.numbers
     (c.find.ensures.none e)
 
 pub returns-in-None-clause-least : goal.returns-in-None-clause-least
@@ -44,5 +44,5 @@ returns-in-None-clause-least g c _ =
     let l = c.find.ensures.least e in (
       l.0,
       l.1,
-      paid_copies c.args.product.now.first.now c.args.formula.now.names c.args.product.now.second.now c.args.product.now.numbers.now c.stays_within.ensures c.stays_within-2.ensures c.requires.named c.requires.numbers l.0 l.2,
+      paid_copies c.args.product.now.first.now c.args.formula.now.names c.args.product.now.second.now c.args.product.now.numbers.now c.invariant.ensures c.invariant-2.ensures c.requires.named c.requires.numbers l.0 l.2,
     )

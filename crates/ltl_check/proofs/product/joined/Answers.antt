@@ -24,7 +24,7 @@ pub returns : goal.returns
 returns c =
     sym (c.loop-literal.invariant.whole
     ∙ ap (λ (ls : List made.Literal). join_cubes c.loop-literal.cube (renamed_cube (number_in c.args.numbers.now) (cube_of ls))) c.in-None.ensures.steps.0
-    ∙ join_nothing c.loop-literal.cube c.literals_rise.ensures.rising c.literals_rise.ensures.consistent)
+    ∙ join_nothing c.loop-literal.cube c.invariant.ensures.rising c.invariant.ensures.consistent)
 
 pub numbered-requires-clause-named : goal.numbered-requires-clause-named
 numbered-requires-clause-named c = first_below (length c.args.numbers.now) _ _ c.in-Some.literal c.in-Some.ensures.steps c.loop-literal.invariant.named

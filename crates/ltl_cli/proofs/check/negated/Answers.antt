@@ -1,22 +1,21 @@
 use Rattle.std.proofs.lemmas.Result.{err_from_is_err_and}
 use Rattle.ltl_formula.specs.FormulaView.{reading_of}
-use Rattle.ltl_cli.proofs.CheckLaws.{formula_refused, negation_refused, plan_reads}
+use Rattle.ltl_cli.proofs.CheckLaws.{formula_refused, negation_refused}
 use Rattle.ltl_cli.proofs.check.negated.Goals as goal
 
 pub returns-in_err-formula-clause-found : goal.returns-in_err-formula-clause-found
 returns-in_err-formula-clause-found g c =
     let (input, s, h) = c.in_err-formula.ensures.read in
     let p = err_from_is_err_and c.from_residual.result c.from_residual.ensures.1 in
-    (input, s, rw (p.1, p.2) (λ file. formula_refused c.args.plan.now input file _ _ c.formula.ensures h))
+    (input, s, rw (p.1, p.2) (λ file. formula_refused c.args.plan.now input file _ h))
 
 pub returns-in_err-violations-clause-found : goal.returns-in_err-violations-clause-found
 returns-in_err-violations-clause-found g c =
     let (input, s, h) = c.in_ok-formula.ensures.read in
     let p = err_from_is_err_and c.from_residual-in_err-violations.result c.from_residual-in_err-violations.ensures.1 in
-    let reads = plan_reads c.args.plan.now input c.in_ok-formula.formula _ c.formula.ensures h in
-    (input, s, rw (p.1, p.2) (λ file. negation_refused c.args.plan.now input (reading_of c.in_ok-formula.formula) reads file _ c.in_err-violations.ensures.step))
+    (input, s, rw (p.1, p.2) (λ file. negation_refused c.args.plan.now input (reading_of c.in_ok-formula.formula) h file _ c.in_err-violations.ensures.step))
 
 pub returns-clause-found : goal.returns-clause-found
 returns-clause-found g c =
     let (input, s, h) = c.in_ok-formula.ensures.read in
-    (input, s, (plan_reads c.args.plan.now input c.in_ok-formula.formula _ c.formula.ensures h, c.in_ok-violations.ensures.step))
+    (input, s, (h, c.in_ok-violations.ensures.step))

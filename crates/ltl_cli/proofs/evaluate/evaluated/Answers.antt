@@ -8,21 +8,21 @@ pub returns-in_err-formula : goal.returns-in_err-formula
 returns-in_err-formula g c =
     let (input, s, reads) = c.in_err-formula.ensures.read in
     let p = err_from_is_err_and c.from_residual.result c.from_residual.ensures.1 in
-    (input, s, rw (p.1, p.2) (formula_refused c.args.plan.now c.args.text.now input _ _ c.formula.ensures reads))
+    (input, s, rw (p.1, p.2) (formula_refused c.args.plan.now c.args.text.now input _ reads))
 
 pub returns-in_err-word : goal.returns-in_err-word
 returns-in_err-word g c =
     let (input, s, reads) = c.in_ok-formula.ensures.read in
     let p = err_from_is_err_and c.from_residual-in_err-word.result c.from_residual-in_err-word.ensures.1 in
-    (input, s, rw p.1 (word_refused c.args.plan.now c.args.text.now input c.in_ok-formula.formula _ c.formula.ensures reads _ _ p.2 (subst (λ (t : List ℕ). IsRefusedFor c.in_ok-formula.formula.names t c.in_err-word.field-0.0) c.as_bytes.ensures.value c.in_err-word.ensures)))
+    (input, s, rw p.1 (word_refused c.args.plan.now c.args.text.now input c.in_ok-formula.formula reads _ _ p.2 (subst (λ (t : List ℕ). IsRefusedFor c.in_ok-formula.formula.names t c.in_err-word.field-0.0) c.as_bytes.ensures.value c.in_err-word.ensures)))
 
 pub returns-in_err-truth : goal.returns-in_err-truth
 returns-in_err-truth g c =
     let (input, s, reads) = c.in_ok-formula.ensures.read in
     let p = err_from_is_err_and c.from_residual-in_err-truth.result c.from_residual-in_err-truth.ensures.1 in
-    (input, s, rw p.1 (short_evaluation c.args.plan.now c.args.text.now input c.in_ok-formula.formula _ c.formula.ensures reads _ p.2))
+    (input, s, rw p.1 (short_evaluation c.args.plan.now c.args.text.now input c.in_ok-formula.formula reads _ p.2))
 
 pub returns : goal.returns
 returns g c =
     let (input, s, reads) = c.in_ok-formula.ensures.read in
-    (input, s, found c.args.plan.now c.args.text.now input c.in_ok-formula.formula _ c.formula.ensures reads c.in_ok-word.word c.in_ok-truth.truth (subst (λ (t : List ℕ). IsReadAs c.in_ok-formula.formula.names t c.in_ok-word.word) c.as_bytes.ensures.value c.in_ok-word.ensures) c.in_ok-truth.ensures)
+    (input, s, found c.args.plan.now c.args.text.now input c.in_ok-formula.formula reads c.in_ok-word.word c.in_ok-truth.truth (subst (λ (t : List ℕ). IsReadAs c.in_ok-formula.formula.names t c.in_ok-word.word) c.as_bytes.ensures.value c.in_ok-word.ensures) c.in_ok-truth.ensures)

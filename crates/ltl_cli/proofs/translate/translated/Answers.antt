@@ -1,5 +1,5 @@
 use Rattle.std.proofs.lemmas.Result.{err_from_is_err_and}
-use Rattle.ltl_cli.proofs.RunLaws.{formula_refused, text_prints, text_refused}
+use Rattle.ltl_cli.proofs.TranslationLaws.{formula_refused, text_prints, text_refused}
 use Rattle.ltl_cli.proofs.translate.translated.Goals as goal
 
 pub returns-in_err-formula-clause-found : goal.returns-in_err-formula-clause-found

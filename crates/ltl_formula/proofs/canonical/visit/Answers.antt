@@ -1,6 +1,6 @@
 use Rattle.std.proofs.Common.{◌≡◌, ◌+◌, ◌<◌, [], ◌∷◌, ◌++◌, ◌∙◌, ap, sym, refl, arith, length, map, string_bytes}
 use Rattle.std.proofs.lemmas.Grind.{common_steps}
-use Rattle.ltl_formula.specs.declared.canonical.Work.TheVariants.{Close, Middle, Visit}
+use Rattle.ltl_formula.specs.declared.canonical.Task.TheVariants.{Close, Middle, Visit}
 use Rattle.ltl_formula.specs.declared.operators.Node.TheVariants.{Constant, Proposition, Unary, Binary}
 use Rattle.std.specs.Prelude.{sum_by}
 use Rattle.ltl_formula.specs.FormulaView.{trees}

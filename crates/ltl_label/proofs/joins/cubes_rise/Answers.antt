@@ -10,6 +10,6 @@ cubes-preserved c d h =
     let next : take (c.cubes.cube-index + 1) c.args.cubes.now ≡ take c.cubes.cube-index c.args.cubes.now ++ c.cube-item.result ∷ [] = grind (arith, common_steps) in
     elim (append_cases (take c.cubes.cube-index c.args.cubes.now) (c.cube-item.result ∷ []) d (subst (λ l. Has l d) next h)) [
       | inl k ↦ c.cubes.invariant d k
-      | inr (inl e) ↦ subst (IsRising literal_cmp) (sym e) c.literals_rise.ensures.rising
+      | inr (inl e) ↦ subst (IsRising literal_cmp) (sym e) c.invariant.ensures.rising
       | inr (inr n) ↦ absurd n
     ]

@@ -19,7 +19,7 @@ returns-clause-joins g c =
     part_waits (λ s. joins s.left.items s.right.items) c.put_waiting.result c.put_waiting.new.waiting.items c.args.waiting.now.items
     (joins left-without right-without ++ (joins made right-with ++ joins left-with all)) (joins left right)
     (parted_by q left right left-with left-without c.in_ok-left.left.made.items made right-with right-without c.in_ok-right.right.made.items all
-    c.literals_rise.ensures.rising
+    c.invariant.ensures.rising
     (subst (λ xs. (d : Cube) → Has xs d → IsRising literal_cmp d) c.as_slice.ensures c.cubes_rise.ensures)
     (c.in_ok-left.ensures.with ∙ ap (with_all q true) c.as_slice-2.ensures)
     (c.in_ok-left.ensures.without ∙ ap (with_all q false) c.as_slice-2.ensures)

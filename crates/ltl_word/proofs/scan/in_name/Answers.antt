@@ -1,7 +1,7 @@
 use Rattle.std.proofs.Common.{◌+◌}
 use Rattle.std.proofs.lemmas.Result.{IfOk-weaker}
 use Rattle.ltl_word.specs.WrittenView.{place_of}
-use Rattle.ltl_word.specs.declared.place.Place.TheVariants.{InName}
+use Rattle.ltl_word.specs.declared.place.WordPlace.TheVariants.{InName}
 use Rattle.ltl_word.proofs.ScanLaws.{name_goes_on, name_ends}
 use Rattle.ltl_word.proofs.scan.in_name.Goals as goal
 

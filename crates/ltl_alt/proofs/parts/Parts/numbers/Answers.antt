@@ -13,7 +13,7 @@ contains-requires g c =
     let test = c.parts-test.true in
     let inside : c.parts.k < length owners = omega arith in
     let there = subst (Has owners) (sym c.index.ensures) (Has-at owners c.parts.k c.index.result.now inside) in
-    all_at (λ x. x < 256) c.args.self.now.made c.index.result.now c.members_rise.ensures.below (c.requires.owned c.index.result.now there)
+    all_at (λ x. x < 256) c.args.self.now.made c.index.result.now c.invariant.ensures.below (c.requires.owned c.index.result.now there)
 
 pub put_if-requires : goal.put_if-requires
 put_if-requires g c =

@@ -16,7 +16,7 @@ members-init g c =
       parts = c.requires.parts;
       made = none_left made state c.iter-rest.result left;
       longer = longer_none c.args.self.now.lists.items;
-      below = subst (AllByRecursion (λ i. i < 256)) (sym c.iter-rest.ensures.members) c.members_rise.ensures.below;
+      below = subst (AllByRecursion (λ i. i < 256)) (sym c.iter-rest.ensures.members) c.invariant.ensures.below;
       left = c.count-left.ensures ∙ ap length (sym c.iter-rest.ensures.members);
       room = omega arith;
     }

@@ -11,4 +11,4 @@ returns g c =
 
 pub sets_from-requires-clause-place : goal.sets_from-requires-clause-place
 sets_from-requires-clause-place g c =
-    λ e. c.place.ensures.small (kind_stands c.args.table.now c.args.row c.row.result c.len.ensures.table c.requires.within c.row.ensures.found c.row.ensures.operands e)
+    λ e. c.place.ensures.small (kind_stands c.args.table.now c.args.row c.row.result c.invariant.ensures c.requires.within c.row.ensures.found c.row.ensures.operands e)

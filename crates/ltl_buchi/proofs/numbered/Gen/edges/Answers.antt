@@ -10,4 +10,4 @@ pub returns-clause-within : goal.returns-clause-within
 returns-clause-within g c =
     let A = c.self.inside.automaton in
     subst (λ (B : Automaton). All (λ (e : made.Edge). IsEdgeWithin (length B.states) B.sets (edge_of e)) c.edges.result.now) c.self.view_is
-    (seen_within edge_of A (IsEdgeWithin (length A.states) A.sets) c.args.i c.edges.result.now c.edges.ensures c.stays_within.ensures.within)
+    (seen_within edge_of A (IsEdgeWithin (length A.states) A.sets) c.args.i c.edges.result.now c.edges.ensures c.invariant.ensures.inside.within)
