@@ -3,47 +3,61 @@ use Rattle.std.proofs.Common.{◌≡◌, List, [], ◌∷◌, ◌++◌, ℕ, zer
 use Rattle.std.specs.Prelude.{Result, slice_index_or, slice_set}
 use Rattle.std.proofs.lemmas.List.{map-set}
 use Rattle.ltl_spec.specs.Automata.Automaton.{Edge}
+use Rattle.ltl_spec.specs.Tools.Limits.{stated_limits}
+use Rattle.ltl_spec.specs.Hoa.HoaPlace as spec
+use Rattle.ltl_spec.specs.Hoa.HoaPlace.{Before}
+use Rattle.ltl_spec.specs.Hoa.HoaStep as table
 use Rattle.ltl_hoa.specs.declared.fault.Stop.{Stop}
 use Rattle.ltl_hoa.specs.declared.place.Place.{Place}
 use Rattle.ltl_hoa.specs.declared.place.BodyPlace.{BodyPlace}
 use Rattle.ltl_hoa.specs.declared.token.TokenKind.{TokenKind}
 use Rattle.ltl_hoa.specs.declared.token.TokenKind.TheVariants as made
 use Rattle.ltl_hoa.specs.TokenView.{token_of}
-use Rattle.ltl_hoa.specs.BodyView as view
-use Rattle.ltl_hoa.specs.BodyView.{BodyView, BodyLeads}
+use Rattle.ltl_hoa.specs.BodyView.{BodyView, filed}
+use Rattle.ltl_hoa.specs.Shown.{came_in, Leads, StepsAt, Takes, TakesAt}
+use Rattle.ltl_hoa.proofs.BodySteps.{filed_shows}
 
 -- no edge begins
-edge_else_is : (v : BodyView) (k : TokenKind) (text : List ℕ) → (k ≡ made.Int → ⊥) → (k ≡ made.OpenLabel → ⊥) → view.at_edge v (token_of k text) ≡ view.at_state v (token_of k text)
-edge_else_is v made.Int text n nm = absurd (n refl)
-edge_else_is v made.OpenLabel text n nm = absurd (nm refl)
-edge_else_is v k text n nm = refl
-
-pub edge_else : (v w : BodyView) (j k : TokenKind) (text : List ℕ) (r : Result Place Stop) → j ≡ k → (j ≡ made.Int → ⊥) → (j ≡ made.OpenLabel → ⊥) → BodyLeads (view.at_state v (token_of j text)) r w → BodyLeads (view.at_edge v (token_of k text)) r w
-edge_else v w j k text r e n nm h = subst (λ i. BodyLeads (view.at_edge v (token_of i text)) r w) e (subst (λ led. BodyLeads led r w) (sym (edge_else_is v j text n nm)) h)
+pub edge_else : (v w : BodyView) (k : TokenKind) (text : List ℕ) (r : Result Place Stop) → (k ≡ made.Int → ⊥) → (k ≡ made.OpenLabel → ⊥) → StepsAt spec.AtState v (token_of k text) r w → StepsAt spec.AtEdge v (token_of k text) r w
+edge_else v w k text r n m h = λ b g s. subst (λ S. Leads S b g r w) (go k b n m) (h b g s)
+  where
+    go : (k : TokenKind) (b : Before) → (k ≡ made.Int → ⊥) → (k ≡ made.OpenLabel → ⊥) → table.at_state b (token_of k text) ≡ table.at_edge b (token_of k text)
+    go made.Int b n m = absurd (n refl)
+    go made.OpenLabel b n m = absurd (m refl)
+    go k b n m = refl
 
 -- no sets follow a state's name
-name_else_is : (v : BodyView) (k : TokenKind) (text : List ℕ) → (k ≡ made.OpenSets → ⊥) → view.after_name v (token_of k text) ≡ view.at_edge v (token_of k text)
-name_else_is v made.OpenSets text n = absurd (n refl)
-name_else_is v k text n = refl
-
-pub name_else : (v w : BodyView) (j k : TokenKind) (text : List ℕ) (r : Result Place Stop) → j ≡ k → (j ≡ made.OpenSets → ⊥) → BodyLeads (view.at_edge v (token_of j text)) r w → BodyLeads (view.after_name v (token_of k text)) r w
-name_else v w j k text r e n h = subst (λ i. BodyLeads (view.after_name v (token_of i text)) r w) e (subst (λ led. BodyLeads led r w) (sym (name_else_is v j text n)) h)
+pub name_else : (v w : BodyView) (k : TokenKind) (text : List ℕ) (r : Result Place Stop) → (k ≡ made.OpenSets → ⊥) → StepsAt spec.AtEdge v (token_of k text) r w → StepsAt spec.AfterName v (token_of k text) r w
+name_else v w k text r n h = λ b g s. subst (λ S. Leads S b g r w) (go k b n) (h b g s)
+  where
+    go : (k : TokenKind) (b : Before) → (k ≡ made.OpenSets → ⊥) → table.at_edge b (token_of k text) ≡ table.step_in_body stated_limits spec.AfterName b (token_of k text)
+    go made.OpenSets b n = absurd (n refl)
+    go k b n = refl
 
 -- no name follows a state's number
-number_else_is : (v : BodyView) (k : TokenKind) (text : List ℕ) → (k ≡ made.Text → ⊥) → view.after_number v (token_of k text) ≡ view.after_name v (token_of k text)
-number_else_is v made.Text text n = absurd (n refl)
-number_else_is v k text n = refl
+pub number_else : (v w : BodyView) (k : TokenKind) (text : List ℕ) (r : Result Place Stop) → (k ≡ made.Text → ⊥) → StepsAt spec.AfterName v (token_of k text) r w → StepsAt spec.AfterNumber v (token_of k text) r w
+number_else v w k text r n h = λ b g s. subst (λ S. Leads S b g r w) (go k b n) (h b g s)
+  where
+    go : (k : TokenKind) (b : Before) → (k ≡ made.Text → ⊥) → table.step_in_body stated_limits spec.AfterName b (token_of k text) ≡ table.step_in_body stated_limits spec.AfterNumber b (token_of k text)
+    go made.Text b n = absurd (n refl)
+    go k b n = refl
 
-pub number_else : (v w : BodyView) (j k : TokenKind) (text : List ℕ) (r : Result Place Stop) → j ≡ k → (j ≡ made.Text → ⊥) → BodyLeads (view.after_name v (token_of j text)) r w → BodyLeads (view.after_number v (token_of k text)) r w
-number_else v w j k text r e n h = subst (λ i. BodyLeads (view.after_number v (token_of i text)) r w) e (subst (λ led. BodyLeads led r w) (sym (number_else_is v j text n)) h)
+-- no sets follow an edge's target
+pub target_else : (u v w : BodyView) (k : TokenKind) (text : List ℕ) (r : Result Place Stop) → (k ≡ made.AndSign → ⊥) → (k ≡ made.OpenSets → ⊥) → u ≡ filed v → StepsAt spec.AtEdge u (token_of k text) r w → StepsAt spec.AfterTarget v (token_of k text) r w
+target_else u v w k text r n m e h = λ b g s. subst (λ S. Leads S b g r w) (go k b n m) (h b g (filed_shows v u spec.AfterTarget spec.AtEdge b g refl refl e s))
+  where
+    go : (k : TokenKind) (b : Before) → (k ≡ made.AndSign → ⊥) → (k ≡ made.OpenSets → ⊥) → table.at_edge b (token_of k text) ≡ table.step_in_body stated_limits spec.AfterTarget b (token_of k text)
+    go made.AndSign b n m = absurd (n refl)
+    go made.OpenSets b n m = absurd (m refl)
+    go k b n m = refl
 
 -- another token than `--ABORT--`
-pub abort_else : (place : BodyPlace) (v w : BodyView) (j k : TokenKind) (text : List ℕ) (r : Result Place Stop) → j ≡ k → (j ≡ made.Abort → ⊥) → view.TakesAt place v (token_of j text) r w → view.Takes place v (token_of k text) r w
-abort_else place v w j k text r e n h = subst (λ i. view.Takes place v (token_of i text) r w) e (go j n h)
+pub abort_else : (place : BodyPlace) (v w : BodyView) (k : TokenKind) (text : List ℕ) (r : Result Place Stop) → (k ≡ made.Abort → ⊥) → TakesAt place v (token_of k text) r w → Takes place v (token_of k text) r w
+abort_else place v w k text r n h = λ q l b g s. subst (λ S. Leads S b (came_in q b (token_of k text) g) r w) (go k q b n) (h q l b g s)
   where
-    go : (i : TokenKind) → (i ≡ made.Abort → ⊥) → view.TakesAt place v (token_of i text) r w → view.Takes place v (token_of i text) r w
-    go made.Abort m g = absurd (m refl)
-    go k m g = g
+    go : (k : TokenKind) (q : spec.BodyPlace) (b : Before) → (k ≡ made.Abort → ⊥) → table.step_in_body stated_limits q (record b { place = spec.InBody q }) (token_of k text) ≡ table.step_unless_abort stated_limits q (record b { place = spec.InBody q }) (token_of k text)
+    go made.Abort q b n = absurd (n refl)
+    go k q b n = refl
 
 -- ---- edges of one state
 

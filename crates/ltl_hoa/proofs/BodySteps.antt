@@ -1,52 +1,74 @@
--- A token of the body takes the parser where the definition goes.
-use Rattle.std.proofs.Common.{◌≡◌, ℕ, zero, suc, ◌+◌, ◌<◌, ◌≤◌, Bool, true, false, not, ◌||◌, inl, inr, List, [], ◌∷◌, ◌++◌, length, map, Option, Some, None, ◌==◌, codes, refl, sym, ◌∙◌, ap, subst, arith}
-use Rattle.std.specs.Prelude.{nat_lt, if◌then◌else◌, option_map, slice_index_or, slice_set, Ok, Err}
+-- A token of the body takes it where the definition goes.
+use Rattle.std.proofs.Common.{◌≡◌, ℕ, zero, suc, ◌+◌, ◌<◌, ◌≤◌, Bool, true, false, ◌||◌, inl, inr, List, [], ◌∷◌, ◌++◌, length, map, Option, Some, None, ◌==◌, codes, refl, sym, ◌∙◌, ap, subst, arith}
+use Rattle.std.specs.Prelude.{nat_lt, if◌then◌else◌, option_map, slice_index_or, slice_set, Result, Ok, Err}
 use Rattle.std.specs.List.{list_any}
 use Rattle.std.specs.Ordering.{nat_cmp}
 use Rattle.std.proofs.lemmas.Bool.Decides.{nat_tests}
-use Rattle.std.proofs.lemmas.Bool.{eqb-true, ltb-true}
+use Rattle.std.proofs.lemmas.Bool.{eqb-true}
 use Rattle.std.proofs.lemmas.List.{append-nil, length-set}
 use Rattle.ltl_spec.specs.Collections.Sets.{put, set_of}
-use Rattle.ltl_spec.specs.Formulas.Tokens.{same_name}
+use Rattle.ltl_spec.specs.Transitions.Cubes.{Cube}
 use Rattle.ltl_spec.specs.Tools.Limits.{stated_limits}
+use Rattle.ltl_spec.specs.Formulas.Tokens.{same_name}
 use Rattle.ltl_spec.specs.Hoa.HoaToken as token
 use Rattle.ltl_spec.specs.Hoa.HoaToken.{HoaToken}
-use Rattle.ltl_spec.specs.Hoa.HoaLabel.{Label, ConstantLabel, NumberLabel, label_cubes, is_wide}
-use Rattle.ltl_spec.specs.Hoa.HoaFaultKind.{BadToken, NumberOutOfRange, StateDefinedTwice, LimitPassed}
+use Rattle.ltl_spec.specs.Hoa.HoaLabel.{BracketLabel, ConstantLabel, NumberLabel, label_cubes, is_wide}
+use Rattle.ltl_spec.specs.Hoa.HoaFaultKind as fault
 use Rattle.ltl_spec.specs.Hoa.HoaPlace as spec
 use Rattle.ltl_spec.specs.Hoa.HoaStep as table
-use Rattle.ltl_spec.specs.Hoa.HoaPlace.{Before, LabelPart, LabelParts, whole}
+use Rattle.ltl_spec.specs.Hoa.HoaPlace.{Before, HoaHeader, LabelPart, LabelParts, whole, with_operand}
 use Rattle.ltl_spec.specs.Hoa.HoaStep.{Step, in_body, if_below}
 use Rattle.ltl_spec.proofs.Collections.Orders.{nat_linear}
 use Rattle.ltl_spec.proofs.Collections.SetLaws.{same_members, IsRising-set_of, IsRising-put, set_of_cases, Has-set_of, put_cases, Has-put, append_cases, append_left, append_right}
+use Rattle.ltl_hoa.specs.declared.fault.HoaFaultKind.TheVariants.{BadToken, NumberOutOfRange, StateDefinedTwice, LimitPassed}
+use Rattle.ltl_hoa.specs.declared.fault.Stop.{Stop}
+use Rattle.ltl_hoa.specs.declared.fault.Stop.TheVariants.{Fault, OutOfMemory}
+use Rattle.ltl_hoa.specs.declared.header.Counts.{Counts}
 use Rattle.ltl_hoa.specs.declared.place.Place.{Place}
 use Rattle.ltl_hoa.specs.declared.place.Place.TheVariants as place
 use Rattle.ltl_hoa.specs.declared.place.BodyPlace.{BodyPlace}
 use Rattle.ltl_hoa.specs.declared.place.BodyPlace.TheVariants as at
 use Rattle.ltl_hoa.specs.NumberView.{capped}
 use Rattle.ltl_label.specs.LabelView as label
-use Rattle.ltl_hoa.specs.BodyView as view
-use Rattle.ltl_hoa.specs.BodyView.{BodyView, Led}
-use Rattle.ltl_hoa.specs.Shown.{Came, CameEdge, IsShown, ShowsBody, ShowsBodyPlace, AreAt, AreFiled, AreOpen, is_open, first_or, with_set, cube_edges, edges_of, shown_label, shown_part, shown_around, sign_within, came_in}
-use Rattle.ltl_hoa.proofs.StepLaws.{capped_under, below_small}
-use Rattle.ltl_hoa.proofs.LabelLaws.{shows_begun, shows_negated, shows_opened, shows_constant, shows_number, shows_alternative, part_whole, narrow_is}
+use Rattle.ltl_label.specs.LabelView.{LabelView}
+use Rattle.ltl_hoa.specs.BodyView.{BodyView, filed}
+use Rattle.ltl_hoa.specs.Shown.{Came, CameEdge, IsAt, Leads, StepsAt, StepsInLabel, ShowsBody, ShowsBodyPlace, ShowsCounts, AreAt, AreFiled, AreOpen, is_open, came_in, with_set, cube_edges, edges_of, shown_label, shown_part, shown_around, sign_within}
+use Rattle.ltl_hoa.proofs.LabelLaws.{shows_negated, shows_opened, shows_constant, shows_number, shows_alternative, shows_closed, part_whole, narrow_is}
 
--- the parser's next place in the body, or the end, shows the definition's
-abbrev pub IsAt : Place → BodyView → spec.Place → Before → Came → Type 0
-IsAt (place.Body p) v (spec.InBody q) b g = ShowsBodyPlace p v q × ShowsBody v q b g
-IsAt place.End v spec.AtEnd b g = ShowsBody v spec.AtState b g
-IsAt _ v _ b g = ⊥
+-- memory was refused
+pub no_memory : (S : Step) (b : Before) (g : Came) (w : BodyView) → Leads S b g (Err OutOfMemory) w
+no_memory (Ok c) b g w = refl
+no_memory (Err k) b g w = tt
 
--- both go on to places that show each other, or meet the same fault
-abbrev pub AgreesAt : Led → Step → Before → Came → Type 0
-AgreesAt (Ok p) (Ok c) b g = IsAt p.0 p.1 c.place c g × (c.header ≡ b.header)
-AgreesAt (Ok p) (Err k) b g = ⊥
-AgreesAt (Err k) (Ok c) b g = ⊥
-AgreesAt (Err k) (Err j) b g = k ≡ j
+-- ---- numbers, which have to be below their counts
 
-if_at : (c : Bool) (x x' : Led) (y y' : Step) (b : Before) (g : Came) → AgreesAt x y b g → AgreesAt x' y' b g → AgreesAt (if c then x else x') (if c then y else y') b g
-if_at true x x' y y' b g a n = a
-if_at false x x' y y' b g a n = n
+few_sets : {c : Counts} {h : HoaHeader} → ShowsCounts c h → c.sets ≤ stated_limits.hoa_edges
+few_sets s = let m = s.well.1 in omega (arith, m)
+
+few_names : {c : Counts} {h : HoaHeader} → ShowsCounts c h → c.names ≤ stated_limits.hoa_edges
+few_names s = let m = s.well.0 in omega (arith, m)
+
+few_states : {c : Counts} {h : HoaHeader} → ShowsCounts c h → c.states ≤ stated_limits.hoa_edges
+few_states s = let m = s.few_states in omega (arith, m)
+
+too_large : (n m count : ℕ) (o : Option ℕ) (y : Step) (b : Before) (g : Came) (w : BodyView) → o ≡ Some count → count ≤ stated_limits.hoa_edges → m ≡ capped n → count ≤ m → Leads (if_below n o y) b g (Err (Fault NumberOutOfRange)) w
+too_large n m count o y b g w e few c l =
+    subst (λ u. Leads (if_below n u y) b g (Err (Fault NumberOutOfRange)) w) (sym e)
+    (subst (λ d. Leads (if d then y else Err fault.NumberOutOfRange) b g (Err (Fault NumberOutOfRange)) w) (sym (over n m count few c l)) refl)
+  where
+    over : (n m count : ℕ) → count ≤ stated_limits.hoa_edges → m ≡ capped n → count ≤ m → nat_lt n count ≡ false
+    over n m count few c l = grind (arith, nat_tests, few, c, l)
+
+in_range : (n m count : ℕ) (o : Option ℕ) (y : Step) (b : Before) (g : Came) (r : Result Place Stop) (w : BodyView) → o ≡ Some count → count ≤ stated_limits.hoa_edges → m ≡ capped n → m < count → (m ≡ n → Leads y b g r w) → Leads (if_below n o y) b g r w
+in_range n m count o y b g r w e few c l f =
+    subst (λ u. Leads (if_below n u y) b g r w) (sym e)
+    (subst (λ d. Leads (if d then y else Err fault.NumberOutOfRange) b g r w) (sym (under n m count few c l)) (f (same n m count few c l)))
+  where
+    under : (n m count : ℕ) → count ≤ stated_limits.hoa_edges → m ≡ capped n → m < count → nat_lt n count ≡ true
+    under n m count few c l = grind (arith, nat_tests, few, c, l)
+
+    same : (n m count : ℕ) → count ≤ stated_limits.hoa_edges → m ≡ capped n → m < count → m ≡ n
+    same n m count few c l = omega (arith, few, c, l)
 
 -- a set with one number more
 put_last : (ks : List ℕ) (k : ℕ) → set_of nat_cmp (ks ++ k ∷ []) ≡ put nat_cmp k (set_of nat_cmp ks)
@@ -60,89 +82,6 @@ put_last ks k =
       | inl e ↦ append_right ks (k ∷ []) z (inl e)
       | inr m ↦ append_left ks (k ∷ []) z (set_of_cases nat_linear ks z m)
     ]))
-
--- a number that has to be below its count
-numbered : (n count : ℕ) (o : Option ℕ) (x : Led) (y : Step) (b : Before) (g : Came) → o ≡ Some count → count ≤ stated_limits.hoa_edges → (nat_lt n count ≡ true → AgreesAt x y b g)
-    → AgreesAt (if not (nat_lt (capped n) count) then Err NumberOutOfRange else x) (if_below n o y) b g
-numbered n count o x y b g e few f =
-    subst (λ u. AgreesAt (if not (nat_lt (capped n) count) then Err NumberOutOfRange else x) (if_below n u y) b g) (sym e)
-    (subst (λ c. AgreesAt (if not c then Err NumberOutOfRange else x) (if_below n (Some count) y) b g) (sym (capped_under n count few)) (go (nat_lt n count) refl))
-  where
-    go : (c : Bool) → nat_lt n count ≡ c → AgreesAt (if not c then Err NumberOutOfRange else x) (if c then y else Err NumberOutOfRange) b g
-    go true q = f q
-    go false q = refl
-
-module _ (v : BodyView) (p : spec.BodyPlace) (b : Before) (g : Came) (s : ShowsBody v p b g) where
-  small_sets : v.counts.sets ≤ stated_limits.hoa_edges
-  small_sets = let m = s.counts.well.1 in omega (arith, m)
-
-  small_names : v.counts.names ≤ stated_limits.hoa_edges
-  small_names = let m = s.counts.well.0 in omega (arith, m)
-
-  small_states : v.counts.states ≤ stated_limits.hoa_edges
-  small_states = let m = s.counts.few_states in omega (arith, m)
-
-  to_place : (q : BodyPlace) (r : spec.BodyPlace) → is_open p ≡ is_open r → ShowsBodyPlace q v r → AgreesAt (Ok (place.Body q, v)) (in_body b r) b g
-  to_place q r o w = ((w, subst (λ c. IsShown v c b.header b.numbers b.edges g) o s), refl)
-
-  module _ (o : is_open p ≡ false) where
-    pub at_state : (t : HoaToken) → AgreesAt (view.at_state v t) (table.at_state b t) b g
-    at_state (token.Header name) = if_at (same_name name (codes "State")) _ _ _ _ b g (to_place at.Number spec.AtNumber o tt) refl
-    at_state token.End = (subst (λ c. IsShown v c b.header b.numbers b.edges g) o s, refl)
-    at_state t = refl
-
-    with_label : (x : label.LabelView) (q : BodyPlace) (r : spec.BodyPlace) → is_open r ≡ false → ShowsBodyPlace q (record v { label = x }) r → AgreesAt (Ok (place.Body q, record v { label = x })) (in_body b r) b g
-    with_label x q r closed w = (
-      (
-        w,
-        record {
-          counts = s.counts;
-          states = s.states;
-          placed = s.placed;
-          made = s.made;
-          marks = s.marks;
-          cubes = s.cubes;
-          edges = subst (λ c. AreAt c (record v { label = x }) g.edges) (sym closed) (subst (λ c. AreAt c v g.edges) o s.edges);
-        },
-      ),
-      refl,
-    )
-
-    pub at_edge : (t : HoaToken) → AgreesAt (view.at_edge v t) (table.at_edge b t) b g
-    at_edge token.OpenLabel = with_label label.new_label at.Operand (spec.AtOperand (record { inner = spec.empty_part; around = [] })) refl shows_begun
-    at_edge (token.Int n) = refl
-    at_edge t = at_state t
-
-    pub after_name : (t : HoaToken) → AgreesAt (view.after_name v t) (table.step_in_body stated_limits spec.AfterName b t) b g
-    after_name token.OpenSets = to_place at.StateSets spec.InStateSets o tt
-    after_name t = at_edge t
-
-    pub after_number : (t : HoaToken) → AgreesAt (view.after_number v t) (table.step_in_body stated_limits spec.AfterNumber b t) b g
-    after_number (token.StringToken n) = to_place at.AfterName spec.AfterName o tt
-    after_number t = after_name t
-
--- ---- sets and numbers of states
-
-pub state_sets : (v : BodyView) (b : Before) (g : Came) → b.place ≡ spec.InBody spec.InStateSets → ShowsBody v spec.InStateSets b g → (t : HoaToken)
-    → AgreesAt (view.take at.StateSets v t) (table.step_in_body stated_limits spec.InStateSets b t) b (came_in spec.InStateSets b t g)
-state_sets v b g e s (token.Int n) =
-    numbered n v.counts.sets b.header.sets (Ok (place.Body at.StateSets, record v { sets = put nat_cmp (capped n) v.sets })) (Ok b) b (record g { sets = g.sets ++ n ∷ [] }) s.counts.sets (small_sets v spec.InStateSets b g s) (λ q. (
-      subst (λ pl. IsAt (place.Body at.StateSets) (record v { sets = put nat_cmp (capped n) v.sets }) pl b (record g { sets = g.sets ++ n ∷ [] })) (sym e) (
-        tt,
-        record {
-          counts = s.counts;
-          states = s.states;
-          placed = s.placed;
-          made = s.made;
-          cubes = s.cubes;
-          edges = s.edges;
-          marks = put_last g.sets n ∙ ap (put nat_cmp n) s.marks ∙ ap (λ k. put nat_cmp k v.sets) (sym (below_small n v.counts.sets (small_sets v spec.InStateSets b g s) q));
-        },
-      ),
-      refl,
-    ))
-state_sets v b g e s token.CloseSets = to_place v spec.InStateSets b g s at.Edge spec.AtEdge refl tt
-state_sets v b g e s t = refl
 
 set_get : {T : Type 0} (xs : List T) (i k : ℕ) (y d : T) → i < length xs → slice_index_or (slice_set xs i y) k d ≡ (if i == k then y else slice_index_or xs k d)
 set_get [] i k y d l = absurd (nothing i l)
@@ -166,95 +105,232 @@ set_get (x ∷ xs) (suc i) (suc k) y d l = set_get xs i k y d (below i (length x
     same : (j n : ℕ) → (j == n) ≡ (suc j == suc n)
     same j n = grind (arith, nat_tests)
 
-set_length : {T : Type 0} (xs : List T) (i : ℕ) (y : T) → length (slice_set xs i y) ≡ length xs
-set_length xs i y = length-set xs i y
+-- ---- states
 
-pub number : (v : BodyView) (b : Before) (g : Came) → ShowsBody v spec.AtNumber b g → (t : HoaToken) → AgreesAt (view.take at.Number v t) (table.step_in_body stated_limits spec.AtNumber b t) b (came_in spec.AtNumber b t g)
-number v b g s (token.Int n) =
-    numbered n v.counts.states b.header.states
-    (if slice_index_or v.defined (capped n) false then Err StateDefinedTwice else Ok (place.Body at.AfterNumber, record v { defined = slice_set v.defined (capped n) true; at = capped n; sets = [] }))
-    (if list_any (λ m. m == n) b.numbers then Err StateDefinedTwice else Ok (record b { place = spec.InBody spec.AfterNumber; numbers = n ∷ b.numbers })) b (record g { sets = [] }) s.counts.states (small_states v spec.AtNumber b g s)
-    (λ q.
-    let below = ltb-true n v.counts.states q in
-    subst (λ k. AgreesAt (if slice_index_or v.defined k false then Err StateDefinedTwice else Ok (place.Body at.AfterNumber, record v { defined = slice_set v.defined k true; at = k; sets = [] }))
-    (if list_any (λ m. m == n) b.numbers then Err StateDefinedTwice else Ok (record b { place = spec.InBody spec.AfterNumber; numbers = n ∷ b.numbers })) b (record g { sets = [] }))
-    (sym (below_small n v.counts.states (small_states v spec.AtNumber b g s) q))
-    (subst (λ c. AgreesAt (if slice_index_or v.defined n false then Err StateDefinedTwice else Ok (place.Body at.AfterNumber, record v { defined = slice_set v.defined n true; at = n; sets = [] }))
-    (if c then Err StateDefinedTwice else Ok (record b { place = spec.InBody spec.AfterNumber; numbers = n ∷ b.numbers })) b (record g { sets = [] })) (s.states.stood n below)
-    (if_at (slice_index_or v.defined n false) _ _ _ _ b (record g { sets = [] }) refl (defined below))))
-  where
-    defined : n < v.counts.states → AgreesAt (Ok (place.Body at.AfterNumber, record v { defined = slice_set v.defined n true; at = n; sets = [] }))
-        (Ok (record b { place = spec.InBody spec.AfterNumber; numbers = n ∷ b.numbers })) b (record g { sets = [] })
-    defined below = (
+pub no_state : (v w : BodyView) (n m : ℕ) → m ≡ capped n → v.counts.states ≤ m → StepsAt spec.AtNumber v (token.Int n) (Err (Fault NumberOutOfRange)) w
+no_state v w n m c l = λ b g s. too_large n m v.counts.states b.header.states _ b _ w s.0.states (few_states s.0) c l
+
+-- whether it has stood
+stood : (v w : BodyView) (n m : ℕ) (d : Bool) (r : Result Place Stop) → m ≡ capped n → m < v.counts.states → slice_index_or v.defined m false ≡ d
+    → ((b : Before) (g : Came) → ShowsBody v spec.AtNumber b g → Leads (if d then Err fault.StateDefinedTwice else Ok (record b { place = spec.InBody spec.AfterNumber; numbers = m ∷ b.numbers })) b (record g { sets = [] }) r w)
+    → StepsAt spec.AtNumber v (token.Int n) r w
+stood v w n m d r c l q f = λ b g s. in_range n m v.counts.states b.header.states _ b _ r w s.0.states (few_states s.0) c l (λ e.
+    subst (λ k. Leads (if list_any (λ j. j == k) b.numbers then Err fault.StateDefinedTwice else Ok (record b { place = spec.InBody spec.AfterNumber; numbers = k ∷ b.numbers })) b (record g { sets = [] }) r w) e
+    (subst (λ u. Leads (if u then Err fault.StateDefinedTwice else Ok (record b { place = spec.InBody spec.AfterNumber; numbers = m ∷ b.numbers })) b (record g { sets = [] }) r w) (sym q ∙ s.1.stood m l) (f b g s)))
+
+pub state_twice : (v w : BodyView) (n m : ℕ) → m ≡ capped n → m < v.counts.states → slice_index_or v.defined m false ≡ true → StepsAt spec.AtNumber v (token.Int n) (Err (Fault StateDefinedTwice)) w
+state_twice v w n m c l q = stood v w n m true (Err (Fault StateDefinedTwice)) c l q (λ b g s. refl)
+
+pub state_begun : (v w : BodyView) (n m : ℕ) → m ≡ capped n → m < v.counts.states → slice_index_or v.defined m false ≡ false → w ≡ record v { defined = slice_set v.defined m true; at = m; sets = [] }
+    → StepsAt spec.AtNumber v (token.Int n) (Ok (place.Body at.AfterNumber)) w
+state_begun v w n m c l q e = stood v w n m false (Ok (place.Body at.AfterNumber)) c l q (λ b g s.
+    let within : m < length v.defined = let k = s.1.counted in omega (arith, l, k) in
+    subst (λ x. Leads (Ok (record b { place = spec.InBody spec.AfterNumber; numbers = m ∷ b.numbers })) b (record g { sets = [] }) (Ok (place.Body at.AfterNumber)) x) (sym e) (
       (
         tt,
-        record {
-          counts = s.counts;
-          made = s.made;
-          marks = refl;
-          cubes = s.cubes;
-          edges = s.edges;
-          placed = s.placed;
-          states = record {
-            stood = λ k l.
-                let within : n < length v.defined = let c = s.states.counted in omega (arith, below, c) in
-                set_get v.defined n k true false within ∙ either (n == k) (slice_index_or v.defined k false) ∙ ap (λ c. (n == k) || c) (s.states.stood k l);
-            counted = set_length v.defined n true ∙ s.states.counted;
-            last = (refl, below);
-          };
-        },
-      ),
-      refl,
-    )
-      where
-        either : (c o : Bool) → (if c then true else o) ≡ (c || o)
-        either true o = refl
-        either false o = refl
-number v b g s token.OpenLabel = refl
-number v b g s t = refl
-
--- ---- labels
-
--- behind an operand
-abbrev behind : LabelParts → Label → spec.BodyPlace
-behind q a = spec.AfterOperand (record q { inner = spec.with_operand q.inner a })
-
-pub operand : (v : BodyView) (q : LabelParts) (b : Before) (g : Came) → v.label ≡ shown_label q → ShowsBody v (spec.AtOperand q) b g → (t : HoaToken) → AgreesAt (view.take at.Operand v t) (table.step_in_body stated_limits (spec.AtOperand q) b t) b g
-operand v q b g w s token.NotSign = with_label v (spec.AtOperand q) b g s refl (label.negate_inner v.label) at.Operand (spec.AtOperand (record q { inner = record q.inner { negations = q.inner.negations + 1 } })) refl (ap label.negate_inner w ∙ sym (shows_negated q))
-operand v q b g w s token.OpenBracket = with_label v (spec.AtOperand q) b g s refl (label.open_bracket v.label) at.Operand (spec.AtOperand (record { inner = spec.empty_part; around = q.inner ∷ q.around })) refl (ap label.open_bracket w ∙ sym (shows_opened q))
-operand v q b g w s (token.Int n) =
-    numbered n v.counts.names (option_map length b.header.names) (Ok (place.Body at.AfterOperand, record v { label = label.take_proposition v.label (capped n) })) (table.operand b q (NumberLabel n)) b g s.counts.names (small_names v (spec.AtOperand q) b g s) (λ c.
-    subst (λ k. AgreesAt (Ok (place.Body at.AfterOperand, record v { label = label.take_proposition v.label k })) (table.operand b q (NumberLabel n)) b g) (sym (below_small n v.counts.names (small_names v (spec.AtOperand q) b g s) c))
-    (with_label v (spec.AtOperand q) b g s refl (label.take_proposition v.label n) at.AfterOperand (behind q (NumberLabel n)) refl (ap (λ x. label.take_proposition x n) w ∙ sym (shows_number q n))))
-operand v q b g w s (token.Identifier name) =
-    if_at (same_name name (codes "t")) _ _ _ _ b g (with_label v (spec.AtOperand q) b g s refl (label.take_constant v.label true) at.AfterOperand (behind q (ConstantLabel true)) refl (ap (λ x. label.take_constant x true) w ∙ sym (shows_constant q true)))
-    (if_at (same_name name (codes "f")) _ _ _ _ b g (with_label v (spec.AtOperand q) b g s refl (label.take_constant v.label false) at.AfterOperand (behind q (ConstantLabel false)) refl (ap (λ x. label.take_constant x false) w ∙ sym (shows_constant q false))) refl)
-operand v q b g w s t = refl
-
--- ---- edges
-
-pub target : (v : BodyView) (b : Before) (g : Came) → ShowsBody v spec.AtTarget b g → (t : HoaToken) → AgreesAt (view.take at.Target v t) (table.step_in_body stated_limits spec.AtTarget b t) b (came_in spec.AtTarget b t g)
-target v b g s (token.Int n) =
-    let h : Came = record g { edges = record { state = first_or 0 b.numbers; cubes = g.cubes; target = n; sets = g.sets } ∷ g.edges } in
-    numbered n v.counts.states b.header.states (Ok (place.Body at.AfterTarget, record v { target = capped n; own = v.sets })) (in_body b spec.AfterTarget) b h s.counts.states (small_states v spec.AtTarget b g s) (λ q. (
-      (
-        tt,
-        record {
-          counts = s.counts;
-          states = s.states;
-          placed = s.placed;
-          made = s.made;
-          marks = s.marks;
-          cubes = s.cubes;
-          edges = (s.edges, s.states.last.0, s.cubes, sym (below_small n v.counts.states (small_states v spec.AtTarget b g s) q), s.marks);
-        },
+        (
+          s.0,
+          record {
+            stood = λ k j. set_get v.defined m k true false within ∙ either (m == k) (slice_index_or v.defined k false) ∙ ap (λ d. (m == k) || d) (s.1.stood k j);
+            counted = length-set v.defined m true ∙ s.1.counted;
+            last = (refl, l);
+          },
+          s.2,
+          s.3,
+          refl,
+          s.5,
+          s.6,
+        ),
       ),
       refl,
     ))
-target v b g s t = refl
+  where
+    either : (c o : Bool) → (if c then true else o) ≡ (c || o)
+    either true o = refl
+    either false o = refl
+
+pub no_state_set : (v w : BodyView) (n m : ℕ) → m ≡ capped n → v.counts.sets ≤ m → StepsAt spec.InStateSets v (token.Int n) (Err (Fault NumberOutOfRange)) w
+no_state_set v w n m c l = λ b g s. too_large n m v.counts.sets b.header.sets _ b _ w s.0.sets (few_sets s.0) c l
+
+pub state_set : (v w : BodyView) (n m : ℕ) → m ≡ capped n → m < v.counts.sets → w ≡ record v { sets = put nat_cmp m v.sets } → StepsAt spec.InStateSets v (token.Int n) (Ok (place.Body at.StateSets)) w
+state_set v w n m c l e = λ b g s. in_range n m v.counts.sets b.header.sets _ b _ _ w s.0.sets (few_sets s.0) c l (λ k. (
+  subst (λ x. IsAt (place.Body at.StateSets) x (spec.InBody spec.InStateSets) b (record g { sets = g.sets ++ n ∷ [] })) (sym e)
+      (tt, (s.0, s.1, s.2, s.3, put_last g.sets n ∙ ap (put nat_cmp n) s.4 ∙ ap (λ j. put nat_cmp j v.sets) (sym k), s.5, s.6)),
+  refl,
+))
+
+-- ---- labels
+
+-- another label
+relabelled : (v w : BodyView) (x : LabelView) (r : spec.BodyPlace) (q : BodyPlace) (b : Before) (g : Came) → is_open r ≡ false → w ≡ record v { label = x } → ShowsBody v spec.AtEdge b g → ShowsBodyPlace q (record v { label = x }) r → Leads (in_body b r) b g (Ok (place.Body q)) w
+relabelled v w x r q b g c e s l = (
+  subst (λ y. IsAt (place.Body q) y (spec.InBody r) (record b { place = spec.InBody r }) g) (sym e)
+      (l, (s.0, s.1, s.2, s.3, s.4, s.5, subst (λ d. AreAt d (record v { label = x }) g.edges) (sym c) s.6)),
+  refl,
+)
+
+pub label_begun : (v w : BodyView) → w ≡ record v { label = label.new_label } → StepsAt spec.AtEdge v token.OpenLabel (Ok (place.Body at.Operand)) w
+label_begun v w e = λ b g s. relabelled v w label.new_label (spec.AtOperand (record { inner = spec.empty_part; around = [] })) at.Operand b g refl e s refl
+
+pub label_negated : (v w : BodyView) → w ≡ record v { label = label.negate_inner v.label } → StepsInLabel spec.AtOperand v token.NotSign (Ok (place.Body at.Operand)) w
+label_negated v w e = λ p l b g s. relabelled v w _ (spec.AtOperand (record p { inner = record p.inner { negations = p.inner.negations + 1 } })) at.Operand b g refl e s (ap label.negate_inner l ∙ sym (shows_negated p))
+
+pub bracket_opened : (v w : BodyView) → w ≡ record v { label = label.open_bracket v.label } → StepsInLabel spec.AtOperand v token.OpenBracket (Ok (place.Body at.Operand)) w
+bracket_opened v w e = λ p l b g s. relabelled v w _ (spec.AtOperand (record { inner = spec.empty_part; around = p.inner ∷ p.around })) at.Operand b g refl e s (ap label.open_bracket l ∙ sym (shows_opened p))
+
+pub no_proposition : (v w : BodyView) (n m : ℕ) → m ≡ capped n → v.counts.names ≤ m → StepsInLabel spec.AtOperand v (token.Int n) (Err (Fault NumberOutOfRange)) w
+no_proposition v w n m c k = λ p l b g s. too_large n m v.counts.names (option_map length b.header.names) _ b _ w s.0.names (few_names s.0) c k
+
+pub proposition_put : (v w : BodyView) (n m : ℕ) → m ≡ capped n → m < v.counts.names → w ≡ record v { label = label.take_proposition v.label m } → StepsInLabel spec.AtOperand v (token.Int n) (Ok (place.Body at.AfterOperand)) w
+proposition_put v w n m c k e = λ p l b g s. in_range n m v.counts.names (option_map length b.header.names) _ b _ _ w s.0.names (few_names s.0) c k (λ q.
+    relabelled v w _ (spec.AfterOperand (record p { inner = with_operand p.inner (NumberLabel n) })) at.AfterOperand b g refl e s (ap (λ x. label.take_proposition x m) l ∙ ap (label.take_proposition (shown_label p)) q ∙ sym (shows_number p n)))
+
+constant_put : (v w : BodyView) (value : Bool) (p : LabelParts) (b : Before) (g : Came) → w ≡ record v { label = label.take_constant v.label value } → v.label ≡ shown_label p → ShowsBody v spec.AtEdge b g
+    → Leads (table.operand b p (ConstantLabel value)) b g (Ok (place.Body at.AfterOperand)) w
+constant_put v w value p b g e l s =
+    relabelled v w _ (spec.AfterOperand (record p { inner = with_operand p.inner (ConstantLabel value) })) at.AfterOperand b g refl e s (ap (λ x. label.take_constant x value) l ∙ sym (shows_constant p value))
+
+-- the constant of a name that is `t`, or `f`
+abbrev named : Bool → Bool → Before → LabelParts → Step
+named t f b p = if t then table.operand b p (ConstantLabel true) else if f then table.operand b p (ConstantLabel false) else Err fault.BadToken
+
+pub true_put : (v w : BodyView) (name : List ℕ) → same_name name (codes "t") ≡ true → w ≡ record v { label = label.take_constant v.label true } → StepsInLabel spec.AtOperand v (token.Identifier name) (Ok (place.Body at.AfterOperand)) w
+true_put v w name n e = λ p l b g s. subst (λ d. Leads (named d (same_name name (codes "f")) b p) b g (Ok (place.Body at.AfterOperand)) w) (sym n) (constant_put v w true p b g e l s)
+
+pub false_put : (v w : BodyView) (name : List ℕ) → same_name name (codes "t") ≡ false → same_name name (codes "f") ≡ true → w ≡ record v { label = label.take_constant v.label false }
+    → StepsInLabel spec.AtOperand v (token.Identifier name) (Ok (place.Body at.AfterOperand)) w
+false_put v w name m n e = λ p l b g s.
+    subst (λ d. Leads (named d (same_name name (codes "f")) b p) b g (Ok (place.Body at.AfterOperand)) w) (sym m)
+    (subst (λ d. Leads (named false d b p) b g (Ok (place.Body at.AfterOperand)) w) (sym n) (constant_put v w false p b g e l s))
+
+pub alternative_put : (v w : BodyView) (t : HoaToken) → t ≡ token.OrSign → w ≡ record v { label = label.take_alternative v.label } → StepsInLabel spec.AfterOperand v t (Ok (place.Body at.Operand)) w
+alternative_put v w t o e = subst (λ u. StepsInLabel spec.AfterOperand v u (Ok (place.Body at.Operand)) w) (sym o) (λ p l b g s. relabelled v w _ (spec.AtOperand (record p { inner = record { sum = Some (whole p.inner); product = None; negations = 0 } })) at.Operand b g refl e s (ap label.take_alternative l ∙ sym (shows_alternative p)))
+
+-- a part around another one
+some_around : (p : LabelPart) (ps : List LabelPart) → shown_around (p ∷ ps) ≡ [] → ⊥
+some_around p ps e = some (shown_around ps) e
+  where
+    some : (xs : List label.PartView) → xs ++ shown_part (sign_within ps) p ∷ [] ≡ [] → ⊥
+    some [] q = cc
+    some (z ∷ xs) q = cc
+
+pub bracket_closed : (v w : BodyView) → label.Closes v.label true w.label → w ≡ record v { label = w.label } → StepsInLabel spec.AfterOperand v token.CloseBracket (Ok (place.Body at.AfterOperand)) w
+bracket_closed v w c e = λ p l. go p.inner p.around l
+  where
+    go : (inner : LabelPart) (around : List LabelPart) → v.label ≡ shown_label (record { inner = inner; around = around }) → (b : Before) (g : Came) → ShowsBody v spec.AtEdge b g → Leads (table.close_bracket b inner around) b g (Ok (place.Body at.AfterOperand)) w
+    go inner [] l b g s = absurd (none w.label.around c.0 (sym (ap (λ y. y.around) l) ∙ c.1))
+      where
+        none : (xs : List label.PartView) (y : label.PartView) → [] ≡ xs ++ y ∷ [] → ⊥
+        none [] y q = cc
+        none (z ∷ xs) y q = cc
+    go inner (p ∷ ps) l b g s =
+        relabelled v w w.label (spec.AfterOperand (record { inner = with_operand p (BracketLabel (whole inner)); around = ps })) at.AfterOperand b g refl e s (shows_closed inner p ps w.label (subst (λ y. label.Closes y true w.label) l c))
+
+pub no_bracket : (v w : BodyView) → v.label.around ≡ [] → StepsInLabel spec.AfterOperand v token.CloseBracket (Err (Fault BadToken)) w
+no_bracket v w c = λ p l b g s. go p.inner p.around b g (sym (ap (λ y. y.around) l) ∙ c)
+  where
+    go : (inner : LabelPart) (around : List LabelPart) (b : Before) (g : Came) → shown_around around ≡ [] → Leads (table.close_bracket b inner around) b g (Err (Fault BadToken)) w
+    go inner [] b g e = refl
+    go inner (p ∷ ps) b g e = absurd (some_around p ps e)
+
+-- the end of a label
+none_length : {T : Type 0} (xs : List T) → (length xs == 0) ≡ true → xs ≡ []
+none_length [] e = refl
+none_length (x ∷ xs) e = absurd (some (length xs) e)
+  where
+    some : (n : ℕ) → (suc n == 0) ≡ true → ⊥
+    some n q = grind (arith, nat_tests, q)
+
+pub still_open : (v w : BodyView) → label.is_closed v.label ≡ false → StepsInLabel spec.AfterOperand v token.CloseLabel (Err (Fault BadToken)) w
+still_open v w c = λ p l b g s. go p.inner p.around b (record g { cubes = label_cubes (whole p.inner) }) (sym (ap label.is_closed l) ∙ c)
+  where
+    go : (inner : LabelPart) (around : List LabelPart) (b : Before) (g : Came) → (length (shown_around around) == 0) ≡ false → Leads (table.close_label stated_limits b inner around) b g (Err (Fault BadToken)) w
+    go inner [] b g e = cc
+    go inner (p ∷ ps) b g e = refl
+
+-- the end of a whole label, which is wide or not
+abbrev ended : LabelPart → Bool → Before → Step
+ended inner wide b =
+    let edges = b.edges + length (label_cubes (whole inner)) in
+    if wide || nat_lt stated_limits.hoa_edges edges then Err fault.LimitPassed else Ok (record b { place = spec.InBody spec.AtTarget; edges = edges })
+
+abbrev Ends : BodyView → Result Place Stop → BodyView → Type 0
+Ends v r w =
+    (inner : LabelPart) (wide : Bool) (b : Before) (g : Came) → label.whole v.label.inner ≡ (if wide then None else Some (label_cubes (whole inner))) → ShowsBody v spec.AtEdge b g
+    → Leads (ended inner wide b) b (record g { cubes = label_cubes (whole inner) }) r w
+
+ends : (v w : BodyView) (r : Result Place Stop) → label.is_closed v.label ≡ true → Ends v r w → StepsInLabel spec.AfterOperand v token.CloseLabel r w
+ends v w r c f = λ p l. go p.inner p.around l
+  where
+    go : (inner : LabelPart) (around : List LabelPart) → v.label ≡ shown_label (record { inner = inner; around = around }) → (b : Before) (g : Came) → ShowsBody v spec.AtEdge b g
+        → Leads (table.close_label stated_limits b inner around) b (record g { cubes = label_cubes (whole inner) }) r w
+    go inner [] l b g s = f inner (is_wide stated_limits.label_cubes (whole inner)) b g (ap (λ x. label.whole x.inner) l ∙ sym (part_whole true inner) ∙ narrow_is (whole inner)) s
+    go inner (p ∷ ps) l b g s = absurd (some_around p ps (none_length (shown_around (p ∷ ps)) (sym (ap label.is_closed l) ∙ c)))
+
+no_cubes : (cs : List Cube) → None ≡ Some cs → ⊥
+no_cubes cs e = cc
+
+pub label_wide : (v w : BodyView) → label.is_closed v.label ≡ true → label.whole v.label.inner ≡ None → StepsInLabel spec.AfterOperand v token.CloseLabel (Err (Fault LimitPassed)) w
+label_wide v w c n = ends v w (Err (Fault LimitPassed)) c go
+  where
+    go : Ends v (Err (Fault LimitPassed)) w
+    go inner true b g e s = refl
+    go inner false b g e s = absurd (no_cubes _ (sym n ∙ e))
+
+-- its cubes, beside the edges so far
+same_cubes : (v : BodyView) (cs : List Cube) (inner : LabelPart) (b : Before) → label.whole v.label.inner ≡ Some cs → label.whole v.label.inner ≡ Some (label_cubes (whole inner)) → b.edges ≡ v.made
+    → (cs ≡ label_cubes (whole inner)) × (v.made + length cs ≡ b.edges + length (label_cubes (whole inner)))
+same_cubes v cs inner b n e m = let same = some_same cs (label_cubes (whole inner)) (sym n ∙ e) in (same, λ i. (sym m) i + length (same i))
+  where
+    some_same : (xs ys : List Cube) → Some xs ≡ Some ys → xs ≡ ys
+    some_same xs ys e = cc
+
+pub too_many : (v w : BodyView) (cs : List Cube) → label.is_closed v.label ≡ true → label.whole v.label.inner ≡ Some cs → stated_limits.hoa_edges < v.made + length cs → StepsInLabel spec.AfterOperand v token.CloseLabel (Err (Fault LimitPassed)) w
+too_many v w cs c n l = ends v w (Err (Fault LimitPassed)) c go
+  where
+    over : (m k : ℕ) → m < k → nat_lt m k ≡ true
+    over m k q = grind (arith, nat_tests, q)
+
+    go : Ends v (Err (Fault LimitPassed)) w
+    go inner true b g e s = refl
+    go inner false b g e s =
+        let same = same_cubes v cs inner b n e s.3 in
+        subst (λ d. Leads (if d then Err fault.LimitPassed else Ok (record b { place = spec.InBody spec.AtTarget; edges = b.edges + length (label_cubes (whole inner)) })) b (record g { cubes = label_cubes (whole inner) }) (Err (Fault LimitPassed)) w)
+        (sym (ap (nat_lt stated_limits.hoa_edges) (sym same.1) ∙ over _ _ l)) refl
+
+pub label_ended : (v w : BodyView) (cs : List Cube) → label.is_closed v.label ≡ true → label.whole v.label.inner ≡ Some cs → v.made + length cs ≤ stated_limits.hoa_edges
+    → w ≡ record v { label = label.spent v.label; made = v.made + length cs; cubes = cs } → StepsInLabel spec.AfterOperand v token.CloseLabel (Ok (place.Body at.Target)) w
+label_ended v w cs c n l q = ends v w (Ok (place.Body at.Target)) c go
+  where
+    few : (m k : ℕ) → k ≤ m → nat_lt m k ≡ false
+    few m k q = grind (arith, nat_tests, q)
+
+    go : Ends v (Ok (place.Body at.Target)) w
+    go inner true b g e s = absurd (no_cubes cs (sym e ∙ n))
+    go inner false b g e s =
+        let same = same_cubes v cs inner b n e s.3 in
+        let next : Before = record b { place = spec.InBody spec.AtTarget; edges = b.edges + length (label_cubes (whole inner)) } in
+        subst (λ d. Leads (if d then Err fault.LimitPassed else Ok next) b (record g { cubes = label_cubes (whole inner) }) (Ok (place.Body at.Target)) w)
+        (sym (ap (nat_lt stated_limits.hoa_edges) (sym same.1) ∙ few _ _ l)) (
+          subst (λ y. IsAt (place.Body at.Target) y (spec.InBody spec.AtTarget) next (record g { cubes = label_cubes (whole inner) })) (sym q)
+              (tt, (s.0, s.1, s.2, sym same.1, s.4, sym same.0, s.6)),
+          refl,
+        )
+
+-- ---- edges
+
+pub no_target : (v w : BodyView) (n m : ℕ) → m ≡ capped n → v.counts.states ≤ m → StepsAt spec.AtTarget v (token.Int n) (Err (Fault NumberOutOfRange)) w
+no_target v w n m c l = λ b g s. too_large n m v.counts.states b.header.states _ b _ w s.0.states (few_states s.0) c l
+
+pub target_taken : (v w : BodyView) (n m : ℕ) → m ≡ capped n → m < v.counts.states → w ≡ record v { target = m; own = v.sets } → StepsAt spec.AtTarget v (token.Int n) (Ok (place.Body at.AfterTarget)) w
+target_taken v w n m c l e = λ b g s. in_range n m v.counts.states b.header.states _ b _ _ w s.0.states (few_states s.0) c l (λ k. (
+  subst (λ x. IsAt (place.Body at.AfterTarget) x (spec.InBody spec.AfterTarget) (record b { place = spec.InBody spec.AfterTarget }) (came_in spec.AtTarget b (token.Int n) g)) (sym e)
+      (tt, (s.0, s.1, s.2, s.3, s.4, s.5, (s.6, s.1.last.0, s.5, sym k, s.4))),
+  refl,
+))
 
 -- the last edge stands among those of its state
-now_filed : (v : BodyView) (es : List CameEdge) → length v.edges ≡ v.counts.states → v.at < v.counts.states → AreOpen v es → AreFiled (view.filed v) es
+now_filed : (v : BodyView) (es : List CameEdge) → length v.edges ≡ v.counts.states → v.at < v.counts.states → AreOpen v es → AreFiled (filed v) es
 now_filed v [] c l o = absurd o
 now_filed v (e ∷ es) c l o = λ k m.
     let within : v.at < length v.edges = omega (arith, c, l) in
@@ -276,115 +352,31 @@ now_filed v (e ∷ es) c l o = λ k m.
     go k false q m =
         o.0 k m ∙ sym (append-nil (edges_of k es)) ∙ ap (λ d. edges_of k es ++ (if d then cube_edges e else [])) (sym (ap (λ j. j == k) o.1 ∙ q))
 
-filed_shows : (v : BodyView) (p q : spec.BodyPlace) (b : Before) (g : Came) → is_open p ≡ true → is_open q ≡ false → ShowsBody v p b g → ShowsBody (view.filed v) q b g
-filed_shows v p q b g o c s = record {
-  counts = s.counts;
-  states = s.states;
-  made = s.made;
-  marks = s.marks;
-  cubes = s.cubes;
-  placed = set_length v.edges v.at _ ∙ s.placed;
-  edges = subst (λ x. AreAt x (view.filed v) g.edges) (sym c) (now_filed v g.edges s.placed s.states.last.1 (subst (λ x. AreAt x v g.edges) o s.edges));
-}
+pub filed_shows : (v w : BodyView) (p q : spec.BodyPlace) (b : Before) (g : Came) → is_open p ≡ true → is_open q ≡ false → w ≡ filed v → ShowsBody v p b g → ShowsBody w q b g
+filed_shows v w p q b g o c e s =
+    subst (λ x. ShowsBody x q b g) (sym e) (
+      s.0,
+      s.1,
+      length-set v.edges v.at _ ∙ s.2,
+      s.3,
+      s.4,
+      s.5,
+      subst (λ x. AreAt x (filed v) g.edges) (sym c) (now_filed v g.edges s.2 s.1.last.1 (subst (λ x. AreAt x v g.edges) o s.6)),
+    )
 
-pub behind_target : (v : BodyView) (b : Before) (g : Came) → ShowsBody v spec.AfterTarget b g → (t : HoaToken) → AgreesAt (view.after_target v t) (table.step_in_body stated_limits spec.AfterTarget b t) b g
-behind_target v b g s token.AndSign = refl
-behind_target v b g s token.OpenSets = to_place v spec.AfterTarget b g s at.EdgeSets spec.InEdgeSets refl tt
-behind_target v b g s t = at_edge (view.filed v) spec.AtEdge b g (filed_shows v spec.AfterTarget spec.AtEdge b g refl refl s) refl t
+pub no_edge_set : (v w : BodyView) (n m : ℕ) → m ≡ capped n → v.counts.sets ≤ m → StepsAt spec.InEdgeSets v (token.Int n) (Err (Fault NumberOutOfRange)) w
+no_edge_set v w n m c l = λ b g s. too_large n m v.counts.sets b.header.sets _ b _ w s.0.sets (few_sets s.0) c l
 
-pub edge_sets : (v : BodyView) (b : Before) (g : Came) → b.place ≡ spec.InBody spec.InEdgeSets → ShowsBody v spec.InEdgeSets b g → (t : HoaToken)
-    → AgreesAt (view.take at.EdgeSets v t) (table.step_in_body stated_limits spec.InEdgeSets b t) b (came_in spec.InEdgeSets b t g)
-edge_sets v b g e s (token.Int n) =
-    let h : Came = record g { edges = with_set n g.edges } in
-    numbered n v.counts.sets b.header.sets (Ok (place.Body at.EdgeSets, record v { own = put nat_cmp (capped n) v.own })) (Ok b) b h s.counts.sets (small_sets v spec.InEdgeSets b g s) (λ q. (
-      subst (λ pl. IsAt (place.Body at.EdgeSets) (record v { own = put nat_cmp (capped n) v.own }) pl b h) (sym e) (
-        tt,
-        record {
-          counts = s.counts;
-          states = s.states;
-          placed = s.placed;
-          made = s.made;
-          marks = s.marks;
-          cubes = s.cubes;
-          edges = more g.edges (below_small n v.counts.sets (small_sets v spec.InEdgeSets b g s) q) s.edges;
-        },
-      ),
-      refl,
-    ))
+pub edge_set : (v w : BodyView) (n m : ℕ) → m ≡ capped n → m < v.counts.sets → w ≡ record v { own = put nat_cmp m v.own } → StepsAt spec.InEdgeSets v (token.Int n) (Ok (place.Body at.EdgeSets)) w
+edge_set v w n m c l e = λ b g s. in_range n m v.counts.sets b.header.sets _ b _ _ w s.0.sets (few_sets s.0) c l (λ k. (
+  subst (λ x. IsAt (place.Body at.EdgeSets) x (spec.InBody spec.InEdgeSets) b (record g { edges = with_set n g.edges })) (sym e)
+      (tt, (s.0, s.1, s.2, s.3, s.4, s.5, more g.edges k s.6)),
+  refl,
+))
   where
-    more : (es : List CameEdge) → capped n ≡ n → AreOpen v es → AreOpen (record v { own = put nat_cmp (capped n) v.own }) (with_set n es)
-    more [] c o = absurd o
-    more (x ∷ es) c o = (o.0, o.1, o.2, o.3, put_last x.sets n ∙ ap (put nat_cmp n) o.4 ∙ ap (λ k. put nat_cmp k v.own) (sym c))
-edge_sets v b g e s token.CloseSets = to_place (view.filed v) spec.AtEdge b g (filed_shows v spec.InEdgeSets spec.AtEdge b g refl refl s) at.Edge spec.AtEdge refl tt
-edge_sets v b g e s t = refl
+    more : (es : List CameEdge) → m ≡ n → AreOpen v es → AreOpen (record v { own = put nat_cmp m v.own }) (with_set n es)
+    more [] k o = absurd o
+    more (x ∷ es) k o = (o.0, o.1, o.2, o.3, put_last x.sets n ∙ ap (put nat_cmp n) o.4 ∙ ap (λ j. put nat_cmp j v.own) (sym k))
 
--- ---- behind an operand
-
--- the end of a label, by its cubes
-label_ends : (v : BodyView) (inner : LabelPart) (b : Before) (g : Came) → v.label ≡ shown_label (record { inner = inner; around = [] }) → ShowsBody v (spec.AfterOperand (record { inner = inner; around = [] })) b g
-    → AgreesAt (view.close_label v) (table.close_label stated_limits b inner []) b (record g { cubes = label_cubes (whole inner) })
-label_ends v inner b g w s =
-    subst (λ x. AgreesAt (if not (label.is_closed x) then Err BadToken else view.close_with (record v { label = label.spent v.label }) (label.whole v.label.inner)) (table.close_label stated_limits b inner []) b h) (sym w)
-    (subst (λ o. AgreesAt (view.close_with (record v { label = label.spent v.label }) o) (table.close_label stated_limits b inner []) b h) (sym cubes_is) (go (is_wide stated_limits.label_cubes (whole inner))))
-  where
-    h : Came
-    h = record g { cubes = label_cubes (whole inner) }
-
-    cubes_is : label.whole v.label.inner ≡ (if is_wide stated_limits.label_cubes (whole inner) then None else Some (label_cubes (whole inner)))
-    cubes_is = ap (λ x. label.whole x.inner) w ∙ sym (part_whole true inner) ∙ narrow_is (whole inner)
-
-    few : (c : Bool) → nat_lt stated_limits.hoa_edges (v.made + length (label_cubes (whole inner))) ≡ c
-        → AgreesAt (if c then Err LimitPassed else Ok (place.Body at.Target, record v { label = label.spent v.label; made = v.made + length (label_cubes (whole inner)); cubes = label_cubes (whole inner) }))
-        (if nat_lt stated_limits.hoa_edges (b.edges + length (label_cubes (whole inner))) then Err LimitPassed else Ok (record b { place = spec.InBody spec.AtTarget; edges = b.edges + length (label_cubes (whole inner)) })) b h
-    few c q =
-        subst (λ d. AgreesAt (if c then Err LimitPassed else Ok (place.Body at.Target, record v { label = label.spent v.label; made = v.made + length (label_cubes (whole inner)); cubes = label_cubes (whole inner) }))
-        (if d then Err LimitPassed else Ok (record b { place = spec.InBody spec.AtTarget; edges = b.edges + length (label_cubes (whole inner)) })) b h)
-        (sym (ap (λ m. nat_lt stated_limits.hoa_edges (m + length (label_cubes (whole inner)))) s.made ∙ q))
-        (if_at c _ _ _ _ b h refl (
-          (
-            tt,
-            record {
-              counts = s.counts;
-              states = s.states;
-              placed = s.placed;
-              marks = s.marks;
-              cubes = refl;
-              edges = s.edges;
-              made = ap (λ m. m + length (label_cubes (whole inner))) s.made;
-            },
-          ),
-          refl,
-        ))
-
-    go : (wide : Bool)
-        → AgreesAt (view.close_with (record v { label = label.spent v.label }) (if wide then None else Some (label_cubes (whole inner))))
-        (if wide || nat_lt stated_limits.hoa_edges (b.edges + length (label_cubes (whole inner))) then Err LimitPassed else Ok (record b { place = spec.InBody spec.AtTarget; edges = b.edges + length (label_cubes (whole inner)) })) b h
-    go true = refl
-    go false = few (nat_lt stated_limits.hoa_edges (v.made + length (label_cubes (whole inner)))) refl
-
--- a bracket is open
-stays_open : (v : BodyView) (inner p : LabelPart) (ps : List LabelPart) → v.label ≡ shown_label (record { inner = inner; around = p ∷ ps }) → label.is_closed v.label ≡ false
-stays_open v inner p ps w = ap label.is_closed w ∙ some (shown_around ps)
-  where
-    some : (xs : List label.PartView) → (length (xs ++ shown_part (sign_within ps) p ∷ []) == 0) ≡ false
-    some [] = refl
-    some (x ∷ xs) = positive (length (xs ++ shown_part (sign_within ps) p ∷ []))
-      where
-        positive : (n : ℕ) → (suc n == 0) ≡ false
-        positive n = grind (arith, nat_tests)
-
-pub behind_operand : (v : BodyView) (q : LabelParts) (b : Before) (g : Came) → v.label ≡ shown_label q → ShowsBody v (spec.AfterOperand q) b g → (t : HoaToken) → (t ≡ token.CloseBracket → ⊥)
-    → AgreesAt (view.after_operand v t) (table.step_in_body stated_limits (spec.AfterOperand q) b t) b (came_in (spec.AfterOperand q) b t g)
-behind_operand v q b g w s token.AndSign n = to_place v (spec.AfterOperand q) b g s at.Operand (spec.AtOperand q) refl w
-behind_operand v q b g w s token.OrSign n =
-    with_label v (spec.AfterOperand q) b g s refl (label.take_alternative v.label) at.Operand (spec.AtOperand (record q { inner = record { sum = Some (whole q.inner); product = None; negations = 0 } })) refl (ap label.take_alternative w ∙ sym (shows_alternative q))
-behind_operand v q b g w s token.CloseLabel n = ends q.around w s
-  where
-    ends : (around : List LabelPart) → v.label ≡ shown_label (record { inner = q.inner; around = around }) → ShowsBody v (spec.AfterOperand (record { inner = q.inner; around = around })) b g
-        → AgreesAt (view.close_label v) (table.close_label stated_limits b q.inner around) b (record g { cubes = label_cubes (whole q.inner) })
-    ends [] x y = label_ends v q.inner b g x y
-    ends (p ∷ ps) x y =
-        subst (λ c. AgreesAt (if not c then Err BadToken else view.close_with (record v { label = label.spent v.label }) (label.whole v.label.inner)) (Err BadToken) b (record g { cubes = label_cubes (whole q.inner) }))
-        (sym (stays_open v q.inner p ps x)) refl
-behind_operand v q b g w s token.CloseBracket n = absurd (n refl)
-behind_operand v q b g w s t n = refl
+pub edge_closed : (v w : BodyView) → w ≡ filed v → StepsAt spec.InEdgeSets v token.CloseSets (Ok (place.Body at.Edge)) w
+edge_closed v w e = λ b g s. ((tt, filed_shows v w spec.InEdgeSets spec.AtEdge b g refl refl e s), refl)

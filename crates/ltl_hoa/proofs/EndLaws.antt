@@ -23,8 +23,8 @@ use Rattle.ltl_hoa.specs.declared.token.TokenKind.TheVariants as kind
 use Rattle.ltl_hoa.specs.TokenView.{token_of}
 use Rattle.ltl_hoa.specs.LexerView.{last_kind}
 use Rattle.ltl_hoa.specs.Resuming.{item_of, with_item}
-use Rattle.ltl_hoa.specs.ParserView.{ParserView}
-use Rattle.ltl_hoa.specs.Shown.{Came, came_none, came_at, ShowsPlace}
+use Rattle.ltl_hoa.specs.ParserView.{ParserView, ShowsPlace}
+use Rattle.ltl_hoa.specs.Shown.{Came, came_none, came_at}
 use Rattle.ltl_hoa.specs.MachineView.{MachineView, TakesToken, fault_line}
 use Rattle.ltl_hoa.specs.Reading.{Reached, reach, reached, fault_of, IsSound, IsFaulty, IsIn, IsAfter, IsTold, IsToldIn, IsEnded}
 use Rattle.ltl_hoa.proofs.LexLaws.{lexer_last}

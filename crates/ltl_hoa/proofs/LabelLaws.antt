@@ -169,9 +169,6 @@ part_whole s p = beside p.sum ∙ ap (view.beside (not s) (option_map (narrow s)
 
 -- ---- labels
 
-pub shows_begun : shown_label (record { inner = empty_part; around = [] }) ≡ view.new_label
-shows_begun = refl
-
 pub shows_negated : (p : LabelParts) → shown_label (record p { inner = record p.inner { negations = p.inner.negations + 1 } }) ≡ view.negate_inner (shown_label p)
 shows_negated p = ap (λ q. record { inner = q; around = shown_around p.around }) (part_negated (sign_within p.around) p.inner)
 

@@ -27,7 +27,8 @@ use Rattle.ltl_hoa.specs.declared.lexer.Phase.TheVariants as phase
 use Rattle.ltl_hoa.specs.TokenView.{token_of, kind_of, sign_kind, mark_kind, begins_mark}
 use Rattle.ltl_hoa.specs.LexerView.{LexerView, ended_kind, rested, taken, taken_in, beginning, sign_beginning, marked_by, quoted_in}
 use Rattle.ltl_hoa.specs.Resuming.{item_of, resume, IsLexing}
-use Rattle.ltl_hoa.specs.Shown.{Came, came_none, came_at, Shows}
+use Rattle.ltl_hoa.specs.Shown.{Came, came_none, came_at}
+use Rattle.ltl_hoa.specs.ParserView.{Shows}
 use Rattle.ltl_hoa.specs.MachineView.{MachineView, line_behind, TakesToken, FaultIs, fault_line, Leaves, Enters, Lexes, met, through, stopped}
 use Rattle.ltl_hoa.specs.Reading.{Reached, reach, reached, fault_of, IsSound, IsIn, IsAfter}
 use Rattle.ltl_hoa.proofs.ParserLaws.{StepShown, parser_takes}

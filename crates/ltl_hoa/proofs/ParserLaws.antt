@@ -1,5 +1,5 @@
 -- A token takes the parser where the definition goes.
-use Rattle.std.proofs.Common.{◌≡◌, ℕ, zero, suc, ◌<◌, ◌≤◌, Bool, true, false, not, ◌&&◌, List, [], ◌∷◌, ◌++◌, length, Option, Some, None, ◌==◌, refl, sym, ◌∙◌, ap, subst, arith}
+use Rattle.std.proofs.Common.{◌≡◌, ℕ, zero, suc, ◌<◌, ◌≤◌, Bool, true, false, not, ◌&&◌, [], length, Option, Some, None, ◌==◌, refl, sym, ◌∙◌, ap, subst, arith}
 use Rattle.std.specs.Prelude.{nat_lt, if◌then◌else◌, option_map, unwrap_or, is_some, slice_index_or, replicate, Result, Ok, Err}
 use Rattle.std.specs.List.{list_any}
 use Rattle.std.proofs.lemmas.List.{length-replicate}
@@ -8,33 +8,28 @@ use Rattle.ltl_spec.specs.Collections.Sets.{set_of}
 use Rattle.ltl_spec.specs.Tools.Limits.{stated_limits}
 use Rattle.ltl_spec.specs.Hoa.HoaToken as token
 use Rattle.ltl_spec.specs.Hoa.HoaToken.{HoaToken}
-use Rattle.ltl_spec.specs.Hoa.HoaLabel.{BracketLabel}
 use Rattle.ltl_spec.specs.Hoa.HoaReading.{stated_form}
 use Rattle.ltl_spec.specs.Hoa.HoaFaultKind.{ItemMissing, NumberOutOfRange}
 use Rattle.ltl_spec.specs.Hoa.HoaPlace as spec
 use Rattle.ltl_spec.specs.Hoa.HoaStep as table
-use Rattle.ltl_spec.specs.Hoa.HoaPlace.{Before, HoaHeader, LabelPart, LabelParts, whole, with_operand}
+use Rattle.ltl_spec.specs.Hoa.HoaPlace.{Before, HoaHeader}
 use Rattle.ltl_spec.specs.Hoa.HoaStep.{Step}
 use Rattle.ltl_hoa.specs.declared.marked.TheConstants.{MOST_SETS}
 use Rattle.ltl_hoa.specs.declared.fault.Stop.{Stop}
-use Rattle.ltl_hoa.specs.declared.fault.Stop.TheVariants.{Fault, OutOfMemory}
+use Rattle.ltl_hoa.specs.declared.fault.Stop.TheVariants.{OutOfMemory}
 use Rattle.ltl_hoa.specs.declared.header.Counts.{Counts}
 use Rattle.ltl_hoa.specs.declared.place.Place.{Place}
 use Rattle.ltl_hoa.specs.declared.place.Place.TheVariants as place
 use Rattle.ltl_hoa.specs.declared.place.ItemBefore.{ItemBefore}
 use Rattle.ltl_hoa.specs.declared.place.BodyPlace.{BodyPlace}
-use Rattle.ltl_hoa.specs.declared.place.BodyPlace.TheVariants as at
 use Rattle.ltl_hoa.specs.NumberView.{capped}
-use Rattle.ltl_label.specs.LabelView as label
 use Rattle.ltl_hoa.specs.HeaderView as header
 use Rattle.ltl_hoa.specs.HeaderView.{Refuses, Leads, Fits, place_of, stepped}
-use Rattle.ltl_hoa.specs.BodyView as body
-use Rattle.ltl_hoa.specs.BodyView.{BodyView, BodyLeads, new_body}
-use Rattle.ltl_hoa.specs.ParserView.{ParserView, at_place, Takes, TakesAt, TakesInHeader, TakesBody, BodyTakes, Begins}
-use Rattle.ltl_hoa.specs.Shown.{Came, came_none, came_in, came_at, Shows, ShowsHeader, ShowsPlace, ShowsBody, ShowsBodyPlace, IsBegun, shown_label, shown_part, shown_around, sign_within, edges_of, first_or}
+use Rattle.ltl_hoa.specs.Shown as body
+use Rattle.ltl_hoa.specs.BodyView.{BodyView, new_body}
+use Rattle.ltl_hoa.specs.ParserView.{ParserView, at_place, Takes, TakesAt, TakesInHeader, TakesBody, BodyTakes, Begins, Shows, ShowsHeader, ShowsPlace, IsBegun}
+use Rattle.ltl_hoa.specs.Shown.{Came, came_none, came_in, came_at, IsAt, ShowsBody, ShowsBodyPlace, edges_of, first_or}
 use Rattle.ltl_hoa.proofs.StepLaws.{Agrees, capped_under, step_agrees}
-use Rattle.ltl_hoa.proofs.BodySteps.{IsAt, AgreesAt, at_state, after_number, after_name, state_sets, at_edge, number, operand, behind_operand, target, behind_target, edge_sets}
-use Rattle.ltl_hoa.proofs.LabelLaws.{shows_closed}
 
 -- the answer is that of the definition's step
 abbrev pub StepShown : Step → Came → Result (Unit {0}) Stop → ParserView → Type 0
@@ -81,19 +76,19 @@ replicate_length n d = length-replicate n d
 
 new_shows : (c : Counts) (b : Before) (g : Came) → IsBegun b g → b.header.states ≡ Some c.states → c.states ≤ stated_limits.hoa_states → b.header.sets ≡ Some c.sets → option_map length b.header.names ≡ Some c.names
     → c.names ≤ stated_limits.propositions → c.sets ≤ MOST_SETS → 0 < c.states → ShowsBody (new_body c) spec.AtState (record b { place = spec.InBody spec.AtState }) g
-new_shows c b g begun st few se na fn fs some = record {
-  counts = record { states = st; few_states = few; sets = se; names = na; well = (fn, fs) };
-  states = record {
+new_shows c b g begun st few se na fn fs some = (
+  record { states = st; few_states = few; sets = se; names = na; well = (fn, fs) },
+  record {
     stood = λ k l. replicate_get c.states k false ∙ ap (list_any (λ m. m == k)) (sym begun.0);
     counted = replicate_length c.states false;
     last = (ap (λ ns. first_or 0 ns) begun.0, some);
-  };
-  placed = replicate_length c.states [];
-  made = begun.1;
-  marks = ap (λ (x : Came). set_of nat_cmp x.sets) begun.2;
-  cubes = ap (λ (x : Came). x.cubes) begun.2;
-  edges = λ k l. replicate_get c.states k [] ∙ ap (λ (x : Came). edges_of k x.edges) (sym begun.2);
-}
+  },
+  replicate_length c.states [],
+  begun.1,
+  ap (λ (x : Came). set_of nat_cmp x.sets) begun.2,
+  ap (λ (x : Came). x.cubes) begun.2,
+  λ k l. replicate_get c.states k [] ∙ ap (λ (x : Came). edges_of k x.edges) (sym begun.2),
+)
 
 begin_shown : (v w : ParserView) (b : Before) (g : Came) (r : Result (Unit {0}) Stop) → ShowsHeader v.header b.header → IsBegun b g → Begins (header.body_begun v.header) v r w → StepShown (table.begin_body b b.header) g r w
 begin_shown v w b g r sh begun k = go missing below r turned
@@ -145,82 +140,19 @@ begin_shown v w b g r sh begun k = go missing below r turned
 
 -- ---- in the body
 
-abbrev pub BodyShown : Step → Before → Came → Result Place Stop → BodyView → Type 0
-BodyShown (Ok c) b h (Ok q) w = IsAt q w c.place c h × (c.header ≡ b.header)
-BodyShown (Ok c) b h (Err stop) w = stop ≡ OutOfMemory
-BodyShown (Err k) b h (Ok q) w = ⊥
-BodyShown (Err k) b h (Err stop) w = Refuses k stop
-
-by_body : (L : body.Led) (S : Step) (b : Before) (h : Came) (r : Result Place Stop) (w : BodyView) → AgreesAt L S b h → BodyLeads L r w → BodyShown S b h r w
-by_body (Ok p) (Ok c) b h (Ok q) w a k = (subst (λ x. IsAt x w c.place c h) (sym k.0) (subst (λ (x : BodyView). IsAt p.0 x c.place c h) (sym k.1) a.0), a.1)
-by_body (Ok p) (Ok c) b h (Err stop) w a k = k
-by_body (Ok p) (Err j) b h r w a k = absurd a
-by_body (Err i) (Ok c) b h r w a k = absurd a
-by_body (Err i) (Err j) b h (Ok q) w a k = absurd k
-by_body (Err i) (Err j) b h (Err stop) w a k = subst (λ m. Refuses m stop) a k
-
-bracket_shown : (v : BodyView) (inner : LabelPart) (around : List LabelPart) (b : Before) (g : Came) (r : Result Place Stop) (w : BodyView) → v.label ≡ shown_label (record { inner = inner; around = around })
-    → ShowsBody v (spec.AfterOperand (record { inner = inner; around = around })) b g → body.ClosesBracket v r w → BodyShown (table.close_bracket b inner around) b g r w
-bracket_shown v inner [] b g (Ok q) w l s (e, (x, (p, c, f), d)) = absurd (none x.around p (sym (ap (λ y. y.around) l) ∙ c))
-  where
-    none : (xs : List label.PartView) (y : label.PartView) → [] ≡ xs ++ y ∷ [] → ⊥
-    none [] y q = cc
-    none (z ∷ xs) y q = cc
-bracket_shown v inner [] b g (Err (Fault k)) w l s m = m.1
-bracket_shown v inner [] b g (Err OutOfMemory) w l s m = tt
-bracket_shown v inner (p ∷ ps) b g (Ok q) w l s (e, (x, c, d)) =
-    let same = shows_closed inner p ps x (subst (λ y. label.Closes y true x) l c) in (
-      subst (λ y. IsAt y w (spec.InBody (spec.AfterOperand after)) (record b { place = spec.InBody (spec.AfterOperand after) }) g) (sym e)
-          (subst (λ (y : BodyView). IsAt (place.Body at.AfterOperand) y (spec.InBody (spec.AfterOperand after)) (record b { place = spec.InBody (spec.AfterOperand after) }) g) (sym d) (
-            same,
-            record { counts = s.counts; states = s.states; placed = s.placed; made = s.made; marks = s.marks; cubes = s.cubes; edges = s.edges },
-          )),
-      refl,
-    )
-  where
-    after : LabelParts
-    after = record { inner = with_operand p (BracketLabel (whole inner)); around = ps }
-bracket_shown v inner (p ∷ ps) b g (Err (Fault k)) w l s m = absurd (some (shown_around ps) (sym (ap (λ y. y.around) l) ∙ m.0))
-  where
-    some : (xs : List label.PartView) → xs ++ shown_part (sign_within ps) p ∷ [] ≡ [] → ⊥
-    some [] q = cc
-    some (z ∷ xs) q = cc
-bracket_shown v inner (p ∷ ps) b g (Err OutOfMemory) w l s m = refl
-
-body_places : (p : BodyPlace) (q : spec.BodyPlace) (v : BodyView) (b : Before) (g : Came) (t : HoaToken) (r : Result Place Stop) (w : BodyView) → b.place ≡ spec.InBody q → ShowsBodyPlace p v q → ShowsBody v q b g
-    → body.TakesAt p v t r w → BodyShown (table.step_in_body stated_limits q b t) b (came_in q b t g) r w
-body_places at.State spec.AtState v b g t r w e l s k = by_body _ _ b g r w (at_state v spec.AtState b g s refl t) k
-body_places at.Number spec.AtNumber v b g t r w e l s k = by_body _ _ b (came_in spec.AtNumber b t g) r w (number v b g s t) k
-body_places at.AfterNumber spec.AfterNumber v b g t r w e l s k = by_body _ _ b g r w (after_number v spec.AfterNumber b g s refl t) k
-body_places at.AfterName spec.AfterName v b g t r w e l s k = by_body _ _ b g r w (after_name v spec.AfterName b g s refl t) k
-body_places at.StateSets spec.InStateSets v b g t r w e l s k = by_body _ _ b (came_in spec.InStateSets b t g) r w (state_sets v b g e s t) k
-body_places at.Edge spec.AtEdge v b g t r w e l s k = by_body _ _ b g r w (at_edge v spec.AtEdge b g s refl t) k
-body_places at.Operand (spec.AtOperand q) v b g t r w e l s k = by_body _ _ b g r w (operand v q b g l s t) k
-body_places at.AfterOperand (spec.AfterOperand q) v b g token.CloseBracket r w e l s k = bracket_shown v q.inner q.around b g r w l s k
-body_places at.AfterOperand (spec.AfterOperand q) v b g t r w e l s k = by_body (body.after_operand v t) (table.step_in_body stated_limits (spec.AfterOperand q) b t) b (came_in (spec.AfterOperand q) b t g) r w (behind_operand v q b g l s t (λ x. cc)) k
-body_places at.Target spec.AtTarget v b g t r w e l s k = by_body _ _ b (came_in spec.AtTarget b t g) r w (target v b g s t) k
-body_places at.AfterTarget spec.AfterTarget v b g t r w e l s k = by_body _ _ b g r w (behind_target v b g s t) k
-body_places at.EdgeSets spec.InEdgeSets v b g t r w e l s k = by_body _ _ b (came_in spec.InEdgeSets b t g) r w (edge_sets v b g e s t) k
-body_places p q v b g t r w e l s k = absurd l
-
-body_shown : (p : BodyPlace) (q : spec.BodyPlace) (v : BodyView) (b : Before) (g : Came) (t : HoaToken) (r : Result Place Stop) (w : BodyView) → b.place ≡ spec.InBody q → ShowsBodyPlace p v q → ShowsBody v q b g
-    → body.Takes p v t r w → BodyShown (table.step_unless_abort stated_limits q b t) b (came_in q b t g) r w
-body_shown p q v b g token.Abort (Ok pl) w e l s k = k
-body_shown p q v b g token.Abort (Err stop) w e l s k = k
-body_shown p q v b g t r w e l s k = body_places p q v b g t r w e l s k
-
--- ---- anywhere
-
 in_body_shown : (p : BodyPlace) (q : spec.BodyPlace) (v w : ParserView) (b : Before) (g : Came) (t : HoaToken) (r : Result (Unit {0}) Stop) (own : BodyView) → b.place ≡ spec.InBody q → ShowsHeader v.header b.header
     → ShowsBodyPlace p own q → ShowsBody own q b g → TakesBody p v (Some own) t r w → StepShown (table.step_unless_abort stated_limits q b t) (came_in q b t g) r w
 in_body_shown p q v w b g t r own e sh l s k = go w.body refl k.0 r refl
   where
+    taken : (x : Result Place Stop) (c : BodyView) → body.Takes p own t x c → body.Leads (table.step_unless_abort stated_limits q b t) b (came_in q b t g) x c
+    taken x c m = subst (λ y. body.Leads (table.step_unless_abort stated_limits q (record b { place = y }) t) b (came_in q b t g) x c) (sym e) (m q l b g s)
+
     go : (o : Option BodyView) → w.body ≡ o → BodyTakes p own t (at_place r w.place) o → (x : Result (Unit {0}) Stop) → r ≡ x → StepShown (table.step_unless_abort stated_limits q b t) (came_in q b t g) x w
     go None f m x i = absurd m
     go (Some c) f m (Ok u) i =
-        ended (table.step_unless_abort stated_limits q b t) (body_shown p q own b g t (Ok w.place) c e l s (subst (λ y. body.Takes p own t (at_place y w.place) c) i m))
+        ended (table.step_unless_abort stated_limits q b t) (taken (Ok w.place) c (subst (λ y. body.Takes p own t (at_place y w.place) c) i m))
       where
-        ended : (S : Step) → BodyShown S b (came_in q b t g) (Ok w.place) c → StepShown S (came_in q b t g) (Ok u) w
+        ended : (S : Step) → body.Leads S b (came_in q b t g) (Ok w.place) c → StepShown S (came_in q b t g) (Ok u) w
         ended (Ok d) a = record {
           header = subst (λ y. ShowsHeader y d.header) (sym k.1) (subst (λ y. ShowsHeader v.header y) (sym a.1) sh);
           place = shown w.place d.place a.0;
@@ -232,11 +164,13 @@ in_body_shown p q v w b g t r own e sh l s k = go w.body refl k.0 r refl
             shown y z h = absurd h
         ended (Err j) a = a
     go (Some c) f m (Err stop) i =
-        ended (table.step_unless_abort stated_limits q b t) (body_shown p q own b g t (Err stop) c e l s (subst (λ y. body.Takes p own t (at_place y w.place) c) i m))
+        ended (table.step_unless_abort stated_limits q b t) (taken (Err stop) c (subst (λ y. body.Takes p own t (at_place y w.place) c) i m))
       where
-        ended : (S : Step) → BodyShown S b (came_in q b t g) (Err stop) c → StepShown S (came_in q b t g) (Err stop) w
+        ended : (S : Step) → body.Leads S b (came_in q b t g) (Err stop) c → StepShown S (came_in q b t g) (Err stop) w
         ended (Ok d) a = a
         ended (Err j) a = a
+
+-- ---- anywhere
 
 header_takes : (q : Place) (v w : ParserView) (t : HoaToken) (r : Result (Unit {0}) Stop) → TakesInHeader q v t r w → header.Takes q v.header t (at_place r w.place) w.header
 header_takes q v w t (Ok u) k = k

@@ -28,7 +28,7 @@ use Rattle.ltl_hoa.specs.declared.place.AcceptancePart.TheVariants as part
 use Rattle.ltl_hoa.specs.NumberView.{capped, capped_token}
 use Rattle.ltl_hoa.specs.HeaderView.{HeaderView, Fits, IsPartOf, Leads, Takes, acceptance_left, before_of, item_of, place_of, read, stepped}
 use Rattle.ltl_hoa.specs.TokenView.{token_of}
-use Rattle.ltl_hoa.specs.Shown.{IsFew, capped_header}
+use Rattle.ltl_hoa.specs.ParserView.{IsFew, capped_header}
 
 -- the first is the second with a start as it is read, within the limits, or it is the same fault
 abbrev pub Agrees : Step → Step → Type 0
@@ -57,9 +57,6 @@ capped_same n m l = grind (arith, nat_tests, l)
 
 pub small_of : (m n : ℕ) → m ≤ stated_limits.hoa_edges → nat_lt m n ≡ false → capped n ≡ n
 small_of m n l e = grind (arith, nat_tests, l, e)
-
-pub below_small : (n m : ℕ) → m ≤ stated_limits.hoa_edges → nat_lt n m ≡ true → capped n ≡ n
-below_small n m l e = grind (arith, nat_tests, l, e)
 
 -- a number that is at most a limit
 limited : (m n : ℕ) → m ≤ stated_limits.hoa_edges → (f g : ℕ → Step) → ((k : ℕ) → k ≤ m → Agrees (f k) (g k))

@@ -13,8 +13,8 @@ use Rattle.ltl_hoa.specs.declared.place.Place.TheVariants as place
 use Rattle.ltl_hoa.specs.HeaderView as header
 use Rattle.ltl_hoa.specs.HeaderView.{HeaderView, automaton_from, IsSomeMarked}
 use Rattle.ltl_hoa.specs.BodyView.{BodyView}
-use Rattle.ltl_hoa.specs.ParserView.{ParserView, IsWhole, IsWholeWith, IsAutomaton, IsAutomatonWith}
-use Rattle.ltl_hoa.specs.Shown.{Came, Shows, ShowsPlace, ShowsBody, ShowsHeader, capped_header}
+use Rattle.ltl_hoa.specs.ParserView.{ParserView, Shows, ShowsPlace, ShowsHeader, capped_header, IsWhole, IsWholeWith, IsAutomaton, IsAutomatonWith}
+use Rattle.ltl_hoa.specs.Shown.{Came, ShowsBody}
 use Rattle.ltl_hoa.specs.declared.fault.HoaFaultKind as made
 use Rattle.ltl_spec.specs.Hoa.HoaFault.{hoa_fault}
 use Rattle.ltl_spec.specs.Hoa.HoaToken.{last_line}
@@ -82,10 +82,10 @@ whole_automaton v text b g A r p s e =
   where
     body_made : IsReadAs A r.0.document b g → (body : BodyView) → v.body ≡ Some body → ShowsBody body spec.AtState b g → IsAutomaton v A
     body_made told body q shown =
-        let states : body.counts.states ≡ A.states = some_same _ _ (sym shown.counts.states ∙ ap (λ h. h.states) told.header) in
-        let count : length body.edges ≡ A.states = shown.placed ∙ states in
+        let states : body.counts.states ≡ A.states = some_same _ _ (sym shown.0.states ∙ ap (λ h. h.states) told.header) in
+        let count : length body.edges ≡ A.states = shown.2 ∙ states in
         let all : body.edges ≡ map (edges_at r.0.document) (range_with_len 0 (length body.edges)) =
-        listed 0 body.edges [] (edges_at r.0.document) (λ k l. shown.edges k (below k _ _ l shown.placed) ∙ told.edges k ∙ ap (edges_at r.0.document) (from_zero k)) in
+        listed 0 body.edges [] (edges_at r.0.document) (λ k l. shown.6 k (below k _ _ l shown.2) ∙ told.edges k ∙ ap (edges_at r.0.document) (from_zero k)) in
         let edges : body.edges ≡ A.edges = all ∙ ap (λ n. map (edges_at r.0.document) (range_with_len 0 n)) count ∙ sym r.0.describes.edges in
         subst (λ o. IsAutomatonWith v.header o A) (sym q) (header_made A v.header b.header body b g s.header told.header r.0.describes.begins r.1.states count edges)
       where

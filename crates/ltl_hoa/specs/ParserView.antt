@@ -1,9 +1,11 @@
--- What stood so far, and what a token makes of it.
-use Rattle.std.specs.Prelude.{◌≡◌, ◌<◌, ◌≤◌, Option, Some, None, Result, Ok, Err}
+-- What stood so far, what a token makes of it, and how it shows the state of the definition.
+use Rattle.std.specs.Prelude.{◌≡◌, ◌<◌, ◌≤◌, [], Option, Some, None, option_map, unwrap_or, Result, Ok, Err}
 use Rattle.ltl_spec.specs.Tools.Limits.{stated_limits}
 use Rattle.ltl_spec.specs.Hoa.HoaToken as token
 use Rattle.ltl_spec.specs.Hoa.HoaToken.{HoaToken}
 use Rattle.ltl_spec.specs.Hoa.HoaFaultKind.{HoaFaultKind, BadToken, TextAfterEnd}
+use Rattle.ltl_spec.specs.Hoa.HoaPlace as spec
+use Rattle.ltl_spec.specs.Hoa.HoaPlace.{Before, HoaHeader}
 use Rattle.ltl_spec.specs.Hoa.HoaReading.{MarkedAutomaton}
 use Rattle.ltl_spec.specs.Hoa.HoaStep.{Step}
 use Rattle.ltl_hoa.specs.declared.fault.Stop.{Stop}
@@ -14,10 +16,12 @@ use Rattle.ltl_hoa.specs.declared.place.Place.{Place}
 use Rattle.ltl_hoa.specs.declared.place.Place.TheVariants.{Format, Item, Body, End}
 use Rattle.ltl_hoa.specs.declared.place.BodyPlace.{BodyPlace}
 use Rattle.ltl_hoa.specs.declared.place.BodyPlace.TheVariants.{State}
+use Rattle.ltl_hoa.specs.NumberView.{capped}
 use Rattle.ltl_hoa.specs.HeaderView as header
-use Rattle.ltl_hoa.specs.HeaderView.{HeaderView, Refuses, AreCounts, new_header, body_begun}
-use Rattle.ltl_hoa.specs.BodyView as body
+use Rattle.ltl_hoa.specs.HeaderView.{HeaderView, Refuses, AreCounts, new_header, body_begun, place_of, Fits}
 use Rattle.ltl_hoa.specs.BodyView.{BodyView, new_body}
+use Rattle.ltl_hoa.specs.Shown as body
+use Rattle.ltl_hoa.specs.Shown.{Came, came_none, ShowsBody, ShowsBodyPlace}
 
 pub record ParserView : Type 0 where
   pub place : Place
@@ -93,3 +97,34 @@ IsAutomatonWith h (Some b) A = header.IsAutomaton h b.edges A
 
 abbrev pub IsAutomaton : ParserView → MarkedAutomaton → Type 0
 IsAutomaton v A = IsAutomatonWith v.header v.body A
+
+-- ---- the header
+
+abbrev pub capped_header : HoaHeader → HoaHeader
+capped_header h = record h { start = option_map capped h.start }
+
+-- the counts stay within their limits
+abbrev pub IsFew : HoaHeader → Type 0
+IsFew h = (unwrap_or h.states 0 ≤ stated_limits.hoa_states) × (unwrap_or h.sets 0 ≤ MOST_SETS)
+
+pub record ShowsHeader (v : HeaderView) (h : HoaHeader) : Type 0 where
+  pub items : v.items ≡ capped_header h
+  pub few : IsFew h
+
+-- ---- all
+
+-- `--BODY--` has not stood
+abbrev pub IsBegun : Before → Came → Type 0
+IsBegun b g = (b.numbers ≡ []) × (b.edges ≡ 0) × (g ≡ came_none)
+
+abbrev pub ShowsPlace : Place → ParserView → spec.Place → Before → Came → Type 0
+ShowsPlace (Body p) v (spec.InBody q) b g = (body : BodyView) × (v.body ≡ Some body) × ShowsBodyPlace p body q × ShowsBody body q b g
+ShowsPlace (Body p) v _ b g = ⊥
+ShowsPlace End v spec.AtEnd b g = (body : BodyView) × (v.body ≡ Some body) × ShowsBody body spec.AtState b g
+ShowsPlace End v _ b g = ⊥
+ShowsPlace p v q b g = IsBegun b g × (place_of p v.header ≡ q) × Fits p v.header
+
+-- the parser's state shows that of the definition, and what came of the body
+pub record Shows (v : ParserView) (b : Before) (g : Came) : Type 0 where
+  pub header : ShowsHeader v.header b.header
+  pub place : ShowsPlace v.place v b.place b g

@@ -12,7 +12,8 @@ use Rattle.ltl_hoa.specs.declared.fault.HoaFault.TheVariants.{AtLine, CannotRead
 use Rattle.ltl_hoa.specs.declared.machine.Found.{Found}
 use Rattle.ltl_hoa.specs.TokenView.{kind_of}
 use Rattle.ltl_hoa.specs.Resuming.{resume, IsLexing}
-use Rattle.ltl_hoa.specs.Shown.{Came, came_none, came_at, Shows}
+use Rattle.ltl_hoa.specs.Shown.{Came, came_none, came_at}
+use Rattle.ltl_hoa.specs.ParserView.{Shows}
 use Rattle.ltl_hoa.specs.MachineView.{MachineView}
 
 -- what the definition's state and what came are behind one more item

@@ -1,5 +1,5 @@
--- How the parser's state shows that of the definition.
-use Rattle.std.specs.Prelude.{◌≡◌, ℕ, zero, suc, ◌<◌, ◌≤◌, Bool, true, false, not, ◌==◌, nat_lt, if◌then◌else◌, List, [], ◌∷◌, ◌++◌, length, map, slice_index_or, Option, Some, None, option_map, unwrap_or, ⊤}
+-- How the body shows the state of the definition, and what its steps make of it.
+use Rattle.std.specs.Prelude.{◌≡◌, ℕ, zero, suc, ◌<◌, ◌≤◌, Bool, true, false, not, ◌==◌, nat_lt, if◌then◌else◌, List, [], ◌∷◌, ◌++◌, length, map, slice_index_or, Option, Some, None, option_map, Result, Ok, Err, ⊤}
 use Rattle.std.specs.Bool.{beq}
 use Rattle.std.specs.List.{list_any}
 use Rattle.std.specs.Ordering.{nat_cmp}
@@ -13,17 +13,18 @@ use Rattle.ltl_spec.specs.Hoa.HoaToken.{HoaToken, Int, CloseLabel}
 use Rattle.ltl_spec.specs.Hoa.HoaLabel.{Label, label_formula, cubes, label_cubes}
 use Rattle.ltl_spec.specs.Hoa.HoaPlace as spec
 use Rattle.ltl_spec.specs.Hoa.HoaPlace.{Before, HoaHeader, LabelPart, LabelParts, whole}
+use Rattle.ltl_spec.specs.Hoa.HoaStep.{Step, step_in_body, step_unless_abort}
+use Rattle.ltl_hoa.specs.declared.fault.Stop.{Stop}
+use Rattle.ltl_hoa.specs.declared.fault.Stop.TheVariants.{OutOfMemory}
 use Rattle.ltl_hoa.specs.declared.marked.TheConstants.{MOST_SETS}
 use Rattle.ltl_hoa.specs.declared.place.Place.{Place}
 use Rattle.ltl_hoa.specs.declared.place.Place.TheVariants as place
 use Rattle.ltl_hoa.specs.declared.place.BodyPlace.{BodyPlace}
 use Rattle.ltl_hoa.specs.declared.place.BodyPlace.TheVariants as at
 use Rattle.ltl_hoa.specs.declared.header.Counts.{Counts}
-use Rattle.ltl_hoa.specs.NumberView.{capped}
 use Rattle.ltl_label.specs.LabelView.{LabelView, PartView}
-use Rattle.ltl_hoa.specs.HeaderView.{HeaderView, place_of, Fits}
+use Rattle.ltl_hoa.specs.HeaderView.{Refuses}
 use Rattle.ltl_hoa.specs.BodyView.{BodyView}
-use Rattle.ltl_hoa.specs.ParserView.{ParserView}
 
 -- ---- labels
 
@@ -154,45 +155,40 @@ pub record ShowsStates (count : ℕ) (defined : List Bool) (at : ℕ) (numbers :
   pub counted : length defined ≡ count
   pub last : (first_or 0 numbers ≡ at) × (at < count)
 
-pub record IsShown (v : BodyView) (pending : Bool) (h : HoaHeader) (numbers : List ℕ) (count : ℕ) (g : Came) : Type 0 where
-  pub counts : ShowsCounts v.counts h
-  pub states : ShowsStates v.counts.states v.defined v.at numbers
-  pub placed : length v.edges ≡ v.counts.states
-  pub made : count ≡ v.made
-  pub marks : set_of nat_cmp g.sets ≡ v.sets
-  pub cubes : g.cubes ≡ v.cubes
-  pub edges : AreAt pending v g.edges
-
+-- the counts, the states, a place for each of them, how many edges, the last sets and cubes, and the edges are those of the definition
 abbrev pub ShowsBody : BodyView → spec.BodyPlace → Before → Came → Type 0
-ShowsBody v place b g = IsShown v (is_open place) b.header b.numbers b.edges g
+ShowsBody v place b g =
+    ShowsCounts v.counts b.header × ShowsStates v.counts.states v.defined v.at b.numbers × (length v.edges ≡ v.counts.states) × (b.edges ≡ v.made)
+    × (set_of nat_cmp g.sets ≡ v.sets) × (g.cubes ≡ v.cubes) × AreAt (is_open place) v g.edges
 
--- ---- the header
+-- the next place, or the end, and the body show the definition's
+abbrev pub IsAt : Place → BodyView → spec.Place → Before → Came → Type 0
+IsAt (place.Body p) v (spec.InBody q) b g = ShowsBodyPlace p v q × ShowsBody v q b g
+IsAt place.End v spec.AtEnd b g = ShowsBody v spec.AtState b g
+IsAt _ v _ b g = ⊥
 
-abbrev pub capped_header : HoaHeader → HoaHeader
-capped_header h = record h { start = option_map capped h.start }
+-- ---- steps of the definition
 
--- the counts stay within their limits
-abbrev pub IsFew : HoaHeader → Type 0
-IsFew h = (unwrap_or h.states 0 ≤ stated_limits.hoa_states) × (unwrap_or h.sets 0 ≤ MOST_SETS)
+-- the place and the body show what the step came to
+abbrev pub Leads : Step → Before → Came → Result Place Stop → BodyView → Type 0
+Leads (Ok c) b g (Ok place) new = IsAt place new c.place c g × (c.header ≡ b.header)
+Leads (Ok c) b g (Err stop) new = stop ≡ OutOfMemory
+Leads (Err kind) b g (Ok place) new = ⊥
+Leads (Err kind) b g (Err stop) new = Refuses kind stop
 
-pub record ShowsHeader (v : HeaderView) (h : HoaHeader) : Type 0 where
-  pub items : v.items ≡ capped_header h
-  pub few : IsFew h
+-- they do so behind a token at a place of the definition, wherever the body showed it before
+abbrev pub StepsAt : spec.BodyPlace → BodyView → HoaToken → Result Place Stop → BodyView → Type 0
+StepsAt q v t r w = (b : Before) (g : Came) → ShowsBody v q b g → Leads (step_in_body stated_limits q (record b { place = spec.InBody q }) t) b (came_in q b t g) r w
 
--- ---- all
+-- in a label, at an operand and behind one
+abbrev pub StepsInLabel : (LabelParts → spec.BodyPlace) → BodyView → HoaToken → Result Place Stop → BodyView → Type 0
+StepsInLabel place v t r w = (p : LabelParts) → v.label ≡ shown_label p → StepsAt (place p) v t r w
 
--- `--BODY--` has not stood
-abbrev pub IsBegun : Before → Came → Type 0
-IsBegun b g = (b.numbers ≡ []) × (b.edges ≡ 0) × (g ≡ came_none)
+-- a token other than `--ABORT--` at its place, and any one
+abbrev pub TakesAt : BodyPlace → BodyView → HoaToken → Result Place Stop → BodyView → Type 0
+TakesAt place v t r w = (q : spec.BodyPlace) → ShowsBodyPlace place v q → StepsAt q v t r w
 
-abbrev pub ShowsPlace : Place → ParserView → spec.Place → Before → Came → Type 0
-ShowsPlace (place.Body p) v (spec.InBody q) b g = (body : BodyView) × (v.body ≡ Some body) × ShowsBodyPlace p body q × ShowsBody body q b g
-ShowsPlace (place.Body p) v _ b g = ⊥
-ShowsPlace place.End v spec.AtEnd b g = (body : BodyView) × (v.body ≡ Some body) × ShowsBody body spec.AtState b g
-ShowsPlace place.End v _ b g = ⊥
-ShowsPlace p v q b g = IsBegun b g × (place_of p v.header ≡ q) × Fits p v.header
-
--- the parser's state shows that of the definition, and what came of the body
-pub record Shows (v : ParserView) (b : Before) (g : Came) : Type 0 where
-  pub header : ShowsHeader v.header b.header
-  pub place : ShowsPlace v.place v b.place b g
+abbrev pub Takes : BodyPlace → BodyView → HoaToken → Result Place Stop → BodyView → Type 0
+Takes place v t r w =
+    (q : spec.BodyPlace) → ShowsBodyPlace place v q → (b : Before) (g : Came) → ShowsBody v q b g
+    → Leads (step_unless_abort stated_limits q (record b { place = spec.InBody q }) t) b (came_in q b t g) r w

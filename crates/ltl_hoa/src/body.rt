@@ -4,7 +4,11 @@ ghost use Rattle.std.specs.Prelude.{◌≡◌, ◌<◌, ◌≤◌, [], ◌∷◌
 ghost use Rattle.ltl_hoa.specs.TokenView.{token_of, kind_of};
 ghost use Rattle.ltl_hoa.specs.MarkedView.{edge_of};
 ghost use Rattle.ltl_hoa.specs.BodyView as view;
-ghost use Rattle.ltl_hoa.specs.BodyView.{BodyLeads};
+ghost use Rattle.ltl_hoa.specs.NumberView.{capped};
+ghost use Rattle.ltl_hoa.specs.Shown.{StepsAt, StepsInLabel, Takes, TakesAt};
+ghost use Rattle.ltl_spec.specs.Hoa.HoaPlace.{AtState, AtNumber, AfterNumber, AfterName, InStateSets, AtEdge};
+ghost use Rattle.ltl_spec.specs.Hoa.HoaPlace.{AtTarget, AfterTarget, InEdgeSets, AtOperand, AfterOperand};
+ghost use Rattle.ltl_spec.specs.Hoa.HoaToken.{Int, Identifier, CloseBracket, CloseLabel};
 
 use crate::fault::{HoaFaultKind, Stop};
 use crate::header::Counts;
@@ -73,7 +77,7 @@ impl<'a, A: Allocator> Model for Body<'a, A> {
 
 /// Takes a token where a state may begin, or the end come.
 fn at_state(kind: TokenKind, text: &[u8]) -> Result<Place, Stop>
-    ensures { (v : view.BodyView) → BodyLeads (view.at_state v (token_of kind text.now)) result v }
+    ensures { (v : view.BodyView) → StepsAt AtState v (token_of kind text.now) result v }
 {
     match kind {
         TokenKind::Header if text == b"State".as_slice() => Ok(Place::Body(BodyPlace::Number)),
@@ -159,7 +163,7 @@ impl<'a, A: Allocator> Body<'a, A> {
         kind: TokenKind,
         text: &[u8],
     ) -> Result<Place, Stop>
-        ensures { view.Takes place self.old (token_of kind text.now) result self.new }
+        ensures { Takes place self.old (token_of kind text.now) result self.new }
     {
         match kind {
             TokenKind::Abort => Err(Stop::Fault(HoaFaultKind::Unsupported)),
@@ -169,7 +173,7 @@ impl<'a, A: Allocator> Body<'a, A> {
 
     /// Takes a token other than `--ABORT--` at its place.
     fn take_at(&mut self, place: BodyPlace, kind: TokenKind, text: &[u8]) -> Result<Place, Stop>
-        ensures { view.TakesAt place self.old (token_of kind text.now) result self.new }
+        ensures { TakesAt place self.old (token_of kind text.now) result self.new }
     {
         match place {
             BodyPlace::State => at_state(kind, text),
@@ -187,7 +191,7 @@ impl<'a, A: Allocator> Body<'a, A> {
     }
 
     fn at_number(&mut self, kind: TokenKind, text: &[u8]) -> Result<Place, Stop>
-        ensures { BodyLeads (view.take BodyPlace.Number self.old (token_of kind text.now)) result self.new }
+        ensures { StepsAt AtNumber self.old (token_of kind text.now) result self.new }
     {
         match kind {
             TokenKind::Int => self.define(number(text)),
@@ -197,8 +201,9 @@ impl<'a, A: Allocator> Body<'a, A> {
     }
 
     /// Begins the state of that number.
+    #[tactic(auto, using(crate::proofs::BodySteps::no_state, crate::proofs::BodySteps::state_twice, crate::proofs::BodySteps::state_begun))]
     fn define(&mut self, number: usize) -> Result<Place, Stop>
-        ensures { BodyLeads (view.define self.old number) result self.new }
+        ensures { (n : ℕ) → number ≡ capped n → StepsAt AtNumber self.old (Int n) result self.new }
     {
         if number >= self.counts.states {
             return Err(Stop::Fault(HoaFaultKind::NumberOutOfRange));
@@ -213,7 +218,7 @@ impl<'a, A: Allocator> Body<'a, A> {
     }
 
     fn after_number(&mut self, kind: TokenKind, text: &[u8]) -> Result<Place, Stop>
-        ensures { BodyLeads (view.after_number self.old (token_of kind text.now)) result self.new }
+        ensures { StepsAt AfterNumber self.old (token_of kind text.now) result self.new }
     {
         match kind {
             TokenKind::Text => Ok(Place::Body(BodyPlace::AfterName)),
@@ -222,7 +227,7 @@ impl<'a, A: Allocator> Body<'a, A> {
     }
 
     fn after_name(&mut self, kind: TokenKind, text: &[u8]) -> Result<Place, Stop>
-        ensures { BodyLeads (view.after_name self.old (token_of kind text.now)) result self.new }
+        ensures { StepsAt AfterName self.old (token_of kind text.now) result self.new }
     {
         match kind {
             TokenKind::OpenSets => Ok(Place::Body(BodyPlace::StateSets)),
@@ -230,8 +235,9 @@ impl<'a, A: Allocator> Body<'a, A> {
         }
     }
 
+    #[tactic(auto, using(crate::proofs::BodySteps::no_state_set, crate::proofs::BodySteps::state_set))]
     fn in_state_sets(&mut self, kind: TokenKind, text: &[u8]) -> Result<Place, Stop>
-        ensures { BodyLeads (view.take BodyPlace.StateSets self.old (token_of kind text.now)) result self.new }
+        ensures { StepsAt InStateSets self.old (token_of kind text.now) result self.new }
     {
         match kind {
             TokenKind::Int => {
@@ -247,8 +253,9 @@ impl<'a, A: Allocator> Body<'a, A> {
         }
     }
 
+    #[tactic(auto, using(crate::proofs::BodySteps::label_begun))]
     fn at_edge(&mut self, kind: TokenKind, text: &[u8]) -> Result<Place, Stop>
-        ensures { BodyLeads (view.at_edge self.old (token_of kind text.now)) result self.new }
+        ensures { StepsAt AtEdge self.old (token_of kind text.now) result self.new }
     {
         match kind {
             TokenKind::OpenLabel => {
@@ -260,8 +267,9 @@ impl<'a, A: Allocator> Body<'a, A> {
         }
     }
 
+    #[tactic(auto, using(crate::proofs::BodySteps::label_negated, crate::proofs::BodySteps::bracket_opened, crate::proofs::BodySteps::no_memory))]
     fn at_operand(&mut self, kind: TokenKind, text: &[u8]) -> Result<Place, Stop>
-        ensures { BodyLeads (view.take BodyPlace.Operand self.old (token_of kind text.now)) result self.new }
+        ensures { StepsInLabel AtOperand self.old (token_of kind text.now) result self.new }
     {
         match kind {
             TokenKind::NotSign => {
@@ -278,8 +286,9 @@ impl<'a, A: Allocator> Body<'a, A> {
         }
     }
 
+    #[tactic(auto, using(crate::proofs::BodySteps::no_proposition, crate::proofs::BodySteps::proposition_put, crate::proofs::BodySteps::no_memory))]
     fn add_proposition(&mut self, number: usize) -> Result<Place, Stop>
-        ensures { BodyLeads (view.add_proposition self.old number) result self.new }
+        ensures { (n : ℕ) → number ≡ capped n → StepsInLabel AtOperand self.old (Int n) result self.new }
     {
         if number >= self.counts.names {
             return Err(Stop::Fault(HoaFaultKind::NumberOutOfRange));
@@ -288,8 +297,9 @@ impl<'a, A: Allocator> Body<'a, A> {
         Ok(Place::Body(BodyPlace::AfterOperand))
     }
 
+    #[tactic(auto, using(crate::proofs::BodySteps::true_put, crate::proofs::BodySteps::false_put, crate::proofs::BodySteps::no_memory))]
     fn add_constant(&mut self, name: &[u8]) -> Result<Place, Stop>
-        ensures { BodyLeads (view.add_constant self.old name.now) result self.new }
+        ensures { StepsInLabel AtOperand self.old (Identifier name.now) result self.new }
     {
         if name == b"t".as_slice() {
             self.label.constant(true)?;
@@ -301,8 +311,9 @@ impl<'a, A: Allocator> Body<'a, A> {
         Ok(Place::Body(BodyPlace::AfterOperand))
     }
 
+    #[tactic(auto, using(crate::proofs::BodySteps::alternative_put, crate::proofs::BodySteps::no_memory))]
     fn after_operand(&mut self, kind: TokenKind) -> Result<Place, Stop>
-        ensures { (text : List ℕ) → view.LeadsOn self.old (token_of kind text) result self.new }
+        ensures { (text : List ℕ) → StepsInLabel AfterOperand self.old (token_of kind text) result self.new }
     {
         match kind {
             TokenKind::AndSign => Ok(Place::Body(BodyPlace::Operand)),
@@ -317,8 +328,9 @@ impl<'a, A: Allocator> Body<'a, A> {
     }
 
     /// Takes a closing bracket behind an operand.
+    #[tactic(auto, using(crate::proofs::BodySteps::bracket_closed, crate::proofs::BodySteps::no_bracket, crate::proofs::BodySteps::no_memory))]
     fn close_bracket(&mut self) -> Result<Place, Stop>
-        ensures { view.ClosesBracket self.old result self.new }
+        ensures { StepsInLabel AfterOperand self.old CloseBracket result self.new }
     {
         if !self.label.close()? {
             return Err(Stop::Fault(HoaFaultKind::BadToken));
@@ -327,8 +339,9 @@ impl<'a, A: Allocator> Body<'a, A> {
     }
 
     /// Ends the label.
+    #[tactic(auto, using(crate::proofs::BodySteps::still_open, crate::proofs::BodySteps::label_wide, crate::proofs::BodySteps::too_many, crate::proofs::BodySteps::label_ended, crate::proofs::BodySteps::no_memory))]
     fn close_label(&mut self) -> Result<Place, Stop>
-        ensures { BodyLeads (view.close_label self.old) result self.new }
+        ensures { StepsInLabel AfterOperand self.old CloseLabel result self.new }
     {
         if !self.label.is_closed() {
             return Err(Stop::Fault(HoaFaultKind::BadToken));
@@ -344,8 +357,9 @@ impl<'a, A: Allocator> Body<'a, A> {
         Ok(Place::Body(BodyPlace::Target))
     }
 
+    #[tactic(auto, using(crate::proofs::BodySteps::no_target, crate::proofs::BodySteps::target_taken))]
     fn at_target(&mut self, kind: TokenKind, text: &[u8]) -> Result<Place, Stop>
-        ensures { BodyLeads (view.take BodyPlace.Target self.old (token_of kind text.now)) result self.new }
+        ensures { StepsAt AtTarget self.old (token_of kind text.now) result self.new }
     {
         if !matches!(kind, TokenKind::Int) {
             return Err(Stop::Fault(HoaFaultKind::BadToken));
@@ -359,8 +373,9 @@ impl<'a, A: Allocator> Body<'a, A> {
         Ok(Place::Body(BodyPlace::AfterTarget))
     }
 
+    #[tactic(auto, using(crate::proofs::BodySteps::no_memory))]
     fn after_target(&mut self, kind: TokenKind, text: &[u8]) -> Result<Place, Stop>
-        ensures { BodyLeads (view.after_target self.old (token_of kind text.now)) result self.new }
+        ensures { StepsAt AfterTarget self.old (token_of kind text.now) result self.new }
     {
         match kind {
             TokenKind::AndSign => Err(Stop::Fault(HoaFaultKind::Unsupported)),
@@ -372,8 +387,9 @@ impl<'a, A: Allocator> Body<'a, A> {
         }
     }
 
+    #[tactic(auto, using(crate::proofs::BodySteps::no_edge_set, crate::proofs::BodySteps::edge_set, crate::proofs::BodySteps::edge_closed, crate::proofs::BodySteps::no_memory))]
     fn in_edge_sets(&mut self, kind: TokenKind, text: &[u8]) -> Result<Place, Stop>
-        ensures { BodyLeads (view.take BodyPlace.EdgeSets self.old (token_of kind text.now)) result self.new }
+        ensures { StepsAt InEdgeSets self.old (token_of kind text.now) result self.new }
     {
         match kind {
             TokenKind::Int => {
