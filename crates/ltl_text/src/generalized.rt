@@ -134,7 +134,8 @@ pub fn gen_to<A: Allocator, B: Allocator, W: Write>(
     writer: &mut W,
 ) -> Result<(), WriteFault>
     ensures ok { OnOk result (Appends (W.contents writer.old) (W.contents writer.new) (text.generalized_text automaton.now (reading_of formula.now))) }
-    ensures err { OnErr result (AppendsBeginning (W.contents writer.old) (W.contents writer.new) (text.generalized_text automaton.now (reading_of formula.now))) }
+    ensures err { OnErr result (AppendsBeginning (W.contents writer.old) (W.contents writer.new) (text.generalized_text automaton.now
+        (reading_of formula.now))) }
 {
     write_title(formula, writer)?;
     let mut output = Output::new(writer);
