@@ -20,7 +20,7 @@ same_equiv = record {
 
 -- what `hash` feeds a hasher
 abbrev pub hash_of_copy : Copy → List (List ℕ)
-hash_of_copy p = fed.usize p.state ++ fed.usize p.level
+hash_of_copy p = fed.usize ((p.state * 256 % 2 ^ 64 + p.level) % 2 ^ 64)
 
 pub hash_of_same : (p q : Copy) → IsTrue (same_copy p q) → hash_of_copy p ≡ hash_of_copy q
 hash_of_same p q e = ap hash_of_copy ((same_copy_Decides p q).0 e)

@@ -82,8 +82,10 @@ impl Hash for Copied {
     ghost respects_eq = { hash_of_same };
 
     fn hash<H: Hasher>(&self, state: &mut H) {
-        self.state.hash(state);
-        self.level.hash(state);
+        self.state
+            .wrapping_mul(256)
+            .wrapping_add(self.level)
+            .hash(state);
     }
 }
 

@@ -104,6 +104,13 @@ letter_of c = map (λ l. l.proposition) (filter (λ l. l.positive) c)
 abbrev pub forbidden_of : Cube → List ℕ
 forbidden_of c = map (λ l. l.proposition) (filter (λ l. not l.positive) c)
 
+-- four words in one number below 2 ^ 64, by which they are told apart mostly
+abbrev pub mixed : List ℕ → ℕ
+mixed words =
+    let low = (slice_index words 0 * 11400714819323198485 % 2 ^ 64 + slice_index words 1 * 14029467366897019727 % 2 ^ 64) % 2 ^ 64 in
+    let high = (slice_index words 2 * 1609587929392839161 % 2 ^ 64 + slice_index words 3 * 9650029242287828579 % 2 ^ 64) % 2 ^ 64 in
+    (low + high) % 2 ^ 64
+
 -- what hashing four words feeds a hasher
 abbrev pub hash_of : List ℕ → List (List ℕ)
-hash_of words = le_bytes 8 (slice_index words 0) ∷ le_bytes 8 (slice_index words 1) ∷ le_bytes 8 (slice_index words 2) ∷ le_bytes 8 (slice_index words 3) ∷ []
+hash_of words = le_bytes 8 (mixed words) ∷ []

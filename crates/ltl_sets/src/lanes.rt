@@ -3,7 +3,7 @@
 ghost use Rattle.std.specs.Prelude.{◌≡◌, ℕ, ◌<◌, cond, nat_eq, MatchOption, fold};
 ghost use Rattle.std.specs.Bool.{Decides, beq};
 ghost use Rattle.std.specs.declared.cmp.Ordering.TheVariants.{Less, Greater};
-ghost use Rattle.ltl_sets.specs.Words.{IsWords, bit_in, HasNone, Reaches, HasLater, FindsLowest, LosesBit, word_alone, hash_of};
+ghost use Rattle.ltl_sets.specs.Words.{IsWords, bit_in, HasNone, Reaches, HasLater, FindsLowest, LosesBit, word_alone, hash_of, mixed};
 
 use std::cmp::Ordering;
 use std::hash::{Hash, Hasher};
@@ -103,13 +103,22 @@ pub(crate) fn list_order(is_first: bool, goes_on: bool) -> Ordering
     }
 }
 
-// Feeds the four words to a hasher.
+// The four words in one number, by which they are told apart mostly.
+fn mixed(words: &[u64; 4]) -> u64
+    ensures { result ≡ mixed words.now }
+{
+    let low = words[0]
+        .wrapping_mul(0x9e37_79b9_7f4a_7c15)
+        .wrapping_add(words[1].wrapping_mul(0xc2b2_ae3d_27d4_eb4f));
+    let high = words[2]
+        .wrapping_mul(0x1656_67b1_9e37_79f9)
+        .wrapping_add(words[3].wrapping_mul(0x85eb_ca77_c2b2_ae63));
+    low.wrapping_add(high)
+}
+
+// Feeds the four words to a hasher, in one number.
 pub(crate) fn hash<H: Hasher>(lanes: &u64x4, state: &mut H)
     ensures { state.new ≡ fold H.write state.old (hash_of lanes.now) }
 {
-    let words = lanes.to_array();
-    words[0].hash(state);
-    words[1].hash(state);
-    words[2].hash(state);
-    words[3].hash(state);
+    mixed(&lanes.to_array()).hash(state);
 }
