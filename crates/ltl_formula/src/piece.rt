@@ -9,7 +9,7 @@ use crate::output::{WriteFault, write_whole};
 use std::io::Write;
 use std::marker::Model;
 
-const SIZE: usize = 4096;
+const SIZE: usize = 16_384;
 
 /// The bytes that are held back for the next write. Behind a fault nothing more is to be put or sent.
 #[derive(Drop)]
@@ -25,7 +25,7 @@ impl Model for Piece {
 
     ghost view = { λ p. take p.len p.bytes };
 
-    ghost invariant = { λ p. p.len ≤ 4096 };
+    ghost invariant = { λ p. p.len ≤ 16384 };
 }
 
 impl Piece {
@@ -41,14 +41,14 @@ impl Piece {
 
     /// How many more bytes there is room for.
     fn room(&self) -> usize
-        ensures { result + length self.now ≡ 4096 }
+        ensures { result + length self.now ≡ 16384 }
     {
         SIZE - self.len
     }
 
     /// Holds the bytes back.
     fn hold(&mut self, bytes: &[u8])
-        requires { length bytes.now + length self.old ≤ 4096 }
+        requires { length bytes.now + length self.old ≤ 16384 }
         ensures { self.new ≡ self.old ++ bytes.now }
     {
         let end = self.len + bytes.len();
