@@ -17,6 +17,7 @@ pub struct Edge {
 
 impl Edge {
     /// By the literals, then by the target, then by the marks.
+    #[inline(always)]
     pub fn cmp_list(&self, other: &Edge) -> Ordering
         ensures { result ≡ edge_cmp (edge_of self.now) (edge_of other.now) }
     {

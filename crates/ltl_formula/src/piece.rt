@@ -40,6 +40,7 @@ impl Piece {
     }
 
     /// How many more bytes there is room for.
+    #[inline(always)]
     fn room(&self) -> usize
         ensures { result + length self.now ≡ 16384 }
     {
@@ -47,6 +48,7 @@ impl Piece {
     }
 
     /// Holds the bytes back.
+    #[inline(always)]
     fn hold(&mut self, bytes: &[u8])
         requires { length bytes.now + length self.old ≤ 16384 }
         ensures { self.new ≡ self.old ++ bytes.now }
@@ -68,6 +70,7 @@ impl Piece {
     }
 
     /// Holds the bytes back, after those that were held back before are written where there is no room.
+    #[inline(always)]
     pub fn put<W: Write>(&mut self, bytes: &[u8], writer: &mut W) -> Result<(), WriteFault>
         ensures { Puts result (W.contents writer.old) self.old (W.contents writer.new) self.new bytes.now }
     {

@@ -86,6 +86,7 @@ impl Cube {
     }
 
     /// The literals of both, or `None` where they contradict each other.
+    #[inline(always)]
     pub fn join(&self, other: &Cube) -> Option<Cube>
         ensures { result ≡ cubes.join_cubes self.now other.now }
     {
@@ -99,6 +100,7 @@ impl Cube {
     }
 
     /// The literals that both have.
+    #[inline(always)]
     pub fn common(&self, other: &Cube) -> Cube
         ensures { result ≡ filter (λ l. sets.has cubes.literal_cmp l other.now) self.now }
     {
@@ -109,6 +111,7 @@ impl Cube {
     }
 
     /// Whether the literals are among those of the other cube, so that the other one implies this.
+    #[inline(always)]
     pub fn implies_of(&self, other: &Cube) -> bool
         ensures { result ≡ sets.is_subset cubes.literal_cmp self.now other.now }
     {
@@ -143,6 +146,7 @@ impl Cube {
     }
 
     /// Compares the two as the rising lists of their literals.
+    #[inline(always)]
     pub fn cmp_list(&self, other: &Cube) -> Ordering
         ensures { result ≡ cubes.cube_cmp self.now other.now }
     {
@@ -166,6 +170,7 @@ impl Cube {
     }
 
     /// The literals by proposition, the positive one first.
+    #[inline(always)]
     pub fn iter(&self) -> Literals
         ensures literals { cube_of result ≡ self.now }
         ensures few { length result ≤ RowSet.LIMIT }
@@ -213,6 +218,7 @@ impl PartialEq for Cube {
 
     ghost laws = { same_partial };
 
+    #[inline(always)]
     fn eq(&self, other: &Cube) -> bool {
         lanes::is_zero((self.positive ^ other.positive) | (self.negative ^ other.negative))
     }
@@ -231,6 +237,7 @@ impl Hash for Cube {
 
     ghost respects_eq = { hash_of_same };
 
+    #[inline(always)]
     fn hash<H: Hasher>(&self, state: &mut H) {
         lanes::hash(&self.positive, state);
         lanes::hash(&self.negative, state);
@@ -270,6 +277,7 @@ impl Iterator for Literals {
 
     ghost remaining = { item_count (λ rest. rest) };
 
+    #[inline(always)]
     fn next(&mut self) -> Option<Literal> {
         let proposition = self.places.next()?;
         let positive = self.positive.contains(proposition);

@@ -11,6 +11,7 @@ use std::simd::prelude::*;
 use std::simd::u64x4;
 
 // Whether bit i is a one.
+#[inline(always)]
 pub(crate) fn has(lanes: &u64x4, i: usize) -> bool
     requires { i < 256 }
     ensures { result ≡ bit_in lanes.now i }
@@ -41,6 +42,7 @@ pub(crate) fn single(i: usize) -> u64x4
 }
 
 // Whether there is no one.
+#[inline(always)]
 pub(crate) fn is_zero(lanes: u64x4) -> bool
     requires { IsWords lanes }
     ensures { Decides result (HasNone lanes) }
@@ -49,6 +51,7 @@ pub(crate) fn is_zero(lanes: u64x4) -> bool
 }
 
 // Whether there is a one at i or above it.
+#[inline(always)]
 pub(crate) fn reaches(lanes: u64x4, i: usize) -> bool
     requires words { IsWords lanes }
     requires below { i < 256 }
@@ -60,6 +63,7 @@ pub(crate) fn reaches(lanes: u64x4, i: usize) -> bool
 }
 
 // Whether a word after the given one is not zero.
+#[inline(always)]
 fn has_later(words: &[u64; 4], at: usize) -> bool
     ensures { Decides result (HasLater words.now at) }
 {
@@ -67,6 +71,7 @@ fn has_later(words: &[u64; 4], at: usize) -> bool
 }
 
 // Takes the lowest one away.
+#[inline(always)]
 pub(crate) fn take_lowest(words: &mut [u64; 4]) -> Option<usize>
     ensures words { IsWords words.new }
     ensures found { FindsLowest words.old result }
@@ -84,6 +89,7 @@ pub(crate) fn take_lowest(words: &mut [u64; 4]) -> Option<usize>
 }
 
 // The lowest one.
+#[inline(always)]
 pub(crate) fn lowest(lanes: u64x4) -> Option<usize>
     requires { IsWords lanes }
     ensures { FindsLowest lanes result }
@@ -93,6 +99,7 @@ pub(crate) fn lowest(lanes: u64x4) -> Option<usize>
 
 // How two rising lists compare, where one has the first member in which they differ: whether it is
 // the first list, and whether the other one goes on above it.
+#[inline(always)]
 pub(crate) fn list_order(is_first: bool, goes_on: bool) -> Ordering
     ensures { result ≡ cond (beq is_first goes_on) Less Greater }
 {
@@ -104,6 +111,7 @@ pub(crate) fn list_order(is_first: bool, goes_on: bool) -> Ordering
 }
 
 // The four words in one number, by which they are told apart mostly.
+#[inline(always)]
 fn mixed(words: &[u64; 4]) -> u64
     ensures { result ≡ mixed words.now }
 {
@@ -117,6 +125,7 @@ fn mixed(words: &[u64; 4]) -> u64
 }
 
 // Feeds the four words to a hasher, in one number.
+#[inline(always)]
 pub(crate) fn hash<H: Hasher>(lanes: &u64x4, state: &mut H)
     ensures { state.new ≡ fold H.write state.old (hash_of lanes.now) }
 {

@@ -71,6 +71,7 @@ impl RowSet {
         self.lanes = self.lanes | lanes::single(i);
     }
 
+    #[inline(always)]
     pub fn contains(&self, i: usize) -> bool
         requires { i < RowSet.LIMIT }
         ensures { result ≡ sets.has nat_cmp i self.now }
@@ -87,6 +88,7 @@ impl RowSet {
         i < RowSet::LIMIT && self.contains(i)
     }
 
+    #[inline(always)]
     pub fn union(&self, other: &RowSet) -> RowSet
         ensures { result ≡ sets.union nat_cmp self.now other.now }
     {
@@ -96,6 +98,7 @@ impl RowSet {
     }
 
     /// The members of both.
+    #[inline(always)]
     pub fn common(&self, other: &RowSet) -> RowSet
         ensures { result ≡ filter (λ i. sets.has nat_cmp i other.now) self.now }
     {
@@ -105,6 +108,7 @@ impl RowSet {
     }
 
     /// The members that aren't in the other set.
+    #[inline(always)]
     pub fn without(&self, other: &RowSet) -> RowSet
         ensures { result ≡ filter (λ i. not (sets.has nat_cmp i other.now)) self.now }
     {
@@ -114,12 +118,14 @@ impl RowSet {
     }
 
     /// Whether a member is in both.
+    #[inline(always)]
     pub fn meets(&self, other: &RowSet) -> bool
         ensures { result ≡ list_any (λ i. sets.has nat_cmp i other.now) self.now }
     {
         !lanes::is_zero(self.lanes & other.lanes)
     }
 
+    #[inline(always)]
     pub fn is_subset(&self, other: &RowSet) -> bool
         ensures { result ≡ sets.is_subset nat_cmp self.now other.now }
     {
@@ -127,6 +133,7 @@ impl RowSet {
     }
 
     /// Compares the two as the rising lists of their members.
+    #[inline(always)]
     pub fn cmp_list(&self, other: &RowSet) -> Ordering
         ensures { result ≡ slice_cmp nat_cmp self.now other.now }
     {
@@ -139,6 +146,7 @@ impl RowSet {
     }
 
     /// The members, rising.
+    #[inline(always)]
     pub fn iter(&self) -> Members
         ensures members { result ≡ self.now }
         ensures few { length result ≤ RowSet.LIMIT }
@@ -182,6 +190,7 @@ impl PartialEq for RowSet {
 
     ghost laws = { Prim.search rules };
 
+    #[inline(always)]
     fn eq(&self, other: &RowSet) -> bool {
         lanes::is_zero(self.lanes ^ other.lanes)
     }
@@ -202,6 +211,7 @@ impl Hash for RowSet {
 
     ghost respects_eq = { λ s t e. ap (λ is. hash_of (words_with is)) ((bytes_decides s t).0 e) };
 
+    #[inline(always)]
     fn hash<H: Hasher>(&self, state: &mut H) {
         lanes::hash(&self.lanes, state);
     }
@@ -240,6 +250,7 @@ impl Iterator for Members {
 
     ghost remaining = { item_count (λ rest. rest) };
 
+    #[inline(always)]
     fn next(&mut self) -> Option<usize> {
         lanes::take_lowest(&mut self.words)
     }

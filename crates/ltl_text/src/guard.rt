@@ -12,6 +12,7 @@ use ltl_sets::{Cube, Literal};
 use std::alloc::Allocator;
 use std::io::Write;
 
+#[inline(always)]
 fn put_literal<A: Allocator, W: Write>(
     literal: Literal,
     formula: &Formula<'_, A>,

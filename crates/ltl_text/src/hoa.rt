@@ -29,6 +29,7 @@ pub(crate) fn put_number<W: Write>(
     output.put(Digits::of(number as u64).as_slice())
 }
 
+#[inline(always)]
 fn put_literal<W: Write>(literal: Literal, output: &mut Output<'_, W>) -> Result<(), WriteFault>
     ensures { Writes W.contents result output.old output.new (text.label_literal (literal_of literal)) }
 {

@@ -54,6 +54,7 @@ pub fn skip_state<A: Allocator>(automaton: &Ba<'_, A>) -> usize
     automaton.len()
 }
 
+#[inline(always)]
 fn put_numbered<W: Write>(
     beginning: &[u8],
     k: usize,

@@ -29,6 +29,7 @@ impl<'w, W: Write> Output<'w, W> {
     }
 
     /// Holds the bytes back, after those that were held back before are written where there is no room.
+    #[inline(always)]
     pub fn put(&mut self, bytes: &[u8]) -> Result<(), WriteFault>
         ensures { Writes W.contents result self.old self.new bytes.now }
     {
