@@ -1,8 +1,6 @@
 -- Names that tell targets apart.
-use Rattle.std.proofs.Common.{◌≡◌, ℕ, ◌+◌, ◌<◌, ◌≤◌, inl, inr, List, [], ◌∷◌, ◌++◌, map, length, refl, sym, ◌∙◌, ap, subst, arith, Some}
-use Rattle.std.specs.Prelude.{slice_get, slice_index, slice_index_or, slice_set, take, All}
-use Rattle.std.proofs.lemmas.Bool.Decides.{Decides-eqb}
-use Rattle.std.proofs.lemmas.List.{get_or-set_same, get_or-set_other}
+use Rattle.std.proofs.Common.{◌≡◌, ℕ, ◌+◌, ◌<◌, inl, inr, List, [], ◌∷◌, ◌++◌, map, length, sym, ◌∙◌, ap, subst, arith, Some}
+use Rattle.std.specs.Prelude.{slice_get, slice_index, slice_index_or, All}
 use Rattle.std.proofs.lemmas.List.Elements.{All-map, All-push, All-weaker}
 use Rattle.std.proofs.lemmas.Option.{get_or_from_slice_get}
 use Rattle.ltl_spec.specs.Collections.Sets.{Has, IsRising}
@@ -37,14 +35,6 @@ module _ (f : ℕ → ℕ) where
   seen_apart lists rising apart es fs h k same =
       same_members edge_linear es fs (All-at_has (IsRising edge_cmp) lists rising es h) (All-at_has (IsRising edge_cmp) lists rising fs k)
       (seen_there es fs (λ e g m n q. apart es fs e g h k m n q) same) (seen_there fs es (λ e g m n q. apart fs es e g k h m n q) (sym same))
-
--- a target keeps its name where another name gets a holder
-pub holder_kept : (names holders : List ℕ) (name target t : ℕ) → length holders ≡ length names → length names ≤ slice_index holders name → t < length names → slice_index holders (slice_index names t) ≡ t
-    → slice_index (slice_set holders name target) (slice_index names t) ≡ t
-holder_kept names holders name target t long free l h = get_or-set_other holders name (slice_index names t) target 0 (λ e. let q = ap (slice_index holders) (sym e) ∙ h in omega (arith, free, l, q)) ∙ h
-
-pub holder_set : (holders : List ℕ) (name target : ℕ) → name < length holders → slice_index (slice_set holders name target) name ≡ target
-holder_set holders name target l = get_or-set_same holders name target 0 l
 
 -- a target has its name alone
 abbrev pub IsHeld : List ℕ → List ℕ → ℕ → Type 0

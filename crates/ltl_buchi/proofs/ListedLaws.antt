@@ -1,5 +1,5 @@
 -- Automata whose states stand in the order in which they are listed breadth first are numbered as they are.
-use Rattle.std.proofs.Common.{◌≡◌, ℕ, zero, suc, ◌+◌, ◌<◌, ◌≤◌, Bool, true, false, cond, inl, inr, List, [], ◌∷◌, ◌++◌, map, length, refl, sym, ◌∙◌, ap, subst, arith, Option, Some, None}
+use Rattle.std.proofs.Common.{◌≡◌, ℕ, zero, suc, ◌+◌, ◌<◌, ◌≤◌, true, false, cond, inl, inr, List, [], ◌∷◌, ◌++◌, map, length, refl, sym, ◌∙◌, ap, subst, arith, Some}
 use Rattle.std.specs.Prelude.{fold, slice_get, slice_index_or, ◌==◌, All}
 use Rattle.std.specs.List.{range_with_len, list_any}
 use Rattle.std.specs.Bool.{Decides}
@@ -12,10 +12,10 @@ use Rattle.ltl_spec.specs.Collections.Sets.{Has, IsRising, set_of}
 use Rattle.ltl_spec.specs.Collections.Lists.{place_of, with_new}
 use Rattle.ltl_spec.specs.Automata.Automaton.{Automaton, State, Edge, edge_cmp, state_at}
 use Rattle.ltl_spec.specs.Automata.Listing.{listing, with_targets_of}
-use Rattle.ltl_spec.specs.Construction.Merging.{retargeted_edge, retargeted_state}
+use Rattle.ltl_spec.specs.Construction.Merging.{retargeted_state}
 use Rattle.ltl_spec.specs.Construction.Renumbered.{ordered_targets, renumbered_automaton}
 use Rattle.ltl_spec.proofs.Collections.SetLaws.{set_of_same}
-use Rattle.ltl_spec.proofs.Collections.Orders.{nat_linear, edge_linear}
+use Rattle.ltl_spec.proofs.Collections.Orders.{edge_linear}
 use Rattle.ltl_spec.proofs.Collections.ListLaws.{Has-at, All-at_has, any_Decides, place_again}
 use Rattle.ltl_spec.proofs.Collections.CaseLaws.{below_equal_above}
 use Rattle.ltl_spec.proofs.Construction.EdgeBounds.{HasNoRepeats-rising}
@@ -135,10 +135,6 @@ module _ (S : Shared) (inside : IsNumberable (automaton_of S)) where
         where
           seen : slice_index_or S.lists k [] ≡ map edge_of edges
           seen = get_or_from_slice_get S.lists k (map edge_of edges) [] shown
-
-  -- all were taken
-  pub all_listed : (n states lists : ℕ) → IsListedTo S n states lists → n ≡ length A.states → states ≡ length A.states → IsListed A
-  all_listed n states lists w e f = ap (listing ◌==◌ (ordered_targets A) 0) (sym e) ∙ w.listed ∙ ap (range_with_len 0) f
 
 module _ (A : Automaton) (inside : IsNumberable A) (listed : IsListed A) where
   abbrev n : ℕ

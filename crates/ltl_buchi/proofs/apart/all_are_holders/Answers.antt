@@ -1,6 +1,5 @@
-use Rattle.std.proofs.Common.{◌∙◌, arith, sym, length, map}
+use Rattle.std.proofs.Common.{◌∙◌, arith, length}
 use Rattle.std.specs.Prelude.{All}
-use Rattle.ltl_automaton.specs.EdgeView.{edge_of}
 use Rattle.ltl_buchi.proofs.ApartLaws.{IsHeld, lists_held, held_apart}
 use Rattle.ltl_buchi.proofs.ClassLaws.{list_within}
 use Rattle.ltl_buchi.proofs.StandingLaws.{lists_have}

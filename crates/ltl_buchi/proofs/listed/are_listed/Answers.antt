@@ -1,5 +1,4 @@
-use Rattle.std.proofs.Common.{arith}
-use Rattle.ltl_buchi.proofs.ListedLaws.{listed_first, all_listed}
+use Rattle.ltl_buchi.proofs.ListedLaws.{listed_first}
 use Rattle.ltl_buchi.proofs.listed.are_listed.Goals as goal
 
 pub loop-s-init : goal.loop-s-init

@@ -1,8 +1,6 @@
-use Rattle.std.proofs.Common.{◌≡◌, ◌+◌, ◌<◌, ◌≤◌, ◌∙◌, ap, arith, sym, subst, map}
-use Rattle.std.specs.Prelude.{All, fold, take, ◌==◌}
-use Rattle.ltl_automaton.specs.declared.edge.Edge.{Edge}
+use Rattle.std.proofs.Common.{◌+◌, arith}
+use Rattle.std.specs.Prelude.{take}
 use Rattle.ltl_automaton.proofs.NetLaws.{took}
-use Rattle.ltl_automaton.proofs.WayLaws.{take_whole}
 use Rattle.ltl_buchi.proofs.ListedLaws.{fold_more, known_more}
 use Rattle.ltl_buchi.proofs.listed.listed_behind.Goals as goal
 
