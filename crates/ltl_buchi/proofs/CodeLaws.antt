@@ -62,10 +62,9 @@ module _ (S : Shared) (shared : IsShared S.lists S.states) where
   has_list s l = shared.places s (record { list = 0; accepting = true }) (let e = long in omega arith)
 
   -- what holds of the edges of all states holds of those of all lists
-  pub lists_within : IsWithinStates A.states → AreListsWithin S.lists (length A.states)
-  lists_within w k d l =
+  pub all_lists : (P : List Edge → Type 0) → All (λ (s : State). P s.edges) A.states → All P S.lists
+  all_lists P w k d l =
       let u = shared.used k l in
-      let P : List Edge → Type 0 = λ es. All (λ e. e.target < length A.states) es in
       let here = All-at_has (λ (s : State). P s.edges) A.states w (state_in S.lists u.0) (has_state S.states u.0 u.1) in
       subst P (ap (λ i. slice_index_or S.lists i []) u.2 ∙ any S.lists k [] d l) here
     where
@@ -78,6 +77,9 @@ module _ (S : Shared) (shared : IsShared S.lists S.states) where
       any [] k c d l = absurd (omega arith)
       any (x ∷ xs) zero c d l = refl
       any (x ∷ xs) (suc k) c d l = any xs k c d (omega arith)
+
+  pub lists_within : IsWithinStates A.states → AreListsWithin S.lists (length A.states)
+  lists_within w = all_lists (λ es. All (λ e. e.target < length A.states) es) w
 
   -- the least states that are seen as equal are the names of the next round
   pub next_round : (n : ℕ) (keys : List (List Edge)) (codes next : List ℕ) → IsCoded (length S.lists) (list_view S.lists (slice_index (class_names A n))) keys codes

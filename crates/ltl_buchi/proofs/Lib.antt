@@ -1,8 +1,10 @@
+pub mod ApartLaws
 pub mod AskedLaws
 pub mod ChainLaws
 pub mod ClassLaws
 pub mod CodeLaws
 pub mod CopyLaws
+pub mod ListedLaws
 pub mod MergeLaws
 pub mod MergedLaws
 pub mod NumberLaws

@@ -4,7 +4,9 @@ use Rattle.std.specs.Prelude.{slice_get, slice_index, slice_index_or, ◌==◌, 
 use Rattle.std.specs.List.{range_with_len}
 use Rattle.std.specs.Ordering.{nat_cmp}
 use Rattle.std.specs.declared.cmp.Ordering.TheVariants.{Less}
+use Rattle.std.proofs.lemmas.Bool.{cases_lt}
 use Rattle.std.proofs.lemmas.Bool.Decides.{Decides-eqb}
+use Rattle.std.proofs.lemmas.List.{get_or-map, length-map}
 use Rattle.std.proofs.lemmas.List.FromFn.{length-range_with_len, get_or-range_with_len}
 use Rattle.ltl_spec.specs.Collections.Sets.{Has, IsRising, set_of}
 use Rattle.ltl_spec.specs.Collections.Lists.{place_of}
@@ -12,16 +14,18 @@ use Rattle.ltl_spec.specs.Automata.Automaton.{Automaton, State, Edge, edge_cmp, 
 use Rattle.ltl_spec.specs.Construction.Merging.{retargeted_edge, retargeted_state, without_implied, unimplied_edges, quotient, class_names}
 use Rattle.ltl_spec.proofs.Collections.SetLaws.{all_at, all_from, set_of_same}
 use Rattle.ltl_spec.proofs.Collections.Orders.{nat_linear, edge_linear}
-use Rattle.ltl_spec.proofs.Collections.ListLaws.{All-at_has, place_again}
+use Rattle.ltl_spec.proofs.Collections.ListLaws.{All-at_has, HasNoRepeats-map, place_again}
 use Rattle.ltl_spec.proofs.Construction.EdgeBounds.{HasNoRepeats-rising}
-use Rattle.ltl_spec.proofs.Construction.RoundLaws.{name_first}
+use Rattle.ltl_spec.proofs.Construction.RoundLaws.{name_first, rounds_end}
 use Rattle.ltl_spec.proofs.Collections.CaseLaws.{below_equal_above}
 use Rattle.std.proofs.lemmas.Option.{get_or_from_slice_get, slice_get-get_or}
 use Rattle.ltl_automaton.specs.EdgeView.{edge_of}
 use Rattle.ltl_automaton.specs.SharedView.{Shared, IsShared, automaton_of}
 use Rattle.ltl_automaton.specs.declared.edge.Edge as made
+use Rattle.ltl_buchi.specs.Apart.{AreApart}
 use Rattle.ltl_buchi.specs.Chains.{edge_at}
-use Rattle.ltl_buchi.specs.Classes.{IsCoded, IsLeastAlike, IsWithinStates, coded_place, list_view}
+use Rattle.ltl_buchi.specs.Classes.{IsCoded, IsLeastAlike, IsWithinStates, coded_place, list_view, retargeted_list}
+use Rattle.ltl_buchi.proofs.ApartLaws.{seen_apart}
 use Rattle.ltl_buchi.proofs.CodeLaws.{seen_again, is_at, has_list, place, lists_within, next_round, ends_early}
 use Rattle.ltl_buchi.proofs.MergedLaws.{of_all}
 
@@ -60,12 +64,12 @@ lists_have P lists n l h k d m = subst P (any lists k [] d m) (h k (omega (arith
     any (x ∷ xs) (suc k) c d l = any xs k c d (omega arith)
 
 -- a range rises
-range_above : (a n z : ℕ) → Has (range_with_len a n) z → a ≤ z
+pub range_above : (a n z : ℕ) → Has (range_with_len a n) z → a ≤ z
 range_above a zero z h = absurd h
 range_above a (suc n) z (inl e) = omega (arith, e)
 range_above a (suc n) z (inr h) = let l = range_above (a + 1) n z h in omega (arith, l)
 
-range_rises : (a n : ℕ) → IsRising nat_cmp (range_with_len a n)
+pub range_rises : (a n : ℕ) → IsRising nat_cmp (range_with_len a n)
 range_rises a zero = tt
 range_rises a (suc n) = (all_from (λ z. nat_cmp a z ≡ Less) (range_with_len (a + 1) n) (λ z h. let l = range_above (a + 1) n z h in below a z (omega (arith, l))), range_rises (a + 1) n)
   where
@@ -73,7 +77,7 @@ range_rises a (suc n) = (all_from (λ z. nat_cmp a z ≡ Less) (range_with_len (
     below a b m = grind arith
 
 -- values at all places
-range_map : (f : ℕ → State) (d : State) (a : ℕ) (xs : List State) → ((k : ℕ) → k < length xs → f (a + k) ≡ slice_index_or xs k d) → map f (range_with_len a (length xs)) ≡ xs
+pub range_map : (f : ℕ → State) (d : State) (a : ℕ) (xs : List State) → ((k : ℕ) → k < length xs → f (a + k) ≡ slice_index_or xs k d) → map f (range_with_len a (length xs)) ≡ xs
 range_map f d a [] h = refl
 range_map f d a (x ∷ xs) h =
     let z : a ≡ a + 0 = omega arith in
@@ -82,7 +86,7 @@ range_map f d a (x ∷ xs) h =
     λ i. here i ∷ rest i
 
 -- edges to themselves
-retargeted_own : (es : List Edge) → map (retargeted_edge (λ t. t)) es ≡ es
+pub retargeted_own : (es : List Edge) → map (retargeted_edge (λ t. t)) es ≡ es
 retargeted_own [] = refl
 retargeted_own (e ∷ es) = ap (λ l. e ∷ l) (retargeted_own es)
 
@@ -176,3 +180,26 @@ module _ (S : Shared) (shared : IsShared S.lists S.states) (within : IsWithinSta
 
   pub first_done : (names : List ℕ) → names ≡ class_names B 0 → next ≡ names → names ≡ class_names B (length B.states)
   first_done names e same = e ∙ ends_early B 0 (omega arith) (sym first_round ∙ same ∙ e)
+
+  -- where the names that the first round gives tell targets apart, no later round changes a name
+  pub first_stays : AreApart S.lists (slice_index next) → next ≡ class_names B (length B.states)
+  first_stays apart = elim (cases_lt 0 (length B.states)) [
+    | inl l ↦ first_round ∙ ends_early B 1 (omega arith) (sym second ∙ first_round)
+    | inr l ↦ first_round ∙ rounds_end B 1 (omega arith)
+  ]
+    where
+      seen : List Edge → List Edge
+      seen = retargeted_list (slice_index next)
+
+      coded : IsCoded (length S.lists) (list_view S.lists (slice_index next)) (map seen S.lists) codes
+      coded = record {
+        distinct = HasNoRepeats-map seen S.lists (seen_apart (slice_index next) S.lists rising apart) shared.distinct;
+        long = own_coded.long;
+        seen = λ k l.
+            let at : slice_index codes k ≡ k = ap (λ xs. slice_index xs k) own ∙ (let e = get_or-range_with_len 0 (length S.lists) k 0 l in omega (arith, e)) in
+            let long = length-map S.lists seen in
+            ap (slice_get (map seen S.lists)) at ∙ slice_get-get_or (map seen S.lists) k [] (omega (arith, l, long)) ∙ ap (λ (es : List Edge). Some es) (get_or-map seen S.lists k [] [] l);
+      }
+
+      second : next ≡ class_names B 2
+      second = next_round S shared 1 (map seen S.lists) codes next (subst (λ ns. IsCoded (length S.lists) (list_view S.lists (slice_index ns)) (map seen S.lists) codes) first_round coded) least

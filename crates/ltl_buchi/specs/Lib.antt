@@ -1,9 +1,11 @@
 pub mod IndexedEdge
+pub mod Apart
 pub mod BaView
 pub mod Chains
 pub mod Classes
 pub mod CopyCodes
 pub mod Copies
+pub mod Listed
 pub mod Named
 pub mod Numbered
 pub mod OptionsView

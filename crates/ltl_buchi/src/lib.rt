@@ -5,9 +5,10 @@
 //! table of rows to a Büchi automaton (`translate`) or, without levels, to a generalized one (`generalized`).
 //!
 //! What flows: a `Table`, by `ltl_alt` a `Gba`, merged; its copies on levels, a `Ba` whose accepting states are those of the last level; merged again
-//! and numbered. An automaton that merging leaves as it is (`standing`) is handed on without a copy (`smaller`). Implied edges are sought along chains
-//! of edges with one target (`chains`), by weights, and by an index where these differ and chains are long (`implied`). Each automaton is let go as
-//! soon as the next one stands. A `Gen` is a merged `Gba` in the numbers in which it is printed.
+//! and numbered. An automaton that merging leaves as it is (`standing`) is handed on without a copy (`smaller`), and so is one that is numbered as it
+//! stands (`listed`). Where names tell all targets apart (`apart`), merging is done. Implied edges are sought along chains of edges with one target
+//! (`chains`), by weights, and by an index where these differ and chains are long (`implied`). Each automaton is let go as soon as the next one
+//! stands. A `Gen` is a merged `Gba` in the numbers in which it is printed.
 //!
 //! ```
 //! let formula = ltl_formula::read(&alloc, b"[]<>p")?;
@@ -20,12 +21,14 @@
 //! Both accept exactly the words on which `p` comes again and again, which their contracts say for every formula.
 #![tactic(auto)]
 
+mod apart;
 pub mod automaton;
 mod chains;
 mod classes;
 mod copies;
 pub mod fault;
 mod implied;
+mod listed;
 pub mod merging;
 pub mod numbered;
 pub mod numbering;

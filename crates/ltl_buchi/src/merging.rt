@@ -1,6 +1,8 @@
 //! Merging: states that are equal up to the classes of their targets become one.
 
-ghost use Rattle.std.specs.Prelude.{◌≡◌, if◌then◌else◌, length, map, All, IfOk, IfErr};
+ghost use Rattle.std.specs.Prelude.{◌≡◌, if◌then◌else◌, true, length, map, All, IfOk, IfErr};
+ghost use Rattle.ltl_spec.specs.Collections.Sets.{IsRising};
+ghost use Rattle.ltl_spec.specs.Automata.Automaton.{edge_cmp};
 ghost use Rattle.ltl_spec.specs.Construction.Merging as merging;
 ghost use Rattle.ltl_spec.specs.Construction.Merging.{merged_automaton};
 ghost use Rattle.ltl_spec.specs.Construction.ImpliedEdges.{IsSetEdge};
@@ -14,6 +16,7 @@ use crate::classes::{class_names, own_names};
 use crate::fault::BaFault;
 use crate::options::Options;
 use crate::quotient::quotient;
+use crate::standing::all_rise;
 use ltl_alt::Gba;
 use ltl_automaton::{Edge, SharedStates};
 use std::alloc::{AllocError, Allocator};
@@ -23,14 +26,16 @@ pub(crate) fn names<'a, A: Allocator>(
     alloc: &'a A,
     states: &SharedStates<'_, A>,
     keep_equal: bool,
+    rise: bool,
 ) -> Result<Vec<usize, &'a A>, AllocError>
     requires within { IsWithinStates (automaton_of states.now).states }
+    requires rise { rise ≡ true → All (λ es. IsRising edge_cmp es) states.now.lists }
     ensures { IfOk result (λ v. v.items ≡ merging.class_names (automaton_of states.now) (if keep_equal then 0 else length (automaton_of states.now).states)) }
 {
     if keep_equal {
         return own_names(alloc, states.len());
     }
-    class_names(alloc, states)
+    class_names(alloc, states, rise)
 }
 
 /// The automaton after merging, of either kind.
@@ -42,7 +47,7 @@ fn merged<'a, A: Allocator>(
     requires within { IsWithinStates (automaton_of states.now).states }
     ensures { IfOk result (λ m. automaton_of m ≡ merged_automaton options.now.keep_implied options.now.keep_equal (automaton_of states.now)) }
 {
-    let names = names(alloc, states, options.keep_equal)?;
+    let names = names(alloc, states, options.keep_equal, all_rise(states))?;
     quotient(alloc, states, names.as_slice(), options.keep_implied)
 }
 

@@ -11,6 +11,7 @@ ghost use Rattle.ltl_buchi.specs.Numbered.{IsNumberable, arc_of, net_of};
 
 use crate::automaton::Ba;
 use crate::fault::BaFault;
+use crate::listed::are_listed;
 use crate::numbered::Gen;
 use ltl_alt::{Gba, MOST_EDGES, MOST_STATES};
 use ltl_automaton::{Arc, AutomatonFault, Edge, Limits, SharedStates, Successors, explore_from};
@@ -122,6 +123,22 @@ pub(crate) fn renumbered_states<'a, A: Allocator>(
 {
     let numbered = renumbered(alloc, states)?;
     Ok(numbered)
+}
+
+/// The states numbered breadth first, as they are where they are found to stand in that order.
+pub(crate) fn numbered_states<'a, A: Allocator>(
+    alloc: &'a A,
+    states: SharedStates<'a, A>,
+) -> Result<SharedStates<'a, A>, BaFault>
+    requires plain { IsPlainBa (automaton_of states) }
+    ensures renumbered { IfOk result (λ s. automaton_of s ≡ renumbered_automaton (automaton_of states.entry)) }
+    ensures plain { IfOk result (λ s. IsPlainBa (automaton_of s)) }
+    ensures fits { ¬ IsErrOf result BaFault.TooLarge }
+{
+    if are_listed(&states) {
+        return Ok(states);
+    }
+    renumbered_states(alloc, &states)
 }
 
 /// The same automaton with its states numbered breadth first.

@@ -19,7 +19,7 @@ use std::alloc::{AllocError, Allocator};
 use std::cmp::Ordering;
 
 /// Whether each edge is below the next one.
-fn are_rising(edges: &[Edge]) -> bool
+pub(crate) fn are_rising(edges: &[Edge]) -> bool
     ensures { result ≡ true → IsRising edge_cmp (map edge_of edges.now) }
 {
     for place in 1..edges.len() {
@@ -78,13 +78,15 @@ pub(crate) fn stands<'a, A: Allocator>(
     states: &SharedStates<'_, A>,
     names: &[usize],
     keep_implied: bool,
+    rise: bool,
 ) -> Result<bool, AllocError>
+    requires rise { rise ≡ true → All (λ es. IsRising edge_cmp es) states.now.lists }
     requires within { IsWithinStates (automaton_of states.now).states }
     requires long { length names.now ≡ length (automaton_of states.now).states }
     ensures { IfOk result (λ b. b ≡ true → merging.quotient keep_implied names.now (automaton_of states.now) ≡ automaton_of states.now) }
 {
     states.invariant();
-    if !are_own(names) || !all_rise(states) {
+    if !are_own(names) || !rise {
         return Ok(false);
     }
     if keep_implied {

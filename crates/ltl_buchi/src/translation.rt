@@ -16,7 +16,7 @@ use crate::automaton::Ba;
 use crate::copies::level_states;
 use crate::fault::BaFault;
 use crate::numbered::Gen;
-use crate::numbering::{renumber_generalized, renumbered_states};
+use crate::numbering::{numbered_states, renumber_generalized};
 use crate::options::Options;
 use crate::smaller::{smaller_gba, smaller_states};
 use ltl_alt::Gba;
@@ -50,8 +50,7 @@ pub fn translate<'a, A: Allocator>(
     let copies = level_states(alloc, &small)?;
     drop(small);
     let smaller = smaller_states(alloc, copies, options)?;
-    let numbered = renumbered_states(alloc, &smaller)?;
-    drop(smaller);
+    let numbered = numbered_states(alloc, smaller)?;
     Ok(Ba::new(alloc, numbered)?)
 }
 

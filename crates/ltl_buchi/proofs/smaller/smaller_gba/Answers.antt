@@ -8,13 +8,13 @@ use Rattle.ltl_buchi.specs.Classes.{IsWithinStates}
 use Rattle.ltl_buchi.proofs.MergedLaws.{merged_accepting_gba, gba_within}
 use Rattle.ltl_buchi.proofs.smaller.smaller_gba.Goals as goal
 
-pub changed-requires : goal.changed-requires
-changed-requires g c = record { within = subst (λ (B : Automaton). IsWithinStates B.states) (sym c.states.ensures) (gba_within c.args.gba c.invariant.ensures.inside) }
+pub changed-requires-clause-within : goal.changed-requires-clause-within
+changed-requires-clause-within g c = subst (λ (B : Automaton). IsWithinStates B.states) (sym c.states-states.ensures) (gba_within c.args.gba c.invariant.ensures.inside)
 
 pub new-requires : goal.new-requires
 new-requires g c =
     let o = c.args.options.now in
     let merged = merged_automaton o.keep_implied o.keep_equal in
-    let e : automaton_of c.in-Some.states ≡ merged (automaton_of c.states.result.now) =
-    subst (λ p. MatchOption p (automaton_of c.states.result.now ≡ merged (automaton_of c.states.result.now)) (λ m. automaton_of m ≡ merged (automaton_of c.states.result.now))) c.in-Some.is c.in_ok-states.ensures in
-    subst IsAcceptingGba (sym (e ∙ ap merged c.states.ensures)) (merged_accepting_gba c.args.gba o.keep_implied o.keep_equal c.invariant.ensures.inside c.invariant.ensures.accepting)
+    let e : automaton_of c.in-Some.small ≡ merged (automaton_of c.states-states.result.now) =
+    subst (λ p. MatchOption p (automaton_of c.states-states.result.now ≡ merged (automaton_of c.states-states.result.now)) (λ m. automaton_of m ≡ merged (automaton_of c.states-states.result.now))) c.in-Some.is c.in_ok-small.ensures in
+    subst IsAcceptingGba (sym (e ∙ ap merged c.states-states.ensures)) (merged_accepting_gba c.args.gba o.keep_implied o.keep_equal c.invariant.ensures.inside c.invariant.ensures.accepting)

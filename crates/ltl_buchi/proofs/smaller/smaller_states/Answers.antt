@@ -1,10 +1,16 @@
 use Rattle.std.proofs.Common.{◌≡◌, sym, subst}
 use Rattle.std.specs.Prelude.{MatchOption}
+use Rattle.ltl_spec.specs.Collections.Sets.{IsRising}
+use Rattle.ltl_spec.specs.Automata.Automaton.{edge_cmp}
 use Rattle.ltl_spec.specs.Construction.Merging.{merged_automaton}
 use Rattle.ltl_automaton.specs.SharedView.{automaton_of}
 use Rattle.ltl_buchi.specs.BaView.{IsBa, IsPlain}
+use Rattle.ltl_buchi.proofs.CodeLaws.{all_lists}
 use Rattle.ltl_buchi.proofs.MergedLaws.{merged_ba, merged_unmarked}
 use Rattle.ltl_buchi.proofs.smaller.smaller_states.Goals as goal
+
+pub changed-requires-clause-rise : goal.changed-requires-clause-rise
+changed-requires-clause-rise g c = λ _. all_lists c.args.states c.invariant.ensures (λ es. IsRising edge_cmp es) c.requires.plain.inside.rising
 
 pub returns-in-Some-clause-plain : goal.returns-in-Some-clause-plain
 returns-in-Some-clause-plain g c =

@@ -10,7 +10,7 @@ use Rattle.ltl_buchi.proofs.standing.stands.Goals as goal
 
 pub returns-then-keep_implied : goal.returns-then-keep_implied
 returns-then-keep_implied g c = λ _.
-    stands_by c.args.states.now c.invariant.ensures c.args.keep_implied c.args.names.now c.requires.within c.requires.long (c.are_own.ensures c.if-not-are_own.false) (c.all_rise.ensures c.if-not-all_rise.false)
+    stands_by c.args.states.now c.invariant.ensures c.args.keep_implied c.args.names.now c.requires.within c.requires.long (c.are_own.ensures c.if-not-are_own.false) (c.requires.rise c.if-not-rise.false)
     (λ k. absurd (never (sym c.if-keep_implied.true ∙ k)))
   where
     never : true ≡ false → ⊥
@@ -26,4 +26,4 @@ pub returns : goal.returns
 returns g c =
     let S = c.args.states.now in
     IfOk-weaker c.none_implied.result (λ b. b ≡ true → All (λ es. unimplied_edges es ≡ es) S.lists) (λ b. b ≡ true → quotient c.args.keep_implied c.args.names.now (automaton_of S) ≡ automaton_of S)
-    (λ b h t. stands_by S c.invariant.ensures c.args.keep_implied c.args.names.now c.requires.within c.requires.long (c.are_own.ensures c.if-not-are_own.false) (c.all_rise.ensures c.if-not-all_rise.false) (λ _. h t)) c.none_implied.ensures
+    (λ b h t. stands_by S c.invariant.ensures c.args.keep_implied c.args.names.now c.requires.within c.requires.long (c.are_own.ensures c.if-not-are_own.false) (c.requires.rise c.if-not-rise.false) (λ _. h t)) c.none_implied.ensures
