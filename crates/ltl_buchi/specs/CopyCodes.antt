@@ -1,5 +1,5 @@
 -- Copies as pairs, equal ones, and what is fed to a hasher of one.
-use Rattle.std.specs.Prelude.{◌≡◌, ◌++◌, ℕ, List, IsTrue, refl}
+use Rattle.std.specs.Prelude.{◌≡◌, ℕ, ◌+◌, ◌*◌, ◌%◌, ◌^◌, List, IsTrue, refl}
 use Rattle.std.proofs.Common.{ap, sym}
 use Rattle.std.specs.Coded.{Coded, code_by, coded×, coded_ℕ}
 use Rattle.std.specs.Cmp.{IsEquivalence}
