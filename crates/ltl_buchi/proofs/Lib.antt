@@ -12,6 +12,7 @@ pub mod PlacedLaws
 pub mod QuotientLaws
 pub mod ReachedLaws
 pub mod RenumberLaws
+pub mod RiseLaws
 pub mod StandingLaws
 pub mod Sums
 pub mod TranslationLaws

@@ -1,7 +1,8 @@
 -- The copies of an automaton's states as things that are listed.
-use Rattle.std.specs.Prelude.{◌≡◌, ◌==◌, ℕ, if◌then◌else◌, [], map, slice_get, Some}
+use Rattle.std.specs.Prelude.{◌≡◌, ◌==◌, ◌<◌, ◌≤◌, ℕ, if◌then◌else◌, List, [], length, map, slice_get, slice_index_or, Some}
+use Rattle.ltl_spec.specs.Collections.Sets.{set_of}
 use Rattle.ltl_spec.specs.Automata.Automaton.{Automaton, Edge, state_at}
-use Rattle.ltl_spec.specs.Construction.Levels.{Copy, CopyEdge, copy_edges, next_level}
+use Rattle.ltl_spec.specs.Construction.Levels.{Copy, CopyEdge, copy_edge_cmp, copy_edges, next_level}
 use Rattle.ltl_automaton.specs.Net.{Net}
 use Rattle.ltl_automaton.specs.SharedView.{Shared, automaton_of}
 use Rattle.ltl_automaton.specs.declared.arc.Arc.{Arc}
@@ -29,3 +30,11 @@ arc_of e = record { cube = e.cube; key = e.copy; marks = [] }
 
 abbrev pub level_net : Automaton → Net Copy
 level_net A = record { arcs = λ p. map arc_of (copy_edges A p); accepts = λ p. p.level == A.sets }
+
+-- with any number of sets and on each level these edges give so many different ones at least
+abbrev pub HasAtLeast : List Edge → ℕ → Type 0
+HasAtLeast es n = (sets level : ℕ) → n ≤ length (set_of copy_edge_cmp (map (lifted_edge sets level) es))
+
+-- each list that was counted gives as many as was counted
+abbrev pub HaveAtLeast : List (List Edge) → List ℕ → Type 0
+HaveAtLeast lists counts = (k : ℕ) (es : List Edge) → k < length counts → slice_get lists k ≡ Some es → HasAtLeast es (slice_index_or counts k 0)

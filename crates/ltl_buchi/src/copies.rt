@@ -7,10 +7,11 @@ ghost use Rattle.ltl_spec.specs.Tools.Limits.{stated_limits};
 ghost use Rattle.ltl_automaton.specs.SharedView.{automaton_of};
 ghost use Rattle.ltl_alt.specs.GbaView as gba;
 ghost use Rattle.ltl_buchi.specs.BaView.{IsPlainBa};
-ghost use Rattle.ltl_buchi.specs.Copies.{IsListOf, arc_of, copy_edge_of, level_net, lifted_edge};
+ghost use Rattle.ltl_buchi.specs.Copies.{HaveAtLeast, IsListOf, arc_of, copy_edge_of, level_net, lifted_edge};
 
 use crate::automaton::Ba;
 use crate::fault::BaFault;
+use crate::rises::{count_rises, counted};
 use ltl_alt::{Gba, GbaEdge, MOST_EDGES, MOST_STATES};
 use ltl_automaton::{
     Arc, AutomatonFault, Distinct, Key, Limits, SharedStates, Successors, explore_from, next_level,
@@ -97,14 +98,14 @@ impl Key for Copied {
 
 /// An edge to a copy.
 #[derive(Clone, Copy, PartialEq, Eq)]
-struct CopyEdge {
-    cube: Cube,
-    copy: Copied,
+pub(crate) struct CopyEdge {
+    pub cube: Cube,
+    pub copy: Copied,
 }
 
 impl CopyEdge {
     /// By the literals, then by the state, then by the level.
-    fn cmp_list(&self, other: &CopyEdge) -> Ordering
+    pub(crate) fn cmp_list(&self, other: &CopyEdge) -> Ordering
         ensures { result ≡ levels_of.copy_edge_cmp (copy_edge_of self.now) (copy_edge_of other.now) }
     {
         match self.cube.cmp_list(&other.cube) {
@@ -118,7 +119,7 @@ impl CopyEdge {
 }
 
 /// An edge of a copy on a level.
-fn copy_edge(sets: usize, edge: &GbaEdge, level: usize) -> CopyEdge
+pub(crate) fn copy_edge(sets: usize, edge: &GbaEdge, level: usize) -> CopyEdge
     ensures lifted { copy_edge_of result ≡ lifted_edge sets level (gba.edge_of edge.now) }
 {
     CopyEdge {
@@ -191,19 +192,21 @@ fn list_of<A: Allocator>(states: &SharedStates<'_, A>, copy: &Copied) -> Option<
     })
 }
 
-/// The copies of an automaton's states as things that are listed, and for each list on a level the copy that was first asked for with it.
+/// The copies of an automaton's states as things that are listed, for each list on a level the copy that was first asked for with it, and for each
+/// list how many edges it gives at least, once this was asked.
 #[derive(Drop)]
 struct Copies<'b, 'g, 'a, A: Allocator> {
     automaton: &'b Gba<'g, A>,
     states: &'b SharedStates<'g, A>,
     lists: Lists<'a, A>,
     firsts: Vec<Copied, &'a A>,
+    counts: Vec<usize, &'a A>,
 }
 
 impl<'b, 'g, 'a, A: Allocator> Successors<Copied> for Copies<'b, 'g, 'a, A> {
     ghost net = { λ n. level_net n.automaton.now };
 
-    ghost ready = { λ n. automaton_of n.states.now ≡ n.automaton.now };
+    ghost ready = { λ n. (automaton_of n.states.now ≡ n.automaton.now) × HaveAtLeast n.states.now.lists n.counts.items };
 
     fn accepting(&self, key: &Copied) -> bool {
         key.level == self.automaton.sets()
@@ -228,8 +231,13 @@ impl<'b, 'g, 'a, A: Allocator> Successors<Copied> for Copies<'b, 'g, 'a, A> {
         }
     }
 
-    fn edges_at_least(&mut self, _key: &Copied) -> Result<usize, AllocError> {
-        Ok(0)
+    /// The lists are counted at the first call.
+    #[tactic(auto, using(crate::proofs::RiseLaws::at_least))]
+    fn edges_at_least(&mut self, key: &Copied) -> Result<usize, AllocError> {
+        if self.counts.is_empty() {
+            count_rises(self.states, &mut self.counts)?;
+        }
+        Ok(counted(self.states, self.counts.as_slice(), key))
     }
 
     #[tactic(auto, using(crate::proofs::CopyLaws::no_arcs_past, crate::proofs::CopyLaws::made_arcs))]
@@ -274,6 +282,7 @@ pub(crate) fn level_states<'a, A: Allocator>(
         states: automaton.states(),
         lists: Distinct::new(alloc),
         firsts: Vec::new(alloc),
+        counts: Vec::new(alloc),
     };
     let states = explore_from(alloc, start, 0, &mut copies, true, limits)?;
     Ok(states)

@@ -35,6 +35,7 @@ pub mod numbering;
 pub mod options;
 mod quotient;
 mod retargeting;
+mod rises;
 mod smaller;
 mod standing;
 pub mod translation;
