@@ -7,7 +7,7 @@
 //! What flows: a type with the trait `Below`, which says when one item is below another, as a set within another is, and what two items have in
 //! common; a test with the trait `Counting`, which says which of the items below a given one count, as those that differ from it; and a `Lookup` of
 //! items, which tells whether one of them is below a given one and counts. `least` asks it for each item, and answers those that there is none for, in
-//! the order given. Up to 256 items are looked at one by one. Of more an index is made, a list in which items that have much in common stand together,
+//! the order given. Up to 48 items are looked at one by one. Of more an index is made, a list in which items that have much in common stand together,
 //! and behind each such run stands what all its items have in common. Where that isn't below a given item none of the run is, so a whole run is
 //! passed over by one test.
 //!

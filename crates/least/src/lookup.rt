@@ -11,7 +11,7 @@ use std::alloc::{AllocError, Allocator};
 use std::marker::Model;
 
 /// So many items are looked at one by one.
-const FEW: usize = 256;
+const FEW: usize = 48;
 
 /// Items, seen as the list of them, and where there are many an index of them.
 #[derive(Drop)]

@@ -16,7 +16,7 @@ const SAMPLE: usize = 16;
 const HALF: u32 = 6;
 
 /// So many items aren't divided.
-const FEW: usize = 32;
+const FEW: usize = 12;
 
 /// The items.
 pub(crate) fn copied<'a, T: Below, A: Allocator>(

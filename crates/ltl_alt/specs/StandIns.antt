@@ -94,6 +94,14 @@ asks_less m n = is_within m.pair n.pair
 abbrev pub is_spare : Rule → List (List Pair) → made.Measured → made.Measured → Bool
 is_spare r own m n = nat_lt m.size n.size && may_drop r own n.pair m.pair
 
--- those of the pairs for which there is none among all
-abbrev pub least_of : Rule → List (List Pair) → List made.Measured → List made.Measured → List made.Measured
-least_of r own all ms = filter (λ n. not (list_any (λ m. is_spare r own m n && asks_less m n) all)) ms
+-- it is new, and not of the least size
+abbrev pub is_asked : ℕ → made.Measured → Bool
+is_asked least n = not n.is_old && nat_lt least n.size
+
+-- it is, and a smaller one among all may be listed in its place
+abbrev pub has_spare : Rule → List (List Pair) → ℕ → List made.Measured → made.Measured → Bool
+has_spare r own least all n = is_asked least n && list_any (λ m. is_spare r own m n && asks_less m n) all
+
+-- those of the pairs that have none
+abbrev pub least_of : Rule → List (List Pair) → ℕ → List made.Measured → List made.Measured → List made.Measured
+least_of r own least all ms = filter (λ n. not (has_spare r own least all n)) ms

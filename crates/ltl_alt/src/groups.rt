@@ -78,7 +78,7 @@ fn with_part<'a, A: Allocator>(
         → IfOk result (λ v. IsListed (StandsFor T pruning.now.rule) (spec_pairs.join pairs.now (part_of parts.now.lists.items number)) v.items) }
 {
     let joined = join(alloc, pairs, parts.pairs(number))?;
-    let pruned = prune(alloc, pruning, joined)?;
+    let pruned = prune(alloc, pruning, pairs, parts.pairs(number), joined)?;
     Ok(pruned)
 }
 
@@ -120,7 +120,7 @@ fn pair_transitions<'a, A: Allocator>(
     if keep_implied {
         return Ok(all);
     }
-    let kept = unimplied(alloc, all.as_slice())?;
+    let kept = unimplied(alloc, all)?;
     Ok(kept)
 }
 

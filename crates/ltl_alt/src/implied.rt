@@ -27,14 +27,14 @@ fn are_of_one_weight(transitions: &[Transition]) -> bool
 /// Those transitions that no other one implies.
 pub(crate) fn unimplied<'a, A: Allocator>(
     alloc: &'a A,
-    transitions: &[Transition],
+    transitions: Vec<Transition, &'a A>,
 ) -> Result<Vec<Transition, &'a A>, AllocError>
-    requires { AllSets transitions.now }
-    ensures { IfOk result (λ v. v.items ≡ spec.unimplied_transitions transitions.now) }
+    requires { AllSets transitions.items }
+    ensures { IfOk result (λ v. v.items ≡ spec.unimplied_transitions transitions.entry.items) }
 {
-    if are_of_one_weight(transitions) {
-        let all = Vec::from_slice(alloc, transitions)?;
-        return Ok(all);
+    if are_of_one_weight(transitions.as_slice()) {
+        return Ok(transitions);
     }
-    least(alloc, &Differing, transitions)
+    let kept = least(alloc, &Differing, transitions.as_slice())?;
+    Ok(kept)
 }

@@ -234,7 +234,7 @@ impl<'a, A: Allocator> Joins<'a, A> {
             return Ok(None);
         }
         let pairs = join(alloc, self.pairs(list), self.pairs(part))?;
-        let pruned = prune(alloc, pruning, pairs)?;
+        let pruned = prune(alloc, pruning, self.pairs(list), self.pairs(part), pairs)?;
         let joined = self.remember(PairSet { pairs: pruned })?;
         self.places.insert_full((list, part))?;
         self.steps.push(Step { list, part, joined })?;

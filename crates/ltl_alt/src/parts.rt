@@ -339,7 +339,7 @@ fn released_pairs<'a, A: Allocator>(
     rows.prepare(alloc, table, pruning, left)?;
     let later = [Pair::later(RowSet::single(place(table, row)))];
     let all = both(alloc, rows.pairs(left), &later)?;
-    let pairs = prune(alloc, pruning, all)?;
+    let pairs = prune(alloc, pruning, &[], &[], all)?;
     Ok(PairSet { pairs })
 }
 

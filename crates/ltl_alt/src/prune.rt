@@ -2,7 +2,7 @@
 
 ghost use Rattle.std.specs.Prelude.{◌≡◌, IfOk, OnOk, map};
 ghost use Rattle.ltl_spec.specs.Collections.Sets.{Has};
-ghost use Rattle.ltl_alt.specs.StandIns.{IsPruned, least_of, pair_of};
+ghost use Rattle.ltl_alt.specs.StandIns.{IsPruned, has_spare, is_asked, least_of, pair_of};
 ghost use Rattle.ltl_alt.specs.declared.prune.Measured as made;
 
 use crate::elements::{has_literal, has_row, tally_literals, tally_rows};
@@ -22,10 +22,11 @@ const SAMPLE: usize = 64;
 /// So far apart, where the list is thought of as a ring: a prime, so that no order of the list is met.
 const APART: usize = 2_654_435_761;
 
-/// A pair, and how many literals and rows it asks for.
+/// A pair, how many literals and rows it asks for, and whether it stood on the left side of a join already.
 #[derive(Clone, Copy)]
 struct Measured {
     size: usize,
+    is_old: bool,
     pair: Pair,
 }
 
@@ -36,6 +37,7 @@ impl Default for Measured {
     fn default() -> Measured {
         Measured {
             size: 0,
+            is_old: false,
             pair: Pair::empty(),
         }
     }
@@ -55,6 +57,7 @@ impl Below for Measured {
     fn common(&self, other: &Measured) -> Measured {
         Measured {
             size: 0,
+            is_old: false,
             pair: self.pair.common(&other.pair),
         }
     }
@@ -82,21 +85,54 @@ impl<'b, 'a, A: Allocator> Counting<Measured> for Pruning<'b, 'a, A> {
     }
 }
 
+/// The place of the first pair that isn't less, from that place on.
+fn place_from(pairs: &[Pair], start: usize, pair: &Pair) -> usize {
+    for k in start..pairs.len() {
+        if !pairs[k].cmp_list(pair).is_lt() {
+            return k;
+        }
+    }
+    pairs.len()
+}
+
+/// Whether none asks for more than one literal or row.
+fn are_single(pairs: &[Pair]) -> bool {
+    pairs.iter().all(|pair| pair.size() < 2)
+}
+
 /// The pairs with their sizes.
 fn measure<'a, A: Allocator>(
     alloc: &'a A,
+    left: &[Pair],
     pairs: &[Pair],
 ) -> Result<MeasuredPairs<'a, A>, AllocError>
     ensures { IfOk result (λ v. map pair_of v.items ≡ pairs.now) }
 {
     let mut measured: MeasuredPairs<'a, A> = SmallVec::with_capacity(alloc, pairs.len())?;
+    let mut at = 0;
     'pairs: for pair in pairs {
+        at = place_from(left, at, pair);
         measured.push(Measured {
             size: pair.size(),
+            is_old: at < left.len() && left[at].is_same(pair),
             pair: *pair,
         })?;
     }
     Ok(measured)
+}
+
+/// The least size.
+fn least_size(measured: &[Measured]) -> usize {
+    let mut least = usize::MAX;
+    for m in measured {
+        least = least.min(m.size);
+    }
+    least
+}
+
+/// Whether it is smaller than another one. Where only old ones may be listed in place of others it has to be old too.
+fn may_stand_in(m: &Measured, most: usize, only_old: bool) -> bool {
+    m.size < most && (m.is_old || !only_old)
 }
 
 /// The greatest size.
@@ -112,17 +148,37 @@ fn largest(measured: &[Measured]) -> usize {
 fn smaller<'a, A: Allocator>(
     alloc: &'a A,
     measured: &[Measured],
+    only_old: bool,
 ) -> Result<MeasuredPairs<'a, A>, AllocError>
     ensures { IfOk result (λ v. (m : made.Measured) → Has v.items m → Has measured.now m) }
 {
     let most = largest(measured);
     let mut smaller: MeasuredPairs<'a, A> = SmallVec::new(alloc);
     'measured: for m in measured {
-        if m.size < most {
+        if may_stand_in(m, most, only_old) {
             smaller.push(*m)?;
         }
     }
     Ok(smaller)
+}
+
+/// Whether it is looked for a smaller one: old ones had none, and none is smaller than the least.
+fn is_asked(m: &Measured, least: usize) -> bool
+    ensures { result ≡ is_asked least m.now }
+{
+    !m.is_old && least < m.size
+}
+
+/// Whether a smaller one is found that may be listed in place of this one.
+fn has_spare<A: Allocator>(
+    lookup: &Lookup<'_, '_, Measured, A>,
+    pruning: &Pruning<'_, '_, A>,
+    least: usize,
+    m: &Measured,
+) -> bool
+    ensures { result ≡ has_spare pruning.now.rule pruning.now.own.now least lookup.now m.now }
+{
+    is_asked(m, least) && lookup.has_lesser(pruning, m)
 }
 
 /// Whether there are many pairs, and none of some of them has a smaller one in its place. Then few have one or none has, and to ask each costs more than it
@@ -130,6 +186,7 @@ fn smaller<'a, A: Allocator>(
 fn seem_least<A: Allocator>(
     lookup: &Lookup<'_, '_, Measured, A>,
     pruning: &Pruning<'_, '_, A>,
+    least: usize,
     measured: &[Measured],
 ) -> bool {
     if measured.len() <= MANY {
@@ -137,7 +194,7 @@ fn seem_least<A: Allocator>(
     }
     for k in 0..SAMPLE {
         if let Some(m) = measured.get(k.wrapping_mul(APART) % measured.len()) {
-            if lookup.has_lesser(pruning, m) {
+            if has_spare(lookup, pruning, least, m) {
                 return false;
             }
         }
@@ -150,13 +207,14 @@ fn put_least<A: Allocator>(
     pairs: &mut Vec<Pair, &A>,
     lookup: &Lookup<'_, '_, Measured, A>,
     pruning: &Pruning<'_, '_, A>,
+    least: usize,
     measured: &[Measured],
 ) -> Result<(), AllocError>
-    ensures { OnOk result (pairs.new.items ≡ map pair_of (least_of pruning.now.rule pruning.now.own.now lookup.now measured.now)) }
+    ensures { OnOk result (pairs.new.items ≡ map pair_of (least_of pruning.now.rule pruning.now.own.now least lookup.now measured.now)) }
 {
     pairs.clear();
     'measured: for m in measured {
-        if !lookup.has_lesser(pruning, m) {
+        if !has_spare(lookup, pruning, least, m) {
             pairs.push(m.pair)?;
         }
     }
@@ -167,6 +225,8 @@ fn put_least<A: Allocator>(
 pub(crate) fn prune<'a, A: Allocator>(
     alloc: &'a A,
     pruning: &Pruning<'_, '_, A>,
+    left: &[Pair],
+    right: &[Pair],
     mut pairs: Vec<Pair, &'a A>,
 ) -> Result<Vec<Pair, &'a A>, AllocError>
     ensures { IfOk result (λ v. IsPruned pruning.now.rule pruning.now.own.now pairs.entry.items v.items) }
@@ -178,15 +238,20 @@ pub(crate) fn prune<'a, A: Allocator>(
     if pruning.rule == Rule::Equal {
         return Ok(pairs);
     }
-    let measured = measure(alloc, pairs.as_slice())?;
-    let smaller = smaller(alloc, measured.as_slice())?;
+    let measured = measure(alloc, left, pairs.as_slice())?;
+    let smaller = smaller(
+        alloc,
+        measured.as_slice(),
+        !left.is_empty() && are_single(right),
+    )?;
     if smaller.is_empty() {
         return Ok(pairs);
     }
     let lookup = Lookup::new(alloc, smaller.as_slice())?;
-    if seem_least(&lookup, pruning, measured.as_slice()) {
+    let least = least_size(smaller.as_slice());
+    if seem_least(&lookup, pruning, least, measured.as_slice()) {
         return Ok(pairs);
     }
-    put_least(&mut pairs, &lookup, pruning, measured.as_slice())?;
+    put_least(&mut pairs, &lookup, pruning, least, measured.as_slice())?;
     Ok(pairs)
 }

@@ -14,12 +14,12 @@ returns-then-keep_implied g c =
     c.in_ok-all.ensures ∙ ap (map (spec.with_marks T)) (sym (set_of_same pair_linear ps c.requires.rising)) ∙ ap (λ b. transitions_of T b ps) (sym k)
 
 pub unimplied-requires : goal.unimplied-requires
-unimplied-requires g c = subst AllSets (sym (c.as_slice.ensures.value ∙ c.in_ok-all.ensures)) c.requires.sets
+unimplied-requires g c = subst AllSets (sym c.in_ok-all.ensures) c.requires.sets
 
 pub returns : goal.returns
 returns g c =
     let T = table_at c.args.table.now in
     let ps = c.args.pairs.now in
     let k : c.args.keep_implied ≡ false = c.if-keep_implied.false in
-    c.in_ok-kept.ensures ∙ ap spec.unimplied_transitions (c.as_slice.ensures.value ∙ c.in_ok-all.ensures)
+    c.in_ok-kept.ensures ∙ ap spec.unimplied_transitions c.in_ok-all.ensures
     ∙ ap (λ xs. spec.unimplied_transitions (map (spec.with_marks T) xs)) (sym (set_of_same pair_linear ps c.requires.rising)) ∙ ap (λ b. transitions_of T b ps) (sym k)

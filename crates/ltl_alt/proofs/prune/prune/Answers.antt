@@ -22,7 +22,7 @@ returns g c =
     let own = c.args.pruning.now.own.now in
     let ms = c.in_ok-measured.measured.items in
     let all = c.in_ok-smaller.smaller.items in
-    pruned_least r own c.args.pairs.items c.as_slice.result.now c.put_least.new.pairs.items all ms
+    pruned_least r own c.args.pairs.items c.as_slice.result.now c.put_least.new.pairs.items c.least_size-least.result all ms
     (λ m h. subst (λ xs. Has xs m) c.as_slice-2.ensures (c.in_ok-smaller.ensures m h))
     (c.as_slice.ensures.value ∙ c.in_ok-make_distinct.ensures) c.in_ok-measured.ensures
-    (c.in_ok-put_least.ensures ∙ (λ i. map pair_of (least_of r own ((c.in_ok-lookup.ensures ∙ c.as_slice-3.ensures) i) (c.as_slice-5.ensures i))))
+    (c.in_ok-put_least.ensures ∙ (λ i. map pair_of (least_of r own c.least_size-least.result ((c.in_ok-lookup.ensures ∙ c.as_slice-3.ensures) i) (c.as_slice-6.ensures i))))

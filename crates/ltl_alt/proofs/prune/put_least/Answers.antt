@@ -2,7 +2,7 @@ use Rattle.std.proofs.Common.{◌≡◌, ◌<◌, ◌+◌, ◌∷◌, ◌++◌, 
 use Rattle.std.proofs.lemmas.List.{take_more}
 use Rattle.ltl_alt.proofs.PruneLaws.{least_stays, least_goes}
 use Rattle.ltl_alt.proofs.prune.put_least.Goals as goal
-use Rattle.ltl_alt.proofs.prune.put_least.Goals.{then-not-has_lesser+in_ok-push, else-not-has_lesser}
+use Rattle.ltl_alt.proofs.prune.put_least.Goals.{then-not-has_spare+in_ok-push, else-not-has_spare}
 
 pub measured-preserved : goal.measured-preserved
 measured-preserved g c =
@@ -14,10 +14,10 @@ measured-preserved g c =
     let m = c.m-item.result in
     let inside : i < length ms = omega arith in
     let next : take (i + 1) ms ≡ take i ms ++ m ∷ [] = take_more ms i m inside ∙ ap (λ x. take i ms ++ x ∷ []) (sym c.m-item.is) in
-    elim c.if-not-has_lesser.branch [
-      | then-not-has_lesser+in_ok-push w ↦
-          least_stays r own all (take i ms) (take (i + 1) ms) m c.measured.pairs.items c.if-not-has_lesser.pairs.items next (sym c.has_lesser.ensures ∙ w.if-not-has_lesser.true)
+    elim c.if-not-has_spare.branch [
+      | then-not-has_spare+in_ok-push w ↦
+          least_stays r own c.args.least all (take i ms) (take (i + 1) ms) m c.measured.pairs.items c.if-not-has_spare.pairs.items next (sym c.has_spare.ensures ∙ w.if-not-has_spare.true)
           (ap (λ v. v.items) w.pairs-is ∙ w.in_ok-push.ensures.items) c.measured.invariant
-      | else-not-has_lesser w ↦
-          least_goes r own all (take i ms) (take (i + 1) ms) m c.measured.pairs.items c.if-not-has_lesser.pairs.items next (sym c.has_lesser.ensures ∙ w.if-not-has_lesser.false) (ap (λ v. v.items) w.pairs-is) c.measured.invariant
+      | else-not-has_spare w ↦
+          least_goes r own c.args.least all (take i ms) (take (i + 1) ms) m c.measured.pairs.items c.if-not-has_spare.pairs.items next (sym c.has_spare.ensures ∙ w.if-not-has_spare.false) (ap (λ v. v.items) w.pairs-is) c.measured.invariant
     ]
