@@ -1,6 +1,7 @@
 pub mod FormsLemmas
 pub mod GraphLemmas
 mod LexerLemmas
+mod LinkLemmas
 pub mod MadeLemmas
 mod NameLemmas
 pub mod OrderLemmas

@@ -29,6 +29,7 @@ mod graph;
 pub mod laws;
 pub mod lexer;
 pub mod limits;
+mod links;
 pub mod operators;
 pub mod output;
 mod parser;

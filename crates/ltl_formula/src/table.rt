@@ -61,7 +61,7 @@ impl<'a, A: Allocator> Table<'a, A> {
         ensures elementary { IsErrOf result BuildFault.TooManyElementaryRows
             → stated_limits.elementary_rows < length (elementary_rows (core (reading_of formula.now).formula negate rewrite)) }
     {
-        let mut graph = Graph::new(alloc, rewrite)?;
+        let mut graph = Graph::new(alloc, formula.len(), rewrite)?;
         let root = core_number(alloc, &mut graph, formula, negate)?;
         Table::of_node(alloc, &graph, root)
     }
