@@ -64,6 +64,7 @@ fn is_above_any<T: Below, C: Counting<T>>(items: &[T], counting: &C, item: &T) -
 
 /// Whether the first item is below the second and counts.
 #[tactic(auto, using(crate::proofs::LookupLaws::not_below, crate::proofs::LookupLaws::is_below))]
+#[inline(always)]
 fn is_lesser<T: Below, C: Counting<T>>(other: &T, counting: &C, item: &T) -> bool
     ensures { result ≡ (C.counts counting.now other.now item.now && T.below other.now item.now) }
 {

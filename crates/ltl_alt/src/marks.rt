@@ -33,6 +33,7 @@ fn is_kept_up(place: usize, own: &[Pair], pair: &Pair) -> bool
 }
 
 /// Whether the pair does not put the until row of that number off.
+#[inline(always)]
 fn is_marked<A: Allocator>(
     table: &Table<'_, A>,
     own: &[PairSet<'_, A>],

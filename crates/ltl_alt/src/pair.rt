@@ -76,6 +76,7 @@ impl Pair {
     }
 
     /// What both ask for.
+    #[inline(always)]
     pub(crate) fn common(&self, other: &Pair) -> Pair
         ensures { result ≡ common_pair self.now other.now }
     {
@@ -86,6 +87,7 @@ impl Pair {
     }
 
     /// Whether this pair asks for no more than the other one.
+    #[inline(always)]
     pub(crate) fn is_within(&self, other: &Pair) -> bool
         ensures { result ≡ is_within self.now other.now }
     {
@@ -101,11 +103,13 @@ impl Pair {
     }
 
     /// How many literals and rows it asks for.
+    #[inline(always)]
     pub(crate) fn size(&self) -> usize {
         self.cube.iter().count() + self.targets.iter().count()
     }
 
     /// By the literals, then by the targets, each compared as a sorted list.
+    #[inline(always)]
     pub fn cmp_list(&self, other: &Pair) -> Ordering
         ensures { result ≡ pair_cmp self.now other.now }
     {
@@ -140,6 +144,7 @@ impl PartialEq for Pair {
 
     ghost laws = { partial_equiv_from_equiv (eq_by_cmp_equiv pair_linear.total) };
 
+    #[inline(always)]
     fn eq(&self, other: &Pair) -> bool {
         self.cmp_list(other).is_eq()
     }
@@ -159,6 +164,7 @@ impl Hash for Pair {
 
     ghost respects_eq = { hash_of_same };
 
+    #[inline(always)]
     fn hash<H: Hasher>(&self, state: &mut H) {
         self.cube.hash(state);
         self.targets.hash(state);

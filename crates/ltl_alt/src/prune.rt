@@ -50,10 +50,12 @@ impl Below for Measured {
 
     ghost below = { asks_less };
 
+    #[inline(always)]
     fn is_below(&self, other: &Measured) -> bool {
         self.pair.is_within(&other.pair)
     }
 
+    #[inline(always)]
     fn common(&self, other: &Measured) -> Measured {
         Measured {
             size: 0,
@@ -80,6 +82,7 @@ impl<'b, 'a, A: Allocator> Counting<Measured> for Pruning<'b, 'a, A> {
 
     ghost counts = { λ p m n. is_spare p.rule p.own.now m n };
 
+    #[inline(always)]
     fn counts(&self, other: &Measured, item: &Measured) -> bool {
         other.size < item.size && self.may_drop(&item.pair, &other.pair)
     }

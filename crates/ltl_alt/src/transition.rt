@@ -70,6 +70,7 @@ impl Transition {
     }
 
     /// By the literals, then by the targets, each compared as a sorted list.
+    #[inline(always)]
     pub(crate) fn cmp_list(&self, other: &Transition) -> Ordering
         ensures { result ≡ transition_cmp self.now other.now }
     {
@@ -80,6 +81,7 @@ impl Transition {
     }
 
     /// How many literals and rows it asks for.
+    #[inline(always)]
     pub(crate) fn weight(&self) -> usize
         ensures { result ≡ length self.now.cube + length self.now.targets }
     {

@@ -82,6 +82,7 @@ impl<'a, K: Eq + Hash + Drop, A: Allocator> Distinct<'a, K, A> {
     }
 
     /// The number of a thing, the next one where it isn't there.
+    #[inline(always)]
     pub fn number(&mut self, thing: K) -> Result<usize, AllocError>
         ensures keys { OnOk result (self.new.keys ≡ with_new K.eq self.old.keys thing) }
         ensures index { IfOk result (λ i. i ≡ place_of K.eq thing self.old.keys) }

@@ -20,6 +20,7 @@ pub(crate) type Links<'a, A> = SmallVec<usize, 4, &'a A>;
 pub(crate) type Heads<'a, A> = SmallVec<usize, 8, &'a A>;
 
 /// That place, unless no edge before the given one with its target stands there.
+#[inline(always)]
 fn checked(edges: &[Edge], last: usize, place: usize) -> usize
     requires place { place < length edges.now }
     requires same { (k : ℕ) → k < place → target_at edges.now k ≡ target_at edges.now place → IsLatest edges.now place k last }
@@ -57,6 +58,7 @@ pub(crate) fn linked<'a, A: Allocator>(
 }
 
 /// Whether the first edge has the target of the second, asks for no more, and is in each set that the second is in.
+#[inline(always)]
 fn implies(other: &Edge, edge: &Edge) -> bool
     ensures { result ≡ merging.implies_edge (edge_of other.now) (edge_of edge.now) }
 {
@@ -66,6 +68,7 @@ fn implies(other: &Edge, edge: &Edge) -> bool
 }
 
 /// Whether the first edge is another one than the second and implies it.
+#[inline(always)]
 fn implies_other(other: &Edge, edge: &Edge) -> bool
     ensures { result ≡ implied.implies_other (edge_of other.now) (edge_of edge.now) }
 {

@@ -105,6 +105,7 @@ pub(crate) struct CopyEdge {
 
 impl CopyEdge {
     /// By the literals, then by the state, then by the level.
+    #[inline(always)]
     pub(crate) fn cmp_list(&self, other: &CopyEdge) -> Ordering
         ensures { result ≡ levels_of.copy_edge_cmp (copy_edge_of self.now) (copy_edge_of other.now) }
     {
@@ -119,6 +120,7 @@ impl CopyEdge {
 }
 
 /// An edge of a copy on a level.
+#[inline(always)]
 pub(crate) fn copy_edge(sets: usize, edge: &GbaEdge, level: usize) -> CopyEdge
     ensures lifted { copy_edge_of result ≡ lifted_edge sets level (gba.edge_of edge.now) }
 {

@@ -135,6 +135,7 @@ fn ask_all<'a, A: Allocator>(alloc: &'a A, edges: &[Edge]) -> Result<AskedEdges<
 }
 
 /// How much an edge asks for: how many literals it has, and how many of as many sets as there may be it isn't in.
+#[inline(always)]
 fn weight(edge: &Edge) -> usize
     ensures { IsOfWeight result (edge_of edge.now) }
 {
