@@ -1,9 +1,11 @@
 -- Steps towards the transitions of a set of rows.
-use Rattle.std.specs.Prelude.{◌≡◌, ℕ, ◌+◌, Bool, List, length, slice_index_or}
+use Rattle.std.specs.Prelude.{◌≡◌, ℕ, ◌+◌, ◌≤◌, Bool, not, ◌&&◌, nat_lt, List, length, slice_index_or}
+use Rattle.std.specs.List.{list_any}
+use Rattle.std.specs.Ordering.{is_ne}
 use Rattle.ltl_spec.specs.Collections.Sets.{Has}
 use Rattle.ltl_spec.specs.NormalForms.Normal.{Bottom}
 use Rattle.ltl_spec.specs.Transitions.Pairs.{Pair}
-use Rattle.ltl_spec.specs.Transitions.RowTransitions.{Table, table_of, is_marked, Transition, HasSets}
+use Rattle.ltl_spec.specs.Transitions.RowTransitions.{Table, table_of, is_marked, Transition, HasSets, implies, transition_cmp}
 use Rattle.ltl_formula.specs.TableView.{TableView, core_of}
 
 -- the elementary rows and the until rows of a table's formula
@@ -21,6 +23,18 @@ AllSets ts = (t : Transition) → Has ts t → HasSets t
 -- how many literals and rows a transition asks for
 abbrev pub weight : Transition → ℕ
 weight t = length t.cube + length t.targets
+
+-- none asks for more
+abbrev pub AreUpTo : ℕ → List Transition → Type 0
+AreUpTo most ts = (t : Transition) → Has ts t → weight t ≤ most
+
+-- it asks for no fewer
+abbrev pub is_heavy : ℕ → Transition → Bool
+is_heavy most t = not (nat_lt (weight t) most)
+
+-- another one of these implies t
+abbrev pub is_implied : List Transition → Transition → Bool
+is_implied us t = list_any (λ u. is_ne (transition_cmp u t) && implies u t) us
 
 -- all ask for as many
 abbrev pub AreOfWeight : List Transition → Type 0
