@@ -17,13 +17,6 @@ use Rattle.ltl_formula.specs.LinksView.{AreLinked, key_of, key_at, last_of, rows
 same_or_not : (m n : ℕ) → (m ≡ n) ⊎ (m ≢ n)
 same_or_not m n = cases_eq m n
 
--- one more place for which nothing stands changes nothing
-pub room_same : (xs : List ℕ) (k : ℕ) → last_of (xs ++ 0 ∷ []) k ≡ last_of xs k
-room_same [] zero = refl
-room_same [] (suc k) = refl
-room_same (x ∷ xs) zero = refl
-room_same (x ∷ xs) (suc k) = room_same xs k
-
 -- links stay right where the same stands for each key
 pub linked_same : (ss : List Slot) (xs ys : List ℕ) → ((k : ℕ) → last_of ys k ≡ last_of xs k) → AreLinked ss xs → AreLinked ss ys
 linked_same ss xs ys same a = record {
@@ -134,11 +127,6 @@ module _ (ss : List Slot) (ys : List ℕ) (a : AreLinked ss ys) (v : Row) where
 pub not_false : (b : Bool) → not b ≡ false → b ≡ true
 not_false true e = refl
 not_false false e = false_is_true (sym e)
-
--- the nodes with one more
-pub rows_put : (ss : List Slot) (s : Slot) → rows_of (ss ++ s ∷ []) ≡ rows_of ss ++ s.node ∷ []
-rows_put [] s = refl
-rows_put (t ∷ ss) s = ap (λ l. t.node ∷ l) (rows_put ss s)
 
 -- a node that stands at no number isn't there
 pub not_there : (ss : List Slot) (v : Row) → ((k : ℕ) → k < length ss → ¬ ((slot_at ss k).node ≡ v)) → ¬ Has (map node_of (rows_of ss)) (node_of v)

@@ -1,23 +1,23 @@
 -- Nodes with links, by which a node is found again: those with the same key are linked, the last first.
-use Rattle.std.specs.Prelude.{◌≡◌, ◌+◌, ◌^◌, ◌%◌, ◌<◌, ℕ, suc, List, map, max, length, slice_index_or}
+use Rattle.std.specs.Prelude.{◌≡◌, ◌+◌, ◌^◌, ◌%◌, ◌<◌, ℕ, suc, List, map, max, min, length, slice_index_or}
 use Rattle.ltl_formula.specs.declared.row.Row.{Row}
 use Rattle.ltl_formula.specs.declared.row.Row.TheVariants as row
 use Rattle.ltl_formula.specs.declared.links.Slot.{Slot}
 
--- the key of an operator over operands of which this is the larger one
-abbrev pub key_above : ℕ → ℕ
-key_above i = (i + 256) % 2 ^ 64
+-- the key of an operator over two operands, from the larger and the smaller one
+abbrev pub key_above : ℕ → ℕ → ℕ
+key_above i j = ((i + j % 61) % 2 ^ 64 + 256) % 2 ^ 64
 
--- the key of a node: its proposition, or one that the larger of its operands gives
+-- the key of a node: its proposition, or one that its operands give
 abbrev pub key_of : Row → ℕ
 key_of row.True = 0
 key_of row.False = 0
 key_of (row.Literal l) = l.proposition
-key_of (row.Next i) = key_above i
-key_of (row.And i j) = key_above (max i j)
-key_of (row.Or i j) = key_above (max i j)
-key_of (row.Until i j) = key_above (max i j)
-key_of (row.Release i j) = key_above (max i j)
+key_of (row.Next i) = key_above i 0
+key_of (row.And i j) = key_above (max i j) (min i j)
+key_of (row.Or i j) = key_above (max i j) (min i j)
+key_of (row.Until i j) = key_above (max i j) (min i j)
+key_of (row.Release i j) = key_above (max i j) (min i j)
 
 abbrev pub rows_of : List Slot → List Row
 rows_of ss = map (λ s. s.node) ss

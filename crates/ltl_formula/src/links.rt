@@ -14,23 +14,28 @@ pub(crate) struct Slot {
     pub(crate) before: usize,
 }
 
-/// The key of an operator above operands of which this is the larger one. Propositions have lower ones.
-fn key_above(operand: usize) -> usize
-    ensures { result ≡ key_above operand }
+/// The keys above one operand are so many, so that the nodes above it are told apart.
+const SPREAD: usize = 61;
+
+/// The key of an operator above two operands, from the larger and the smaller one. Propositions mostly have lower ones.
+fn key_above(larger: usize, smaller: usize) -> usize
+    ensures { result ≡ key_above larger smaller }
 {
-    operand.wrapping_add(PROPOSITION_LIMIT)
+    larger
+        .wrapping_add(smaller % SPREAD)
+        .wrapping_add(PROPOSITION_LIMIT)
 }
 
-/// The key of a node. Those with the same key are few: they have one proposition, or one larger operand.
+/// The key of a node. Few nodes have the same one.
 fn key_of(node: Row) -> usize
     ensures { result ≡ key_of node }
 {
     match node {
         Row::True | Row::False => 0,
         Row::Literal(literal) => literal.proposition,
-        Row::Next(i) => key_above(i),
+        Row::Next(i) => key_above(i, 0),
         Row::And(i, j) | Row::Or(i, j) | Row::Until(i, j) | Row::Release(i, j) => {
-            key_above(i.max(j))
+            key_above(i.max(j), i.min(j))
         }
     }
 }
