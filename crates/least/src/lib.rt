@@ -27,8 +27,6 @@ mod leaders;
 pub mod lookup;
 mod node;
 mod order;
-#[cfg(test)]
-mod tests;
 
 pub use below::Below;
 pub use counting::Counting;

@@ -7,7 +7,7 @@ use crate::digest::{
     Digest, of_ba, of_formula, of_gba, of_gen, of_marked, of_pairs, of_table, of_verdict, of_walk,
     of_word,
 };
-use crate::inputs::Case;
+use crate::inputs::{CASES, Case};
 use crate::streams::Given;
 use ltl_alt::{AltFault, Gba, pairs};
 use ltl_buchi::{Ba, BaFault, Options, generalized, levels, merge, merge_ba, renumber, translate};
@@ -349,7 +349,7 @@ fn all_of<'a, B: Allocator>(
 }
 
 /// What came of refusing each growth of a case.
-pub fn told(memory: Global, case: &Case<'_>) -> &'static str {
+fn told(memory: Global, case: &Case<'_>) -> &'static str {
     let calm = Refusing::new(memory, u64::MAX);
     let Some(wanted) = all_of(&calm, &calm, case) else {
         return "a call fails with memory";
@@ -370,4 +370,16 @@ pub fn told(memory: Global, case: &Case<'_>) -> &'static str {
         }
     }
     "more growths than were refused"
+}
+
+#[test]
+fn each_growth_of_the_calls(rt: HostRuntime) {
+    for case in CASES {
+        let (formula, told) = (case.formula, told(rt.alloc(), &case));
+        assert_eq!(rt;
+            told,
+            "each growth refused, each call made again",
+            "{formula}"
+        );
+    }
 }

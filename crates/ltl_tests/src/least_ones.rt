@@ -1,8 +1,8 @@
-//! Sets of numbers below 64 as items.
+//! Least ones of many, over sets of numbers below 64.
 
 ghost use Rattle.std.specs.Prelude.{◌≡◌, bit_and};
 
-use crate::{Below, Counting, least};
+use least::{Below, Counting, least};
 use std::alloc::{AllocError, Global};
 use std::test::Fail;
 
@@ -26,7 +26,7 @@ impl Clone for Bits {
 impl Copy for Bits {}
 
 impl Below for Bits {
-    ghost use Rattle.least.specs.Bits.{is_within, within_transitive};
+    ghost use Rattle.ltl_tests.specs.Bits.{is_within, within_transitive};
 
     ghost below = { λ a b. is_within a.bits b.bits };
 

@@ -1,6 +1,6 @@
 //! The programs, with each growth refused and each stream cut at each place.
 
-use crate::inputs::{LOOP, Run};
+use crate::inputs::{LOOP, RUNS, Run};
 use crate::streams::{Failing, Given, Taken};
 use ltl_cli::{Source, Tool, plan, run_check, run_eval, run_translate};
 use refusing::Refusing;
@@ -93,7 +93,7 @@ fn refused(
 }
 
 /// What came of refusing each growth of a run.
-pub fn told(memory: Global, run: &Run<'_>) -> &'static str {
+fn told(memory: Global, run: &Run<'_>) -> &'static str {
     let mut wanted = Taken::new();
     let status = calm(memory, run, &mut wanted, &mut Taken::new());
     for n in 1..MOST_GROWTHS {
@@ -133,7 +133,7 @@ fn unflushed(memory: Global, run: &Run<'_>, wanted: &Taken) -> bool {
 }
 
 /// What came of writers that fail.
-pub fn told_of_output(memory: Global, run: &Run<'_>) -> &'static str {
+fn told_of_output(memory: Global, run: &Run<'_>) -> &'static str {
     let mut wanted = Taken::new();
     let status = calm(memory, run, &mut wanted, &mut Taken::new());
     if wanted.flushes() != 1 || wanted.is_late() {
@@ -189,7 +189,7 @@ fn unread(memory: Global, run: &Run<'_>, k: usize, way: Failing) -> bool {
 }
 
 /// What came of readers that fail, and of those that give few bytes a call.
-pub fn told_of_input(memory: Global, run: &Run<'_>) -> &'static str {
+fn told_of_input(memory: Global, run: &Run<'_>) -> &'static str {
     let mut wanted = Taken::new();
     let status = calm(memory, run, &mut wanted, &mut Taken::new());
     for size in SIZES {
@@ -208,4 +208,34 @@ pub fn told_of_input(memory: Global, run: &Run<'_>) -> &'static str {
         }
     }
     "cut at each place"
+}
+
+#[test]
+fn each_growth_of_the_programs(rt: HostRuntime) {
+    for run in RUNS {
+        let (name, told) = (run.name, told(rt.alloc(), &run));
+        let wanted = "each growth refused, and the run without one is as ever";
+        assert_eq!(rt; told, wanted, "{name}");
+    }
+}
+
+#[test]
+fn each_cut_of_the_output(rt: HostRuntime) {
+    for run in RUNS {
+        let (name, told) = (run.name, told_of_output(rt.alloc(), &run));
+        assert_eq!(rt; told, "cut at each place, and flushed once", "{name}");
+    }
+}
+
+#[test]
+fn each_cut_of_the_input(rt: HostRuntime) {
+    for run in RUNS {
+        let wanted = if run.input.is_empty() {
+            "none"
+        } else {
+            "cut at each place"
+        };
+        let (name, told) = (run.name, told_of_input(rt.alloc(), &run));
+        assert_eq!(rt; told, wanted, "{name}");
+    }
 }
