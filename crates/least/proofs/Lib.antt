@@ -1,2 +1,3 @@
+pub mod BitsLaws
 pub mod IndexLaws
 pub mod LookupLaws

@@ -164,15 +164,40 @@ fn generalized_of<B: Allocator>(alloc: &Memory<B>, table: &BuiltTable<'_, B>) ->
     Some(of_gen(&found))
 }
 
-/// What the automata of a table are.
+/// What an automaton is that is numbered anew.
+fn numbered_of<'a, B: Allocator>(alloc: &'a Memory<B>, ba: &Ba<'a, Memory<B>>) -> Option<Digest> {
+    let numbered = numbered(alloc, ba)?;
+    Some(of_ba(&numbered))
+}
+
+/// What is made of an automaton on levels is.
+fn made_of_levels<'a, B: Allocator>(
+    alloc: &'a Memory<B>,
+    ba: &Ba<'a, Memory<B>>,
+) -> Option<Digest> {
+    let merged = merged_again(alloc, ba)?;
+    Some(of_ba(&merged).with(numbered_of(alloc, &merged)?))
+}
+
+/// What is made of a merged automaton is.
+fn made_of_merged<'a, B: Allocator>(
+    alloc: &'a Memory<B>,
+    gba: &Gba<'a, Memory<B>>,
+) -> Option<Digest> {
+    let ba = copied(alloc, gba)?;
+    Some(of_ba(&ba).with(made_of_levels(alloc, &ba)?))
+}
+
+/// What is made of a generalized automaton is.
+fn made_of_gba<'a, B: Allocator>(alloc: &'a Memory<B>, gba: &Gba<'a, Memory<B>>) -> Option<Digest> {
+    let merged = merged(alloc, gba)?;
+    Some(of_gba(&merged).with(made_of_merged(alloc, &merged)?))
+}
+
+/// What the automata of a table are. Each is held by a function of its own, since what is dropped on which way out is dear to prove.
 fn automata<'a, B: Allocator>(alloc: &'a Memory<B>, table: &BuiltTable<'a, B>) -> Option<Digest> {
     let gba = reached(alloc, table)?;
-    let merged = merged(alloc, &gba)?;
-    let ba = copied(alloc, &merged)?;
-    let merged_ba = merged_again(alloc, &ba)?;
-    let numbered = numbered(alloc, &merged_ba)?;
-    let digest = of_gba(&gba).with(of_gba(&merged)).with(of_ba(&ba));
-    Some(digest.with(of_ba(&merged_ba)).with(of_ba(&numbered)))
+    Some(of_gba(&gba).with(made_of_gba(alloc, &gba)?))
 }
 
 /// What is made of a table is.
@@ -332,6 +357,22 @@ fn checks<'a, B: Allocator>(
     Some(digest.with(walked(alloc, &automaton, &ba, &formula)?))
 }
 
+/// What a table, and all that is made of it, is.
+fn made_of_formula<'a, B: Allocator>(
+    alloc: &'a Memory<B>,
+    formula: &Read<'a, B>,
+    negate: bool,
+) -> Option<Digest> {
+    let table = table(alloc, formula, negate)?;
+    made_of_table(alloc, &table)
+}
+
+/// What an automaton that is read is.
+fn automaton_of<B: Allocator>(alloc: &Memory<B>, text: &str) -> Option<Digest> {
+    let read = automaton(alloc, text)?;
+    Some(of_marked(&read))
+}
+
 /// What all that is made of a case is; none where a call answers otherwise than it has to. No growth of the calm memory is refused.
 fn all_of<'a, B: Allocator>(
     alloc: &'a Memory<B>,
@@ -339,12 +380,11 @@ fn all_of<'a, B: Allocator>(
     case: &Case<'_>,
 ) -> Option<Digest> {
     let formula = formula(alloc, case.formula)?;
-    let digest = of_formula(&formula).with(of_marked(&automaton(alloc, case.automaton)?));
-    let digest = digest.with(words(alloc, &formula, case.word)?);
-    let plain = table(alloc, &formula, false)?;
-    let digest = digest.with(made_of_table(alloc, &plain)?);
-    let negated = table(alloc, &formula, true)?;
-    let digest = digest.with(made_of_table(alloc, &negated)?);
+    let mut digest = of_formula(&formula).with(words(alloc, &formula, case.word)?);
+    for negate in [false, true] {
+        digest = digest.with(made_of_formula(alloc, &formula, negate)?);
+    }
+    digest = digest.with(automaton_of(alloc, case.automaton)?);
     Some(digest.with(checks(alloc, calm, case)?))
 }
 

@@ -3,7 +3,7 @@
 use ltl_hoa::{HoaFault, HoaFaultKind, Marked, MarkedEdge, hoa_read};
 use ltl_sets::{Cube, RowSet};
 use refusing::Refusing;
-use std::alloc::{AllocError, Allocator};
+use std::alloc::{AllocError, Allocator, Global};
 use std::fmt::InlineText;
 use std::io::{self, Read};
 use std::test::Fail;
@@ -492,15 +492,20 @@ fn in_pieces(rt: HostRuntime) {
     }
 }
 
+/// How a text is refused, and how much of it is left unread.
+fn refusal(alloc: Global, text: &str) -> (Option<HoaFault>, usize) {
+    let mut reader = given(text, 4_096);
+    let fault = hoa_read(&alloc, &mut reader).err();
+    (fault, reader.rest.len())
+}
+
 #[test]
 fn refused(rt: HostRuntime) {
-    let alloc = rt.alloc();
     for i in 0..REFUSED.len() {
         let (text, line, kind) = REFUSED[i];
-        let mut reader = given(text, 4_096);
-        let read = hoa_read(&alloc, &mut reader);
-        assert_eq!(rt; read.err(), Some(HoaFault::AtLine(line, kind)), "{text}");
-        assert!(rt; reader.rest.is_empty());
+        let (fault, left) = refusal(rt.alloc(), text);
+        assert_eq!(rt; fault, Some(HoaFault::AtLine(line, kind)), "{text}");
+        assert_eq!(rt; left, 0);
     }
 }
 

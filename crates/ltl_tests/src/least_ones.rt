@@ -26,7 +26,7 @@ impl Clone for Bits {
 impl Copy for Bits {}
 
 impl Below for Bits {
-    ghost use Rattle.ltl_tests.specs.Bits.{is_within, within_transitive};
+    ghost use Rattle.least.specs.Bits.{is_within, within_transitive};
 
     ghost below = { λ a b. is_within a.bits b.bits };
 
@@ -34,7 +34,7 @@ impl Below for Bits {
         self.bits | other.bits == other.bits
     }
 
-    #[tactic(auto, using(crate::proofs::BitsLaws::and_first, crate::proofs::BitsLaws::and_second))]
+    #[tactic(auto, using(least::proofs::BitsLaws::and_first, least::proofs::BitsLaws::and_second))]
     fn common(&self, other: &Bits) -> Bits {
         Bits {
             bits: self.bits & other.bits,
