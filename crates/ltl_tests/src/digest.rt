@@ -13,7 +13,7 @@ use std::io::Write;
 
 /// A number of what was taken, in its order.
 #[derive(Clone, Copy, PartialEq, Eq)]
-pub struct Digest {
+pub(crate) struct Digest {
     sum: u64,
 }
 
@@ -31,17 +31,17 @@ impl Write for Digest {
 }
 
 impl Digest {
-    pub fn new() -> Digest {
+    pub(crate) fn new() -> Digest {
         Digest {
             sum: 0xcbf2_9ce4_8422_2325,
         }
     }
 
-    pub fn take(&mut self, number: usize) {
+    pub(crate) fn take(&mut self, number: usize) {
         self.sum = (self.sum ^ number as u64).wrapping_mul(0x0100_0000_01b3);
     }
 
-    pub fn with(mut self, other: Digest) -> Digest {
+    pub(crate) fn with(mut self, other: Digest) -> Digest {
         self.take(other.sum as usize);
         self
     }
@@ -97,7 +97,7 @@ impl Digest {
     }
 }
 
-pub fn of_formula<A: Allocator>(formula: &Formula<'_, A>) -> Digest {
+pub(crate) fn of_formula<A: Allocator>(formula: &Formula<'_, A>) -> Digest {
     let mut digest = Digest::new();
     let written = text_to(formula, &mut digest).is_ok();
     digest.take(written as usize);
@@ -106,7 +106,7 @@ pub fn of_formula<A: Allocator>(formula: &Formula<'_, A>) -> Digest {
     digest
 }
 
-pub fn of_table<A: Allocator>(table: &Table<'_, A>) -> Digest {
+pub(crate) fn of_table<A: Allocator>(table: &Table<'_, A>) -> Digest {
     let mut digest = Digest::new();
     for i in 0..table.len() {
         digest.row(table.row(i));
@@ -121,7 +121,7 @@ pub fn of_table<A: Allocator>(table: &Table<'_, A>) -> Digest {
     digest
 }
 
-pub fn of_pairs<A: Allocator>(pairs: &PairSet<'_, A>) -> Digest {
+pub(crate) fn of_pairs<A: Allocator>(pairs: &PairSet<'_, A>) -> Digest {
     let mut digest = Digest::new();
     for pair in pairs.as_slice() {
         digest.cube(&pair.cube);
@@ -130,7 +130,7 @@ pub fn of_pairs<A: Allocator>(pairs: &PairSet<'_, A>) -> Digest {
     digest
 }
 
-pub fn of_gba<A: Allocator>(automaton: &Gba<'_, A>) -> Digest {
+pub(crate) fn of_gba<A: Allocator>(automaton: &Gba<'_, A>) -> Digest {
     let mut digest = Digest::new();
     digest.take(automaton.sets());
     for i in 0..automaton.len() {
@@ -139,7 +139,7 @@ pub fn of_gba<A: Allocator>(automaton: &Gba<'_, A>) -> Digest {
     digest
 }
 
-pub fn of_gen<A: Allocator>(automaton: &Gen<'_, A>) -> Digest {
+pub(crate) fn of_gen<A: Allocator>(automaton: &Gen<'_, A>) -> Digest {
     let mut digest = Digest::new();
     digest.take(automaton.sets());
     for i in 0..automaton.len() {
@@ -148,7 +148,7 @@ pub fn of_gen<A: Allocator>(automaton: &Gen<'_, A>) -> Digest {
     digest
 }
 
-pub fn of_ba<A: Allocator>(automaton: &Ba<'_, A>) -> Digest {
+pub(crate) fn of_ba<A: Allocator>(automaton: &Ba<'_, A>) -> Digest {
     let mut digest = Digest::new();
     for i in 0..automaton.len() {
         digest.take(automaton.accepting(i) as usize);
@@ -161,7 +161,7 @@ pub fn of_ba<A: Allocator>(automaton: &Ba<'_, A>) -> Digest {
     digest
 }
 
-pub fn of_marked<A: Allocator>(automaton: &Marked<'_, A>) -> Digest {
+pub(crate) fn of_marked<A: Allocator>(automaton: &Marked<'_, A>) -> Digest {
     let mut digest = Digest::new();
     digest.take(automaton.start());
     digest.take(automaton.sets());
@@ -182,14 +182,14 @@ pub fn of_marked<A: Allocator>(automaton: &Marked<'_, A>) -> Digest {
     digest
 }
 
-pub fn of_word<A: Allocator>(word: &Lasso<'_, A>) -> Digest {
+pub(crate) fn of_word<A: Allocator>(word: &Lasso<'_, A>) -> Digest {
     let mut digest = Digest::new();
     let written = word.text_to(&mut digest).is_ok();
     digest.take(written as usize);
     digest
 }
 
-pub fn of_verdict<A: Allocator>(verdict: &Verdict<'_, A>) -> Digest {
+pub(crate) fn of_verdict<A: Allocator>(verdict: &Verdict<'_, A>) -> Digest {
     let mut digest = match verdict.outcome() {
         Outcome::Contained => Digest::new(),
         Outcome::Violated(word) => of_word(word),
@@ -198,7 +198,7 @@ pub fn of_verdict<A: Allocator>(verdict: &Verdict<'_, A>) -> Digest {
     digest
 }
 
-pub fn of_walk<A: Allocator>(walk: &Option<Walk<'_, A>>) -> Digest {
+pub(crate) fn of_walk<A: Allocator>(walk: &Option<Walk<'_, A>>) -> Digest {
     let mut digest = Digest::new();
     if let Some(walk) = walk {
         digest.steps(&walk.way);

@@ -4,31 +4,31 @@ use ltl_cli::Tool;
 
 /// A formula, a word and an automaton, for the calls of the libraries.
 #[derive(Clone, Copy, Drop)]
-pub struct Case<'a> {
-    pub formula: &'a str,
-    pub word: &'a str,
-    pub automaton: &'a str,
+pub(crate) struct Case<'a> {
+    pub(crate) formula: &'a str,
+    pub(crate) word: &'a str,
+    pub(crate) automaton: &'a str,
 }
 
 /// The words of a program, and what its formula file or, without one, its automaton holds.
 #[derive(Clone, Copy, Drop)]
-pub struct Run<'a> {
-    pub name: &'a str,
-    pub tool: Tool,
-    pub words: &'a [&'a str],
-    pub input: &'a str,
+pub(crate) struct Run<'a> {
+    pub(crate) name: &'a str,
+    pub(crate) tool: Tool,
+    pub(crate) words: &'a [&'a str],
+    pub(crate) input: &'a str,
 }
 
-pub const LOOP: &str =
+pub(crate) const LOOP: &str =
     "HOA: v1\nStates: 1\nStart: 0\nAP: 1 \"p\"\nAcceptance: 1 Inf(0)\n--BODY--\nState: 0 {0}\n[!0] 0\n--END--\n";
 
-pub const TURNS: &str =
+pub(crate) const TURNS: &str =
     "HOA: v1\nStates: 2\nStart: 0\nAP: 1 \"p\"\nAcceptance: 1 Inf(0)\n--BODY--\nState: 0 {0}\n[0] 1\nState: 1\n[!0] 0\n--END--\n";
 
 const LABELS: &str =
     "HOA: v1\nname: \"x\"\nStates: 2\nStart: 1\nAP: 6 \"a\" \"b\" \"c\" \"d\" \"e\" \"f\"\nAcceptance: 2 Inf(0)&Inf(1)\n--BODY--\nState: 1 {0}\n[(t|0)&(t|1)&(t|2)&(t|3)&!(4&5)&((t|0)&(t|1)&(t|2)&(t|3)&(t|4))] 0 {1}\nState: 0\n[((((!(0|((1))))))) | 2&3 | 2&3] 1\n--END--\n";
 
-pub const CASES: [Case<'static>; 6] = [
+pub(crate) const CASES: [Case<'static>; 6] = [
     Case {
         formula: "[]<>p",
         word: "{p}; cycle {}; {p}",
@@ -61,7 +61,7 @@ pub const CASES: [Case<'static>; 6] = [
     },
 ];
 
-pub const RUNS: [Run<'static>; 11] = [
+pub(crate) const RUNS: [Run<'static>; 11] = [
     Run {
         name: "claim",
         tool: Tool::Translator,

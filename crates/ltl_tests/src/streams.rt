@@ -7,7 +7,7 @@ use std::io::{Read, Write};
 
 /// What happens at the place where a stream fails.
 #[derive(Clone, Copy, PartialEq, Eq)]
-pub enum Failing {
+pub(crate) enum Failing {
     /// Each call fails.
     Always,
     /// The first call fails, and a later one would work.
@@ -22,7 +22,7 @@ fn fault() -> io::Error {
 
 /// Gives a text, at most so many bytes a call.
 #[derive(Drop)]
-pub struct Given<'t> {
+pub(crate) struct Given<'t> {
     rest: &'t [u8],
     size: usize,
     left: usize,
@@ -31,11 +31,11 @@ pub struct Given<'t> {
 }
 
 impl<'t> Given<'t> {
-    pub fn of(text: &'t str) -> Given<'t> {
+    pub(crate) fn of(text: &'t str) -> Given<'t> {
         Given::in_pieces(text, usize::MAX)
     }
 
-    pub fn in_pieces(text: &'t str, size: usize) -> Given<'t> {
+    pub(crate) fn in_pieces(text: &'t str, size: usize) -> Given<'t> {
         Given {
             rest: text.as_bytes(),
             size,
@@ -46,7 +46,7 @@ impl<'t> Given<'t> {
     }
 
     /// Fails behind so many bytes.
-    pub fn failing(text: &'t str, left: usize, way: Failing) -> Given<'t> {
+    pub(crate) fn failing(text: &'t str, left: usize, way: Failing) -> Given<'t> {
         Given {
             rest: text.as_bytes(),
             size: 7,
@@ -77,11 +77,11 @@ impl Read for Given<'_> {
 }
 
 /// The most bytes that a run of these writes.
-pub const MOST_BYTES: usize = 1_024;
+pub(crate) const MOST_BYTES: usize = 1_024;
 
 /// Holds what was written, up to a number of bytes.
 #[derive(Drop)]
-pub struct Taken {
+pub(crate) struct Taken {
     bytes: [u8; MOST_BYTES],
     len: usize,
     room: usize,
@@ -94,12 +94,12 @@ pub struct Taken {
 }
 
 impl Taken {
-    pub fn new() -> Taken {
+    pub(crate) fn new() -> Taken {
         Taken::with_room(MOST_BYTES, Failing::Always)
     }
 
     /// Fails behind so many bytes.
-    pub fn with_room(room: usize, way: Failing) -> Taken {
+    pub(crate) fn with_room(room: usize, way: Failing) -> Taken {
         Taken {
             bytes: [0; MOST_BYTES],
             len: 0,
@@ -113,22 +113,22 @@ impl Taken {
     }
 
     /// Takes each byte, and can't be flushed.
-    pub fn unflushed() -> Taken {
+    pub(crate) fn unflushed() -> Taken {
         let mut taken = Taken::new();
         taken.flush_fails = true;
         taken
     }
 
-    pub fn bytes(&self) -> &[u8] {
+    pub(crate) fn bytes(&self) -> &[u8] {
         &self.bytes[..self.len]
     }
 
-    pub fn flushes(&self) -> usize {
+    pub(crate) fn flushes(&self) -> usize {
         self.flushes
     }
 
     /// Whether something was written behind a failure or a flush, or flushed behind a failure.
-    pub fn is_late(&self) -> bool {
+    pub(crate) fn is_late(&self) -> bool {
         self.is_late
     }
 }
