@@ -10,6 +10,8 @@ use Rattle.std.proofs.lemmas.Nat.{and_mask, one_shl, shr-shr}
 use Rattle.std.proofs.lemmas.Bool.Decides.{nat_tests}
 use Rattle.std.proofs.lemmas.Nat.Bits.{bit_at-lt, bit_at_lowest, bit_at_or, bit_at_and, bit_at_xor, bit_at_not, bit_at-zero, bit_at_ones, bit_at-pow_same, bit_at-pow_other, bit_at_above}
 use Rattle.ltl_word.specs.Rows.{bit_of, IsRowFrom}
+use Rattle.ltl_formula.proofs.TreeLemmas.{push_at, push_before, push_length}
+use Rattle.ltl_spec.proofs.Collections.CaseLaws.{last_or_below}
 use Rattle.ltl_spec.proofs.Collections.CaseLaws.{nat_eq_same, nat_eq_other}
 use Rattle.ltl_sets.specs.WordLaws.{either_one, both_one, below_two}
 
@@ -114,6 +116,37 @@ pub any_default : {X : Type 0} (xs : List X) (i : ℕ) (d e : X) → i < length 
 any_default [] i d e l = absurd (omega arith)
 any_default (x ∷ xs) zero d e l = refl
 any_default (x ∷ xs) (suc i) d e l = let m : i < length xs = omega arith in any_default xs i d e m
+
+-- what holds of each of a list holds of each of one that is longer by one thing of which it holds
+pub each_pushed : {X : Type 0} (P : ℕ → X → Type 0) (xs ys : List X) (x d : X) → ys ≡ xs ++ x ∷ [] → ((k : ℕ) → k < length xs → P k (get_or xs k d)) → P (length xs) x → (k : ℕ) → k < length ys → P k (get_or ys k d)
+each_pushed P xs ys x d e old new k l =
+    elim (last_or_below k (length xs) (subst (λ n. k < n) (ap length e ∙ push_length xs x) l)) [
+      | inl b ↦ subst (λ zs. P k (get_or zs k d)) (sym e) (subst (P k) (sym (push_before xs x k d b)) (old k b))
+      | inr q ↦ subst (λ zs. P k (get_or zs k d)) (sym e) (subst (λ n. P n (get_or (xs ++ x ∷ []) n d)) (sym q) (subst (P (length xs)) (sym (push_at xs x d)) new))
+    ]
+
+-- the bit behind another one, in the same word or at the beginning of the next
+pub bit_behind : (words made : List ℕ) → length made ≡ length words
+    → ((k : ℕ) → k < length made → (j : ℕ) → j < 63 → one (slice_index made k) j ≡ one (slice_index words k) (j + 1))
+    → ((k : ℕ) → k < length made → k + 1 < length words → one (slice_index made k) 63 ≡ one (slice_index words (k + 1)) 0)
+    → (i : ℕ) → (i + 1) / 64 < length words → bit_of made i ≡ bit_of words (i + 1)
+bit_behind words made long before last i l =
+    elim (last_or_below (i % 64) 63 (omega arith)) [
+      | inl b ↦ before (i / 64) (omega (arith, l, long)) (i % 64) b ∙ (λ t. one (slice_index words (same_word i b t)) (next_place i b t))
+      | inr q ↦ ap (one (slice_index made (i / 64))) q ∙ last (i / 64) (omega (arith, l, long)) (omega (arith, l, q)) ∙ (λ t. one (slice_index words (next_word i q t)) (first_place i q t))
+    ]
+  where
+    same_word : (i : ℕ) → i % 64 < 63 → i / 64 ≡ (i + 1) / 64
+    same_word i b = omega (arith, b)
+
+    next_place : (i : ℕ) → i % 64 < 63 → i % 64 + 1 ≡ (i + 1) % 64
+    next_place i b = omega (arith, b)
+
+    next_word : (i : ℕ) → i % 64 ≡ 63 → i / 64 + 1 ≡ (i + 1) / 64
+    next_word i q = omega (arith, q)
+
+    first_place : (i : ℕ) → i % 64 ≡ 63 → 0 ≡ (i + 1) % 64
+    first_place i q = omega (arith, q)
 
 -- rows from a position on
 

@@ -4,11 +4,15 @@ use Rattle.std.specs.Prelude.{IsTrue, Some, None, slice_index_or}
 use Rattle.std.specs.Bool.{Decides}
 use Rattle.std.proofs.lemmas.Bool.{false≢true}
 use Rattle.ltl_spec.specs.Semantics.Word.{Name, Lasso, after_steps, is_true_at}
-use Rattle.ltl_spec.specs.Semantics.Satisfaction.{HoldsUntil, HoldsRelease, Satisfied}
+use Rattle.ltl_spec.specs.Semantics.Satisfaction.{HoldsUntil, HoldsRelease, Satisfied, Satisfies}
 use Rattle.ltl_spec.specs.Formulas.Formula as spec
 use Rattle.ltl_spec.proofs.Semantics.UntilLaws.{release_from_not_until, not_release_from_until}
 use Rattle.ltl_spec.proofs.Collections.CaseLaws.{false_is_true}
-use Rattle.ltl_word.specs.Rows.{bit_of, step_of, turned, left_at, right_at}
+use Rattle.ltl_word.specs.Rows.{bit_of, joined, step_of, turned, left_at, right_at}
+use Rattle.std.specs.Prelude.{◌&&◌, ◌||◌, not, ◌↔◌, ◌⊎◌, Result, Ok, Err, IfOk}
+use Rattle.std.specs.Bool.{beq}
+use Rattle.ltl_word.specs.declared.machine_word.Junction.{Junction}
+use Rattle.ltl_word.specs.declared.machine_word.Junction.TheVariants.{And, Or, Implies, Iff}
 use Rattle.std.proofs.Common.{◌∷◌, ◌++◌}
 use Rattle.std.specs.Prelude.{slice_get}
 use Rattle.std.proofs.lemmas.Option.{same_Some}
@@ -29,7 +33,48 @@ use Rattle.ltl_word.proofs.BackLaws.{after_within}
 same_bit : (s t : Bool) {P : Type 0} → s ≡ t → Decides t P → Decides s P
 same_bit s t e d = ((λ h. d.0 (sym e ∙ h)), λ p. e ∙ d.1 p)
 
+both_decided : (s t : Bool) {P Q : Type 0} → Decides s P → Decides t Q → Decides (s && t) (P × Q)
+both_decided true t d e = ((λ h. (d.0 refl, e.0 h)), λ p. e.1 p.1)
+both_decided false t d e = ((λ h. absurd (false≢true h)), λ p. d.1 p.0)
+
+one_decided : (s t : Bool) {P Q : Type 0} → Decides s P → Decides t Q → Decides (s || t) (P ⊎ Q)
+one_decided true t d e = ((λ h. inl (d.0 refl)), λ p. refl)
+one_decided false t d e = ((λ h. inr (e.0 h)), λ p. elim p [ inl x ↦ absurd (false≢true (d.1 x)) | inr y ↦ e.1 y ])
+
+implied_decided : (s t : Bool) {P Q : Type 0} → Decides s P → Decides t Q → Decides (not s || t) (P → Q)
+implied_decided true t d e = ((λ h p. e.0 h), λ f. e.1 (f (d.0 refl)))
+implied_decided false t d e = ((λ h p. absurd (false≢true (d.1 p))), λ f. refl)
+
+same_decided : (s t : Bool) {P Q : Type 0} → Decides s P → Decides t Q → Decides (beq s t) (P ↔ Q)
+same_decided true true d e = ((λ h. ((λ p. e.0 refl), λ q. d.0 refl)), λ f. refl)
+same_decided true false d e = ((λ h. absurd (false≢true h)), λ f. e.1 (f.0 (d.0 refl)))
+same_decided false true d e = ((λ h. absurd (false≢true h)), λ f. d.1 (f.1 (e.0 refl)))
+same_decided false false d e = ((λ h. ((λ p. absurd (false≢true (d.1 p))), λ q. absurd (false≢true (e.1 q)))), λ f. refl)
+
+abbrev pub operator_of : Junction → spec.BinaryOperator
+operator_of And = spec.And
+operator_of Or = spec.Or
+operator_of Implies = spec.Implies
+operator_of Iff = spec.Iff
+
 module _ (names : List Name) (w : Lasso) where
+  junction_decided : (op : Junction) (F G : spec.Formula) (s t : Bool) (i : ℕ) → Decides s (Satisfies names w i F) → Decides t (Satisfies names w i G)
+      → Decides (joined op s t) (Satisfies names w i (spec.Binary (operator_of op) F G))
+  junction_decided And F G s t i = both_decided s t
+  junction_decided Or F G s t i = one_decided s t
+  junction_decided Implies F G s t i = implied_decided s t
+  junction_decided Iff F G s t i = same_decided s t
+
+  -- the row of a junction of two rows
+  junction_row : (op : Junction) (F G : spec.Formula) (a b bits : List ℕ) → length bits ≡ length a → ((i : ℕ) → i / 64 < length a → bit_of bits i ≡ joined op (bit_of a i) (bit_of b i))
+      → IsRowOf names w F a → IsRowOf names w G b → IsRowOf names w (spec.Binary (operator_of op) F G) bits
+  junction_row op F G a b bits long each r q =
+      let enough = r.long in
+      record {
+        long = long ∙ enough;
+        decides = λ i l. same_bit (bit_of bits i) _ (each i (omega (arith, l, enough))) (junction_decided op F G (bit_of a i) (bit_of b i) i (r.decides i l) (q.decides i l));
+      }
+
   -- `U` and `V`
 
   module _ (stem : ℕ) (begins : length w.stem ≡ stem) (cycle : stem < size w) where
@@ -113,6 +158,13 @@ module _ (names : List Name) (w : Lasso) where
     pub going_row_of : (release : Bool) (F G : spec.Formula) (a b bits : List ℕ) → IsRowOf names w F a → IsRowOf names w G b → IsUntilRow stem (size w) release (Some a) b bits → IsRowOf names w (spec.Binary (going_of release) F G) bits
     going_row_of true = release_row_of
     going_row_of false = until_row_of
+
+-- what is made of two rows by a junction, unless it fails
+pub junction_rows : (op : Junction) (w : Lasso) (a b : List ℕ) {E : Type 0} (made : Result (List ℕ) E) → IfOk made (λ bits. length bits ≡ length a)
+    → IfOk made (λ bits. (i : ℕ) → i / 64 < length a → bit_of bits i ≡ joined op (bit_of a i) (bit_of b i))
+    → IfOk made (λ bits. (names : List Name) (F G : spec.Formula) → IsRowOf names w F a → IsRowOf names w G b → IsRowOf names w (spec.Binary (operator_of op) F G) bits)
+junction_rows op w a b (Ok bits) long each = λ names F G. junction_row names w op F G a b bits long each
+junction_rows op w a b (Err e) long each = tt
 
 -- the rows of nodes
 
