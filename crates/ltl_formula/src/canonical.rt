@@ -74,8 +74,7 @@ fn visit<A: Allocator>(
         Node::Proposition(number) => text.extend_from_slice(names[number].as_bytes()),
         Node::Unary(operator, operand) => {
             text.extend_from_slice(unary_text(operator))?;
-            stack.push(Task::Visit(operand))?;
-            Ok(())
+            stack.extend_from_slice(&[Task::Visit(operand)])
         }
         Node::Binary(operator, left, right) => {
             text.push(b'(')?;
@@ -109,10 +108,7 @@ fn step<A: Allocator>(
 {
     match work {
         Task::Middle(operator) => text.extend_from_slice(binary_text(operator)),
-        Task::Close => {
-            text.push(b')')?;
-            Ok(())
-        }
+        Task::Close => text.extend_from_slice(b")"),
         Task::Visit(i) => visit(nodes, names, i, text, stack),
     }
 }
