@@ -38,11 +38,8 @@ module _ (nodes : List Node) (shared : IsShared nodes) (task : Task) (stack : Li
   graph : IsGraph (tree_at nodes) parts (length nodes)
   graph = shared_graph nodes shared
 
-  pub enter_inside : (k : ℕ) → task ≡ Enter k → k < length nodes
+  enter_inside : (k : ℕ) → task ≡ Enter k → k < length nodes
   enter_inside k e = subst (λ t. task_number (task_of t) < length nodes) e inside
-
-  pub leave_inside : (k : ℕ) → task ≡ Leave k → k < length nodes
-  leave_inside k e = subst (λ t. task_number (task_of t) < length nodes) e inside
 
   module _ (flags : List Bool) (long : length flags ≡ length nodes) (are : AreFlags flags listed) (k : ℕ) (e : task ≡ Enter k) where
     short : k < length flags

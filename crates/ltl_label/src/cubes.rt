@@ -27,7 +27,7 @@ const MOST_INSERTED: usize = 8;
 pub(crate) fn make_distinct<A: Allocator>(cubes: &mut CubeList<'_, A>)
     ensures { cubes.new.items ≡ spec_sets.set_of spec_cubes.cube_cmp cubes.old.items }
 {
-    cubes.sort_unstable_by(|c, d| c.cmp_list(d));
+    cubes.sort_unstable_by(Cube::cmp_list);
     cubes.dedup();
 }
 
