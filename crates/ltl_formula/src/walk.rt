@@ -100,10 +100,9 @@ pub fn row_numbers<'a, A: Allocator>(
     ensures too_many { IsErrOf result BuildFault.TooManyRows → ROW_LIMIT < length (rows (tree_at graph.now.nodes root)) }
     ensures other { ¬ (IsErrOf result BuildFault.TooManyElementaryRows) }
 {
-    let mut listed: Numbers<'a, A> = SmallVec::new(alloc);
+    let mut stack: Tasks<'a, A> = SmallVec::from_slice(alloc, &[Task::Enter(root)])?;
     let mut flags: Flags<'a, A> = SmallVec::from_elem(alloc, false, graph.len())?;
-    let mut stack: Tasks<'a, A> = SmallVec::new(alloc);
-    stack.push(Task::Enter(root))?;
+    let mut listed: Numbers<'a, A> = SmallVec::new(alloc);
     'work: while let Some(task) = stack.pop() {
         step(graph, task, &mut flags, &mut listed, &mut stack)?;
         if listed.len() > ROW_LIMIT {

@@ -257,9 +257,9 @@ pub(crate) fn join<'a, A: Allocator>(
 ) -> Result<Cubes<'a, A>, AllocError>
     ensures { IfOk result (λ r. option_map (λ v. v.items) r ≡ few (joined_cubes left.entry.items right.entry.items)) }
 {
-    let mut joined = SmallVec::new(alloc);
     let mut waiting = Vec::new(alloc);
     waiting.push(Sides { left, right })?;
+    let mut joined = SmallVec::new(alloc);
     let mut partings = MOST_PARTINGS;
     'sides: while let Some(sides) = waiting.pop() {
         match parting_literals(sides.left.as_slice(), sides.right.as_slice()) {
