@@ -123,8 +123,7 @@ pub(crate) fn canonical<'a, A: Allocator>(
     requires ordered { HasOperands (length names.now) nodes.now }
     ensures { IfOk result (λ text. text.items ≡ spec.formula_text (map string_bytes names.now) (whole_tree nodes.now)) }
 {
-    let mut stack: Tasks<'a, A> =
-        SmallVec::from_slice(alloc, &[Task::Visit(nodes.len() - 1)])?;
+    let mut stack: Tasks<'a, A> = SmallVec::from_slice(alloc, &[Task::Visit(nodes.len() - 1)])?;
     // Most texts have no more than eight bytes for each node.
     let mut text = Vec::with_capacity(alloc, nodes.len().saturating_mul(8))?;
     'work: while let Some(work) = stack.pop() {
