@@ -1,7 +1,7 @@
 -- Nodes with links, over plain variables.
 use Rattle.std.proofs.Common.{◌≡◌, ◌≢◌, ℕ, ◌<◌, ◌+◌, ◌-◌, List, [], ◌∷◌, ◌++◌, map, not, Bool, true, false, zero, length, refl, sym, ◌∙◌, ap, subst, arith, suc, inl, inr, length-append, ◌⊎◌}
 use Rattle.std.proofs.lemmas.Bool.{cases_eq}
-use Rattle.std.specs.Prelude.{slice_set}
+use Rattle.std.specs.Prelude.{slice_set, Result, Ok, Err, IfOk, OnOk, OnErr}
 use Rattle.std.proofs.lemmas.List.{get_or_append_left, get_or-set_same, get_or-set_other}
 use Rattle.ltl_spec.specs.Collections.Sets.{Has}
 use Rattle.ltl_spec.proofs.Collections.CaseLaws.{false_is_true, last_or_below}
@@ -214,3 +214,15 @@ module _ (ss : List Slot) (rewrite : Bool) (old : GraphView) (view : graph_of (r
               tree = ap (tree_at (inside ++ node_of v ∷ [])) (sym long) ∙ tree_new inside (node_of v);
             });
           })
+
+    -- or for which there may be no memory
+    module _ (none : (k : ℕ) → k < length ss → ¬ ((slot_at ss k).node ≡ v)) (new : List Slot) where
+      pub put_keeps : {E : Type 0} (r : Result ℕ E) → OnOk r (rows_of new ≡ rows_of ss ++ v ∷ []) → OnErr r (new ≡ ss) → HasConstants (map node_of (rows_of new)) 0 1
+      put_keeps (Ok k) grows stays = put_constants none (rows_of new) grows
+      put_keeps (Err e) grows stays = subst (λ (l : List Slot). HasConstants (map node_of (rows_of l)) 0 1) (sym stays) c
+
+      pub put_answers : {E : Type 0} (r : Result ℕ E) → OnOk r (rows_of new ≡ rows_of ss ++ v ∷ []) → IfOk r (λ k. k ≡ length ss)
+          → IfOk r (λ k. Makes old (graph_of (rows_of new) rewrite) k (tree_of (tree_at old.nodes) (node_of v)))
+      put_answers (Ok k) grows number =
+          subst (λ (j : ℕ). Makes old (graph_of (rows_of new) rewrite) j (tree_of (tree_at old.nodes) (node_of v))) (sym number) (put_makes none (rows_of new) grows)
+      put_answers (Err e) grows number = tt

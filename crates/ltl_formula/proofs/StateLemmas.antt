@@ -9,11 +9,9 @@ use Rattle.ltl_spec.proofs.Formulas.BeginningLaws.{After, brackets, outline, out
 use Rattle.ltl_spec.proofs.Formulas.FaultLaws.{kind_at, kind_before}
 use Rattle.ltl_spec.specs.Formulas.Fault as fault
 use Rattle.ltl_spec.proofs.Formulas.ReaderLaws.{with_name}
-use Rattle.ltl_spec.specs.Collections.Lists.{place_of, with_new}
 use Rattle.std.specs.List.{list_any}
 use Rattle.ltl_formula.specs.declared.token.TokenKind.{TokenKind}
 use Rattle.ltl_formula.specs.declared.token.TokenKind.TheVariants as kinds
-use Rattle.ltl_formula.specs.declared.operators.Node.TheVariants as nodes
 use Rattle.ltl_formula.specs.TokenView.{token_of}
 use Rattle.ltl_formula.specs.declared.operators.Node.{Node}
 use Rattle.ltl_formula.specs.declared.operators.BinaryOperator.{BinaryOperator}
@@ -109,10 +107,6 @@ zero_from_test n e = grind (arith, nat_tests, e)
 -- a reader that has an operand
 pub having : (now : ParserView) → now.has_operand ≡ true → reader_of now ≡ machine.Having (whole_tree now.nodes) (frames_of (trees now.nodes) now.frames)
 having now h = ap (λ b. cond b (machine.Having (whole_tree now.nodes) (frames_of (trees now.nodes) now.frames)) (machine.Wanting (frames_of (trees now.nodes) now.frames))) h
-
--- and one that wants one
-pub wanting : (now : ParserView) → now.has_operand ≡ false → reader_of now ≡ machine.Wanting (frames_of (trees now.nodes) now.frames)
-wanting now h = ap (λ b. cond b (machine.Having (whole_tree now.nodes) (frames_of (trees now.nodes) now.frames)) (machine.Wanting (frames_of (trees now.nodes) now.frames))) h
 
 -- what closing does to the reader
 module _ (now : ParserView) (ns ns1 : List Node) (fs fs1 : List Frame) (names : List Name) (has : Bool) (most : ℕ) (v : record { nodes = ns; frames = fs; names = names; has_operand = has } ≡ now)
@@ -279,37 +273,6 @@ expects_no_close now h e =
     by : (n : ℕ) → None ≡ walk_step (After n) tokens.Close → fault.ExpectedOperatorOrEnd ≡ kind_before (After n)
     by zero w = refl
     by (suc n) w = cc
-
--- ---- tokens that are taken
-
--- a constant is an operand
-pub takes_constant : (old new : ParserView) (word : Name) (kind : TokenKind) (b : Bool) → old.has_operand ≡ false → kind ≡ kinds.Constant b
-    → new ≡ record old { nodes = old.nodes ++ nodes.Constant b ∷ []; has_operand = true }
-    → reader_of new ≡ machine.Having (tree_of (trees old.nodes) (nodes.Constant b)) (frames_of (trees old.nodes) old.frames)
-    → (new.names ≡ with_name old.names (token_of word kind)) × (machine.read_step new.names (reader_of old) (token_of word kind) ≡ Some (reader_of new))
-takes_constant old new word kind b h k after reader =
-    let names : new.names ≡ old.names = ap (λ v. v.names) after in
-    let P : TokenKind → Type 0 = λ t. (new.names ≡ with_name old.names (token_of word t)) × (machine.read_step new.names (reader_of old) (token_of word t) ≡ Some (reader_of new)) in
-    subst P (sym k) (names, ap (λ r. machine.read_step new.names r (tokens.ConstantWord b)) (wanting old h) ∙ ap Some (sym reader))
-
--- a name is one
-pub takes_name : (old amid new : ParserView) (word : Name) (kind : TokenKind) (i : ℕ) → old.has_operand ≡ false → kind ≡ kinds.Name
-    → amid ≡ record old { names = with_new tokens.same_name old.names word } → i ≡ place_of tokens.same_name word amid.names
-    → new ≡ record amid { nodes = amid.nodes ++ nodes.Proposition i ∷ []; has_operand = true }
-    → reader_of new ≡ machine.Having (tree_of (trees amid.nodes) (nodes.Proposition i)) (frames_of (trees amid.nodes) amid.frames)
-    → (new.names ≡ with_name old.names (token_of word kind)) × (machine.read_step new.names (reader_of old) (token_of word kind) ≡ Some (reader_of new))
-takes_name old amid new word kind i h k before place after reader =
-    let same : new.names ≡ amid.names = ap (λ v. v.names) after in
-    let names : amid.names ≡ with_new tokens.same_name old.names word = ap (λ v. v.names) before in
-    let P : TokenKind → Type 0 = λ t. (new.names ≡ with_name old.names (token_of word t)) × (machine.read_step new.names (reader_of old) (token_of word t) ≡ Some (reader_of new)) in
-    let Proposed : ℕ → List machine.Frame → Option machine.Reader = λ j s. Some (machine.Having (spec.Proposition j) s) in
-    subst P (sym k) (
-      same ∙ names,
-      ap (λ r. machine.read_step new.names r (tokens.NameWord word)) (wanting old h)
-          ∙ ap (λ j. Proposed j (frames_of (trees old.nodes) old.frames)) (ap (place_of tokens.same_name word) same ∙ sym place)
-          ∙ ap (λ v. Proposed i (frames_of (trees v.nodes) v.frames)) (sym before)
-          ∙ ap Some (sym reader),
-    )
 
 -- a bracket that closes nothing is told
 pub refuses_close : (now : ParserView) (kind : TokenKind) (start : ℕ) (b : Bool) (r : machine.Reader) → now.has_operand ≡ true → kind ≡ kinds.Close → b ≡ false

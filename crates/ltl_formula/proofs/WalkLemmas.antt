@@ -1,5 +1,5 @@
 -- What the steps of the walk do, over plain variables.
-use Rattle.std.proofs.Common.{◌≡◌, ℕ, ◌<◌, ◌≤◌, Bool, true, false, ◌⊎◌, inl, inr, List, [], ◌∷◌, ◌++◌, map, length, refl, sym, ◌∙◌, ap, subst, arith, length-append}
+use Rattle.std.proofs.Common.{◌≡◌, ℕ, ◌<◌, ◌≤◌, Bool, true, false, ◌⊎◌, inl, inr, List, [], ◌∷◌, ◌++◌, map, length, refl, sym, ◌∙◌, ap, subst, arith, length-append, append_assoc}
 use Rattle.std.specs.Prelude.{All, slice_index_or, fold}
 use Rattle.std.specs.Bool.{Decides}
 use Rattle.std.specs.List.{list_any}
@@ -38,11 +38,8 @@ module _ (nodes : List Node) (shared : IsShared nodes) (task : Task) (stack : Li
   graph : IsGraph (tree_at nodes) parts (length nodes)
   graph = shared_graph nodes shared
 
-  pub enter_inside : (k : ℕ) → task ≡ Enter k → k < length nodes
+  enter_inside : (k : ℕ) → task ≡ Enter k → k < length nodes
   enter_inside k e = subst (λ t. task_number (task_of t) < length nodes) e inside
-
-  pub leave_inside : (k : ℕ) → task ≡ Leave k → k < length nodes
-  leave_inside k e = subst (λ t. task_number (task_of t) < length nodes) e inside
 
   module _ (flags : List Bool) (long : length flags ≡ length nodes) (are : AreFlags flags listed) (k : ℕ) (e : task ≡ Enter k) where
     short : k < length flags
@@ -65,18 +62,22 @@ module _ (nodes : List Node) (shared : IsShared nodes) (task : Task) (stack : Li
       listed_leaf (inr (inl h)) new_listed g = leaf row.False h refl new_listed g
       listed_leaf (inr (inr (l, h))) new_listed g = leaf (row.Literal l) h refl new_listed g
 
-      pub one_operand : (i : ℕ) → v ≡ row.Next i → (s1 s2 : List Task) → s1 ≡ stack ++ Leave k ∷ [] → s2 ≡ s1 ++ Enter i ∷ [] → Done s2 listed
-      one_operand i h s1 s2 e1 e2 = subst (λ t. IsTaskDone (tree_at nodes) (length nodes) (map task_of stack) (task_of t) listed (map task_of s2) listed) (sym e)
+      pub one_operand : (i : ℕ) → v ≡ row.Next i → (new_stack : List Task) → new_stack ≡ stack ++ Leave k ∷ Enter i ∷ [] → Done new_stack listed
+      one_operand i h new_stack g = subst (λ t. IsTaskDone (tree_at nodes) (length nodes) (map task_of stack) (task_of t) listed (map task_of new_stack) listed) (sym e)
           (done_one (tree_at nodes) parts (length nodes) graph (map task_of stack) listed k tasks numbers (enter_inside k e) (are.no k d short (ap (λ xs. slice_index_or xs k d) (sym r) ∙ f)) i (at_node (row.Next i) h)
-          (map task_of s1) (map task_of s2) (pushed stack s1 (Leave k) e1) (pushed s1 s2 (Enter i) e2))
+          (map task_of (stack ++ Leave k ∷ [])) (map task_of new_stack) (map_push stack (Leave k)) (pushed (stack ++ Leave k ∷ []) new_stack (Enter i) (g ∙ sym (append_assoc stack (Leave k ∷ []) (Enter i ∷ [])))))
 
-      two : (u : Row) (i j : ℕ) → v ≡ u → parts_of (node_of u) ≡ i ∷ j ∷ [] → (s1 s2 s3 : List Task) → s1 ≡ stack ++ Leave k ∷ [] → s2 ≡ s1 ++ Enter j ∷ [] → s3 ≡ s2 ++ Enter i ∷ [] → Done s3 listed
-      two u i j h p s1 s2 s3 e1 e2 e3 = subst (λ t. IsTaskDone (tree_at nodes) (length nodes) (map task_of stack) (task_of t) listed (map task_of s3) listed) (sym e)
+      two : (u : Row) (i j : ℕ) → v ≡ u → parts_of (node_of u) ≡ i ∷ j ∷ [] → (new_stack : List Task) → new_stack ≡ stack ++ Leave k ∷ Enter j ∷ Enter i ∷ [] → Done new_stack listed
+      two u i j h p new_stack g =
+          let s1 = stack ++ Leave k ∷ [] in
+          let s2 = s1 ++ Enter j ∷ [] in
+          let g2 : new_stack ≡ s2 ++ Enter i ∷ [] = g ∙ sym (ap (λ l. l ++ Enter i ∷ []) (append_assoc stack (Leave k ∷ []) (Enter j ∷ [])) ∙ append_assoc stack (Leave k ∷ Enter j ∷ []) (Enter i ∷ [])) in
+          subst (λ t. IsTaskDone (tree_at nodes) (length nodes) (map task_of stack) (task_of t) listed (map task_of new_stack) listed) (sym e)
           (done_two (tree_at nodes) parts (length nodes) graph (map task_of stack) listed k tasks numbers (enter_inside k e) (are.no k d short (ap (λ xs. slice_index_or xs k d) (sym r) ∙ f)) i j (at_node u h ∙ p)
-          (map task_of s1) (map task_of s2) (map task_of s3) (pushed stack s1 (Leave k) e1) (pushed s1 s2 (Enter j) e2) (pushed s2 s3 (Enter i) e3))
+          (map task_of s1) (map task_of s2) (map task_of new_stack) (map_push stack (Leave k)) (map_push s1 (Enter j)) (pushed s2 new_stack (Enter i) g2))
 
       pub two_operands : (i j : ℕ) → (v ≡ row.And i j) ⊎ ((v ≡ row.Or i j) ⊎ ((v ≡ row.Until i j) ⊎ (v ≡ row.Release i j)))
-          → (s1 s2 s3 : List Task) → s1 ≡ stack ++ Leave k ∷ [] → s2 ≡ s1 ++ Enter j ∷ [] → s3 ≡ s2 ++ Enter i ∷ [] → Done s3 listed
+          → (new_stack : List Task) → new_stack ≡ stack ++ Leave k ∷ Enter j ∷ Enter i ∷ [] → Done new_stack listed
       two_operands i j (inl h) = two (row.And i j) i j h refl
       two_operands i j (inr (inl h)) = two (row.Or i j) i j h refl
       two_operands i j (inr (inr (inl h))) = two (row.Until i j) i j h refl

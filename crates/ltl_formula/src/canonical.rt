@@ -74,8 +74,7 @@ fn visit<A: Allocator>(
         Node::Proposition(number) => text.extend_from_slice(names[number].as_bytes()),
         Node::Unary(operator, operand) => {
             text.extend_from_slice(unary_text(operator))?;
-            stack.push(Task::Visit(operand))?;
-            Ok(())
+            stack.extend_from_slice(&[Task::Visit(operand)])
         }
         Node::Binary(operator, left, right) => {
             text.push(b'(')?;
@@ -109,10 +108,7 @@ fn step<A: Allocator>(
 {
     match work {
         Task::Middle(operator) => text.extend_from_slice(binary_text(operator)),
-        Task::Close => {
-            text.push(b')')?;
-            Ok(())
-        }
+        Task::Close => text.extend_from_slice(b")"),
         Task::Visit(i) => visit(nodes, names, i, text, stack),
     }
 }
@@ -127,10 +123,9 @@ pub(crate) fn canonical<'a, A: Allocator>(
     requires ordered { HasOperands (length names.now) nodes.now }
     ensures { IfOk result (λ text. text.items ≡ spec.formula_text (map string_bytes names.now) (whole_tree nodes.now)) }
 {
+    let mut stack: Tasks<'a, A> = SmallVec::from_slice(alloc, &[Task::Visit(nodes.len() - 1)])?;
     // Most texts have no more than eight bytes for each node.
     let mut text = Vec::with_capacity(alloc, nodes.len().saturating_mul(8))?;
-    let mut stack: Tasks<'a, A> = SmallVec::new(alloc);
-    stack.push(Task::Visit(nodes.len() - 1))?;
     'work: while let Some(work) = stack.pop() {
         step(nodes, names, work, &mut text, &mut stack)?;
     }

@@ -48,14 +48,16 @@ impl<'a, A: Allocator> Graph<'a, A> {
     {
         let room = count.saturating_mul(2).saturating_add(8);
         let mut slots = Vec::with_capacity(alloc, room)?;
-        slots.push(Slot {
-            node: Row::True,
-            before: 0,
-        })?;
-        slots.push(Slot {
-            node: Row::False,
-            before: 1,
-        })?;
+        slots.extend_from_slice(&[
+            Slot {
+                node: Row::True,
+                before: 0,
+            },
+            Slot {
+                node: Row::False,
+                before: 1,
+            },
+        ])?;
         let mut last = Vec::with_capacity(alloc, room.saturating_add(PROPOSITION_LIMIT))?;
         last.push(2)?;
         Ok(Graph {
@@ -115,7 +117,6 @@ impl<'a, A: Allocator> Graph<'a, A> {
         if there > 0 {
             return Ok(there - 1);
         }
-        let number = put(&mut self.slots, &mut self.last, node)?;
-        Ok(number)
+        put(&mut self.slots, &mut self.last, node)
     }
 }

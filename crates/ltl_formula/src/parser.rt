@@ -73,7 +73,7 @@ fn is_bracket(frame: Frame) -> bool
 fn has_bracket(frames: &[Frame]) -> bool
     ensures { result ≡ list_any is_bracket frames.now }
 {
-    frames.iter().any(|frame| is_bracket(*frame))
+    frames.iter().copied().any(is_bracket)
 }
 
 /// The node of a frame that closes at this rank over its operand.
@@ -175,17 +175,17 @@ impl<'a, 't, A: Allocator> Parser<'a, 't, A> {
         requires within { token.end ≤ length text.now }
         ensures { TakesToken self.old (token_of (slice_range text.now token.start token.end) token.kind) token.start result self.new }
     {
-        match token.kind {
-            TokenKind::Constant(value) => self.push_operand(Node::Constant(value))?,
+        let pushed = match token.kind {
+            TokenKind::Constant(value) => self.push_operand(Node::Constant(value)),
             TokenKind::Name => {
                 let number = self.number(&text[token.start..token.end])?;
-                self.push_operand(Node::Proposition(number))?;
+                self.push_operand(Node::Proposition(number))
             }
-            TokenKind::Unary(operator) => self.push_frame(Frame::Prefix(operator))?,
-            TokenKind::Open => self.push_frame(Frame::Bracket)?,
+            TokenKind::Unary(operator) => self.push_frame(Frame::Prefix(operator)),
+            TokenKind::Open => self.push_frame(Frame::Bracket),
             _ => return Err(ReadFault::AtByte(token.start, FaultKind::ExpectedOperand)),
-        }
-        Ok(())
+        };
+        Ok(pushed?)
     }
 
     /// Takes a token behind a complete operand.

@@ -135,12 +135,14 @@ impl<'a, A: Allocator> Graph<'a, A> {
     fn proposition_forms(&mut self, proposition: usize) -> Result<Forms, AllocError>
         ensures { IfOk result (λ p. MakesBoth self.old self.new p (both_of self.old.rewrite (forms_in self.old []) (FlatProposition proposition))) }
     {
-        let literal = |positive| Literal {
+        let positive = self.intern(Row::Literal(Literal {
             proposition,
-            positive,
-        };
-        let positive = self.intern(Row::Literal(literal(true)))?;
-        let negative = self.intern(Row::Literal(literal(false)))?;
+            positive: true,
+        }))?;
+        let negative = self.intern(Row::Literal(Literal {
+            proposition,
+            positive: false,
+        }))?;
         Ok(Forms { positive, negative })
     }
 

@@ -77,8 +77,10 @@ impl<'a, A: Allocator> Table<'a, A> {
         ensures elementary { IsErrOf result BuildFault.TooManyElementaryRows
             → stated_limits.elementary_rows < length (elementary_rows (tree_at graph.now.nodes root)) }
     {
-        let numbers = row_numbers(alloc, graph, root)?;
-        let rows = numbered_rows(alloc, graph, &numbers)?;
+        let rows = {
+            let numbers = row_numbers(alloc, graph, root)?;
+            numbered_rows(alloc, graph, &numbers)?
+        };
         let untils = until_places(alloc, &rows)?;
         let elementary = elementary_places(alloc, &rows)?;
         if elementary.len() > ELEMENTARY_ROW_LIMIT {

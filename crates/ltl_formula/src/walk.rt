@@ -1,6 +1,6 @@
 //! The rows below a node: the numbers of its different subformulas, operands first.
 
-ghost use Rattle.std.specs.Prelude.{◌≡◌, ◌<◌, ◌≤◌, ℕ, All, IfOk, IsErrOf, OnOk, length, map};
+ghost use Rattle.std.specs.Prelude.{◌≡◌, ◌<◌, ◌≤◌, ℕ, [], ◌∷◌, ◌++◌, All, IfOk, IsErrOf, OnOk, length, map};
 ghost use Rattle.ltl_spec.specs.NormalForms.NormalForm.{rows};
 ghost use Rattle.ltl_spec.specs.NormalForms.SharedNodes.{IsShared, tree_at};
 ghost use Rattle.ltl_spec.specs.NormalForms.RowsCollected.{IsTaskDone, AreFlags};
@@ -35,6 +35,23 @@ pub type Numbers<'a, A> = SmallVec<usize, 64, &'a A>;
 /// A truth value for each node of the graph. No formula of the benchmark has more than 128 in both forms.
 type Flags<'a, A> = SmallVec<bool, 128, &'a A>;
 
+/// Lists a node.
+fn list<A: Allocator>(
+    k: usize,
+    flags: &mut Flags<'_, A>,
+    listed: &mut Numbers<'_, A>,
+) -> Result<(), AllocError>
+    requires inside { k < length flags.old.items }
+    requires flags { AreFlags flags.old.items listed.old.items }
+    ensures long { OnOk result (length flags.new.items ≡ length flags.old.items) }
+    ensures flags { OnOk result (AreFlags flags.new.items listed.new.items) }
+    ensures listed { OnOk result (listed.new.items ≡ listed.old.items ++ k ∷ []) }
+{
+    listed.push(k)?;
+    flags[k] = true;
+    Ok(())
+}
+
 /// Does one task.
 fn step<A: Allocator>(
     graph: &Graph<'_, A>,
@@ -54,32 +71,20 @@ fn step<A: Allocator>(
         (map task_of stack.new.items) listed.new.items) }
 {
     match task {
-        Task::Leave(k) => {
-            listed.push(k)?;
-            flags[k] = true;
-        }
+        Task::Leave(k) => list(k, flags, listed),
         Task::Enter(k) => {
-            if !flags[k] {
-                let node = graph.node(k);
-                match node {
-                    Row::True | Row::False | Row::Literal(_) => {
-                        listed.push(k)?;
-                        flags[k] = true;
-                    }
-                    Row::Next(i) => {
-                        stack.push(Task::Leave(k))?;
-                        stack.push(Task::Enter(i))?;
-                    }
-                    Row::And(i, j) | Row::Or(i, j) | Row::Until(i, j) | Row::Release(i, j) => {
-                        stack.push(Task::Leave(k))?;
-                        stack.push(Task::Enter(j))?;
-                        stack.push(Task::Enter(i))?;
-                    }
+            if flags[k] {
+                return Ok(());
+            }
+            match graph.node(k) {
+                Row::True | Row::False | Row::Literal(_) => list(k, flags, listed),
+                Row::Next(i) => stack.extend_from_slice(&[Task::Leave(k), Task::Enter(i)]),
+                Row::And(i, j) | Row::Or(i, j) | Row::Until(i, j) | Row::Release(i, j) => {
+                    stack.extend_from_slice(&[Task::Leave(k), Task::Enter(j), Task::Enter(i)])
                 }
             }
         }
     }
-    Ok(())
 }
 
 /// The numbers of the rows of node `root`, by first occurrence in postorder.
@@ -95,10 +100,9 @@ pub fn row_numbers<'a, A: Allocator>(
     ensures too_many { IsErrOf result BuildFault.TooManyRows → ROW_LIMIT < length (rows (tree_at graph.now.nodes root)) }
     ensures other { ¬ (IsErrOf result BuildFault.TooManyElementaryRows) }
 {
-    let mut listed: Numbers<'a, A> = SmallVec::new(alloc);
+    let mut stack: Tasks<'a, A> = SmallVec::from_slice(alloc, &[Task::Enter(root)])?;
     let mut flags: Flags<'a, A> = SmallVec::from_elem(alloc, false, graph.len())?;
-    let mut stack: Tasks<'a, A> = SmallVec::new(alloc);
-    stack.push(Task::Enter(root))?;
+    let mut listed: Numbers<'a, A> = SmallVec::new(alloc);
     'work: while let Some(task) = stack.pop() {
         step(graph, task, &mut flags, &mut listed, &mut stack)?;
         if listed.len() > ROW_LIMIT {

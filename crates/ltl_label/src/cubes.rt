@@ -27,7 +27,7 @@ const MOST_INSERTED: usize = 8;
 pub(crate) fn make_distinct<A: Allocator>(cubes: &mut CubeList<'_, A>)
     ensures { cubes.new.items ≡ spec_sets.set_of spec_cubes.cube_cmp cubes.old.items }
 {
-    cubes.sort_unstable_by(|c, d| c.cmp_list(d));
+    cubes.sort_unstable_by(Cube::cmp_list);
     cubes.dedup();
 }
 
@@ -49,10 +49,11 @@ pub(crate) fn constant<'a, A: Allocator>(
 ) -> Result<Cubes<'a, A>, AllocError>
     ensures { IfOk result (λ r. option_map (λ v. v.items) r ≡ constant_cubes value) }
 {
-    let mut cubes = SmallVec::new(alloc);
-    if value {
-        cubes.push(Cube::empty())?;
-    }
+    let cubes = if value {
+        SmallVec::from_slice(alloc, &[Cube::empty()])?
+    } else {
+        SmallVec::new(alloc)
+    };
     Ok(Some(cubes))
 }
 
@@ -65,8 +66,7 @@ pub(crate) fn literal<'a, A: Allocator>(
     requires { proposition < RowSet.LIMIT }
     ensures { IfOk result (λ r. option_map (λ v. v.items) r ≡ literal_cubes proposition sign) }
 {
-    let mut cubes = SmallVec::new(alloc);
-    cubes.push(Cube::literal(proposition, sign))?;
+    let cubes = SmallVec::from_slice(alloc, &[Cube::literal(proposition, sign)])?;
     Ok(Some(cubes))
 }
 

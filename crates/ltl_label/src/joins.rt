@@ -184,8 +184,7 @@ fn all_with<'a, A: Allocator>(
 ) -> Result<CubeList<'a, A>, AllocError>
     ensures { IfOk result (λ r. r.items ≡ spec_sets.set_of spec_cubes.cube_cmp (side.now.with.items ++ side.now.made.items)) }
 {
-    let mut all = SmallVec::new(alloc);
-    all.extend_from_slice(side.with.as_slice())?;
+    let mut all = SmallVec::from_slice(alloc, side.with.as_slice())?;
     all.extend_from_slice(side.made.as_slice())?;
     make_distinct(&mut all);
     Ok(all)
@@ -257,9 +256,9 @@ pub(crate) fn join<'a, A: Allocator>(
 ) -> Result<Cubes<'a, A>, AllocError>
     ensures { IfOk result (λ r. option_map (λ v. v.items) r ≡ few (joined_cubes left.entry.items right.entry.items)) }
 {
-    let mut joined = SmallVec::new(alloc);
     let mut waiting = Vec::new(alloc);
     waiting.push(Sides { left, right })?;
+    let mut joined = SmallVec::new(alloc);
     let mut partings = MOST_PARTINGS;
     'sides: while let Some(sides) = waiting.pop() {
         match parting_literals(sides.left.as_slice(), sides.right.as_slice()) {

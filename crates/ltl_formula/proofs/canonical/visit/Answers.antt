@@ -32,15 +32,18 @@ returns-in-Proposition-clause-falls g c =
     let lighter : sum_by (weight (trees c.args.nodes.now)) c.args.stack.now.items < weight (trees c.args.nodes.now) (Visit c.args.i) + sum_by (weight (trees c.args.nodes.now)) c.args.stack.now.items = omega (arith, heavy) in
     where_taken c.extend_from_slice-in-Proposition.result c.extend_from_slice-in-Proposition.new.self.items c.args.text.now.items c.as_bytes.result.now c.extend_from_slice-in-Proposition.ensures.items (λ e. lighter)
 
-pub returns-in_ok-push-in-Unary-clause-text : goal.returns-in_ok-push-in-Unary-clause-text
-returns-in_ok-push-in-Unary-clause-text g c =
-    unary_node_text (map string_bytes c.args.names.now) (length c.args.names.now) c.args.nodes.now c.requires.ordered (Visit c.args.i) c.args.i refl c.requires.within c.args.text.now.items _ c.unary_text.result.now c.args.stack.now.items _ c.in-Unary.operator c.in-Unary.operand c.in-Unary.is
-    c.unary_text.ensures c.in_ok-extend_from_slice-in-Unary.ensures.items c.in_ok-push-in-Unary.ensures.ok
+pub returns-in_ok-extend_from_slice-in-Unary-clause-text : goal.returns-in_ok-extend_from_slice-in-Unary-clause-text
+returns-in_ok-extend_from_slice-in-Unary-clause-text g c =
+    where_ok c.extend_from_slice-in-Unary-2.result c.extend_from_slice-in-Unary-2.ensures.ok
+    (unary_node_text (map string_bytes c.args.names.now) (length c.args.names.now) c.args.nodes.now c.requires.ordered (Visit c.args.i) c.args.i refl c.requires.within c.args.text.now.items _ c.unary_text.result.now c.args.stack.now.items _ c.in-Unary.operator c.in-Unary.operand c.in-Unary.is
+    c.unary_text.ensures c.in_ok-extend_from_slice-in-Unary.ensures.items)
 
-pub returns-in_ok-push-in-Unary-clause-falls : goal.returns-in_ok-push-in-Unary-clause-falls
-returns-in_ok-push-in-Unary-clause-falls g c =
+pub returns-in_ok-extend_from_slice-in-Unary-clause-falls : goal.returns-in_ok-extend_from_slice-in-Unary-clause-falls
+returns-in_ok-extend_from_slice-in-Unary-clause-falls g c =
     let heavy = same_weight (map string_bytes c.args.names.now) (length c.args.names.now) c.args.nodes.now c.requires.ordered (Visit c.args.i) c.args.i refl c.requires.within (Unary c.in-Unary.operator c.in-Unary.operand) c.in-Unary.is in
-    rw c.in_ok-push-in-Unary.ensures.ok (grind (arith, common_steps, heavy))
+    let lighter : c.extend_from_slice-in-Unary-2.new.self.items ≡ c.args.stack.now.items ++ Visit c.in-Unary.operand ∷ [] → sum_by (weight (trees c.args.nodes.now)) c.extend_from_slice-in-Unary-2.new.self.items < weight (trees c.args.nodes.now) (Visit c.args.i) + sum_by (weight (trees c.args.nodes.now)) c.args.stack.now.items =
+    λ e. rw e (grind (arith, common_steps, heavy)) in
+    where_ok c.extend_from_slice-in-Unary-2.result c.extend_from_slice-in-Unary-2.ensures.ok lighter
 
 pub returns-in_ok-push-in-Binary-clause-text : goal.returns-in_ok-push-in-Binary-clause-text
 returns-in_ok-push-in-Binary-clause-text g c =

@@ -1,4 +1,4 @@
-use Rattle.std.proofs.Common.{ap, arith, length, ◌∙◌}
+use Rattle.std.proofs.Common.{[], ap, arith, length, refl, ◌∙◌}
 use Rattle.ltl_spec.proofs.NormalForms.SharedNodes.{tree_at}
 use Rattle.ltl_spec.proofs.NormalForms.RowsCollected.{flags_begin}
 use Rattle.std.proofs.lemmas.Grind.{common_steps}
@@ -12,7 +12,7 @@ work-init g c = record {
   long = c.in_ok-flags.ensures.len ∙ c.len.ensures.count;
   few = grind (arith, common_steps);
   flags = flags_begin c.len.result _ _ (c.in_ok-flags.ensures.items_if_clones_equal (λ y e. e)) c.new-listed.ensures.items;
-  walking = loop_begins c.args.graph.now.nodes c.args.root _ _ _ c.requires c.new-stack.ensures.items c.in_ok-push.ensures.ok c.new-listed.ensures.items;
+  walking = loop_begins c.args.graph.now.nodes c.args.root [] _ _ c.requires refl c.in_ok-stack.ensures.ok c.new-listed.ensures.items;
 }
 
 pub step-requires : goal.step-requires
