@@ -20,7 +20,7 @@ use crate::order::{copied, divided};
 use std::alloc::{AllocError, Allocator};
 
 /// What is left to do of an index.
-#[derive(Drop)]
+#[derive(Clone, Copy)]
 enum Task {
     /// The items from the last one that was listed up to that place.
     UpTo(usize),
@@ -107,9 +107,12 @@ fn list_up_to<'a, T: Below, A: Allocator>(
     }
     match divided(&mut order[listed..end]) {
         Some(without) => {
-            tasks.push(Task::Close(nodes.len()))?;
-            tasks.push(Task::UpTo(end))?;
-            tasks.push(Task::UpTo(listed + without))?;
+            let left = [
+                Task::Close(nodes.len()),
+                Task::UpTo(end),
+                Task::UpTo(listed + without),
+            ];
+            tasks.extend_from_slice(&left)?;
             Ok(listed)
         }
         None => {
