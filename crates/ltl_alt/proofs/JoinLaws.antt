@@ -9,23 +9,24 @@ use Rattle.ltl_spec.specs.Transitions.Pairs.{RowSet, Pair, pair_cmp, join, empty
 use Rattle.ltl_spec.specs.Transitions.RowTransitions.{Table, with_marks, unimplied_transitions}
 use Rattle.ltl_spec.proofs.Collections.ListLaws.{Has-at}
 use Rattle.ltl_spec.proofs.Collections.Orders.{nat_linear, pair_linear}
-use Rattle.ltl_spec.proofs.Collections.SetLaws.{append_cases, has_Decides, set_of_same}
+use Rattle.ltl_spec.proofs.Collections.SetLaws.{append_cases, filter_cases, has_Decides, set_of_same}
 use Rattle.ltl_spec.proofs.Transitions.FactorLaws.{all_products}
-use Rattle.ltl_spec.proofs.Transitions.PartJoins.{join_of}
+use Rattle.ltl_spec.proofs.Transitions.PartJoins.{join_of, join_append, join_split, joined_from_nothing}
 use Rattle.ltl_spec.proofs.Transitions.ProductTransitions.{in_order, transitions_of}
-use Rattle.ltl_spec.proofs.Transitions.SameJoins.{AreSound}
+use Rattle.ltl_spec.proofs.Transitions.SameJoins.{AreAlike, AreSound, alike_set, alike_sym, alike_trans}
 use Rattle.ltl_sets.specs.CubeEq.{same_cube, cube_Decides}
 use Rattle.ltl_alt.specs.declared.asked.Demand.{Demand}
 use Rattle.ltl_alt.specs.declared.joins.Step.{Step}
 use Rattle.ltl_alt.specs.declared.wholes.Whole.{Whole}
 use Rattle.ltl_alt.specs.declared.rule.Rule.{Rule}
 use Rattle.ltl_alt.specs.GroupView.{key_of, made_of, AreGroups, AreGroupsOf}
-use Rattle.ltl_alt.specs.JoinView.{IsListAt, IsJoin, IsWhole, AreJoins, AreWholes}
+use Rattle.ltl_alt.specs.JoinView.{IsListAt, IsJoin, IsWhole, AreJoins, AreWholes, in_turn}
 use Rattle.ltl_alt.specs.PartView.{numbers_in, part_of, AreLinked, AreParts, IsLonger}
 use Rattle.ltl_alt.specs.ShapeView.{IsShape}
-use Rattle.ltl_alt.specs.StandIns.{AreOwn, IsFit, IsListed, IsPruned, StandsFor, rule_of}
-use Rattle.ltl_alt.proofs.GroupLaws.{joined_on, joined_pruned, group_all, group_few}
+use Rattle.ltl_alt.specs.StandIns.{AreOwn, IsFit, IsKeptBy, IsListed, IsPruned, StandsFor, rule_of}
+use Rattle.ltl_alt.proofs.GroupLaws.{joined_on, joined_pruned, joins_begin, group_all, group_few}
 use Rattle.ltl_alt.proofs.OwnLaws.{at_before}
+use Rattle.ltl_alt.proofs.StandInLaws.{stands_in, kept_on, kept_same}
 use Rattle.ltl_alt.proofs.ProductLaws.{groups_of_none, groups_of_more, shaped}
 
 pub same_pair : (p q : Pair) → same_cube p.cube q.cube ≡ true → pointwise nat_eq p.targets q.targets ≡ true → p ≡ q
@@ -101,6 +102,33 @@ joins_more T r lists steps more list part joined w is e s h =
       | inl m ↦ w s m
       | inr m ↦ elim m [ inl q ↦ subst (λ (x : Step). IsJoin T r lists x.list x.part x.joined) (sym q) is | inr z ↦ absurd z ]
     ]
+
+-- ---- parts in another order
+
+pub in_turn_inside : (test : ℕ → Bool) (g is : List ℕ) (k : ℕ) → is ≡ in_turn test g → Has is k → Has g k
+in_turn_inside test g is k e h =
+    elim (append_cases (filter test g) (filter (λ i. not (test i)) g) k (subst (λ js. Has js k) e h)) [
+      | inl m ↦ (filter_cases test g k m).0
+      | inr m ↦ (filter_cases (λ i. not (test i)) g k m).0
+    ]
+
+-- their joins have the same pairs
+joined_in_turn : (part : ℕ → List Pair) → ((k : ℕ) → AreSound (part k)) → (test : ℕ → Bool) (g : List ℕ) → AreAlike (joined_on part (empty_pair ∷ []) (in_turn test g)) (joined_on part (empty_pair ∷ []) g)
+joined_in_turn part sound test g =
+    let first = filter test g in
+    let later = filter (λ i. not (test i)) g in
+    let all = joined_on part (empty_pair ∷ []) g in
+    let both = join (join_of part first) (join_of part later) in
+    alike_trans (joined_on part (empty_pair ∷ []) (first ++ later)) (join_of part (first ++ later)) all (joined_from_nothing part sound (first ++ later))
+    (alike_trans (join_of part (first ++ later)) both all (join_append part sound first later)
+    (alike_trans both (join_of part g) all (alike_sym (join_of part g) both (join_split part sound test g)) (alike_sym all (join_of part g) (joined_from_nothing part sound g))))
+
+pub turns_begin : (T : Table) (r : Rule) (f : ℕ → List Pair) → ((k : ℕ) → AreSound (f k)) → (test : ℕ → Bool) (g is : List ℕ) (ps : List Pair) → is ≡ in_turn test g → ps ≡ empty_pair ∷ []
+    → IsKeptBy (StandsFor T r) (joined_on f (empty_pair ∷ []) g) (joined_on f ps is)
+turns_begin T r f sound test g is ps d e =
+    let all = joined_on f (empty_pair ∷ []) g in
+    let turned = joined_on f (empty_pair ∷ []) (in_turn test g) in
+    kept_on (stands_in T r) all turned (joined_on f ps is) (kept_same (stands_in T r) all turned (alike_set turned all (joined_in_turn f sound test g))) (joins_begin T r f (in_turn test g) is ps d e)
 
 -- ---- sets of rows
 

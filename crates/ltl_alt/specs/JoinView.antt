@@ -1,5 +1,5 @@
 -- Lists of pairs by number, joins of them that are remembered, and sets of rows whose pairs are remembered.
-use Rattle.std.specs.Prelude.{◌≡◌, ℕ, ◌<◌, List, [], ◌∷◌, Bool, length, fold}
+use Rattle.std.specs.Prelude.{◌≡◌, ℕ, ◌<◌, List, [], ◌∷◌, ◌++◌, Bool, not, filter, length, fold}
 use Rattle.ltl_spec.specs.Collections.Sets.{Has}
 use Rattle.ltl_spec.specs.Transitions.Pairs.{RowSet, Pair, join, empty_pair}
 use Rattle.ltl_spec.specs.Transitions.RowTransitions.{Table}
@@ -29,6 +29,10 @@ AreJoins T r lists steps = (s : Step) → Has steps s → IsJoin T r lists s.lis
 -- what is kept of all these parts at once stands under the number
 abbrev pub IsJoinOf : Table → Rule → List (List Pair) → List (List Pair) → RowSet → ℕ → Type 0
 IsJoinOf T r parts lists group k = (k < length lists) × IsListed (StandsFor T r) (fold (λ ps i. join ps (part_of parts i)) (empty_pair ∷ []) group) (part_of lists k)
+
+-- those that pass a test first, and behind them the others
+abbrev pub in_turn : (ℕ → Bool) → List ℕ → List ℕ
+in_turn test is = filter test is ++ filter (λ i. not (test i)) is
 
 -- the transitions of a set of rows are those of what is kept of all these parts at once
 abbrev pub IsWhole : Table → Bool → List (List Pair) → RowSet → RowSet → Type 0

@@ -3,11 +3,13 @@
 //! Lists have numbers by what they hold: a part that stands in a group twice, in two rows, often changes nothing, and the next join is one that was
 //! made. What is remembered of parts and of places is only a hint, which is looked at again, as parts get other numbers where they are forgotten.
 
-ghost use Rattle.std.specs.Prelude.{◌≡◌, ℕ, ◌<◌, [], true, length, IfOk, IfSome, OnOk};
-ghost use Rattle.ltl_spec.specs.Collections.Sets.{Has};
+ghost use Rattle.std.specs.Prelude.{◌≡◌, ℕ, ◌<◌, [], ◌∷◌, true, length, IfOk, IfSome, MatchOption, OnOk};
+ghost use Rattle.std.specs.Ordering.{nat_cmp};
+ghost use Rattle.ltl_spec.specs.Collections.Sets.{Has, has};
 ghost use Rattle.ltl_spec.specs.Transitions.RowTransitions as spec;
+ghost use Rattle.ltl_spec.proofs.Transitions.SameJoins.{AreSound};
 ghost use Rattle.ltl_alt.specs.declared.rule.Rule as made_rule;
-ghost use Rattle.ltl_alt.specs.JoinView.{AreJoins, IsJoin, IsJoinOf, IsListAt};
+ghost use Rattle.ltl_alt.specs.JoinView.{AreJoins, IsJoin, IsJoinOf, IsListAt, in_turn};
 ghost use Rattle.ltl_alt.specs.PartView.{IsLonger, part_of};
 ghost use Rattle.ltl_alt.specs.StandIns.{IsFit};
 ghost use Rattle.ltl_alt.specs.TransitionView.{table_at};
@@ -20,9 +22,10 @@ use crate::prune::prune;
 use crate::rule::Pruning;
 use indexmap::IndexSet;
 use ltl_formula::Table;
-use ltl_sets::RowSet;
+use ltl_sets::{Members, RowSet};
 use std::alloc::{AllocError, Allocator};
 use std::hash::{BuildHasherDefault, FoldHasher};
+use std::marker::Model;
 
 /// So many pairs are remembered at most.
 const MOST_PAIRS: usize = 262_144;
@@ -52,6 +55,38 @@ pub(crate) struct Joins<'a, A: Allocator> {
     heads: Vec<usize, &'a A>,
     /// How many pairs there are.
     pairs: usize,
+    /// The parts that the groups that were joined so far have in common.
+    common: RowSet,
+}
+
+/// The parts of a group that are still to be joined: some of them, and behind these the others.
+#[derive(Drop)]
+struct Order {
+    first: Members,
+    later: Members,
+}
+
+impl Model for Order {
+    ghost use Rattle.std.specs.Prelude.{ℕ, List, ◌++◌};
+    ghost use Rattle.std.specs.Coded.{coded_ℕ, coded_list};
+
+    ghost Value = { List ℕ };
+
+    ghost coded = { coded_list coded_ℕ };
+
+    ghost view = { λ o. o.first ++ o.later };
+}
+
+impl Order {
+    /// The next one.
+    fn next(&mut self) -> Option<usize>
+        ensures steps { MatchOption result (self.old ≡ []) (λ k. self.old ≡ k ∷ self.new) }
+    {
+        match self.first.next() {
+            Some(number) => Some(number),
+            None => self.later.next(),
+        }
+    }
 }
 
 /// Whether these are the same pairs in the same order.
@@ -80,6 +115,7 @@ impl<'a, A: Allocator> Joins<'a, A> {
             places: IndexSet::new(alloc),
             heads: Vec::new(alloc),
             pairs: 0,
+            common: RowSet::empty(),
         }
     }
 
@@ -191,14 +227,38 @@ impl<'a, A: Allocator> Joins<'a, A> {
         None
     }
 
+    /// The parts of a group, those first that all groups have in common.
+    fn order(&self, group: &RowSet) -> Order
+        ensures { result ≡ in_turn (λ k. has nat_cmp k self.now.common) group.now }
+    {
+        Order {
+            first: group.common(&self.common).iter(),
+            later: group.without(&self.common).iter(),
+        }
+    }
+
+    /// Notes what a group has in common with those before.
+    fn meet(&mut self, group: &RowSet)
+        ensures lists { self.new.lists.items ≡ self.old.lists.items }
+        ensures steps { self.new.steps.items ≡ self.old.steps.items }
+    {
+        let common = self.common.common(group);
+        self.common = if common == RowSet::empty() {
+            *group
+        } else {
+            common
+        };
+    }
+
     /// The number of what is kept of these parts at once, if all joins on the way to it are remembered.
     pub(crate) fn found(&self, parts: &Parts<'a, A>, group: &RowSet) -> Option<usize>
+        requires sound { (k : ℕ) → AreSound (part_of parts.now.lists.items k) }
         requires inside { (k : ℕ) → Has group.now k → k < length parts.now.lists.items }
         ensures { (T : spec.Table) → (r : made_rule.Rule) → AreJoins T r self.now.lists.items self.now.steps.items
             → IfSome result (IsJoinOf T r parts.now.lists.items self.now.lists.items group.now) }
     {
         let mut list = self.number(&[Pair::empty()])?;
-        let mut rest = group.iter();
+        let mut rest = self.order(group);
         'members: while let Some(number) = rest.next() {
             let part = self.noted(number, parts.pairs(number))?;
             list = self.known(list, part)?;
@@ -251,6 +311,7 @@ impl<'a, A: Allocator> Joins<'a, A> {
         group: &RowSet,
     ) -> Result<Option<usize>, AllocError>
         requires fit { IsFit (table_at table.now) pruning.now.rule pruning.now.own.now }
+        requires sound { (k : ℕ) → AreSound (part_of parts.now.lists.items k) }
         requires inside { (k : ℕ) → Has group.now k → k < length parts.now.lists.items }
         requires joins { AreJoins (table_at table.now) pruning.now.rule self.old.lists.items self.old.steps.items }
         ensures joins { OnOk result (AreJoins (table_at table.now) pruning.now.rule self.new.lists.items self.new.steps.items) }
@@ -259,7 +320,8 @@ impl<'a, A: Allocator> Joins<'a, A> {
     {
         let empty = Vec::from_slice(alloc, &[Pair::empty()])?;
         let mut list = self.remember(PairSet { pairs: empty })?;
-        let mut rest = group.iter();
+        self.meet(group);
+        let mut rest = self.order(group);
         'members: while let Some(number) = rest.next() {
             let Some(part) = self.part(alloc, number, parts.pairs(number))? else {
                 return Ok(None);

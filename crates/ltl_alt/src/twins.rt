@@ -2,9 +2,10 @@
 
 ghost use Rattle.std.specs.Prelude.{◌≡◌, ℕ, ◌<◌, [], length, IfOk, IfSome, OnOk};
 ghost use Rattle.ltl_spec.specs.Collections.Sets.{Has};
+ghost use Rattle.ltl_spec.proofs.Transitions.SameJoins.{AreSound};
 ghost use Rattle.ltl_alt.specs.GroupView.{AreGroupsOf};
 ghost use Rattle.ltl_alt.specs.JoinView.{AreRemembered, IsWhole};
-ghost use Rattle.ltl_alt.specs.PartView.{AreLinked};
+ghost use Rattle.ltl_alt.specs.PartView.{AreLinked, part_of};
 ghost use Rattle.ltl_alt.specs.ReachView.{AreReady};
 ghost use Rattle.ltl_alt.specs.ShapeView.{AreShapes, IsTwin};
 ghost use Rattle.ltl_alt.specs.StandIns.{IsFit, rule_of};
@@ -73,6 +74,7 @@ fn twin_by_pairs<'a, A: Allocator>(
     requires rule { pruning.now.rule ≡ rule_of keep_implied }
     requires fit { IsFit (table_at table.now) pruning.now.rule pruning.now.own.now }
     requires inside { (k : ℕ) → Has all.now k → k < length parts.now.lists.items }
+    requires sound { (k : ℕ) → AreSound (part_of parts.now.lists.items k) }
     requires whole { IsWhole (table_at table.now) keep_implied parts.now.lists.items all.now state.now }
     requires remembered { AreRemembered (table_at table.now) keep_implied joins.old.lists.items joins.old.steps.items wholes.old.all.items }
     ensures remembered { OnOk result (AreRemembered (table_at table.now) keep_implied joins.new.lists.items joins.new.steps.items wholes.new.all.items) }

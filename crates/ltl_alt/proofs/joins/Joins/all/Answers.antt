@@ -1,11 +1,12 @@
-use Rattle.std.proofs.Common.{◌≡◌, ◌∷◌, [], ◌∙◌, ap, sym, subst, inl, inr, refl}
-use Rattle.ltl_spec.specs.Collections.Sets.{Has}
+use Rattle.std.proofs.Common.{◌≡◌, ◌<◌, ◌∷◌, [], length, ◌∙◌, ap, sym, subst, inl, inr, refl}
+use Rattle.std.specs.Ordering.{nat_cmp}
+use Rattle.ltl_spec.specs.Collections.Sets.{Has, has}
 use Rattle.ltl_spec.specs.Transitions.Pairs.{Pair, empty_pair}
 use Rattle.ltl_alt.specs.JoinView.{AreJoins, IsJoin, IsListAt}
 use Rattle.ltl_alt.specs.PartView.{part_of}
 use Rattle.ltl_alt.specs.TransitionView.{table_at}
-use Rattle.ltl_alt.proofs.GroupLaws.{joined_on, joins_begin, joins_step, one_rises}
-use Rattle.ltl_alt.proofs.JoinLaws.{joins_longer, join_lists, longer_on}
+use Rattle.ltl_alt.proofs.GroupLaws.{joined_on, joins_step, one_rises}
+use Rattle.ltl_alt.proofs.JoinLaws.{in_turn_inside, turns_begin, joins_longer, join_lists, longer_on, not_longer}
 use Rattle.ltl_alt.proofs.ShapeLaws.{some_is}
 use Rattle.ltl_alt.proofs.joins.Joins.all.Goals as goal
 
@@ -14,17 +15,18 @@ members-init g c =
     let T = table_at c.args.table.now in
     let r = c.args.pruning.now.rule in
     let old = c.args.self.now in
-    let new = c.remember.new.self in
+    let new = c.meet.new.self in
+    let same = c.meet.ensures.lists in
     let number = c.in_ok-list.ensures.number in
-    let longer = c.in_ok-list.ensures.longer in
-    let one : part_of new.lists.items c.in_ok-list.list ≡ empty_pair ∷ [] = number.1 ∙ c.in_ok-empty.ensures.items ∙ ap (λ (p : Pair). p ∷ []) c.empty.ensures in
+    let longer = longer_on _ _ _ c.in_ok-list.ensures.longer (not_longer _ _ same) in
+    let one : part_of new.lists.items c.in_ok-list.list ≡ empty_pair ∷ [] = ap (λ xs. part_of xs c.in_ok-list.list) same ∙ number.1 ∙ c.in_ok-empty.ensures.items ∙ ap (λ (p : Pair). p ∷ []) c.empty.ensures in
     record {
-      inside = λ k h. c.requires.inside k (subst (λ xs. Has xs k) c.iter-rest.ensures.members h);
-      within = number.0;
+      inside = λ k h. c.requires.inside k (in_turn_inside (λ i. has nat_cmp i new.common) c.args.group.now _ k c.order-rest.ensures h);
+      within = subst (λ xs. c.in_ok-list.list < length xs) (sym same) number.0;
       rising = one_rises _ one;
-      joins = subst (AreJoins T r new.lists.items) (sym c.in_ok-list.ensures.steps) (joins_longer T r old.lists.items new.lists.items old.steps.items longer c.requires.joins);
+      joins = subst (AreJoins T r new.lists.items) (sym (c.meet.ensures.steps ∙ c.in_ok-list.ensures.steps)) (joins_longer T r old.lists.items new.lists.items old.steps.items longer c.requires.joins);
       longer = longer;
-      pairs = joins_begin T r (part_of c.args.parts.now.lists.items) c.args.group.now _ _ c.iter-rest.ensures.members one;
+      pairs = turns_begin T r (part_of c.args.parts.now.lists.items) c.requires.sound (λ i. has nat_cmp i new.common) c.args.group.now _ _ c.order-rest.ensures one;
     }
 
 pub pairs-requires : goal.pairs-requires

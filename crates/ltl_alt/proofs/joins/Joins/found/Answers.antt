@@ -1,9 +1,10 @@
 use Rattle.std.proofs.Common.{◌≡◌, ◌∷◌, [], ◌∙◌, ap, sym, subst, inl, inr, refl}
-use Rattle.ltl_spec.specs.Collections.Sets.{Has}
+use Rattle.std.specs.Ordering.{nat_cmp}
+use Rattle.ltl_spec.specs.Collections.Sets.{Has, has}
 use Rattle.ltl_spec.specs.Transitions.Pairs.{Pair, empty_pair}
 use Rattle.ltl_alt.specs.PartView.{part_of}
-use Rattle.ltl_alt.proofs.GroupLaws.{joined_on, joins_begin, joins_end, joins_step, one_rises}
-use Rattle.ltl_alt.proofs.JoinLaws.{join_lists, not_longer}
+use Rattle.ltl_alt.proofs.GroupLaws.{joined_on, joins_end, joins_step, one_rises}
+use Rattle.ltl_alt.proofs.JoinLaws.{in_turn_inside, turns_begin, join_lists, not_longer}
 use Rattle.ltl_alt.proofs.joins.Joins.found.Goals as goal
 
 pub members-init : goal.members-init
@@ -11,10 +12,10 @@ members-init g c =
     let at = c.in_ok-list.ensures in
     let one : part_of c.args.self.now.lists.items c.in_ok-list.list ≡ empty_pair ∷ [] = at.1 ∙ ap (λ (p : Pair). p ∷ []) c.empty.ensures in
     record {
-      inside = λ k h. c.requires.inside k (subst (λ xs. Has xs k) c.iter-rest.ensures.members h);
+      inside = λ k h. c.requires.inside k (in_turn_inside (λ i. has nat_cmp i c.args.self.now.common) c.args.group.now _ k c.order-rest.ensures h);
       within = λ T r w. at.0;
       rising = λ T r w. one_rises _ one;
-      pairs = λ T r w. joins_begin T r (part_of c.args.parts.now.lists.items) c.args.group.now _ _ c.iter-rest.ensures.members one;
+      pairs = λ T r w. turns_begin T r (part_of c.args.parts.now.lists.items) c.requires.sound (λ i. has nat_cmp i c.args.self.now.common) c.args.group.now _ _ c.order-rest.ensures one;
     }
 
 pub pairs-requires : goal.pairs-requires
@@ -39,5 +40,5 @@ pub returns : goal.returns
 returns g c = λ T r w. (
   c.members.invariant.within T r w,
   joins_end T r (part_of c.args.parts.now.lists.items) (joined_on (part_of c.args.parts.now.lists.items) (empty_pair ∷ []) c.args.group.now) _ (part_of c.args.self.now.lists.items c.members.list)
-      c.in_default.ensures.steps.0 (c.members.invariant.pairs T r w) (c.members.invariant.rising T r w),
+      c.in_default.ensures.steps (c.members.invariant.pairs T r w) (c.members.invariant.rising T r w),
 )
