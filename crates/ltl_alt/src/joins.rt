@@ -2,6 +2,7 @@
 //!
 //! Lists have numbers by what they hold: a part that stands in a group twice, in two rows, often changes nothing, and the next join is one that was
 //! made. What is remembered of parts and of places is only a hint, which is looked at again, as parts get other numbers where they are forgotten.
+//! The parts that all groups have in common are joined first, so that this is done once.
 
 ghost use Rattle.std.specs.Prelude.{◌≡◌, ℕ, ◌<◌, [], ◌∷◌, true, length, IfOk, IfSome, MatchOption, OnOk};
 ghost use Rattle.std.specs.Ordering.{nat_cmp};
