@@ -3,7 +3,6 @@ use Rattle.std.proofs.Common.{◌≡◌, ℕ, ◌+◌, ◌-◌, ◌<◌, inl, in
 use Rattle.std.specs.Prelude.{nat_eq, slice_get, slice_index, slice_index_or, All}
 use Rattle.std.specs.Cmp.Lexicographic.{bytes_decides, pointwise}
 use Rattle.std.proofs.lemmas.Option.{get_or_from_slice_get}
-use Rattle.ltl_spec.specs.Collections.Sets.{Has}
 use Rattle.ltl_spec.specs.Automata.Automaton.{Edge, State, state_at}
 use Rattle.ltl_spec.proofs.Collections.CaseLaws.{below_equal_above}
 use Rattle.ltl_spec.proofs.Collections.MemberLaws.{map_cases}

@@ -1,21 +1,20 @@
 -- Lists of edges of which none is implied by another one with its target.
-use Rattle.std.proofs.Common.{◌≡◌, ℕ, ◌<◌, ◌≤◌, Bool, true, false, not, ◌&&◌, List, [], ◌∷◌, map, length, refl, sym, ◌∙◌, ap, subst, cond, arith}
-use Rattle.std.specs.Prelude.{◌==◌, slice_index, slice_index_or, All, fold}
+use Rattle.std.proofs.Common.{◌≡◌, ℕ, ◌<◌, ◌≤◌, Bool, true, false, not, List, [], ◌∷◌, map, length, refl, sym, ◌∙◌, ap, subst, cond, arith}
+use Rattle.std.specs.Prelude.{◌==◌, slice_index, All, fold}
 use Rattle.std.specs.List.{list_any}
 use Rattle.std.specs.Ordering.{nat_cmp}
-use Rattle.std.specs.declared.cmp.Ordering.TheVariants.{Equal}
 use Rattle.std.proofs.lemmas.Bool.{and_from}
 use Rattle.std.proofs.lemmas.Bool.Decides.{Decides-eqb}
 use Rattle.ltl_spec.specs.Collections.Sets.{Has, set_of}
 use Rattle.ltl_spec.specs.Collections.Lists.{place_of}
 use Rattle.ltl_spec.specs.NormalForms.Normal.{Normal}
 use Rattle.ltl_spec.specs.Transitions.Pairs.{RowSet, empty_pair, join}
-use Rattle.ltl_spec.specs.Transitions.RowTransitions.{Transition, Table, table_of, pairs_at, with_marks, successors, transitions, transition_cmp}
-use Rattle.ltl_spec.specs.Automata.Automaton.{Automaton, State, Edge, edge_cmp, state_at}
-use Rattle.ltl_spec.specs.Automata.Generalized.{same_row_set, target_sets, root_set, edge_to, state_of, automaton_over, IsGeneralized}
+use Rattle.ltl_spec.specs.Transitions.RowTransitions.{Transition, table_of, pairs_at, with_marks, successors, transitions}
+use Rattle.ltl_spec.specs.Automata.Automaton.{Automaton, State, Edge, state_at}
+use Rattle.ltl_spec.specs.Automata.Generalized.{same_row_set, target_sets, root_set, edge_to, state_of, IsGeneralized}
 use Rattle.ltl_spec.specs.Automata.Listing.{listing, IsComplete}
-use Rattle.ltl_spec.specs.Construction.Levels.{Copy, CopyEdge, copy_edge, copy_edge_cmp, copy_edges, copies, copy_state, edge_to_copy, level_automaton, same_copy}
-use Rattle.ltl_spec.specs.Construction.Merging.{same_edge, implies_edge, retargeted_edge, retargeted_state, unimplied_edges, without_implied, quotient, class_names, merged_automaton}
+use Rattle.ltl_spec.specs.Construction.Levels.{Copy, copy_edge, copy_edges, copies, copy_state, edge_to_copy, level_automaton, same_copy}
+use Rattle.ltl_spec.specs.Construction.Merging.{same_edge, retargeted_edge, retargeted_state, unimplied_edges, without_implied, quotient, class_names, merged_automaton}
 use Rattle.ltl_spec.proofs.Automata.ListedStates.{no_state, has_edge_below}
 use Rattle.ltl_spec.proofs.Automata.ListingReach.{complete_targets}
 use Rattle.ltl_spec.proofs.Collections.CaseLaws.{false_is_true, left_true, right_true}

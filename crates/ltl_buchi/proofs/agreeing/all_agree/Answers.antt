@@ -1,9 +1,7 @@
-use Rattle.std.proofs.Common.{◌≡◌, ◌<◌, arith, sym, subst, ◌∙◌, length, map}
+use Rattle.std.proofs.Common.{◌<◌, arith, sym, subst, length}
 use Rattle.std.specs.Prelude.{All}
-use Rattle.ltl_automaton.specs.EdgeView.{edge_of}
 use Rattle.ltl_automaton.specs.declared.edge.Edge as made
 use Rattle.ltl_buchi.specs.Agreeing.{AreAgreed}
-use Rattle.ltl_buchi.proofs.AgreeLaws.{agreed_more}
 use Rattle.ltl_buchi.proofs.ClassLaws.{list_within}
 use Rattle.ltl_buchi.proofs.StandingLaws.{lists_have}
 use Rattle.ltl_buchi.proofs.agreeing.all_agree.Goals as goal
