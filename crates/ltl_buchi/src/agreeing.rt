@@ -44,6 +44,7 @@ fn agree(edges: &[Edge], links: &[usize]) -> bool
 }
 
 /// The same for all lists. The heads are room for the latest edge to each target.
+#[tactic(auto, using(crate::proofs::AgreeLaws::agreed_more))]
 fn all_agree<'a, A: Allocator>(
     alloc: &'a A,
     states: &SharedStates<'_, A>,
