@@ -1,3 +1,4 @@
+pub mod AgreeLaws
 pub mod ApartLaws
 pub mod AskedLaws
 pub mod ChainLaws
@@ -15,6 +16,7 @@ pub mod RenumberLaws
 pub mod RiseLaws
 pub mod StandingLaws
 pub mod Sums
+pub mod ThinLaws
 pub mod TranslationLaws
 pub mod WeightLaws
 pub mod Within

@@ -21,6 +21,7 @@
 //! Both accept exactly the words on which `p` comes again and again, which their contracts say for every formula.
 #![tactic(auto)]
 
+mod agreeing;
 mod apart;
 pub mod automaton;
 mod chains;
@@ -38,6 +39,7 @@ mod retargeting;
 mod rises;
 mod smaller;
 mod standing;
+mod thin;
 pub mod translation;
 
 pub use automaton::Ba;

@@ -72,15 +72,17 @@ fn none_implied<'a, A: Allocator>(
     Ok(true)
 }
 
-/// Whether it is found that the automaton of the classes with these names is the one that is there.
+/// Whether it is found that the automaton of the classes with these names is the one that is there. It may be sure that no edge is implied.
 pub(crate) fn stands<'a, A: Allocator>(
     alloc: &'a A,
     states: &SharedStates<'_, A>,
     names: &[usize],
     keep_implied: bool,
     rise: bool,
+    thin: bool,
 ) -> Result<bool, AllocError>
     requires rise { rise ≡ true → All (λ es. IsRising edge_cmp es) states.now.lists }
+    requires thin { thin ≡ true → All (λ es. merging.unimplied_edges es ≡ es) states.now.lists }
     requires within { IsWithinStates (automaton_of states.now).states }
     requires long { length names.now ≡ length (automaton_of states.now).states }
     ensures { IfOk result (λ b. b ≡ true → merging.quotient keep_implied names.now (automaton_of states.now) ≡ automaton_of states.now) }
@@ -90,6 +92,9 @@ pub(crate) fn stands<'a, A: Allocator>(
         return Ok(false);
     }
     if keep_implied {
+        return Ok(true);
+    }
+    if thin {
         return Ok(true);
     }
     let mut heads: Heads<'a, A> = SmallVec::new(alloc);

@@ -12,6 +12,7 @@ ghost use Rattle.ltl_spec.specs.Tools.Limits.{stated_limits};
 ghost use Rattle.ltl_formula.specs.TableView.{core_of};
 ghost use Rattle.ltl_buchi.specs.Named.{HasNamesOf};
 
+use crate::agreeing::are_copies_thin;
 use crate::automaton::Ba;
 use crate::copies::level_states;
 use crate::fault::BaFault;
@@ -47,9 +48,10 @@ pub fn translate<'a, A: Allocator>(
 {
     let generalized = Gba::reach(alloc, table, options.keep_implied)?;
     let small = smaller_gba(alloc, generalized, options)?;
+    let thin = are_copies_thin(alloc, &small, options.keep_implied)?;
     let copies = level_states(alloc, &small)?;
     drop(small);
-    let smaller = smaller_states(alloc, copies, options)?;
+    let smaller = smaller_states(alloc, copies, options, thin)?;
     let numbered = numbered_states(alloc, smaller)?;
     Ok(Ba::new(alloc, numbered)?)
 }

@@ -2,7 +2,7 @@ use Rattle.std.proofs.Common.{◌≡◌, sym, subst}
 use Rattle.std.specs.Prelude.{MatchOption}
 use Rattle.ltl_spec.specs.Collections.Sets.{IsRising}
 use Rattle.ltl_spec.specs.Automata.Automaton.{edge_cmp}
-use Rattle.ltl_spec.specs.Construction.Merging.{merged_automaton}
+use Rattle.ltl_spec.specs.Construction.Merging.{merged_automaton, unimplied_edges}
 use Rattle.ltl_automaton.specs.SharedView.{automaton_of}
 use Rattle.ltl_buchi.specs.BaView.{IsBa, IsPlain}
 use Rattle.ltl_buchi.proofs.CodeLaws.{all_lists}
@@ -11,6 +11,9 @@ use Rattle.ltl_buchi.proofs.smaller.smaller_states.Goals as goal
 
 pub changed-requires-clause-rise : goal.changed-requires-clause-rise
 changed-requires-clause-rise g c = λ _. all_lists c.args.states c.invariant.ensures (λ es. IsRising edge_cmp es) c.requires.plain.inside.rising
+
+pub changed-requires-clause-thin : goal.changed-requires-clause-thin
+changed-requires-clause-thin g c = λ t. all_lists c.args.states c.invariant.ensures (λ es. unimplied_edges es ≡ es) (c.requires.thin t)
 
 pub returns-in-Some-clause-plain : goal.returns-in-Some-clause-plain
 returns-in-Some-clause-plain g c =

@@ -16,6 +16,11 @@ returns-then-keep_implied g c = λ _.
     never : true ≡ false → ⊥
     never e = cc
 
+pub returns-then-thin : goal.returns-then-thin
+returns-then-thin g c = λ _.
+    stands_by c.args.states.now c.invariant.ensures c.args.keep_implied c.args.names.now c.requires.within c.requires.long (c.are_own.ensures c.if-not-are_own.false) (c.requires.rise c.if-not-rise.false)
+    (λ _. c.requires.thin c.if-thin.true)
+
 pub none_implied-requires : goal.none_implied-requires
 none_implied-requires g c =
     let S = c.args.states.now in
