@@ -45,35 +45,6 @@ struct RowSets<'t, 's, 'a, A: Allocator> {
     keep_implied: bool,
 }
 
-impl<'t, 's, 'a, A: Allocator> RowSets<'t, 's, 'a, A> {
-    /// Nothing is listed yet but the pairs that fulfil until rows.
-    fn new(
-        alloc: &'a A,
-        table: &'t Table<'s, A>,
-        keep_implied: bool,
-    ) -> Result<Self, AllocError>
-        ensures table { IfOk result (λ n. n.table.now ≡ table.now × n.keep_implied ≡ keep_implied) }
-        ensures ready { IfOk result (λ n. AreReady table.now keep_implied n.own.items n.lists n.parts n.groups) }
-        ensures shapes { IfOk result (λ n. AreShapes (table_at table.now) keep_implied n.shapes.shapes.items n.shapes.states.items) }
-        ensures remembered { IfOk result (λ n. AreRemembered (table_at table.now) keep_implied n.joins.lists.items n.joins.steps.items n.wholes.all.items) }
-    {
-        let lists = RowLists::new(alloc, table)?;
-        let own = all_own(alloc, table)?;
-        Ok(RowSets {
-            alloc,
-            table,
-            lists,
-            own,
-            parts: Parts::new(alloc),
-            groups: Groups::new(alloc),
-            shapes: Shapes::new(alloc),
-            joins: Joins::new(alloc),
-            wholes: Wholes::new(alloc),
-            keep_implied,
-        })
-    }
-}
-
 /// The transitions as edges to their sets of rows.
 fn arcs_of<'c, B: Allocator>(
     alloc: &'c B,
@@ -187,22 +158,41 @@ pub(crate) fn reach<'a, A: Allocator>(
     ensures large { IsErrOf result AltFault.TooLarge → IsTooLarge (core_of table.now) keep_implied stated_limits.states stated_limits.edges }
 {
     table.invariant();
-    let mut row_sets = RowSets::new(alloc, table, keep_implied)?;
+    let mut lists = RowLists::new(alloc, table)?;
+    let own = all_own(alloc, table)?;
+    let mut groups = Groups::new(alloc);
+    let shapes = Shapes::new(alloc);
+    let joins = Joins::new(alloc);
+    let wholes = Wholes::new(alloc);
+    let mut parts = Parts::new(alloc);
     let pruning = Pruning {
         rule: Rule::of(keep_implied),
-        own: row_sets.own.as_slice(),
+        own: own.as_slice(),
     };
 
-    // Parts are joined in the order of their numbers. A row beside its operands joins best.
+    // Parts are joined in the order of their numbers, behind those that all have in common. A row beside its operands joins best.
+    let temporal = temporal_rows(table);
     prepare(
         alloc,
         table,
-        &mut row_sets.lists,
-        &mut row_sets.parts,
-        &mut row_sets.groups,
+        &mut lists,
+        &mut parts,
+        &mut groups,
         &pruning,
-        &temporal_rows(table),
+        &temporal,
     )?;
+    let mut row_sets = RowSets {
+        alloc,
+        table,
+        lists,
+        own,
+        parts,
+        groups,
+        shapes,
+        joins,
+        wholes,
+        keep_implied,
+    };
     let root = RowSet::single(place(table, table.root()));
     let limits = Limits {
         states: MOST_STATES,
