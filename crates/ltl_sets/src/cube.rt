@@ -1,6 +1,6 @@
 //! Sets of literals without contradiction.
 
-ghost use Rattle.std.specs.Prelude.{◌≡◌, ◌<◌, ◌≤◌, false, [], ◌∷◌, length};
+ghost use Rattle.std.specs.Prelude.{◌≡◌, ◌<◌, ◌≤◌, false, [], ◌∷◌, length, bit_or, bit_xor};
 ghost use Rattle.std.specs.List.{AllByRecursion, filter};
 ghost use Rattle.std.specs.Ordering.{nat_cmp};
 ghost use Rattle.std.specs.Iterator.{YieldsFirst, item_count};
@@ -9,7 +9,8 @@ ghost use Rattle.ltl_sets.specs.declared.literal.Literal as made;
 ghost use Rattle.ltl_spec.specs.Collections.Sets as sets;
 ghost use Rattle.ltl_spec.specs.Transitions.Cubes as cubes;
 ghost use Rattle.ltl_sets.specs.Literals.{cube_of};
-ghost use Rattle.ltl_sets.specs.Words.{letter_of, forbidden_of};
+ghost use Rattle.std.specs.Simd.Lanes.{zip2};
+ghost use Rattle.ltl_sets.specs.Words.{IsCubeWords, IsLowest, letter_of, forbidden_of, literals};
 
 use crate::lanes;
 use crate::literal::Literal;
@@ -54,6 +55,35 @@ impl Default for Cube {
     fn default() -> Cube {
         Cube::empty()
     }
+}
+
+/// Compares the cubes of two words each as the rising lists of their literals, where this is the lowest place in which they differ.
+#[inline(always)]
+fn cmp_at(
+    positive: u64x4,
+    negative: u64x4,
+    other_positive: u64x4,
+    other_negative: u64x4,
+    p: usize,
+) -> Ordering
+    requires own { IsCubeWords positive negative }
+    requires other { IsCubeWords other_positive other_negative }
+    requires first { IsLowest (zip2 bit_or (zip2 bit_xor positive other_positive) (zip2 bit_xor negative other_negative)) p }
+    ensures { result ≡ cubes.cube_cmp (literals positive negative) (literals other_positive other_negative) }
+{
+    let differing = positive ^ other_positive;
+    let own = if lanes::has(&differing, p) {
+        positive
+    } else {
+        negative
+    };
+    let is_mine = lanes::has(&own, p);
+    let lacking = if is_mine {
+        other_positive | other_negative
+    } else {
+        positive | negative
+    };
+    lanes::list_order(is_mine, lanes::reaches(lacking, p))
 }
 
 impl Cube {
@@ -152,21 +182,26 @@ impl Cube {
     {
         let positive = self.positive ^ other.positive;
         let negative = self.negative ^ other.negative;
-        let Some(p) = lanes::lowest(positive | negative) else {
-            return Ordering::Equal;
-        };
-        let own = if lanes::has(&positive, p) {
-            self.positive
-        } else {
-            self.negative
-        };
-        let is_mine = lanes::has(&own, p);
-        let lacking = if is_mine {
-            other.positive | other.negative
-        } else {
-            self.positive | self.negative
-        };
-        lanes::list_order(is_mine, lanes::reaches(lacking, p))
+        let differing = positive | negative;
+        match lanes::lowest_of_first(differing) {
+            Some(p) => cmp_at(
+                self.positive,
+                self.negative,
+                other.positive,
+                other.negative,
+                p,
+            ),
+            None => match lanes::lowest(differing) {
+                Some(q) => cmp_at(
+                    self.positive,
+                    self.negative,
+                    other.positive,
+                    other.negative,
+                    q,
+                ),
+                None => Ordering::Equal,
+            },
+        }
     }
 
     /// The literals by proposition, the positive one first.

@@ -1,9 +1,9 @@
 // Bits numbered from 0 to 255, in four words: bit i stands in word i / 64.
 
-ghost use Rattle.std.specs.Prelude.{◌≡◌, ℕ, ◌<◌, cond, nat_eq, MatchOption, fold};
+ghost use Rattle.std.specs.Prelude.{◌≡◌, ℕ, ◌<◌, cond, nat_eq, IfSome, MatchOption, fold};
 ghost use Rattle.std.specs.Bool.{Decides, beq};
 ghost use Rattle.std.specs.declared.cmp.Ordering.TheVariants.{Less, Greater};
-ghost use Rattle.ltl_sets.specs.Words.{IsWords, bit_in, HasNone, Reaches, HasLater, FindsLowest, LosesBit, word_alone, hash_of, mixed};
+ghost use Rattle.ltl_sets.specs.Words.{IsWords, bit_in, HasNone, Reaches, HasLater, FindsLowest, IsLowest, LosesBit, word_alone, hash_of, mixed};
 
 use std::cmp::Ordering;
 use std::hash::{Hash, Hasher};
@@ -95,6 +95,19 @@ pub(crate) fn lowest(lanes: u64x4) -> Option<usize>
     ensures { FindsLowest lanes result }
 {
     take_lowest(&mut lanes.to_array())
+}
+
+// The lowest one, if the first word has one. Mostly it does, and then no word has to be looked for.
+#[inline(always)]
+pub(crate) fn lowest_of_first(lanes: u64x4) -> Option<usize>
+    requires { IsWords lanes }
+    ensures { IfSome result (IsLowest lanes) }
+{
+    let word = lanes.to_array()[0];
+    if word == 0 {
+        return None;
+    }
+    Some(word.trailing_zeros() as usize)
 }
 
 // How two rising lists compare, where one has the first member in which they differ: whether it is
