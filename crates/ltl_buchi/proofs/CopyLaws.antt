@@ -21,6 +21,7 @@ use Rattle.ltl_sets.specs.CubeEq.{same_cube, cube_Decides}
 use Rattle.ltl_automaton.specs.Bounds.{IsBounded}
 use Rattle.ltl_automaton.specs.Net.{key_of, targets_of, edge_in, state_of, IsReachable}
 use Rattle.ltl_automaton.specs.SharedView.{Shared, automaton_of}
+use Rattle.ltl_automaton.specs.declared.arc.Arc.{Arc}
 use Rattle.ltl_automaton.specs.declared.edge.Edge as plain
 use Rattle.ltl_automaton.proofs.EdgeLaws.{map_pushed}
 use Rattle.ltl_alt.specs.GbaView as gba
@@ -62,10 +63,10 @@ pub no_arcs_past : (A : Automaton) (p : Copy) → length A.states ≤ p.state �
 no_arcs_past A p l = ap (λ (t : State). map arc_of (set_of copy_edge_cmp (map (copy_edge A p.level) t.edges))) (sym (get_or_past A.states p.state (record { accepting = true; edges = [] }) l))
 
 -- the edges of a copy, as the code makes them
-pub made_arcs : (A : Automaton) (sets : ℕ) (p : Copy) (edges : List plain.Edge) (xs ys : List code.CopyEdge) → sets ≡ A.sets → map gba.edge_of edges ≡ (state_at A p.state).edges
-    → map copy_edge_of xs ≡ set_of copy_edge_cmp (map (lifted_edge sets p.level) (map gba.edge_of edges)) → ys ≡ xs → map arc_of (map copy_edge_of ys) ≡ map arc_of (copy_edges A p)
-made_arcs A sets p edges xs ys n e h y =
-    ap (λ zs. map arc_of (map copy_edge_of zs)) y ∙ ap (map arc_of) (h ∙ ap (λ m. set_of copy_edge_cmp (map (lifted_edge m p.level) (map gba.edge_of edges))) n ∙ ap (λ es. set_of copy_edge_cmp (map (lifted_edge A.sets p.level) es)) e)
+pub made_arcs : (A : Automaton) (sets : ℕ) (p : Copy) (edges : List plain.Edge) (xs : List (Arc Copy)) → sets ≡ A.sets → map gba.edge_of edges ≡ (state_at A p.state).edges
+    → xs ≡ map arc_of (set_of copy_edge_cmp (map (lifted_edge sets p.level) (map gba.edge_of edges))) → xs ≡ map arc_of (copy_edges A p)
+made_arcs A sets p edges xs n e h =
+    h ∙ ap (map arc_of) (ap (λ m. set_of copy_edge_cmp (map (lifted_edge m p.level) (map gba.edge_of edges))) n ∙ ap (λ es. set_of copy_edge_cmp (map (lifted_edge A.sets p.level) es)) e)
 
 -- copies with the same list on the same level have the same edges
 pub same_arcs : (A : Automaton) (s : Shared) (p q l m : Copy) → automaton_of s ≡ A → IsListOf s p l → IsListOf s q m → m ≡ l → map arc_of (copy_edges A q) ≡ map arc_of (copy_edges A p)

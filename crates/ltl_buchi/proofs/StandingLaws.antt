@@ -1,5 +1,5 @@
 -- Automata that merging leaves as they are.
-use Rattle.std.proofs.Common.{◌≡◌, ℕ, zero, suc, ◌+◌, ◌<◌, ◌≤◌, Bool, true, false, inl, inr, List, [], ◌∷◌, map, length, refl, sym, ◌∙◌, ap, subst, arith, Some}
+use Rattle.std.proofs.Common.{◌≡◌, ℕ, zero, suc, ◌+◌, ◌-◌, ◌<◌, ◌≤◌, Bool, true, false, inl, inr, List, [], ◌∷◌, map, length, refl, sym, ◌∙◌, ap, subst, arith, Some}
 use Rattle.std.specs.Prelude.{slice_get, slice_index, slice_index_or, ◌==◌, All}
 use Rattle.std.specs.List.{range_with_len}
 use Rattle.std.specs.Ordering.{nat_cmp}
@@ -8,37 +8,65 @@ use Rattle.std.proofs.lemmas.Bool.{cases_lt}
 use Rattle.std.proofs.lemmas.Bool.Decides.{Decides-eqb}
 use Rattle.std.proofs.lemmas.List.{get_or-map, length-map}
 use Rattle.std.proofs.lemmas.List.FromFn.{length-range_with_len, get_or-range_with_len}
-use Rattle.ltl_spec.specs.Collections.Sets.{Has, IsRising, set_of}
+use Rattle.std.specs.declared.cmp.Ordering.{Ordering}
+use Rattle.ltl_spec.specs.Collections.Sets.{Has, IsLinearOrder, IsRising, set_of}
 use Rattle.ltl_spec.specs.Collections.Lists.{place_of}
 use Rattle.ltl_spec.specs.Automata.Automaton.{Automaton, State, Edge, edge_cmp, state_at}
 use Rattle.ltl_spec.specs.Construction.Merging.{retargeted_edge, retargeted_state, without_implied, unimplied_edges, quotient, class_names}
 use Rattle.ltl_spec.proofs.Collections.SetLaws.{all_at, all_from, set_of_same}
-use Rattle.ltl_spec.proofs.Collections.Orders.{nat_linear, edge_linear}
+use Rattle.ltl_spec.specs.Construction.Levels.{CopyEdge, copy_edge_cmp}
+use Rattle.ltl_spec.proofs.Collections.Orders.{copy_edge_linear, nat_linear, edge_linear}
 use Rattle.ltl_spec.proofs.Collections.ListLaws.{All-at_has, HasNoRepeats-map, place_again}
 use Rattle.ltl_spec.proofs.Construction.EdgeBounds.{HasNoRepeats-rising}
 use Rattle.ltl_spec.proofs.Construction.RoundLaws.{name_first, rounds_end}
-use Rattle.ltl_spec.proofs.Collections.CaseLaws.{below_equal_above}
+use Rattle.ltl_spec.proofs.Collections.CaseLaws.{below_equal_above, below_or_last}
 use Rattle.std.proofs.lemmas.Option.{get_or_from_slice_get, slice_get-get_or}
 use Rattle.ltl_automaton.specs.EdgeView.{edge_of}
 use Rattle.ltl_automaton.specs.SharedView.{Shared, IsShared, automaton_of}
 use Rattle.ltl_automaton.specs.declared.edge.Edge as made
 use Rattle.ltl_buchi.specs.Apart.{AreApart}
 use Rattle.ltl_buchi.specs.Chains.{edge_at}
+use Rattle.ltl_buchi.specs.Copies.{IsBelowLifted, RiseLifted, lifted_edge}
 use Rattle.ltl_buchi.specs.Classes.{IsCoded, IsLeastAlike, IsWithinStates, coded_place, list_view, retargeted_list}
 use Rattle.ltl_buchi.proofs.ApartLaws.{seen_apart}
 use Rattle.ltl_buchi.proofs.CodeLaws.{seen_again, is_at, has_list, place, lists_within, next_round, ends_early}
 use Rattle.ltl_buchi.proofs.MergedLaws.{of_all}
 
--- edges of which each is below the next one rise
-pub rising_steps : (es : List made.Edge) → ((k : ℕ) → k + 1 < length es → edge_cmp (edge_of (edge_at es k)) (edge_of (edge_at es (k + 1))) ≡ Less) → IsRising edge_cmp (map edge_of es)
-rising_steps [] h = tt
-rising_steps (x ∷ []) h = (tt, tt)
-rising_steps (x ∷ y ∷ ys) h =
-    let rest = rising_steps (y ∷ ys) (λ k l.
+-- edges of which each is below the next one, as they are seen, rise
+pub rising_steps : {K : Type 0} {cmp : K → K → Ordering} → IsLinearOrder cmp → (f : made.Edge → K) (es : List made.Edge) → ((k : ℕ) → k + 1 < length es → cmp (f (edge_at es k)) (f (edge_at es (k + 1))) ≡ Less) → IsRising cmp (map f es)
+rising_steps linear f [] h = tt
+rising_steps linear f (x ∷ []) h = (tt, tt)
+rising_steps {cmp = cmp} linear f (x ∷ y ∷ ys) h =
+    let rest = rising_steps linear f (y ∷ ys) (λ k l.
     let z : suc k + 1 ≡ suc (k + 1) = omega arith in
-    subst (λ j. edge_cmp (edge_of (edge_at (x ∷ y ∷ ys) (suc k))) (edge_of (edge_at (x ∷ y ∷ ys) j)) ≡ Less) z (h (suc k) (omega (arith, l)))) in
-    let here : edge_cmp (edge_of x) (edge_of y) ≡ Less = h 0 (omega arith) in
-    ((here, all_from (λ z. edge_cmp (edge_of x) z ≡ Less) (map edge_of ys) (λ z m. edge_linear.total.trans (edge_of x) (edge_of y) z here (all_at (λ w. edge_cmp (edge_of y) w ≡ Less) (map edge_of ys) z rest.0 m))), rest)
+    subst (λ j. cmp (f (edge_at (x ∷ y ∷ ys) (suc k))) (f (edge_at (x ∷ y ∷ ys) j)) ≡ Less) z (h (suc k) (omega (arith, l)))) in
+    let here : cmp (f x) (f y) ≡ Less = h 0 (omega arith) in
+    ((here, all_from (λ z. cmp (f x) z ≡ Less) (map f ys) (λ z m. linear.total.trans (f x) (f y) z here (all_at (λ w. cmp (f y) w ≡ Less) (map f ys) z rest.0 m))), rest)
+
+-- edges of which each is below the next one by literals and target rise on each level
+pub rising_lifted : (es : List made.Edge) → ((k : ℕ) → k + 1 < length es → IsBelowLifted (edge_of (edge_at es k)) (edge_of (edge_at es (k + 1)))) → RiseLifted (map edge_of es)
+rising_lifted es h = λ sets level.
+    subst (IsRising copy_edge_cmp) (sym (twice (lifted_edge sets level) es)) (rising_steps copy_edge_linear (λ e. lifted_edge sets level (edge_of e)) es (λ k l. h k l sets level))
+  where
+    twice : (f : Edge → CopyEdge) (xs : List made.Edge) → map f (map edge_of xs) ≡ map (λ e. f (edge_of e)) xs
+    twice f [] = refl
+    twice f (x ∷ xs) = ap (λ ys. f (edge_of x) ∷ ys) (twice f xs)
+
+-- the edge that was looked up
+looked_up : (es : List made.Edge) (i : ℕ) (e : made.Edge) → i < length es → e ≡ slice_index_or es i e → edge_at es i ≡ e
+looked_up es i e l g = get_or_from_slice_get es i e (record { cube = []; target = 0; marks = [] }) (slice_get-get_or es i e l ∙ ap (λ (f : made.Edge). Some f) (sym g))
+
+-- one more edge is below the next one
+pub lifted_more : (es : List made.Edge) (place : ℕ) (e f : made.Edge) → 1 ≤ place → place < length es → e ≡ slice_index_or es (place - 1) e → f ≡ slice_index_or es place f → IsBelowLifted (edge_of e) (edge_of f)
+    → ((k : ℕ) → k + 1 < place → IsBelowLifted (edge_of (edge_at es k)) (edge_of (edge_at es (k + 1)))) → (k : ℕ) → k + 1 < place + 1 → IsBelowLifted (edge_of (edge_at es k)) (edge_of (edge_at es (k + 1)))
+lifted_more es place e f some inside g h below before k l = elim (below_or_last (k + 1) place l) [
+  | inl b ↦ before k b
+  | inr q ↦
+      let here : k ≡ place - 1 = omega (arith, q, some) in
+      let own : edge_at es k ≡ e = ap (edge_at es) here ∙ looked_up es (place - 1) e (omega (arith, inside, some)) g in
+      let next : edge_at es (k + 1) ≡ f = ap (edge_at es) q ∙ looked_up es place f inside h in
+      subst (λ (x : made.Edge). IsBelowLifted (edge_of x) (edge_of (edge_at es (k + 1)))) (sym own) (subst (λ (y : made.Edge). IsBelowLifted (edge_of e) (edge_of y)) (sym next) below)
+]
 
 -- names that are the states' own
 pub own_range : (n : ℕ) (names : List ℕ) → length names ≡ n → ((k : ℕ) → k < n → slice_index names k ≡ k) → names ≡ range_with_len 0 n

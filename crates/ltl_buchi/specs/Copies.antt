@@ -1,6 +1,7 @@
 -- The copies of an automaton's states as things that are listed.
 use Rattle.std.specs.Prelude.{◌≡◌, ◌==◌, ◌<◌, ◌≤◌, ℕ, if◌then◌else◌, List, [], length, map, slice_get, slice_index_or, Some}
-use Rattle.ltl_spec.specs.Collections.Sets.{set_of}
+use Rattle.std.specs.declared.cmp.Ordering.TheVariants.{Less}
+use Rattle.ltl_spec.specs.Collections.Sets.{IsRising, set_of}
 use Rattle.ltl_spec.specs.Automata.Automaton.{Automaton, Edge, state_at}
 use Rattle.ltl_spec.specs.Construction.Levels.{Copy, CopyEdge, copy_edge_cmp, copy_edges, next_level}
 use Rattle.ltl_automaton.specs.Net.{Net}
@@ -23,6 +24,14 @@ pub record IsListOf (s : Shared) (p l : Copy) : Type 0 where
 -- the edge of a copy on this level, with so many acceptance sets
 abbrev pub lifted_edge : ℕ → ℕ → Edge → CopyEdge
 lifted_edge sets level e = record { cube = e.cube; copy = record { state = e.target; level = next_level sets e.marks level } }
+
+-- with any number of sets and on each level the first edge is below the second
+abbrev pub IsBelowLifted : Edge → Edge → Type 0
+IsBelowLifted e f = (sets level : ℕ) → copy_edge_cmp (lifted_edge sets level e) (lifted_edge sets level f) ≡ Less
+
+-- with any number of sets and on each level these edges rise
+abbrev pub RiseLifted : List Edge → Type 0
+RiseLifted es = (sets level : ℕ) → IsRising copy_edge_cmp (map (lifted_edge sets level) es)
 
 -- without marks
 abbrev pub arc_of : CopyEdge → Arc Copy

@@ -1,13 +1,13 @@
 //! Levels: from acceptance sets on edges to accepting states. Each state has a copy for each number of sets met in turn.
 
-ghost use Rattle.std.specs.Prelude.{◌≡◌, map, IfOk, IfSome, OnOk, IsErrOf};
+ghost use Rattle.std.specs.Prelude.{◌≡◌, map, true, IfOk, IfSome, OnOk, IsErrOf};
 ghost use Rattle.ltl_spec.specs.Collections.Sets.{set_of};
 ghost use Rattle.ltl_spec.specs.Construction.Levels as levels_of;
 ghost use Rattle.ltl_spec.specs.Tools.Limits.{stated_limits};
 ghost use Rattle.ltl_automaton.specs.SharedView.{automaton_of};
 ghost use Rattle.ltl_alt.specs.GbaView as gba;
 ghost use Rattle.ltl_buchi.specs.BaView.{IsPlainBa};
-ghost use Rattle.ltl_buchi.specs.Copies.{HaveAtLeast, IsListOf, arc_of, copy_edge_of, level_net, lifted_edge};
+ghost use Rattle.ltl_buchi.specs.Copies.{HaveAtLeast, IsBelowLifted, IsListOf, RiseLifted, arc_of, copy_edge_of, level_net, lifted_edge};
 
 use crate::automaton::Ba;
 use crate::fault::BaFault;
@@ -158,6 +158,53 @@ fn sort_copies<'a, A: Allocator>(edges: &mut Vec<CopyEdge, &'a A>)
     edges.dedup();
 }
 
+/// Whether an edge is below the other one by its literals and its target, so that it is on each level.
+#[inline(always)]
+fn is_below(edge: &GbaEdge, other: &GbaEdge) -> bool
+    ensures { result ≡ true → IsBelowLifted (gba.edge_of edge.now) (gba.edge_of other.now) }
+{
+    match edge.cube.cmp_list(&other.cube) {
+        Ordering::Less => true,
+        Ordering::Equal => edge.target < other.target,
+        Ordering::Greater => false,
+    }
+}
+
+/// Whether each edge is below the next one by its literals and its target. Then on each level the edges are sorted and distinct.
+fn rise_lifted(edges: &[GbaEdge]) -> bool
+    ensures { result ≡ true → RiseLifted (map gba.edge_of edges.now) }
+{
+    for place in 1..edges.len() {
+        if !is_below(&edges[place - 1], &edges[place]) {
+            return false;
+        }
+    }
+    true
+}
+
+/// The edges of a copy without marks, in the order of the automaton's.
+fn lifted_arcs<'c, B: Allocator>(
+    alloc: &'c B,
+    sets: usize,
+    edges: &[GbaEdge],
+    level: usize,
+) -> Result<Vec<Arc<Copied>, &'c B>, AllocError>
+    ensures { IfOk result (λ v. v.items ≡ map arc_of (map (lifted_edge sets level) (map gba.edge_of edges.now))) }
+{
+    let mut arcs = Vec::with_capacity(alloc, edges.len())?;
+    for edge in edges {
+        arcs.push(Arc {
+            cube: edge.cube,
+            key: Copied {
+                state: edge.target,
+                level: next_level(sets, &edge.marks, level),
+            },
+            marks: RowSet::empty(),
+        })?;
+    }
+    Ok(arcs)
+}
+
 /// The edges without marks.
 fn arcs_of<'c, B: Allocator>(
     alloc: &'c B,
@@ -174,6 +221,22 @@ fn arcs_of<'c, B: Allocator>(
         })?;
     }
     Ok(arcs)
+}
+
+/// The edges of a copy without marks, sorted and distinct. Mostly they stand so.
+fn copy_arcs<'c, B: Allocator>(
+    alloc: &'c B,
+    sets: usize,
+    edges: &[GbaEdge],
+    level: usize,
+) -> Result<Vec<Arc<Copied>, &'c B>, AllocError>
+    ensures { IfOk result (λ v. v.items ≡ map arc_of (set_of levels_of.copy_edge_cmp (map (lifted_edge sets level) (map gba.edge_of edges.now)))) }
+{
+    if rise_lifted(edges) {
+        return lifted_arcs(alloc, sets, edges, level);
+    }
+    let copied = copy_edges(alloc, sets, edges, level)?;
+    arcs_of(alloc, copied.as_slice())
 }
 
 /// Lists on levels, by number.
@@ -253,8 +316,7 @@ impl<'b, 'g, 'a, A: Allocator> Successors<Copied> for Copies<'b, 'g, 'a, A> {
         automaton.invariant();
         if key.state < automaton.len() {
             let edges = automaton.edges(key.state);
-            let copied = copy_edges(alloc, automaton.sets(), edges, key.level)?;
-            Ok(arcs_of(alloc, copied.as_slice())?)
+            Ok(copy_arcs(alloc, automaton.sets(), edges, key.level)?)
         } else {
             Ok(Vec::new(alloc))
         }

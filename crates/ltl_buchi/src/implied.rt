@@ -99,7 +99,8 @@ impl Below for IndexedEdge {
 
     fn tally(&self, counts: &mut [u32]) {
         tally_literals(&self.edge.cube, counts);
-        for place in 0..64usize {
+        let unused = self.ones.leading_zeros() as usize;
+        for place in 0..64usize.saturating_sub(unused) {
             if self.has_one(place) {
                 count(counts, LITERALS + place);
             }
