@@ -146,7 +146,7 @@ impl PartialEq for Pair {
 
     #[inline(always)]
     fn eq(&self, other: &Pair) -> bool {
-        self.cmp_list(other).is_eq()
+        self.targets == other.targets && self.cube == other.cube
     }
 }
 

@@ -9,7 +9,7 @@ pub is_marked-is_mark-requires-clause-listed : goal.is_marked-is_mark-requires-c
 is_marked-is_mark-requires-clause-listed g c =
     let count = untils_count c.args.table.now c.invariant.ensures in
     let all = c.until_count-number-end.ensures.count in
-    let own = c.requires.count in
+    let own = c.requires.own.count in
     omega arith
 
 pub untils-preserved : goal.untils-preserved
