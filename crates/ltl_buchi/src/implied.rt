@@ -3,7 +3,7 @@
 ghost use Rattle.std.specs.Prelude.{◌≡◌, ◌<◌, ◌≤◌, length, map, All, IfOk, true};
 ghost use Rattle.ltl_spec.specs.Construction.Merging as merging;
 ghost use Rattle.ltl_automaton.specs.EdgeView.{edge_of};
-ghost use Rattle.ltl_buchi.specs.IndexedEdge.{AreAsked, AreOfWeight, IsAsked, IsOfWeight, IsWeighedLike};
+ghost use Rattle.ltl_buchi.specs.IndexedEdge.{AreAsked, IsAsked, IsOfWeight, IsWeighedLike};
 ghost use Rattle.ltl_buchi.specs.Chains.{AreLinks};
 
 use crate::chains::{are_unimplied, linked, unimplied_of_few};
@@ -146,22 +146,6 @@ fn weight(edge: &Edge) -> usize
     literals + (RowSet::LIMIT - marks)
 }
 
-/// Whether all ask for as much as the first one. An edge that implies another one with its target asks for less.
-fn are_of_one_weight(edges: &[Edge]) -> bool
-    ensures { result ≡ true → AreOfWeight edges.now }
-{
-    let Some(first) = edges.first() else {
-        return true;
-    };
-    let first_weight = weight(first);
-    'edges: for edge in edges {
-        if weight(edge) != first_weight {
-            return false;
-        }
-    }
-    true
-}
-
 /// Whether the edge at a place asks for as much as the one at the other place, which is counted from 1, and 0 for none.
 fn weighs_like(edges: &[Edge], place: usize, link: usize) -> bool
     requires place { place < length edges.now }
@@ -195,10 +179,6 @@ fn unimplied_of_many<'a, A: Allocator>(
 ) -> Result<Vec<Edge, &'a A>, AllocError>
     ensures { IfOk result (λ es. map edge_of es.items ≡ merging.unimplied_edges (map edge_of edges.now)) }
 {
-    if are_of_one_weight(edges) {
-        let all = Vec::from_slice(alloc, edges)?;
-        return Ok(all);
-    }
     let asked = ask_all(alloc, edges)?;
     let lookup = Lookup::new(alloc, asked.as_slice())?;
     let mut kept = Vec::with_capacity(alloc, edges.len())?;
