@@ -6,7 +6,7 @@ ghost use Rattle.ltl_automaton.specs.EdgeView.{edge_of};
 ghost use Rattle.ltl_buchi.specs.IndexedEdge.{AreAsked, IsAsked, IsOfWeight, IsWeighedLike};
 ghost use Rattle.ltl_buchi.specs.Chains.{AreLinks};
 
-use crate::chains::{are_unimplied, linked, unimplied_of_few};
+use crate::chains::{linked, unimplied_of_few};
 use least::{Below, Counting, Lookup};
 use ltl_alt::elements::{LITERALS, count, has_literal, tally_literals};
 use ltl_automaton::Edge;
@@ -14,11 +14,8 @@ use ltl_sets::{Cube, RowSet};
 use smallvec::SmallVec;
 use std::alloc::{AllocError, Allocator};
 
-/// So many edges with one target are looked at one by one before it is asked whether all ask for as much.
-const FEW: usize = 8;
-
-/// So many are looked at one by one where they don't.
-const MORE: usize = 32;
+/// So many edges with one target are looked at one by one where they don't ask for as much as one another.
+const FEW: usize = 32;
 
 /// An edge, with the ones and the zeros of its target's number, each as the bits of a word. What two edges have in common is such a thing too: it has
 /// those digits that both targets have, and the target of its edge plays no part.
@@ -205,7 +202,7 @@ pub(crate) fn are_found_unimplied<'a, A: Allocator>(
     ensures found { IfOk result (λ b. b ≡ true → merging.unimplied_edges (map edge_of edges.now) ≡ map edge_of edges.now) }
 {
     let links = linked(alloc, edges, heads)?;
-    Ok(are_unimplied(edges, heads, links.as_slice(), FEW) || weigh_alike(edges, links.as_slice()))
+    Ok(weigh_alike(edges, links.as_slice()))
 }
 
 /// The edges without those that another one with the same target implies. The heads are room for the latest edge to each target.
@@ -219,12 +216,10 @@ pub(crate) fn unimplied<'a, A: Allocator>(
     ensures edges { IfOk result (λ es. map edge_of es.items ≡ merging.unimplied_edges (map edge_of edges.entry.items)) }
 {
     let links = linked(alloc, edges.as_slice(), heads)?;
-    if are_unimplied(edges.as_slice(), heads, links.as_slice(), FEW)
-        || weigh_alike(edges.as_slice(), links.as_slice())
-    {
+    if weigh_alike(edges.as_slice(), links.as_slice()) {
         return Ok(edges);
     }
-    match unimplied_of_few(alloc, edges.as_slice(), heads, links.as_slice(), MORE)? {
+    match unimplied_of_few(alloc, edges.as_slice(), heads, links.as_slice(), FEW)? {
         Some(kept) => Ok(kept),
         None => unimplied_of_many(alloc, edges.as_slice()),
     }
