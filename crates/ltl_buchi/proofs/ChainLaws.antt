@@ -144,11 +144,3 @@ seen_above es k p o e r b l m i j w t = (λ n. implies_other (edge_of (edge_is e
 
 pub target_seen : (es : List made.Edge) (k : ℕ) (e : made.Edge) → k < length es → (slice_index_or es k e).target ≡ target_at es k
 target_seen es k e l = ap (λ (x : made.Edge). x.target) (any_edge es k e _ l)
-
--- one more edge that is or isn't implied
-pub none_next : (es : List made.Edge) (n : ℕ) (b : Bool) → ((k : ℕ) → k < n → list_any (λ f. implies_other f (edge_of (edge_at es k))) (map edge_of es) ≡ false) → b ≡ list_any (λ f. implies_other f (edge_of (edge_at es n))) (map edge_of es) → b ≡ false
-    → (k : ℕ) → k < n + 1 → list_any (λ f. implies_other f (edge_of (edge_at es k))) (map edge_of es) ≡ false
-none_next es n b w e t k l = elim (below_equal_above k n) [
-  | inl a ↦ w k a
-  | inr r ↦ elim r [ inl q ↦ ap (λ i. list_any (λ f. implies_other f (edge_of (edge_at es i))) (map edge_of es)) q ∙ sym e ∙ t | inr a ↦ absurd (omega (arith, l, a)) ]
-]

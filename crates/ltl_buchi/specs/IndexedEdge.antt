@@ -4,7 +4,7 @@ use Rattle.std.specs.Int.{w64, bit_not}
 use Rattle.std.specs.Ordering.{nat_cmp}
 use Rattle.std.proofs.Common.{ap, ◌∙◌}
 use Rattle.least.specs.Bits.{is_within, within_transitive}
-use Rattle.ltl_spec.specs.Collections.Sets.{Has, is_subset}
+use Rattle.ltl_spec.specs.Collections.Sets.{is_subset}
 use Rattle.ltl_spec.specs.Transitions.Cubes.{literal_cmp}
 use Rattle.ltl_spec.specs.Automata.Automaton.{Edge}
 use Rattle.ltl_spec.specs.Construction.Merging.{same_edge}
@@ -41,10 +41,6 @@ pub record IsOfWeight (w : ℕ) (e : Edge) : Type 0 where
 -- of a place and one before it, counted from 1, if there is one, the edges ask for as much
 abbrev pub IsWeighedLike : List edges.Edge → ℕ → ℕ → Type 0
 IsWeighedLike es place link = 0 < link → (w : ℕ) × IsOfWeight w (edge_of (edge_at es place)) × IsOfWeight w (edge_of (edge_at es (link - 1)))
-
--- all ask for as much
-abbrev pub AreOfWeight : List edges.Edge → Type 0
-AreOfWeight es = (w : ℕ) × ((e : edges.Edge) → Has es e → IsOfWeight w (edge_of e))
 
 -- the digits of k are digits of l, and where their targets are the same k implies l
 abbrev pub is_below : made.IndexedEdge → made.IndexedEdge → Bool

@@ -107,24 +107,6 @@ pub(crate) fn is_implied(
     None
 }
 
-/// Whether it is found of each edge that none implies it, where no more than `few` are looked at for each.
-pub(crate) fn are_unimplied(edges: &[Edge], heads: &[usize], links: &[usize], few: usize) -> bool
-    requires within { All (λ e. e.target < length heads.now) edges.now }
-    requires heads { AreHeads edges.now heads.now (length edges.now) }
-    requires links { AreLinks edges.now links.now (length edges.now) }
-    ensures { result ≡ true → merging.unimplied_edges (map edge_of edges.now) ≡ map edge_of edges.now }
-{
-    for place in 0..edges.len() {
-        let Some(implied) = is_implied(edges, heads, links, place, few) else {
-            return false;
-        };
-        if implied {
-            return false;
-        }
-    }
-    true
-}
-
 /// The edges that none implies, unless more edges have one target than are looked at, `few`.
 pub(crate) fn unimplied_of_few<'a, A: Allocator>(
     alloc: &'a A,

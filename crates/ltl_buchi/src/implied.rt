@@ -3,10 +3,10 @@
 ghost use Rattle.std.specs.Prelude.{◌≡◌, ◌<◌, ◌≤◌, length, map, All, IfOk, true};
 ghost use Rattle.ltl_spec.specs.Construction.Merging as merging;
 ghost use Rattle.ltl_automaton.specs.EdgeView.{edge_of};
-ghost use Rattle.ltl_buchi.specs.IndexedEdge.{AreAsked, AreOfWeight, IsAsked, IsOfWeight, IsWeighedLike};
+ghost use Rattle.ltl_buchi.specs.IndexedEdge.{AreAsked, IsAsked, IsOfWeight, IsWeighedLike};
 ghost use Rattle.ltl_buchi.specs.Chains.{AreLinks};
 
-use crate::chains::{are_unimplied, linked, unimplied_of_few};
+use crate::chains::{linked, unimplied_of_few};
 use least::{Below, Counting, Lookup};
 use ltl_alt::elements::{LITERALS, count, has_literal, tally_literals};
 use ltl_automaton::Edge;
@@ -14,11 +14,8 @@ use ltl_sets::{Cube, RowSet};
 use smallvec::SmallVec;
 use std::alloc::{AllocError, Allocator};
 
-/// So many edges with one target are looked at one by one before it is asked whether all ask for as much.
-const FEW: usize = 8;
-
-/// So many are looked at one by one where they don't.
-const MORE: usize = 32;
+/// So many edges with one target are looked at one by one where they don't ask for as much as one another.
+const FEW: usize = 32;
 
 /// An edge, with the ones and the zeros of its target's number, each as the bits of a word. What two edges have in common is such a thing too: it has
 /// those digits that both targets have, and the target of its edge plays no part.
@@ -147,22 +144,6 @@ fn weight(edge: &Edge) -> usize
     literals + (RowSet::LIMIT - marks)
 }
 
-/// Whether all ask for as much as the first one. An edge that implies another one with its target asks for less.
-fn are_of_one_weight(edges: &[Edge]) -> bool
-    ensures { result ≡ true → AreOfWeight edges.now }
-{
-    let Some(first) = edges.first() else {
-        return true;
-    };
-    let first_weight = weight(first);
-    'edges: for edge in edges {
-        if weight(edge) != first_weight {
-            return false;
-        }
-    }
-    true
-}
-
 /// Whether the edge at a place asks for as much as the one at the other place, which is counted from 1, and 0 for none.
 fn weighs_like(edges: &[Edge], place: usize, link: usize) -> bool
     requires place { place < length edges.now }
@@ -196,10 +177,6 @@ fn unimplied_of_many<'a, A: Allocator>(
 ) -> Result<Vec<Edge, &'a A>, AllocError>
     ensures { IfOk result (λ es. map edge_of es.items ≡ merging.unimplied_edges (map edge_of edges.now)) }
 {
-    if are_of_one_weight(edges) {
-        let all = Vec::from_slice(alloc, edges)?;
-        return Ok(all);
-    }
     let asked = ask_all(alloc, edges)?;
     let lookup = Lookup::new(alloc, asked.as_slice())?;
     let mut kept = Vec::with_capacity(alloc, edges.len())?;
@@ -226,7 +203,7 @@ pub(crate) fn are_found_unimplied<'a, A: Allocator>(
     ensures found { IfOk result (λ b. b ≡ true → merging.unimplied_edges (map edge_of edges.now) ≡ map edge_of edges.now) }
 {
     let links = linked(alloc, edges, heads)?;
-    Ok(are_unimplied(edges, heads, links.as_slice(), FEW) || weigh_alike(edges, links.as_slice()))
+    Ok(weigh_alike(edges, links.as_slice()))
 }
 
 /// The edges without those that another one with the same target implies. The heads are room for the latest edge to each target.
@@ -240,12 +217,10 @@ pub(crate) fn unimplied<'a, A: Allocator>(
     ensures edges { IfOk result (λ es. map edge_of es.items ≡ merging.unimplied_edges (map edge_of edges.entry.items)) }
 {
     let links = linked(alloc, edges.as_slice(), heads)?;
-    if are_unimplied(edges.as_slice(), heads, links.as_slice(), FEW)
-        || weigh_alike(edges.as_slice(), links.as_slice())
-    {
+    if weigh_alike(edges.as_slice(), links.as_slice()) {
         return Ok(edges);
     }
-    match unimplied_of_few(alloc, edges.as_slice(), heads, links.as_slice(), MORE)? {
+    match unimplied_of_few(alloc, edges.as_slice(), heads, links.as_slice(), FEW)? {
         Some(kept) => Ok(kept),
         None => unimplied_of_many(alloc, edges.as_slice()),
     }

@@ -6,8 +6,8 @@
 //!
 //! What flows: a `Table`, by `ltl_alt` a `Gba`, merged; its copies on levels, a `Ba` whose accepting states are those of the last level; merged again
 //! and numbered. An automaton that merging leaves as it is (`standing`) is handed on without a copy (`smaller`), and so is one that is numbered as it
-//! stands (`listed`). Where names tell all targets apart (`apart`), merging is done. Implied edges are sought along chains of edges with one target
-//! (`chains`), by weights, and by an index where these differ and chains are long (`implied`). Each automaton is let go as soon as the next one
+//! stands (`listed`). Where names tell all targets apart (`apart`), merging is done. Implied edges are sought where edges with one target
+//! differ in weight, along chains of these (`chains`), and by an index where chains are long (`implied`). Each automaton is let go as soon as the next one
 //! stands. A `Gen` is a merged `Gba` in the numbers in which it is printed.
 //!
 //! ```

@@ -9,12 +9,8 @@ use Rattle.ltl_buchi.specs.IndexedEdge.{is_below, is_other}
 use Rattle.ltl_buchi.proofs.AskedLaws.{implied_test}
 use Rattle.ltl_automaton.proofs.NetLaws.{took}
 use Rattle.ltl_buchi.proofs.MergeLaws.{kept_next, dropped_next}
-use Rattle.ltl_buchi.proofs.WeightLaws.{one_weight}
 use Rattle.ltl_buchi.proofs.implied.unimplied_of_many.Goals as goal
 use Rattle.ltl_buchi.proofs.implied.unimplied_of_many.Goals.{then-not-has_lesser+in_ok-push, else-not-has_lesser}
-
-pub returns-then-are_of_one_weight : goal.returns-then-are_of_one_weight
-returns-then-are_of_one_weight g c = one_weight c.args.edges.now c.in_ok-all.all.items (c.are_of_one_weight.ensures c.if-are_of_one_weight.true) c.in_ok-all.ensures.items
 
 pub loop-edge-preserved : goal.loop-edge-preserved
 loop-edge-preserved g c =
