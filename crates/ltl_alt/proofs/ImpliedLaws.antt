@@ -1,6 +1,6 @@
 -- Only a transition that asks for less implies another one.
 use Rattle.std.proofs.Common.{◌≡◌, ℕ, ◌+◌, ◌<◌, ◌≤◌, Bool, true, false, cond, not, ◌&&◌, inl, inr, List, [], ◌∷◌, ◌++◌, length, map, take, refl, sym, ◌∙◌, ap, subst, arith}
-use Rattle.std.specs.List.{list_any, filter}
+use Rattle.std.specs.List.{filter}
 use Rattle.std.specs.Ordering.{is_ne}
 use Rattle.std.specs.Prelude.{slice_index_or}
 use Rattle.std.proofs.lemmas.Bool.Decides.{nat_tests}
@@ -14,7 +14,7 @@ use Rattle.ltl_spec.proofs.Collections.SetLaws.{append_cases, filter_cases, Has-
 use Rattle.ltl_spec.proofs.Transitions.TransitionLaws.{implies_true, fewer_or_same}
 use Rattle.ltl_spec.proofs.Transitions.SameJoins.{AreSound}
 use Rattle.ltl_alt.specs.StandIns.{IsListed, StandsFor}
-use Rattle.ltl_alt.specs.TransitionView.{AllSets, AreOfWeight, AreUpTo, is_heavy, is_implied, weight}
+use Rattle.ltl_alt.specs.TransitionView.{AllSets, AreUpTo, is_heavy, is_implied, weight}
 use Rattle.ltl_alt.specs.declared.rule.Rule.{Rule}
 use Rattle.ltl_spec.proofs.Transitions.TransitionLaws.{same_asks}
 
@@ -26,30 +26,6 @@ lighter u t s r e =
       | inl h ↦ h
       | inr d ↦ false_is_true (sym (same_asks u t d.0 d.1) ∙ left_true (is_ne (transition_cmp u t)) (implies u t) e)
     ]
-
--- one more that asks for as many
-pub weight_more : (ts : List Transition) (i w : ℕ) (t : Transition) → i < length ts → t ≡ slice_index_or ts i t → weight t ≡ w → ((u : Transition) → Has (take i ts) u → weight u ≡ w) → (u : Transition) → Has (take (i + 1) ts) u → weight u ≡ w
-weight_more ts i w t l e same f u h =
-    elim (append_cases (take i ts) (t ∷ []) u (subst (λ xs. Has xs u) (take_more ts i t l ∙ ap (λ x. take i ts ++ x ∷ []) (sym e)) h)) [
-      | inl k ↦ f u k
-      | inr k ↦ elim k [ inl d ↦ ap weight d ∙ same | inr x ↦ absurd x ]
-    ]
-
--- so of those that ask for as many each stays
-all_stay : {K : Type 0} (p : K → Bool) (xs : List K) → ((x : K) → Has xs x → p x ≡ true) → filter p xs ≡ xs
-all_stay p [] f = refl
-all_stay p (x ∷ xs) f = λ i. cond (f x (inl refl) i) (x ∷ all_stay p xs (λ y h. f y (inr h)) i) (all_stay p xs (λ y h. f y (inr h)) i)
-
-none_of_weight : (ts : List Transition) → AllSets ts → AreOfWeight ts → (t : Transition) → Has ts t → (b : Bool) → list_any (λ u. is_ne (transition_cmp u t) && implies u t) ts ≡ b → not b ≡ true
-none_of_weight ts sets (w, same) t h false e = refl
-none_of_weight ts sets (w, same) t h true e =
-    let (u, k, f) = any_cases (λ u. is_ne (transition_cmp u t) && implies u t) ts e in
-    let l = lighter u t (sets u k) (sets t h) f in
-    absurd (omega (arith, l, same u k, same t h))
-
-pub one_weight : (ts us : List Transition) → AllSets ts → AreOfWeight ts → us ≡ ts → us ≡ unimplied_transitions ts
-one_weight ts us sets same e =
-    e ∙ sym (all_stay (λ t. not (list_any (λ u. is_ne (transition_cmp u t) && implies u t) ts)) ts (λ t h. none_of_weight ts sets same t h (list_any (λ u. is_ne (transition_cmp u t) && implies u t) ts) refl))
 
 -- one more that asks for no more than the greatest
 pub up_to_more : (ts : List Transition) (i w most more : ℕ) (t : Transition) → i < length ts → t ≡ slice_index_or ts i t → w ≡ weight t → most ≤ more → w ≤ more → AreUpTo most (take i ts) → AreUpTo more (take (i + 1) ts)

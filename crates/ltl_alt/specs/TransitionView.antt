@@ -1,5 +1,5 @@
 -- Steps towards the transitions of a set of rows.
-use Rattle.std.specs.Prelude.{◌≡◌, ℕ, ◌+◌, ◌≤◌, Bool, not, ◌&&◌, nat_lt, List, length, slice_index_or}
+use Rattle.std.specs.Prelude.{ℕ, ◌+◌, ◌≤◌, Bool, not, ◌&&◌, nat_lt, List, length, slice_index_or}
 use Rattle.std.specs.List.{list_any}
 use Rattle.std.specs.Ordering.{is_ne}
 use Rattle.ltl_spec.specs.Collections.Sets.{Has}
@@ -35,7 +35,3 @@ is_heavy most t = not (nat_lt (weight t) most)
 -- another one of these implies t
 abbrev pub is_implied : List Transition → Transition → Bool
 is_implied us t = list_any (λ u. is_ne (transition_cmp u t) && implies u t) us
-
--- all ask for as many
-abbrev pub AreOfWeight : List Transition → Type 0
-AreOfWeight ts = (w : ℕ) × ((t : Transition) → Has ts t → weight t ≡ w)

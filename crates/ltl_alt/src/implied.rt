@@ -1,31 +1,15 @@
 //! Transitions that no other one implies.
 
-ghost use Rattle.std.specs.Prelude.{◌≡◌, IfOk, not, true};
+ghost use Rattle.std.specs.Prelude.{◌≡◌, IfOk, not};
 ghost use Rattle.std.specs.List.{filter};
-ghost use Rattle.ltl_alt.specs.TransitionView.{AllSets, AreOfWeight, AreUpTo, is_heavy, is_implied};
+ghost use Rattle.ltl_alt.specs.TransitionView.{AllSets, AreUpTo, is_heavy, is_implied};
 ghost use Rattle.ltl_spec.specs.Transitions.RowTransitions as spec;
 
 use crate::transition::{Differing, Transition};
 use least::Lookup;
 use std::alloc::{AllocError, Allocator};
 
-/// Whether all ask for as many literals and rows as the first one. A transition that implies another one asks for fewer.
-fn are_of_one_weight(transitions: &[Transition]) -> bool
-    ensures { result ≡ true → AreOfWeight transitions.now }
-{
-    let Some(first) = transitions.first() else {
-        return true;
-    };
-    let weight = first.weight();
-    'transitions: for transition in transitions {
-        if transition.weight() != weight {
-            return false;
-        }
-    }
-    true
-}
-
-/// The greatest weight.
+/// The greatest weight. A transition that implies another one asks for fewer literals and rows.
 fn heaviest(transitions: &[Transition]) -> usize
     ensures { AreUpTo result transitions.now }
 {
@@ -81,9 +65,6 @@ pub(crate) fn unimplied<'a, A: Allocator>(
     requires { AllSets transitions.items }
     ensures { IfOk result (λ v. v.items ≡ spec.unimplied_transitions transitions.entry.items) }
 {
-    if are_of_one_weight(transitions.as_slice()) {
-        return Ok(transitions);
-    }
     let most = heaviest(transitions.as_slice());
     let lighter = lighter(alloc, transitions.as_slice(), most)?;
     let lookup = Lookup::new(alloc, lighter.as_slice())?;

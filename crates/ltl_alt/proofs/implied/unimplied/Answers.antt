@@ -1,15 +1,12 @@
-use Rattle.std.proofs.Common.{◌∙◌, ap, not, refl, subst}
+use Rattle.std.proofs.Common.{◌∙◌, ap, not, subst}
 use Rattle.std.specs.List.{filter}
-use Rattle.ltl_alt.specs.TransitionView.{AreOfWeight, AreUpTo, is_heavy, is_implied}
-use Rattle.ltl_alt.proofs.ImpliedLaws.{left_by_lighter, one_weight}
+use Rattle.ltl_alt.specs.TransitionView.{AreUpTo, is_heavy, is_implied}
+use Rattle.ltl_alt.proofs.ImpliedLaws.{left_by_lighter}
 use Rattle.ltl_alt.proofs.implied.unimplied.Goals as goal
-
-pub returns-then-are_of_one_weight : goal.returns-then-are_of_one_weight
-returns-then-are_of_one_weight g c = one_weight c.args.transitions.items c.args.transitions.items c.requires (subst AreOfWeight c.as_slice.ensures.value (c.are_of_one_weight.ensures c.if-are_of_one_weight.true)) refl
 
 pub returns : goal.returns
 returns g c =
     let most = c.heaviest-most.result in
-    left_by_lighter c.args.transitions.items c.in_ok-lighter.lighter.items c.in_ok-kept.kept.items most c.requires (subst (AreUpTo most) c.as_slice-2.ensures.value c.heaviest-most.ensures)
-    (c.in_ok-lighter.ensures ∙ ap (filter (λ t. not (is_heavy most t))) c.as_slice-3.ensures.value)
-    (c.in_ok-kept.ensures ∙ (λ i. filter (λ t. not (is_implied ((c.in_ok-lookup.ensures ∙ c.as_slice-4.ensures.value) i) t)) (c.as_slice-5.ensures.value i)))
+    left_by_lighter c.args.transitions.items c.in_ok-lighter.lighter.items c.in_ok-kept.kept.items most c.requires (subst (AreUpTo most) c.as_slice.ensures.value c.heaviest-most.ensures)
+    (c.in_ok-lighter.ensures ∙ ap (filter (λ t. not (is_heavy most t))) c.as_slice-2.ensures.value)
+    (c.in_ok-kept.ensures ∙ (λ i. filter (λ t. not (is_implied ((c.in_ok-lookup.ensures ∙ c.as_slice-3.ensures.value) i) t)) (c.as_slice-4.ensures.value i)))
