@@ -54,9 +54,6 @@ mark_first n i m some h e f =
 abbrev pub AreTaken : List ℕ → List ℕ → ℕ → Type 0
 AreTaken numbers all left = (taken : List ℕ) × (numbers ≡ set_of nat_cmp taken) × (taken ++ marks_of left ≡ all)
 
-pub none_taken : (n : ℕ) → AreTaken [] (marks_of n) n
-none_taken n = ([], refl, refl)
-
 pub one_taken : (numbers all : List ℕ) (n i m : ℕ) → marks_of n ≡ i ∷ marks_of m → AreTaken numbers all n → AreTaken (put nat_cmp i numbers) all m
 one_taken numbers all n i m e (taken, same, whole) =
     (taken ++ i ∷ [], ap (put nat_cmp i) same ∙ sym (put_last taken i), append_assoc taken (i ∷ []) (marks_of m) ∙ ap (λ xs. taken ++ xs) (sym e) ∙ whole)
