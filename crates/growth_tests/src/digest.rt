@@ -175,7 +175,7 @@ pub(crate) fn of_marked<A: Allocator>(automaton: &Marked<'_, A>) -> Digest {
         for edge in automaton.edges(i) {
             digest.cube(&edge.cube);
             digest.take(edge.target);
-            digest.rows(&edge.sets);
+            digest.rows(&edge.sets.to_row_set());
         }
         digest.take(usize::MAX);
     }

@@ -285,8 +285,8 @@ module _ (N : Net) (sets : ℕ) where
       meets h.end turn h.turns h.moves h.takes r.last r.most r.steps (subst (λ n. IsWay (levels_net sets N) n r.steps (h.end * (sets + 1) + r.last)) z r.is)
 
   -- as the code strips the levels off
-  pub found_stripped : (way turn d1 d2 v t : List Taken) (height : ℕ) → height ≡ sets → d1 ≡ way → d2 ≡ turn → v ≡ map (without_level height) d1 → t ≡ map (without_level height) d2 → IsFound (levels_net sets N) way turn → IsFullWalk N sets v t
-  found_stripped way turn d1 d2 v t height e p q f g h =
-      let f' : v ≡ map (without_level sets) way = f ∙ ap (λ n. map (without_level n) d1) e ∙ ap (map (without_level sets)) p in
-      let g' : t ≡ map (without_level sets) turn = g ∙ ap (λ n. map (without_level n) d2) e ∙ ap (map (without_level sets)) q in
+  pub found_stripped : (way turn v t : List Taken) (height : ℕ) → height ≡ sets → v ≡ map (without_level height) way → t ≡ map (without_level height) turn → IsFound (levels_net sets N) way turn → IsFullWalk N sets v t
+  found_stripped way turn v t height e f g h =
+      let f' : v ≡ map (without_level sets) way = f ∙ ap (λ n. map (without_level n) way) e in
+      let g' : t ≡ map (without_level sets) turn = g ∙ ap (λ n. map (without_level n) turn) e in
       subst (λ x. IsFullWalk N sets x t) (sym f') (subst (λ x. IsFullWalk N sets (map (without_level sets) way) x) (sym g') (full_from_found way turn h))

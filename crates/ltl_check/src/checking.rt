@@ -34,14 +34,14 @@ use std::alloc::{AllocError, Allocator};
 /// How many states a search may have: those of both automata, on the levels of the given one's sets and of one set more.
 pub const PRODUCT_LIMIT: usize = 16_777_216;
 
-/// The letters of the steps.
+/// The letters of the steps, which are given up.
 fn letters<'a, A: Allocator>(
     alloc: &'a A,
-    steps: &[Taken],
+    steps: Vec<Taken, &'a A>,
 ) -> Result<Vec<RowSet, &'a A>, AllocError>
-    ensures { IfOk result (λ ls. ls.items ≡ letters_of steps.now) }
+    ensures { IfOk result (λ ls. ls.items ≡ letters_of steps.entry.items) }
 {
-    let mut letters = Vec::new(alloc);
+    let mut letters = Vec::with_capacity(alloc, steps.len())?;
     let mut i = 0usize;
     'steps: while i < steps.len() {
         let step = steps[i];
@@ -51,21 +51,21 @@ fn letters<'a, A: Allocator>(
     Ok(letters)
 }
 
-/// The word along the walk, in least form.
+/// The word along the walk, in least form. The walk is given up before the word is made.
 fn word<'a, A: Allocator>(
     alloc: &'a A,
     names: &[&str],
-    walk: &Walk<'a, A>,
+    walk: Walk<'a, A>,
 ) -> Result<Lasso<'a, A>, AllocError>
     requires distinct { HasNoRepeats (map (λ n. n.now) names.now) }
     requires propositions { IsTrue (list_all is_proposition (map (λ n. n.now) names.now)) }
     requires few { length names.now ≤ stated_limits.propositions }
-    requires within { All (All (λ i. i < length names.now)) (letters_of walk.now.way.items ++ letters_of walk.now.turn.items) }
-    requires cycles { 0 < length (letters_of walk.now.turn.items) }
-    ensures { IfOk result (IsLeastForm (word_with (map (λ n. n.now) names.now) (letters_of walk.now.way.items) (letters_of walk.now.turn.items))) }
+    requires within { All (All (λ i. i < length names.now)) (letters_of walk.way.items ++ letters_of walk.turn.items) }
+    requires cycles { 0 < length (letters_of walk.turn.items) }
+    ensures { IfOk result (IsLeastForm (word_with (map (λ n. n.now) names.now) (letters_of walk.entry.way.items) (letters_of walk.entry.turn.items))) }
 {
-    let stem = letters(alloc, &walk.way)?;
-    let cycle = letters(alloc, &walk.turn)?;
+    let stem = letters(alloc, walk.way)?;
+    let cycle = letters(alloc, walk.turn)?;
     let word = Lasso::new(alloc, names, stem.as_slice(), cycle.as_slice())?;
     word.least(alloc)
 }
@@ -94,7 +94,7 @@ fn search_product<'a, A: Allocator>(
     product.second.invariant();
     formula.invariant();
     match find(alloc, product, steps)? {
-        Some(walk) => Ok(Outcome::Violated(word(alloc, names, &walk)?)),
+        Some(walk) => Ok(Outcome::Violated(word(alloc, names, walk)?)),
         None => Ok(Outcome::Contained),
     }
 }

@@ -14,16 +14,16 @@ use crate::search::search_net;
 use crate::walk::{Taken, Walk};
 use std::alloc::{AllocError, Allocator};
 
-/// The steps of the graph under steps on levels.
+/// The steps of the graph under steps on levels, which are given up.
 fn strip<'a, A: Allocator>(
     alloc: &'a A,
-    steps: &[Taken],
+    steps: Vec<Taken, &'a A>,
     sets: usize,
 ) -> Result<Vec<Taken, &'a A>, AllocError>
     requires { sets + 1 < 2 ^ 64 }
-    ensures { IfOk result (λ v. v.items ≡ map (without_level sets) steps.now) }
+    ensures { IfOk result (λ v. v.items ≡ map (without_level sets) steps.entry.items) }
 {
-    let mut stripped = Vec::new(alloc);
+    let mut stripped = Vec::with_capacity(alloc, steps.len())?;
     let mut i = 0usize;
     'steps: while i < steps.len() {
         let step = steps[i];
@@ -63,8 +63,8 @@ pub fn find<'a, G: Graph, A: Allocator>(
     match search_net(alloc, &levels, looks)? {
         Some(walk) => {
             let sets = graph.sets();
-            let way = strip(alloc, &walk.way, sets)?;
-            let turn = strip(alloc, &walk.turn, sets)?;
+            let way = strip(alloc, walk.way, sets)?;
+            let turn = strip(alloc, walk.turn, sets)?;
             Ok(Some(Walk { way, turn }))
         }
         None => Ok(None),

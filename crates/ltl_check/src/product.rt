@@ -179,7 +179,7 @@ impl<'p, 'a, A: Allocator> Graph for Product<'p, 'a, A> {
                     first: edge.target,
                     second: other.target,
                 },
-                marks: self.marks(edge.sets, s.second),
+                marks: self.marks(edge.sets.to_row_set(), s.second),
                 letter: cube.letter(),
             }),
             None => None,

@@ -71,7 +71,7 @@ in_range n m count o y b g r w e few c l f =
     same n m count few c l = omega (arith, few, c, l)
 
 -- a set with one number more
-put_last : (ks : List ℕ) (k : ℕ) → set_of nat_cmp (ks ++ k ∷ []) ≡ put nat_cmp k (set_of nat_cmp ks)
+pub put_last : (ks : List ℕ) (k : ℕ) → set_of nat_cmp (ks ++ k ∷ []) ≡ put nat_cmp k (set_of nat_cmp ks)
 put_last ks k =
     same_members nat_linear (set_of nat_cmp (ks ++ k ∷ [])) (put nat_cmp k (set_of nat_cmp ks)) (IsRising-set_of nat_linear (ks ++ k ∷ [])) (IsRising-put nat_linear k (set_of nat_cmp ks) (IsRising-set_of nat_linear ks))
     (λ z h. elim (append_cases ks (k ∷ []) z (set_of_cases nat_linear (ks ++ k ∷ []) z h)) [

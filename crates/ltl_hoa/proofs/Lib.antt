@@ -8,6 +8,7 @@ pub mod LabelLaws
 pub mod LexLaws
 pub mod MachineLaws
 pub mod MarkedLaws
+pub mod MarksLaws
 pub mod NameLaws
 pub mod ParserLaws
 pub mod PrintedLaws

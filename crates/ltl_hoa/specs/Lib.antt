@@ -3,6 +3,8 @@ pub mod HeaderView
 pub mod LexerView
 pub mod MachineView
 pub mod MarkedView
+pub mod MarksAgain
+pub mod MarksView
 pub mod NumberView
 pub mod ParserView
 pub mod Printed

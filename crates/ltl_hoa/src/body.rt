@@ -13,11 +13,12 @@ ghost use Rattle.ltl_spec.specs.Hoa.HoaToken.{Int, Identifier, CloseBracket, Clo
 use crate::fault::{HoaFaultKind, Stop};
 use crate::header::Counts;
 use crate::marked::{MOST_EDGES, MOST_NAMES, MOST_SETS, MarkedEdge};
+use crate::marks::Marks;
 use crate::number::number;
 use crate::place::{BodyPlace, Place};
 use crate::token::TokenKind;
 use ltl_label::{CubeList, Label};
-use ltl_sets::{Cube, RowSet};
+use ltl_sets::Cube;
 use smallvec::SmallVec;
 use std::alloc::{AllocError, Allocator};
 use std::marker::Model;
@@ -33,12 +34,12 @@ pub(crate) struct Body<'a, A: Allocator> {
     made: usize,
     /// The state that stood last, and its sets.
     at: usize,
-    sets: RowSet,
+    sets: Marks,
     label: Label<'a, A>,
     /// The last edge: its cubes, its target and its sets.
     cubes: CubeList<'a, A>,
     target: usize,
-    own: RowSet,
+    own: Marks,
 }
 
 impl<'a, A: Allocator> Model for Body<'a, A> {
@@ -119,7 +120,7 @@ fn file_all<A: Allocator>(
     edges: &mut Vec<MarkedEdge, &A>,
     cubes: &[Cube],
     target: usize,
-    sets: RowSet,
+    sets: Marks,
 ) -> Result<(), AllocError>
     ensures { OnOk result (map edge_of edges.new.items ≡ map edge_of edges.old.items
         ++ map (λ c. record { cube = c; target = target; marks = sets }) cubes.now) }
@@ -148,11 +149,11 @@ impl<'a, A: Allocator> Body<'a, A> {
             edges: no_edges(alloc, counts.states)?,
             made: 0,
             at: 0,
-            sets: RowSet::empty(),
+            sets: Marks::empty(),
             label: Label::new(alloc),
             cubes: SmallVec::new(alloc),
             target: 0,
-            own: RowSet::empty(),
+            own: Marks::empty(),
         })
     }
 
@@ -211,9 +212,10 @@ impl<'a, A: Allocator> Body<'a, A> {
         if self.defined[number] {
             return Err(Stop::Fault(HoaFaultKind::StateDefinedTwice));
         }
+        self.trim();
         self.defined[number] = true;
         self.at = number;
-        self.sets = RowSet::empty();
+        self.sets = Marks::empty();
         Ok(Place::Body(BodyPlace::AfterNumber))
     }
 
@@ -421,10 +423,19 @@ impl<'a, A: Allocator> Body<'a, A> {
         Ok(())
     }
 
+    /// Gives back the room for edges that the state that stood last has left over.
+    fn trim(&mut self)
+        ensures { self.new ≡ self.old }
+    {
+        self.edges[self.at].shrink_to_fit();
+    }
+
     /// The edges of each state.
     pub(crate) fn into_edges(self) -> Vec<Vec<MarkedEdge, &'a A>, &'a A>
         ensures { map (λ s. map edge_of s.items) result.items ≡ self.entry.edges }
     {
-        self.edges
+        let mut body = self;
+        body.trim();
+        body.edges
     }
 }

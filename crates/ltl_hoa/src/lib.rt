@@ -29,6 +29,7 @@ pub mod laws;
 mod lexer;
 mod machine;
 pub mod marked;
+pub mod marks;
 mod names;
 mod number;
 mod parser;
@@ -38,4 +39,5 @@ mod token;
 
 pub use fault::{HoaFault, HoaFaultKind};
 pub use marked::{Marked, MarkedEdge};
+pub use marks::Marks;
 pub use read::hoa_read;

@@ -4,8 +4,9 @@ ghost use Rattle.std.specs.Prelude.{◌≡◌, ◌<◌, length, map, string_byte
 ghost use Rattle.ltl_spec.specs.Hoa.HoaReading as spec;
 ghost use Rattle.ltl_hoa.specs.MarkedView.{IsMarked, edge_of};
 
+use crate::marks::Marks;
 use ltl_names::PROPOSITION_LIMIT;
-use ltl_sets::{Cube, RowSet};
+use ltl_sets::Cube;
 use std::alloc::Allocator;
 use std::marker::Model;
 
@@ -26,7 +27,7 @@ pub const MOST_SETS: usize = 32;
 pub struct MarkedEdge {
     pub cube: Cube,
     pub target: usize,
-    pub sets: RowSet,
+    pub sets: Marks,
 }
 
 /// An automaton with acceptance sets of edges, over named propositions.

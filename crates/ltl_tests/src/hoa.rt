@@ -386,7 +386,11 @@ fn leads<A: Allocator>(
         return false;
     }
     match automaton.edges(state).get(place) {
-        Some(edge) => *edge == MarkedEdge { cube, target, sets },
+        Some(edge) => {
+            let sets_are = edge.sets.to_row_set() == sets;
+            let sets = edge.sets;
+            sets_are && *edge == MarkedEdge { cube, target, sets }
+        }
         None => false,
     }
 }

@@ -42,7 +42,7 @@ fn all_places<'a, A: Allocator>(
     requires known { AllByRecursion (Has names.now) (all_names (map (λ a. map (λ n. n.now) a.items) letters.now)) }
     ensures { IfOk result (λ rows. AreAllPlaces names.now (map (λ a. map (λ n. n.now) a.items) letters.now) rows.items) }
 {
-    let mut rows = Vec::new(alloc);
+    let mut rows = Vec::with_capacity(alloc, letters.len())?;
     for i in 0..letters.len() {
         rows.push(names.places(letters[i].as_slice()))?;
     }

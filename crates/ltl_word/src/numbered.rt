@@ -39,7 +39,7 @@ fn letters_at<'t, 'a, A: Allocator>(
     requires { AllByRecursion (AllByRecursion (λ i. i < length names.now)) rows.now }
     ensures { IfOk result (λ letters. map (λ a. map (λ n. n.now) a.items) letters.items ≡ map (letter_of (map (λ n. n.now) names.now)) rows.now) }
 {
-    let mut letters = Vec::new(alloc);
+    let mut letters = Vec::with_capacity(alloc, rows.len())?;
     for i in 0..rows.len() {
         letters.push(names_at(alloc, names, &rows[i])?)?;
     }

@@ -7,7 +7,7 @@ use Rattle.ltl_check.proofs.finding.find.Goals as goal
 pub returns-in_ok-turn-in-Some-clause-found : goal.returns-in_ok-turn-in-Some-clause-found
 returns-in_ok-turn-in-Some-clause-found g c =
     let f = rw (c.in-Some.is, c.of-levels.ensures) at c.in_ok-walk.ensures.found in
-    found_stripped (net_of (g.G.Graph.count_of c.args.graph.now) (g.G.Graph.start_of c.args.graph.now) (g.G.Graph.number_of c.args.graph.now) (g.G.Graph.state_of c.args.graph.now) (g.G.Graph.pairs_of c.args.graph.now) (g.G.Graph.step_of c.args.graph.now)) (g.G.Graph.sets_of c.args.graph.now) c.in-Some.walk.way.items c.in-Some.walk.turn.items _ _ _ _ c.sets-sets.result c.sets-sets.ensures c.deref.ensures.value c.deref-in-Some.ensures.value c.in_ok-way-in-Some.ensures c.in_ok-turn-in-Some.ensures f
+    found_stripped (net_of (g.G.Graph.count_of c.args.graph.now) (g.G.Graph.start_of c.args.graph.now) (g.G.Graph.number_of c.args.graph.now) (g.G.Graph.state_of c.args.graph.now) (g.G.Graph.pairs_of c.args.graph.now) (g.G.Graph.step_of c.args.graph.now)) (g.G.Graph.sets_of c.args.graph.now) c.in-Some.walk.way.items c.in-Some.walk.turn.items _ _ c.sets-sets.result c.sets-sets.ensures c.in_ok-way-in-Some.ensures c.in_ok-turn-in-Some.ensures f
 
 pub returns-in-None-clause-none : goal.returns-in-None-clause-none
 returns-in-None-clause-none g c _ way turn h =
