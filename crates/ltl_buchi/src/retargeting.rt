@@ -5,7 +5,6 @@ ghost use Rattle.ltl_spec.specs.Construction.Merging.{retargeted_edge};
 ghost use Rattle.ltl_automaton.specs.EdgeView.{edge_of};
 ghost use Rattle.ltl_buchi.specs.Classes.{retargeted_list};
 
-use crate::standing::are_rising;
 use ltl_automaton::{Edge, sort_edges};
 use std::alloc::{AllocError, Allocator};
 
@@ -39,8 +38,6 @@ pub(crate) fn retargeted<'a, A: Allocator>(
     ensures { IfOk result (λ es. map edge_of es.items ≡ retargeted_list (slice_index names.now) (map edge_of edges.now)) }
 {
     let mut made = retargeted_edges(alloc, edges, names)?;
-    if !are_rising(made.as_slice()) {
-        sort_edges(&mut made);
-    }
+    sort_edges(&mut made);
     Ok(made)
 }
