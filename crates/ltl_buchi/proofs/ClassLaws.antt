@@ -1,8 +1,8 @@
 -- The steps of finding the classes of states.
-use Rattle.std.proofs.Common.{◌≡◌, ℕ, Bool, ◌&&◌, true, zero, suc, ◌+◌, ◌<◌, ◌≤◌, ◌⊎◌, inl, inr, List, [], ◌∷◌, ◌++◌, map, length, refl, sym, subst, ◌∙◌, ap, arith, Some, None, length-append}
-use Rattle.std.specs.Prelude.{nat_eq, slice_index, slice_index_or, slice_get, slice_set, All}
+use Rattle.std.proofs.Common.{◌≡◌, ℕ, Bool, ◌&&◌, true, zero, suc, ◌+◌, ◌<◌, ◌≤◌, ◌⊎◌, inl, inr, List, [], ◌∷◌, ◌++◌, map, length, refl, sym, subst, ◌∙◌, ap, arith, Some, None}
+use Rattle.std.specs.Prelude.{nat_eq, slice_index, slice_index_or, slice_get, All}
 use Rattle.std.specs.List.{range_with_len}
-use Rattle.std.proofs.lemmas.List.{get_or-map, get_or-set_same, get_or-set_other, length-map}
+use Rattle.std.proofs.lemmas.List.{get_or-map, length-map}
 use Rattle.ltl_spec.specs.Collections.Lists.{HasNoRepeats}
 use Rattle.ltl_spec.proofs.Collections.CaseLaws.{below_equal_above, beq_true, beq_refl}
 use Rattle.ltl_spec.proofs.Collections.ListLaws.{index_append, index_done}
@@ -15,7 +15,7 @@ use Rattle.ltl_spec.specs.Automata.Automaton.{Edge}
 use Rattle.ltl_automaton.specs.EdgeView.{edge_of}
 use Rattle.ltl_automaton.specs.declared.edge.Edge as code
 use Rattle.ltl_automaton.specs.declared.shared.SharedState.{SharedState}
-use Rattle.ltl_buchi.proofs.Within.{All_from_map}
+use Rattle.ltl_buchi.proofs.Within.{All_from_map, pushed_longer}
 use Rattle.ltl_buchi.specs.Classes.{AreListsWithin, IsCoded, IsFirstPlaces, IsLeastAlike, IsLeastPlaces, coded_place, list_view, retargeted_list}
 
 -- one more number
@@ -55,63 +55,23 @@ least_from codes firsts names count w e = record {
 
 -- codes
 
-module _ {K : Type 0} (count : ℕ) (old_view new_view : ℕ → K) where
-  -- the things below k have codes by their new views, the others by their old ones
-  pub record IsRecoded (k : ℕ) (keys : List K) (codes : List ℕ) : Type 0 where
-    pub distinct : HasNoRepeats keys
-    pub new : (s : ℕ) → s < k → slice_get keys (slice_index codes s) ≡ Some (new_view s)
-    pub old : (s : ℕ) → k ≤ s → s < length codes → slice_get keys (slice_index codes s) ≡ Some (old_view s)
-
+module _ {K : Type 0} (count : ℕ) (view : ℕ → K) where
   -- one more code
-  pub recoded_push : (k : ℕ) (keys more_keys : List K) (codes more_codes : List ℕ) (i : ℕ) → IsRecoded k keys codes → length codes ≡ k → HasNoRepeats more_keys
-      → ((more : List K) × (more_keys ≡ keys ++ more)) → more_codes ≡ codes ++ i ∷ [] → slice_get more_keys i ≡ Some (new_view k) → IsRecoded (k + 1) more_keys more_codes
-  recoded_push k keys more_keys codes more_codes i w n d grown e g = record {
+  pub coded_push : (keys more_keys : List K) (codes more_codes : List ℕ) (i : ℕ) → IsCoded count view keys codes → HasNoRepeats more_keys
+      → ((more : List K) × (more_keys ≡ keys ++ more)) → more_codes ≡ codes ++ i ∷ [] → slice_get more_keys i ≡ Some (view count) → IsCoded (count + 1) view more_keys more_codes
+  coded_push keys more_keys codes more_codes i w d grown e g = record {
     distinct = d;
-    new = λ s l. at s (below_equal_above s k) l;
-    old = λ s l m. let a = ap length e ∙ length-append codes (i ∷ []) in absurd (omega (arith, one));
+    long = pushed_longer codes more_codes i e ∙ ap (λ n. n + 1) w.long;
+    seen = λ s l. at s (below_equal_above s count) l;
   }
     where
-      one : length (i ∷ []) ≡ 1
-      one = refl
-
-      at : (s : ℕ) → (s < k) ⊎ ((s ≡ k) ⊎ (k < s)) → s < k + 1 → slice_get more_keys (slice_index more_codes s) ≡ Some (new_view s)
+      at : (s : ℕ) → (s < count) ⊎ ((s ≡ count) ⊎ (count < s)) → s < count + 1 → slice_get more_keys (slice_index more_codes s) ≡ Some (view s)
       at s (inl l) m =
-          ap (slice_get more_keys) (ap (λ xs. slice_index xs s) e ∙ index_append codes (i ∷ []) s 0 (omega arith)) ∙ ap (λ ks. slice_get ks (slice_index codes s)) grown.1 ∙ get_more keys grown.0 (slice_index codes s) (new_view s) (w.new s l)
+          let n = w.long in
+          ap (slice_get more_keys) (ap (λ xs. slice_index xs s) e ∙ index_append codes (i ∷ []) s 0 (omega arith)) ∙ ap (λ ks. slice_get ks (slice_index codes s)) grown.1 ∙ get_more keys grown.0 (slice_index codes s) (view s) (w.seen s l)
       at s (inr (inl q)) m =
-          ap (λ t. slice_get more_keys (slice_index more_codes t)) (q ∙ sym n) ∙ ap (slice_get more_keys) (ap (λ xs. slice_index xs (length codes)) e ∙ index_done codes [] i 0) ∙ g ∙ ap (λ t. Some (new_view t)) (sym q)
+          ap (λ t. slice_get more_keys (slice_index more_codes t)) (q ∙ sym w.long) ∙ ap (slice_get more_keys) (ap (λ xs. slice_index xs (length codes)) e ∙ index_done codes [] i 0) ∙ g ∙ ap (λ t. Some (view t)) (sym q)
       at s (inr (inr q)) m = absurd (omega arith)
-
-  -- another code
-  pub recoded_set : (k : ℕ) (keys more_keys : List K) (codes more_codes : List ℕ) (i : ℕ) → IsRecoded k keys codes → k < length codes → HasNoRepeats more_keys
-      → ((more : List K) × (more_keys ≡ keys ++ more)) → more_codes ≡ slice_set codes k i → length more_codes ≡ length codes → slice_get more_keys i ≡ Some (new_view k) → IsRecoded (k + 1) more_keys more_codes
-  recoded_set k keys more_keys codes more_codes i w n d grown e long g = record {
-    distinct = d;
-    new = λ s l. at s (below_equal_above s k) l;
-    old = λ s l m. other s (λ q. omega arith) ∙ ap (λ ks. slice_get ks (slice_index codes s)) grown.1 ∙ get_more keys grown.0 (slice_index codes s) (old_view s) (w.old s (omega arith) (omega arith));
-  }
-    where
-      other : (s : ℕ) → (s ≡ k → ⊥) → slice_get more_keys (slice_index more_codes s) ≡ slice_get more_keys (slice_index codes s)
-      other s q = ap (slice_get more_keys) (ap (λ xs. slice_index xs s) e ∙ get_or-set_other codes k s i 0 q)
-
-      at : (s : ℕ) → (s < k) ⊎ ((s ≡ k) ⊎ (k < s)) → s < k + 1 → slice_get more_keys (slice_index more_codes s) ≡ Some (new_view s)
-      at s (inl l) m = other s (λ q. omega arith) ∙ ap (λ ks. slice_get ks (slice_index codes s)) grown.1 ∙ get_more keys grown.0 (slice_index codes s) (new_view s) (w.new s l)
-      at s (inr (inl q)) m =
-          ap (λ t. slice_get more_keys (slice_index more_codes t)) q ∙ ap (slice_get more_keys) (ap (λ xs. slice_index xs k) e ∙ get_or-set_same codes k i 0 n) ∙ g ∙ ap (λ t. Some (new_view t)) (sym q)
-      at s (inr (inr q)) m = absurd (omega arith)
-
-  -- the same code
-  pub recoded_stays : (k : ℕ) (keys : List K) (codes : List ℕ) → IsRecoded k keys codes → k < length codes → old_view k ≡ new_view k → IsRecoded (k + 1) keys codes
-  recoded_stays k keys codes w n e = record {
-    distinct = w.distinct;
-    new = λ s l. elim (below_equal_above s k) [
-      | inl m ↦ w.new s m
-      | inr r ↦ elim r [
-        | inl q ↦ ap (λ t. slice_get keys (slice_index codes t)) q ∙ w.old k (omega arith) n ∙ ap (λ x. Some x) e ∙ ap (λ t. Some (new_view t)) (sym q)
-        | inr m ↦ absurd (omega arith)
-      ]
-    ];
-    old = λ s l m. w.old s (omega arith) m;
-  }
 
   index_at : (xs : List ℕ) (k d : ℕ) → k < length xs → slice_index_or xs k d ≡ slice_index xs k
   index_at [] k d l = absurd (omega arith)
@@ -119,22 +79,22 @@ module _ {K : Type 0} (count : ℕ) (old_view new_view : ℕ → K) where
   index_at (x ∷ xs) (suc k) d l = index_at xs k d (omega arith)
 
   -- every code is the place of a key
-  pub codes_within : (keys : List K) (codes : List ℕ) → IsCoded count new_view keys codes → All (λ c. c < length keys) codes
+  pub codes_within : (keys : List K) (codes : List ℕ) → IsCoded count view keys codes → All (λ c. c < length keys) codes
   codes_within keys codes c = λ k d l.
       let n = c.long in
-      let m = slice_get_within keys (slice_index codes k) (new_view k) (c.seen k (omega arith)) in
+      let m = slice_get_within keys (slice_index codes k) (view k) (c.seen k (omega arith)) in
       let q = index_at codes k d l in
       omega arith
 
   -- the least places of the codes are the least things that are seen as equal
-  pub least_alike : (keys : List K) (codes names : List ℕ) → IsCoded count new_view keys codes → IsLeastPlaces codes names → IsLeastAlike count new_view names
+  pub least_alike : (keys : List K) (codes names : List ℕ) → IsCoded count view keys codes → IsLeastPlaces codes names → IsLeastAlike count view names
   least_alike keys codes names c l = record {
     long = l.long ∙ c.long;
     low = λ s m. l.low s (here s m);
     same = λ s m.
         let p : slice_index names s ≤ s = l.low s (here s m) in
         Some_injective _ _ (sym (c.seen (slice_index names s) (omega arith)) ∙ ap (slice_get keys) (l.same s (here s m)) ∙ c.seen s m);
-    once = λ s t m k e. l.once s t (here s m) (here t k) (got_once keys (slice_index codes s) (slice_index codes t) (new_view s) c.distinct (c.seen s m) (c.seen t k ∙ ap (λ x. Some x) (sym e)));
+    once = λ s t m k e. l.once s t (here s m) (here t k) (got_once keys (slice_index codes s) (slice_index codes t) (view s) c.distinct (c.seen s m) (c.seen t k ∙ ap (λ x. Some x) (sym e)));
   }
     where
       here : (s : ℕ) → s < count → s < length codes

@@ -2,8 +2,6 @@
 use Rattle.std.proofs.Common.{◌≡◌, ℕ, zero, suc, ◌+◌, ◌-◌, ◌<◌, ◌≤◌, true, inl, inr, List, [], ◌∷◌, ◌++◌, map, length, refl, sym, ◌∙◌, ap, subst, arith, Some}
 use Rattle.std.specs.Prelude.{slice_index, slice_index_or, slice_get, All}
 use Rattle.std.proofs.lemmas.List.{get_or-map, length-map}
-use Rattle.std.proofs.lemmas.List.Elements.{All-map}
-use Rattle.std.proofs.lemmas.Option.{get_or_from_slice_get}
 use Rattle.ltl_spec.specs.Collections.Sets.{Has, set_of}
 use Rattle.ltl_spec.specs.Collections.Lists.{place_of}
 use Rattle.ltl_spec.specs.Automata.Automaton.{Automaton, State, Edge, edge_cmp, state_at}
@@ -28,15 +26,6 @@ seen_again f g es same = ap (set_of edge_cmp) (edges es same)
         let here = h e (inl refl) in
         let rest = edges es (λ x k. h x (inr k)) in
         λ i. record e { target = here i } ∷ rest i
-
--- a list that was looked at
-pub seen_unrenamed : (lists : List (List Edge)) (names next : List ℕ) (k : ℕ) (edges : List plain.Edge) → slice_get lists k ≡ Some (map edge_of edges) → All (λ e. slice_index names e.target ≡ slice_index next e.target) edges
-    → list_view lists (slice_index names) k ≡ list_view lists (slice_index next) k
-seen_unrenamed lists names next k edges e a =
-    let P : Edge → Type 0 = λ f. slice_index names f.target ≡ slice_index next f.target in
-    let es = get_or_from_slice_get lists k (map edge_of edges) [] e in
-    let all = subst (All P) (sym es) (All-map P edge_of edges a) in
-    seen_again (slice_index names) (slice_index next) (slice_index_or lists k []) (λ f h. All-at_has P (slice_index_or lists k []) all f h)
 
 -- one more edge with another target
 pub retargeted_next : (f : ℕ → ℕ) (made more_made : List plain.Edge) (x : plain.Edge) (taken more_taken : List plain.Edge) (e : plain.Edge) → map edge_of made ≡ map (retargeted_edge f) (map edge_of taken)

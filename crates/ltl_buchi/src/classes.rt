@@ -12,7 +12,7 @@ ghost use Rattle.ltl_automaton.specs.SharedView.{automaton_of};
 ghost use Rattle.ltl_buchi.specs.Classes.{AreListsWithin, IsCoded, IsFirstPlaces, IsLeastAlike, IsLeastPlaces, IsWithinStates, coded_place, list_view};
 
 use crate::apart::are_apart;
-use crate::retargeting::{are_renamed, retargeted};
+use crate::retargeting::retargeted;
 use ltl_automaton::{Distinct, Edge, EdgeList, SharedState, SharedStates};
 use std::alloc::{AllocError, Allocator};
 
@@ -50,7 +50,7 @@ fn code<'a, A: Allocator>(
 }
 
 /// The codes of all lists, as they are seen under these names of their targets.
-fn first_codes<'a, A: Allocator>(
+fn seen_codes<'a, A: Allocator>(
     alloc: &'a A,
     seen: &mut Seen<'a, A>,
     states: &SharedStates<'_, A>,
@@ -66,30 +66,6 @@ fn first_codes<'a, A: Allocator>(
         codes.push(code(seen, view)?)?;
     }
     Ok(codes)
-}
-
-/// Looks again at the lists that have a target with another name than before.
-fn recode<'a, A: Allocator>(
-    alloc: &'a A,
-    seen: &mut Seen<'a, A>,
-    codes: &mut Vec<usize, &'a A>,
-    states: &SharedStates<'_, A>,
-    names: &[usize],
-    next: &[usize],
-) -> Result<(), AllocError>
-    requires within { AreListsWithin states.now.lists (length names.now) }
-    requires long { length next.now ≡ length names.now }
-    requires coded { IsCoded (length states.now.lists) (list_view states.now.lists (slice_index names.now)) seen.old.keys codes.old.items }
-    ensures { OnOk result (IsCoded (length states.now.lists) (list_view states.now.lists (slice_index next.now)) seen.new.keys codes.new.items) }
-{
-    for list in 0..states.list_count() {
-        let edges = states.list_edges(list);
-        if are_renamed(edges, names, next) {
-            let view = retargeted(alloc, edges, next)?;
-            codes[list] = code(seen, view)?;
-        }
-    }
-    Ok(())
 }
 
 /// For each code that occurs the first place where it stands.
@@ -192,20 +168,12 @@ fn refined<'a, A: Allocator>(
     states.invariant();
     let mut names = coarse;
     let mut seen: Seen<'a, A> = Distinct::new(alloc);
-    let mut codes = first_codes(alloc, &mut seen, states, names.as_slice())?;
     for round in from..states.len() {
+        let codes = seen_codes(alloc, &mut seen, states, names.as_slice())?;
         let next = least_alike(alloc, states, codes.as_slice())?;
         if next.as_slice() == names.as_slice() {
             return Ok(names);
         }
-        recode(
-            alloc,
-            &mut seen,
-            &mut codes,
-            states,
-            names.as_slice(),
-            next.as_slice(),
-        )?;
         names = next;
     }
     Ok(names)

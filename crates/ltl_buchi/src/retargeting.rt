@@ -1,27 +1,12 @@
 //! Edges with other targets.
 
-ghost use Rattle.std.specs.Prelude.{◌≡◌, ◌<◌, length, map, slice_index, false, All, IfOk};
+ghost use Rattle.std.specs.Prelude.{◌≡◌, ◌<◌, length, map, slice_index, All, IfOk};
 ghost use Rattle.ltl_spec.specs.Construction.Merging.{retargeted_edge};
 ghost use Rattle.ltl_automaton.specs.EdgeView.{edge_of};
 ghost use Rattle.ltl_buchi.specs.Classes.{retargeted_list};
 
-use crate::standing::are_rising;
 use ltl_automaton::{Edge, sort_edges};
 use std::alloc::{AllocError, Allocator};
-
-/// Whether a target of an edge has another name than before.
-pub(crate) fn are_renamed(edges: &[Edge], names: &[usize], next: &[usize]) -> bool
-    requires within { All (λ e. e.target < length names.now) edges.now }
-    requires long { length next.now ≡ length names.now }
-    ensures { result ≡ false → All (λ e. slice_index names.now e.target ≡ slice_index next.now e.target) edges.now }
-{
-    for edge in edges {
-        if names[edge.target] != next[edge.target] {
-            return true;
-        }
-    }
-    false
-}
 
 /// The edges with other targets.
 fn retargeted_edges<'a, A: Allocator>(
@@ -53,8 +38,6 @@ pub(crate) fn retargeted<'a, A: Allocator>(
     ensures { IfOk result (λ es. map edge_of es.items ≡ retargeted_list (slice_index names.now) (map edge_of edges.now)) }
 {
     let mut made = retargeted_edges(alloc, edges, names)?;
-    if !are_rising(made.as_slice()) {
-        sort_edges(&mut made);
-    }
+    sort_edges(&mut made);
     Ok(made)
 }

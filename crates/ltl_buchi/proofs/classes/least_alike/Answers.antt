@@ -10,11 +10,11 @@ returns g c =
     let n = length c.args.states.now.states in
     let view = coded_place c.args.states.now.states c.args.list_codes.now in
     IfOk-weaker c.least_places.result (λ v. IsLeastPlaces c.as_slice.result.now v.items) (λ v. IsLeastAlike n view v.items)
-    (λ v l. laws.least_alike n view view _ c.in_ok-codes.codes.items v.items c.in_ok-codes.ensures (subst (λ cs. IsLeastPlaces cs v.items) c.as_slice.ensures.value l)) c.least_places.ensures
+    (λ v l. laws.least_alike n view _ c.in_ok-codes.codes.items v.items c.in_ok-codes.ensures (subst (λ cs. IsLeastPlaces cs v.items) c.as_slice.ensures.value l)) c.least_places.ensures
 
 pub least_places-requires : goal.least_places-requires
 least_places-requires g c =
     let n = length c.args.states.now.states in
     let view = coded_place c.args.states.now.states c.args.list_codes.now in
-    let within : All (λ i. i < length c.state_codes.new.places.keys) c.in_ok-codes.codes.items = laws.codes_within n view view _ c.in_ok-codes.codes.items c.in_ok-codes.ensures in
+    let within : All (λ i. i < length c.state_codes.new.places.keys) c.in_ok-codes.codes.items = laws.codes_within n view _ c.in_ok-codes.codes.items c.in_ok-codes.ensures in
     record { within = subst (λ m. All (λ i. i < m) c.as_slice.result.now) (sym c.len.ensures) (subst (All (λ i. i < length c.state_codes.new.places.keys)) (sym c.as_slice.ensures.value) within) }

@@ -1,17 +1,12 @@
-use Rattle.std.proofs.Common.{◌∙◌, ap, arith, length, Some}
+use Rattle.std.proofs.Common.{◌∙◌, ap, Some}
 use Rattle.ltl_automaton.specs.declared.shared.SharedState.{SharedState}
 use Rattle.ltl_buchi.specs.Classes.{coded_place}
-use Rattle.ltl_buchi.proofs.ClassLaws.{recoded_push, place_coded}
-use Rattle.ltl_buchi.proofs.Within.{pushed_longer}
+use Rattle.ltl_buchi.proofs.ClassLaws.{coded_push, place_coded}
 use Rattle.ltl_buchi.proofs.classes.state_codes.Goals as goal
 
 pub loop-s-preserved : goal.loop-s-preserved
 loop-s-preserved g c =
-    let long = pushed_longer _ _ _ c.in_ok-push.ensures.items in
     let view = coded_place c.args.states.now.states c.args.list_codes.now in
-    record {
-      long = omega (arith, long, c.loop-s.invariant.long);
-      coded = recoded_push (length c.args.states.now.states) view view c.loop-s.s c.loop-s.places.keys c.state_code.new.places.keys c.loop-s.codes.items c.push.new.self.items c.in_ok-state_code.field-0 c.loop-s.invariant.coded c.loop-s.invariant.long
-          (c.in_ok-state_code.ensures.distinct c.loop-s.invariant.coded.distinct) c.in_ok-state_code.ensures.extends c.in_ok-push.ensures.items
-          (c.in_ok-state_code.ensures.place ∙ ap (λ (p : SharedState). Some p) (place_coded c.args.states.now.states c.args.list_codes.now c.loop-s.s c.state-state.result c.state-state.ensures.state));
-    }
+    coded_push c.loop-s.s view c.loop-s.places.keys c.state_code.new.places.keys c.loop-s.codes.items c.push.new.self.items c.in_ok-state_code.field-0 c.loop-s.invariant
+    (c.in_ok-state_code.ensures.distinct c.loop-s.invariant.distinct) c.in_ok-state_code.ensures.extends c.in_ok-push.ensures.items
+    (c.in_ok-state_code.ensures.place ∙ ap (λ (p : SharedState). Some p) (place_coded c.args.states.now.states c.args.list_codes.now c.loop-s.s c.state-state.result c.state-state.ensures.state))
