@@ -238,18 +238,6 @@ impl<'a, A: Allocator> Parts<'a, A> {
         numbers
     }
 
-    /// Whether of one pair of each of these parts no more than so many can be made.
-    pub(crate) fn are_few(&self, numbers: &RowSet, most: usize) -> bool {
-        let mut count = 1usize;
-        let mut rest = numbers.iter();
-        while let Some(number) = rest.next() {
-            if let Some(list) = self.lists.get(number) {
-                count = count.saturating_mul(list.as_slice().len());
-            }
-        }
-        count <= most
-    }
-
     /// The parts that may have to do with the one of that number.
     fn links(&self, number: usize) -> Option<RowSet>
         ensures { result ≡ slice_get self.now.links.items number }

@@ -27,7 +27,7 @@ use ltl_sets::RowSet;
 use smallvec::SmallVec;
 use std::alloc::{AllocError, Allocator};
 
-/// A set of rows with no more transitions isn't compared with others.
+/// A set of rows whose groups are all remembered isn't compared with others if it has no more transitions.
 const FEW: usize = 15;
 
 /// The numbers of the groups of these parts, if all of them are remembered.
@@ -80,9 +80,6 @@ fn twin_by_pairs<'a, A: Allocator>(
     ensures remembered { OnOk result (AreRemembered (table_at table.now) keep_implied joins.new.lists.items joins.new.steps.items wholes.new.all.items) }
     ensures twin { IfOk result (λ o. IfSome o (IsTwin (table_at table.now) keep_implied state.now)) }
 {
-    if parts.are_few(all, FEW) {
-        return Ok(None);
-    }
     all.invariant();
     let Some(part) = first(all) else {
         return Ok(None);
