@@ -53,6 +53,7 @@ mod row_lists;
 mod rule;
 mod shapes;
 mod sizes;
+mod splits;
 mod transition;
 mod transitions;
 mod twins;

@@ -18,11 +18,12 @@ use crate::asked::Demand;
 use crate::lists::both;
 use crate::pair::Pair;
 use crate::pair_set::PairSet;
-use crate::pieces::{Piece, piece_at, pieces};
+use crate::pieces::Piece;
 use crate::place::{place, put_if};
 use crate::prune::prune;
 use crate::row_lists::RowLists;
 use crate::rule::Pruning;
+use crate::splits::useful_pieces;
 use ltl_formula::Table;
 use ltl_sets::RowSet;
 use std::alloc::{AllocError, Allocator};
@@ -133,7 +134,7 @@ impl<'a, A: Allocator> Parts<'a, A> {
     }
 
     /// Puts the pieces of the row at a place behind the other parts.
-    fn push_pieces(
+    pub(crate) fn push_pieces(
         &mut self,
         alloc: &'a A,
         table: &Table<'_, A>,
@@ -180,7 +181,7 @@ impl<'a, A: Allocator> Parts<'a, A> {
         if self.made.contains(place) {
             return Ok(());
         }
-        let pieces = pieces(alloc, table, piece_at(table, place), most)?;
+        let pieces = useful_pieces(alloc, table, rows, pruning, place, most)?;
         self.push_pieces(alloc, table, rows, pruning, place, pieces.as_slice())?;
         self.made.insert(place);
         Ok(())

@@ -40,14 +40,12 @@ pub(crate) fn piece_at<A: Allocator>(table: &Table<'_, A>, place: usize) -> Piec
     }
 }
 
-/// Whether it is of use to take a release row with these operands apart. One that is always asked for again, below which nothing can be taken apart,
-/// has a part that is the same in all its transitions.
-fn is_release_open<A: Allocator>(table: &Table<'_, A>, left: usize, right: usize) -> bool
-    requires left { left < length table.now.rows }
-    requires right { right < length table.now.rows }
+/// Whether it may be of use to take a release row with this right operand apart: where that can be taken apart too. The pair that asks for the row
+/// again is in all of its transitions.
+fn is_release_open<A: Allocator>(table: &Table<'_, A>, right: usize) -> bool
+    requires { right < length table.now.rows }
 {
-    !matches!(table.row(left), Row::False)
-        || matches!(table.row(right), Row::And(_, _) | Row::Release(_, _))
+    matches!(table.row(right), Row::And(_, _) | Row::Release(_, _))
 }
 
 /// Two pieces that a piece is made of, if this is asked.
@@ -70,7 +68,7 @@ fn opened<A: Allocator>(
     match table.row(row) {
         Row::And(left, right) => Some((Piece::Whole(left), Piece::Whole(right))),
         Row::Release(left, right) => {
-            if is_release_open(table, left, right) {
+            if is_release_open(table, right) {
                 Some((Piece::Whole(right), Piece::Released(left, row)))
             } else {
                 None

@@ -4,8 +4,6 @@ use Rattle.ltl_spec.specs.Collections.Sets.{Has, put}
 use Rattle.ltl_spec.proofs.Collections.SetLaws.{has_Decides, Has-put}
 use Rattle.ltl_spec.proofs.Collections.CaseLaws.{false_is_true}
 use Rattle.ltl_spec.proofs.Collections.Orders.{nat_linear}
-use Rattle.ltl_spec.proofs.Transitions.PartJoins.{join_all}
-use Rattle.ltl_spec.proofs.Transitions.SameJoins.{AreAlike}
 use Rattle.ltl_alt.specs.PartView.{AreAdded, HasMade}
 use Rattle.ltl_alt.specs.PieceView.{AreFew, piece_pairs}
 use Rattle.ltl_alt.specs.TransitionView.{table_at}
@@ -36,14 +34,13 @@ returns-clause-parts g c =
     let new = c.push_pieces.new.self in
     let ps = c.in_ok-pieces.pieces.items in
     let unmade : Has old.made c.args.place → ⊥ = λ h. false_is_true (sym (sym c.contains.ensures ∙ c.if-contains.false) ∙ (has_Decides nat_linear c.args.place old.made).1 h) in
-    let alike = subst (λ xs. AreAlike xs (join_all (map (piece_pairs t) ps))) (sym c.piece_at.ensures.pairs) c.in_ok-pieces.ensures.joined in
     let added = subst (λ xs. AreAdded T r c.args.place (map (piece_pairs t) xs) old.owners.items new.owners.items old.lists.items new.lists.items) c.as_slice.ensures c.in_ok-push_pieces.ensures.added in
     let count : length new.lists.items ≡ length old.lists.items + length ps = added_count T r c.args.place (map (piece_pairs t) ps) old.owners.items new.owners.items old.lists.items new.lists.items added ∙ ap (λ n. length old.lists.items + n) (pieces_long t ps) in
     let few = c.in_ok-pieces.ensures.few in
     let room = c.requires.room.2 in
     record {
       linked = c.in_ok-push_pieces.ensures.linked;
-      rows = made_more T r old.made old.owners.items c.insert.new.self new.owners.items old.lists.items new.lists.items c.args.place (map (piece_pairs t) ps) c.requires.parts.rows unmade alike added (omega arith)
+      rows = made_more T r old.made old.owners.items c.insert.new.self new.owners.items old.lists.items new.lists.items c.args.place (map (piece_pairs t) ps) c.requires.parts.rows unmade c.in_ok-pieces.ensures.joined added (omega arith)
           (c.insert.ensures ∙ ap (put nat_cmp c.args.place) c.in_ok-push_pieces.ensures.made);
     }
 
