@@ -1,7 +1,7 @@
 -- Tokens that are passed on to another place.
 use Rattle.std.proofs.Common.{◌≡◌, List, [], ◌∷◌, ◌++◌, ℕ, zero, suc, ◌<◌, length, map, refl, sym, subst, ◌∙◌, ap, arith}
 use Rattle.std.specs.Prelude.{Result, slice_index_or, slice_set}
-use Rattle.std.proofs.lemmas.List.{map-set, set-get_or}
+use Rattle.std.proofs.lemmas.List.{map-set}
 use Rattle.ltl_spec.specs.Automata.Automaton.{Edge}
 use Rattle.ltl_spec.specs.Tools.Limits.{stated_limits}
 use Rattle.ltl_spec.specs.Hoa.HoaPlace as spec
@@ -76,9 +76,6 @@ nth_any (x ∷ xs) (suc i) d e l = nth_any xs i d e (below i (length xs) l)
   where
     below : (j n : ℕ) → suc j < suc n → j < n
     below j n m = omega (arith, m)
-
-pub kept_edges : {T : Type 0} (f : T → List Edge) (lists : List T) (at : ℕ) (old new : T) → old ≡ slice_index_or lists at old → f new ≡ f old → map f (slice_set lists at new) ≡ map f lists
-kept_edges f lists at old new o e = map-set f lists at new ∙ ap (slice_set (map f lists) at) (e ∙ ap f o ∙ sym (nth_map f lists at old)) ∙ set-get_or (map f lists) at (f old)
 
 pub filed_edges : {T : Type 0} (f : T → List Edge) (lists : List T) (at n : ℕ) (old new : T) (more : List Edge) → old ≡ slice_index_or lists at old → at < n → length (map f lists) ≡ n
     → f new ≡ f old ++ more → map f (slice_set lists at new) ≡ slice_set (map f lists) at (slice_index_or (map f lists) at [] ++ more)

@@ -212,7 +212,6 @@ impl<'a, A: Allocator> Body<'a, A> {
         if self.defined[number] {
             return Err(Stop::Fault(HoaFaultKind::StateDefinedTwice));
         }
-        self.trim();
         self.defined[number] = true;
         self.at = number;
         self.sets = Marks::empty();
@@ -423,19 +422,10 @@ impl<'a, A: Allocator> Body<'a, A> {
         Ok(())
     }
 
-    /// Gives back the room for edges that the state that stood last has left over.
-    fn trim(&mut self)
-        ensures { self.new ≡ self.old }
-    {
-        self.edges[self.at].shrink_to_fit();
-    }
-
     /// The edges of each state.
     pub(crate) fn into_edges(self) -> Vec<Vec<MarkedEdge, &'a A>, &'a A>
         ensures { map (λ s. map edge_of s.items) result.items ≡ self.entry.edges }
     {
-        let mut body = self;
-        body.trim();
-        body.edges
+        self.edges
     }
 }
