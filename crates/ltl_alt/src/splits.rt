@@ -65,7 +65,7 @@ pub(crate) fn useful_pieces<'a, A: Allocator>(
 {
     let piece = piece_at(table, place);
     let opened = pieces(alloc, table, piece, most)?;
-    if !is_release(table, piece) {
+    if opened.len() == 1 || !is_release(table, piece) {
         return Ok(opened);
     }
     let mut parts = Parts::new(alloc);

@@ -24,14 +24,26 @@ ghost use Rattle.ltl_host.specs.Given.{HandsOver, fault_for};
 ghost use Rattle.ltl_host.specs.Sources.{holds_text, is_text, source_of};
 
 use ltl_cli::{FormulaWord, Plan, PlanFault, Source};
-use std::alloc::Allocator;
+use std::alloc::{AllocError, Allocator};
 use std::env::Args;
 use std::fs::File;
 use std::rt::{Env, Files};
 use std::{env, io};
 
-/// The words of the command line, the program's name first. A word that isn't UTF-8 is usage.
+/// Just under the size up to which the C library of Linux learns from a block that is freed.
+const ROOM: usize = 33_488_896;
+
+/// Takes a large block of memory and gives it back unused. Many an allocator hands freed memory back to the system as soon as 128 KB of it are free, and
+/// each page that is taken again costs a fault; behind such a block it keeps up to twice as much. Where there is no such block nothing is lost.
+fn keep_freed<A: Allocator>(alloc: A) {
+    let room: Result<Vec<u8, A>, AllocError> = Vec::with_capacity(alloc, ROOM);
+    let _ = room.is_ok();
+}
+
+/// The words of the command line, the program's name first. A word that isn't UTF-8 is usage. A program calls this first, so here the allocator is
+/// told to keep what is freed.
 pub fn words<R: Env + Alloc>(rt: &R) -> Result<Vec<String<R::A>, R::A>, PlanFault> {
+    keep_freed(rt.alloc());
     handed(rt.alloc(), env::args(rt))
 }
 
