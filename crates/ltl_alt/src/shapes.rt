@@ -75,8 +75,28 @@ impl<'a, A: Allocator> Shape<'a, A> {
         requires within { (k : ℕ) → Has numbers.now k → k < length groups.now.lists.items }
         ensures { result ≡ true → self.now ≡ map (made_of groups.now.lists.items) numbers.now }
     {
-        are_those(self.lists.as_slice(), groups, numbers)
+        let lists = self.lists.as_slice();
+        are_as_many(lists, groups, numbers) && are_those(lists, groups, numbers)
     }
+}
+
+/// Whether there are as many transitions as these groups have, group by group. Where it isn't so, they needn't be compared.
+fn are_as_many<'a, A: Allocator>(
+    lists: &[TransitionList<'a, A>],
+    groups: &Groups<'a, A>,
+    numbers: &[usize],
+) -> bool
+    requires within { (k : ℕ) → Has numbers.now k → k < length groups.now.lists.items }
+{
+    if lists.len() != numbers.len() {
+        return false;
+    }
+    'groups: for k in 0..numbers.len() {
+        if lists[k].as_slice().len() != groups.transitions(numbers[k]).len() {
+            return false;
+        }
+    }
+    true
 }
 
 /// Whether these are the transitions of these groups.
