@@ -5,6 +5,7 @@ pub mod ChainLaws
 pub mod ClassLaws
 pub mod CodeLaws
 pub mod CopyLaws
+pub mod LightLaws
 pub mod ListedLaws
 pub mod MergeLaws
 pub mod MergedLaws

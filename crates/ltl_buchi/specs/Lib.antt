@@ -1,4 +1,5 @@
 pub mod IndexedEdge
+pub mod Light
 pub mod Agreeing
 pub mod Apart
 pub mod BaView

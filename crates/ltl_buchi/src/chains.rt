@@ -69,7 +69,7 @@ fn implies(other: &Edge, edge: &Edge) -> bool
 
 /// Whether the first edge is another one than the second and implies it.
 #[inline(always)]
-fn implies_other(other: &Edge, edge: &Edge) -> bool
+pub(crate) fn implies_other(other: &Edge, edge: &Edge) -> bool
     ensures { result ≡ implied.implies_other (edge_of other.now) (edge_of edge.now) }
 {
     if *other == *edge {

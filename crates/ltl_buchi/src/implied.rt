@@ -7,6 +7,7 @@ ghost use Rattle.ltl_buchi.specs.IndexedEdge.{AreAsked, IsAsked, IsOfWeight, IsW
 ghost use Rattle.ltl_buchi.specs.Chains.{AreLinks};
 
 use crate::chains::{linked, unimplied_of_few};
+use crate::light::without_light;
 use least::{Below, Counting, Lookup};
 use ltl_alt::elements::{LITERALS, count, has_literal, tally_literals};
 use ltl_automaton::Edge;
@@ -134,7 +135,7 @@ fn ask_all<'a, A: Allocator>(alloc: &'a A, edges: &[Edge]) -> Result<AskedEdges<
 
 /// How much an edge asks for: how many literals it has, and how many of as many sets as there may be it isn't in.
 #[inline(always)]
-fn weight(edge: &Edge) -> usize
+pub(crate) fn weight(edge: &Edge) -> usize
     ensures { IsOfWeight result (edge_of edge.now) }
 {
     edge.cube.invariant();
@@ -220,8 +221,9 @@ pub(crate) fn unimplied<'a, A: Allocator>(
     if weigh_alike(edges.as_slice(), links.as_slice()) {
         return Ok(edges);
     }
-    match unimplied_of_few(alloc, edges.as_slice(), heads, links.as_slice(), FEW)? {
-        Some(kept) => Ok(kept),
-        None => unimplied_of_many(alloc, edges.as_slice()),
+    if let Some(kept) = unimplied_of_few(alloc, edges.as_slice(), heads, links.as_slice(), FEW)? {
+        return Ok(kept);
     }
+    let left = without_light(alloc, edges.as_slice(), heads)?;
+    unimplied_of_many(alloc, left.as_slice())
 }

@@ -29,6 +29,7 @@ mod classes;
 mod copies;
 pub mod fault;
 mod implied;
+mod light;
 mod listed;
 pub mod merging;
 pub mod numbered;

@@ -52,7 +52,7 @@ fn merged<'a, A: Allocator>(
 }
 
 /// Hands to callers that the literals and the marks of each edge are sets.
-fn are_sets(edges: &[Edge])
+pub(crate) fn are_sets(edges: &[Edge])
     ensures { All IsSetEdge (map edge_of edges.now) }
 {
     for edge in edges {
