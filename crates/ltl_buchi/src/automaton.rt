@@ -1,7 +1,6 @@
 //! Büchi automata.
 
-ghost use Rattle.std.specs.Prelude.{◌≡◌, ◌<◌, ◌≤◌, length, map, All, IfOk};
-ghost use Rattle.std.specs.List.Sorted.{IsPermutation, IsSorted};
+ghost use Rattle.std.specs.Prelude.{◌≡◌, ◌%◌, ◌<◌, ◌≤◌, length, map, All, IfOk};
 ghost use Rattle.ltl_spec.specs.Automata.Automaton.{state_at};
 ghost use Rattle.ltl_spec.specs.Tools.Limits.{stated_limits};
 ghost use Rattle.ltl_automaton.specs.EdgeView as view;
@@ -16,51 +15,32 @@ use std::marker::Model;
 /// Places of edges. Most states have few edges.
 type Places<'a, A> = SmallVec<usize, 4, &'a A>;
 
-/// An edge's target and its place.
-#[derive(Clone, Copy, Default, PartialEq, Eq, PartialOrd, Ord)]
-struct TargetPlace {
-    target: usize,
-    place: usize,
-}
+/// No place of an edge reaches this.
+const PLACES: u128 = 18_446_744_073_709_551_616;
 
-/// The places of the edges, by target and then by place.
+/// The places of the edges, by target and then by place. A target and a place are sorted as one number.
 fn places_by_target<'a, A: Allocator>(
     alloc: &'a A,
     edges: &[Edge],
 ) -> Result<Places<'a, A>, AllocError>
     ensures order { IfOk result (λ ps. IsTargetOrder (map view.edge_of edges.now) ps.items) }
 {
-    let mut placed: SmallVec<TargetPlace, 4, &'a A> = SmallVec::with_capacity(alloc, edges.len())?;
+    let mut keys: SmallVec<u128, 4, &'a A> = SmallVec::with_capacity(alloc, edges.len())?;
     for (place, edge) in edges.iter().enumerate() {
-        placed.push(TargetPlace {
-            target: edge.target,
-            place,
-        })?;
+        keys.push(edge.target as u128 * PLACES + place as u128)?;
     }
-    sort_placed(placed.as_mut_slice());
-    let places = places(alloc, placed.as_slice())?;
+    keys.as_mut_slice().sort_unstable();
+    let places = places(alloc, keys.as_slice())?;
     Ok(places)
 }
 
-/// Sorts by target and then by place.
-fn sort_placed(placed: &mut [TargetPlace])
-    ensures permutation { IsPermutation placed.old placed.new }
-    ensures len { length placed.new ≡ length placed.old }
-    ensures sorted { IsSorted ⟦<TargetPlace as Ord>⟧.cmp placed.new }
-{
-    placed.sort_unstable();
-}
-
 /// The places alone.
-fn places<'a, A: Allocator>(
-    alloc: &'a A,
-    placed: &[TargetPlace],
-) -> Result<Places<'a, A>, AllocError>
-    ensures { IfOk result (λ ps. ps.items ≡ map (λ p. p.place) placed.now) }
+fn places<'a, A: Allocator>(alloc: &'a A, keys: &[u128]) -> Result<Places<'a, A>, AllocError>
+    ensures { IfOk result (λ ps. ps.items ≡ map (λ k. k % PLACES) keys.now) }
 {
-    let mut places: Places<'a, A> = SmallVec::with_capacity(alloc, placed.len())?;
-    for one in placed {
-        places.push(one.place)?;
+    let mut places: Places<'a, A> = SmallVec::with_capacity(alloc, keys.len())?;
+    for key in keys {
+        places.push((key % PLACES) as usize)?;
     }
     Ok(places)
 }

@@ -4,4 +4,4 @@ use Rattle.ltl_buchi.proofs.PlacedLaws.{IsPlaced}
 use Rattle.ltl_buchi.proofs.automaton.places_by_target.Given as goal
 
 abbrev pub invariant-loop-place : goal.invariant-loop-place
-invariant-loop-place g l = IsPlaced (map edge_of l.edges) l.place l.placed.items
+invariant-loop-place g l = IsPlaced (map edge_of l.edges) l.place l.keys.items
