@@ -26,6 +26,7 @@ lib)
     [ "$name" != "${FAILS:-}" ] || { echo "src/lib.rt:1:1: error[open-goal]: not proved"; exit 1; }
     ;;
 run)
+    echo "asked $name: $*" >>"$CALLS"
     mkdir -p out && printf '#!/bin/sh\necho built\n' >"out/$name" && chmod +x "out/$name"
     exit 2
     ;;
@@ -160,11 +161,14 @@ def try_build(tree):
     tree.expect("what is kept", (tree.top / "crates/ltl_sets/out/rlib/stamp").read_text(encoding="ascii"), "kept\n")
     tree.expect("what is proved", seen, wanted)
     tree.expect("lines on crates", sorted(it.split()[-3] for it in shown.split("\n") if it.endswith((" is proved", " is built"))), sorted(name for _, name in wanted))
+    tree.expect("asked of a program", {it for it in calls if it.startswith("asked ltl2ba: ")} <= {"asked ltl2ba: run --", "asked ltl2ba: run --cpu x86-64-v3 --"}, True)
     tree.expect("built is run", tree.run("./run", "ltleval", has_rt=False), ("built\n", "", 0))
     shown, told, status = tree.run("./build", FAILS="ltl_alt")
     tree.expect("a proof fails", (shown.split("\n")[-3:-1], status), (["src/lib.rt:1:1: error[open-goal]: not proved", "build: ltl_alt is not proved; rt check in crates/ltl_alt tells more"], 1))
     tree.expect("what is kept again", (tree.top / "crates/ltl_sets/out/rlib/stamp").read_text(encoding="ascii"), "kept\nkept\n")
     tree.expect("nothing above it", "ltl_buchi" in tree.calls.read_text(encoding="ascii"), False)
+    tree.run("./build", "--portable", "ltleval")
+    tree.expect("asked of a portable one", "asked ltleval: run --\n" in tree.calls.read_text(encoding="ascii"), True)
 
 
 def try_install(tree):
