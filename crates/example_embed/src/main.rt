@@ -6,7 +6,7 @@ ghost use Rattle.ltl_spec.specs.Checking.Bounds.{HasNamesBelow};
 
 use anyhow::Result;
 use ltl_buchi::{Ba, Options, translate};
-use ltl_check::{Outcome, check};
+use ltl_check::{Outcome, Verdict, check};
 use ltl_formula::{Formula, Table, read};
 use ltl_text::{hoa_read, hoa_to};
 use ltl_word::holds;
@@ -31,17 +31,32 @@ fn translated<'a>(
     Ok((formula, automaton))
 }
 
+/// The text of the automaton of `p && X[]!p`.
+fn written<'a>(alloc: &'a Global) -> Result<Vec<u8, &'a Global>> {
+    let (formula, automaton) = translated(alloc, "p && X[]!p", false)?;
+    let mut text = Vec::new(alloc);
+    hoa_to(&automaton, &formula, &mut text)?;
+    Ok(text)
+}
+
+/// What `[]<>p` says of the words of the automaton with this text.
+fn verdict_on<'a>(
+    alloc: &'a Global,
+    mut text: &[u8],
+) -> Result<(Formula<'a, Global>, Verdict<'a, Global>)> {
+    let read_back = hoa_read(alloc, &mut text)?;
+    let (property, violations) = translated(alloc, "[]<>p", true)?;
+    let verdict = check(alloc, &read_back, &violations, &property)?;
+    Ok((property, verdict))
+}
+
 fn main(rt: HostRuntime) -> Result<()> {
     let alloc = rt.alloc();
     let mut output = io::writer(&rt);
-    let (formula, automaton) = translated(&alloc, "p && X[]!p", false)?;
-    let mut text = Vec::new(alloc);
-    hoa_to(&automaton, &formula, &mut text)?;
+    let text = written(&alloc)?;
     output.write_all(&text)?;
 
-    let read_back = hoa_read(&alloc, &mut text.as_slice())?;
-    let (property, violations) = translated(&alloc, "[]<>p", true)?;
-    let verdict = check(&alloc, &read_back, &violations, &property)?;
+    let (property, verdict) = verdict_on(&alloc, &text)?;
     match verdict.outcome() {
         Outcome::Contained => println!(rt; "every word satisfies it")?,
         Outcome::Violated(word) => {
