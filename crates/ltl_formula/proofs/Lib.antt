@@ -15,4 +15,5 @@ mod StateLemmas
 pub mod StreamLemmas
 pub mod TableLemmas
 pub mod TreeLemmas
+mod UseLemmas
 pub mod WalkLemmas

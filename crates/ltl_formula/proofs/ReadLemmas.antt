@@ -18,14 +18,15 @@ use Rattle.ltl_spec.proofs.Formulas.GrammarMachine as machine
 use Rattle.ltl_spec.proofs.Formulas.BeginningLaws.{outline, reads_once}
 use Rattle.ltl_spec.proofs.Formulas.FaultLaws.{kind_at, kind_before, never_both}
 use Rattle.ltl_spec.proofs.Formulas.ReaderLaws.{Verdict, verdict, verdict_at, verdict_reading, verdict_fault, with_name}
-use Rattle.ltl_spec.proofs.Formulas.CanonicalLaws.{IsNamed, named_differ, canonical_again}
+use Rattle.ltl_spec.proofs.Formulas.CanonicalLaws.{IsNamed, named_differ, canonical_again, canonical_is_text}
 use Rattle.ltl_formula.specs.declared.operators.Node.{Node}
 use Rattle.ltl_formula.specs.declared.fault.ReadFault.{ReadFault}
 use Rattle.ltl_formula.specs.declared.fault.ReadFault.TheVariants.{TooLong, AtByte, TooManyPropositions, OutOfMemory}
 use Rattle.ltl_formula.specs.FormulaView.{FormulaView, IsFormula, reading_of, whole_tree}
-use Rattle.ltl_formula.specs.ParserView.{ParserView, RefusesEnd, RefusesToken, kind_of, reader_of}
+use Rattle.ltl_formula.specs.ParserView.{AreUsedOnce, ParserView, RefusesEnd, RefusesToken, kind_of, reader_of}
 use Rattle.ltl_formula.specs.ReadText.{IsReadAs, IsRefusedFor, RefusesNames}
 use Rattle.ltl_formula.specs.CanonicalWork.{HasOperands}
+use Rattle.ltl_formula.proofs.UseLemmas.{whole_once}
 use Rattle.ltl_spec.specs.Semantics.Word.{Name}
 use Rattle.ltl_spec.specs.Tools.Limits.{stated_limits}
 use Rattle.ltl_spec.proofs.Formulas.TokenLaws.{IsNameWord}
@@ -74,12 +75,14 @@ words_propositions : (names : List Name) → AllByRecursion IsNameWord names →
 words_propositions names a = (all_Decides is_proposition names).1 (λ n h. word_proposition n (all_at IsNameWord names n a h))
 
 -- nodes and names that were read are a formula
-pub is_formula : (ns : List Node) (names ms : List Name) (count : ℕ) → ms ≡ names → count ≡ length names → 0 < length ns → HasOperands count ns
+pub is_formula : (ns : List Node) (names ms : List Name) (count : ℕ) → ms ≡ names → count ≡ length names → 0 < length ns → HasOperands count ns → AreUsedOnce ns [] true
     → IsNamed (record { formula = whole_tree ns; names = names }) → count ≤ stated_limits.propositions → IsFormula ns ms
-is_formula ns names ms count e n l o d few =
+is_formula ns names ms count e n l o once d few =
     subst (IsFormula ns) (sym e) (record {
       some = l;
       operands = subst (λ k. HasOperands k ns) n o;
+      once = whole_once ns once;
+      named = d;
       propositions = words_propositions names d.words;
       distinct = named_differ (record { formula = whole_tree ns; names = names }) d;
       few = subst (λ k. k ≤ stated_limits.propositions) n few;
@@ -166,6 +169,10 @@ refused_names text ns names count (AtByte place kind) l t c w = absurd w
 -- a canonical text is read back
 pub read_back : (text : List ℕ) (f : FormulaView) → IsReadAs text f → length (canonical_text (reading_of f)) ≤ stated_limits.formula_bytes → IsReadAs (canonical_text (reading_of f)) f
 read_back text f w l = (l, canonical_again text (reading_of f) w.1, w.2)
+
+-- so is that of a formula
+pub own_text : (f : FormulaView) → IsFormula f.nodes f.names → length (canonical_text (reading_of f)) ≤ stated_limits.formula_bytes → IsReadAs (canonical_text (reading_of f)) f
+own_text f h l = (l, canonical_is_text (reading_of f) h.named, h.few)
 
 -- a text has one reading
 pub read_once : (text : List ℕ) (f g : FormulaView) → IsReadAs text f → IsReadAs text g → reading_of f ≡ reading_of g

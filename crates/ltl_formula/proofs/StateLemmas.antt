@@ -17,26 +17,36 @@ use Rattle.ltl_formula.specs.declared.operators.Node.{Node}
 use Rattle.ltl_formula.specs.declared.operators.BinaryOperator.{BinaryOperator}
 use Rattle.ltl_formula.specs.declared.parser.Frame.{Frame}
 use Rattle.ltl_formula.specs.declared.parser.Frame.TheVariants.{Bracket, Prefix, Pending}
-use Rattle.ltl_formula.specs.FormulaView.{StandsAt, tree_in, tree_of, trees, whole_tree, unary_of, binary_of}
+use Rattle.ltl_formula.specs.FormulaView.{StandsAt, operands_of, tree_in, tree_of, trees, whole_tree, unary_of, binary_of}
 use Rattle.ltl_formula.specs.CanonicalWork.{HasOperands}
-use Rattle.ltl_formula.specs.ParserView.{ParserView, IsParsing, is_bracket, frame_of, with_frame, frames_of, reader_of, IsBelow, AreBelow}
+use Rattle.ltl_formula.specs.ParserView.{ParserView, IsParsing, is_bracket, frame_of, with_frame, frames_of, left_of, reader_of, IsBelow, AreBelow, AreUsedOnce}
 use Rattle.ltl_formula.proofs.TreeLemmas.{push_length}
 use Rattle.ltl_formula.proofs.ParserLemmas.{below_push, below_pop, below_more, operands_push, frames_push, frames_stay, whole_push}
+use Rattle.ltl_formula.proofs.UseLemmas.{leaf_once, frame_once, frame_gone, pending_once, popped_free}
+
+-- a frame that holds no operand
+free_below : (n : ℕ) (f : Frame) → left_of f ≡ [] → IsBelow n f
+free_below n Bracket e = tt
+free_below n (Prefix op) e = tt
+free_below n (Pending i op) e = cc
 
 module _ (ns : List Node) (fs : List Frame) (names : List Name) (has : Bool) (p : IsParsing (record { nodes = ns; frames = fs; names = names; has_operand = has })) where
-  pub frame_pushed : (now : ParserView) (fs' : List Frame) (f : Frame) → record { nodes = ns; frames = fs; names = names; has_operand = has } ≡ now → fs' ≡ fs ++ f ∷ [] → IsBelow (length now.nodes) f
-      → IsParsing (record { nodes = ns; frames = fs'; names = names; has_operand = has })
-  frame_pushed now fs' f v e b =
-      let below : IsBelow (length ns) f = subst (λ w. IsBelow (length w.nodes) f) (sym v) b in
-      record { operands = p.operands; pending = subst (AreBelow (length ns)) (sym e) (below_push (length ns) fs f p.pending below); some = p.some }
+  pub frame_pushed : (fs' : List Frame) (f : Frame) → fs' ≡ fs ++ f ∷ [] → left_of f ≡ [] → IsParsing (record { nodes = ns; frames = fs'; names = names; has_operand = has })
+  frame_pushed fs' f e free = record {
+    operands = p.operands;
+    once = frame_once ns fs fs' f has e free p.once;
+    pending = subst (AreBelow (length ns)) (sym e) (below_push (length ns) fs f p.pending (free_below (length ns) f free));
+    some = p.some;
+  }
 
   pub operand_pushed : (now : ParserView) (ns' : List Node) (n : Node) → record { nodes = ns; frames = fs; names = names; has_operand = has } ≡ now → ns' ≡ ns ++ n ∷ []
-      → StandsAt (length now.names) (length now.nodes) n → IsParsing (record { nodes = ns'; frames = fs; names = names; has_operand = true })
-  operand_pushed now ns' n v e h =
+      → now.has_operand ≡ false → StandsAt (length now.names) (length now.nodes) n → operands_of n ≡ [] → IsParsing (record { nodes = ns'; frames = fs; names = names; has_operand = true })
+  operand_pushed now ns' n v e w h leaf =
       let stands : StandsAt (length names) (length ns) n = subst (λ w. StandsAt (length w.names) (length w.nodes) n) (sym v) h in
       let long : length ns' ≡ suc (length ns) = ap length e ∙ push_length ns n in
       record {
         operands = subst (HasOperands (length names)) (sym e) (operands_push (length names) ns n p.operands stands);
+        once = leaf_once ns ns' fs n e leaf (subst (AreUsedOnce ns fs) (ap (λ u. u.has_operand) v ∙ w) p.once);
         pending = below_more (length ns) (length ns') fs (omega arith) p.pending;
         some = λ _. omega arith;
       }
@@ -49,14 +59,23 @@ module _ (ns : List Node) (fs : List Frame) (names : List Name) (has : Bool) (p 
       ∙ ap (machine.Having (tree_of (trees ns) n)) (frames_stay ns n fs p.pending)
       ∙ ap (λ w. machine.Having (tree_of (trees w.nodes) n) (frames_of (trees w.nodes) w.frames)) v
 
-  module _ (ns1 : List Node) (fs1 : List Frame) (operands : (count : ℕ) → HasOperands count ns → HasOperands count ns1) (pending : AreBelow (length ns1) fs1) (longer : length ns ≤ length ns1) where
+  module _ (having : has ≡ true) (ns1 : List Node) (fs1 : List Frame) (operands : (count : ℕ) → HasOperands count ns → HasOperands count ns1) (once : AreUsedOnce ns fs true → AreUsedOnce ns1 fs1 true)
+      (pending : AreBelow (length ns1) fs1) (longer : length ns ≤ length ns1) where
+    once_kept : AreUsedOnce ns1 fs1 true
+    once_kept = once (subst (AreUsedOnce ns fs) having p.once)
+
     -- after operands were closed over
     pub closed_kept : IsParsing (record { nodes = ns1; frames = fs1; names = names; has_operand = has })
-    closed_kept = record { operands = operands (length names) p.operands; pending = pending; some = λ e. let l = p.some e in omega arith }
+    closed_kept = record {
+      operands = operands (length names) p.operands;
+      once = subst (AreUsedOnce ns1 fs1) (sym having) once_kept;
+      pending = pending;
+      some = λ e. let l = p.some e in omega arith;
+    }
 
     -- with the frames as they were
     pub closed_same : (fs2 : List Frame) → fs2 ≡ fs1 → IsParsing (record { nodes = ns1; frames = fs2; names = names; has_operand = has })
-    closed_same fs2 e = record { operands = closed_kept.operands; pending = subst (AreBelow (length ns1)) (sym e) pending; some = closed_kept.some }
+    closed_same fs2 e = subst (λ fs'. IsParsing (record { nodes = ns1; frames = fs'; names = names; has_operand = has })) (sym e) closed_kept
 
     -- and one on top
     pub closed_pending : (now : ParserView) (fs2 : List Frame) (k : ℕ) (op : BinaryOperator) → record { nodes = ns; frames = fs; names = names; has_operand = has } ≡ now → now.has_operand ≡ true
@@ -65,6 +84,7 @@ module _ (ns : List Node) (fs : List Frame) (names : List Name) (has : Bool) (p 
         let some = p.some (ap (λ w. w.has_operand) v ∙ h) in
         record {
           operands = closed_kept.operands;
+          once = pending_once ns1 fs1 fs2 (Pending (k - 1) op) e (ap (λ j. (j - 1) ∷ []) l) once_kept;
           pending = subst (AreBelow (length ns1)) (sym e) (below_push (length ns1) fs1 (Pending (k - 1) op) pending (omega arith));
           some = λ d. no_test d;
         }
@@ -76,14 +96,19 @@ module _ (ns : List Node) (fs : List Frame) (names : List Name) (has : Bool) (p 
             no_way z = cc
 
     -- and one off
-    pub closed_popped : (fs2 : List Frame) (f : Frame) → fs1 ≡ fs2 ++ f ∷ [] → IsParsing (record { nodes = ns1; frames = fs2; names = names; has_operand = has })
-    closed_popped fs2 f e =
-        record { operands = closed_kept.operands; pending = (below_pop (length ns1) fs2 f (subst (AreBelow (length ns1)) e pending)).0; some = closed_kept.some }
+    pub closed_popped : (fs2 : List Frame) (f : Frame) → left_of f ≡ [] → fs1 ≡ fs2 ++ f ∷ [] → IsParsing (record { nodes = ns1; frames = fs2; names = names; has_operand = has })
+    closed_popped fs2 f free e = record {
+      operands = closed_kept.operands;
+      once = frame_gone ns1 fs1 fs2 f has e free closed_kept.once;
+      pending = (below_pop (length ns1) fs2 f (subst (AreBelow (length ns1)) e pending)).0;
+      some = closed_kept.some;
+    }
 
-    -- whichever it is
-    pub closed_pop : (fs2 : List Frame) (o : Option Frame) → fs1 ≡ fs2 ++ option_to_list o → IsParsing (record { nodes = ns1; frames = fs2; names = names; has_operand = has })
-    closed_pop fs2 None e = closed_same fs2 (sym (e ∙ append-nil fs2))
-    closed_pop fs2 (Some f) e = closed_popped fs2 f e
+    -- whichever it is, after all operators have closed
+    pub closed_pop : machine.close 5 (whole_tree ns) (frames_of (trees ns) fs) ≡ (whole_tree ns1, frames_of (trees ns1) fs1) → (fs2 : List Frame) (o : Option Frame) → fs1 ≡ fs2 ++ option_to_list o
+        → IsParsing (record { nodes = ns1; frames = fs2; names = names; has_operand = has })
+    closed_pop closed fs2 None e = closed_same fs2 (sym (e ∙ append-nil fs2))
+    closed_pop closed fs2 (Some f) e = closed_popped fs2 f (popped_free (trees ns1) (whole_tree ns) (whole_tree ns1) (frames_of (trees ns) fs) fs1 fs2 f closed e) e
 
 -- ---- the reader
 

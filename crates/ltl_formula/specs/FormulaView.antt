@@ -1,10 +1,10 @@
 -- A formula as the list of its nodes, and the tree that it stands for.
-use Rattle.std.specs.Prelude.{ℕ, ◌-◌, ◌<◌, ◌≤◌, ◌∷◌, ◌++◌, [], List, fold, length, slice_index_or, false, IsTrue}
-use Rattle.std.specs.List.{list_all}
+use Rattle.std.specs.Prelude.{◌≡◌, ℕ, suc, ◌+◌, ◌-◌, ◌<◌, ◌≤◌, ◌==◌, ◌∷◌, ◌++◌, [], List, fold, length, if◌then◌else◌, slice_index_or, false, IsTrue}
+use Rattle.std.specs.List.{flat_map, list_all}
 use Rattle.ltl_spec.specs.Semantics.Word.{Name}
 use Rattle.ltl_spec.specs.Collections.Lists.{HasNoRepeats}
 use Rattle.ltl_spec.specs.Formulas.Formula as spec
-use Rattle.ltl_spec.specs.Formulas.Names.{is_proposition}
+use Rattle.ltl_spec.specs.Formulas.Names.{IsNamed, is_proposition}
 use Rattle.ltl_spec.specs.Tools.Limits.{stated_limits}
 use Rattle.ltl_formula.specs.declared.operators.Node.{Node}
 use Rattle.ltl_formula.specs.declared.operators.Node.TheVariants.{Constant, Proposition, Unary, Binary}
@@ -64,10 +64,25 @@ StandsAt count i (Proposition p) = p < count
 StandsAt count i (Unary op a) = a < i
 StandsAt count i (Binary op a b) = (a < i) × (b < i)
 
--- there is a node, operands stand before their node, and the names are within their limit and distinct propositions
+-- the numbers of a node's operands
+abbrev pub operands_of : Node → List ℕ
+operands_of (Constant b) = []
+operands_of (Proposition p) = []
+operands_of (Unary op a) = a ∷ []
+operands_of (Binary op a b) = a ∷ b ∷ []
+
+-- how often the number stands in the list
+abbrev pub times : ℕ → List ℕ → ℕ
+times k [] = 0
+times k (j ∷ js) = (if j == k then 1 else 0) + times k js
+
+-- There is a node, operands stand before their node, and each node but the last is an operand once: no node stands beside the tree of the
+-- last one. The names are within their limit, distinct propositions, and in the order in which they first stand in that tree
 pub record IsFormula (nodes : List Node) (names : List Name) : Type 0 where
   pub some : 0 < length nodes
   pub operands : (i : ℕ) → i < length nodes → StandsAt (length names) i (slice_index_or nodes i (Constant false))
+  pub once : (k : ℕ) → suc k < length nodes → times k (flat_map operands_of nodes) ≡ 1
+  pub named : IsNamed (record { formula = whole_tree nodes; names = names })
   pub propositions : IsTrue (list_all is_proposition names)
   pub distinct : HasNoRepeats names
   pub few : length names ≤ stated_limits.propositions

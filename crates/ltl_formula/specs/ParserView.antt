@@ -1,5 +1,6 @@
 -- A parser's state as a state of the definitions' reader.
-use Rattle.std.specs.Prelude.{◌≡◌, ℕ, ◌<◌, Bool, true, false, if◌then◌else◌, nat_le, List, [], ◌∷◌, fold, length, Option, Some, None, Result, Ok, Err}
+use Rattle.std.specs.Prelude.{◌≡◌, ℕ, suc, ◌+◌, ◌-◌, ◌<◌, Bool, true, false, if◌then◌else◌, nat_le, List, [], ◌∷◌, fold, length, Option, Some, None, Result, Ok, Err}
+use Rattle.std.specs.List.{flat_map}
 use Rattle.ltl_spec.specs.Semantics.Word.{Name}
 use Rattle.ltl_spec.specs.Formulas.Formula as spec
 use Rattle.ltl_spec.specs.Formulas.Grammar.{rank_of}
@@ -17,7 +18,7 @@ use Rattle.ltl_formula.specs.declared.fault.FaultKind.{FaultKind}
 use Rattle.ltl_formula.specs.declared.fault.FaultKind.TheVariants.{UnexpectedByte, ExpectedOperand, ExpectedOperatorOrEnd, ExpectedCloseOrOperator}
 use Rattle.ltl_formula.specs.declared.fault.ReadFault.{ReadFault}
 use Rattle.ltl_formula.specs.declared.fault.ReadFault.TheVariants.{AtByte, OutOfMemory}
-use Rattle.ltl_formula.specs.FormulaView.{unary_of, binary_of, tree_in, trees, whole_tree}
+use Rattle.ltl_formula.specs.FormulaView.{unary_of, binary_of, operands_of, times, tree_in, trees, whole_tree}
 use Rattle.ltl_formula.specs.CanonicalWork.{HasOperands}
 
 -- the kind of a fault
@@ -64,9 +65,23 @@ abbrev pub AreBelow : ℕ → List Frame → Type 0
 AreBelow count [] = Unit {0}
 AreBelow count (f ∷ fs) = IsBelow count f × AreBelow count fs
 
--- operands stand before their nodes, and an operand that is complete is a node
+-- the left operand that a frame holds
+abbrev pub left_of : Frame → List ℕ
+left_of (Pending i op) = i ∷ []
+left_of _ = []
+
+-- how often the number stands among the operands of nodes, the left operands of frames, and the operand that is complete
+abbrev pub uses : List Node → List Frame → Bool → ℕ → ℕ
+uses nodes frames has k = times k (flat_map operands_of nodes) + (times k (flat_map left_of frames) + (if has then times k ((length nodes - 1) ∷ []) else 0))
+
+-- each node is there once, and no other number
+abbrev pub AreUsedOnce : List Node → List Frame → Bool → Type 0
+AreUsedOnce nodes frames has = (k : ℕ) → uses nodes frames has k ≡ (if nat_le (suc k) (length nodes) then 1 else 0)
+
+-- operands stand before their nodes, an operand that is complete is a node, and each node is used once
 pub record IsParsing (p : ParserView) : Type 0 where
   pub operands : HasOperands (length p.names) p.nodes
+  pub once : AreUsedOnce p.nodes p.frames p.has_operand
   pub pending : AreBelow (length p.nodes) p.frames
   pub some : p.has_operand ≡ true → 0 < length p.nodes
 
@@ -96,5 +111,5 @@ RefusesEnd p end _ = ⊥
 
 -- at the end of the text all is closed
 abbrev pub FinishesAt : ParserView → ℕ → Result (Unit {0}) ReadFault → ParserView → Type 0
-FinishesAt old end (Ok _) new = (machine.finished (reader_of old) ≡ Some (whole_tree new.nodes)) × (new.names ≡ old.names) × (0 < length new.nodes)
+FinishesAt old end (Ok _) new = (machine.finished (reader_of old) ≡ Some (whole_tree new.nodes)) × (new.names ≡ old.names) × (0 < length new.nodes) × AreUsedOnce new.nodes [] true
 FinishesAt old end (Err e) new = RefusesEnd old end e

@@ -9,10 +9,10 @@ ghost use Rattle.ltl_spec.specs.Collections.Lists.{place_of, with_new};
 ghost use Rattle.ltl_spec.specs.Formulas.GrammarMachine as machine;
 ghost use Rattle.ltl_spec.specs.Formulas.Outline.{outline};
 ghost use Rattle.ltl_spec.specs.Formulas.Outline.{kind_before};
-ghost use Rattle.ltl_formula.specs.FormulaView.{StandsAt, binary_of, tree_of, trees, whole_tree};
+ghost use Rattle.ltl_formula.specs.FormulaView.{StandsAt, binary_of, operands_of, tree_of, trees, whole_tree};
 ghost use Rattle.ltl_formula.specs.TokenView.{token_of};
 ghost use Rattle.ltl_formula.specs.CanonicalWork.{HasOperands};
-ghost use Rattle.ltl_formula.specs.ParserView.{AreBelow, IsBelow, FinishesAt, TakesToken, closed_node, is_bracket, frames_of, kind_of, reader_of};
+ghost use Rattle.ltl_formula.specs.ParserView.{AreBelow, AreUsedOnce, FinishesAt, TakesToken, closed_node, is_bracket, frames_of, kind_of, left_of, reader_of};
 
 use crate::fault::{FaultKind, ReadFault};
 use crate::operators::{BinaryOperator, Node, UnaryOperator};
@@ -101,6 +101,7 @@ fn close<A: Allocator>(
         machine.close most (whole_tree nodes.old.items) (frames_of (trees nodes.old.items) frames.old.items)
         ≡ (whole_tree nodes.new.items, frames_of (trees nodes.new.items) frames.new.items)) }
     ensures operands { (count : ℕ) → HasOperands count nodes.old.items → HasOperands count nodes.new.items }
+    ensures once { AreUsedOnce nodes.old.items frames.old.items true → AreUsedOnce nodes.new.items frames.new.items true }
     ensures pending { AreBelow (length nodes.new.items) frames.new.items }
     ensures longer { length nodes.old.items ≤ length nodes.new.items }
 {
@@ -217,7 +218,7 @@ impl<'a, 't, A: Allocator> Parser<'a, 't, A> {
     }
 
     fn push_frame(&mut self, frame: Frame) -> Result<(), AllocError>
-        requires { IsBelow (length self.old.nodes) frame }
+        requires { left_of frame ≡ [] }
         ensures { OnOk result (self.new ≡ record self.old { frames = self.old.frames ++ frame ∷ [] }) }
     {
         self.frames.push(frame)?;
@@ -225,7 +226,9 @@ impl<'a, 't, A: Allocator> Parser<'a, 't, A> {
     }
 
     fn push_operand(&mut self, node: Node) -> Result<(), AllocError>
-        requires { StandsAt (length self.old.names) (length self.old.nodes) node }
+        requires wanting { self.old.has_operand ≡ false }
+        requires stands { StandsAt (length self.old.names) (length self.old.nodes) node }
+        requires leaf { operands_of node ≡ [] }
         ensures after { OnOk result (self.new ≡ record self.old { nodes = self.old.nodes ++ node ∷ []; has_operand = true }) }
         ensures reader { OnOk result (reader_of self.new ≡ machine.Having (tree_of (trees self.old.nodes) node)
             (frames_of (trees self.old.nodes) self.old.frames)) }

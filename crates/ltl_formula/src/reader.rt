@@ -1,10 +1,11 @@
 //! Reading a formula from its text.
 
-ghost use Rattle.std.specs.Prelude.{◌≡◌, ◌<◌, ◌≤◌, length, map, string_bytes, IfOk, MatchResult};
+ghost use Rattle.std.specs.Prelude.{◌≡◌, ◌<◌, ◌≤◌, [], true, length, map, string_bytes, IfOk, MatchResult};
 ghost use Rattle.std.specs.List.{AllByRecursion};
 ghost use Rattle.ltl_spec.specs.Formulas.Names.{IsNameWord, IsNamed};
 ghost use Rattle.ltl_formula.specs.FormulaView.{reading_of, whole_tree};
 ghost use Rattle.ltl_formula.specs.CanonicalWork.{HasOperands};
+ghost use Rattle.ltl_formula.specs.ParserView.{AreUsedOnce};
 ghost use Rattle.ltl_formula.specs.ReadText.{IsReadAs, IsRefusedFor, RefusesNames};
 
 use crate::canonical::canonical;
@@ -41,6 +42,7 @@ fn formula_from<'a, A: Allocator>(
 ) -> Result<Formula<'a, A>, ReadFault>
     requires some { 0 < length nodes.items }
     requires operands { HasOperands (length names.now.keys) nodes.items }
+    requires once { AreUsedOnce nodes.items [] true }
     requires named { IsNamed (record { formula = whole_tree nodes.items; names = map (λ k. k.now) names.now.keys }) }
     ensures { MatchResult result
         (λ f. (f.nodes ≡ nodes.entry.items) × (f.names ≡ map (λ k. k.now) names.now.keys) × (length f.names ≤ PROPOSITION_LIMIT))

@@ -1,8 +1,8 @@
-use Rattle.std.proofs.Common.{◌≡◌, ℕ, ◌<◌, ◌≤◌, length}
+use Rattle.std.proofs.Common.{◌≡◌, ℕ, ◌<◌, ◌≤◌, true, length}
 use Rattle.ltl_spec.proofs.Formulas.GrammarMachine as machine
 use Rattle.ltl_formula.specs.FormulaView.{trees, whole_tree}
 use Rattle.ltl_formula.specs.CanonicalWork.{HasOperands}
-use Rattle.ltl_formula.specs.ParserView.{AreBelow, frames_of}
+use Rattle.ltl_formula.specs.ParserView.{AreBelow, AreUsedOnce, frames_of}
 use Rattle.ltl_formula.proofs.parser.close.Given as goal
 
 abbrev pub invariant-closing : goal.invariant-closing
@@ -12,6 +12,7 @@ invariant-closing g l = record {
   same : machine.close l.most (whole_tree l.nodes.items) (frames_of (trees l.nodes.items) l.frames.items)
       ≡ machine.close l.most (whole_tree l.fn.nodes.items) (frames_of (trees l.fn.nodes.items) l.fn.frames.items);
   operands : (count : ℕ) → HasOperands count l.fn.nodes.items → HasOperands count l.nodes.items;
+  once : AreUsedOnce l.fn.nodes.items l.fn.frames.items true → AreUsedOnce l.nodes.items l.frames.items true;
   longer : length l.fn.nodes.items ≤ length l.nodes.items;
 }
 

@@ -8,4 +8,4 @@ pub from_parts-requires-clause-formula : goal.from_parts-requires-clause-formula
 from_parts-requires-clause-formula g c =
     let few : length c.args.names.now.keys ≤ stated_limits.propositions = omega (arith, c.len.ensures.len) in
     is_formula c.args.nodes.items (map (λ k. k.now) c.args.names.now.keys) (map string_bytes c.in_ok-names.names.items) (length c.args.names.now.keys) c.in_ok-names.ensures
-    (sym (map_length (λ k. k.now) c.args.names.now.keys)) c.requires.some c.requires.operands c.requires.named few
+    (sym (map_length (λ k. k.now) c.args.names.now.keys)) c.requires.some c.requires.operands c.requires.once c.requires.named few

@@ -25,6 +25,10 @@ formula_from-requires-clause-operands g c =
     let count = sym (map_length (λ k. k.now) c.into_parts-nodes.result.1.keys) ∙ ap length c.into_parts-nodes.ensures.names in
     rw (c.into_parts-nodes.ensures.nodes, count) c.into_parts-nodes.ensures.operands
 
+pub formula_from-requires-clause-once : goal.formula_from-requires-clause-once
+formula_from-requires-clause-once g c =
+    rw c.into_parts-nodes.ensures.nodes c.in_ok-finish.ensures.3
+
 pub formula_from-requires-clause-named : goal.formula_from-requires-clause-named
 formula_from-requires-clause-named g c =
     named_by_text c.args.text.now _ (final_text c.args.text.now c.tokens.parser c.finish.new.self c.tokens.tokens.rest c.into_parts-nodes.result.0.items (map (λ k. k.now) c.into_parts-nodes.result.1.keys)
