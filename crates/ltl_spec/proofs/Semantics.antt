@@ -8,6 +8,7 @@ pub mod Pigeonhole
 pub mod StepLaws
 pub mod Runs
 pub mod RunLaws
+pub mod LeavingEdges
 pub mod SupportLaws
 pub mod TargetLaws
 pub mod PickLaws

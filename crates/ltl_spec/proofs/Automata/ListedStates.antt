@@ -13,6 +13,12 @@ use Rattle.ltl_spec.proofs.Collections.ListLaws.{place_below, at_place}
 abbrev pub no_state : State
 no_state = record { accepting = true; edges = [] }
 
+-- where there is a state it doesn't matter what stands for none
+pub any_state : (xs : List State) (k : ℕ) (d : State) → k < length xs → slice_index_or xs k d ≡ slice_index_or xs k no_state
+any_state [] k d b = absurd (omega arith)
+any_state (x ∷ xs) zero d b = refl
+any_state (x ∷ xs) (suc k) d b = any_state xs k d (omega arith)
+
 -- what has an edge is a state
 pub state_inside : (xs : List State) (i : ℕ) (e : Edge) → Has (slice_index_or xs i no_state).edges e → i < length xs
 state_inside [] zero e h = absurd h

@@ -11,6 +11,7 @@ use Rattle.ltl_spec.specs.Automata.Listing.{listing}
 use Rattle.ltl_spec.specs.Semantics.Word.{Name}
 use Rattle.ltl_spec.specs.Transitions.Cubes.{Literal, Cube}
 use Rattle.ltl_spec.specs.Formulas.Formula.{Formula, Reading, Constant, Proposition, Unary, Binary, Not, Next, Always, Eventually, And, Or, Implies, Iff, Until, Release}
+use Rattle.ltl_spec.proofs.Formulas.CanonicalLaws.{HasNames, IsNamed, named_within}
 use Rattle.ltl_spec.specs.NormalForms.Normal.{Normal, Top, Bottom, Leaf, Next, And, Or, Until, Release, same}
 use Rattle.ltl_spec.specs.NormalForms.NormalForm.{normal_form, is_eventually, is_always, simple_and, simple_or, simple_until, simple_release, simple_form, core, postorder, rows, is_elementary, elementary_rows}
 use Rattle.ltl_spec.specs.Transitions.Pairs.{RowSet, Pair, join, empty_pair, later_pair, conj, pairs}
@@ -263,6 +264,16 @@ parsed_below r us F (of_unary op ts F' d) = parsed_below 0 ts F' d
 parsed_below r us F (of_tighter r' ts F' d) = parsed_below r' ts F' d
 parsed_below r us F (of_left op r' xs ys us' a b i g e d f) = (parsed_below (suc r') xs a d, parsed_below r' ys b f)
 parsed_below r us F (of_right op r' xs ys us' a b i g e d f) = (parsed_below r' xs a d, parsed_below (suc r') ys b f)
+
+-- so are the propositions of a formula whose names are those of its propositions
+named_propositions : (names : List Name) (F : Formula) → HasNames names F → HasPropositionsBelow (length names) F
+named_propositions names (Constant b) h = tt
+named_propositions names (Proposition p) h = h
+named_propositions names (Unary op a) h = named_propositions names a h
+named_propositions names (Binary op a b) h = (named_propositions names a h.0, named_propositions names b h.1)
+
+pub named_below : (R : Reading) → IsNamed R → HasPropositionsBelow (length R.names) R.formula
+named_below R d = named_propositions R.names R.formula (named_within R d)
 
 -- so the automaton of a formula that was read, or of its negation, has no propositions but those that the formula names
 pub translation_named : (tokens : List Token) (R : Reading) → Reads tokens R → (negate rewrite : Bool) (N : Normal) → N ≡ core R.formula negate rewrite → (o : Options) (B : Automaton) → IsTranslation N o B → HasNamesBelow (length R.names) B

@@ -1,5 +1,5 @@
 -- What merging and numbering leave of an automaton: what holds of the edges whatever their targets, and no more states and edges.
-use Rattle.std.proofs.Common.{◌≡◌, ℕ, suc, ◌<◌, ◌≤◌, Bool, true, false, cond, not, ◌&&◌, inl, inr, List, [], ◌∷◌, map, length, refl, sym, subst, arith}
+use Rattle.std.proofs.Common.{◌≡◌, ℕ, ◌<◌, ◌≤◌, Bool, true, false, cond, not, ◌&&◌, List, [], ◌∷◌, map, length, refl, sym, subst, arith}
 use Rattle.std.specs.Prelude.{slice_index, slice_index_or, ◌==◌, sum_by}
 use Rattle.std.specs.List.{list_any}
 use Rattle.std.specs.Ordering.{nat_cmp}
@@ -10,15 +10,14 @@ use Rattle.ltl_spec.specs.Collections.Lists.{HasNoRepeats, place_of}
 use Rattle.ltl_spec.specs.Automata.Automaton.{Automaton, State, Edge, edge_cmp, state_at}
 use Rattle.ltl_spec.specs.Construction.Merging.{same_edge, implies_edge, retargeted_edge, retargeted_state, without_implied, class_names, quotient, merged_automaton}
 use Rattle.ltl_spec.specs.Construction.Renumbered.{reached_states, renumbered_automaton}
-use Rattle.ltl_spec.proofs.Collections.SetLaws.{all_at, set_of_cases, IsRising-set_of, irreflexive}
+use Rattle.ltl_spec.proofs.Collections.SetLaws.{all_at, irreflexive}
 use Rattle.ltl_spec.proofs.Collections.SumLaws.{set_of_length, filter_length, sum_distinct, sum_less}
 use Rattle.ltl_spec.proofs.Collections.Orders.{nat_linear}
 use Rattle.ltl_spec.proofs.Collections.MemberLaws.{map_length}
 use Rattle.ltl_spec.proofs.Automata.ListedStates.{no_state, state_inside}
 use Rattle.ltl_spec.proofs.Semantics.Runs.{IsClosed}
 use Rattle.ltl_spec.proofs.Construction.ImpliedEdges.{thin_cases}
-use Rattle.ltl_spec.proofs.Construction.QuotientRuns.{IsNaming, retarget_cases}
-use Rattle.ltl_spec.proofs.Construction.MergingRuns.{naming}
+use Rattle.ltl_spec.proofs.Construction.QuotientRuns.{retarget_cases}
 use Rattle.ltl_spec.proofs.Construction.RenumberedRuns.{reached_within, HasNoRepeats-reached, reached_short}
 
 -- ---- what holds of the edges
@@ -77,48 +76,14 @@ made_few A f list differ inside less =
     let b = sum_distinct (λ (s : State). length s.edges) no_state A.states list differ inside in
     omega arith
 
-module _ (A : Automaton) (keep_implied keep_equal : Bool) where
-  abbrev names : List ℕ
-  names = class_names A (cond keep_equal 0 (length A.states))
-
-  abbrev classes : List ℕ
-  classes = set_of nat_cmp names
-
-  abbrev class_state : ℕ → State
-  class_state c = without_implied keep_implied (retargeted_state (λ t. place_of ◌==◌ (slice_index names t) classes) (state_at A c))
-
-  -- what is named is a state
-  named_inside : (n : ℕ) (ns : List ℕ) → ((k : ℕ) → k < length ns → slice_index ns k < n) → (c : ℕ) → Has ns c → c < n
-  named_inside n [] l c h = absurd h
-  named_inside n (x ∷ ns) l c (inl e) = let m = l 0 (omega arith) in let q : x < n = m in omega arith
-  named_inside n (x ∷ ns) l c (inr h) = named_inside n ns (λ k m. l (suc k) (omega arith)) c h
-
-  is_naming : IsNaming A names
-  is_naming = naming A keep_equal
-
-  classes_inside : (c : ℕ) → Has classes c → c < length A.states
-  classes_inside c h =
-      let long = is_naming.long in
-      named_inside (length A.states) names (λ k l. let m : slice_index names k ≤ k = is_naming.low k (omega arith) in omega arith) c (set_of_cases nat_linear names c h)
-
-  -- merging makes no more states
-  pub merged_few : length (merged_automaton keep_implied keep_equal A).states ≤ length A.states
-  merged_few = let a = map_length class_state classes in let b = set_of_length nat_cmp names in let c = is_naming.long in omega arith
-
-  -- and no more edges
-  pub merged_few_edges : edge_count (merged_automaton keep_implied keep_equal A) ≤ edge_count A
-  merged_few_edges = made_few A class_state classes (HasNoRepeats-rising classes (IsRising-set_of nat_linear names)) classes_inside (λ c.
-      let a = thin_length keep_implied (retargeted_state (λ t. place_of ◌==◌ (slice_index names t) classes) (state_at A c)) in
-      let b = retargeted_length (λ t. place_of ◌==◌ (slice_index names t) classes) (state_at A c) in
-      omega arith)
-
 module _ (A : Automaton) (closed : IsClosed A) where
   abbrev reached_state : ℕ → State
   reached_state s = retargeted_state (λ t. place_of ◌==◌ t (reached_states A)) (state_at A s)
 
-  -- nor does numbering
+  -- numbering makes no more states
   pub renumbered_few : length (renumbered_automaton A).states ≤ length A.states
   renumbered_few = let a = map_length reached_state (reached_states A) in let b = reached_short A closed in omega arith
 
+  -- and no more edges
   pub renumbered_few_edges : edge_count (renumbered_automaton A) ≤ edge_count A
   renumbered_few_edges = made_few A reached_state (reached_states A) (HasNoRepeats-reached A closed) (reached_within A closed) (λ s. retargeted_length (λ t. place_of ◌==◌ t (reached_states A)) (state_at A s))

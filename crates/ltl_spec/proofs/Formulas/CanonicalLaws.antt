@@ -129,7 +129,7 @@ names_within names (Binary op a b) h = (
 )
 
 -- so it is in a named reading
-named_within : (R : Reading) → IsNamed R → HasNames R.names R.formula
+pub named_within : (R : Reading) → IsNamed R → HasNames R.names R.formula
 named_within R d =
     names_within R.names R.formula
     (λ n h. all_at IsNameWord R.names n d.words (subst (λ l. Has l n) (sym d.numbered) (Has-first_occurrences same_name bytes_eq-Decides (names_in R.names R.formula) n h)))

@@ -15,6 +15,7 @@ use Rattle.ltl_spec.specs.Tools.Refusal.{Refusal, Translator}
 use Rattle.ltl_spec.specs.Tools.Outcome.{Answer, Input, IsPromised, Then, answer_by, input_of, printed}
 use Rattle.ltl_spec.specs.Tools.Programs.{Layout, Claim, Hoa, Generalized, InputReads, KeepsRows, Prints, Translates, TranslatesGeneralized, TranslatorAnswers, TranslatorPlan, TranslatorPrints}
 use Rattle.ltl_spec.specs.Tools.Run.{IsTextOfModels, IsTold, TellsModels, laid_out}
+use Rattle.ltl_spec.proofs.Construction.GeneralizedBounds.{translation_accepting}
 use Rattle.ltl_spec.proofs.Semantics.LanguageLaws.{generalized_models, translation_models}
 use Rattle.ltl_spec.proofs.Tools.StepLaws.{promise_holds, refusals_high, same_ok, then_ok}
 
@@ -34,7 +35,8 @@ module _ (l : Limits) (F : Formula) (rewrite : Bool) (N : Normal) (same : N ≡ 
       (B, same_ok text (hoa_text B R) e, m.0, m.1)
   printed_models Generalized h =
       let (A, t, e) = then_ok (TranslatesGeneralized l N o) (λ A r. r ≡ Ok (generalized_text A R)) text h in
-      (A, same_ok text (generalized_text A R) e, tt, generalized_models F rewrite o A (subst (λ (M : Normal). IsGeneralizedTranslation M o A) same t.0))
+      let translated = subst (λ (M : Normal). IsGeneralizedTranslation M o A) same t.0 in
+      (A, same_ok text (generalized_text A R) e, translation_accepting (core F false rewrite) o A translated, generalized_models F rewrite o A translated)
 
 module _ (l : Limits) (p : TranslatorPlan) (input : Input) where
   prints_models : (text : List ℕ) → TranslatorPrints l p input (Ok text) → IsTextOfModels l (Some p) input text

@@ -1,5 +1,5 @@
 -- What a run of a program may show, for what its words ask for and for its inputs: a right answer, and what one with status 0 or 1 means.
-use Rattle.std.specs.Prelude.{◌≡◌, ℕ, ◌≤◌, ◌↔◌, List, ◌++◌, Option, Some, Result, Ok, ⊤, codes}
+use Rattle.std.specs.Prelude.{◌≡◌, ℕ, ◌≤◌, ◌↔◌, List, ◌++◌, Option, Some, Result, Ok, codes}
 use Rattle.ltl_spec.specs.Formulas.Formula.{Reading}
 use Rattle.ltl_spec.specs.Semantics.Word.{Lasso, IsLasso}
 use Rattle.ltl_spec.specs.Semantics.Satisfaction.{Satisfies}
@@ -10,6 +10,7 @@ use Rattle.ltl_spec.specs.Automata.ClaimText.{never_text, line}
 use Rattle.ltl_spec.specs.Automata.HoaText.{hoa_text}
 use Rattle.ltl_spec.specs.Automata.GeneralizedText.{generalized_text}
 use Rattle.ltl_spec.specs.Hoa.HoaReading.{AcceptanceForm, MarkedAutomaton}
+use Rattle.ltl_spec.specs.Checking.Bounds.{AcceptsEverywhere}
 use Rattle.ltl_spec.specs.Checking.Check.{IsViolation, IsContained}
 use Rattle.ltl_spec.specs.Tools.Limits.{Limits}
 use Rattle.ltl_spec.specs.Tools.Refusal.{Refusal, Tool, Translator, Checker, Evaluator}
@@ -22,11 +23,12 @@ laid_out Claim B R = never_text B R
 laid_out Hoa B R = hoa_text B R
 laid_out Generalized A R = generalized_text A R
 
--- The text leaves nothing out: a claim and the text of a Büchi automaton don't tell of sets of edges, and the automaton has none
+-- The text leaves nothing out: a claim and the text of a Büchi automaton don't tell of sets of edges, and the automaton has none; the text
+-- of a generalized automaton doesn't tell which states are accepting, and all are
 abbrev pub IsTold : Layout → Automaton → Type 0
 IsTold Claim B = B.sets ≡ 0
 IsTold Hoa B = B.sets ≡ 0
-IsTold Generalized A = ⊤
+IsTold Generalized A = AcceptsEverywhere A
 
 -- the output is that of a word that the automaton accepts and that violates the formula, and reads back as that word alone
 pub record PrintsViolation (A : MarkedAutomaton) (R : Reading) (output : List ℕ) : Type 0 where
