@@ -1,7 +1,6 @@
 pub mod FormsLemmas
 pub mod GraphLemmas
 mod LexerLemmas
-mod LinkLemmas
 pub mod MadeLemmas
 mod NameLemmas
 pub mod OrderLemmas

@@ -3,7 +3,6 @@ pub mod ChoiceView
 pub mod FormsView
 pub mod FormulaView
 pub mod GraphView
-pub mod LinksView
 pub mod ParserView
 pub mod PlacesView
 pub mod ReadText

@@ -2,10 +2,10 @@
 
 ghost use Rattle.std.specs.Prelude.{◌≡◌, ◌<◌, length, IfOk};
 
-use crate::limits::PROPOSITION_LIMIT;
-use crate::links::{Slot, find, put};
 use crate::row::Row;
+use indexmap::IndexSet;
 use std::alloc::{AllocError, Allocator};
+use std::hash::{BuildHasherDefault, FoldHasher};
 use std::marker::Model;
 
 /// The number of the node that is true.
@@ -14,11 +14,10 @@ pub const TOP: usize = 0;
 /// The number of the node that is false.
 pub const BOTTOM: usize = 1;
 
-/// Nodes by their numbers, each behind its operands and each once. For each key there is a link to its last node.
+/// Nodes, each once and behind its operands. They are numbered by first occurrence.
 #[derive(Drop)]
 pub struct Graph<'a, A: Allocator> {
-    slots: Vec<Slot, &'a A>,
-    last: Vec<usize, &'a A>,
+    rows: IndexSet<Row, BuildHasherDefault<FoldHasher>, &'a A>,
     rewrite: bool,
 }
 
@@ -26,13 +25,12 @@ impl<'a, A: Allocator> Model for Graph<'a, A> {
     ghost use Rattle.std.specs.Prelude.{map};
     ghost use Rattle.ltl_spec.specs.NormalForms.SharedRewriting.{HasConstants};
     ghost use Rattle.ltl_formula.specs.GraphView.{GraphView, graph_of, node_of};
-    ghost use Rattle.ltl_formula.specs.LinksView.{AreLinked, rows_of};
 
     ghost Value = { GraphView };
 
-    ghost view = { λ g. graph_of (rows_of g.slots.items) g.rewrite };
+    ghost view = { λ g. graph_of g.rows.keys g.rewrite };
 
-    ghost invariant = { λ g. HasConstants (map node_of (rows_of g.slots.items)) 0 1 × AreLinked g.slots.items g.last.items };
+    ghost invariant = { λ g. HasConstants (map node_of g.rows.keys) 0 1 };
 }
 
 impl<'a, A: Allocator> Graph<'a, A> {
@@ -47,24 +45,10 @@ impl<'a, A: Allocator> Graph<'a, A> {
         ensures { IfOk result (λ g. g.rewrite ≡ rewrite) }
     {
         let room = count.saturating_mul(2).saturating_add(8);
-        let mut slots = Vec::with_capacity(alloc, room)?;
-        slots.extend_from_slice(&[
-            Slot {
-                node: Row::True,
-                before: 0,
-            },
-            Slot {
-                node: Row::False,
-                before: 1,
-            },
-        ])?;
-        let mut last = Vec::with_capacity(alloc, room.saturating_add(PROPOSITION_LIMIT))?;
-        last.push(2)?;
-        Ok(Graph {
-            slots,
-            last,
-            rewrite,
-        })
+        let mut rows = IndexSet::with_capacity(alloc, room)?;
+        rows.insert_full(Row::True)?;
+        rows.insert_full(Row::False)?;
+        Ok(Graph { rows, rewrite })
     }
 
     /// How many nodes there are.
@@ -72,14 +56,14 @@ impl<'a, A: Allocator> Graph<'a, A> {
         ensures count { result ≡ length self.now.nodes }
         ensures constants { HasConstants self.now.nodes 0 1 }
     {
-        self.slots.len()
+        self.rows.len()
     }
 
     /// The number of the node that is true.
     pub fn top(&self) -> usize
         ensures { StandsFor self.now.nodes result Top }
     {
-        let _ = &self.slots;
+        let _ = &self.rows;
         TOP
     }
 
@@ -87,7 +71,7 @@ impl<'a, A: Allocator> Graph<'a, A> {
     pub fn bottom(&self) -> usize
         ensures { StandsFor self.now.nodes result Bottom }
     {
-        let _ = &self.slots;
+        let _ = &self.rows;
         BOTTOM
     }
 
@@ -105,7 +89,7 @@ impl<'a, A: Allocator> Graph<'a, A> {
         ensures found { node_of result ≡ node_at self.now.nodes k }
         ensures operands { IsBelow k result }
     {
-        self.slots[k].node
+        self.rows[k]
     }
 
     /// The number of a node, which is put behind the others unless it is there.
@@ -113,10 +97,7 @@ impl<'a, A: Allocator> Graph<'a, A> {
         requires { AllBefore (length self.old.nodes) (node_of node) }
         ensures { IfOk result (λ k. Makes self.old self.new k (tree_of (tree_at self.old.nodes) (node_of node))) }
     {
-        let there = find(self.slots.as_slice(), self.last.as_slice(), node);
-        if there > 0 {
-            return Ok(there - 1);
-        }
-        put(&mut self.slots, &mut self.last, node)
+        let (number, _) = self.rows.insert_full(node)?;
+        Ok(number)
     }
 }

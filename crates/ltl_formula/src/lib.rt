@@ -29,7 +29,6 @@ mod graph;
 pub mod laws;
 pub mod lexer;
 pub mod limits;
-mod links;
 pub mod operators;
 pub mod output;
 mod parser;
