@@ -1,4 +1,3 @@
-pub mod DistinctLaws
 pub mod EdgeLaws
 pub mod NetLaws
 pub mod ReachableLaws

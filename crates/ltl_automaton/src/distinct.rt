@@ -1,6 +1,6 @@
 //! Different things by number.
 
-ghost use Rattle.std.specs.Prelude.{◌≡◌, ◌<◌, [], true, length, position, slice_get, Some, ℕ, IfOk, IfSome, OnOk, OnErr};
+ghost use Rattle.std.specs.Prelude.{◌≡◌, ◌<◌, [], true, length, position, slice_get, Some, IfOk, OnOk, OnErr};
 ghost use Rattle.ltl_spec.specs.Collections.Lists.{with_new, place_of};
 
 use indexmap::IndexSet;
@@ -8,33 +8,18 @@ use std::alloc::{AllocError, Allocator};
 use std::hash::{BuildHasherDefault, FoldHasher, Hash};
 use std::marker::Model;
 
-/// How many are looked for one by one.
-const FEW: usize = 4;
-
-/// Different things in the order in which they came. The first ones are looked for one by one, so that a few take one growth; those behind them
-/// by an index.
+/// Different things, numbered by first occurrence.
 #[derive(Drop)]
 pub struct Distinct<'a, K: Eq + Hash + Drop, A: Allocator> {
-    first: Vec<K, &'a A>,
-    others: IndexSet<K, BuildHasherDefault<FoldHasher>, &'a A>,
+    things: IndexSet<K, BuildHasherDefault<FoldHasher>, &'a A>,
 }
 
 impl<'a, K: Eq + Hash + Drop, A: Allocator> Model for Distinct<'a, K, A> {
-    ghost use Rattle.std.specs.Prelude.{◌++◌, ◌≤◌, length};
     ghost use Rattle.ltl_automaton.specs.Listed.{Kept};
 
     ghost Value = { Kept K };
 
-    ghost view = { λ d. record { keys = d.first.items ++ d.others.keys } };
-
-    ghost invariant = { λ d. length d.first.items ≤ 4 };
-}
-
-/// Where a thing first stands.
-fn index_of<K: Eq>(things: &[K], thing: &K) -> Option<usize>
-    ensures { result ≡ position (K.eq thing.now) things.now }
-{
-    things.iter().position(|k| *thing == *k)
+    ghost view = { λ d. record { keys = d.things.keys } };
 }
 
 impl<'a, K: Eq + Hash + Drop, A: Allocator> Distinct<'a, K, A> {
@@ -42,8 +27,7 @@ impl<'a, K: Eq + Hash + Drop, A: Allocator> Distinct<'a, K, A> {
         ensures { result ≡ record { keys = [] } }
     {
         Distinct {
-            first: Vec::new(alloc),
-            others: IndexSet::new(alloc),
+            things: IndexSet::new(alloc),
         }
     }
 
@@ -51,7 +35,7 @@ impl<'a, K: Eq + Hash + Drop, A: Allocator> Distinct<'a, K, A> {
     pub fn len(&self) -> usize
         ensures { result ≡ length self.now.keys }
     {
-        self.first.len() + self.others.len()
+        self.things.len()
     }
 
     /// The thing with this number.
@@ -59,26 +43,14 @@ impl<'a, K: Eq + Hash + Drop, A: Allocator> Distinct<'a, K, A> {
         requires { number < length self.now.keys }
         ensures { slice_get self.now.keys number ≡ Some result.now }
     {
-        let first = self.first.len();
-        if number < first {
-            &self.first[number]
-        } else {
-            &self.others[number - first]
-        }
+        &self.things[number]
     }
 
     /// The number of a thing, if it is there.
     pub fn place(&self, thing: &K) -> Option<usize>
         ensures { result ≡ position (K.eq thing.now) self.now.keys }
     {
-        if let Some(place) = index_of(self.first.as_slice(), thing) {
-            return Some(place);
-        }
-        let _ = self.others.len();
-        match self.others.get_index_of(thing) {
-            Some(place) => Some(self.first.len() + place),
-            None => None,
-        }
+        self.things.get_index_of(thing)
     }
 
     /// The number of a thing, the next one where it isn't there.
@@ -89,16 +61,7 @@ impl<'a, K: Eq + Hash + Drop, A: Allocator> Distinct<'a, K, A> {
         ensures stored { IfOk result (λ i. (k : K) × (slice_get self.new.keys i ≡ Some k) × (K.eq thing k ≡ true)) }
         ensures same { OnErr result (self.new ≡ self.old) }
     {
-        let first = self.first.len();
-        let others = self.others.len();
-        if let Some(place) = index_of(self.first.as_slice(), &thing) {
-            return Ok(place);
-        }
-        if first < FEW && others == 0 {
-            self.first.push(thing)?;
-            return Ok(first);
-        }
-        let (place, _) = self.others.insert_full(thing)?;
-        Ok(first + place)
+        let (number, _) = self.things.insert_full(thing)?;
+        Ok(number)
     }
 }
