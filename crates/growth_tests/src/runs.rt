@@ -1,18 +1,30 @@
 //! The programs, with each growth refused and each stream cut at each place.
 
-use crate::inputs::{LOOP, RUNS, Run};
+use crate::inputs::{LOOP, MANY, RUNS, Run};
 use crate::streams::{Failing, Given, Taken};
 use ltl_cli::{Source, Tool, plan, run_check, run_eval, run_translate};
 use refusing::Refusing;
 use std::alloc::{Allocator, Global};
+use std::test::Fail;
 
 /// More growths than any run makes.
 const MOST_GROWTHS: u64 = 100_000;
+
+/// The most bytes that are read of a formula: one more than it may have.
+const PAST_THE_LIMIT: usize = 65_537;
 
 /// How many bytes a reader gives a call.
 const SIZES: [usize; 5] = [1, 2, 3, 7, 4_096];
 
 const WAYS: [Failing; 3] = [Failing::Always, Failing::Once, Failing::TakesNone];
+
+/// Whether the formula is that of a file.
+fn reads_a_file(run: &Run<'_>) -> bool {
+    match run.words.get(1) {
+        Some(word) => *word == "-F",
+        None => false,
+    }
+}
 
 /// Runs the program of these words, whose formula file or, without one, whose automaton is the input; its status.
 fn ended<A: Allocator>(
@@ -24,11 +36,7 @@ fn ended<A: Allocator>(
     message: &mut Taken,
 ) -> u8 {
     let plan = plan(memory, run.tool, run.words);
-    let reads_a_file = match run.words.get(1) {
-        Some(word) => *word == "-F",
-        None => false,
-    };
-    let (formula, automaton) = if reads_a_file {
+    let (formula, automaton) = if reads_a_file(run) {
         (Source::Input(input), Source::Input(Given::of(LOOP)))
     } else {
         (Source::Text, Source::Input(input))
@@ -51,19 +59,21 @@ fn tells(run: &Run<'_>, message: &Taken, text: &str) -> bool {
     rest == text.as_bytes()
 }
 
+/// What a run with all its memory and input gives.
+#[derive(Drop)]
+struct Wanted {
+    output: Taken,
+    message: Taken,
+    status: u8,
+}
+
 /// The run with all its memory and input, over these writers.
 fn calm(memory: Global, run: &Run<'_>, output: &mut Taken, message: &mut Taken) -> u8 {
     ended(memory, &memory, run, Given::of(run.input), output, message)
 }
 
-/// What came of a run with this growth refused; none where it is answered by want of memory.
-fn refused(
-    memory: Global,
-    run: &Run<'_>,
-    n: u64,
-    status: u8,
-    wanted: &Taken,
-) -> Option<&'static str> {
+/// What came of a run with this growth refused; none where it is answered by want of memory. Without one the run has to be as ever.
+fn refused(memory: Global, run: &Run<'_>, n: u64, wanted: &Wanted) -> Option<&'static str> {
     let alloc = Refusing::new(memory, n);
     let (mut output, mut message) = (Taken::new(), Taken::new());
     let found = ended(
@@ -75,9 +85,9 @@ fn refused(
         &mut message,
     );
     if !alloc.has_refused() {
-        let is_same = found == status
-            && output.bytes() == wanted.bytes()
-            && message.bytes().is_empty();
+        let is_same = found == wanted.status
+            && output.bytes() == wanted.output.bytes()
+            && message.bytes() == wanted.message.bytes();
         return Some(if is_same {
             "each growth refused, and the run without one is as ever"
         } else {
@@ -94,10 +104,15 @@ fn refused(
 
 /// What came of refusing each growth of a run.
 fn told(memory: Global, run: &Run<'_>) -> &'static str {
-    let mut wanted = Taken::new();
-    let status = calm(memory, run, &mut wanted, &mut Taken::new());
+    let (mut output, mut message) = (Taken::new(), Taken::new());
+    let status = calm(memory, run, &mut output, &mut message);
+    let wanted = Wanted {
+        output,
+        message,
+        status,
+    };
     for n in 1..MOST_GROWTHS {
-        if let Some(told) = refused(memory, run, n, status, &wanted) {
+        if let Some(told) = refused(memory, run, n, &wanted) {
             return told;
         }
     }
@@ -173,7 +188,8 @@ fn in_pieces(memory: Global, run: &Run<'_>, size: usize, status: u8, wanted: &Ta
     found == status && output.bytes() == wanted.bytes()
 }
 
-/// Whether a reader that fails behind so many bytes is told, and nothing is written.
+/// Whether a reader that fails behind so many bytes is told, and nothing is written. The reader that gives all bytes of the input fails where the run
+/// looks for their end.
 fn unread(memory: Global, run: &Run<'_>, k: usize, way: Failing) -> bool {
     let (mut output, mut message) = (Taken::new(), Taken::new());
     let found = ended(
@@ -200,7 +216,7 @@ fn told_of_input(memory: Global, run: &Run<'_>) -> &'static str {
     if run.input.is_empty() {
         return "none";
     }
-    for k in 0..run.input.len() {
+    for k in 0..=run.input.len() {
         for way in [Failing::Always, Failing::Once] {
             if !unread(memory, run, k, way) {
                 return "a failed read is answered otherwise";
@@ -210,6 +226,15 @@ fn told_of_input(memory: Global, run: &Run<'_>) -> &'static str {
     "cut at each place"
 }
 
+/// Whether a formula that is too long is told, though its reader fails behind the first byte past the limit.
+fn stops_at_the_limit(memory: Global, run: &Run<'_>) -> bool {
+    let (mut output, mut message) = (Taken::new(), Taken::new());
+    let input = Given::failing(run.input, PAST_THE_LIMIT, Failing::Always);
+    let status = ended(memory, &memory, run, input, &mut output, &mut message);
+    let text = ": limit: formula longer than 65536 bytes\n";
+    status == 3 && output.bytes().is_empty() && tells(run, &message, text)
+}
+
 #[test]
 fn each_growth_of_the_programs(rt: HostRuntime) {
     for run in RUNS {
@@ -217,6 +242,41 @@ fn each_growth_of_the_programs(rt: HostRuntime) {
         let wanted = "each growth refused, and the run without one is as ever";
         assert_eq!(rt; told, wanted, "{name}");
     }
+}
+
+/// A run that is refused gives its message; the number of states is refused before anything grows for states.
+#[test]
+fn each_growth_of_a_refused_run(rt: HostRuntime) {
+    let run = Run {
+        name: "more states than the limit",
+        tool: Tool::Checker,
+        words: &["ltlcheck", "-f", "p"],
+        input: MANY,
+    };
+    let wanted = "each growth refused, and the run without one is as ever";
+    assert_eq!(rt; told(rt.alloc(), &run), wanted);
+    let (mut output, mut message) = (Taken::new(), Taken::new());
+    assert_eq!(rt; calm(rt.alloc(), &run, &mut output, &mut message), 3);
+    assert!(rt; output.bytes().is_empty());
+    assert!(rt; tells(&run, &message, ": automaton: line 2: limit passed\n"));
+}
+
+#[test]
+fn no_read_past_the_limit(rt: HostRuntime) -> Result<(), Fail> {
+    let mut text = String::new(rt.alloc());
+    for _ in 0..=PAST_THE_LIMIT {
+        text.push('!')?;
+    }
+    for run in RUNS {
+        if reads_a_file(&run) {
+            let long = Run {
+                input: text.as_str(),
+                ..run
+            };
+            assert!(rt; stops_at_the_limit(rt.alloc(), &long), "{}", run.name);
+        }
+    }
+    Ok(())
 }
 
 #[test]

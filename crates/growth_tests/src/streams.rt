@@ -127,7 +127,7 @@ impl Taken {
         self.flushes
     }
 
-    /// Whether something was written behind a failure or a flush, or flushed behind a failure.
+    /// Whether something was written behind a failure or a flush, or flushed behind one of these.
     pub(crate) fn is_late(&self) -> bool {
         self.is_late
     }
@@ -154,7 +154,7 @@ impl Write for Taken {
     }
 
     fn flush(&mut self) -> io::Result<()> {
-        self.is_late = self.is_late || 0 < self.failed;
+        self.is_late = self.is_late || 0 < self.failed || 0 < self.flushes;
         self.flushes = self.flushes.saturating_add(1);
         if self.flush_fails {
             Err(fault())

@@ -1,5 +1,6 @@
 -- The automaton that was listed from the root is the automaton of the formula.
 use Rattle.std.proofs.Common.{◌≡◌, ℕ, ◌<◌, ◌≤◌, Bool, true, false, not, List, [], ◌∷◌, length, map, refl, sym, ◌∙◌, ap, subst, arith, All}
+use Rattle.std.specs.Prelude.{slice_index_or}
 use Rattle.std.specs.List.{list_any}
 use Rattle.ltl_spec.specs.Collections.Sets.{Has}
 use Rattle.ltl_spec.specs.NormalForms.Normal.{Normal, Bottom}
@@ -11,8 +12,11 @@ use Rattle.ltl_spec.specs.Automata.Listing.{listing, IsComplete, PassesLimits}
 use Rattle.ltl_spec.specs.Automata.Generalized.{same_row_set, target_sets, root_set, state_of, edge_to, IsGeneralized, IsTooLarge}
 use Rattle.ltl_spec.specs.Tools.Limits.{stated_limits}
 use Rattle.ltl_spec.proofs.Collections.SetLaws.{filter_cases}
-use Rattle.ltl_spec.proofs.Collections.ListLaws.{All-from_has, All-at_has, places_cases}
+use Rattle.ltl_spec.proofs.Collections.ListLaws.{All-from_has, All-at_has, Has-at, places_cases}
 use Rattle.ltl_spec.proofs.Collections.MemberLaws.{map_cases}
+use Rattle.ltl_spec.proofs.Automata.ListedStates.{any_state}
+use Rattle.ltl_spec.proofs.Construction.GeneralizedBounds.{generalized_consistent}
+use Rattle.ltl_spec.proofs.Construction.SetEdges.{generalized_sets}
 use Rattle.ltl_automaton.specs.Bounds.{IsBounded}
 use Rattle.ltl_automaton.specs.Net as net
 use Rattle.ltl_alt.specs.GbaView.{IsEdgeWithin, IsAcceptingGba}
@@ -91,8 +95,16 @@ module _ (F : Normal) (keep : Bool) where
               few_states = b.few_states;
               few_edges = b.few_edges;
               few_sets = omega arith;
-              within = All-from_has (λ (x : State). All W x.edges) A.states (λ x h. All-from_has W x.edges (λ e m.
-                  record { target = All-at_has P x.edges (All-at_has (λ (y : State). All P y.edges) A.states b.within x h) e m; marks = marked x h e m }));
+              within = λ k d l. let x = slice_index_or A.states k d in
+                  let h = Has-at A.states k d l in
+                  All-from_has W x.edges (λ e m.
+                  let n = subst (λ (y : State). Has y.edges e) (any_state A.states k d l) m in
+                  record {
+                    target = All-at_has P x.edges (All-at_has (λ (y : State). All P y.edges) A.states b.within x h) e m;
+                    marks = marked x h e m;
+                    rising = generalized_sets F keep A is_generalized k e n;
+                    consistent = generalized_consistent F keep A is_generalized k e n;
+                  });
             };
             accepting = subst (λ (B : Automaton). All (λ (x : State). x.accepting ≡ true) B.states) (sym w.2)
                 (All-from_has (λ (x : State). x.accepting ≡ true) (map (net.state_of same_row_set false (net_of F keep) keys) keys) (λ x h.

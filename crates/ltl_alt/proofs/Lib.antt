@@ -1,4 +1,5 @@
 pub mod AskedLaws
+pub mod ElementLaws
 pub mod ElementaryLaws
 pub mod GbaLaws
 pub mod GroupLaws

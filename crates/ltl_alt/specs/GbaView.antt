@@ -1,14 +1,19 @@
 -- A generalized automaton as one of the definitions, and what its type holds.
-use Rattle.std.specs.Prelude.{◌≡◌, ℕ, ◌<◌, ◌≤◌, true, length, sum_by, All}
+use Rattle.std.specs.Prelude.{◌≡◌, ℕ, ◌<◌, ◌≤◌, true, false, length, sum_by, All}
+use Rattle.ltl_spec.specs.Transitions.Cubes.{is_contradictory}
 use Rattle.ltl_spec.specs.Automata.Automaton.{Automaton, Edge}
+use Rattle.ltl_spec.specs.Construction.ImpliedEdges.{IsSetEdge}
 use Rattle.ltl_spec.specs.Tools.Limits.{stated_limits}
 pub use Rattle.ltl_automaton.specs.Codes.{literal_code, edge_code, state_code, automaton_code}
 pub use Rattle.ltl_automaton.specs.EdgeView.{edge_of}
 
--- an edge leads to one of so many states, and its marks are among so many sets
+-- An edge leads to one of so many states, and its marks are among so many sets. Its literals are a set without contradiction, and its marks
+-- are a set too
 pub record IsEdgeWithin (states sets : ℕ) (e : Edge) : Type 0 where
   pub target : e.target < states
   pub marks : All (λ k. k < sets) e.marks
+  pub rising : IsSetEdge e
+  pub consistent : is_contradictory e.cube ≡ false
 
 -- there is a state, no limit on states, edges and sets is passed, and the edges stay within the automaton
 pub record IsGba (g : Automaton) : Type 0 where

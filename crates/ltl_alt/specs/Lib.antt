@@ -1,5 +1,6 @@
 pub mod AskedView
 pub mod Codes
+pub mod Elements
 pub mod GbaView
 pub mod GroupView
 pub mod JoinView

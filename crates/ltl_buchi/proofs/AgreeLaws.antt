@@ -13,7 +13,7 @@ use Rattle.ltl_buchi.specs.Agreeing.{AreAgreed, AgreesWith}
 use Rattle.ltl_buchi.specs.Chains.{AreLinks, IsLatest, edge_at, target_at}
 use Rattle.ltl_buchi.proofs.ChainLaws.{place_in}
 use Rattle.ltl_buchi.proofs.CodeLaws.{is_at, has_list, place}
-use Rattle.ltl_buchi.proofs.Within.{any_state}
+use Rattle.ltl_spec.proofs.Automata.ListedStates.{any_state}
 
 -- sets that are found equal are equal
 pub marks_exact : (a b : List ℕ) → pointwise nat_eq a b ≡ true → a ≡ b

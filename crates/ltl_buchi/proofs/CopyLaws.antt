@@ -1,7 +1,8 @@
 -- The copies that were listed are those of the definitions.
-use Rattle.std.proofs.Common.{◌≡◌, ℕ, ◌<◌, ◌≤◌, Bool, true, ◌&&◌, List, [], ◌∷◌, ◌++◌, length, map, refl, sym, ◌∙◌, ap, subst, arith, Some}
+use Rattle.std.proofs.Common.{◌≡◌, ℕ, ◌<◌, ◌≤◌, Bool, true, false, ◌&&◌, List, [], ◌∷◌, ◌++◌, length, map, refl, sym, ◌∙◌, ap, subst, arith, Some}
 use Rattle.std.specs.Prelude.{◌-◌, slice_get, slice_index_or, ◌==◌, All}
 use Rattle.std.specs.Bool.{Decides}
+use Rattle.std.specs.Ordering.{nat_cmp}
 use Rattle.std.specs.Cmp.{first_so, second_so}
 use Rattle.std.proofs.lemmas.List.{get_or_past}
 use Rattle.std.proofs.lemmas.List.Elements.{All-map}
@@ -10,8 +11,10 @@ use Rattle.ltl_spec.specs.Collections.Lists.{place_of}
 use Rattle.ltl_spec.specs.Automata.Automaton.{Automaton, State, Edge, edge_cmp, state_at}
 use Rattle.ltl_spec.specs.Automata.Listing.{listing, IsComplete, PassesLimits}
 use Rattle.ltl_spec.specs.Construction.Levels.{Copy, CopyEdge, same_copy, start_copy, climb, copy_edge, copy_edge_cmp, copy_edges, copy_targets, edge_to_copy, copy_state, level_automaton, HasTooManyCopies}
+use Rattle.ltl_spec.specs.Construction.ImpliedEdges.{IsSetEdge}
+use Rattle.ltl_spec.specs.Transitions.Cubes.{Cube, literal_cmp, is_contradictory}
 use Rattle.ltl_spec.specs.Tools.Limits.{stated_limits}
-use Rattle.ltl_spec.proofs.Collections.Orders.{edge_linear}
+use Rattle.ltl_spec.proofs.Collections.Orders.{edge_linear, copy_edge_linear}
 use Rattle.ltl_spec.proofs.Collections.SetLaws.{IsRising-set_of, Has-set_of, set_of_cases}
 use Rattle.ltl_spec.proofs.Collections.MemberLaws.{Has-map, map_cases}
 use Rattle.ltl_spec.proofs.Collections.ListLaws.{All-from_has}
@@ -28,7 +31,7 @@ use Rattle.ltl_alt.specs.GbaView as gba
 use Rattle.ltl_buchi.specs.BaView.{IsBa, IsPlain, IsReached}
 use Rattle.ltl_buchi.specs.Copies.{IsListOf, arc_of, copy_edge_of, from_level, level_net, lifted_edge}
 use Rattle.ltl_buchi.specs.declared.copies.CopyEdge as code
-use Rattle.ltl_buchi.proofs.MergedLaws.{gba_within}
+use Rattle.ltl_buchi.proofs.MergedLaws.{gba_within, of_all}
 use Rattle.ltl_buchi.proofs.ReachedLaws.{listed_reached}
 use Rattle.ltl_buchi.proofs.Within.{closed_within}
 
@@ -139,6 +142,24 @@ module _ (A : Automaton) where
         let f = edge_to_copy A ks in
         (f v.0, Has-set_of edge_linear (map f (copy_edges A p)) (f v.0) (Has-map f (copy_edges A p) v.0 v.1), ap (λ c. place_of same_copy c ks) (sym v.2))
 
+    -- an edge of a copy has no mark, and the literals of an edge of the automaton
+    unmarked : (p : Copy) (e : Edge) → Has (copy_state A listed p).edges e → e.marks ≡ []
+    unmarked p e h =
+        let v = map_cases (edge_to_copy A listed) (copy_edges A p) e (set_of_cases edge_linear (map (edge_to_copy A listed) (copy_edges A p)) e h) in
+        ap (λ (f : Edge). f.marks) v.2
+
+    copied : (P : Cube → Type 0) → ((s : ℕ) (e : Edge) → Has (state_at A s).edges e → P e.cube) → (p : Copy) (e : Edge) → Has (copy_state A listed p).edges e → P e.cube
+    copied P all p e h =
+        let (f, m, d) = map_cases (edge_to_copy A listed) (copy_edges A p) e (set_of_cases edge_linear (map (edge_to_copy A listed) (copy_edges A p)) e h) in
+        let (x, k, q) = map_cases (copy_edge A p.level) (state_at A p.state).edges f (set_of_cases copy_edge_linear (map (copy_edge A p.level) (state_at A p.state).edges) f m) in
+        subst P (sym (ap (λ (y : Edge). y.cube) d ∙ ap (λ (y : CopyEdge). y.cube) q)) (all p.state x k)
+
+    edge : (s : ℕ) (e : Edge) → Has (state_at A s).edges e → gba.IsEdgeWithin (length A.states) A.sets e
+    edge = of_all A (gba.IsEdgeWithin (length A.states) A.sets) inside.within
+
+    is_plain : IsPlain B
+    is_plain = each (λ s. All (λ e. e.marks ≡ []) s.edges) (λ p. All-from_has (λ (e : Edge). e.marks ≡ []) (copy_state A listed p).edges (unmarked p))
+
     pub is_ba : IsBounded stated_limits.states stated_limits.edges B → IsBa B
     is_ba b = record {
       no_sets = ap (λ (X : Automaton). X.sets) is_whole;
@@ -146,12 +167,12 @@ module _ (A : Automaton) where
       few_states = b.few_states;
       few_edges = b.few_edges;
       within = b.within;
+      plain = is_plain;
+      sets = each (λ s. All IsSetEdge s.edges) (λ p. All-from_has IsSetEdge (copy_state A listed p).edges (λ x h.
+          record { cube = copied (IsRising literal_cmp) (λ s e m. (edge s e m).rising.cube) p x h; marks = subst (IsRising nat_cmp) (sym (unmarked p x h)) tt }));
+      consistent = each (λ s. All (λ e. is_contradictory e.cube ≡ false) s.edges) (λ p.
+          All-from_has (λ (e : Edge). is_contradictory e.cube ≡ false) (copy_state A listed p).edges (copied (λ c. is_contradictory c ≡ false) (λ s e m. (edge s e m).consistent) p));
       rising = each (λ s. IsRising edge_cmp s.edges) (λ p. IsRising-set_of edge_linear (map (edge_to_copy A listed) (copy_edges A p)));
       reached = subst (λ (X : Automaton). (s : ℕ) → s < length X.states → IsReached X s) (sym is_whole)
           (listed_reached same_copy same_copy_Decides (copy_targets A) start_copy (copy_state A) 0 n (let e = complete in omega arith) has_edge);
     }
-
-    pub is_plain : IsPlain B
-    is_plain = each (λ s. All (λ e. e.marks ≡ []) s.edges) (λ p. All-from_has (λ (e : Edge). e.marks ≡ []) (copy_state A listed p).edges (λ e h.
-        let v = map_cases (edge_to_copy A listed) (copy_edges A p) e (set_of_cases edge_linear (map (edge_to_copy A listed) (copy_edges A p)) e h) in
-        ap (λ (f : Edge). f.marks) v.2))

@@ -1,5 +1,5 @@
 -- Where edges go that others imply, the same edges are left that none implies.
-use Rattle.std.proofs.Common.{◌≡◌, ℕ, ◌<◌, Bool, true, false, cond, not, ◌&&◌, nat_lt, inl, inr, List, [], ◌∷◌, length, map, ltb-true, refl, sym, ◌∙◌, ap, subst}
+use Rattle.std.proofs.Common.{◌≡◌, ℕ, Bool, true, false, cond, not, ◌&&◌, nat_lt, inl, inr, List, [], ◌∷◌, length, map, ltb-true, refl, sym, ◌∙◌, ap}
 use Rattle.std.specs.Prelude.{All, slice_index}
 use Rattle.std.specs.List.{filter, list_any}
 use Rattle.std.proofs.lemmas.Bool.{and_from, false_from_ne_true}

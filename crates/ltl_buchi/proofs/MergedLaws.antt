@@ -5,6 +5,7 @@ use Rattle.std.proofs.lemmas.List.Elements.{All-weaker}
 use Rattle.ltl_spec.specs.Collections.Sets.{Has, IsRising}
 use Rattle.ltl_spec.specs.Automata.Automaton.{Automaton, State, Edge, edge_cmp, state_at}
 use Rattle.ltl_spec.specs.Construction.Merging.{class_names, merged_automaton}
+use Rattle.ltl_spec.specs.Transitions.Cubes.{is_contradictory}
 use Rattle.ltl_spec.proofs.Collections.ListLaws.{All-at_has, All-from_has}
 use Rattle.ltl_spec.proofs.Collections.MemberLaws.{map_cases}
 use Rattle.ltl_spec.proofs.Semantics.Runs.{IsClosed}
@@ -17,6 +18,9 @@ use Rattle.ltl_buchi.specs.BaView.{IsBa, IsPlain}
 use Rattle.ltl_buchi.specs.Classes.{IsWithinStates}
 use Rattle.ltl_buchi.proofs.Within.{edges_within, states_at}
 use Rattle.ltl_buchi.proofs.QuotientLaws.{quotient_some, quotient_few, quotient_few_edges, quotient_all, quotient_rising, quotient_reached, class_at, listed}
+
+abbrev IsConsistent : Edge → Type 0
+IsConsistent e = is_contradictory e.cube ≡ false
 
 module _ (A : Automaton) where
   -- what all edges have, an edge has
@@ -64,18 +68,21 @@ module _ (A : Automaton) where
       few_sets = w.few_sets;
       within = quotient_all keep_implied A names naming (gba.IsEdgeWithin (length M.states) A.sets) (λ s e h.
           let k = of_all (gba.IsEdgeWithin (length A.states) A.sets) w.within s e h in
-          record { target = number_inside keep_implied names A naming e.target k.target; marks = k.marks });
+          record { target = number_inside keep_implied names A naming e.target k.target; marks = k.marks; rising = record { cube = k.rising.cube; marks = k.rising.marks }; consistent = k.consistent });
     }
 
-    pub merged_ba : IsBa A → All (λ s. All IsSetEdge s.edges) A.states → IsBa M
-    merged_ba w sets = record {
+    pub merged_ba : IsBa A → IsBa M
+    merged_ba w = record {
       no_sets = w.no_sets;
       some = quotient_some keep_implied A names naming w.some;
       few_states = let a = quotient_few keep_implied A names naming in let b = w.few_states in omega arith;
       few_edges = let a = quotient_few_edges keep_implied A names naming in let b = w.few_edges in omega arith;
       within = quotient_all keep_implied A names naming (λ (e : Edge). e.target < length M.states) (λ s e h. number_inside keep_implied names A naming e.target (of_all (λ (x : Edge). x.target < length A.states) w.within s e h));
+      plain = merged_unmarked w.plain;
+      sets = quotient_all keep_implied A names naming IsSetEdge (λ s e h. let k = of_all IsSetEdge w.sets s e h in record { cube = k.cube; marks = k.marks });
+      consistent = quotient_all keep_implied A names naming IsConsistent (λ s e h. of_all IsConsistent w.consistent s e h);
       rising = merged_rising;
-      reached = quotient_reached keep_implied A names naming (name_twice A rounds) closed (of_all IsSetEdge sets) w.reached;
+      reached = quotient_reached keep_implied A names naming (name_twice A rounds) closed (of_all IsSetEdge w.sets) w.reached;
     }
       where
         closed : IsClosed A

@@ -1,5 +1,5 @@
 -- An automaton that is listed from its own states is the renumbered one, and what an automaton keeps when it is numbered.
-use Rattle.std.proofs.Common.{◌≡◌, ℕ, ◌<◌, ◌≤◌, true, inl, inr, List, [], ◌∷◌, length, map, refl, sym, ◌∙◌, ap, subst, arith, Some}
+use Rattle.std.proofs.Common.{◌≡◌, ℕ, ◌<◌, ◌≤◌, true, false, inl, inr, List, [], ◌∷◌, length, map, refl, sym, ◌∙◌, ap, subst, arith, Some}
 use Rattle.std.specs.Prelude.{slice_get, slice_index_or, sum_by, take, ◌==◌, All}
 use Rattle.std.proofs.lemmas.Bool.Decides.{Decides-eqb}
 use Rattle.std.proofs.lemmas.List.{length-map, get_or_past}
@@ -10,12 +10,15 @@ use Rattle.ltl_spec.specs.Collections.Lists.{place_of}
 use Rattle.ltl_spec.specs.Automata.Automaton.{Automaton, State, Edge, edge_cmp, state_at}
 use Rattle.ltl_spec.specs.Automata.Listing.{listing, IsComplete, PassesLimits}
 use Rattle.ltl_spec.specs.Construction.Merging.{retargeted_edge, retargeted_state}
+use Rattle.ltl_spec.specs.Construction.ImpliedEdges.{IsSetEdge}
+use Rattle.ltl_spec.specs.Transitions.Cubes.{is_contradictory}
 use Rattle.ltl_spec.specs.Construction.Renumbered.{ordered_targets, reached_states, renumbered_automaton}
 use Rattle.ltl_spec.specs.Tools.Limits.{stated_limits}
 use Rattle.ltl_spec.proofs.Collections.Orders.{edge_linear}
 use Rattle.ltl_spec.proofs.Collections.SetLaws.{set_of_same, IsRising-set_of, Has-set_of}
 use Rattle.ltl_spec.proofs.Collections.MemberLaws.{Has-map, map_cases}
 use Rattle.ltl_spec.proofs.Collections.ListLaws.{All-at_has, All-from_has, Has-at}
+use Rattle.ltl_spec.proofs.Automata.ListedStates.{any_state}
 use Rattle.ltl_spec.proofs.Automata.ListingReach.{listed_within, listed_short, HasNoRepeats-listed}
 use Rattle.ltl_spec.proofs.Construction.EdgeBounds.{AreAll, renumbered_all, renumbered_few, renumbered_few_edges}
 use Rattle.ltl_spec.proofs.Construction.RenumberedRuns.{ordered_targets_cases, complete_reached, reached_short, renumbered_closed}
@@ -31,7 +34,7 @@ use Rattle.ltl_buchi.specs.Numbered.{IsNumberable, arc_of, net_of}
 use Rattle.ltl_buchi.proofs.MergedLaws.{of_all, gba_within}
 use Rattle.ltl_buchi.proofs.ReachedLaws.{listed_reached}
 use Rattle.ltl_buchi.proofs.Sums.{HasNoRepeats_take}
-use Rattle.ltl_buchi.proofs.Within.{any_state, edges_within, states_at, closed_within}
+use Rattle.ltl_buchi.proofs.Within.{edges_within, states_at, closed_within}
 
 -- past the last state
 pub accepts_past : (A : Automaton) (s : ℕ) → length A.states ≤ s → true ≡ (state_at A s).accepting
@@ -137,6 +140,9 @@ module _ (A : Automaton) where
   abbrev row_of : ℕ → State
   row_of = renumbered_state (reached_states A)
 
+  abbrev Consistent : Edge → Type 0
+  Consistent e = is_contradictory e.cube ≡ false
+
   -- what holds of the edges at each number holds of those of all states
   by_states : (P : Edge → Type 0) → AreAll P R → All (λ s. All P s.edges) R.states
   by_states P all k d b = All-from_has P (slice_index_or R.states k d).edges (λ e m. all k e (subst (λ (s : State). Has s.edges e) (any_state R.states k d b) m))
@@ -147,7 +153,7 @@ module _ (A : Automaton) where
   pub renumbered_accepting : All (λ s. s.accepting ≡ true) A.states → All (λ s. s.accepting ≡ true) R.states
   renumbered_accepting a = All-map (λ (s : State). s.accepting ≡ true) row_of (reached_states A) (λ k d m. states_at A (λ (t : State). t.accepting ≡ true) (slice_index_or (reached_states A) k d) refl a)
 
-  pub renumbered_unmarked : IsPlain A → IsPlain R
+  renumbered_unmarked : IsPlain A → IsPlain R
   renumbered_unmarked u = by_states (λ e. e.marks ≡ []) (renumbered_all (λ e. e.marks ≡ []) (λ f e m. m) A (of_all A (λ e. e.marks ≡ []) u))
 
   module _ (closed : IsClosed A) where
@@ -166,11 +172,20 @@ module _ (A : Automaton) where
       few_states = let a = renumbered_few A closed in let b = w.few_states in omega arith;
       few_edges = let a = renumbered_few_edges A closed in let b = w.few_edges in omega arith;
       few_sets = w.few_sets;
-      within = by_states (gba.IsEdgeWithin (length R.states) A.sets) (λ s e h. record { target = closed_again.inside s e h; marks = marks s e h });
+      within = by_states (gba.IsEdgeWithin (length R.states) A.sets) (λ s e h. record { target = closed_again.inside s e h; marks = marks s e h; rising = rising s e h; consistent = consistent s e h });
     }
       where
+        edge : AreAll (gba.IsEdgeWithin (length A.states) A.sets) A
+        edge = of_all A (gba.IsEdgeWithin (length A.states) A.sets) w.within
+
         marks : AreAll (λ e. All (λ k. k < A.sets) e.marks) R
-        marks = renumbered_all (λ e. All (λ k. k < A.sets) e.marks) (λ f e m. m) A (λ s e h. (of_all A (gba.IsEdgeWithin (length A.states) A.sets) w.within s e h).marks)
+        marks = renumbered_all (λ e. All (λ k. k < A.sets) e.marks) (λ f e m. m) A (λ s e h. (edge s e h).marks)
+
+        rising : AreAll IsSetEdge R
+        rising = renumbered_all IsSetEdge (λ f e m. record { cube = m.cube; marks = m.marks }) A (λ s e h. (edge s e h).rising)
+
+        consistent : AreAll Consistent R
+        consistent = renumbered_all Consistent (λ f e m. m) A (λ s e h. (edge s e h).consistent)
 
     pub renumbered_ba : IsBa A → IsBa R
     renumbered_ba w = record {
@@ -179,6 +194,9 @@ module _ (A : Automaton) where
       few_states = let a = renumbered_few A closed in let b = w.few_states in omega arith;
       few_edges = let a = renumbered_few_edges A closed in let b = w.few_edges in omega arith;
       within = by_states (λ e. e.target < length R.states) closed_again.inside;
+      plain = renumbered_unmarked w.plain;
+      sets = by_states IsSetEdge (renumbered_all IsSetEdge (λ f e m. record { cube = m.cube; marks = m.marks }) A (of_all A IsSetEdge w.sets));
+      consistent = by_states Consistent (renumbered_all Consistent (λ f e m. m) A (of_all A Consistent w.consistent));
       rising = renumbered_rising;
       reached = listed_reached ◌==◌ Decides-eqb (ordered_targets A) 0 renumbered_state A.sets (length A.states) (reached_short A closed) has_edge;
     }

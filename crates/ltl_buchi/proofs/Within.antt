@@ -1,17 +1,16 @@
 -- What holds of all targets.
-use Rattle.std.proofs.Common.{◌≡◌, ℕ, zero, suc, refl, ◌+◌, ◌<◌, true, inl, inr, List, [], ◌∷◌, ◌++◌, length, map, sym, ap, subst, arith, length-append, ◌∙◌}
+use Rattle.std.proofs.Common.{◌≡◌, ℕ, refl, ◌+◌, ◌<◌, true, inl, inr, List, [], ◌∷◌, ◌++◌, length, map, sym, ap, subst, length-append, ◌∙◌}
 use Rattle.ltl_spec.proofs.Collections.ListLaws.{All-at_has, All-from_has}
 use Rattle.ltl_spec.proofs.Collections.MemberLaws.{map_cases}
 use Rattle.ltl_spec.proofs.Collections.Orders.{edge_linear}
 use Rattle.ltl_spec.proofs.Collections.SetLaws.{set_of_cases}
 use Rattle.ltl_spec.specs.Construction.Merging.{retargeted_edge}
-use Rattle.std.specs.Prelude.{slice_index, slice_index_or, All}
+use Rattle.std.specs.Prelude.{slice_index, All}
 use Rattle.std.proofs.lemmas.List.{get_or_past}
 use Rattle.std.proofs.lemmas.List.Elements.{All-cons, All-head, All-tail, All-get_or, All-nil}
 use Rattle.std.proofs.lemmas.Bool.{cases_lt}
 use Rattle.ltl_spec.specs.Automata.Automaton.{Automaton, State, Edge, state_at}
 use Rattle.ltl_spec.proofs.Semantics.Runs.{IsClosed}
-use Rattle.ltl_spec.proofs.Automata.ListedStates.{no_state}
 use Rattle.ltl_automaton.specs.EdgeView.{edge_of}
 use Rattle.ltl_automaton.specs.declared.edge.Edge as code
 use Rattle.ltl_buchi.specs.BaView as ba
@@ -54,12 +53,6 @@ states_at A P i p a =
       | inl l ↦ All-get_or P A.states i none l a
       | inr l ↦ subst P (sym (get_or_past A.states i none l)) p
     ]
-
--- where there is a state it doesn't matter what stands for none
-pub any_state : (xs : List State) (k : ℕ) (d : State) → k < length xs → slice_index_or xs k d ≡ slice_index_or xs k no_state
-any_state [] k d b = absurd (omega arith)
-any_state (x ∷ xs) zero d b = refl
-any_state (x ∷ xs) (suc k) d b = any_state xs k d (omega arith)
 
 -- edges with no marks
 pub plain_edges : (xs : List code.Edge) → All (λ e. e.marks ≡ []) (map edge_of xs) → map ba.edge_of xs ≡ map edge_of xs

@@ -1,9 +1,11 @@
 -- A Büchi automaton as one of the definitions, and what its type holds.
-use Rattle.std.specs.Prelude.{◌≡◌, ℕ, ◌<◌, ◌≤◌, List, [], length, sum_by, slice_get, slice_index_or, Some, All}
+use Rattle.std.specs.Prelude.{◌≡◌, ℕ, ◌<◌, ◌≤◌, false, List, [], length, sum_by, slice_get, slice_index_or, Some, All}
 use Rattle.std.specs.declared.cmp.Ordering.{Ordering}
 use Rattle.std.specs.Ordering.{nat_cmp, on, then_cmp}
 use Rattle.ltl_spec.specs.Collections.Sets.{Has, IsRising}
+use Rattle.ltl_spec.specs.Transitions.Cubes.{is_contradictory}
 use Rattle.ltl_spec.specs.Automata.Automaton.{Automaton, Edge, edge_cmp, state_at}
+use Rattle.ltl_spec.specs.Construction.ImpliedEdges.{IsSetEdge}
 use Rattle.ltl_spec.specs.Tools.Limits.{stated_limits}
 use Rattle.ltl_automaton.specs.SharedView.{Shared, automaton_of}
 use Rattle.ltl_automaton.specs.declared.edge.Edge as made
@@ -31,25 +33,23 @@ pub data IsReached (B : Automaton) : ℕ → Type 0 where
   start : IsReached B 0
   along : (s : ℕ) (e : Edge) → IsReached B s → Has (state_at B s).edges e → IsReached B e.target
 
--- There is no acceptance set. There is a state, no limit on states and edges is passed, and the edges stay within the automaton; the edges
--- of a state rise, and each state is reached
+-- no edge has a mark
+abbrev pub IsPlain : Automaton → Type 0
+IsPlain B = All (λ s. All (λ e. e.marks ≡ []) s.edges) B.states
+
+-- There is no acceptance set, and no edge has a mark. There is a state, no limit on states and edges is passed, and the edges stay within the
+-- automaton; the literals of an edge are a set without contradiction, the edges of a state rise, and each state is reached
 pub record IsBa (B : Automaton) : Type 0 where
   pub no_sets : B.sets ≡ 0
   pub some : 0 < length B.states
   pub few_states : length B.states ≤ stated_limits.states
   pub few_edges : sum_by (λ s. length s.edges) B.states ≤ stated_limits.edges
   pub within : All (λ s. All (λ e. e.target < length B.states) s.edges) B.states
+  pub plain : IsPlain B
+  pub sets : All (λ s. All IsSetEdge s.edges) B.states
+  pub consistent : All (λ s. All (λ e. is_contradictory e.cube ≡ false) s.edges) B.states
   pub rising : All (λ s. IsRising edge_cmp s.edges) B.states
   pub reached : (s : ℕ) → s < length B.states → IsReached B s
-
--- no edge has a mark
-abbrev pub IsPlain : Automaton → Type 0
-IsPlain B = All (λ s. All (λ e. e.marks ≡ []) s.edges) B.states
-
--- both
-pub record IsPlainBa (B : Automaton) : Type 0 where
-  pub inside : IsBa B
-  pub plain : IsPlain B
 
 -- for each list of edges its places by target are there
 pub record HaveOrders (lists : List (List Edge)) (places : List (List ℕ)) : Type 0 where
@@ -59,5 +59,4 @@ pub record HaveOrders (lists : List (List Edge)) (places : List (List ℕ)) : Ty
 -- what the type holds
 pub record IsOrderedBa (s : Shared) (places : List (List ℕ)) : Type 0 where
   pub inside : IsBa (automaton_of s)
-  pub plain : IsPlain (automaton_of s)
   pub ordered : HaveOrders s.lists places

@@ -1,11 +1,11 @@
 //! Büchi automata.
 
-ghost use Rattle.std.specs.Prelude.{◌≡◌, ◌%◌, ◌<◌, ◌≤◌, length, map, All, IfOk};
+ghost use Rattle.std.specs.Prelude.{◌≡◌, ◌%◌, ◌<◌, ◌≤◌, [], length, map, All, IfOk};
 ghost use Rattle.ltl_spec.specs.Automata.Automaton.{state_at};
 ghost use Rattle.ltl_spec.specs.Tools.Limits.{stated_limits};
 ghost use Rattle.ltl_automaton.specs.EdgeView as view;
 ghost use Rattle.ltl_automaton.specs.SharedView.{automaton_of};
-ghost use Rattle.ltl_buchi.specs.BaView.{IsBa, IsPlain, IsTargetOrder, HaveOrders, edge_of};
+ghost use Rattle.ltl_buchi.specs.BaView.{IsBa, IsTargetOrder, HaveOrders, edge_of};
 
 use ltl_automaton::{Edge, SharedStates};
 use smallvec::SmallVec;
@@ -85,7 +85,6 @@ impl<'a, A: Allocator> Model for Ba<'a, A> {
 impl<'a, A: Allocator> Ba<'a, A> {
     pub(crate) fn new(alloc: &'a A, states: SharedStates<'a, A>) -> Result<Self, AllocError>
         requires inside { IsBa (automaton_of states) }
-        requires plain { IsPlain (automaton_of states) }
         ensures { IfOk result (λ b. b ≡ automaton_of states.entry) }
     {
         let orders = orders(alloc, &states)?;
@@ -94,8 +93,7 @@ impl<'a, A: Allocator> Ba<'a, A> {
 
     /// The states, which share their lists of edges.
     pub(crate) fn states(&self) -> &SharedStates<'a, A>
-        ensures same { automaton_of result.now ≡ self.now }
-        ensures plain { IsPlain self.now }
+        ensures { automaton_of result.now ≡ self.now }
     {
         &self.states
     }
@@ -122,6 +120,7 @@ impl<'a, A: Allocator> Ba<'a, A> {
         requires { i < length self.now.states }
         ensures edges { map edge_of result.now ≡ (state_at self.now i).edges }
         ensures within { All (λ e. e.target < length self.now.states) result.now }
+        ensures plain { All (λ e. e.marks ≡ []) result.now }
     {
         self.states.edges(i)
     }

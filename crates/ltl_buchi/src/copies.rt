@@ -6,7 +6,7 @@ ghost use Rattle.ltl_spec.specs.Construction.Levels as levels_of;
 ghost use Rattle.ltl_spec.specs.Tools.Limits.{stated_limits};
 ghost use Rattle.ltl_automaton.specs.SharedView.{automaton_of};
 ghost use Rattle.ltl_alt.specs.GbaView as gba;
-ghost use Rattle.ltl_buchi.specs.BaView.{IsPlainBa};
+ghost use Rattle.ltl_buchi.specs.BaView.{IsBa};
 ghost use Rattle.ltl_buchi.specs.Copies.{HaveAtLeast, IsBelowLifted, IsListOf, RiseLifted, arc_of, copy_edge_of, level_net, lifted_edge};
 
 use crate::automaton::Ba;
@@ -329,7 +329,7 @@ pub(crate) fn level_states<'a, A: Allocator>(
     automaton: &Gba<'_, A>,
 ) -> Result<SharedStates<'a, A>, BaFault>
     ensures copies { IfOk result (λ s. automaton_of s ≡ levels_of.level_automaton automaton.now) }
-    ensures plain { IfOk result (λ s. IsPlainBa (automaton_of s)) }
+    ensures inside { IfOk result (λ s. IsBa (automaton_of s)) }
 
     // The fault comes exactly where a limit is passed. Memory may be refused at any time.
     ensures few { OnOk result (¬ levels_of.HasTooManyCopies automaton.now stated_limits.states stated_limits.edges) }

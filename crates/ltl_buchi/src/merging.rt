@@ -8,7 +8,7 @@ ghost use Rattle.ltl_spec.specs.Construction.Merging.{merged_automaton};
 ghost use Rattle.ltl_spec.specs.Construction.ImpliedEdges.{IsSetEdge};
 ghost use Rattle.ltl_automaton.specs.EdgeView.{edge_of};
 ghost use Rattle.ltl_automaton.specs.SharedView.{automaton_of};
-ghost use Rattle.ltl_buchi.specs.BaView.{IsPlainBa};
+ghost use Rattle.ltl_buchi.specs.BaView.{IsBa};
 ghost use Rattle.ltl_buchi.specs.Classes.{IsWithinStates};
 
 use crate::automaton::Ba;
@@ -61,15 +61,6 @@ pub(crate) fn are_sets(edges: &[Edge])
     }
 }
 
-/// Hands to callers that the literals and the marks of all edges are sets.
-pub(crate) fn all_are_sets<A: Allocator>(states: &SharedStates<'_, A>)
-    ensures { All (λ s. All IsSetEdge s.edges) (automaton_of states.now).states }
-{
-    for s in 0..states.len() {
-        are_sets(states.edges(s));
-    }
-}
-
 /// The automaton with equal states merged and the transitions left out that another one with the same target implies, as the options ask.
 /// Only want of memory is refused.
 pub fn merge<'a, A: Allocator>(
@@ -92,12 +83,11 @@ pub(crate) fn merged_states<'a, A: Allocator>(
     states: &SharedStates<'_, A>,
     options: &Options,
 ) -> Result<SharedStates<'a, A>, BaFault>
-    requires plain { IsPlainBa (automaton_of states.now) }
+    requires inside { IsBa (automaton_of states.now) }
     ensures merged { IfOk result (λ m. automaton_of m ≡ merged_automaton options.now.keep_implied options.now.keep_equal (automaton_of states.now)) }
-    ensures plain { IfOk result (λ m. IsPlainBa (automaton_of m)) }
+    ensures inside { IfOk result (λ m. IsBa (automaton_of m)) }
     ensures fault { IfErr result (λ f. f ≡ BaFault.OutOfMemory) }
 {
-    all_are_sets(states);
     let small = merged(alloc, states, options)?;
     Ok(small)
 }

@@ -6,7 +6,7 @@ ghost use Rattle.ltl_spec.specs.Automata.Automaton.{edge_cmp};
 ghost use Rattle.ltl_spec.specs.Construction.Renumbered.{renumbered_automaton};
 ghost use Rattle.ltl_automaton.specs.EdgeView.{edge_of};
 ghost use Rattle.ltl_automaton.specs.SharedView.{automaton_of};
-ghost use Rattle.ltl_buchi.specs.BaView.{IsPlainBa};
+ghost use Rattle.ltl_buchi.specs.BaView.{IsBa};
 ghost use Rattle.ltl_buchi.specs.Numbered.{IsNumberable, arc_of, net_of};
 
 use crate::automaton::Ba;
@@ -116,9 +116,9 @@ pub(crate) fn renumbered_states<'a, A: Allocator>(
     alloc: &'a A,
     states: &SharedStates<'_, A>,
 ) -> Result<SharedStates<'a, A>, BaFault>
-    requires plain { IsPlainBa (automaton_of states.now) }
+    requires inside { IsBa (automaton_of states.now) }
     ensures renumbered { IfOk result (λ s. automaton_of s ≡ renumbered_automaton (automaton_of states.now)) }
-    ensures plain { IfOk result (λ s. IsPlainBa (automaton_of s)) }
+    ensures inside { IfOk result (λ s. IsBa (automaton_of s)) }
     ensures fits { ¬ IsErrOf result BaFault.TooLarge }
 {
     let numbered = renumbered(alloc, states)?;
@@ -130,9 +130,9 @@ pub(crate) fn numbered_states<'a, A: Allocator>(
     alloc: &'a A,
     states: SharedStates<'a, A>,
 ) -> Result<SharedStates<'a, A>, BaFault>
-    requires plain { IsPlainBa (automaton_of states) }
+    requires inside { IsBa (automaton_of states) }
     ensures renumbered { IfOk result (λ s. automaton_of s ≡ renumbered_automaton (automaton_of states.entry)) }
-    ensures plain { IfOk result (λ s. IsPlainBa (automaton_of s)) }
+    ensures inside { IfOk result (λ s. IsBa (automaton_of s)) }
     ensures fits { ¬ IsErrOf result BaFault.TooLarge }
 {
     if are_listed(&states) {

@@ -5,11 +5,11 @@ ghost use Rattle.ltl_spec.specs.Collections.Sets.{IsRising};
 ghost use Rattle.ltl_spec.specs.Automata.Automaton.{edge_cmp};
 ghost use Rattle.ltl_spec.specs.Construction.Merging.{merged_automaton, unimplied_edges};
 ghost use Rattle.ltl_automaton.specs.SharedView.{automaton_of};
-ghost use Rattle.ltl_buchi.specs.BaView.{IsPlainBa};
+ghost use Rattle.ltl_buchi.specs.BaView.{IsBa};
 ghost use Rattle.ltl_buchi.specs.Classes.{IsWithinStates};
 
 use crate::fault::BaFault;
-use crate::merging::{all_are_sets, names};
+use crate::merging::names;
 use crate::options::Options;
 use crate::quotient::quotient;
 use crate::standing::{all_rise, stands};
@@ -72,13 +72,12 @@ pub(crate) fn smaller_states<'a, A: Allocator>(
     options: &Options,
     thin: bool,
 ) -> Result<SharedStates<'a, A>, BaFault>
-    requires plain { IsPlainBa (automaton_of states) }
+    requires inside { IsBa (automaton_of states) }
     requires thin { thin ≡ true → All (λ s. unimplied_edges s.edges ≡ s.edges) (automaton_of states).states }
     ensures merged { IfOk result (λ m. automaton_of m ≡ merged_automaton options.now.keep_implied options.now.keep_equal (automaton_of states.entry)) }
-    ensures plain { IfOk result (λ m. IsPlainBa (automaton_of m)) }
+    ensures inside { IfOk result (λ m. IsBa (automaton_of m)) }
     ensures fault { IfErr result (λ f. f ≡ BaFault.OutOfMemory) }
 {
-    all_are_sets(&states);
     states.invariant();
     match changed(alloc, &states, options, true, thin)? {
         Some(small) => Ok(small),

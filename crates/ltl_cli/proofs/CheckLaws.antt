@@ -1,6 +1,6 @@
 -- What the checker knows before it prints.
 use Rattle.std.proofs.Common.{◌≡◌, sym, subst, refl, ℕ, ◌+◌, ◌≤◌, ◌<◌, true, length, inl, inr, ◌⊎◌, List, [], Option, Some, None, arith}
-use Rattle.std.specs.Prelude.{IfSome, Result, Ok, Err}
+use Rattle.std.specs.Prelude.{Result, Ok, Err}
 use Rattle.ltl_spec.specs.Formulas.Formula.{Reading}
 use Rattle.ltl_spec.specs.Formulas.Names.{unified}
 use Rattle.ltl_spec.specs.Semantics.Word.{Name, Lasso}
@@ -13,23 +13,26 @@ use Rattle.ltl_spec.specs.Hoa.HoaReading.{MarkedAutomaton, stated_form}
 use Rattle.ltl_spec.specs.Checking.Check.{Verdict, Contained, Violated, IsVerdict, IsCommon, IsViolation, product_size}
 use Rattle.ltl_spec.specs.Tools.Limits.{stated_limits}
 use Rattle.ltl_spec.specs.Tools.Refusal as spec
+use Rattle.ltl_spec.specs.Tools.Stage.{Stage, Open, Closed}
 use Rattle.ltl_spec.specs.Tools.Outcome as outcome
 use Rattle.ltl_spec.specs.Tools.Outcome.{Input, Then}
 use Rattle.ltl_spec.specs.Tools.Programs.{InputReads, Judges, KeepsRows, ReadsHoa, Translates, plain_options, verdict_answer}
 use Rattle.ltl_spec.proofs.Semantics.LanguageLaws.{translation_violations}
 use Rattle.ltl_hoa.specs.declared.fault.HoaFault.{HoaFault}
 use Rattle.ltl_hoa.specs.declared.fault.HoaFault.TheVariants as hoa
-use Rattle.ltl_hoa.specs.Reading.{AnswersHeld, TakesFewer}
+use Rattle.ltl_hoa.specs.Reading.{AnswersHeld}
+use Rattle.ltl_hoa.specs.Reading.{LeavesStage}
+use Rattle.ltl_streams.specs.Streams.{SourceState}
 use Rattle.ltl_check.specs.declared.fault.CheckFault.{CheckFault}
 use Rattle.ltl_check.specs.declared.fault.CheckFault.TheVariants as fault
 use Rattle.ltl_cli.specs.declared.refusal.Refusal.{Refusal}
 use Rattle.ltl_cli.specs.declared.refusal.Refusal.TheVariants.{OutOfMemory}
 use Rattle.ltl_cli.specs.declared.request.Plan.{Plan}
-use Rattle.ltl_cli.specs.Refusals.{Takes, of_check, of_hoa, refusal_of}
+use Rattle.ltl_cli.specs.Refusals.{TakesStep, of_check, of_hoa, refusal_of}
 use Rattle.ltl_cli.specs.Plans.{formula_word}
-use Rattle.ltl_cli.specs.Inputs.{IsStream, RefusesInput}
+use Rattle.ltl_cli.specs.Inputs.{RefusesInput, TakesFewer, TakesUpTo, WasStream, most_of_automaton}
 use Rattle.ltl_cli.specs.Checks.{FindsVerdict, IsChecked, Negates, ReadsAutomaton, RefusesCheck}
-use Rattle.ltl_cli.proofs.InputLaws.{failed_stream, not_long, reads_takes}
+use Rattle.ltl_cli.proofs.InputLaws.{not_long, reads_takes}
 use Rattle.ltl_cli.proofs.RunLaws.{DecidesAnswers, input_refused, input_takes, taken_takes, then_takes}
 use Rattle.ltl_spec.proofs.Tools.StepLaws.{never}
 
@@ -90,7 +93,7 @@ module _ (p : Plan) (input : Input) (R : Reading) (reads : InputReads stated_lim
       check_refused e (inr h) = inr (judges (Err (refusal_of e)) h)
 
       -- or one
-      pub judged_found : {T : Type 0} (verdict : T → Verdict) (r : Result T Refusal) → Takes (Judges stated_limits A R.names B (IsViolation A R)) verdict r → IsChecked p input file verdict r
+      pub judged_found : {T : Type 0} (verdict : T → Verdict) (r : Result T Refusal) → TakesStep (Judges stated_limits A R.names B (IsViolation A R)) verdict r → IsChecked p input file verdict r
       judged_found verdict (Ok t) h = judges (Ok (verdict t)) h
       judged_found verdict (Err e) h = check_refused e h
 
@@ -102,31 +105,29 @@ negates_violations R B (inr (M, k, h)) = translation_violations R.formula true p
 -- ---- the given automaton
 
 -- what was read of it is some input
-pub automaton_from : (known : Option (List ℕ)) (A : MarkedAutomaton) → AnswersHeld known (Ok A) → (file : Input) × IsStream known file × ReadsAutomaton file (Ok A)
-automaton_from None A (text, s, h) = (outcome.Ended text, tt, inr (text, refl, h))
-automaton_from (Some xs) A (text, s, h) = (outcome.Ended text, s, inr (text, refl, h))
+pub automaton_from : (old new : SourceState) (A : MarkedAutomaton) → AnswersHeld old.rest (Ok A) → TakesUpTo old.rest new.rest most_of_automaton → LeavesStage (Ok A) new.stage
+    → (file : Input) × WasStream most_of_automaton old new file × ReadsAutomaton file (Ok A)
+automaton_from old new A (text, s, h) few e = (outcome.Ended text, (s, record { taken = few; stage = inr e }), inr (text, refl, h))
 
-few_failed : (bs : List ℕ) → length bs < stated_limits.hoa_bytes + 1 → ReadsAutomaton (outcome.Failed bs) (Err spec.CannotRead)
+few_failed : (bs : List ℕ) → length bs < most_of_automaton → ReadsAutomaton (outcome.Failed bs) (Err spec.CannotRead)
 few_failed bs l = inl (spec.CannotRead, rw (not_long stated_limits.hoa_bytes bs l) refl, refl)
 
-some_stream : (known : Option (List ℕ)) → (file : Input) × IsStream known file
-some_stream None = (outcome.Ended [], tt)
-some_stream (Some xs) = (outcome.Ended xs, refl)
-
-held_stream : (known : Option (List ℕ)) (text : List ℕ) → IfSome known (λ bytes. text ≡ bytes) → IsStream known (outcome.Ended text)
-held_stream None text s = tt
-held_stream (Some xs) text s = s
+either_well : {P : Type 0} (s : Stage) → (s ≡ Closed) ⊎ P × (s ≡ Open) → (s ≡ Open) ⊎ (s ≡ Closed)
+either_well s (inl e) = inr e
+either_well s (inr (p, e)) = inl e
 
 -- or why it was refused
-pub automaton_fault : (known new : Option (List ℕ)) (f : HoaFault) → AnswersHeld known (Err f) → (f ≡ hoa.CannotRead → TakesFewer known new)
-    → (file : Input) × IsStream known file × ((of_hoa f ≡ OutOfMemory) ⊎ ReadsAutomaton file (Err (refusal_of (of_hoa f))))
-automaton_fault known new (hoa.AtLine line kind) (text, s, h) few = (outcome.Ended text, held_stream known text s, inr (inr (text, refl, h)))
-automaton_fault known new hoa.CannotRead a few =
-    let (bs, c, l) = few refl in
-    (outcome.Failed bs, failed_stream known new bs c, inr (few_failed bs l))
-automaton_fault known new hoa.OutOfMemory a few =
-    let (file, s) = some_stream known in
-    (file, s, inl refl)
+pub automaton_fault : (old new : SourceState) (f : HoaFault) → AnswersHeld old.rest (Err f) → TakesUpTo old.rest new.rest most_of_automaton → (f ≡ hoa.CannotRead → TakesFewer old.rest new.rest most_of_automaton)
+    → LeavesStage (Err f) new.stage → (file : Input) × WasStream most_of_automaton old new file × ((of_hoa f ≡ OutOfMemory) ⊎ ReadsAutomaton file (Err (refusal_of (of_hoa f))))
+automaton_fault old new (hoa.AtLine line kind) (text, s, h) few fewer e = (outcome.Ended text, (s, record { taken = few; stage = either_well new.stage e }), inr (inr (text, refl, h)))
+automaton_fault old new hoa.CannotRead a few fewer e =
+    let (bs, c, l) = fewer refl in
+    (outcome.Failed bs, record { taken = c; few = l; stage = e }, inr (few_failed bs l))
+automaton_fault old new hoa.OutOfMemory (text, s, h) few fewer e = (outcome.Ended text, (s, record { taken = few; stage = swapped e }), inl refl)
+  where
+    swapped : (new.stage ≡ Closed) ⊎ (new.stage ≡ Open) → (new.stage ≡ Open) ⊎ (new.stage ≡ Closed)
+    swapped (inl c) = inr c
+    swapped (inr o) = inl o
 
 -- ---- the verdict
 

@@ -11,6 +11,8 @@ use Rattle.ltl_spec.specs.Tools.Outcome as outcome
 use Rattle.ltl_spec.specs.Tools.Outcome.{Input, Then}
 use Rattle.ltl_spec.specs.Tools.Programs.{EvaluatorPlan, EvaluatorAnswers, Evaluates, InputReads, ReadsWord, truth_answer}
 use Rattle.ltl_spec.proofs.Tools.StepLaws.{never}
+use Rattle.ltl_spec.specs.Tools.Stage.{Open}
+use Rattle.ltl_streams.specs.Streams.{SinkState}
 use Rattle.ltl_formula.specs.FormulaView.{FormulaView, reading_of}
 use Rattle.ltl_word.specs.declared.fault.WordFault.{WordFault}
 use Rattle.ltl_word.specs.declared.fault.WordFault.TheVariants as fault
@@ -90,5 +92,5 @@ evaluator_decides p text input file same = record {
     low false = omega arith
 
 -- there is no word
-pub no_word : (p : Plan) (input file : Input) (o : Option (List ℕ)) → option_map (λ s. s.now) p.word ≡ None → IsOutcome spec.Evaluator (Ok p) input file o o (Err Usage)
-no_word p input file o same = nothing_asked spec.Evaluator (Ok p) input file o (word_planned p None same) (λ q. never p plan.OutOfMemory (sym q))
+pub no_word : (p : Plan) (input file : Input) (o : SinkState) → o.stage ≡ Open → option_map (λ s. s.now) p.word ≡ None → IsOutcome spec.Evaluator (Ok p) input file o o (Err Usage)
+no_word p input file o open_before same = nothing_asked spec.Evaluator (Ok p) input file o open_before (word_planned p None same) (λ q. never p plan.OutOfMemory (sym q))

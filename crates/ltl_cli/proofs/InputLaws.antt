@@ -1,5 +1,5 @@
 -- What was read, as an input of the definitions.
-use Rattle.std.proofs.Common.{◌≡◌, ◌∙◌, ap, sym, subst, refl, ℕ, ◌+◌, ◌<◌, nat_lt, false, inl, inr, ◌⊎◌, List, [], length, take, Option, Some, None, arith, length-take}
+use Rattle.std.proofs.Common.{◌≡◌, ◌∙◌, ap, sym, subst, refl, ℕ, ◌+◌, ◌<◌, ◌≤◌, nat_lt, false, inl, inr, ◌⊎◌, List, [], length, take, Option, Some, None, arith, length-take}
 use Rattle.std.proofs.Math.Seq.{take-append_seam}
 use Rattle.std.proofs.lemmas.Bool.{cases_lt}
 use Rattle.std.proofs.lemmas.List.{take_all}
@@ -10,6 +10,8 @@ use Rattle.ltl_spec.specs.Tools.Limits.{stated_limits}
 use Rattle.ltl_spec.specs.Tools.Refusal as spec
 use Rattle.ltl_spec.specs.Tools.Outcome as outcome
 use Rattle.ltl_spec.specs.Tools.Programs.{InputReads, ReadsFormula}
+use Rattle.ltl_spec.specs.Tools.Stage.{Open}
+use Rattle.ltl_streams.specs.Streams.{SourceState}
 use Rattle.ltl_formula.specs.FormulaView.{FormulaView, reading_of}
 use Rattle.ltl_formula.specs.ReadText.{IsRefusedFor}
 use Rattle.ltl_formula.specs.declared.fault.ReadFault.{ReadFault}
@@ -19,8 +21,9 @@ use Rattle.ltl_cli.specs.declared.source.Source.TheVariants as source
 use Rattle.ltl_cli.specs.declared.refusal.Refusal.{Refusal}
 use Rattle.ltl_cli.specs.declared.refusal.Refusal.TheVariants.{OutOfMemory, CannotRead}
 use Rattle.ltl_cli.specs.Refusals.{of_read, refusal_of}
-use Rattle.ltl_cli.specs.Inputs.{IsInputOf, IsReadFrom, IsStream, RefusesInput, TakesFewer, most_taken}
+use Rattle.ltl_cli.specs.Inputs.{GivesBytesOf, IsInputOf, IsOpen, IsReadFrom, IsStream, IsUnread, RefusesInput, TakesFewer, TakesUpTo, WasInput, WasStream, WentWell, most_taken}
 use Rattle.ltl_spec.proofs.Tools.StepLaws.{never}
+use Rattle.ltl_cli.proofs.StreamLaws.{stayed}
 
 -- a text is refused as the definitions say
 pub given_refused : (text : List ℕ) (e : ReadFault) → IsRefusedFor text e → RefusesInput (outcome.Given text) outcome.NotOpened (of_read e)
@@ -87,15 +90,27 @@ file_same v (Err x) (inl p) = inl (p.0, not_opened v)
 file_same v (Err x) (inr h) = inr h
 
 -- what was read from a file's bytes
-pub file_from : (known : Option (List ℕ)) (v : List ℕ) (r : Result FormulaView Refusal) → IfSome known (λ xs. v ≡ take most_taken xs)
-    → IsReadFrom (outcome.Given v) outcome.NotOpened r → (input : outcome.Input) × IsStream known input × IsReadFrom (outcome.File []) input r
-file_from None v r e h = (outcome.Ended v, tt, file_same v r h)
-file_from (Some xs) v r e h = (outcome.Ended xs, refl, file_read v xs e r h)
+file_known : (known : Option (List ℕ)) (v : List ℕ) (r : Result FormulaView Refusal) → IfSome known (λ xs. v ≡ take most_taken xs)
+    → IsReadFrom (outcome.Given v) outcome.NotOpened r → (bs : List ℕ) × IfSome known (λ xs. bs ≡ xs) × IsReadFrom (outcome.File []) (outcome.Ended bs) r
+file_known None v r e h = (v, tt, file_same v r h)
+file_known (Some xs) v r e h = (xs, refl, file_read v xs e r h)
+
+pub file_from : (old new : SourceState) (v : List ℕ) (r : Result FormulaView Refusal) → IfSome old.rest (λ xs. v ≡ take most_taken xs) → WentWell most_taken old new
+    → IsReadFrom (outcome.Given v) outcome.NotOpened r → (input : outcome.Input) × WasStream most_taken old new input × IsReadFrom (outcome.File []) input r
+file_from old new v r e well h =
+    let (bs, same, reads) = file_known old.rest v r e h in
+    (outcome.Ended bs, (same, well), reads)
+
+-- all bytes of a stream, where they are known
+some_bytes : (known : Option (List ℕ)) → (bs : List ℕ) × IfSome known (λ xs. bs ≡ xs)
+some_bytes None = ([], tt)
+some_bytes (Some xs) = (xs, refl)
 
 -- memory was refused while it was read
-short_file : (known : Option (List ℕ)) → (input : outcome.Input) × IsStream known input × RefusesInput (outcome.File []) input OutOfMemory
-short_file None = (outcome.Ended [], tt, inl (refl, not_opened []))
-short_file (Some xs) = (outcome.Ended xs, refl, inl (refl, not_opened xs))
+short_file : (old new : SourceState) → WentWell most_taken old new → (input : outcome.Input) × WasStream most_taken old new input × RefusesInput (outcome.File []) input OutOfMemory
+short_file old new well =
+    let (bs, same) = some_bytes old.rest in
+    (outcome.Ended bs, (same, well), inl (refl, not_opened bs))
 
 -- a list that isn't longer than the limit
 pub not_long : (n : ℕ) (bs : List ℕ) → length bs < n + 1 → nat_lt n (length bs) ≡ false
@@ -104,30 +119,96 @@ not_long n bs l = grind (arith, l)
 few_failed : (bs : List ℕ) → length bs < most_taken → RefusesInput (outcome.File []) (outcome.Failed bs) CannotRead
 few_failed bs l = inr (inl (spec.CannotRead, rw (not_long stated_limits.formula_bytes bs l) refl, refl))
 
-pub failed_stream : (old new : Option (List ℕ)) (bs : List ℕ) → Consumes old new bs → IsStream old (outcome.Failed bs)
-failed_stream None new bs p = tt
-failed_stream (Some xs) (Some ys) bs p = (length bs, sym (ap (take (length bs)) p ∙ take-append_seam bs ys))
-failed_stream (Some xs) None bs p = absurd p
-
--- a read failed
-pub file_refused : (old new : Option (List ℕ)) (e : Refusal) → (e ≡ CannotRead) ⊎ (e ≡ OutOfMemory) → (e ≡ CannotRead → TakesFewer old new most_taken)
-    → (input : outcome.Input) × IsStream old input × RefusesInput (outcome.File []) input e
-file_refused old new e (inl c) few =
-    let (bs, p, l) = few c in
-    (outcome.Failed bs, failed_stream old new bs p, subst (RefusesInput (outcome.File []) (outcome.Failed bs)) (sym c) (few_failed bs l))
-file_refused old new e (inr c) few =
-    let (input, s, h) = short_file old in
+-- there is no text
+pub file_refused : (old new : SourceState) (e : Refusal) → IsUnread most_taken old new e → (input : outcome.Input) × WasStream most_taken old new input × RefusesInput (outcome.File []) input e
+file_refused old new e (inl (c, (bs, w))) = (outcome.Failed bs, w, subst (RefusesInput (outcome.File []) (outcome.Failed bs)) (sym c) (few_failed bs w.few))
+file_refused old new e (inr (c, well)) =
+    let (input, s, h) = short_file old new well in
     (input, s, subst (RefusesInput (outcome.File []) input) (sym c) h)
 
--- any source is some input
-stream_of : (known : Option (List ℕ)) → (input : outcome.Input) × IsStream known input
-stream_of None = (outcome.Ended [], tt)
-stream_of (Some xs) = (outcome.Ended xs, refl)
+-- a read failed, and so fewer bytes were taken
+not_memory : CannotRead ≡ OutOfMemory → ⊥
+not_memory c = cc
 
+unread_few : (old new : SourceState) → IsUnread most_taken old new CannotRead → TakesFewer old.rest new.rest most_taken
+unread_few old new (inl (c, (bs, w))) = (bs, w.taken, w.few)
+unread_few old new (inr (c, well)) = absurd (not_memory c)
+
+pub failed_few : (old new : SourceState) (e : Refusal) → IsUnread most_taken old new e → e ≡ CannotRead → TakesFewer old.rest new.rest most_taken
+failed_few old new e u c = unread_few old new (subst (IsUnread most_taken old new) c u)
+
+-- a source that isn't read is some input
+module _ (most : ℕ) {R : Type 0} (state : R → SourceState) where
+  unread_stream : (o : SourceState) → o.stage ≡ Open → (input : outcome.Input) × WasStream most o o input
+  unread_stream o e =
+      let (bs, same) = some_bytes o.rest in
+      (outcome.Ended bs, (same, stayed most o e))
+
+  pub unread : (s : Source R) → IsOpen state s → (input : outcome.Input) × WasInput most state s s input
+  unread source.Text o = (outcome.NotOpened, refl)
+  unread source.NotOpened o = (outcome.NotOpened, refl)
+  unread (source.Input r) o = unread_stream (state r) o
+
+-- ---- readers of which nobody knows how the calls on them went
+
+consumed_beginning : (old new : Option (List ℕ)) (bs : List ℕ) → Consumes old new bs → IsStream old (outcome.Failed bs)
+consumed_beginning None new bs p = tt
+consumed_beginning (Some xs) (Some ys) bs p = (length bs, sym (ap (take (length bs)) p ∙ take-append_seam bs ys))
+consumed_beginning (Some xs) None bs p = absurd p
+
+known_whole : (known : Option (List ℕ)) (bs : List ℕ) → IfSome known (λ xs. bs ≡ xs) → IsStream known (outcome.Ended bs)
+known_whole None bs e = tt
+known_whole (Some xs) bs e = e
+
+stream_before : (most : ℕ) (old new : SourceState) (input : outcome.Input) → WasStream most old new input → IsStream old.rest input
+stream_before most old new (outcome.Ended bs) w = known_whole old.rest bs w.0
+stream_before most old new (outcome.Failed bs) w = consumed_beginning old.rest new.rest bs w.taken
+stream_before most old new (outcome.Text bs) w = absurd w
+stream_before most old new outcome.NotOpened w = absurd w
+
+pub lent_before : (most : ℕ) (old new : SourceState) (known : Option (List ℕ)) (input : outcome.Input) → old.rest ≡ known → WasStream most old new input → IsStream known input
+lent_before most old new known input e w = subst (λ (x : Option (List ℕ)). IsStream x input) e (stream_before most old new input w)
+
+-- some bytes that a reader holds
 pub some_input : {R : Type 0} (remaining : R → Option (List ℕ)) (s : Source R) → (input : outcome.Input) × IsInputOf remaining s input
 some_input remaining source.Text = (outcome.NotOpened, refl)
 some_input remaining source.NotOpened = (outcome.NotOpened, refl)
-some_input remaining (source.Input r) = stream_of (remaining r)
+some_input remaining (source.Input r) =
+    let (bs, same) = some_bytes (remaining r) in
+    (outcome.Ended bs, known_whole (remaining r) bs same)
+
+module _ {R S : Type 0} (remaining : R → Option (List ℕ)) (state : S → SourceState) where
+  -- how the bytes were read tells what they were
+  pub input_before : (most : ℕ) (s : Source R) (old new : Source S) (input : outcome.Input) → GivesBytesOf remaining state s old → WasInput most state old new input → IsInputOf remaining s input
+  input_before most source.Text source.Text source.Text input g w = w
+  input_before most (source.Input r) (source.Input o) (source.Input n) input g w = subst (λ (x : Option (List ℕ)). IsStream x input) g.0 (stream_before most (state o) (state n) input w)
+  input_before most source.NotOpened source.NotOpened source.NotOpened input g w = w
+  input_before most source.Text source.Text (source.Input n) input g w = absurd w
+  input_before most source.Text source.Text source.NotOpened input g w = absurd w
+  input_before most source.Text (source.Input o) new input g w = absurd g
+  input_before most source.Text source.NotOpened new input g w = absurd g
+  input_before most (source.Input r) source.Text new input g w = absurd g
+  input_before most (source.Input r) source.NotOpened new input g w = absurd g
+  input_before most (source.Input r) (source.Input o) source.Text input g w = absurd w
+  input_before most (source.Input r) (source.Input o) source.NotOpened input g w = absurd w
+  input_before most source.NotOpened source.Text new input g w = absurd g
+  input_before most source.NotOpened (source.Input o) new input g w = absurd g
+  input_before most source.NotOpened source.NotOpened source.Text input g w = absurd w
+  input_before most source.NotOpened source.NotOpened (source.Input n) input g w = absurd w
+
+  pub gives_open : (s : Source R) (old : Source S) → GivesBytesOf remaining state s old → IsOpen state old
+  gives_open s source.Text g = tt
+  gives_open s source.NotOpened g = tt
+  gives_open source.Text (source.Input o) g = absurd g
+  gives_open (source.Input r) (source.Input o) g = g.1
+  gives_open source.NotOpened (source.Input o) g = absurd g
+
+-- at most so many bytes were taken
+pub stream_few : (most : ℕ) (old new : SourceState) (input : outcome.Input) → WasStream most old new input → TakesUpTo old.rest new.rest most
+stream_few most old new (outcome.Ended bs) w = w.1.taken
+stream_few most old new (outcome.Failed bs) w = let l = w.few in (bs, w.taken, omega (arith, l))
+stream_few most old new (outcome.Text bs) w = absurd w
+stream_few most old new outcome.NotOpened w = absurd w
 
 -- where a formula was read, memory may have been taken
 pub reads_takes : (word : outcome.FormulaWord) (input : outcome.Input) (R : Reading) → InputReads stated_limits (outcome.input_of word input) (Ok R)

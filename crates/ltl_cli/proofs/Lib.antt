@@ -1,6 +1,8 @@
 pub mod AutomatonLaws
+pub mod CauseLaws
 pub mod CheckLaws
 pub mod EvaluationLaws
+pub mod HeadlineLaws
 pub mod InputLaws
 pub mod MessageLaws
 pub mod RunLaws

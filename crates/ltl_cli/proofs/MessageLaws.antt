@@ -1,14 +1,16 @@
 -- Messages in parts.
-use Rattle.std.proofs.Common.{◌≡◌, ◌∙◌, ap, sym, subst, refl, ℕ, List, [], ◌∷◌, ◌++◌, Option, codes, append_assoc}
+use Rattle.std.proofs.Common.{◌≡◌, ◌∙◌, ◌<◌, ap, sym, subst, refl, inl, inr, ℕ, List, [], ◌∷◌, ◌++◌, length, take, Option, Some, None, codes, append_assoc, length-append, arith}
+use Rattle.std.proofs.Math.Seq.{take-length}
+use Rattle.std.specs.Io.KnownBytes.{Appends, Keeps}
 use Rattle.std.proofs.lemmas.List.{append-nil}
-use Rattle.std.specs.Prelude.{OnOk, OnErr, Result, Ok, Err}
+use Rattle.std.specs.Prelude.{MatchResult, OnOk, OnErr, Result, Ok, Err}
 use Rattle.std.specs.Fmt.{decimal, digits}
 use Rattle.ltl_spec.specs.Hoa.HoaFaultKind.{hoa_fault_text}
-use Rattle.std.specs.Io.KnownBytes.{Appends, Keeps}
 use Rattle.ltl_spec.specs.Tools.Limits.{stated_limits}
-use Rattle.ltl_spec.specs.Tools.Refusal.{Tool, Refusal, Usage, CannotOpen, CannotRead, CannotWrite, OutOfMemory, LongFormula, TooManyPropositions, TooManyRows, TooManyElementaryRows, LargeAutomaton, LongWord, LargeProduct, BadFormula, BadWord, BadAutomaton, fault_text, message, refusal_text, tool_name}
-use Rattle.ltl_formula.specs.Streams.{AppendsBeginning}
-use Rattle.ltl_formula.proofs.StreamLemmas.{appends_trans, beginning_after, beginning_of_first, beginning_whole, kept_after}
+use Rattle.ltl_spec.specs.Tools.Refusal.{Tool, Translator, Checker, Evaluator, Refusal, Usage, CannotOpen, CannotRead, CannotWrite, OutOfMemory, LongFormula, TooManyPropositions, TooManyRows, TooManyElementaryRows, LargeAutomaton, LongWord, LargeProduct, BadFormula, BadWord, BadAutomaton, fault_text, message, refusal_text, tool_name}
+use Rattle.ltl_streams.specs.Streams.{Breaks, Fails, Flushes, SinkState, Takes}
+use Rattle.ltl_streams.proofs.StreamLemmas.{breaks_after, breaks_first, breaks_there, on_err, takes_trans}
+use Rattle.ltl_cli.specs.Runs.{Finishes, IsTold}
 use Rattle.ltl_cli.specs.Messages.{back_text, front_text, number_in, number_text}
 
 -- the parts make the text
@@ -29,9 +31,11 @@ parts_are tool LargeAutomaton = append-nil _ ∙ append-nil _
 parts_are tool LongWord = append-nil _ ∙ append-nil _
 parts_are tool LargeProduct = append-nil _ ∙ append-nil _
 
-pub on_err : {T E P : Type 0} (r : Result T E) → P → OnErr r P
-on_err (Ok x) p = tt
-on_err (Err e) p = p
+kept_behind : (o m n : Option (List ℕ)) (a : List ℕ) → Appends o m a → Keeps m n → Appends o n a
+kept_behind None m n a p q = tt
+kept_behind (Some x) (Some y) (Some z) a p q = q ∙ p
+kept_behind (Some x) (Some y) None a p q = q
+kept_behind (Some x) None n a p q = absurd p
 
 pub ok_weaker : {T E P Q : Type 0} (r : Result T E) → (P → Q) → OnOk r P → OnOk r Q
 ok_weaker (Ok x) f p = f p
@@ -41,29 +45,46 @@ pub err_weaker : {T E P Q : Type 0} (r : Result T E) → (P → Q) → OnErr r P
 err_weaker (Ok x) f p = tt
 err_weaker (Err e) f p = f p
 
--- a flush failed behind the last byte
-pub flush_failed : {T E : Type 0} (r : Result T E) (o m n : Option (List ℕ)) (a : List ℕ) → Appends o m a → OnErr r (Keeps m n) → OnErr r (AppendsBeginning o n a)
-flush_failed (Ok x) o m n a p q = tt
-flush_failed (Err e) o m n a p q = beginning_whole o n a (kept_after o m n a p q)
+-- a flush behind the last byte
+
+finishes : (o m n : SinkState) (a : List ℕ) → Takes o m a → Flushes m n → Finishes o n a
+finishes o m n a p q = record { same = q.same ∙ p.same; stage = λ e. q.stage; grown = kept_behind o.bytes m.bytes n.bytes a p.grown q.kept }
+
+pub flushed : {T E : Type 0} (r : Result T E) {o m : SinkState} (n : SinkState) (a : List ℕ) → Takes o m a → MatchResult r (λ _. Flushes m n) (λ _. Fails m n) → OnOk r (Finishes o n a)
+flushed (Ok x) n a p q = finishes _ _ n a p q
+flushed (Err e) n a p q = tt
+
+pub flush_failed : {T E : Type 0} (r : Result T E) {o m : SinkState} (n : SinkState) (a : List ℕ) → Takes o m a → MatchResult r (λ _. Flushes m n) (λ _. Fails m n) → OnErr r (Breaks o n a)
+flush_failed (Ok x) n a p q = tt
+flush_failed (Err e) n a p q = breaks_there a (length a) (rw (take-length a) p) q
 
 -- all of it went out, or a beginning
-pub either_begins : {T E : Type 0} (r : Result T E) (o n : Option (List ℕ)) (a : List ℕ) → OnOk r (Appends o n a) → OnErr r (AppendsBeginning o n a) → AppendsBeginning o n a
-either_begins (Ok x) o n a p q = beginning_whole o n a p
-either_begins (Err e) o n a p q = q
+pub either_told : {T E : Type 0} (r : Result T E) (o n : SinkState) (a : List ℕ) → 0 < length a → OnOk r (Takes o n a) → OnErr r (Breaks o n a) → IsTold o n a
+either_told (Ok x) o n a l p q = inl p
+either_told (Err e) o n a l p q = inr (l, q)
 
 -- three writes of the parts of a text
 
-pub all_went : {T E : Type 0} (r : Result T E) (o m n k : Option (List ℕ)) (a b c t : List ℕ) → a ++ b ++ c ≡ t → Appends o m a → Appends m n b → OnOk r (Appends n k c) → OnOk r (Appends o k t)
-all_went r o m n k a b c t same p q h = ok_weaker r (λ x. subst (λ (w : List ℕ). Appends o k w) same (appends_trans o n k (a ++ b) c (appends_trans o m n a b p q) x)) h
+module _ {T E : Type 0} (r : Result T E) {o m : SinkState} (a b c : List ℕ) {t : List ℕ} (same : a ++ b ++ c ≡ t) where
+  pub first_failed : Breaks o m a → OnErr r (Breaks o m t)
+  first_failed p = on_err r (subst (λ (w : List ℕ). Breaks o m w) same (breaks_first c (breaks_first b p)))
 
-pub first_failed : {T E : Type 0} (r : Result T E) (o m : Option (List ℕ)) (a b c t : List ℕ) → a ++ b ++ c ≡ t → AppendsBeginning o m a → OnErr r (AppendsBeginning o m t)
-first_failed r o m a b c t same p = on_err r (subst (λ (w : List ℕ). AppendsBeginning o m w) same (beginning_of_first o m (a ++ b) c (beginning_of_first o m a b p)))
+  module _ {n : SinkState} (p : Takes o m a) where
+    pub second_failed : Breaks m n b → OnErr r (Breaks o n t)
+    second_failed q = on_err r (subst (λ (w : List ℕ). Breaks o n w) same (breaks_first c (breaks_after p q)))
 
-pub second_failed : {T E : Type 0} (r : Result T E) (o m n : Option (List ℕ)) (a b c t : List ℕ) → a ++ b ++ c ≡ t → Appends o m a → AppendsBeginning m n b → OnErr r (AppendsBeginning o n t)
-second_failed r o m n a b c t same p q = on_err r (subst (λ (w : List ℕ). AppendsBeginning o n w) same (beginning_of_first o n (a ++ b) c (beginning_after o m n a b p q)))
+    module _ (k : SinkState) (q : Takes m n b) where
+      pub third_failed : OnErr r (Breaks n k c) → OnErr r (Breaks o k t)
+      third_failed h = err_weaker r (λ x. subst (λ (w : List ℕ). Breaks o k w) same (breaks_after (takes_trans p q) x)) h
 
-pub third_failed : {T E : Type 0} (r : Result T E) (o m n k : Option (List ℕ)) (a b c t : List ℕ) → a ++ b ++ c ≡ t → Appends o m a → Appends m n b → OnErr r (AppendsBeginning n k c) → OnErr r (AppendsBeginning o k t)
-third_failed r o m n k a b c t same p q h = err_weaker r (λ x. subst (λ (w : List ℕ). AppendsBeginning o k w) same (beginning_after o n k (a ++ b) c (appends_trans o m n a b p q) x)) h
+      pub all_went : OnOk r (Takes n k c) → OnOk r (Takes o k t)
+      all_went h = ok_weaker r (λ x. subst (λ (w : List ℕ). Takes o k w) same (takes_trans (takes_trans p q) x)) h
+
+-- a line has a byte
+pub line_long : (tool : Tool) (r : Refusal) → 0 < length (message stated_limits tool r)
+line_long Translator r = omega arith
+line_long Checker r = omega arith
+line_long Evaluator r = omega arith
 
 -- the parts that were put make the text
 pub put_same : (tool : Tool) (r : Refusal) (a : List ℕ) (n : Option ℕ) (b : List ℕ) → a ≡ front_text tool r → n ≡ number_in r → b ≡ back_text r

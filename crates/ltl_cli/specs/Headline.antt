@@ -1,13 +1,87 @@
--- What a program may show for the words of its command line and for its inputs.
-use Rattle.std.specs.Prelude.{List}
+-- What a program may show for the words of its command line and for what stands behind the names in them.
+use Rattle.std.specs.Prelude.{List, ℕ, ◌≡◌, ◌⊎◌, Option, Some, None, Result, Ok, Err, ⊤}
 use Rattle.clap.specs.Words.{Text}
 use Rattle.ltl_spec.specs.Hoa.HoaReading.{stated_form}
 use Rattle.ltl_spec.specs.Tools.Limits.{stated_limits}
-use Rattle.ltl_spec.specs.Tools.Refusal.{Tool}
-use Rattle.ltl_spec.specs.Tools.Outcome.{Answer, Input}
+use Rattle.ltl_spec.specs.Tools.Refusal.{Tool, Checker}
+use Rattle.ltl_spec.specs.Tools.Outcome.{FormulaWord, Given, File, Input, IsShortOfMemory, Seen}
 use Rattle.ltl_spec.specs.Tools.Run.{MayShow}
-use Rattle.ltl_cli.specs.Words.{meaning_of}
+use Rattle.ltl_streams.specs.Streams.{SourceState}
+use Rattle.ltl_cli.specs.declared.request.Plan.{Plan}
+use Rattle.ltl_cli.specs.declared.request.PlanFault.{PlanFault}
+use Rattle.ltl_cli.specs.declared.request.PlanFault.TheVariants as fault
+use Rattle.ltl_cli.specs.declared.source.Source.{Source}
+use Rattle.ltl_cli.specs.declared.source.Source.TheVariants as source
+use Rattle.ltl_cli.specs.Words.{Request, plan_of, request_of}
+use Rattle.ltl_cli.specs.Plans.{Plans, request_in}
+use Rattle.ltl_cli.specs.Inputs.{IsFileOf}
+use Rattle.ltl_cli.specs.Runs.{ToolRun}
 
--- what the words mean to it decides the right answers and what they tell
-abbrev pub WordsMayShow : Tool → List Text → Input → Input → Answer → Type 0
-WordsMayShow tool words = MayShow stated_limits stated_form tool (meaning_of tool words)
+-- the result with its value turned into another
+abbrev pub map_ok : {A B E : Type 0} → (A → B) → Result A E → Result B E
+map_ok f (Ok a) = Ok (f a)
+map_ok f (Err e) = Err e
+
+-- the name of the formula's file, where the words give one
+abbrev pub file_named : FormulaWord → Option Text
+file_named (Given text) = None
+file_named (File name) = Some name
+
+-- In the following, `Stands` says which inputs may stand behind a name, and `Comes` which may come from the standard input
+
+-- the input stands behind the name, where there is one
+abbrev pub IsBehind : (Text → Input → Type 0) → Option Text → Input → Type 0
+IsBehind Stands None input = ⊤
+IsBehind Stands (Some name) input = Stands name input
+
+-- it stands behind the name, or comes from the standard input where there is none
+abbrev pub IsBehindOrComes : (Text → Input → Type 0) → (Input → Type 0) → Option Text → Input → Type 0
+IsBehindOrComes Stands Comes None input = Comes input
+IsBehindOrComes Stands Comes (Some name) input = Stands name input
+
+-- the inputs that the program looks at for what its words ask for: only the checker reads an automaton
+abbrev pub AreBehind : (Text → Input → Type 0) → (Input → Type 0) → Tool → Option Request → Input → Input → Type 0
+AreBehind Stands Comes tool None input file = ⊤
+AreBehind Stands Comes Checker (Some r) input file = IsBehind Stands (file_named r.formula) input × IsBehindOrComes Stands Comes r.automaton file
+AreBehind Stands Comes tool (Some r) input file = IsBehind Stands (file_named r.formula) input
+
+module _ (Stands : Text → Input → Type 0) (Comes : Input → Type 0) (tool : Tool) where
+  -- what is asked for decides the right answers and what they tell, for some inputs that stand behind the names; or memory was refused
+  abbrev pub RequestMayShow : Option Request → Seen → Type 0
+  RequestMayShow r seen = IsShortOfMemory stated_limits tool seen
+      ⊎ ((input : Input) × (file : Input) × AreBehind Stands Comes tool r input file × MayShow stated_limits stated_form tool (plan_of tool r) input file seen)
+
+  -- What the words mean decides what is asked for. Words that can't be had are usage, but where memory was refused for them
+  abbrev pub WordsMayShow : Result (List Text) PlanFault → Seen → Type 0
+  WordsMayShow (Ok words) seen = RequestMayShow (request_of tool words) seen
+  WordsMayShow (Err fault.Usage) seen = RequestMayShow None seen
+  WordsMayShow (Err fault.OutOfMemory) seen = IsShortOfMemory stated_limits tool seen
+
+-- ---- on the way there
+
+-- the plan is that of the words, or there are none
+abbrev pub PlansFor : Tool → Result (List Text) PlanFault → Result Plan PlanFault → Type 0
+PlansFor tool (Ok words) plan = Plans tool words plan
+PlansFor tool (Err e) plan = plan ≡ Err e
+
+abbrev pub request_planned : Result Plan PlanFault → Option Request
+request_planned (Ok p) = Some (request_in p)
+request_planned (Err e) = None
+
+-- the same for a plan
+abbrev pub PlanMayShow : (Text → Input → Type 0) → (Input → Type 0) → Tool → Result Plan PlanFault → Seen → Type 0
+PlanMayShow Stands Comes tool plan seen = (input : Input) × (file : Input) × AreBehind Stands Comes tool (request_planned plan) input file × ToolRun tool plan input file seen
+
+-- the names of the files, where the plan gives some
+abbrev pub formula_file : Option Request → Option Text
+formula_file (Some r) = file_named r.formula
+formula_file None = None
+
+abbrev pub automaton_file : Option Request → Option Text
+automaton_file (Some r) = r.automaton
+automaton_file None = None
+
+-- the source is that of the file, and a text where there is none
+abbrev pub IsSourceOf : {R : Type 0} → (R → SourceState) → (Text → Input → Type 0) → Option Text → Source R → Type 0
+IsSourceOf state Stands None s = s ≡ source.Text
+IsSourceOf state Stands (Some name) s = IsFileOf state (Stands name) s

@@ -1,20 +1,26 @@
 -- What the code reads, as the inputs of the definitions.
-use Rattle.std.specs.Prelude.{◌≡◌, ◌<◌, ◌≤◌, ◌⊎◌, ◌+◌, ℕ, List, [], length, Option, Some, None, Result, Ok, Err, MatchResult, ⊤}
+use Rattle.std.specs.Prelude.{◌≡◌, ◌<◌, ◌≤◌, ◌⊎◌, ◌+◌, ℕ, List, [], length, Option, Some, None, Result, Ok, Err, IfSome, MatchResult, ⊤}
 use Rattle.std.specs.Io.KnownBytes.{Consumes}
 use Rattle.ltl_spec.specs.Tools.Limits.{stated_limits}
 use Rattle.ltl_spec.specs.Tools.Refusal as tools
+use Rattle.ltl_spec.specs.Tools.Stage.{Open, Closed, Broken}
 use Rattle.ltl_spec.specs.Tools.Outcome as spec
 use Rattle.ltl_spec.specs.Tools.Programs.{InputReads}
+use Rattle.ltl_streams.specs.Streams.{SourceState}
 use Rattle.ltl_formula.specs.FormulaView.{FormulaView, reading_of}
 use Rattle.ltl_cli.specs.declared.source.Source.{Source}
 use Rattle.ltl_cli.specs.declared.source.Source.TheVariants.{Text, Input, NotOpened}
 use Rattle.ltl_cli.specs.declared.refusal.Refusal.{Refusal}
-use Rattle.ltl_cli.specs.declared.refusal.Refusal.TheVariants.{OutOfMemory}
+use Rattle.ltl_cli.specs.declared.refusal.Refusal.TheVariants.{CannotRead, OutOfMemory}
 use Rattle.ltl_cli.specs.Refusals.{refusal_of}
 
 -- how many bytes of a formula's file are taken at most: one more than its text may have
 abbrev pub most_taken : ℕ
 most_taken = stated_limits.formula_bytes + 1
+
+-- the same of an automaton
+abbrev pub most_of_automaton : ℕ
+most_of_automaton = stated_limits.hoa_bytes + 1
 
 -- at most n bytes were taken, and they are a beginning of what was left
 abbrev pub TakesUpTo : Option (List ℕ) → Option (List ℕ) → ℕ → Type 0
@@ -43,6 +49,77 @@ abbrev pub IsInputOf : {R : Type 0} → (R → Option (List ℕ)) → Source R �
 IsInputOf remaining Text input = input ≡ spec.NotOpened
 IsInputOf remaining (Input r) input = IsStream (remaining r) input
 IsInputOf remaining NotOpened input = input ≡ spec.NotOpened
+
+-- ---- sources that know how the calls on them went
+
+-- no call on it failed or found the end; where there is no reader there is none to call
+abbrev pub IsOpen : {R : Type 0} → (R → SourceState) → Source R → Type 0
+IsOpen state (Input r) = (state r).stage ≡ Open
+IsOpen state Text = ⊤
+IsOpen state NotOpened = ⊤
+
+-- at most so many bytes were taken, and no call failed or came behind the end
+pub record WentWell (most : ℕ) (old new : SourceState) : Type 0 where
+  pub taken : TakesUpTo old.rest new.rest most
+  pub stage : (new.stage ≡ Open) ⊎ (new.stage ≡ Closed)
+
+-- these bytes were taken, fewer than so many, and then a call failed, which was the last one
+pub record BrokeBehind (most : ℕ) (old new : SourceState) (bytes : List ℕ) : Type 0 where
+  pub taken : Consumes old.rest new.rest bytes
+  pub few : length bytes < most
+  pub stage : new.stage ≡ Broken
+
+-- What a stream turned out to be, by its state before and behind: it held these bytes, or it gave these and then broke
+abbrev pub WasStream : ℕ → SourceState → SourceState → spec.Input → Type 0
+WasStream most old new (spec.Ended bs) = IfSome old.rest (λ xs. bs ≡ xs) × WentWell most old new
+WasStream most old new (spec.Failed bs) = BrokeBehind most old new bs
+WasStream most old new _ = ⊥
+
+-- why a stream wasn't read: a call failed, or memory was refused
+abbrev pub IsUnread : ℕ → SourceState → SourceState → Refusal → Type 0
+IsUnread most old new e = (e ≡ CannotRead) × ((bs : List ℕ) × BrokeBehind most old new bs) ⊎ (e ≡ OutOfMemory) × WentWell most old new
+
+-- the result of reading it
+abbrev pub IsReadOf : {T : Type 0} → ℕ → SourceState → SourceState → Result T Refusal → Type 0
+IsReadOf most old new r = MatchResult r (λ _. WentWell most old new) (IsUnread most old new)
+
+-- The source of a file's bytes turned out to be this input. Where the words name a file there is no text in their place
+abbrev pub WasInput : {R : Type 0} → ℕ → (R → SourceState) → Source R → Source R → spec.Input → Type 0
+WasInput most state Text Text input = input ≡ spec.NotOpened
+WasInput most state (Input r) (Input s) input = WasStream most (state r) (state s) input
+WasInput most state NotOpened NotOpened input = input ≡ spec.NotOpened
+WasInput most state _ _ input = ⊥
+
+-- of the formula's file, and of the automaton's
+
+abbrev pub WasFormula : {R : Type 0} → (R → SourceState) → Source R → Source R → spec.Input → Type 0
+WasFormula = WasInput most_taken
+
+abbrev pub WasAutomaton : {R : Type 0} → (R → SourceState) → Source R → Source R → spec.Input → Type 0
+WasAutomaton = WasInput most_of_automaton
+
+-- nothing was opened, or the last call on what was opened failed
+abbrev pub IsSourceAtFault : {R : Type 0} → (R → SourceState) → Source R → Type 0
+IsSourceAtFault state Text = ⊤
+IsSourceAtFault state (Input r) = (state r).stage ≡ Broken
+IsSourceAtFault state NotOpened = ⊤
+
+-- the second source is open and gives the bytes of the first
+abbrev pub GivesBytesOf : {R S : Type 0} → (R → Option (List ℕ)) → (S → SourceState) → Source R → Source S → Type 0
+GivesBytesOf remaining state Text Text = ⊤
+GivesBytesOf remaining state (Input r) (Input s) = ((state s).rest ≡ remaining r) × ((state s).stage ≡ Open)
+GivesBytesOf remaining state NotOpened NotOpened = ⊤
+GivesBytesOf remaining state _ _ = ⊥
+
+-- the stream is open, and what it turns out to be later is such an input
+abbrev pub TurnsOut : {R : Type 0} → (R → SourceState) → (spec.Input → Type 0) → R → Type 0
+TurnsOut {R} state May r = ((state r).stage ≡ Open) × ((most : ℕ) (later : R) (input : spec.Input) → WasStream most (state r) (state later) input → May input)
+
+-- the source of a file, behind whose name only such inputs may stand
+abbrev pub IsFileOf : {R : Type 0} → (R → SourceState) → (spec.Input → Type 0) → Source R → Type 0
+IsFileOf state May Text = ⊥
+IsFileOf state May (Input r) = TurnsOut state May r
+IsFileOf state May NotOpened = May spec.NotOpened
 
 -- What the definitions find for the formula of this word is found, or they refuse it so. Memory may be refused where some is taken
 

@@ -83,5 +83,5 @@ of_check check.TheVariants.ProductTooLarge = LargeProduct
 of_check check.TheVariants.OutOfMemory = OutOfMemory
 
 -- A step of the definitions taken by code: the code has its value, or answers its refusal. Memory may be refused at any step
-abbrev pub Takes : {A F : Type 0} → (Result A spec.Refusal → Type 0) → (F → A) → Result F Refusal → Type 0
-Takes Step view r = MatchResult r (λ f. Step (Ok (view f))) (λ e. (e ≡ OutOfMemory) ⊎ Step (Err (refusal_of e)))
+abbrev pub TakesStep : {A F : Type 0} → (Result A spec.Refusal → Type 0) → (F → A) → Result F Refusal → Type 0
+TakesStep Step view r = MatchResult r (λ f. Step (Ok (view f))) (λ e. (e ≡ OutOfMemory) ⊎ Step (Err (refusal_of e)))

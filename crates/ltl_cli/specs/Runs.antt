@@ -1,18 +1,22 @@
 -- What a run of a program shows: the same words for all three.
-use Rattle.std.specs.Prelude.{◌≡◌, ℕ, List, [], take, Option, Result, Ok, Err, option_map}
+use Rattle.std.specs.Prelude.{◌≡◌, ◌⊎◌, ◌<◌, ℕ, List, [], length, Option, Result, Ok, Err, option_map}
 use Rattle.std.specs.Io.KnownBytes.{Appends}
 use Rattle.ltl_spec.specs.Hoa.HoaReading.{stated_form}
 use Rattle.ltl_spec.specs.Tools.Limits.{stated_limits}
 use Rattle.ltl_spec.specs.Tools.Refusal as spec
-use Rattle.ltl_spec.specs.Tools.Outcome.{Answer, FormulaWord, Input, IsShortOfMemory, TakesNoMemory}
+use Rattle.ltl_spec.specs.Tools.Stage.{Open, Closed, Broken}
+use Rattle.ltl_spec.specs.Tools.Outcome.{FormulaWord, Input, IsShortOfMemory, Seen, TakesNoMemory, TellsMessage}
 use Rattle.ltl_spec.specs.Tools.Run.{MayShow, PlanOf}
+use Rattle.ltl_streams.specs.Streams.{Breaks, SinkState, SourceState, Takes}
 use Rattle.ltl_cli.specs.declared.refusal.Refusal.{Refusal}
 use Rattle.ltl_cli.specs.declared.status.Status.{Status}
 use Rattle.ltl_cli.specs.declared.request.Plan.{Plan}
 use Rattle.ltl_cli.specs.declared.request.PlanFault.{PlanFault}
 use Rattle.ltl_cli.specs.declared.request.PlanFault.TheVariants as fault
 use Rattle.ltl_cli.specs.Refusals.{refusal_of, status_number}
-use Rattle.ltl_cli.specs.Plans.{planned}
+use Rattle.ltl_cli.specs.declared.source.Source.{Source}
+use Rattle.ltl_cli.specs.Inputs.{HoldsText, IsSourceAtFault}
+use Rattle.ltl_cli.specs.Plans.{formula_word, planned}
 
 -- the formula that a plan of a program is for
 abbrev pub formula_asked : (tool : spec.Tool) → PlanOf tool → FormulaWord
@@ -25,22 +29,53 @@ abbrev pub TakesNone : spec.Tool → Result Plan PlanFault → Input → Type 0
 TakesNone tool (Err fault.OutOfMemory) input = ⊥
 TakesNone tool plan input = TakesNoMemory stated_limits.formula_bytes (option_map (formula_asked tool) (planned tool plan)) input
 
--- A run of a program, for what its words gave and for its inputs, where `seen` is its status and what its writers took: it shows what it may
--- show, memory is wanted only where some is taken, and where it was refused for the words there is no other answer
-pub record ToolRun (tool : spec.Tool) (plan : Result Plan PlanFault) (input file : Input) (seen : Answer) : Type 0 where
+-- A run of a program, for what its words gave and for its inputs, of which this was seen: it shows what it may show, memory is wanted only where
+-- some is taken, and where it was refused for the words there is no other answer
+pub record ToolRun (tool : spec.Tool) (plan : Result Plan PlanFault) (input file : Input) (seen : Seen) : Type 0 where
   pub shown : MayShow stated_limits stated_form tool (planned tool plan) input file seen
   pub memory : TakesNone tool plan input → ¬ (seen.status ≡ spec.status_of spec.OutOfMemory)
   pub short : plan ≡ Err fault.OutOfMemory → IsShortOfMemory stated_limits tool seen
 
--- a run with this status, and writers of which one took the output and one the message
-pub record Shows (Promise : Answer → Type 0) (output_old output_new message_old message_new : Option (List ℕ)) (status : ℕ) : Type 0 where
+-- a run with this status, and sinks of which one took the output and one the message
+pub record Shows (Promise : Seen → Type 0) (output_old output_new message_old message_new : SinkState) (status : ℕ) : Type 0 where
   pub output : List ℕ
   pub message : List ℕ
-  pub written : Appends output_old output_new output
-  pub told : Appends message_old message_new message
-  pub promised : Promise (record { output = output; message = message; status = status })
+  pub written : Appends output_old.bytes output_new.bytes output
+  pub told : Appends message_old.bytes message_new.bytes message
+  pub promised : Promise (record { output = output; output_stage = output_new.stage; message = message; message_stage = message_new.stage; status = status })
+
+-- the same of writers, of which no one knows how the calls on them went, but for the bytes that they took
+pub record ShowsBytes (Promise : Seen → Type 0) (output_old output_new message_old message_new : Option (List ℕ)) (status : ℕ) : Type 0 where
+  pub seen : Seen
+  pub written : Appends output_old output_new seen.output
+  pub told : Appends message_old message_new seen.message
+  pub ended : seen.status ≡ status
+  pub promised : Promise seen
+
+-- the plan is for a formula's file
+abbrev pub NamesFile : Result Plan PlanFault → Type 0
+NamesFile (Ok p) = ¬ (HoldsText (formula_word p.formula))
+NamesFile (Err e) = ⊥
+
+-- Where a status of 5 may come from: the last call on the output failed, or the formula's file is at fault
+abbrev pub HasCause : {R : Type 0} → (R → SourceState) → Result Plan PlanFault → Source R → SinkState → Type 0
+HasCause state plan source output = (output.stage ≡ Broken) ⊎ NamesFile plan × IsSourceAtFault state source
+
+-- the sink hands on to the writer that it handed on to before
+abbrev pub StaysAt : SinkState → SinkState → Type 0
+StaysAt old new = new.through ≡ old.through
 
 -- ---- before the message
+
+-- all bytes were taken, and then the sink was flushed
+pub record Finishes (old new : SinkState) (bytes : List ℕ) : Type 0 where
+  pub same : new.through ≡ old.through
+  pub stage : old.stage ≡ Open → new.stage ≡ Closed
+  pub grown : Appends old.bytes new.bytes bytes
+
+-- all bytes were taken, or some before a call that failed; where there are none there was no call
+abbrev pub IsTold : SinkState → SinkState → List ℕ → Type 0
+IsTold old new bytes = Takes old new bytes ⊎ (0 < length bytes) × Breaks old new bytes
 
 -- the status and the message that an outcome ends with
 
@@ -52,8 +87,10 @@ abbrev pub message_with : spec.Tool → Result Status Refusal → List ℕ
 message_with tool (Ok s) = []
 message_with tool (Err e) = spec.message stated_limits tool (refusal_of e)
 
--- The promise, the output before and behind, and the result: what went out makes such a run, with any beginning of the message of the result
-pub record IsOutcome (tool : spec.Tool) (plan : Result Plan PlanFault) (input file : Input) (old new : Option (List ℕ)) (result : Result Status Refusal) : Type 0 where
+-- The promise, the output before and behind, and the result: what went out makes such a run, whatever is told of the message of the result
+pub record IsOutcome (tool : spec.Tool) (plan : Result Plan PlanFault) (input file : Input) (old new : SinkState) (result : Result Status Refusal) : Type 0 where
   pub output : List ℕ
-  pub written : Appends old new output
-  pub ends : (k : ℕ) → ToolRun tool plan input file (record { output = output; message = take k (message_with tool result); status = status_with result })
+  pub written : Appends old.bytes new.bytes output
+  pub same : new.through ≡ old.through
+  pub ends : (seen : Seen) → seen.output ≡ output → seen.output_stage ≡ new.stage → seen.status ≡ status_with result
+      → TellsMessage (message_with tool result) seen → ToolRun tool plan input file seen

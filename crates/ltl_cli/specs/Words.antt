@@ -109,7 +109,3 @@ plan_of tool None = None
 plan_of Translator (Some r) = Some (translator_plan r)
 plan_of Checker (Some r) = Some (checker_plan r)
 plan_of Evaluator (Some r) = evaluator_plan r
-
--- what the words mean to the program; none where they are usage
-abbrev pub meaning_of : (tool : Tool) → List Text → Option (PlanOf tool)
-meaning_of tool words = plan_of tool (request_of tool words)

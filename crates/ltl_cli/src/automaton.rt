@@ -4,7 +4,7 @@ ghost use Rattle.std.specs.Prelude.{◌≡◌, List, ℕ, length, IfOk};
 ghost use Rattle.ltl_spec.specs.Formulas.Grammar.{IsTextOf};
 ghost use Rattle.ltl_spec.specs.Checking.Bounds.{HasNamesBelow};
 ghost use Rattle.ltl_formula.specs.FormulaView.{reading_of};
-ghost use Rattle.ltl_cli.specs.Refusals.{Takes};
+ghost use Rattle.ltl_cli.specs.Refusals.{TakesStep};
 ghost use Rattle.ltl_cli.specs.Translations.{MakesAutomaton, MakesGeneralized};
 
 use crate::refusal::Refusal;
@@ -20,7 +20,7 @@ pub fn automaton_of<'a, A: Allocator>(
     rewrite: bool,
     options: &Options,
 ) -> Result<Ba<'a, A>, Refusal>
-    ensures step { Takes (MakesAutomaton (reading_of formula.now) negate rewrite options.now) (λ B. B) result }
+    ensures step { TakesStep (MakesAutomaton (reading_of formula.now) negate rewrite options.now) (λ B. B) result }
 
     // Each proposition in it has a name, as a formula that was read from a text has.
     ensures named { IfOk result (λ B. (text : List ℕ) → IsTextOf text (reading_of formula.now) → HasNamesBelow (length formula.now.names) B) }
@@ -37,7 +37,7 @@ pub fn generalized_of<'a, A: Allocator>(
     rewrite: bool,
     options: &Options,
 ) -> Result<Gen<'a, A>, Refusal>
-    ensures step { Takes (MakesGeneralized (reading_of formula.now) rewrite options.now) (λ G. G) result }
+    ensures step { TakesStep (MakesGeneralized (reading_of formula.now) rewrite options.now) (λ G. G) result }
 
     // Each proposition in it has a name, as a formula that was read from a text has.
     ensures named { IfOk result (λ G. (text : List ℕ) → IsTextOf text (reading_of formula.now) → HasNamesBelow (length formula.now.names) G) }

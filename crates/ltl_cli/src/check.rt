@@ -1,25 +1,25 @@
 //! The checker: whether each word that an automaton accepts satisfies a formula.
 
-ghost use Rattle.std.specs.Prelude.{◌≡◌, ◌<◌, ◌++◌, length, codes, OnOk, OnErr, IfOk, Ok, Some};
-ghost use Rattle.std.specs.Io.KnownBytes.{Appends};
+ghost use Rattle.std.specs.Prelude.{◌≡◌, ◌⊎◌, ◌<◌, ◌++◌, length, codes, OnOk, OnErr, IfOk, Ok, Some};
 ghost use Rattle.ltl_spec.specs.Automata.ClaimText.{line};
 ghost use Rattle.ltl_spec.specs.Words.LassoText.{lasso_text};
 ghost use Rattle.ltl_spec.specs.Checking.Bounds.{HasNamesBelow};
 ghost use Rattle.ltl_spec.specs.Semantics.Language.{AcceptsViolations};
+ghost use Rattle.ltl_spec.specs.Tools.Stage.{Open};
 ghost use Rattle.ltl_spec.specs.Tools.Refusal.{Checker};
 ghost use Rattle.ltl_spec.specs.Tools.Outcome as spec;
+ghost use Rattle.ltl_streams.specs.Streams.{Breaks, Takes};
 ghost use Rattle.ltl_formula.specs.FormulaView.{reading_of};
-ghost use Rattle.ltl_formula.specs.Streams.{AppendsBeginning};
 ghost use Rattle.ltl_check.specs.VerdictView.{verdict_of};
 ghost use Rattle.ltl_cli.specs.declared.request.Plan as asked;
-ghost use Rattle.ltl_cli.specs.Inputs.{IsInputOf};
-ghost use Rattle.ltl_cli.specs.Refusals.{Takes, status_number};
-ghost use Rattle.ltl_cli.specs.Runs.{IsOutcome, Shows, ToolRun};
+ghost use Rattle.ltl_cli.specs.Inputs.{IsOpen, IsSourceAtFault, WasAutomaton, WasFormula};
+ghost use Rattle.ltl_cli.specs.Refusals.{TakesStep, status_number};
+ghost use Rattle.ltl_cli.specs.Runs.{Finishes, HasCause, IsOutcome, Shows, StaysAt, ToolRun};
 ghost use Rattle.ltl_cli.specs.Checks.{IsChecked, IsNegated, JudgesFormula, ReadsAutomaton, answer_for};
 
 use crate::automaton::automaton_of;
-use crate::finish::{finish, flush};
-use crate::input::read_formula;
+use crate::finish::finish;
+use crate::input::formula_from;
 use crate::refusal::Refusal;
 use crate::request::{Plan, PlanFault};
 use crate::source::Source;
@@ -27,11 +27,11 @@ use crate::status::Status;
 use crate::tool::Tool;
 use ltl_buchi::{Ba, Options};
 use ltl_check::{Outcome, Verdict, check};
-use ltl_formula::{Formula, Piece, WriteFault, write_whole};
-use ltl_hoa::{Marked, hoa_read};
+use ltl_formula::Formula;
+use ltl_hoa::{Marked, hoa_read_from};
+use ltl_streams::{ByteSink, ByteSource, Piece, WriteFault, write_whole};
 use ltl_word::Lasso;
 use std::alloc::Allocator;
-use std::io::{Read, Write};
 
 /// A formula and the automaton of the words that violate it.
 #[derive(Drop)]
@@ -41,16 +41,17 @@ struct Negation<'a, A: Allocator> {
 }
 
 /// The formula that the plan asks for and the automaton of its negation, which is rewritten and translated with no option.
-fn negated<'a, A: Allocator, R: Read>(
+fn negated<'a, A: Allocator, R: ByteSource>(
     alloc: &'a A,
     plan: &Plan<'_>,
     source: &mut Source<R>,
 ) -> Result<Negation<'a, A>, Refusal>
-    ensures found { (input : spec.Input) × IsInputOf R.remaining source.old input
+    requires { IsOpen R.state source.old }
+    ensures found { (input : spec.Input) × WasFormula R.state source.old source.new input
         × IsNegated plan.now input (λ t. reading_of t.formula) (λ t. t.violations) result }
     ensures named { IfOk result (λ t. HasNamesBelow (length t.formula.names) t.violations) }
 {
-    let formula = read_formula(alloc, plan.formula, source)?;
+    let formula = formula_from(alloc, plan.formula, source)?;
     let options = Options {
         keep_implied: false,
         keep_equal: false,
@@ -63,15 +64,16 @@ fn negated<'a, A: Allocator, R: Read>(
 }
 
 /// The automaton that the source gives. A text is no source of an automaton and counts as a file that could not be opened.
-fn read_automaton<'a, A: Allocator, S: Read>(
+fn read_automaton<'a, A: Allocator, T: ByteSource>(
     alloc: &'a A,
-    source: &mut Source<S>,
+    source: &mut Source<T>,
 ) -> Result<Marked<'a, A>, Refusal>
-    ensures { (file : spec.Input) × IsInputOf S.remaining source.old file × Takes (ReadsAutomaton file) (λ A. A) result }
+    requires { IsOpen T.state source.old }
+    ensures { (file : spec.Input) × WasAutomaton T.state source.old source.new file × TakesStep (ReadsAutomaton file) (λ A. A) result }
 {
     match source {
         Source::Input(reader) => {
-            let automaton = hoa_read(alloc, reader)?;
+            let automaton = hoa_read_from(alloc, reader)?;
             Ok(automaton)
         }
         Source::Text | Source::NotOpened => Err(Refusal::CannotOpen),
@@ -86,21 +88,22 @@ fn judged<'a, A: Allocator>(
 ) -> Result<Verdict<'a, A>, Refusal>
     requires named { HasNamesBelow (length negation.now.formula.names) negation.now.violations }
     requires language { AcceptsViolations negation.now.violations (reading_of negation.now.formula).formula }
-    ensures { Takes (JudgesFormula automaton.now (reading_of negation.now.formula) negation.now.violations) (λ v. verdict_of v.outcome) result }
+    ensures { TakesStep (JudgesFormula automaton.now (reading_of negation.now.formula) negation.now.violations) (λ v. verdict_of v.outcome) result }
 {
     let verdict = check(alloc, automaton, &negation.violations, &negation.formula)?;
     Ok(verdict)
 }
 
 /// The verdict on the formula of a negation and on the automaton that the source gives.
-fn found_by<'a, A: Allocator, S: Read>(
+fn found_by<'a, A: Allocator, T: ByteSource>(
     alloc: &'a A,
     negation: &Negation<'a, A>,
-    source: &mut Source<S>,
+    source: &mut Source<T>,
 ) -> Result<Verdict<'a, A>, Refusal>
     requires named { HasNamesBelow (length negation.now.formula.names) negation.now.violations }
     requires language { AcceptsViolations negation.now.violations (reading_of negation.now.formula).formula }
-    ensures { (file : spec.Input) × IsInputOf S.remaining source.old file × ((plan : asked.Plan) (input : spec.Input)
+    requires source { IsOpen T.state source.old }
+    ensures { (file : spec.Input) × WasAutomaton T.state source.old source.new file × ((plan : asked.Plan) (input : spec.Input)
         → IsNegated plan input (λ t. reading_of t.formula) (λ t. t.violations) (Ok negation.now)
         → IsChecked plan input file (λ v. verdict_of v.outcome) result) }
 {
@@ -111,13 +114,16 @@ fn found_by<'a, A: Allocator, S: Read>(
 }
 
 /// The verdict on the formula that the plan asks for and on the automaton. The automaton's source is looked at behind the formula's automaton.
-fn found<'a, A: Allocator, R: Read, S: Read>(
+fn found<'a, A: Allocator, R: ByteSource, T: ByteSource>(
     alloc: &'a A,
     plan: &Plan<'_>,
     source: &mut Source<R>,
-    automaton: &mut Source<S>,
+    automaton: &mut Source<T>,
 ) -> Result<Verdict<'a, A>, Refusal>
-    ensures { (input : spec.Input) × IsInputOf R.remaining source.old input × (file : spec.Input) × IsInputOf S.remaining automaton.old file
+    requires source { IsOpen R.state source.old }
+    requires automaton { IsOpen T.state automaton.old }
+    ensures { (input : spec.Input) × WasFormula R.state source.old source.new input
+        × (file : spec.Input) × WasAutomaton T.state automaton.old automaton.new file
         × IsChecked plan.now input file (λ v. verdict_of v.outcome) result }
 {
     let negation = negated(alloc, plan, source)?;
@@ -127,9 +133,12 @@ fn found<'a, A: Allocator, R: Read, S: Read>(
 }
 
 /// Writes the lines for a word.
-fn put_word<A: Allocator, W: Write>(word: &Lasso<'_, A>, output: &mut W) -> Result<(), WriteFault>
-    ensures ok { OnOk result (Appends (W.contents output.old) (W.contents output.new) (line (codes "violated") ++ line (lasso_text word.now))) }
-    ensures err { OnErr result (AppendsBeginning (W.contents output.old) (W.contents output.new) (line (codes "violated") ++ line (lasso_text word.now))) }
+fn put_word<A: Allocator, S: ByteSink>(
+    word: &Lasso<'_, A>,
+    output: &mut S,
+) -> Result<(), WriteFault>
+    ensures ok { OnOk result (Takes (S.state output.old) (S.state output.new) (line (codes "violated") ++ line (lasso_text word.now))) }
+    ensures err { OnErr result (Breaks (S.state output.old) (S.state output.new) (line (codes "violated") ++ line (lasso_text word.now))) }
 {
     let mut piece = Piece::new();
     piece.put(b"violated\n", output)?;
@@ -139,9 +148,12 @@ fn put_word<A: Allocator, W: Write>(word: &Lasso<'_, A>, output: &mut W) -> Resu
 }
 
 /// Writes what was found.
-fn put<A: Allocator, W: Write>(outcome: &Outcome<'_, A>, output: &mut W) -> Result<(), WriteFault>
-    ensures ok { OnOk result (Appends (W.contents output.old) (W.contents output.new) (answer_for outcome.now).output) }
-    ensures err { OnErr result (AppendsBeginning (W.contents output.old) (W.contents output.new) (answer_for outcome.now).output) }
+fn put<A: Allocator, S: ByteSink>(
+    outcome: &Outcome<'_, A>,
+    output: &mut S,
+) -> Result<(), WriteFault>
+    ensures ok { OnOk result (Takes (S.state output.old) (S.state output.new) (answer_for outcome.now).output) }
+    ensures err { OnErr result (Breaks (S.state output.old) (S.state output.new) (answer_for outcome.now).output) }
 {
     match outcome {
         Outcome::Contained => write_whole(output, b"contained\n"),
@@ -150,12 +162,15 @@ fn put<A: Allocator, W: Write>(outcome: &Outcome<'_, A>, output: &mut W) -> Resu
 }
 
 /// Writes what was found, and flushes.
-fn print<A: Allocator, W: Write>(outcome: &Outcome<'_, A>, output: &mut W) -> Result<(), WriteFault>
-    ensures ok { OnOk result (Appends (W.contents output.old) (W.contents output.new) (answer_for outcome.now).output) }
-    ensures err { OnErr result (AppendsBeginning (W.contents output.old) (W.contents output.new) (answer_for outcome.now).output) }
+fn print<A: Allocator, S: ByteSink>(
+    outcome: &Outcome<'_, A>,
+    output: &mut S,
+) -> Result<(), WriteFault>
+    ensures ok { OnOk result (Finishes (S.state output.old) (S.state output.new) (answer_for outcome.now).output) }
+    ensures err { OnErr result (Breaks (S.state output.old) (S.state output.new) (answer_for outcome.now).output) }
 {
     put(outcome, output)?;
-    flush(output)
+    output.flush()
 }
 
 /// How the program ends with that.
@@ -169,15 +184,19 @@ fn status_of<A: Allocator>(outcome: &Outcome<'_, A>) -> Status
 }
 
 /// Prints what the plan asks for.
-fn printed<A: Allocator, R: Read, S: Read, W: Write>(
+fn printed<A: Allocator, R: ByteSource, T: ByteSource, S: ByteSink>(
     alloc: &A,
     plan: &Plan<'_>,
     source: &mut Source<R>,
-    automaton: &mut Source<S>,
-    output: &mut W,
+    automaton: &mut Source<T>,
+    output: &mut S,
 ) -> Result<Status, Refusal>
-    ensures { (input : spec.Input) × IsInputOf R.remaining source.old input × (file : spec.Input) × IsInputOf S.remaining automaton.old file
-        × IsOutcome Checker (Ok plan.now) input file (W.contents output.old) (W.contents output.new) result }
+    requires source { IsOpen R.state source.old }
+    requires automaton { IsOpen T.state automaton.old }
+    requires output { (S.state output.old).stage ≡ Open }
+    ensures { (input : spec.Input) × WasFormula R.state source.old source.new input
+        × (file : spec.Input) × WasAutomaton T.state automaton.old automaton.new file
+        × IsOutcome Checker (Ok plan.now) input file (S.state output.old) (S.state output.new) result }
 {
     let verdict = found(alloc, plan, source, automaton)?;
     let printed = print(verdict.outcome(), output);
@@ -188,15 +207,19 @@ fn printed<A: Allocator, R: Read, S: Read, W: Write>(
 }
 
 /// Prints what the plan asks for, where there is one.
-fn answered<A: Allocator, R: Read, S: Read, W: Write>(
+fn answered<A: Allocator, R: ByteSource, T: ByteSource, S: ByteSink>(
     alloc: &A,
     plan: &Result<Plan<'_>, PlanFault>,
     source: &mut Source<R>,
-    automaton: &mut Source<S>,
-    output: &mut W,
+    automaton: &mut Source<T>,
+    output: &mut S,
 ) -> Result<Status, Refusal>
-    ensures { (input : spec.Input) × IsInputOf R.remaining source.old input × (file : spec.Input) × IsInputOf S.remaining automaton.old file
-        × IsOutcome Checker plan.now input file (W.contents output.old) (W.contents output.new) result }
+    requires source { IsOpen R.state source.old }
+    requires automaton { IsOpen T.state automaton.old }
+    requires output { (S.state output.old).stage ≡ Open }
+    ensures { (input : spec.Input) × WasFormula R.state source.old source.new input
+        × (file : spec.Input) × WasAutomaton T.state automaton.old automaton.new file
+        × IsOutcome Checker plan.now input file (S.state output.old) (S.state output.new) result }
 {
     match plan {
         Ok(plan) => printed(alloc, plan, source, automaton, output),
@@ -204,22 +227,29 @@ fn answered<A: Allocator, R: Read, S: Read, W: Write>(
     }
 }
 
-/// Checks what the plan asks for: writes `contained`, or `violated` and a word that the automaton accepts and that violates the formula, or the
-/// message of a refusal, and answers the exit status. The first source is that of the formula's file, and is looked at only where the plan names
-/// one; the second is the automaton's, and is looked at behind the formula and its automaton. Nothing is written to the output before a refusal.
-pub fn run_check<A: Allocator, R: Read + Drop, S: Read + Drop, W: Write, E: Write>(
+/// Checks what the plan asks for: writes `contained`, or `violated` and a word that the automaton accepts and that violates the formula, and flushes, or
+/// writes the message of a refusal, and answers the exit status. The first source is that of the formula's file, and is looked at only where the plan
+/// names one; the second is the automaton's, and is looked at behind the formula and its automaton. Nothing is asked of the output before a refusal.
+/// After a call that failed the stream isn't asked again.
+pub fn check_over<A: Allocator, R: ByteSource, T: ByteSource, S: ByteSink, M: ByteSink>(
     alloc: &A,
     plan: &Result<Plan<'_>, PlanFault>,
-    source: Source<R>,
-    automaton: Source<S>,
-    output: &mut W,
-    message: &mut E,
+    source: &mut Source<R>,
+    automaton: &mut Source<T>,
+    output: &mut S,
+    message: &mut M,
 ) -> u8
-    ensures { (input : spec.Input) × IsInputOf R.remaining source input × (file : spec.Input) × IsInputOf S.remaining automaton file
-        × Shows (ToolRun Checker plan.now input file) (W.contents output.old) (W.contents output.new) (E.contents message.old) (E.contents message.new) result }
+    requires source { IsOpen R.state source.old }
+    requires automaton { IsOpen T.state automaton.old }
+    requires output { (S.state output.old).stage ≡ Open }
+    requires message { (M.state message.old).stage ≡ Open }
+    ensures shown { (input : spec.Input) × WasFormula R.state source.old source.new input
+        × (file : spec.Input) × WasAutomaton T.state automaton.old automaton.new file
+        × Shows (ToolRun Checker plan.now input file) (S.state output.old) (S.state output.new) (M.state message.old) (M.state message.new) result }
+    ensures same_output { StaysAt (S.state output.old) (S.state output.new) }
+    ensures same_message { StaysAt (M.state message.old) (M.state message.new) }
+    ensures cause { result ≡ 5 → HasCause R.state plan.now source.new (S.state output.new) ⊎ IsSourceAtFault T.state automaton.new }
 {
-    let mut source = source;
-    let mut automaton = automaton;
-    let outcome = answered(alloc, plan, &mut source, &mut automaton, output);
+    let outcome = answered(alloc, plan, source, automaton, output);
     finish(Tool::Checker, outcome, message)
 }

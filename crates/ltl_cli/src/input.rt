@@ -1,17 +1,17 @@
 //! Reading the inputs of a program.
 
-ghost use Rattle.std.specs.Prelude.{◌≡◌, ◌⊎◌, [], take, IfOk, IfErr, IfSome, IsErrOf};
-ghost use Rattle.std.specs.Io.KnownBytes.{Consumes};
+ghost use Rattle.std.specs.Prelude.{◌≡◌, [], take, IfOk, IfSome, IsErrOf};
+ghost use Rattle.ltl_spec.specs.Tools.Stage.{Open};
 ghost use Rattle.ltl_spec.specs.Tools.Outcome as spec;
 ghost use Rattle.ltl_cli.specs.Plans.{formula_word};
-ghost use Rattle.ltl_cli.specs.Inputs.{HoldsText, IsInputOf, IsReadFrom, IsStream, TakesFewer, TakesUpTo, bytes_of, most_taken};
+ghost use Rattle.ltl_cli.specs.Inputs.{HoldsText, IsOpen, IsReadFrom, IsReadOf, TakesFewer, WasFormula, WasStream, most_taken};
 
 use crate::refusal::Refusal;
 use crate::request::FormulaWord;
 use crate::source::Source;
 use ltl_formula::{Formula, TEXT_LIMIT, read};
+use ltl_streams::ByteSource;
 use std::alloc::{AllocError, AllocFailed, Allocator};
-use std::io::Read;
 
 /// How many bytes of a formula's file are taken at most: one more than its text may have.
 const MOST: usize = TEXT_LIMIT + 1;
@@ -19,15 +19,15 @@ const MOST: usize = TEXT_LIMIT + 1;
 const PIECE: usize = 4096;
 
 /// The bytes of a formula's file to their end, or `MOST` of them, and no read is made behind those.
-fn read_text<'a, A: Allocator, R: Read>(
+#[tactic(auto, using(crate::proofs::StreamLaws::given_open, crate::proofs::StreamLaws::went_wrong, crate::proofs::StreamLaws::went_so_far))]
+fn read_text<'a, A: Allocator, R: ByteSource>(
     alloc: &'a A,
     reader: &mut R,
 ) -> Result<Vec<u8, &'a A>, Refusal>
-    ensures taken { IfOk result (λ v. Consumes (R.remaining reader.old) (R.remaining reader.new) v.items) }
-    ensures text { IfOk result (λ v. IfSome (R.remaining reader.old) (λ xs. v.items ≡ take most_taken xs)) }
-    ensures failed { IsErrOf result Refusal.CannotRead → TakesFewer (R.remaining reader.old) (R.remaining reader.new) most_taken }
-    ensures few { TakesUpTo (R.remaining reader.old) (R.remaining reader.new) most_taken }
-    ensures kinds { IfErr result (λ e. (e ≡ Refusal.CannotRead) ⊎ (e ≡ Refusal.OutOfMemory)) }
+    requires { (R.state reader.old).stage ≡ Open }
+    ensures text { IfOk result (λ v. IfSome (R.state reader.old).rest (λ xs. v.items ≡ take most_taken xs)) }
+    ensures ways { IsReadOf most_taken (R.state reader.old) (R.state reader.new) result }
+    ensures same { (R.state reader.new).through ≡ (R.state reader.old).through }
 {
     let mut text = Vec::new(alloc);
     let mut piece = [0u8; PIECE];
@@ -46,7 +46,7 @@ fn read_text<'a, A: Allocator, R: Read>(
 }
 
 /// The formula of a text.
-fn read_given<'a, A: Allocator>(alloc: &'a A, text: &[u8]) -> Result<Formula<'a, A>, Refusal>
+pub fn read_given<'a, A: Allocator>(alloc: &'a A, text: &[u8]) -> Result<Formula<'a, A>, Refusal>
     ensures { IsReadFrom (spec.Given text.now) spec.NotOpened result }
 {
     let formula = read(alloc, text)?;
@@ -54,13 +54,15 @@ fn read_given<'a, A: Allocator>(alloc: &'a A, text: &[u8]) -> Result<Formula<'a,
 }
 
 /// The formula of a file.
-fn read_file<'a, A: Allocator, R: Read>(
+#[tactic(auto, using(crate::proofs::InputLaws::failed_few))]
+pub fn read_file<'a, A: Allocator, R: ByteSource>(
     alloc: &'a A,
     reader: &mut R,
 ) -> Result<Formula<'a, A>, Refusal>
-    ensures read { (input : spec.Input) × IsStream (R.remaining reader.old) input × IsReadFrom (spec.File []) input result }
-    ensures few { TakesUpTo (R.remaining reader.old) (R.remaining reader.new) most_taken }
-    ensures failed { IsErrOf result Refusal.CannotRead → TakesFewer (R.remaining reader.old) (R.remaining reader.new) most_taken }
+    requires { (R.state reader.old).stage ≡ Open }
+    ensures read { (input : spec.Input) × WasStream most_taken (R.state reader.old) (R.state reader.new) input × IsReadFrom (spec.File []) input result }
+    ensures failed { IsErrOf result Refusal.CannotRead → TakesFewer (R.state reader.old).rest (R.state reader.new).rest most_taken }
+    ensures same { (R.state reader.new).through ≡ (R.state reader.old).through }
 {
     let text = read_text(alloc, reader)?;
     read_given(alloc, text.as_slice())
@@ -68,14 +70,13 @@ fn read_file<'a, A: Allocator, R: Read>(
 
 /// Reads the formula that the words ask for: their text, or what the source of the file gives. No read is made where the words hold the text, nor
 /// behind the first byte past `TEXT_LIMIT` of a file. A source that is a text where the words name a file counts as a file that could not be opened.
-pub fn read_formula<'a, A: Allocator, R: Read>(
+pub fn formula_from<'a, A: Allocator, R: ByteSource>(
     alloc: &'a A,
     word: FormulaWord<'_>,
     source: &mut Source<R>,
 ) -> Result<Formula<'a, A>, Refusal>
-    ensures read { (input : spec.Input) × IsInputOf R.remaining source.old input × IsReadFrom (formula_word word.entry) input result }
-    ensures few { TakesUpTo (bytes_of R.remaining source.old) (bytes_of R.remaining source.new) most_taken }
-    ensures failed { IsErrOf result Refusal.CannotRead → TakesFewer (bytes_of R.remaining source.old) (bytes_of R.remaining source.new) most_taken }
+    requires { IsOpen R.state source.old }
+    ensures read { (input : spec.Input) × WasFormula R.state source.old source.new input × IsReadFrom (formula_word word.entry) input result }
     ensures given { HoldsText (formula_word word.entry) → source.new ≡ source.old }
 {
     match word {

@@ -1,18 +1,19 @@
-//! The programs, over readers and writers.
+//! The programs, over streams of bytes.
 //!
-//! `run` is a whole program, from the words of its command line to its exit status, over any readers and writers; its contract is the one that the
-//! three programs are for. `plan` and `run_translate`, `run_check` or `run_eval` are its two halves, for who has to open the files that the words
-//! name.
+//! `run` is a whole program, from the words of its command line to its exit status, over any files, output and message; its contract is the one that
+//! the three programs are for, and each `main` calls it. Its two halves are `plan` and then `translate_over`, `check_over` or `evaluate_over`, for who
+//! opens the files that the words name otherwise. `run_translate`, `run_check` and `run_eval` are the same over readers and writers of the standard
+//! library.
 //!
-//! What flows: words, to what the library for command lines makes of them (`command`), to a `Plan` (`words`); the formula, from the plan or a
-//! `Source` (`input`); for the translator its automaton and the automaton's text, for the checker the automaton of its negation, the automaton that
-//! is read and the verdict, for the evaluator the word and its truth. Each step answers a value or a `Refusal`, and `?` keeps their order. At the end
-//! there is a `Status`, or the line that tells of the refusal (`message`), and the number of the exit status (`finish`). Nothing goes out before all
-//! of the steps were taken.
+//! What flows: words, to what the library for command lines makes of them (`command`), to a `Plan` (`words`); its files, to sources (`files`,
+//! `program`); the formula, from the plan or a `Source` (`input`); for the translator its automaton and the automaton's text, for the checker the
+//! automaton of its negation, the automaton that is read and the verdict, for the evaluator the word and its truth. Each step answers a value or a
+//! `Refusal`, and `?` keeps their order. At the end there is a `Status`, or the line that tells of the refusal (`message`), and the number of the exit
+//! status (`finish`). Nothing goes out before all of the steps were taken.
 //!
 //! ```
-//! let words = ["ltleval", "-f", "[]<>p", "-w", "cycle {p}; {}"];    // no file is named, so no source is looked at
-//! run(alloc, Tool::Evaluator, &words, formula, automaton, &mut output, &mut message)
+//! let words = ["ltleval", "-f", "[]<>p", "-w", "cycle {p}; {}"];    // no file is named, so none is opened
+//! run(alloc, Tool::Evaluator, Ok(&words), &files, &mut output, &mut message)
 //! // answers 0, and `output` took "true\n"
 //! ```
 #![tactic(auto)]
@@ -21,6 +22,7 @@ mod automaton;
 pub mod check;
 mod command;
 pub mod evaluate;
+pub mod files;
 mod finish;
 mod input;
 mod layout;
@@ -30,19 +32,22 @@ pub mod program;
 pub mod refusal;
 pub mod request;
 pub mod source;
+pub mod standard;
 pub mod status;
 pub mod tool;
 pub mod translate;
 mod words;
 
-pub use check::run_check;
-pub use evaluate::run_eval;
-pub use input::read_formula;
+pub use check::check_over;
+pub use evaluate::evaluate_over;
+pub use files::Files;
+pub use input::formula_from;
 pub use program::run;
 pub use refusal::Refusal;
 pub use request::{FormulaWord, Plan, PlanFault};
 pub use source::Source;
+pub use standard::{read_formula, run_check, run_eval, run_translate};
 pub use status::Status;
 pub use tool::Tool;
-pub use translate::run_translate;
+pub use translate::translate_over;
 pub use words::plan;

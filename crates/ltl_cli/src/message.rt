@@ -1,21 +1,21 @@
 //! The lines for refusals.
 
 ghost use Rattle.std.specs.Prelude.{◌≡◌, ◌++◌, List, ℕ, codes, OnOk, OnErr};
-ghost use Rattle.std.specs.Io.KnownBytes.{Appends};
-ghost use Rattle.ltl_formula.specs.Streams.{AppendsBeginning};
+ghost use Rattle.ltl_streams.specs.Streams.{Breaks, Takes};
 ghost use Rattle.ltl_formula.specs.ParserView.{kind_of};
 ghost use Rattle.ltl_hoa.specs.TokenView as hoa;
 ghost use Rattle.ltl_spec.specs.Hoa.HoaFaultKind.{hoa_fault_text};
 ghost use Rattle.ltl_spec.specs.Tools.Refusal as spec;
 ghost use Rattle.ltl_cli.specs.Messages.{back_text, front_text, line_for, number_in, number_text, text_for};
 ghost use Rattle.ltl_cli.specs.Refusals.{refusal_of, tool_of};
+ghost use Rattle.ltl_cli.specs.Runs.{IsTold};
 
 use crate::refusal::Refusal;
 use crate::tool::Tool;
-use ltl_formula::{FaultKind, WriteFault, write_whole};
+use ltl_formula::FaultKind;
 use ltl_hoa::HoaFaultKind;
+use ltl_streams::{ByteSink, WriteFault, write_whole};
 use ltl_text::Digits;
-use std::io::Write;
 
 /// What a line for the tool begins with.
 fn name(tool: Tool) -> &'static [u8]
@@ -118,9 +118,9 @@ fn back(refusal: Refusal) -> &'static [u8]
 }
 
 /// Puts a number, where there is one.
-fn put_number<E: Write>(number: Option<usize>, message: &mut E) -> Result<(), WriteFault>
-    ensures ok { OnOk result (Appends (E.contents message.old) (E.contents message.new) (number_text number)) }
-    ensures err { OnErr result (AppendsBeginning (E.contents message.old) (E.contents message.new) (number_text number)) }
+fn put_number<M: ByteSink>(number: Option<usize>, message: &mut M) -> Result<(), WriteFault>
+    ensures ok { OnOk result (Takes (M.state message.old) (M.state message.new) (number_text number)) }
+    ensures err { OnErr result (Breaks (M.state message.old) (M.state message.new) (number_text number)) }
 {
     match number {
         Some(number) => write_whole(message, Digits::of(number as u64).as_slice()),
@@ -129,14 +129,14 @@ fn put_number<E: Write>(number: Option<usize>, message: &mut E) -> Result<(), Wr
 }
 
 /// Puts three texts, of which the middle one is a number's, and may be none.
-fn put_parts<E: Write>(
+fn put_parts<M: ByteSink>(
     front: &[u8],
     number: Option<usize>,
     back: &[u8],
-    message: &mut E,
+    message: &mut M,
 ) -> Result<(), WriteFault>
-    ensures ok { OnOk result (Appends (E.contents message.old) (E.contents message.new) (front.now ++ number_text number ++ back.now)) }
-    ensures err { OnErr result (AppendsBeginning (E.contents message.old) (E.contents message.new) (front.now ++ number_text number ++ back.now)) }
+    ensures ok { OnOk result (Takes (M.state message.old) (M.state message.new) (front.now ++ number_text number ++ back.now)) }
+    ensures err { OnErr result (Breaks (M.state message.old) (M.state message.new) (front.now ++ number_text number ++ back.now)) }
 {
     write_whole(message, front)?;
     put_number(number, message)?;
@@ -144,9 +144,9 @@ fn put_parts<E: Write>(
 }
 
 /// Puts the text of a refusal.
-fn put_text<E: Write>(tool: Tool, refusal: Refusal, message: &mut E) -> Result<(), WriteFault>
-    ensures ok { OnOk result (Appends (E.contents message.old) (E.contents message.new) (text_for tool refusal)) }
-    ensures err { OnErr result (AppendsBeginning (E.contents message.old) (E.contents message.new) (text_for tool refusal)) }
+fn put_text<M: ByteSink>(tool: Tool, refusal: Refusal, message: &mut M) -> Result<(), WriteFault>
+    ensures ok { OnOk result (Takes (M.state message.old) (M.state message.new) (text_for tool refusal)) }
+    ensures err { OnErr result (Breaks (M.state message.old) (M.state message.new) (text_for tool refusal)) }
 {
     put_parts(
         front(tool, refusal),
@@ -157,9 +157,9 @@ fn put_text<E: Write>(tool: Tool, refusal: Refusal, message: &mut E) -> Result<(
 }
 
 /// Puts the whole line.
-fn put_line<E: Write>(tool: Tool, refusal: Refusal, message: &mut E) -> Result<(), WriteFault>
-    ensures ok { OnOk result (Appends (E.contents message.old) (E.contents message.new) (line_for tool refusal)) }
-    ensures err { OnErr result (AppendsBeginning (E.contents message.old) (E.contents message.new) (line_for tool refusal)) }
+fn put_line<M: ByteSink>(tool: Tool, refusal: Refusal, message: &mut M) -> Result<(), WriteFault>
+    ensures ok { OnOk result (Takes (M.state message.old) (M.state message.new) (line_for tool refusal)) }
+    ensures err { OnErr result (Breaks (M.state message.old) (M.state message.new) (line_for tool refusal)) }
 {
     let name = name(tool);
     write_whole(message, name)?;
@@ -167,9 +167,9 @@ fn put_line<E: Write>(tool: Tool, refusal: Refusal, message: &mut E) -> Result<(
     write_whole(message, b"\n")
 }
 
-/// Writes the line for a refusal, or as much of it as the writer takes. No memory is taken.
-pub fn write<E: Write>(tool: Tool, refusal: Refusal, message: &mut E)
-    ensures { AppendsBeginning (E.contents message.old) (E.contents message.new) (line_for tool refusal) }
+/// Writes the line for a refusal, or as much of it as is taken before a call fails. No memory is taken.
+pub fn write<M: ByteSink>(tool: Tool, refusal: Refusal, message: &mut M)
+    ensures { IsTold (M.state message.old) (M.state message.new) (line_for tool refusal) }
 {
     let _ = put_line(tool, refusal, message);
 }

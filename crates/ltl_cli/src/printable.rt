@@ -6,7 +6,7 @@ ghost use Rattle.ltl_spec.specs.Formulas.Grammar.{IsTextOf};
 ghost use Rattle.ltl_spec.specs.Semantics.Language.{AcceptsModels};
 ghost use Rattle.ltl_formula.specs.FormulaView.{reading_of};
 ghost use Rattle.ltl_cli.specs.Plans.{layout_in};
-ghost use Rattle.ltl_cli.specs.Refusals.{Takes};
+ghost use Rattle.ltl_cli.specs.Refusals.{TakesStep};
 ghost use Rattle.ltl_cli.specs.Translations.{MakesText, automaton_in, text_of};
 
 use crate::automaton::{automaton_of, generalized_of};
@@ -34,7 +34,7 @@ pub fn printable_of<'a, A: Allocator>(
     formula: &Formula<'_, A>,
     plan: &Plan<'_>,
 ) -> Result<Printable<'a, A>, Refusal>
-    ensures step { Takes (MakesText (layout_in plan.now.layout) (reading_of formula.now) plan.now.rewrite plan.now.options)
+    ensures step { TakesStep (MakesText (layout_in plan.now.layout) (reading_of formula.now) plan.now.rewrite plan.now.options)
         (λ t. text_of t formula.now) result }
     ensures models { IfOk result (λ t. AcceptsModels (automaton_in t) (reading_of formula.now).formula) }
     ensures named { IfOk result (λ t. (text : List ℕ) → IsTextOf text (reading_of formula.now) → HasNamesBelow (length formula.now.names) (automaton_in t)) }

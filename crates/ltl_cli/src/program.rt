@@ -1,41 +1,137 @@
 //! A program from the words of its command line on.
 
-ghost use Rattle.std.specs.Prelude.{map, Some};
-ghost use Rattle.ltl_spec.specs.Tools.Outcome as spec;
-ghost use Rattle.ltl_cli.specs.Headline.{WordsMayShow};
-ghost use Rattle.ltl_cli.specs.Inputs.{IsInputOf};
+ghost use Rattle.std.specs.Prelude.{◌≡◌, map, option_map};
+ghost use Rattle.ltl_spec.specs.Tools.Stage.{Open};
+ghost use Rattle.ltl_spec.specs.Tools.Refusal.{Checker};
+ghost use Rattle.ltl_cli.specs.Headline.{IsSourceOf, PlanMayShow, PlansFor, WordsMayShow, automaton_file, formula_file, map_ok, request_planned};
 ghost use Rattle.ltl_cli.specs.Refusals.{tool_of};
-ghost use Rattle.ltl_cli.specs.Runs.{Shows};
+ghost use Rattle.ltl_cli.specs.Runs.{Shows, StaysAt};
 
-use crate::check::run_check;
-use crate::evaluate::run_eval;
+use crate::check::check_over;
+use crate::evaluate::evaluate_over;
+use crate::files::Files;
+use crate::request::{FormulaWord, Plan, PlanFault};
 use crate::source::Source;
 use crate::tool::Tool;
-use crate::translate::run_translate;
+use crate::translate::translate_over;
 use crate::words::plan;
+use ltl_streams::ByteSink;
 use std::alloc::Global;
-use std::io::{Read, Write};
 
-/// Does what the words ask of the program, of which the first is its name and plays no part, and answers the exit status. The sources are what
-/// stands behind the names of the formula's file and of the automaton's, or in the standard input where the checker's words name none: who has to
-/// open files by the names that the words give calls `plan` first, and then the run of the program.
-pub fn run<'a, R: Read + Drop, S: Read + Drop, W: Write, E: Write>(
+/// What the words ask for, or why there are no words.
+fn planned<'a>(
     alloc: Global,
     tool: Tool,
-    words: &'a [&'a str],
-    source: Source<R>,
-    automaton: Source<S>,
-    output: &mut W,
-    message: &mut E,
-) -> u8
-    ensures { (input : spec.Input) × IsInputOf R.remaining source input × (file : spec.Input) × IsInputOf S.remaining automaton file
-        × Shows (WordsMayShow (tool_of tool) (map (λ w. w.now) words.entry.now) input file)
-        (W.contents output.old) (W.contents output.new) (E.contents message.old) (E.contents message.new) result }
+    words: Result<&'a [&'a str], PlanFault>,
+) -> Result<Plan<'a>, PlanFault>
+    ensures { PlansFor (tool_of tool) (map_ok (λ ws. map (λ w. w.now) ws.now) words.entry) result }
 {
-    let plan = plan(alloc, tool, words);
-    match tool {
-        Tool::Translator => run_translate(&alloc, &plan, source, output, message),
-        Tool::Checker => run_check(&alloc, &plan, source, automaton, output, message),
-        Tool::Evaluator => run_eval(&alloc, &plan, source, output, message),
+    match words {
+        Ok(words) => plan(alloc, tool, words),
+        Err(fault) => Err(fault),
     }
+}
+
+/// The source of the formula: its file, where the plan names one.
+fn formula_source<F: Files>(files: &F, plan: &Result<Plan<'_>, PlanFault>) -> Source<F::File>
+    ensures { IsSourceOf F.File.state (F.Stands files.now) (formula_file (request_planned plan.now)) result }
+{
+    let Ok(plan) = plan else {
+        return Source::Text;
+    };
+    match plan.formula {
+        FormulaWord::Given(_) => Source::Text,
+        FormulaWord::File(name) => files.open(name),
+    }
+}
+
+/// The name of the automaton's file, where the plan names one.
+fn automaton_name<'a>(plan: &Result<Plan<'a>, PlanFault>) -> Option<&'a str>
+    ensures { option_map (λ s. s.now) result ≡ automaton_file (request_planned plan.now) }
+{
+    let Ok(plan) = plan else {
+        return None;
+    };
+    plan.automaton
+}
+
+/// Checks the automaton of the file that the plan names, or else of the standard input.
+#[tactic(auto, using(crate::proofs::HeadlineLaws::source_open, crate::proofs::HeadlineLaws::file_open))]
+fn check_by_plan<F: Files, S: ByteSink, M: ByteSink>(
+    alloc: Global,
+    plan: &Result<Plan<'_>, PlanFault>,
+    files: &F,
+    output: &mut S,
+    message: &mut M,
+) -> u8
+    requires output { (S.state output.old).stage ≡ Open }
+    requires message { (M.state message.old).stage ≡ Open }
+    ensures shown { Shows (PlanMayShow (F.Stands files.now) (F.Comes files.now) Checker plan.now)
+        (S.state output.old) (S.state output.new) (M.state message.old) (M.state message.new) result }
+    ensures same_output { StaysAt (S.state output.old) (S.state output.new) }
+    ensures same_message { StaysAt (M.state message.old) (M.state message.new) }
+{
+    let mut formula = formula_source(files, plan);
+    match automaton_name(plan) {
+        Some(name) => {
+            let mut automaton = files.open(name);
+            check_over(&alloc, plan, &mut formula, &mut automaton, output, message)
+        }
+        None => {
+            let mut automaton = Source::Input(files.input());
+            check_over(&alloc, plan, &mut formula, &mut automaton, output, message)
+        }
+    }
+}
+
+/// Does what was planned for the tool.
+#[tactic(auto, using(crate::proofs::HeadlineLaws::source_open))]
+fn run_plan<F: Files, S: ByteSink, M: ByteSink>(
+    alloc: Global,
+    tool: Tool,
+    plan: &Result<Plan<'_>, PlanFault>,
+    files: &F,
+    output: &mut S,
+    message: &mut M,
+) -> u8
+    requires output { (S.state output.old).stage ≡ Open }
+    requires message { (M.state message.old).stage ≡ Open }
+    ensures shown { Shows (PlanMayShow (F.Stands files.now) (F.Comes files.now) (tool_of tool) plan.now)
+        (S.state output.old) (S.state output.new) (M.state message.old) (M.state message.new) result }
+    ensures same_output { StaysAt (S.state output.old) (S.state output.new) }
+    ensures same_message { StaysAt (M.state message.old) (M.state message.new) }
+{
+    match tool {
+        Tool::Translator => {
+            let mut formula = formula_source(files, plan);
+            translate_over(&alloc, plan, &mut formula, output, message)
+        }
+        Tool::Evaluator => {
+            let mut formula = formula_source(files, plan);
+            evaluate_over(&alloc, plan, &mut formula, output, message)
+        }
+        Tool::Checker => check_by_plan(alloc, plan, files, output, message),
+    }
+}
+
+/// Does what the words ask of the program, of which the first is its name and plays no part, and answers the exit status. Where there are no words,
+/// that is told as usage or as want of memory. The files that the words name are opened, and no other; the checker reads the automaton from the
+/// standard input where they name none. The output and the message are handed in before any call on them.
+pub fn run<'a, F: Files, S: ByteSink, M: ByteSink>(
+    alloc: Global,
+    tool: Tool,
+    words: Result<&'a [&'a str], PlanFault>,
+    files: &F,
+    output: &mut S,
+    message: &mut M,
+) -> u8
+    requires output { (S.state output.old).stage ≡ Open }
+    requires message { (M.state message.old).stage ≡ Open }
+    ensures shown { Shows (WordsMayShow (F.Stands files.now) (F.Comes files.now) (tool_of tool) (map_ok (λ ws. map (λ w. w.now) ws.now) words.entry))
+        (S.state output.old) (S.state output.new) (M.state message.old) (M.state message.new) result }
+    ensures same_output { StaysAt (S.state output.old) (S.state output.new) }
+    ensures same_message { StaysAt (M.state message.old) (M.state message.new) }
+{
+    let plan = planned(alloc, tool, words);
+    run_plan(alloc, tool, &plan, files, output, message)
 }

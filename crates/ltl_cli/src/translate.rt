@@ -1,29 +1,29 @@
 //! The translator: from a formula's text to the text of its automaton.
 
 ghost use Rattle.std.specs.Prelude.{◌≡◌, ◌<◌, length, OnOk, OnErr, IfOk, Ok};
-ghost use Rattle.std.specs.Io.KnownBytes.{Appends};
 ghost use Rattle.ltl_spec.specs.Checking.Bounds.{HasNamesBelow};
 ghost use Rattle.ltl_spec.specs.Semantics.Language.{AcceptsModels};
+ghost use Rattle.ltl_spec.specs.Tools.Stage.{Open};
 ghost use Rattle.ltl_spec.specs.Tools.Refusal.{Translator};
 ghost use Rattle.ltl_spec.specs.Tools.Outcome as spec;
+ghost use Rattle.ltl_streams.specs.Streams.{Breaks, Takes};
 ghost use Rattle.ltl_formula.specs.FormulaView.{reading_of};
-ghost use Rattle.ltl_formula.specs.Streams.{AppendsBeginning};
-ghost use Rattle.ltl_cli.specs.Inputs.{IsInputOf};
-ghost use Rattle.ltl_cli.specs.Runs.{IsOutcome, Shows, TakesNone, ToolRun};
+ghost use Rattle.ltl_cli.specs.Inputs.{IsOpen, WasFormula};
+ghost use Rattle.ltl_cli.specs.Runs.{Finishes, HasCause, IsOutcome, Shows, StaysAt, TakesNone, ToolRun};
 ghost use Rattle.ltl_cli.specs.Translations.{IsTranslated, automaton_in, text_of};
 
-use crate::finish::{finish, flush};
-use crate::input::read_formula;
+use crate::finish::finish;
+use crate::input::formula_from;
 use crate::printable::{Printable, printable_of};
 use crate::refusal::Refusal;
 use crate::request::{Plan, PlanFault};
 use crate::source::Source;
 use crate::status::Status;
 use crate::tool::Tool;
-use ltl_formula::{Formula, WriteFault};
-use ltl_text::{gen_to, hoa_to, never_to};
+use ltl_formula::Formula;
+use ltl_streams::{ByteSink, ByteSource, WriteFault};
+use ltl_text::{put_claim, put_generalized, put_hoa};
 use std::alloc::Allocator;
-use std::io::{Read, Write};
 
 /// A formula and its automaton in the layout that is asked for.
 #[derive(Drop)]
@@ -33,59 +33,63 @@ struct Translation<'a, A: Allocator> {
 }
 
 /// Writes the automaton.
-fn put<A: Allocator, W: Write>(
+fn put<A: Allocator, S: ByteSink>(
     translated: &Translation<'_, A>,
-    output: &mut W,
+    output: &mut S,
 ) -> Result<(), WriteFault>
     requires { HasNamesBelow (length translated.now.formula.names) (automaton_in translated.now.automaton) }
-    ensures ok { OnOk result (Appends (W.contents output.old) (W.contents output.new) (text_of translated.now.automaton translated.now.formula)) }
-    ensures err { OnErr result (AppendsBeginning (W.contents output.old) (W.contents output.new) (text_of translated.now.automaton translated.now.formula)) }
+    ensures ok { OnOk result (Takes (S.state output.old) (S.state output.new) (text_of translated.now.automaton translated.now.formula)) }
+    ensures err { OnErr result (Breaks (S.state output.old) (S.state output.new) (text_of translated.now.automaton translated.now.formula)) }
 {
     let formula = &translated.formula;
     match &translated.automaton {
-        Printable::Claim(automaton) => never_to(automaton, formula, output),
-        Printable::Hoa(automaton) => hoa_to(automaton, formula, output),
-        Printable::Generalized(automaton) => gen_to(automaton, formula, output),
+        Printable::Claim(automaton) => put_claim(automaton, formula, output),
+        Printable::Hoa(automaton) => put_hoa(automaton, formula, output),
+        Printable::Generalized(automaton) => put_generalized(automaton, formula, output),
     }
 }
 
 /// Writes the automaton and flushes.
-fn print<A: Allocator, W: Write>(
+fn print<A: Allocator, S: ByteSink>(
     translated: &Translation<'_, A>,
-    output: &mut W,
+    output: &mut S,
 ) -> Result<(), WriteFault>
     requires { HasNamesBelow (length translated.now.formula.names) (automaton_in translated.now.automaton) }
-    ensures ok { OnOk result (Appends (W.contents output.old) (W.contents output.new) (text_of translated.now.automaton translated.now.formula)) }
-    ensures err { OnErr result (AppendsBeginning (W.contents output.old) (W.contents output.new) (text_of translated.now.automaton translated.now.formula)) }
+    ensures ok { OnOk result (Finishes (S.state output.old) (S.state output.new) (text_of translated.now.automaton translated.now.formula)) }
+    ensures err { OnErr result (Breaks (S.state output.old) (S.state output.new) (text_of translated.now.automaton translated.now.formula)) }
 {
     put(translated, output)?;
-    flush(output)
+    output.flush()
 }
 
 /// The formula that the plan asks for, and its automaton. The automaton accepts exactly the ultimately periodic words that satisfy the formula.
-fn translated<'a, A: Allocator, R: Read>(
+fn translated<'a, A: Allocator, R: ByteSource>(
     alloc: &'a A,
     plan: &Plan<'_>,
     source: &mut Source<R>,
 ) -> Result<Translation<'a, A>, Refusal>
-    ensures found { (input : spec.Input) × IsInputOf R.remaining source.old input × IsTranslated plan.now input (λ t. text_of t.automaton t.formula) result }
+    requires { IsOpen R.state source.old }
+    ensures found { (input : spec.Input) × WasFormula R.state source.old source.new input
+        × IsTranslated plan.now input (λ t. text_of t.automaton t.formula) result }
     ensures language { IfOk result (λ t. AcceptsModels (automaton_in t.automaton) (reading_of t.formula).formula) }
     ensures named { IfOk result (λ t. HasNamesBelow (length t.formula.names) (automaton_in t.automaton)) }
 {
-    let formula = read_formula(alloc, plan.formula, source)?;
+    let formula = formula_from(alloc, plan.formula, source)?;
     let automaton = printable_of(alloc, &formula, plan)?;
     Ok(Translation { formula, automaton })
 }
 
 /// Prints what the plan asks for.
-fn printed<A: Allocator, R: Read, W: Write>(
+fn printed<A: Allocator, R: ByteSource, S: ByteSink>(
     alloc: &A,
     plan: &Plan<'_>,
     source: &mut Source<R>,
-    output: &mut W,
+    output: &mut S,
 ) -> Result<Status, Refusal>
-    ensures { (input : spec.Input) × IsInputOf R.remaining source.old input × ((file : spec.Input)
-        → IsOutcome Translator (Ok plan.now) input file (W.contents output.old) (W.contents output.new) result) }
+    requires source { IsOpen R.state source.old }
+    requires output { (S.state output.old).stage ≡ Open }
+    ensures { (input : spec.Input) × WasFormula R.state source.old source.new input × ((file : spec.Input)
+        → IsOutcome Translator (Ok plan.now) input file (S.state output.old) (S.state output.new) result) }
 {
     let translated = translated(alloc, plan, source)?;
     let printed = print(&translated, output);
@@ -95,14 +99,16 @@ fn printed<A: Allocator, R: Read, W: Write>(
 }
 
 /// Prints what the plan asks for, where there is one.
-fn answered<A: Allocator, R: Read, W: Write>(
+fn answered<A: Allocator, R: ByteSource, S: ByteSink>(
     alloc: &A,
     plan: &Result<Plan<'_>, PlanFault>,
     source: &mut Source<R>,
-    output: &mut W,
+    output: &mut S,
 ) -> Result<Status, Refusal>
-    ensures { (input : spec.Input) × IsInputOf R.remaining source.old input × ((file : spec.Input)
-        → IsOutcome Translator plan.now input file (W.contents output.old) (W.contents output.new) result) }
+    requires source { IsOpen R.state source.old }
+    requires output { (S.state output.old).stage ≡ Open }
+    ensures { (input : spec.Input) × WasFormula R.state source.old source.new input × ((file : spec.Input)
+        → IsOutcome Translator plan.now input file (S.state output.old) (S.state output.new) result) }
 {
     match plan {
         Ok(plan) => printed(alloc, plan, source, output),
@@ -110,23 +116,27 @@ fn answered<A: Allocator, R: Read, W: Write>(
     }
 }
 
-/// Translates what the plan asks for: writes the text of the automaton and the message of a refusal, and answers the exit status. The source
-/// is that of the formula's file, and is looked at only where the plan names one; a text is then no source. Nothing is written to the output
-/// before a refusal. After a write or a flush that failed nothing more is written to the output, and the message, where it can be written, is
-/// all that follows.
-pub fn run_translate<A: Allocator, R: Read + Drop, W: Write, E: Write>(
+/// Translates what the plan asks for: writes the text of the automaton, and flushes, or writes the message of a refusal, and answers the exit status.
+/// The source is that of the formula's file, and is looked at only where the plan names one; a text is then no source. Nothing is asked of the
+/// output before a refusal. After a call that failed the stream isn't asked again.
+pub fn translate_over<A: Allocator, R: ByteSource, S: ByteSink, M: ByteSink>(
     alloc: &A,
     plan: &Result<Plan<'_>, PlanFault>,
-    source: Source<R>,
-    output: &mut W,
-    message: &mut E,
+    source: &mut Source<R>,
+    output: &mut S,
+    message: &mut M,
 ) -> u8
-    ensures shown { (input : spec.Input) × IsInputOf R.remaining source input × ((file : spec.Input)
+    requires source { IsOpen R.state source.old }
+    requires output { (S.state output.old).stage ≡ Open }
+    requires message { (M.state message.old).stage ≡ Open }
+    ensures shown { (input : spec.Input) × WasFormula R.state source.old source.new input × ((file : spec.Input)
         → Shows (ToolRun Translator plan.now input file)
-        (W.contents output.old) (W.contents output.new) (E.contents message.old) (E.contents message.new) result) }
-    ensures memory { ((input : spec.Input) → IsInputOf R.remaining source input → TakesNone Translator plan.now input) → ¬ (result ≡ 4) }
+        (S.state output.old) (S.state output.new) (M.state message.old) (M.state message.new) result) }
+    ensures same_output { StaysAt (S.state output.old) (S.state output.new) }
+    ensures same_message { StaysAt (M.state message.old) (M.state message.new) }
+    ensures cause { result ≡ 5 → HasCause R.state plan.now source.new (S.state output.new) }
+    ensures memory { ((input : spec.Input) → WasFormula R.state source.old source.new input → TakesNone Translator plan.now input) → ¬ (result ≡ 4) }
 {
-    let mut source = source;
-    let outcome = answered(alloc, plan, &mut source, output);
+    let outcome = answered(alloc, plan, source, output);
     finish(Tool::Translator, outcome, message)
 }

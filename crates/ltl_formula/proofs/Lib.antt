@@ -8,10 +8,8 @@ pub mod ParserLemmas
 pub mod PlacesLemmas
 mod PrintLemmas
 mod ReadLemmas
-pub mod SendLaws
 mod SmallLemmas
 mod StateLemmas
-pub mod StreamLemmas
 pub mod TableLemmas
 pub mod TreeLemmas
 mod UseLemmas

@@ -6,8 +6,6 @@ pub mod GraphView
 pub mod ParserView
 pub mod PlacesView
 pub mod ReadText
-pub mod Sending
-pub mod Streams
 pub mod TableView
 pub mod TokenView
 pub mod WalkView

@@ -1,38 +1,28 @@
-//! Writing bytes.
+//! Writing a formula.
 
 ghost use Rattle.std.specs.Prelude.{OnOk, OnErr};
 ghost use Rattle.std.specs.Io.KnownBytes.{Appends};
 ghost use Rattle.ltl_spec.specs.Formulas.Canonical.{canonical_text};
+ghost use Rattle.ltl_streams.specs.Streams.{AppendsBeginning, Breaks, Takes};
 ghost use Rattle.ltl_formula.specs.FormulaView.{reading_of};
-ghost use Rattle.ltl_formula.specs.Streams.{AppendsBeginning};
 
 use crate::formula::Formula;
+use ltl_streams::{ByteSink, WriteFault, WriterSink, write_whole};
 use std::alloc::Allocator;
 use std::io::Write;
-use thiserror::Error;
-
-/// A write or a flush failed.
-#[derive(Clone, Copy, Debug, PartialEq, Eq, Error)]
-#[error("cannot write")]
-pub struct WriteFault;
-
-/// Writes all of `bytes`. Nothing is tried again, and a write that takes no byte is a failure.
-pub fn write_whole<W: Write>(w: &mut W, bytes: &[u8]) -> Result<(), WriteFault>
-    ensures ok { OnOk result (Appends (W.contents w.old) (W.contents w.new) bytes.now) }
-    ensures err { OnErr result (AppendsBeginning (W.contents w.old) (W.contents w.new) bytes.now) }
-{
-    let mut at = 0usize;
-    'pieces: while at < bytes.len() {
-        match w.write(&bytes[at..]) {
-            Ok(0) => return Err(WriteFault),
-            Ok(n) => at += n,
-            Err(_) => return Err(WriteFault),
-        }
-    }
-    Ok(())
-}
 
 /// Writes the canonical text of a formula. No memory is taken.
+pub fn put_text<A: Allocator, S: ByteSink>(
+    formula: &Formula<'_, A>,
+    sink: &mut S,
+) -> Result<(), WriteFault>
+    ensures ok { OnOk result (Takes (S.state sink.old) (S.state sink.new) (canonical_text (reading_of formula.now))) }
+    ensures err { OnErr result (Breaks (S.state sink.old) (S.state sink.new) (canonical_text (reading_of formula.now))) }
+{
+    write_whole(sink, formula.text())
+}
+
+/// The same to a standard writer, which isn't flushed.
 pub fn text_to<A: Allocator, W: Write>(
     formula: &Formula<'_, A>,
     w: &mut W,
@@ -40,5 +30,5 @@ pub fn text_to<A: Allocator, W: Write>(
     ensures ok { OnOk result (Appends (W.contents w.old) (W.contents w.new) (canonical_text (reading_of formula.now))) }
     ensures err { OnErr result (AppendsBeginning (W.contents w.old) (W.contents w.new) (canonical_text (reading_of formula.now))) }
 {
-    write_whole(w, formula.text())
+    put_text(formula, &mut WriterSink::new(w))
 }

@@ -1,22 +1,23 @@
 -- What was read of a stream, and what it says of the whole text.
-use Rattle.std.proofs.Common.{◌≡◌, ℕ, suc, ◌+◌, ◌<◌, ◌≤◌, List, [], ◌∷◌, ◌++◌, length, Option, Some, None, refl, sym, ◌∙◌, ap, subst, arith, append_assoc, take, length-append, length-take, min}
-use Rattle.std.specs.Prelude.{Result, if◌then◌else◌, fold, Ok, Err, MatchResult}
+use Rattle.std.proofs.Common.{inl, ◌≡◌, ℕ, suc, ◌+◌, ◌<◌, ◌≤◌, List, [], ◌∷◌, ◌++◌, length, Option, Some, None, refl, sym, ◌∙◌, ap, subst, arith, append_assoc, take, length-append, length-take, min}
+use Rattle.std.specs.Prelude.{Result, if◌then◌else◌, fold, Ok, Err, MatchResult, IsErrOf}
 use Rattle.std.specs.Io.KnownBytes.{Consumes, IsAtEnd, Keeps}
 use Rattle.std.proofs.Math.Seq.{take-append_seam}
 use Rattle.std.proofs.lemmas.Bool.{lt-ltb}
 use Rattle.std.proofs.lemmas.List.{append-nil, take_all, take-append-le}
 use Rattle.ltl_spec.specs.Tools.Limits.{stated_limits}
+use Rattle.ltl_spec.specs.Tools.Stage.{Stage, Closed}
 use Rattle.ltl_spec.specs.Hoa.HoaToken.{hoa_items, last_line}
 use Rattle.ltl_spec.specs.Hoa.HoaReading.{stated_form, MarkedAutomaton}
 use Rattle.ltl_spec.specs.Hoa.HoaFaultKind.{LimitPassed}
 use Rattle.ltl_spec.specs.Hoa.HoaPlace.{before_all}
 use Rattle.ltl_spec.specs.Hoa.HoaFault.{take_item, fault_after, fault_at, hoa_fault}
 use Rattle.ltl_hoa.specs.declared.fault.HoaFault.{HoaFault}
-use Rattle.ltl_hoa.specs.declared.fault.HoaFault.TheVariants.{AtLine, CannotRead}
+use Rattle.ltl_hoa.specs.declared.fault.HoaFault.TheVariants.{AtLine, CannotRead, OutOfMemory}
 use Rattle.ltl_hoa.specs.declared.fault.HoaFaultKind.TheVariants as made
 use Rattle.ltl_hoa.specs.MachineView.{MachineView, new_machine}
 use Rattle.ltl_hoa.specs.Shown.{came_none}
-use Rattle.ltl_hoa.specs.Reading.{Answers, AnswersHeld, IsAfter, IsOfText, TakesText, TakesUpTo}
+use Rattle.ltl_hoa.specs.Reading.{Answers, AnswersHeld, IsAfter, IsOfText, LeavesStage, TakesText, TakesUpTo}
 
 pub consumes_trans : (o m n : Option (List ℕ)) (a b : List ℕ) → Consumes o m a → Consumes m n b → Consumes o n (a ++ b)
 consumes_trans None m n a b p q = tt
@@ -196,3 +197,11 @@ kept_up_to o m n v given r d few = taken_up_to o m n v given 0 [] r (consumes_no
     consumes_none None b k = tt
     consumes_none (Some x) (Some y) k = sym k
     consumes_none (Some x) None k = absurd k
+
+-- ---- the stage at the end
+
+pub ends_closed : (r : Result MarkedAutomaton HoaFault) (s : Stage) → s ≡ Closed → ¬ (IsErrOf r CannotRead) → LeavesStage r s
+ends_closed (Ok A) s e told = e
+ends_closed (Err (AtLine line kind)) s e told = inl e
+ends_closed (Err CannotRead) s e told = absurd (told refl)
+ends_closed (Err OutOfMemory) s e told = inl e

@@ -1,5 +1,5 @@
 -- How the machine's state is that of a text so far, and what a call answers.
-use Rattle.std.specs.Prelude.{◌≡◌, ℕ, ◌<◌, take, IfSome, ◌≤◌, ◌+◌, List, ◌++◌, length, fold, Option, Some, None, Result, Ok, Err, MatchResult, ⊤}
+use Rattle.std.specs.Prelude.{◌≡◌, ℕ, ◌<◌, take, IfSome, ◌≤◌, ◌+◌, List, ◌++◌, length, fold, ◌⊎◌, Option, Some, None, Result, Ok, Err, MatchResult, ⊤}
 use Rattle.std.specs.Io.KnownBytes.{Consumes}
 use Rattle.ltl_spec.specs.Tools.Limits.{stated_limits}
 use Rattle.ltl_spec.specs.Hoa.HoaToken.{HoaItem, hoa_items, last_line}
@@ -7,8 +7,10 @@ use Rattle.ltl_spec.specs.Hoa.HoaReading.{stated_form, MarkedAutomaton, HoaReads
 use Rattle.ltl_spec.specs.Hoa.HoaFault as spec
 use Rattle.ltl_spec.specs.Hoa.HoaPlace.{Before, before_all}
 use Rattle.ltl_spec.specs.Hoa.HoaFault.{take_item, hoa_fault}
+use Rattle.ltl_spec.specs.Tools.Stage.{Stage, Open, Closed, Broken}
 use Rattle.ltl_hoa.specs.declared.fault.HoaFault.{HoaFault}
 use Rattle.ltl_hoa.specs.declared.fault.HoaFault.TheVariants.{AtLine, CannotRead, OutOfMemory}
+use Rattle.ltl_hoa.specs.declared.fault.HoaFaultKind.TheVariants.{LimitPassed}
 use Rattle.ltl_hoa.specs.declared.machine.Found.{Found}
 use Rattle.ltl_hoa.specs.TokenView.{kind_of}
 use Rattle.ltl_hoa.specs.Resuming.{resume, IsLexing}
@@ -107,3 +109,10 @@ TakesUpTo old new = (bytes : List ℕ) × Consumes old new bytes × (length byte
 -- fewer bytes were taken than one past the limit
 abbrev pub TakesFewer : Option (List ℕ) → Option (List ℕ) → Type 0
 TakesFewer old new = (bytes : List ℕ) × Consumes old new bytes × (length bytes < stated_limits.hoa_bytes + 1)
+
+-- the stage of an open source behind a call: what is told of the whole text is told at its end, or behind the limit
+abbrev pub LeavesStage : Result MarkedAutomaton HoaFault → Stage → Type 0
+LeavesStage (Ok A) s = s ≡ Closed
+LeavesStage (Err (AtLine line kind)) s = (s ≡ Closed) ⊎ ((kind ≡ LimitPassed) × (s ≡ Open))
+LeavesStage (Err CannotRead) s = s ≡ Broken
+LeavesStage (Err OutOfMemory) s = (s ≡ Closed) ⊎ (s ≡ Open)

@@ -4,7 +4,7 @@
 //! on edges and with Büchi or generalized Büchi acceptance of up to 32 sets, on states or on edges. Where a text has several faults, the leftmost one
 //! is told, with its line. Sets on a state are those of its edges: a `Marked` has sets on edges alone.
 //!
-//! What flows: pieces of 4,096 bytes of a reader; bytes to tokens (`lexer`), of which only the current one is kept; tokens to places, which say what
+//! What flows: pieces of 4,096 bytes of a source; bytes to tokens (`lexer`), of which only the current one is kept; tokens to places, which say what
 //! may come next (`place`, `parser`), in the header and in the body; a label to its cubes as its brackets close (the crate `ltl_label`), each
 //! cube an edge; states and edges to a `Marked`. However long a text, beside the automaton only its current token, open labels and names are held.
 //!
@@ -40,4 +40,4 @@ mod token;
 pub use fault::{HoaFault, HoaFaultKind};
 pub use marked::{Marked, MarkedEdge};
 pub use marks::Marks;
-pub use read::hoa_read;
+pub use read::{hoa_read, hoa_read_from};

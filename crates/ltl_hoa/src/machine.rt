@@ -1,6 +1,6 @@
 //! The bytes of a text, one after the other.
 
-ghost use Rattle.std.specs.Prelude.{◌≡◌, ◌<◌, ◌≤◌, ◌+◌, ◌∷◌, ◌++◌, [], List, ℕ, None, IfNone, IfSome, length, OnOk};
+ghost use Rattle.std.specs.Prelude.{◌≡◌, ◌≢◌, ◌<◌, ◌≤◌, ◌+◌, ◌∷◌, ◌++◌, [], List, ℕ, Some, None, IsErrOf, IfNone, IfSome, length, OnOk};
 ghost use Rattle.ltl_hoa.specs.LexerView.{depth_of, ended_kind, taken};
 ghost use Rattle.ltl_hoa.specs.MachineView as view;
 ghost use Rattle.ltl_hoa.specs.Reading.{Answers, IsAfter, IsEnded, RefusesText};
@@ -180,7 +180,8 @@ impl<'a, A: Allocator> Machine<'a, A> {
     /// The automaton that the whole text reads as, or its leftmost fault. Nothing is claimed of the machine behind it.
     pub(crate) fn finish(&mut self) -> Result<Marked<'a, A>, HoaFault>
         requires { (text : List ℕ) × IsAfter self.old text }
-        ensures { (text : List ℕ) → IsAfter self.old text → Answers text result }
+        ensures answers { (text : List ℕ) → IsAfter self.old text → Answers text result }
+        ensures told { ¬ (IsErrOf result HoaFault.CannotRead) }
     {
         self.take_last()?;
         self.answer()
@@ -202,7 +203,8 @@ impl<'a, A: Allocator> Machine<'a, A> {
     /// What the text is, once its last token was taken.
     fn answer(&mut self) -> Result<Marked<'a, A>, HoaFault>
         requires { (text : List ℕ) × IsEnded self.old text }
-        ensures { (text : List ℕ) → IsEnded self.old text → Answers text result }
+        ensures answers { (text : List ℕ) → IsEnded self.old text → Answers text result }
+        ensures told { ¬ (IsErrOf result HoaFault.CannotRead) }
     {
         match self.refusal() {
             Some(fault) => Err(fault),
@@ -213,6 +215,7 @@ impl<'a, A: Allocator> Machine<'a, A> {
     /// Why the text is no automaton, once its last token was taken.
     fn refusal(&self) -> Option<HoaFault>
         ensures refused { IfSome result (λ fault. (text : List ℕ) → IsEnded self.now text → RefusesText text fault) }
+        ensures told { result ≢ Some HoaFault.CannotRead }
         ensures whole { IfNone result ((self.now.fault ≡ None) × (self.now.parser.place ≡ Place.End)) }
     {
         if let Some(found) = self.fault {

@@ -1,20 +1,23 @@
-//! Reading an automaton from a reader, piece by piece.
+//! Reading an automaton from a source, piece by piece.
 
 ghost use Rattle.std.specs.Prelude.{◌≡◌, MatchResult, IsErrOf, ⊤};
+ghost use Rattle.ltl_spec.specs.Tools.Stage.{Open};
 ghost use Rattle.ltl_hoa.specs.MachineView.{new_machine};
-ghost use Rattle.ltl_hoa.specs.Reading.{AnswersHeld, IsOfText, TakesFewer, TakesText, TakesUpTo};
+ghost use Rattle.ltl_hoa.specs.Reading.{AnswersHeld, IsOfText, LeavesStage, TakesFewer, TakesText, TakesUpTo};
 
 use crate::fault::{HoaFault, HoaFaultKind};
 use crate::machine::{MOST_BYTES, Machine};
 use crate::marked::Marked;
+use ltl_streams::{ByteSource, LentReader};
 use std::alloc::Allocator;
 use std::io::Read;
 
 /// How many bytes are read at a time.
 const PIECE: usize = 4_096;
 
-/// Reads an automaton. The text is taken to its end, or up to one byte past its limit, whatever the answer is but for a failed read and
-/// want of memory, where less of it may have been taken; beside the automaton only the current token, what is open of a label and the names are kept.
+/// Reads an automaton from a standard reader. The text is taken to its end, or up to one byte past its limit, whatever the answer is but for a
+/// failed read and want of memory, where less of it may have been taken; beside the automaton only the current token, what is open of a label and
+/// the names are kept.
 pub fn hoa_read<'a, A: Allocator, R: Read>(
     alloc: &'a A,
     reader: &mut R,
@@ -25,27 +28,45 @@ pub fn hoa_read<'a, A: Allocator, R: Read>(
     ensures failed { IsErrOf result HoaFault.CannotRead → TakesFewer (R.remaining reader.old) (R.remaining reader.new) }
     ensures bounded { TakesUpTo (R.remaining reader.old) (R.remaining reader.new) }
 {
+    hoa_read_from(alloc, &mut LentReader::new(reader))
+}
+
+/// Reads an automaton from a source, as `hoa_read` does. A source that was open is broken exactly where a read failed, and never misused.
+pub fn hoa_read_from<'a, A: Allocator, R: ByteSource>(
+    alloc: &'a A,
+    source: &mut R,
+) -> Result<Marked<'a, A>, HoaFault>
+    ensures read { AnswersHeld (R.state source.old).rest result }
+    ensures taken { MatchResult result (λ _. TakesText (R.state source.old).rest (R.state source.new).rest)
+        (λ fault. IsOfText fault → TakesText (R.state source.old).rest (R.state source.new).rest) }
+    ensures failed { IsErrOf result HoaFault.CannotRead → TakesFewer (R.state source.old).rest (R.state source.new).rest }
+    ensures bounded { TakesUpTo (R.state source.old).rest (R.state source.new).rest }
+    ensures same { (R.state source.new).through ≡ (R.state source.old).through }
+    ensures stage { (R.state source.old).stage ≡ Open → LeavesStage result (R.state source.new).stage }
+{
     let mut machine = Machine::new(alloc);
-    read_by(&mut machine, reader)
+    read_by(&mut machine, source)
 }
 
 /// The same by a machine that has read nothing.
-fn read_by<'a, A: Allocator, R: Read>(
+fn read_by<'a, A: Allocator, R: ByteSource>(
     machine: &mut Machine<'a, A>,
-    reader: &mut R,
+    source: &mut R,
 ) -> Result<Marked<'a, A>, HoaFault>
     requires { machine.old ≡ new_machine }
-    ensures read { AnswersHeld (R.remaining reader.old) result }
-    ensures taken { MatchResult result (λ _. TakesText (R.remaining reader.old) (R.remaining reader.new))
-        (λ fault. IsOfText fault → TakesText (R.remaining reader.old) (R.remaining reader.new)) }
-    ensures failed { IsErrOf result HoaFault.CannotRead → TakesFewer (R.remaining reader.old) (R.remaining reader.new) }
-    ensures bounded { TakesUpTo (R.remaining reader.old) (R.remaining reader.new) }
+    ensures read { AnswersHeld (R.state source.old).rest result }
+    ensures taken { MatchResult result (λ _. TakesText (R.state source.old).rest (R.state source.new).rest)
+        (λ fault. IsOfText fault → TakesText (R.state source.old).rest (R.state source.new).rest) }
+    ensures failed { IsErrOf result HoaFault.CannotRead → TakesFewer (R.state source.old).rest (R.state source.new).rest }
+    ensures bounded { TakesUpTo (R.state source.old).rest (R.state source.new).rest }
+    ensures same { (R.state source.new).through ≡ (R.state source.old).through }
+    ensures stage { (R.state source.old).stage ≡ Open → LeavesStage result (R.state source.new).stage }
 {
     let mut piece = [0u8; PIECE];
     let mut given = 0usize;
     'pieces: while given < MOST_BYTES {
         let room = PIECE.min(MOST_BYTES - given);
-        match reader.read(&mut piece[..room]) {
+        match source.read(&mut piece[..room]) {
             Ok(0) => return machine.finish(),
             Ok(count) => {
                 machine.take_piece(&piece[..count])?;
@@ -54,7 +75,7 @@ fn read_by<'a, A: Allocator, R: Read>(
             Err(_) => return Err(HoaFault::CannotRead),
         }
     }
-    match reader.read(&mut piece[..1]) {
+    match source.read(&mut piece[..1]) {
         Ok(0) => machine.finish(),
         Ok(_) => Err(HoaFault::AtLine(machine.line(), HoaFaultKind::LimitPassed)),
         Err(_) => Err(HoaFault::CannotRead),

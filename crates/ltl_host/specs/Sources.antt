@@ -1,28 +1,22 @@
--- Where a formula's text comes from.
-use Rattle.std.specs.Prelude.{Bool, true, false, Result, Ok, Err}
+-- What stands behind a name, for a runtime that says nothing of it.
+use Rattle.std.specs.Prelude.{◌≡◌, List, ℕ, Result, Ok, Err, ⊤}
 use Rattle.std.specs.declared.io.Error.{Error}
+use Rattle.ltl_spec.specs.Tools.Outcome.{Input}
+use Rattle.ltl_streams.specs.declared.reader_source.ReaderSource.{ReaderSource}
+use Rattle.ltl_streams.specs.declared.stage.Stage.TheVariants.{Open}
 use Rattle.ltl_cli.specs.declared.source.Source.{Source}
-use Rattle.ltl_cli.specs.declared.source.Source.TheVariants.{Text, Input, NotOpened}
-use Rattle.ltl_cli.specs.declared.request.FormulaWord.{FormulaWord}
-use Rattle.ltl_cli.specs.declared.request.FormulaWord.TheVariants as word
-use Rattle.ltl_cli.specs.declared.request.Plan.{Plan}
-use Rattle.ltl_cli.specs.declared.request.PlanFault.{PlanFault}
+use Rattle.ltl_cli.specs.declared.source.Source.TheVariants as source
 
-abbrev pub is_text : {R : Type 0} → Source R → Bool
-is_text Text = true
-is_text (Input r) = false
-is_text NotOpened = false
+-- any input may come from the standard input, or stand behind a name
 
--- the file, where it was opened
-abbrev pub source_of : {R : Type 0} → Result R Error → Source R
-source_of (Ok file) = Input file
-source_of (Err e) = NotOpened
+abbrev pub Anything : Input → Type 0
+Anything input = ⊤
 
-abbrev pub is_given : FormulaWord → Bool
-is_given (word.Given text) = true
-is_given (word.File name) = false
+abbrev pub AnythingBehind : List ℕ → Input → Type 0
+AnythingBehind name input = ⊤
 
--- no file is named: the plan holds the text, or there is no plan
-abbrev pub holds_text : Result Plan PlanFault → Bool
-holds_text (Ok p) = is_given p.formula
-holds_text (Err f) = true
+-- the file that was opened, before any call on it, or none
+abbrev pub IsOpenedAs : {F : Type 0} → Result F Error → Source (ReaderSource F) → Type 0
+IsOpenedAs (Ok file) (source.Input r) = (r.reader ≡ file) × (r.stage ≡ Open)
+IsOpenedAs (Err e) source.NotOpened = ⊤
+IsOpenedAs _ _ = ⊥

@@ -1,32 +1,36 @@
-//! What the three mains share: the words that the system hands over, and the files that they name.
+//! What the three mains share: the words that the system hands over, the files that they name, and the streams of the process.
 //!
 //! This is the thin layer between a process and `ltl_cli`: command line, files and allocator come from a runtime (`HostRuntime` in the programs, any
-//! type with the traits `Env`, `Alloc` and `Files` in tests), so all of it but the streams of the process can be tried without one.
+//! type with the traits `Env`, `Files` and `Alloc` in tests), so all of it can be tried without one.
 //!
-//! What flows: the runtime's words, to strings (`words`), to texts (`texts`), which `ltl_cli::plan` takes; the plan, to the source of the formula
-//! (`formula_source`), which is a file where the plan names one and else a text that the plan holds; a name, to the file or to "not opened"
-//! (`opened`).
+//! What flows: the runtime's words, to strings (`words`), to texts (`texts`), which `ltl_cli::run` takes; a name, to the file or to "not opened"
+//! (`HostFiles`); readers and writers, to the sources and sinks that `ltl_cli::run` asks (`run`). A fault of the words is handed on, so the program
+//! tells of it as it tells of usage or of want of memory.
 //!
 //! ```
-//! let words = words(&rt)?;
-//! let texts = texts(rt.alloc(), words.as_slice())?;
-//! let plan = plan(rt.alloc(), Tool::Translator, texts.as_slice());
-//! let source = formula_source(&rt, &plan);
+//! run(&rt, Tool::Translator, rt.stdin(), &mut io::writer(&rt), &mut rt.stderr())
 //! ```
-//!
-//! A fault of the words is handed on like one of the plan, so the program tells of it as it tells of usage or of want of memory.
 #![tactic(auto)]
 
-ghost use Rattle.std.specs.Prelude.{◌≡◌, false, map, string_bytes, IfOk, IfErr};
+mod files;
+
+ghost use Rattle.std.specs.Prelude.{◌≡◌, List, ℕ, map, string_bytes, IfOk, IfErr, Result};
 ghost use Rattle.std.specs.IoError.{error_kind};
 ghost use Rattle.std.specs.Vec.Iter.{into_iter_items};
+ghost use Rattle.ltl_spec.specs.Tools.Stage.{Open};
+ghost use Rattle.ltl_cli.specs.declared.request.PlanFault as cli;
+ghost use Rattle.ltl_cli.specs.Refusals.{tool_of};
+ghost use Rattle.ltl_cli.specs.Runs.{Shows, ShowsBytes, StaysAt};
+ghost use Rattle.ltl_cli.specs.Headline.{WordsMayShow};
 ghost use Rattle.ltl_host.specs.Given.{HandsOver, fault_for};
-ghost use Rattle.ltl_host.specs.Sources.{holds_text, is_text, source_of};
+ghost use Rattle.ltl_host.specs.Sources.{Anything, AnythingBehind};
 
-use ltl_cli::{FormulaWord, Plan, PlanFault, Source};
-use std::alloc::{AllocError, Allocator};
+pub use files::{HostFiles, opened};
+use ltl_cli::{PlanFault, Tool};
+use ltl_streams::{ByteSink, WriterSink};
+use std::alloc::{AllocError, Allocator, Global};
 use std::env::Args;
-use std::fs::File;
+use std::io::{Read, Write};
 use std::rt::{Env, Files};
 use std::{env, io};
 
@@ -40,15 +44,8 @@ fn keep_freed<A: Allocator>(alloc: A) {
     let _ = room.is_ok();
 }
 
-/// The words of the command line, the program's name first. A word that isn't UTF-8 is usage. A program calls this first, so here the allocator is
-/// told to keep what is freed.
-pub fn words<R: Env + Alloc>(rt: &R) -> Result<Vec<String<R::A>, R::A>, PlanFault> {
-    keep_freed(rt.alloc());
-    handed(rt.alloc(), env::args(rt))
-}
-
-/// The words that the system gave, or why it gave none.
-fn handed<A: Allocator, B: Allocator>(
+/// The words that the system gave, the program's name first, or why it gave none. A word that isn't UTF-8 is usage.
+pub fn words<A: Allocator, B: Allocator>(
     alloc: A,
     given: io::Result<Args<B>>,
 ) -> Result<Vec<String<B>, A>, PlanFault>
@@ -101,32 +98,56 @@ pub fn texts<'a, A: Allocator, B: Allocator>(
     Ok(texts)
 }
 
-/// The file of that name. Why it could not be opened isn't told.
-pub fn opened<R: Files>(rt: &R, name: &str) -> Source<R::File>
-    ensures { is_text result ≡ false }
+/// Runs the program for the words of the runtime, over its files and this standard input, and answers the exit status. The output and the message
+/// are handed in before any call on them. A program calls this first, so here the allocator is told to keep what is freed.
+pub fn run_over<R, I, S, M>(rt: &R, tool: Tool, input: I, output: &mut S, message: &mut M) -> u8
+where
+    R: Env + Files + Alloc<A = Global>,
+    I: Read + Copy + Drop,
+    S: ByteSink,
+    M: ByteSink,
+    requires output { (S.state output.old).stage ≡ Open }
+    requires message { (M.state message.old).stage ≡ Open }
+    ensures shown { (words : Result (List (List ℕ)) cli.PlanFault) × Shows (WordsMayShow AnythingBehind Anything (tool_of tool) words)
+        (S.state output.old) (S.state output.new) (M.state message.old) (M.state message.new) result }
+    ensures same_output { StaysAt (S.state output.old) (S.state output.new) }
+    ensures same_message { StaysAt (M.state message.old) (M.state message.new) }
 {
-    tried(File::open(rt, name))
-}
-
-/// What came of opening a file.
-fn tried<F: Drop>(opened: io::Result<F>) -> Source<F>
-    ensures { result ≡ source_of opened }
-{
-    match opened {
-        Ok(file) => Source::Input(file),
-        Err(_) => Source::NotOpened,
-    }
-}
-
-/// The source of the formula: its file, where the plan names one.
-pub fn formula_source<R: Files>(rt: &R, plan: &Result<Plan<'_>, PlanFault>) -> Source<R::File>
-    ensures { is_text result ≡ holds_text plan.now }
-{
-    let Ok(plan) = plan else {
-        return Source::Text;
+    keep_freed(rt.alloc());
+    let files = HostFiles::new(rt, input);
+    let words = match words(rt.alloc(), env::args(rt)) {
+        Ok(words) => words,
+        Err(fault) => return ltl_cli::run(rt.alloc(), tool, Err(fault), &files, output, message),
     };
-    match plan.formula() {
-        FormulaWord::Given(_) => Source::Text,
-        FormulaWord::File(name) => opened(rt, name),
-    }
+    let texts = match texts(rt.alloc(), words.as_slice()) {
+        Ok(texts) => texts,
+        Err(fault) => return ltl_cli::run(rt.alloc(), tool, Err(fault), &files, output, message),
+    };
+    ltl_cli::run(
+        rt.alloc(),
+        tool,
+        Ok(texts.as_slice()),
+        &files,
+        output,
+        message,
+    )
+}
+
+/// The same over writers of the standard library.
+pub fn run<R, I, W, E>(rt: &R, tool: Tool, input: I, output: &mut W, message: &mut E) -> u8
+where
+    R: Env + Files + Alloc<A = Global>,
+    I: Read + Copy + Drop,
+    W: Write,
+    E: Write,
+    ensures { (words : Result (List (List ℕ)) cli.PlanFault) × ShowsBytes (WordsMayShow AnythingBehind Anything (tool_of tool) words)
+        (W.contents output.old) (W.contents output.new) (E.contents message.old) (E.contents message.new) result }
+{
+    run_over(
+        rt,
+        tool,
+        input,
+        &mut WriterSink::new(output),
+        &mut WriterSink::new(message),
+    )
 }

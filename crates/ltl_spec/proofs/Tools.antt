@@ -4,4 +4,5 @@ pub mod ModelLaws
 pub mod TruthLaws
 pub mod WordNames
 pub mod VerdictLaws
+pub mod CauseLaws
 pub mod RunLaws

@@ -1,6 +1,7 @@
 -- The three programs: limits, refusals, answers.
 pub mod Limits
 pub mod Refusal
+pub mod Stage
 pub mod Outcome
 pub mod Programs
 pub mod Run

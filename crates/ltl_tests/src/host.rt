@@ -2,16 +2,21 @@
 
 ghost use Rattle.std.specs.Prelude.{◌≤◌};
 
-use ltl_cli::{PlanFault, Source, Tool, plan};
-use ltl_host::{formula_source, opened, texts, words};
+use ltl_cli::{PlanFault, Source, Tool};
+use ltl_host::{HostFiles, run, texts, words};
+use ltl_streams::ByteSource;
 use refusing::Refusing;
 use std::alloc::Allocator;
 use std::env::FillError;
 use std::fs::{Metadata, OpenFile, OpenOptions};
-use std::io;
 use std::io::{Read, Seek, SeekFrom, Write};
 use std::rt::{Env, Files};
 use std::test::Fail;
+use std::{env, io};
+
+/// An automaton whose only word never has `p`.
+const LOOP: &[u8] =
+    b"HOA: v1\nStates: 1\nStart: 0\nAP: 1 \"p\"\nAcceptance: 1 Inf(0)\n--BODY--\nState: 0 {0}\n[!0] 0\n--END--\n";
 
 /// A runtime with these words, where each name but `absent` is that of a file that holds it.
 #[derive(Clone, Copy)]
@@ -152,7 +157,7 @@ impl<'a> Files for Desk<'a> {
 }
 
 /// What the source is: the name of the file that was opened, or what there is in its place.
-fn shown<R: Read + Drop>(source: Source<R>, name: &mut [u8; 16]) -> &[u8] {
+fn shown<R: ByteSource + Drop>(source: Source<R>, name: &mut [u8; 16]) -> &[u8] {
     match source {
         Source::Text => b"(text)",
         Source::NotOpened => b"(not opened)",
@@ -171,7 +176,7 @@ fn shown<R: Read + Drop>(source: Source<R>, name: &mut [u8; 16]) -> &[u8] {
 fn words_of_the_system(rt: HostRuntime) -> Result<(), Fail> {
     let given: [&[u8]; 4] = [b"ltl2ba", b"", b"-f", b"[]<>p"];
     let alloc = rt.alloc();
-    let words = words(&(Desk { words: &given }, &alloc))?;
+    let words = words(&alloc, env::args(&(Desk { words: &given }, &alloc)))?;
     assert_eq!(rt; words.len(), given.len());
     for i in 0..given.len() {
         assert_eq!(rt; words[i].as_bytes(), given[i]);
@@ -183,25 +188,23 @@ fn words_of_the_system(rt: HostRuntime) -> Result<(), Fail> {
 fn words_that_are_no_text(rt: HostRuntime) {
     let alloc = rt.alloc();
     let given: [&[u8]; 3] = [b"ltl2ba", b"-f", b"p\xff"];
-    let words = words(&(Desk { words: &given }, &alloc));
+    let words = words(&alloc, env::args(&(Desk { words: &given }, &alloc)));
     assert_eq!(rt; words.err(), Some(PlanFault::Usage));
 }
 
-/// Whichever growth is refused but the first, there are no words or no texts for want of memory. The first is of room that nothing needs.
+/// Whichever growth is refused, there are no words or no texts for want of memory.
 #[test]
 fn each_growth_refused(rt: HostRuntime) {
     let given: [&[u8]; 5] = [b"ltlcheck", b"-f", b"[]<>p", b"-a", b"m.hoa"];
     let mut refused = 0;
     for n in 1..40 {
         let alloc = Refusing::new(rt.alloc(), n);
-        let fault = match words(&(Desk { words: &given }, &alloc)) {
+        let fault = match words(&alloc, env::args(&(Desk { words: &given }, &alloc))) {
             Ok(words) => texts(&alloc, words.as_slice()).err(),
             Err(fault) => Some(fault),
         };
         if alloc.has_refused() {
             refused = n;
-        }
-        if alloc.has_refused() && n > 1 {
             assert_eq!(rt; fault, Some(PlanFault::OutOfMemory));
         } else {
             assert_eq!(rt; fault, None);
@@ -213,30 +216,75 @@ fn each_growth_refused(rt: HostRuntime) {
 #[test]
 fn files_by_name(rt: HostRuntime) {
     let desk = Desk { words: &[] };
+    let files = HostFiles::new(&desk, b"".as_slice());
     let mut name = [0u8; 16];
     assert_eq!(rt;
-        shown(opened(&desk, "m.hoa"), &mut name),
+        shown(ltl_cli::Files::open(&files, "m.hoa"), &mut name),
         b"m.hoa".as_slice()
     );
-    assert_eq!(rt; shown(opened(&desk, ""), &mut name), b"".as_slice());
     assert_eq!(rt;
-        shown(opened(&desk, "absent"), &mut name),
+        shown(ltl_cli::Files::open(&files, ""), &mut name),
+        b"".as_slice()
+    );
+    assert_eq!(rt;
+        shown(ltl_cli::Files::open(&files, "absent"), &mut name),
         b"(not opened)".as_slice()
     );
 }
 
+/// Whole programs, over the words and the files of a runtime: a file holds its name.
 #[test]
-fn the_formula_s_file(rt: HostRuntime) {
-    let desk = Desk { words: &[] };
-    let rows: [(&[&str], &[u8]); 4] = [
-        (&["ltl2ba", "-f", "p"], b"(text)"),
-        (&["ltl2ba", "-F", "p.ltl"], b"p.ltl"),
-        (&["ltl2ba", "-F", "absent"], b"(not opened)"),
-        (&["ltl2ba"], b"(text)"),
+fn programs_of_a_runtime(rt: HostRuntime) -> Result<(), Fail> {
+    let rows: [(Tool, &[&[u8]], &[u8], &[u8], u8); 5] = [
+        (
+            Tool::Evaluator,
+            &[b"ltleval", b"-F", b"p && q", b"-w", b"cycle {p,q}"],
+            b"true\n",
+            b"",
+            0,
+        ),
+        (
+            Tool::Evaluator,
+            &[b"ltleval", b"-F", b"absent", b"-w", b"cycle {}"],
+            b"",
+            b"ltleval: cannot open\n",
+            5,
+        ),
+        (
+            Tool::Checker,
+            &[b"ltlcheck", b"-f", b"[]!p"],
+            b"contained\n",
+            b"",
+            0,
+        ),
+        (
+            Tool::Checker,
+            &[b"ltlcheck", b"-f", b"p", b"-A", b"p"],
+            b"",
+            b"ltlcheck: automaton: line 1: not HOA v1\n",
+            3,
+        ),
+        (
+            Tool::Translator,
+            &[b"ltl2ba", b"-f", b"p\xff"],
+            b"",
+            b"ltl2ba: usage: ltl2ba [-l] [-o] [-p] [-H | -G] (-f formula | -F file)\n",
+            2,
+        ),
     ];
-    let mut name = [0u8; 16];
-    for (words, wanted) in rows {
-        let plan = plan(rt.alloc(), Tool::Translator, words);
-        assert_eq!(rt; shown(formula_source(&desk, &plan), &mut name), wanted);
+    for (tool, words, wanted, told, status) in rows {
+        let mut output = Vec::new(rt.alloc());
+        let mut message = Vec::new(rt.alloc());
+        let found = run(
+            &(Desk { words }, rt.alloc()),
+            tool,
+            LOOP,
+            &mut output,
+            &mut message,
+        );
+        assert_eq!(rt; output.as_slice(), wanted);
+        assert_eq!(rt; message.as_slice(), told);
+        assert_eq!(rt; found, status);
     }
+    Ok(())
 }

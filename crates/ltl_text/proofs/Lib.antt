@@ -1,3 +1,4 @@
+pub mod BackLaws
 pub mod BlockLaws
 pub mod EdgeLaws
 pub mod HoaLaws

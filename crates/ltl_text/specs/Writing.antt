@@ -1,20 +1,21 @@
--- What goes to the writer behind an output.
-use Rattle.std.specs.Prelude.{◌≡◌, ℕ, List, Option, Result, MatchResult}
-use Rattle.ltl_formula.specs.Sending.{Sends, Stops}
+-- What goes to the sink behind an output.
+use Rattle.std.specs.Prelude.{◌≡◌, ℕ, List, Result, MatchResult}
+use Rattle.ltl_streams.specs.Streams.{SinkState}
+use Rattle.ltl_streams.specs.Sending.{Sends, Stops}
 use Rattle.ltl_text.specs.declared.output.Output.{Output}
 
--- with what a writer's value has taken so far
-module _ {W : Type 0} (contents : W → Option (List ℕ)) where
-  -- it is still the same writer, and the bytes were sent to it or are held back
-  pub record Passes (old new : Output W) (bytes : List ℕ) : Type 0 where
-    pub same : new.writer.ghost_name ≡ old.writer.ghost_name
-    pub sends : Sends (contents old.writer.now) old.piece (contents new.writer.now) new.piece bytes
+-- with what is known of a sink
+module _ {S : Type 0} (state : S → SinkState) where
+  -- it is still the same sink, and the bytes were sent to it or are held back
+  pub record Passes (old new : Output S) (bytes : List ℕ) : Type 0 where
+    pub same : new.sink.ghost_name ≡ old.sink.ghost_name
+    pub sends : Sends (state old.sink.now) old.piece (state new.sink.now) new.piece bytes
 
-  -- it is still the same writer, and of what was held back before and the bytes a beginning was sent to it
-  pub record Halts (old new : Output W) (bytes : List ℕ) : Type 0 where
-    pub same : new.writer.ghost_name ≡ old.writer.ghost_name
-    pub stops : Stops (contents old.writer.now) old.piece (contents new.writer.now) bytes
+  -- it is still the same sink, and of what was held back before and the bytes a beginning was sent to it before a call failed
+  pub record Halts (old new : Output S) (bytes : List ℕ) : Type 0 where
+    pub same : new.sink.ghost_name ≡ old.sink.ghost_name
+    pub stops : Stops (state old.sink.now) old.piece (state new.sink.now) bytes
 
   -- the bytes go out, or a write fails
-  abbrev pub Writes : {T E : Type 0} → Result T E → Output W → Output W → List ℕ → Type 0
+  abbrev pub Writes : {T E : Type 0} → Result T E → Output S → Output S → List ℕ → Type 0
   Writes r old new bytes = MatchResult r (λ _. Passes old new bytes) (λ _. Halts old new bytes)

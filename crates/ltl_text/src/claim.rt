@@ -4,8 +4,8 @@ ghost use Rattle.std.specs.Prelude.{◌≡◌, ◌<◌, length, OnOk, OnErr};
 ghost use Rattle.std.specs.Io.KnownBytes.{Appends};
 ghost use Rattle.ltl_spec.specs.Automata.ClaimText as claim;
 ghost use Rattle.ltl_spec.specs.Checking.Bounds.{HasNamesBelow};
+ghost use Rattle.ltl_streams.specs.Streams.{AppendsBeginning, Breaks, Takes};
 ghost use Rattle.ltl_formula.specs.FormulaView.{reading_of};
-ghost use Rattle.ltl_formula.specs.Streams.{AppendsBeginning};
 ghost use Rattle.ltl_text.specs.Blocks.{blocks_text, others_text};
 ghost use Rattle.ltl_text.specs.Writing.{Writes};
 
@@ -13,22 +13,23 @@ use crate::label::{put_label, skip_state};
 use crate::options::put_options;
 use crate::output::Output;
 use ltl_buchi::Ba;
-use ltl_formula::{Formula, WriteFault, text_to, write_whole};
+use ltl_formula::{Formula, put_text};
+use ltl_streams::{ByteSink, WriteFault, WriterSink, write_whole};
 use std::alloc::Allocator;
 use std::io::Write;
 
 /// Puts what stands below a state's label.
-fn put_body<A: Allocator, B: Allocator, W: Write>(
+fn put_body<A: Allocator, B: Allocator, S: ByteSink>(
     automaton: &Ba<'_, A>,
     formula: &Formula<'_, B>,
     skip: usize,
     k: usize,
-    output: &mut Output<'_, W>,
+    output: &mut Output<'_, S>,
 ) -> Result<(), WriteFault>
     requires within { k < length automaton.now.states }
     requires named { HasNamesBelow (length formula.now.names) automaton.now }
     requires least { skip ≡ claim.skip_state automaton.now }
-    ensures { Writes W.contents result output.old output.new (claim.body automaton.now formula.now.names k) }
+    ensures { Writes S.state result output.old output.new (claim.body automaton.now formula.now.names k) }
 {
     if k == skip {
         return output.put(b"\tskip\n");
@@ -42,17 +43,17 @@ fn put_body<A: Allocator, B: Allocator, W: Write>(
 }
 
 /// Puts the block of a state.
-fn put_block<A: Allocator, B: Allocator, W: Write>(
+fn put_block<A: Allocator, B: Allocator, S: ByteSink>(
     automaton: &Ba<'_, A>,
     formula: &Formula<'_, B>,
     skip: usize,
     k: usize,
-    output: &mut Output<'_, W>,
+    output: &mut Output<'_, S>,
 ) -> Result<(), WriteFault>
     requires within { k < length automaton.now.states }
     requires named { HasNamesBelow (length formula.now.names) automaton.now }
     requires least { skip ≡ claim.skip_state automaton.now }
-    ensures { Writes W.contents result output.old output.new (claim.block automaton.now formula.now.names k) }
+    ensures { Writes S.state result output.old output.new (claim.block automaton.now formula.now.names k) }
 {
     put_label(automaton, skip, k, output)?;
     output.put(b":\n")?;
@@ -60,15 +61,15 @@ fn put_block<A: Allocator, B: Allocator, W: Write>(
 }
 
 /// Puts the blocks of all states but the skipping one.
-fn put_others<A: Allocator, B: Allocator, W: Write>(
+fn put_others<A: Allocator, B: Allocator, S: ByteSink>(
     automaton: &Ba<'_, A>,
     formula: &Formula<'_, B>,
     skip: usize,
-    output: &mut Output<'_, W>,
+    output: &mut Output<'_, S>,
 ) -> Result<(), WriteFault>
     requires named { HasNamesBelow (length formula.now.names) automaton.now }
     requires least { skip ≡ claim.skip_state automaton.now }
-    ensures { Writes W.contents result output.old output.new (others_text automaton.now formula.now.names) }
+    ensures { Writes S.state result output.old output.new (others_text automaton.now formula.now.names) }
 {
     for k in 0..automaton.len() {
         if k == skip {
@@ -80,13 +81,13 @@ fn put_others<A: Allocator, B: Allocator, W: Write>(
 }
 
 /// Puts the blocks of all states, the skipping one last.
-fn put_blocks<A: Allocator, B: Allocator, W: Write>(
+fn put_blocks<A: Allocator, B: Allocator, S: ByteSink>(
     automaton: &Ba<'_, A>,
     formula: &Formula<'_, B>,
-    output: &mut Output<'_, W>,
+    output: &mut Output<'_, S>,
 ) -> Result<(), WriteFault>
     requires { HasNamesBelow (length formula.now.names) automaton.now }
-    ensures { Writes W.contents result output.old output.new (blocks_text automaton.now formula.now.names) }
+    ensures { Writes S.state result output.old output.new (blocks_text automaton.now formula.now.names) }
 {
     let skip = skip_state(automaton);
     put_others(automaton, formula, skip, output)?;
@@ -99,6 +100,25 @@ fn put_blocks<A: Allocator, B: Allocator, W: Write>(
 /// Writes the automaton as a never claim of Spin, with the formula's text in a comment. State 0 is `accept_init` or `T0_init`, `accept_all`
 /// is the least accepting state other than 0 whose only edge has no literal and leads to itself, and its block stands last. The options of a
 /// state stand in the order of their targets. No memory is taken, and after a fault nothing more is written.
+pub fn put_claim<A: Allocator, B: Allocator, S: ByteSink>(
+    automaton: &Ba<'_, A>,
+    formula: &Formula<'_, B>,
+    sink: &mut S,
+) -> Result<(), WriteFault>
+    requires { HasNamesBelow (length formula.now.names) automaton.now }
+    ensures ok { OnOk result (Takes (S.state sink.old) (S.state sink.new) (claim.never_text automaton.now (reading_of formula.now))) }
+    ensures err { OnErr result (Breaks (S.state sink.old) (S.state sink.new) (claim.never_text automaton.now (reading_of formula.now))) }
+{
+    write_whole(sink, b"never { /* ")?;
+    put_text(formula, sink)?;
+    let mut output = Output::new(sink);
+    output.put(b" */\n")?;
+    put_blocks(automaton, formula, &mut output)?;
+    output.put(b"}\n")?;
+    output.send()
+}
+
+/// The same to a standard writer, which isn't flushed.
 pub fn never_to<A: Allocator, B: Allocator, W: Write>(
     automaton: &Ba<'_, A>,
     formula: &Formula<'_, B>,
@@ -108,11 +128,5 @@ pub fn never_to<A: Allocator, B: Allocator, W: Write>(
     ensures ok { OnOk result (Appends (W.contents writer.old) (W.contents writer.new) (claim.never_text automaton.now (reading_of formula.now))) }
     ensures err { OnErr result (AppendsBeginning (W.contents writer.old) (W.contents writer.new) (claim.never_text automaton.now (reading_of formula.now))) }
 {
-    write_whole(writer, b"never { /* ")?;
-    text_to(formula, writer)?;
-    let mut output = Output::new(writer);
-    output.put(b" */\n")?;
-    put_blocks(automaton, formula, &mut output)?;
-    output.put(b"}\n")?;
-    output.send()
+    put_claim(automaton, formula, &mut WriterSink::new(writer))
 }

@@ -4,8 +4,8 @@ ghost use Rattle.std.specs.Prelude.{◌≡◌, ◌<◌, length, map, OnOk, OnErr
 ghost use Rattle.std.specs.List.{flat_map};
 ghost use Rattle.std.specs.Io.KnownBytes.{Appends};
 ghost use Rattle.ltl_spec.specs.Automata.GeneralizedText as text;
+ghost use Rattle.ltl_streams.specs.Streams.{AppendsBeginning, Breaks, Takes};
 ghost use Rattle.ltl_formula.specs.FormulaView.{reading_of};
-ghost use Rattle.ltl_formula.specs.Streams.{AppendsBeginning};
 ghost use Rattle.ltl_alt.specs.GbaView.{edge_of};
 ghost use Rattle.ltl_text.specs.HoaPieces.{condition_text, marked_states_text, set_text};
 ghost use Rattle.ltl_text.specs.Writing.{Writes};
@@ -14,14 +14,15 @@ use crate::hoa::{put_counts, put_number, put_state_number, put_step, write_title
 use crate::output::Output;
 use ltl_alt::GbaEdge;
 use ltl_buchi::Gen;
-use ltl_formula::{Formula, WriteFault};
+use ltl_formula::Formula;
 use ltl_sets::RowSet;
+use ltl_streams::{ByteSink, WriteFault, WriterSink};
 use std::alloc::Allocator;
 use std::io::Write;
 
 /// Puts the numbers of the sets in braces behind a blank, and nothing where there is none.
-fn put_marks<W: Write>(marks: &RowSet, output: &mut Output<'_, W>) -> Result<(), WriteFault>
-    ensures { Writes W.contents result output.old output.new (text.marks_text marks.now) }
+fn put_marks<S: ByteSink>(marks: &RowSet, output: &mut Output<'_, S>) -> Result<(), WriteFault>
+    ensures { Writes S.state result output.old output.new (text.marks_text marks.now) }
 {
     let mut numbers = marks.iter();
     let Some(first) = numbers.next() else {
@@ -36,16 +37,16 @@ fn put_marks<W: Write>(marks: &RowSet, output: &mut Output<'_, W>) -> Result<(),
     output.put(b"}")
 }
 
-fn put_edge<W: Write>(edge: &GbaEdge, output: &mut Output<'_, W>) -> Result<(), WriteFault>
-    ensures { Writes W.contents result output.old output.new (text.marked_edge_line (edge_of edge.now)) }
+fn put_edge<S: ByteSink>(edge: &GbaEdge, output: &mut Output<'_, S>) -> Result<(), WriteFault>
+    ensures { Writes S.state result output.old output.new (text.marked_edge_line (edge_of edge.now)) }
 {
     put_step(&edge.cube, edge.target, output)?;
     put_marks(&edge.marks, output)?;
     output.put(b"\n")
 }
 
-fn put_edges<W: Write>(edges: &[GbaEdge], output: &mut Output<'_, W>) -> Result<(), WriteFault>
-    ensures { Writes W.contents result output.old output.new (flat_map text.marked_edge_line (map edge_of edges.now)) }
+fn put_edges<S: ByteSink>(edges: &[GbaEdge], output: &mut Output<'_, S>) -> Result<(), WriteFault>
+    ensures { Writes S.state result output.old output.new (flat_map text.marked_edge_line (map edge_of edges.now)) }
 {
     for edge in edges {
         put_edge(edge, output)?;
@@ -54,24 +55,24 @@ fn put_edges<W: Write>(edges: &[GbaEdge], output: &mut Output<'_, W>) -> Result<
 }
 
 /// Puts a state's number and its edges.
-fn put_state<A: Allocator, W: Write>(
+fn put_state<A: Allocator, S: ByteSink>(
     automaton: &Gen<'_, A>,
     k: usize,
-    output: &mut Output<'_, W>,
+    output: &mut Output<'_, S>,
 ) -> Result<(), WriteFault>
     requires { k < length automaton.now.states }
-    ensures { Writes W.contents result output.old output.new (text.marked_state_lines automaton.now k) }
+    ensures { Writes S.state result output.old output.new (text.marked_state_lines automaton.now k) }
 {
     put_state_number(k, output)?;
     output.put(b"\n")?;
     put_edges(automaton.edges(k), output)
 }
 
-fn put_states<A: Allocator, W: Write>(
+fn put_states<A: Allocator, S: ByteSink>(
     automaton: &Gen<'_, A>,
-    output: &mut Output<'_, W>,
+    output: &mut Output<'_, S>,
 ) -> Result<(), WriteFault>
-    ensures { Writes W.contents result output.old output.new (marked_states_text automaton.now) }
+    ensures { Writes S.state result output.old output.new (marked_states_text automaton.now) }
 {
     for k in 0..automaton.len() {
         put_state(automaton, k, output)?;
@@ -80,8 +81,11 @@ fn put_states<A: Allocator, W: Write>(
 }
 
 /// Puts the name of the acceptance of so many sets.
-fn put_acceptance_name<W: Write>(sets: usize, output: &mut Output<'_, W>) -> Result<(), WriteFault>
-    ensures { Writes W.contents result output.old output.new (text.acceptance_name sets) }
+fn put_acceptance_name<S: ByteSink>(
+    sets: usize,
+    output: &mut Output<'_, S>,
+) -> Result<(), WriteFault>
+    ensures { Writes S.state result output.old output.new (text.acceptance_name sets) }
 {
     if sets == 0 {
         return output.put(b"all");
@@ -90,8 +94,8 @@ fn put_acceptance_name<W: Write>(sets: usize, output: &mut Output<'_, W>) -> Res
     put_number(sets, output)
 }
 
-fn put_set<W: Write>(k: usize, output: &mut Output<'_, W>) -> Result<(), WriteFault>
-    ensures { Writes W.contents result output.old output.new (set_text k) }
+fn put_set<S: ByteSink>(k: usize, output: &mut Output<'_, S>) -> Result<(), WriteFault>
+    ensures { Writes S.state result output.old output.new (set_text k) }
 {
     output.put(b"Inf(")?;
     put_number(k, output)?;
@@ -99,8 +103,8 @@ fn put_set<W: Write>(k: usize, output: &mut Output<'_, W>) -> Result<(), WriteFa
 }
 
 /// Puts how many sets there are, and then all of them with `&` between them.
-fn put_acceptance<W: Write>(sets: usize, output: &mut Output<'_, W>) -> Result<(), WriteFault>
-    ensures { Writes W.contents result output.old output.new (text.acceptance_text sets) }
+fn put_acceptance<S: ByteSink>(sets: usize, output: &mut Output<'_, S>) -> Result<(), WriteFault>
+    ensures { Writes S.state result output.old output.new (text.acceptance_text sets) }
 {
     if sets == 0 {
         return output.put(b"0 t");
@@ -116,8 +120,8 @@ fn put_acceptance<W: Write>(sets: usize, output: &mut Output<'_, W>) -> Result<(
 }
 
 /// Puts the end of the line of names and the lines from the acceptance to the states.
-fn put_condition<W: Write>(sets: usize, output: &mut Output<'_, W>) -> Result<(), WriteFault>
-    ensures { Writes W.contents result output.old output.new (condition_text sets) }
+fn put_condition<S: ByteSink>(sets: usize, output: &mut Output<'_, S>) -> Result<(), WriteFault>
+    ensures { Writes S.state result output.old output.new (condition_text sets) }
 {
     output.put(b"\nacc-name: ")?;
     put_acceptance_name(sets, output)?;
@@ -128,6 +132,25 @@ fn put_condition<W: Write>(sets: usize, output: &mut Output<'_, W>) -> Result<()
 
 /// Writes the automaton in the Hanoi Omega-Automata format, version 1, with the formula's text as its name and the sets on the edges. No
 /// memory is taken, and after a fault nothing more is written.
+pub fn put_generalized<A: Allocator, B: Allocator, S: ByteSink>(
+    automaton: &Gen<'_, A>,
+    formula: &Formula<'_, B>,
+    sink: &mut S,
+) -> Result<(), WriteFault>
+    ensures ok { OnOk result (Takes (S.state sink.old) (S.state sink.new) (text.generalized_text automaton.now (reading_of formula.now))) }
+    ensures err { OnErr result (Breaks (S.state sink.old) (S.state sink.new) (text.generalized_text automaton.now
+        (reading_of formula.now))) }
+{
+    write_title(formula, sink)?;
+    let mut output = Output::new(sink);
+    put_counts(automaton.len(), formula, &mut output)?;
+    put_condition(automaton.sets(), &mut output)?;
+    put_states(automaton, &mut output)?;
+    output.put(b"--END--\n")?;
+    output.send()
+}
+
+/// The same to a standard writer, which isn't flushed.
 pub fn gen_to<A: Allocator, B: Allocator, W: Write>(
     automaton: &Gen<'_, A>,
     formula: &Formula<'_, B>,
@@ -137,11 +160,5 @@ pub fn gen_to<A: Allocator, B: Allocator, W: Write>(
     ensures err { OnErr result (AppendsBeginning (W.contents writer.old) (W.contents writer.new) (text.generalized_text automaton.now
         (reading_of formula.now))) }
 {
-    write_title(formula, writer)?;
-    let mut output = Output::new(writer);
-    put_counts(automaton.len(), formula, &mut output)?;
-    put_condition(automaton.sets(), &mut output)?;
-    put_states(automaton, &mut output)?;
-    output.put(b"--END--\n")?;
-    output.send()
+    put_generalized(automaton, formula, &mut WriterSink::new(writer))
 }

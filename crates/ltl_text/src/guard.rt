@@ -7,19 +7,19 @@ ghost use Rattle.ltl_text.specs.Names.{HasNames};
 ghost use Rattle.ltl_text.specs.Writing.{Writes};
 
 use crate::output::Output;
-use ltl_formula::{Formula, WriteFault};
+use ltl_formula::Formula;
 use ltl_sets::{Cube, Literal};
+use ltl_streams::{ByteSink, WriteFault};
 use std::alloc::Allocator;
-use std::io::Write;
 
 #[inline(always)]
-fn put_literal<A: Allocator, W: Write>(
+fn put_literal<A: Allocator, S: ByteSink>(
     literal: Literal,
     formula: &Formula<'_, A>,
-    output: &mut Output<'_, W>,
+    output: &mut Output<'_, S>,
 ) -> Result<(), WriteFault>
     requires { literal.proposition < length formula.now.names }
-    ensures { Writes W.contents result output.old output.new (literal_text formula.now.names (literal_of literal)) }
+    ensures { Writes S.state result output.old output.new (literal_text formula.now.names (literal_of literal)) }
 {
     let name = formula.name(literal.proposition).as_bytes();
     if literal.positive {
@@ -30,13 +30,13 @@ fn put_literal<A: Allocator, W: Write>(
 }
 
 /// Puts the literals in brackets with `&&` between them, and `(1)` where there is none.
-pub fn put_guard<A: Allocator, W: Write>(
+pub fn put_guard<A: Allocator, S: ByteSink>(
     cube: &Cube,
     formula: &Formula<'_, A>,
-    output: &mut Output<'_, W>,
+    output: &mut Output<'_, S>,
 ) -> Result<(), WriteFault>
     requires { HasNames (length formula.now.names) cube.now }
-    ensures { Writes W.contents result output.old output.new (cube_text formula.now.names cube.now) }
+    ensures { Writes S.state result output.old output.new (cube_text formula.now.names cube.now) }
 {
     let mut literals = cube.iter();
     let Some(first) = literals.next() else {

@@ -6,8 +6,8 @@ ghost use Rattle.std.specs.List.{flat_map};
 ghost use Rattle.std.specs.Io.KnownBytes.{Appends};
 ghost use Rattle.ltl_spec.specs.Automata.HoaText as text;
 ghost use Rattle.ltl_sets.specs.Literals.{literal_of};
+ghost use Rattle.ltl_streams.specs.Streams.{AppendsBeginning, Breaks, Takes};
 ghost use Rattle.ltl_formula.specs.FormulaView.{reading_of};
-ghost use Rattle.ltl_formula.specs.Streams.{AppendsBeginning};
 ghost use Rattle.ltl_buchi.specs.BaView.{edge_of};
 ghost use Rattle.ltl_text.specs.HoaPieces.{acceptance_text, counts_text, quoted_names, state_number, states_text, step_text, title_text};
 ghost use Rattle.ltl_text.specs.Writing.{Writes};
@@ -15,23 +15,24 @@ ghost use Rattle.ltl_text.specs.Writing.{Writes};
 use crate::digits::Digits;
 use crate::output::Output;
 use ltl_buchi::{Ba, Edge};
-use ltl_formula::{Formula, WriteFault, text_to, write_whole};
+use ltl_formula::{Formula, put_text};
 use ltl_sets::{Cube, Literal};
+use ltl_streams::{ByteSink, WriteFault, WriterSink, write_whole};
 use std::alloc::Allocator;
 use std::io::Write;
 
-pub(crate) fn put_number<W: Write>(
+pub(crate) fn put_number<S: ByteSink>(
     number: usize,
-    output: &mut Output<'_, W>,
+    output: &mut Output<'_, S>,
 ) -> Result<(), WriteFault>
-    ensures { Writes W.contents result output.old output.new (decimal number) }
+    ensures { Writes S.state result output.old output.new (decimal number) }
 {
     output.put(Digits::of(number as u64).as_slice())
 }
 
 #[inline(always)]
-fn put_literal<W: Write>(literal: Literal, output: &mut Output<'_, W>) -> Result<(), WriteFault>
-    ensures { Writes W.contents result output.old output.new (text.label_literal (literal_of literal)) }
+fn put_literal<S: ByteSink>(literal: Literal, output: &mut Output<'_, S>) -> Result<(), WriteFault>
+    ensures { Writes S.state result output.old output.new (text.label_literal (literal_of literal)) }
 {
     if literal.positive {
         return put_number(literal.proposition, output);
@@ -41,8 +42,8 @@ fn put_literal<W: Write>(literal: Literal, output: &mut Output<'_, W>) -> Result
 }
 
 /// Puts the literals with `&` between them, and `t` where there is none.
-fn put_literals<W: Write>(cube: &Cube, output: &mut Output<'_, W>) -> Result<(), WriteFault>
-    ensures { Writes W.contents result output.old output.new (text.label_text cube.now) }
+fn put_literals<S: ByteSink>(cube: &Cube, output: &mut Output<'_, S>) -> Result<(), WriteFault>
+    ensures { Writes S.state result output.old output.new (text.label_text cube.now) }
 {
     let mut literals = cube.iter();
     let Some(first) = literals.next() else {
@@ -57,12 +58,12 @@ fn put_literals<W: Write>(cube: &Cube, output: &mut Output<'_, W>) -> Result<(),
 }
 
 /// Puts the label of an edge and its target.
-pub(crate) fn put_step<W: Write>(
+pub(crate) fn put_step<S: ByteSink>(
     cube: &Cube,
     target: usize,
-    output: &mut Output<'_, W>,
+    output: &mut Output<'_, S>,
 ) -> Result<(), WriteFault>
-    ensures { Writes W.contents result output.old output.new (step_text cube.now target) }
+    ensures { Writes S.state result output.old output.new (step_text cube.now target) }
 {
     output.put(b"[")?;
     put_literals(cube, output)?;
@@ -70,15 +71,15 @@ pub(crate) fn put_step<W: Write>(
     put_number(target, output)
 }
 
-fn put_edge<W: Write>(edge: &Edge, output: &mut Output<'_, W>) -> Result<(), WriteFault>
-    ensures { Writes W.contents result output.old output.new (text.edge_line (edge_of edge.now)) }
+fn put_edge<S: ByteSink>(edge: &Edge, output: &mut Output<'_, S>) -> Result<(), WriteFault>
+    ensures { Writes S.state result output.old output.new (text.edge_line (edge_of edge.now)) }
 {
     put_step(&edge.cube, edge.target, output)?;
     output.put(b"\n")
 }
 
-fn put_edges<W: Write>(edges: &[Edge], output: &mut Output<'_, W>) -> Result<(), WriteFault>
-    ensures { Writes W.contents result output.old output.new (flat_map text.edge_line (map edge_of edges.now)) }
+fn put_edges<S: ByteSink>(edges: &[Edge], output: &mut Output<'_, S>) -> Result<(), WriteFault>
+    ensures { Writes S.state result output.old output.new (flat_map text.edge_line (map edge_of edges.now)) }
 {
     for edge in edges {
         put_edge(edge, output)?;
@@ -87,8 +88,11 @@ fn put_edges<W: Write>(edges: &[Edge], output: &mut Output<'_, W>) -> Result<(),
 }
 
 /// Puts the end of a state's line.
-fn put_acceptance<W: Write>(accepting: bool, output: &mut Output<'_, W>) -> Result<(), WriteFault>
-    ensures { Writes W.contents result output.old output.new (acceptance_text accepting) }
+fn put_acceptance<S: ByteSink>(
+    accepting: bool,
+    output: &mut Output<'_, S>,
+) -> Result<(), WriteFault>
+    ensures { Writes S.state result output.old output.new (acceptance_text accepting) }
 {
     if accepting {
         return output.put(b" {0}\n");
@@ -97,35 +101,35 @@ fn put_acceptance<W: Write>(accepting: bool, output: &mut Output<'_, W>) -> Resu
 }
 
 /// Puts the beginning of a state's line.
-pub(crate) fn put_state_number<W: Write>(
+pub(crate) fn put_state_number<S: ByteSink>(
     k: usize,
-    output: &mut Output<'_, W>,
+    output: &mut Output<'_, S>,
 ) -> Result<(), WriteFault>
-    ensures { Writes W.contents result output.old output.new (state_number k) }
+    ensures { Writes S.state result output.old output.new (state_number k) }
 {
     output.put(b"State: ")?;
     put_number(k, output)
 }
 
 /// Puts a state's number, whether it is accepting, and its edges.
-fn put_state<A: Allocator, W: Write>(
+fn put_state<A: Allocator, S: ByteSink>(
     automaton: &Ba<'_, A>,
     k: usize,
-    output: &mut Output<'_, W>,
+    output: &mut Output<'_, S>,
 ) -> Result<(), WriteFault>
     requires { k < length automaton.now.states }
-    ensures { Writes W.contents result output.old output.new (text.state_lines automaton.now k) }
+    ensures { Writes S.state result output.old output.new (text.state_lines automaton.now k) }
 {
     put_state_number(k, output)?;
     put_acceptance(automaton.accepting(k), output)?;
     put_edges(automaton.edges(k), output)
 }
 
-fn put_states<A: Allocator, W: Write>(
+fn put_states<A: Allocator, S: ByteSink>(
     automaton: &Ba<'_, A>,
-    output: &mut Output<'_, W>,
+    output: &mut Output<'_, S>,
 ) -> Result<(), WriteFault>
-    ensures { Writes W.contents result output.old output.new (states_text automaton.now) }
+    ensures { Writes S.state result output.old output.new (states_text automaton.now) }
 {
     for k in 0..automaton.len() {
         put_state(automaton, k, output)?;
@@ -134,11 +138,11 @@ fn put_states<A: Allocator, W: Write>(
 }
 
 /// Puts the names in quotes, each behind a blank.
-fn put_names<A: Allocator, W: Write>(
+fn put_names<A: Allocator, S: ByteSink>(
     formula: &Formula<'_, A>,
-    output: &mut Output<'_, W>,
+    output: &mut Output<'_, S>,
 ) -> Result<(), WriteFault>
-    ensures { Writes W.contents result output.old output.new (quoted_names formula.now.names) }
+    ensures { Writes S.state result output.old output.new (quoted_names formula.now.names) }
 {
     for k in 0..formula.name_count() {
         output.put(b" \"")?;
@@ -149,24 +153,24 @@ fn put_names<A: Allocator, W: Write>(
 }
 
 /// Writes the first line and the formula's text in quotes, but for the last one.
-pub(crate) fn write_title<A: Allocator, W: Write>(
+pub(crate) fn write_title<A: Allocator, S: ByteSink>(
     formula: &Formula<'_, A>,
-    writer: &mut W,
+    sink: &mut S,
 ) -> Result<(), WriteFault>
-    ensures ok { OnOk result (Appends (W.contents writer.old) (W.contents writer.new) (title_text (reading_of formula.now))) }
-    ensures err { OnErr result (AppendsBeginning (W.contents writer.old) (W.contents writer.new) (title_text (reading_of formula.now))) }
+    ensures ok { OnOk result (Takes (S.state sink.old) (S.state sink.new) (title_text (reading_of formula.now))) }
+    ensures err { OnErr result (Breaks (S.state sink.old) (S.state sink.new) (title_text (reading_of formula.now))) }
 {
-    write_whole(writer, b"HOA: v1\nname: \"")?;
-    text_to(formula, writer)
+    write_whole(sink, b"HOA: v1\nname: \"")?;
+    put_text(formula, sink)
 }
 
 /// Puts that quote and the lines from the count of states to the names, but for the end of the last line.
-pub(crate) fn put_counts<A: Allocator, W: Write>(
+pub(crate) fn put_counts<A: Allocator, S: ByteSink>(
     count: usize,
     formula: &Formula<'_, A>,
-    output: &mut Output<'_, W>,
+    output: &mut Output<'_, S>,
 ) -> Result<(), WriteFault>
-    ensures { Writes W.contents result output.old output.new (counts_text count formula.now.names) }
+    ensures { Writes S.state result output.old output.new (counts_text count formula.now.names) }
 {
     output.put(b"\"\nStates: ")?;
     put_number(count, output)?;
@@ -177,6 +181,26 @@ pub(crate) fn put_counts<A: Allocator, W: Write>(
 
 /// Writes the automaton in the Hanoi Omega-Automata format, version 1, with the formula's text as its name. No memory is taken, and after a
 /// fault nothing more is written.
+pub fn put_hoa<A: Allocator, B: Allocator, S: ByteSink>(
+    automaton: &Ba<'_, A>,
+    formula: &Formula<'_, B>,
+    sink: &mut S,
+) -> Result<(), WriteFault>
+    ensures ok { OnOk result (Takes (S.state sink.old) (S.state sink.new) (text.hoa_text automaton.now (reading_of formula.now))) }
+    ensures err { OnErr result (Breaks (S.state sink.old) (S.state sink.new) (text.hoa_text automaton.now (reading_of formula.now))) }
+{
+    write_title(formula, sink)?;
+    let mut output = Output::new(sink);
+    put_counts(automaton.len(), formula, &mut output)?;
+    output.put(
+        b"\nacc-name: Buchi\nAcceptance: 1 Inf(0)\nproperties: trans-labels explicit-labels state-acc\n--BODY--\n",
+    )?;
+    put_states(automaton, &mut output)?;
+    output.put(b"--END--\n")?;
+    output.send()
+}
+
+/// The same to a standard writer, which isn't flushed.
 pub fn hoa_to<A: Allocator, B: Allocator, W: Write>(
     automaton: &Ba<'_, A>,
     formula: &Formula<'_, B>,
@@ -185,13 +209,5 @@ pub fn hoa_to<A: Allocator, B: Allocator, W: Write>(
     ensures ok { OnOk result (Appends (W.contents writer.old) (W.contents writer.new) (text.hoa_text automaton.now (reading_of formula.now))) }
     ensures err { OnErr result (AppendsBeginning (W.contents writer.old) (W.contents writer.new) (text.hoa_text automaton.now (reading_of formula.now))) }
 {
-    write_title(formula, writer)?;
-    let mut output = Output::new(writer);
-    put_counts(automaton.len(), formula, &mut output)?;
-    output.put(
-        b"\nacc-name: Buchi\nAcceptance: 1 Inf(0)\nproperties: trans-labels explicit-labels state-acc\n--BODY--\n",
-    )?;
-    put_states(automaton, &mut output)?;
-    output.put(b"--END--\n")?;
-    output.send()
+    put_hoa(automaton, formula, &mut WriterSink::new(writer))
 }

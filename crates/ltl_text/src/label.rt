@@ -12,10 +12,9 @@ ghost use Rattle.ltl_text.specs.Writing.{Writes};
 use crate::digits::Digits;
 use crate::output::Output;
 use ltl_buchi::{Ba, Edge};
-use ltl_formula::WriteFault;
 use ltl_sets::Cube;
+use ltl_streams::{ByteSink, WriteFault};
 use std::alloc::Allocator;
-use std::io::Write;
 
 fn has_no_literals(cube: &Cube) -> bool
     ensures { result ≡ is_empty cube.now }
@@ -55,27 +54,27 @@ pub fn skip_state<A: Allocator>(automaton: &Ba<'_, A>) -> usize
 }
 
 #[inline(always)]
-fn put_numbered<W: Write>(
+fn put_numbered<S: ByteSink>(
     beginning: &[u8],
     k: usize,
-    output: &mut Output<'_, W>,
+    output: &mut Output<'_, S>,
 ) -> Result<(), WriteFault>
-    ensures { Writes W.contents result output.old output.new (beginning.now ++ decimal k) }
+    ensures { Writes S.state result output.old output.new (beginning.now ++ decimal k) }
 {
     output.put(beginning)?;
     output.put(Digits::of(k as u64).as_slice())
 }
 
 /// Puts the label of a state, where `skip` is the one that is called `accept_all`.
-pub fn put_label<A: Allocator, W: Write>(
+pub fn put_label<A: Allocator, S: ByteSink>(
     automaton: &Ba<'_, A>,
     skip: usize,
     k: usize,
-    output: &mut Output<'_, W>,
+    output: &mut Output<'_, S>,
 ) -> Result<(), WriteFault>
     requires within { k < length automaton.now.states }
     requires least { skip ≡ claim.skip_state automaton.now }
-    ensures { Writes W.contents result output.old output.new (claim.label_of automaton.now k) }
+    ensures { Writes S.state result output.old output.new (claim.label_of automaton.now k) }
 {
     let accepting = automaton.accepting(k);
     if k == 0 {

@@ -4,8 +4,9 @@
 //! (HOA) with accepting states (`hoa_to`), and that of a generalized automaton with acceptance sets on its edges (`gen_to`). The reader of that
 //! format, `hoa_read`, stands in `ltl_hoa` and is handed out here, so that who uses texts needs this crate alone.
 //!
-//! What flows: an automaton and its formula, whose text and names go into the output; short pieces of text, which are held back up to 4 KiB; a
-//! writer. No memory is taken. A fault of the writer ends it, and a beginning of the text has gone out.
+//! What flows: an automaton and its formula, whose text and names go into the output; short pieces of text, which are held back up to 16 KiB; a
+//! sink (`put_claim`, `put_hoa`, `put_generalized`), or a standard writer. No memory is taken. The first fault of the sink ends it, and a beginning
+//! of the text has gone out.
 //!
 //! ```
 //! let mut text = Vec::new(alloc);
@@ -20,11 +21,12 @@ mod generalized;
 mod guard;
 mod hoa;
 mod label;
+pub mod laws;
 mod options;
 mod output;
 
-pub use claim::never_to;
+pub use claim::{never_to, put_claim};
 pub use digits::Digits;
-pub use generalized::gen_to;
-pub use hoa::hoa_to;
-pub use ltl_hoa::{HoaFault, HoaFaultKind, Marked, MarkedEdge, hoa_read, laws};
+pub use generalized::{gen_to, put_generalized};
+pub use hoa::{hoa_to, put_hoa};
+pub use ltl_hoa::{HoaFault, HoaFaultKind, Marked, MarkedEdge, hoa_read};

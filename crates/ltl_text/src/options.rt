@@ -14,9 +14,9 @@ use crate::guard::put_guard;
 use crate::label::put_label;
 use crate::output::Output;
 use ltl_buchi::{Ba, Edge};
-use ltl_formula::{Formula, WriteFault};
+use ltl_formula::Formula;
+use ltl_streams::{ByteSink, WriteFault};
 use std::alloc::Allocator;
-use std::io::Write;
 
 /// How many places at the beginning have edges to this target.
 fn group_len(edges: &[Edge], places: &[usize], target: usize) -> usize
@@ -32,15 +32,15 @@ fn group_len(edges: &[Edge], places: &[usize], target: usize) -> usize
 }
 
 /// Puts the guards of the edges at these places with `||` between them.
-fn put_guards<A: Allocator, W: Write>(
+fn put_guards<A: Allocator, S: ByteSink>(
     edges: &[Edge],
     places: &[usize],
     formula: &Formula<'_, A>,
-    output: &mut Output<'_, W>,
+    output: &mut Output<'_, S>,
 ) -> Result<(), WriteFault>
     requires within { All (λ p. p < length edges.now) places.now }
     requires named { AllHaveNames (length formula.now.names) edges.now }
-    ensures { Writes W.contents result output.old output.new (guards_text formula.now.names (map edge_of edges.now) places.now) }
+    ensures { Writes S.state result output.old output.new (guards_text formula.now.names (map edge_of edges.now) places.now) }
 {
     let Some((first, others)) = places.split_first() else {
         return Ok(());
@@ -54,17 +54,17 @@ fn put_guards<A: Allocator, W: Write>(
 }
 
 /// Puts the options of a state in the order of their targets, where `skip` is the state that is called `accept_all`.
-pub fn put_options<A: Allocator, B: Allocator, W: Write>(
+pub fn put_options<A: Allocator, B: Allocator, S: ByteSink>(
     automaton: &Ba<'_, A>,
     formula: &Formula<'_, B>,
     skip: usize,
     k: usize,
-    output: &mut Output<'_, W>,
+    output: &mut Output<'_, S>,
 ) -> Result<(), WriteFault>
     requires within { k < length automaton.now.states }
     requires named { HasNamesBelow (length formula.now.names) automaton.now }
     requires least { skip ≡ skip_state automaton.now }
-    ensures { Writes W.contents result output.old output.new (options_text automaton.now formula.now.names (state_at automaton.now k)) }
+    ensures { Writes S.state result output.old output.new (options_text automaton.now formula.now.names (state_at automaton.now k)) }
 {
     let edges = automaton.edges(k);
     let mut rest = automaton.by_target(k);

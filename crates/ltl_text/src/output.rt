@@ -1,48 +1,46 @@
 //! Where a text goes.
 
 ghost use Rattle.std.specs.Prelude.{◌≡◌, [], OnOk, OnErr};
-ghost use Rattle.std.specs.Io.KnownBytes.{Appends};
-ghost use Rattle.ltl_formula.specs.Streams.{AppendsBeginning};
+ghost use Rattle.ltl_streams.specs.Streams.{Breaks, Takes};
 ghost use Rattle.ltl_text.specs.Writing.{Writes};
 
-use ltl_formula::{Piece, WriteFault};
-use std::io::Write;
+use ltl_streams::{ByteSink, Piece, WriteFault};
 
-/// A writer, and the bytes that are held back for its next write. Behind a fault nothing more is to be put or sent.
+/// A sink, and the bytes that are held back for its next write. Behind a fault nothing more is to be put or sent.
 #[derive(Drop)]
-pub struct Output<'w, W> {
+pub struct Output<'s, S> {
     piece: Piece,
-    writer: &'w mut W,
+    sink: &'s mut S,
 }
 
-impl<'w, W: Write> Output<'w, W> {
+impl<'s, S: ByteSink> Output<'s, S> {
     /// No byte is held back.
-    pub fn new(writer: &'w mut W) -> Output<'w, W>
-        ensures same { result.writer.ghost_name ≡ writer.entry.ghost_name }
-        ensures now { result.writer.now ≡ writer.old }
+    pub fn new(sink: &'s mut S) -> Output<'s, S>
+        ensures same { result.sink.ghost_name ≡ sink.entry.ghost_name }
+        ensures now { result.sink.now ≡ sink.old }
         ensures empty { result.piece ≡ [] }
     {
         Output {
             piece: Piece::new(),
-            writer,
+            sink,
         }
     }
 
     /// Holds the bytes back, after those that were held back before are written where there is no room.
     #[inline(always)]
     pub fn put(&mut self, bytes: &[u8]) -> Result<(), WriteFault>
-        ensures { Writes W.contents result self.old self.new bytes.now }
+        ensures { Writes S.state result self.old self.new bytes.now }
     {
-        self.piece.put(bytes, self.writer)
+        self.piece.put(bytes, self.sink)
     }
 
     /// Writes what is held back.
     pub fn send(&mut self) -> Result<(), WriteFault>
-        ensures same { self.new.writer.ghost_name ≡ self.old.writer.ghost_name }
-        ensures sent { OnOk result (Appends (W.contents self.old.writer.now) (W.contents self.new.writer.now) self.old.piece) }
+        ensures same { self.new.sink.ghost_name ≡ self.old.sink.ghost_name }
+        ensures sent { OnOk result (Takes (S.state self.old.sink.now) (S.state self.new.sink.now) self.old.piece) }
         ensures empty { OnOk result (self.new.piece ≡ []) }
-        ensures failed { OnErr result (AppendsBeginning (W.contents self.old.writer.now) (W.contents self.new.writer.now) self.old.piece) }
+        ensures failed { OnErr result (Breaks (S.state self.old.sink.now) (S.state self.new.sink.now) self.old.piece) }
     {
-        self.piece.send(self.writer)
+        self.piece.send(self.sink)
     }
 }

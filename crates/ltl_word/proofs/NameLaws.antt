@@ -409,7 +409,7 @@ no_repeats [] r = tt
 no_repeats (n ∷ ns) r = ((λ h. irreflexive name_linear n n (all_at (λ m. name_cmp n m ≡ Less) ns n r.0 h) refl), no_repeats ns r.1)
 
 -- fewer members, shorter list
-shorter : (xs ys : List Name) → HasNoRepeats xs → ((z : Name) → Has xs z → Has ys z) → length xs ≤ length ys
+pub shorter : (xs ys : List Name) → HasNoRepeats xs → ((z : Name) → Has xs z → Has ys z) → length xs ≤ length ys
 shorter xs ys d f =
     numbered_short xs (λ n. place_of same_name n ys) (length ys) d (λ x h. place_below same_name same_name_Decides x ys (f x h))
     (λ x y h k e. sym (at_place same_name same_name_Decides x ys [] (f x h)) ∙ ap (λ p. slice_index_or ys p []) e ∙ at_place same_name same_name_Decides y ys [] (f y k))

@@ -1,8 +1,9 @@
 -- Texts that go out piece by piece.
-use Rattle.std.proofs.Common.{◌≡◌, ◌∙◌, ap, ap₂, sym, refl, subst, ℕ, zero, suc, ◌+◌, ◌<◌, arith, List, [], ◌∷◌, ◌++◌, length, map, take, drop, append_assoc, Option}
+use Rattle.std.proofs.Common.{◌≡◌, ◌∙◌, ap, ap₂, sym, refl, subst, ℕ, zero, suc, ◌+◌, ◌<◌, arith, List, [], ◌∷◌, ◌++◌, length, map, take, drop, append_assoc}
 use Rattle.std.specs.Prelude.{slice_index_or, codes, flat_map}
 use Rattle.std.proofs.lemmas.List.{append-nil}
-use Rattle.ltl_formula.proofs.SendLaws.{Leaves, leaves_all}
+use Rattle.ltl_streams.specs.Streams.{SinkState}
+use Rattle.ltl_streams.proofs.SendLaws.{Leaves, leaves_all}
 use Rattle.ltl_spec.specs.Collections.Lists.{joined_by}
 use Rattle.ltl_spec.specs.Words.LassoText.{letter_text, lasso_text}
 use Rattle.ltl_word.specs.LassoView.{letter_of, lasso_of}
@@ -57,7 +58,7 @@ first_name names places p ps name e f =
 pub row_inside : (P : List ℕ → Type 0) (rows : List (List ℕ)) (row : List ℕ) (i : ℕ) → AllByRecursion P rows → i < length rows → row ≡ slice_index_or rows i row → P row
 row_inside P rows row i h l e = subst P (sym e) (all_at P rows (slice_index_or rows i row) h (Has-at rows i row l))
 
-pub flat_starts : (o : Option (List ℕ)) (h : List ℕ) (f : List Name → List ℕ) (g : List ℕ → List Name) (rows : List (List ℕ)) → Leaves o h o h (flat_map (λ r. f (g r)) (drop 0 rows)) (flat_map f (map g rows))
+pub flat_starts : (o : SinkState) (h : List ℕ) (f : List Name → List ℕ) (g : List ℕ → List Name) (rows : List (List ℕ)) → Leaves o h o h (flat_map (λ r. f (g r)) (drop 0 rows)) (flat_map f (map g rows))
 flat_starts o h f g rows = subst (λ t. Leaves o h o h t (flat_map f (map g rows))) (flat_mapped f g rows ∙ flat_begun (λ r. f (g r)) rows) (leaves_all o h (flat_map f (map g rows)))
 
 pub two_pieces : (f : List ℕ → List ℕ) (rows : List (List ℕ)) (row : List ℕ) (i : ℕ) (a b : List ℕ) → f row ≡ a ++ b → i < length rows → row ≡ slice_index_or rows i row → flat_map f (drop i rows) ≡ a ++ (b ++ flat_map f (drop (i + 1) rows))

@@ -3,8 +3,11 @@
 ghost use Rattle.std.specs.Prelude.{◌≡◌, ◌≢◌, ◌<◌, ◌≤◌, ℕ, IfOk, IsTrue, [], length, map, slice_index_or};
 ghost use Rattle.std.specs.Ordering.{nat_cmp};
 ghost use Rattle.ltl_spec.specs.Collections.Sets.{has};
-ghost use Rattle.ltl_spec.specs.Semantics.Word.{letter_at, name_cmp};
+ghost use Rattle.ltl_spec.specs.Semantics.Word.{IsLasso, letter_at, name_cmp};
+ghost use Rattle.ltl_spec.specs.Tools.Limits.{stated_limits};
+ghost use Rattle.ltl_spec.specs.Words.LassoText.{HasTooManyNames};
 ghost use Rattle.ltl_word.specs.LassoView.{size};
+ghost use Rattle.ltl_word.specs.ReadText.{IsSpelled};
 ghost use Rattle.ltl_word.specs.Rows.{IsRow};
 
 use crate::bits::Bits;
@@ -35,6 +38,15 @@ impl<'a, A: Allocator> Model for Lasso<'a, A> {
 }
 
 impl<'a, A: Allocator> Lasso<'a, A> {
+    /// Hands what the type promises to callers.
+    pub fn invariant(&self)
+        ensures word { IsLasso self.now }
+        ensures spelled { IsSpelled self.now }
+        ensures few { ¬ (HasTooManyNames stated_limits.propositions [] self.now) }
+    {
+        let _ = &self.names;
+    }
+
     /// How many letters are written, those of the stem and of the cycle.
     #[tactic(auto, using(crate::proofs::LetterLaws::size_is))]
     pub(crate) fn len(&self) -> usize

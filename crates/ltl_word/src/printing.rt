@@ -3,153 +3,164 @@
 ghost use Rattle.std.specs.Prelude.{◌≡◌, ◌<◌, ◌++◌, codes, flat_map, length, map, OnOk, OnErr};
 ghost use Rattle.std.specs.List.{AllByRecursion};
 ghost use Rattle.std.specs.Io.KnownBytes.{Appends};
-ghost use Rattle.ltl_formula.specs.Sending.{Puts};
-ghost use Rattle.ltl_formula.specs.Streams.{AppendsBeginning};
+ghost use Rattle.ltl_streams.specs.Sending.{Puts};
+ghost use Rattle.ltl_streams.specs.Streams.{AppendsBeginning, Breaks, Takes};
 ghost use Rattle.ltl_spec.specs.Collections.Lists.{joined_by};
 ghost use Rattle.ltl_spec.specs.Words.LassoText.{lasso_text, letter_text};
 ghost use Rattle.ltl_word.specs.LassoView.{letter_of};
 
 use crate::lasso::Lasso;
 use crate::name::OwnedName;
-use ltl_formula::{Piece, WriteFault};
 use ltl_sets::{Members, RowSet};
+use ltl_streams::{ByteSink, Piece, WriteFault, WriterSink};
 use std::alloc::Allocator;
 use std::io::Write;
 
 /// Puts a name that follows another one.
-fn put_next_name<W: Write>(name: &[u8], piece: &mut Piece, writer: &mut W) -> Result<(), WriteFault>
-    ensures { Puts result (W.contents writer.old) piece.old (W.contents writer.new) piece.new (codes "," ++ name.now) }
+fn put_next_name<S: ByteSink>(
+    name: &[u8],
+    piece: &mut Piece,
+    sink: &mut S,
+) -> Result<(), WriteFault>
+    ensures { Puts result (S.state sink.old) piece.old (S.state sink.new) piece.new (codes "," ++ name.now) }
 {
-    piece.put(b",", writer)?;
-    piece.put(name, writer)
+    piece.put(b",", sink)?;
+    piece.put(name, sink)
 }
 
 /// Puts the names that follow the first one.
-fn put_other_names<A: Allocator, W: Write>(
+fn put_other_names<A: Allocator, S: ByteSink>(
     names: &[OwnedName<'_, A>],
     places: Members,
     piece: &mut Piece,
-    writer: &mut W,
+    sink: &mut S,
 ) -> Result<(), WriteFault>
     requires { AllByRecursion (λ i. i < length names.now) places }
-    ensures { Puts result (W.contents writer.old) piece.old (W.contents writer.new) piece.new
+    ensures { Puts result (S.state sink.old) piece.old (S.state sink.new) piece.new
         (flat_map (λ n. codes "," ++ n) (letter_of (map (λ n. n.items) names.now) places)) }
 {
     for place in places {
-        put_next_name(names[place].as_slice(), piece, writer)?;
+        put_next_name(names[place].as_slice(), piece, sink)?;
     }
     Ok(())
 }
 
 /// Puts the names of a letter.
-fn put_names<A: Allocator, W: Write>(
+fn put_names<A: Allocator, S: ByteSink>(
     names: &[OwnedName<'_, A>],
     letter: &RowSet,
     piece: &mut Piece,
-    writer: &mut W,
+    sink: &mut S,
 ) -> Result<(), WriteFault>
     requires { AllByRecursion (λ i. i < length names.now) letter.now }
-    ensures { Puts result (W.contents writer.old) piece.old (W.contents writer.new) piece.new
+    ensures { Puts result (S.state sink.old) piece.old (S.state sink.new) piece.new
         (joined_by (codes ",") (letter_of (map (λ n. n.items) names.now) letter.now)) }
 {
     let mut places = letter.iter();
     let Some(first) = places.next() else {
         return Ok(());
     };
-    piece.put(names[first].as_slice(), writer)?;
-    put_other_names(names, places, piece, writer)
+    piece.put(names[first].as_slice(), sink)?;
+    put_other_names(names, places, piece, sink)
 }
 
 /// Puts a letter.
-fn put_letter<A: Allocator, W: Write>(
+fn put_letter<A: Allocator, S: ByteSink>(
     names: &[OwnedName<'_, A>],
     letter: &RowSet,
     piece: &mut Piece,
-    writer: &mut W,
+    sink: &mut S,
 ) -> Result<(), WriteFault>
     requires { AllByRecursion (λ i. i < length names.now) letter.now }
-    ensures { Puts result (W.contents writer.old) piece.old (W.contents writer.new) piece.new
+    ensures { Puts result (S.state sink.old) piece.old (S.state sink.new) piece.new
         (letter_text (letter_of (map (λ n. n.items) names.now) letter.now)) }
 {
-    piece.put(b"{", writer)?;
-    put_names(names, letter, piece, writer)?;
-    piece.put(b"}", writer)
+    piece.put(b"{", sink)?;
+    put_names(names, letter, piece, sink)?;
+    piece.put(b"}", sink)
 }
 
 /// Puts the letters of a stem.
-fn put_stem<A: Allocator, W: Write>(
+fn put_stem<A: Allocator, S: ByteSink>(
     names: &[OwnedName<'_, A>],
     letters: &[RowSet],
     piece: &mut Piece,
-    writer: &mut W,
+    sink: &mut S,
 ) -> Result<(), WriteFault>
     requires { AllByRecursion (AllByRecursion (λ i. i < length names.now)) letters.now }
-    ensures { Puts result (W.contents writer.old) piece.old (W.contents writer.new) piece.new
+    ensures { Puts result (S.state sink.old) piece.old (S.state sink.new) piece.new
         (flat_map (λ a. letter_text a ++ codes "; ") (map (letter_of (map (λ n. n.items) names.now)) letters.now)) }
 {
     for i in 0..letters.len() {
-        put_letter(names, &letters[i], piece, writer)?;
-        piece.put(b"; ", writer)?;
+        put_letter(names, &letters[i], piece, sink)?;
+        piece.put(b"; ", sink)?;
     }
     Ok(())
 }
 
 /// Puts the letters that follow the first one of a cycle.
-fn put_other_letters<A: Allocator, W: Write>(
+fn put_other_letters<A: Allocator, S: ByteSink>(
     names: &[OwnedName<'_, A>],
     letters: &[RowSet],
     piece: &mut Piece,
-    writer: &mut W,
+    sink: &mut S,
 ) -> Result<(), WriteFault>
     requires { AllByRecursion (AllByRecursion (λ i. i < length names.now)) letters.now }
-    ensures { Puts result (W.contents writer.old) piece.old (W.contents writer.new) piece.new
+    ensures { Puts result (S.state sink.old) piece.old (S.state sink.new) piece.new
         (flat_map (λ a. codes "; " ++ letter_text a) (map (letter_of (map (λ n. n.items) names.now)) letters.now)) }
 {
     for i in 0..letters.len() {
-        piece.put(b"; ", writer)?;
-        put_letter(names, &letters[i], piece, writer)?;
+        piece.put(b"; ", sink)?;
+        put_letter(names, &letters[i], piece, sink)?;
     }
     Ok(())
 }
 
 /// Puts the letters of a cycle.
-fn put_cycle<A: Allocator, W: Write>(
+fn put_cycle<A: Allocator, S: ByteSink>(
     names: &[OwnedName<'_, A>],
     letters: &[RowSet],
     piece: &mut Piece,
-    writer: &mut W,
+    sink: &mut S,
 ) -> Result<(), WriteFault>
     requires { AllByRecursion (AllByRecursion (λ i. i < length names.now)) letters.now }
-    ensures { Puts result (W.contents writer.old) piece.old (W.contents writer.new) piece.new
+    ensures { Puts result (S.state sink.old) piece.old (S.state sink.new) piece.new
         (joined_by (codes "; ") (map letter_text (map (letter_of (map (λ n. n.items) names.now)) letters.now))) }
 {
     let Some((first, others)) = letters.split_first() else {
         return Ok(());
     };
-    put_letter(names, first, piece, writer)?;
-    put_other_letters(names, others, piece, writer)
+    put_letter(names, first, piece, sink)?;
+    put_other_letters(names, others, piece, sink)
 }
 
 impl<'a, A: Allocator> Lasso<'a, A> {
     /// Puts the text of the word, the names of each letter sorted by their bytes, each once. No memory is taken.
-    pub fn put<W: Write>(&self, piece: &mut Piece, writer: &mut W) -> Result<(), WriteFault>
-        ensures { Puts result (W.contents writer.old) piece.old (W.contents writer.new) piece.new (lasso_text self.now) }
+    pub fn put<S: ByteSink>(&self, piece: &mut Piece, sink: &mut S) -> Result<(), WriteFault>
+        ensures { Puts result (S.state sink.old) piece.old (S.state sink.new) piece.new (lasso_text self.now) }
     {
         let names = self.names.as_slice();
         let (stem, cycle) = self.letters.split_at(self.stem);
-        put_stem(names, stem, piece, writer)?;
-        piece.put(b"cycle ", writer)?;
-        put_cycle(names, cycle, piece, writer)
+        put_stem(names, stem, piece, sink)?;
+        piece.put(b"cycle ", sink)?;
+        put_cycle(names, cycle, piece, sink)
     }
 
-    /// Writes the text of the word, the names of each letter sorted by their bytes, each once, in pieces of up to 4 KiB, and a longer name by
-    /// itself. No memory is taken.
+    /// Writes the same text, in pieces of up to 16 KiB, and a longer name by itself. No memory is taken.
+    pub fn write_to<S: ByteSink>(&self, sink: &mut S) -> Result<(), WriteFault>
+        ensures ok { OnOk result (Takes (S.state sink.old) (S.state sink.new) (lasso_text self.now)) }
+        ensures err { OnErr result (Breaks (S.state sink.old) (S.state sink.new) (lasso_text self.now)) }
+    {
+        let mut piece = Piece::new();
+        self.put(&mut piece, sink)?;
+        piece.send(sink)
+    }
+
+    /// The same to a standard writer, which isn't flushed.
     pub fn text_to<W: Write>(&self, w: &mut W) -> Result<(), WriteFault>
         ensures ok { OnOk result (Appends (W.contents w.old) (W.contents w.new) (lasso_text self.now)) }
         ensures err { OnErr result (AppendsBeginning (W.contents w.old) (W.contents w.new) (lasso_text self.now)) }
     {
-        let mut piece = Piece::new();
-        self.put(&mut piece, w)?;
-        piece.send(w)
+        self.write_to(&mut WriterSink::new(w))
     }
 }

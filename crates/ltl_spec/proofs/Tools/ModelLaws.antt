@@ -12,7 +12,7 @@ use Rattle.ltl_spec.specs.Construction.Translation.{Options, IsTranslation}
 use Rattle.ltl_spec.specs.Semantics.Language.{AcceptsModels}
 use Rattle.ltl_spec.specs.Tools.Limits.{Limits}
 use Rattle.ltl_spec.specs.Tools.Refusal.{Refusal, Translator}
-use Rattle.ltl_spec.specs.Tools.Outcome.{Answer, Input, IsPromised, Then, answer_by, input_of, printed}
+use Rattle.ltl_spec.specs.Tools.Outcome.{Answer, Input, IsPromised, Seen, Then, answer_by, input_of, printed}
 use Rattle.ltl_spec.specs.Tools.Programs.{Layout, Claim, Hoa, Generalized, InputReads, KeepsRows, Prints, Translates, TranslatesGeneralized, TranslatorAnswers, TranslatorPlan, TranslatorPrints}
 use Rattle.ltl_spec.specs.Tools.Run.{IsTextOfModels, IsTold, TellsModels, laid_out}
 use Rattle.ltl_spec.proofs.Construction.GeneralizedBounds.{translation_accepting}
@@ -46,13 +46,13 @@ module _ (l : Limits) (p : TranslatorPlan) (input : Input) where
       let (B, e, told, models) = printed_models l R.formula p.rewrite N kept.0 p.options R text p.layout h2 in
       record { asked = p; words = refl; formula = R; reads = reads; automaton = B; printed = e; told = told; models = models }
 
-  answer_models : (seen : Answer) (r : Result (List ℕ) Refusal) → TranslatorPrints l p input r → seen.status ≡ (answer_by l Translator (λ text. printed text 0) r).status
+  answer_models : (seen : Seen) (r : Result (List ℕ) Refusal) → TranslatorPrints l p input r → seen.status ≡ (answer_by l Translator (λ text. printed text 0) r).status
       → seen.output ≡ (answer_by l Translator (λ text. printed text 0) r).output → TellsModels l (Some p) input seen
   answer_models seen (Ok text) h st o done = subst (IsTextOfModels l (Some p) input) (sym o) (prints_models text h)
   answer_models seen (Err e) h st o done = let high = refusals_high e in absurd (omega (arith, high, st, done))
 
 -- what a run of the translator may show tells of models
-pub promised_models : (l : Limits) (plan : Option TranslatorPlan) (input : Input) (seen : Answer) → IsPromised l Translator (TranslatorAnswers l plan input) seen → TellsModels l plan input seen
+pub promised_models : (l : Limits) (plan : Option TranslatorPlan) (input : Input) (seen : Seen) → IsPromised l Translator (TranslatorAnswers l plan input) seen → TellsModels l plan input seen
 promised_models l plan input seen h = promise_holds l Translator (TranslatorAnswers l plan input) (TellsModels l plan input) seen (right plan) (λ high done. absurd (omega (arith, high, done))) h
   where
     right : (plan : Option TranslatorPlan) (a : Answer) → TranslatorAnswers l plan input a → seen.status ≡ a.status → seen.output ≡ a.output → TellsModels l plan input seen

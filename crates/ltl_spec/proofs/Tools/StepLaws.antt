@@ -6,7 +6,7 @@ use Rattle.ltl_spec.specs.Formulas.Grammar.{IsTextOf}
 use Rattle.ltl_spec.specs.Formulas.Tokens.{tokens}
 use Rattle.ltl_spec.specs.Tools.Limits.{Limits}
 use Rattle.ltl_spec.specs.Tools.Refusal.{Refusal, Tool, Usage, CannotOpen, CannotRead, CannotWrite, OutOfMemory, LongFormula, TooManyPropositions, TooManyRows, TooManyElementaryRows, LargeAutomaton, LongWord, LargeProduct, BadFormula, BadWord, BadAutomaton, status_of}
-use Rattle.ltl_spec.specs.Tools.Outcome.{Answer, Input, IsPromised, Then}
+use Rattle.ltl_spec.specs.Tools.Outcome.{Answer, Input, IsPromised, Seen, Then}
 use Rattle.ltl_spec.specs.Tools.Programs.{InputReads}
 use Rattle.ltl_spec.proofs.Formulas.BeginningLaws.{reads_once}
 
@@ -43,11 +43,11 @@ refusals_high (BadWord place) = omega arith
 refusals_high (BadAutomaton number kind) = omega arith
 
 -- what holds of each right answer, by its output and its status, and where the status is a refusal's, holds of each run
-pub promise_holds : (l : Limits) (tool : Tool) (Answers : Answer → Type 0) (Tells : Answer → Type 0) (seen : Answer)
+pub promise_holds : (l : Limits) (tool : Tool) (Answers : Answer → Type 0) (Tells : Seen → Type 0) (seen : Seen)
     → ((a : Answer) → Answers a → seen.status ≡ a.status → seen.output ≡ a.output → Tells seen) → (2 ≤ seen.status → Tells seen) → IsPromised l tool Answers seen → Tells seen
 promise_holds l tool Answers Tells seen right high (inl (a, h, g)) = right a h g.0 g.1
 promise_holds l tool Answers Tells seen right high (inr (inl g)) = high (let s = g.0 in omega (arith, s))
-promise_holds l tool Answers Tells seen right high (inr (inr (a, h, m, s, w, z))) = high (omega (arith, s))
+promise_holds l tool Answers Tells seen right high (inr (inr (a, h, m, s, w, b, z))) = high (omega (arith, s))
 
 -- an input reads as one formula
 pub one_formula : (l : Limits) (input : Input) (R S : Reading) → InputReads l input (Ok R) → InputReads l input (Ok S) → R ≡ S

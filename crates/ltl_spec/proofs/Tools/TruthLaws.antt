@@ -7,7 +7,7 @@ use Rattle.ltl_spec.specs.Semantics.Satisfaction.{Satisfies}
 use Rattle.ltl_spec.specs.Words.LassoText.{IsLassoText}
 use Rattle.ltl_spec.specs.Tools.Limits.{Limits}
 use Rattle.ltl_spec.specs.Tools.Refusal.{Refusal, Evaluator}
-use Rattle.ltl_spec.specs.Tools.Outcome.{Answer, Input, IsPromised, Then, answer_by, input_of}
+use Rattle.ltl_spec.specs.Tools.Outcome.{Answer, Input, IsPromised, Seen, Then, answer_by, input_of}
 use Rattle.ltl_spec.specs.Tools.Programs.{EvaluatorAnswers, EvaluatorFinds, EvaluatorPlan, Evaluates, InputReads, ReadsWord, truth_answer}
 use Rattle.ltl_spec.specs.Tools.Run.{AreRead, TellsTruth}
 use Rattle.ltl_spec.proofs.Words.LassoTextLaws.{one_word}
@@ -24,7 +24,7 @@ module _ (l : Limits) (plan : Option EvaluatorPlan) (input : Input) (R S : Readi
   same_word : v ≡ w
   same_word = one_word g.asked.word v w g.word.1 (subst (λ (p : EvaluatorPlan). IsLassoText p.word w) asked h.word.1)
 
-module _ (l : Limits) (plan : Option EvaluatorPlan) (input : Input) (seen : Answer) where
+module _ (l : Limits) (plan : Option EvaluatorPlan) (input : Input) (seen : Seen) where
   -- a status from 2 on says nothing
   high_tells : 2 ≤ seen.status → TellsTruth l plan input seen
   high_tells high = record { reads = λ m. absurd (omega (arith, high, m)); truth = λ m. absurd (omega (arith, high, m)) }
@@ -37,7 +37,7 @@ module _ (l : Limits) (plan : Option EvaluatorPlan) (input : Input) (seen : Answ
         (subst (λ (X : Reading). (seen.status ≡ 0) ↔ Satisfies X.names w 0 X.formula) (same_formula l plan input R S w v g h) d);
   }
 
-module _ (l : Limits) (p : EvaluatorPlan) (input : Input) (seen : Answer) where
+module _ (l : Limits) (p : EvaluatorPlan) (input : Input) (seen : Seen) where
   decided : (R : Reading) (w : Lasso) (b : Bool) → Evaluates l R w (Ok b) → seen.status ≡ (truth_answer l b).status → (seen.status ≡ 0) ↔ Satisfies R.names w 0 R.formula
   decided R w b (inl (e, s)) st = ((λ z. s), λ t. st ∙ ap (λ (c : Bool). (truth_answer l c).status) (same_ok b true e))
   decided R w b (inr (e, n)) st = ((λ z. let o = st ∙ ap (λ (c : Bool). (truth_answer l c).status) (same_ok b false e) in absurd (omega (arith, o, z))), λ t. absurd (n t))
@@ -50,7 +50,7 @@ module _ (l : Limits) (p : EvaluatorPlan) (input : Input) (seen : Answer) where
       decides_tells l (Some p) input seen R w (record { asked = p; words = refl; formula = reads; word = word }) (decided R w b h2 st)
 
 -- what a run of the evaluator may show tells the truth
-pub promised_truth : (l : Limits) (plan : Option EvaluatorPlan) (input : Input) (seen : Answer) → IsPromised l Evaluator (EvaluatorAnswers l plan input) seen → TellsTruth l plan input seen
+pub promised_truth : (l : Limits) (plan : Option EvaluatorPlan) (input : Input) (seen : Seen) → IsPromised l Evaluator (EvaluatorAnswers l plan input) seen → TellsTruth l plan input seen
 promised_truth l plan input seen h = promise_holds l Evaluator (EvaluatorAnswers l plan input) (TellsTruth l plan input) seen (right plan) (high_tells l plan input seen) h
   where
     right : (plan : Option EvaluatorPlan) (a : Answer) → EvaluatorAnswers l plan input a → seen.status ≡ a.status → seen.output ≡ a.output → TellsTruth l plan input seen

@@ -10,7 +10,7 @@ use Rattle.ltl_spec.specs.Hoa.HoaReading.{AcceptanceForm, MarkedAutomaton, HoaRe
 use Rattle.ltl_spec.specs.Checking.Check.{Verdict, Contained, Violated, IsVerdict, IsViolation, IsContained}
 use Rattle.ltl_spec.specs.Tools.Limits.{Limits}
 use Rattle.ltl_spec.specs.Tools.Refusal.{Refusal, Checker}
-use Rattle.ltl_spec.specs.Tools.Outcome.{Answer, Input, IsPromised, Then, answer_by, input_of, taken}
+use Rattle.ltl_spec.specs.Tools.Outcome.{Answer, Input, IsPromised, Seen, Then, answer_by, input_of, taken}
 use Rattle.ltl_spec.specs.Tools.Programs.{CheckerAnswers, CheckerFinds, CheckerPlan, InputReads, Judges, KeepsRows, ReadsHoa, Translates, plain_options, verdict_answer}
 use Rattle.ltl_spec.specs.Tools.Run.{AreInputs, AutomatonReads, PrintsViolation, TellsVerdict}
 use Rattle.ltl_spec.proofs.Hoa.HoaUniqueLaws.{one_automaton}
@@ -46,7 +46,7 @@ module _ (l : Limits) (form : AcceptanceForm) (plan : Option CheckerPlan) (input
   same_automaton : A ≡ M
   same_automaton = one_given l form file A M g.automaton h.automaton
 
-module _ (l : Limits) (form : AcceptanceForm) (plan : Option CheckerPlan) (input file : Input) (seen : Answer) where
+module _ (l : Limits) (form : AcceptanceForm) (plan : Option CheckerPlan) (input file : Input) (seen : Seen) where
   -- a status from 2 on says nothing
   high_tells : 2 ≤ seen.status → TellsVerdict l form plan input file seen
   high_tells high = record {
@@ -80,7 +80,7 @@ module _ (l : Limits) (form : AcceptanceForm) (plan : Option CheckerPlan) (input
         reads = proper_reads w h.0 (λ n m. needed_proposition A R.names B n (automaton_proper l form file A g.automaton) (formula_proper l form (input_of g.asked.formula input) R g.formula) (h.3 n m));
       }
 
-module _ (l : Limits) (form : AcceptanceForm) (p : CheckerPlan) (input file : Input) (seen : Answer) where
+module _ (l : Limits) (form : AcceptanceForm) (p : CheckerPlan) (input file : Input) (seen : Seen) where
   abbrev Checked : Reading → Automaton → MarkedAutomaton → Result Verdict Refusal → Type 0
   Checked R B A = Judges l A R.names B (IsViolation A R)
 
@@ -102,7 +102,7 @@ module _ (l : Limits) (form : AcceptanceForm) (p : CheckerPlan) (input file : In
   answer_tells (Err e) h st o = high_tells l form (Some p) input file seen (subst (λ n. 2 ≤ n) (sym st) (refusals_high e))
 
 -- what a run of the checker may show tells the verdict
-pub promised_verdict : (l : Limits) (form : AcceptanceForm) (plan : Option CheckerPlan) (input file : Input) (seen : Answer) → IsPromised l Checker (CheckerAnswers l form plan input file) seen
+pub promised_verdict : (l : Limits) (form : AcceptanceForm) (plan : Option CheckerPlan) (input file : Input) (seen : Seen) → IsPromised l Checker (CheckerAnswers l form plan input file) seen
     → TellsVerdict l form plan input file seen
 promised_verdict l form plan input file seen h =
     promise_holds l Checker (CheckerAnswers l form plan input file) (TellsVerdict l form plan input file) seen (right plan) (high_tells l form plan input file seen) h

@@ -2,6 +2,7 @@
 use Rattle.std.specs.Prelude.{◌≡◌, ℕ, ◌<◌, nat_lt, if◌then◌else◌, List, [], ◌⊎◌, length, take, Option, Some, None, Result, Ok, Err, ⊤}
 use Rattle.ltl_spec.specs.Tools.Limits.{Limits}
 use Rattle.ltl_spec.specs.Tools.Refusal.{Tool, Refusal, CannotOpen, CannotRead, CannotWrite, OutOfMemory, message, status_of}
+use Rattle.ltl_spec.specs.Tools.Stage.{Stage, Open, Closed, Broken}
 
 -- a text from the command line, a file that couldn't be opened, bytes up to the end, or bytes after which reading fails
 pub data Input : Type 0 where
@@ -58,23 +59,44 @@ answer_by l tool f (Err r) = refused l tool r
 abbrev pub IsBeginningOf : List ℕ → List ℕ → Type 0
 IsBeginningOf xs ys = (k : ℕ) × (xs ≡ take k ys)
 
--- Of a run, `seen` is its status and what its writers took, and `Answers` are the right answers. The writer of the message may fail, which
--- changes nothing else
+-- What is seen of a run: what its output and the writer of its message took, how the calls on each of them went, and the exit status. Both were
+-- open when it began
+pub record Seen : Type 0 where
+  pub output : List ℕ
+  pub output_stage : Stage
+  pub message : List ℕ
+  pub message_stage : Stage
+  pub status : ℕ
 
--- the run gave the answer
-abbrev pub IsGiven : Answer → Answer → Type 0
-IsGiven seen a = (seen.status ≡ a.status) × (seen.output ≡ a.output) × IsBeginningOf seen.message a.message
+-- The message went out whole, or a write of it failed, behind which there was no call. Where there is none, nothing is written
+abbrev pub TellsMessage : List ℕ → Seen → Type 0
+TellsMessage text seen =
+    (seen.message ≡ text) × (seen.message_stage ≡ Open) ⊎ (0 < length text) × IsBeginningOf seen.message text × (seen.message_stage ≡ Broken)
+
+-- Behind an answer with a status of 0 or 1 the output was flushed, once and behind its last byte; of a refusal it was asked nothing
+abbrev pub stage_behind : ℕ → Stage
+stage_behind status = if nat_lt status 2 then Closed else Open
+
+-- the run gave the answer. The writer of the message may fail, which changes nothing else
+abbrev pub IsGiven : Seen → Answer → Type 0
+IsGiven seen a = (seen.status ≡ a.status) × (seen.output ≡ a.output) × (seen.output_stage ≡ stage_behind a.status) × TellsMessage a.message seen
 
 -- memory was refused, before the first byte of output
-abbrev pub IsShortOfMemory : Limits → Tool → Answer → Type 0
+abbrev pub IsShortOfMemory : Limits → Tool → Seen → Type 0
 IsShortOfMemory l tool seen = IsGiven seen (refused l tool OutOfMemory)
 
--- a write of the output or the flush failed, and a beginning went out
-abbrev pub IsCutOff : Limits → Tool → (Answer → Type 0) → Answer → Type 0
+-- A write of the output or the flush failed, behind which there was no call, and a beginning went out. There was no refusal
+abbrev pub IsCutOff : Limits → Tool → (Answer → Type 0) → Seen → Type 0
 IsCutOff l tool Answers seen =
     (a : Answer) × Answers a × (a.message ≡ []) × (seen.status ≡ status_of CannotWrite) × IsBeginningOf seen.output a.output
-    × IsBeginningOf seen.message (message l tool CannotWrite)
+    × (seen.output_stage ≡ Broken) × TellsMessage (message l tool CannotWrite) seen
 
--- What is promised of every run. That memory was really refused, or a write really failed, isn't said here
-abbrev pub IsPromised : Limits → Tool → (Answer → Type 0) → Answer → Type 0
+-- What is promised of every run. That memory was really refused isn't said here
+abbrev pub IsPromised : Limits → Tool → (Answer → Type 0) → Seen → Type 0
 IsPromised l tool Answers seen = ((a : Answer) × Answers a × IsGiven seen a) ⊎ IsShortOfMemory l tool seen ⊎ IsCutOff l tool Answers seen
+
+-- a file that couldn't be opened, or a read that failed
+abbrev pub IsAtFault : Input → Type 0
+IsAtFault NotOpened = ⊤
+IsAtFault (Failed bytes) = ⊤
+IsAtFault input = ⊥

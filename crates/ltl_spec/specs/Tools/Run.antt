@@ -1,5 +1,5 @@
 -- What a run of a program may show, for what its words ask for and for its inputs: a right answer, and what one with status 0 or 1 means.
-use Rattle.std.specs.Prelude.{◌≡◌, ℕ, ◌≤◌, ◌↔◌, List, ◌++◌, Option, Some, Result, Ok, codes}
+use Rattle.std.specs.Prelude.{◌≡◌, ℕ, ◌≤◌, ◌↔◌, ◌⊎◌, List, ◌++◌, Option, Some, None, Result, Ok, codes}
 use Rattle.ltl_spec.specs.Formulas.Formula.{Reading}
 use Rattle.ltl_spec.specs.Semantics.Word.{Lasso, IsLasso}
 use Rattle.ltl_spec.specs.Semantics.Satisfaction.{Satisfies}
@@ -13,8 +13,9 @@ use Rattle.ltl_spec.specs.Hoa.HoaReading.{AcceptanceForm, MarkedAutomaton}
 use Rattle.ltl_spec.specs.Checking.Bounds.{AcceptsEverywhere}
 use Rattle.ltl_spec.specs.Checking.Check.{IsViolation, IsContained}
 use Rattle.ltl_spec.specs.Tools.Limits.{Limits}
-use Rattle.ltl_spec.specs.Tools.Refusal.{Refusal, Tool, Translator, Checker, Evaluator}
-use Rattle.ltl_spec.specs.Tools.Outcome.{Answer, Input, IsPromised, Then, input_of, taken}
+use Rattle.ltl_spec.specs.Tools.Refusal.{Refusal, Tool, Translator, Checker, Evaluator, CannotWrite, status_of}
+use Rattle.ltl_spec.specs.Tools.Stage.{Broken}
+use Rattle.ltl_spec.specs.Tools.Outcome.{Answer, Input, IsAtFault, IsPromised, Seen, Then, input_of, taken}
 use Rattle.ltl_spec.specs.Tools.Programs.{Layout, Claim, Hoa, Generalized, TranslatorPlan, CheckerPlan, EvaluatorPlan, TranslatorAnswers, CheckerAnswers, EvaluatorAnswers, InputReads, ReadsHoa, ReadsWord}
 
 -- the text of an automaton in a layout
@@ -51,7 +52,7 @@ module _ (l : Limits) where
     pub models : AcceptsModels automaton formula.formula
 
   -- a run of the translator that ends with status 0 has printed such a text
-  abbrev pub TellsModels : Option TranslatorPlan → Input → Answer → Type 0
+  abbrev pub TellsModels : Option TranslatorPlan → Input → Seen → Type 0
   TellsModels plan input seen = seen.status ≡ 0 → IsTextOfModels plan input seen.output
 
   -- the words ask for a formula and a word, which are read as these
@@ -63,7 +64,7 @@ module _ (l : Limits) where
 
   -- A run of the evaluator that ends with status 0 or 1 has read a formula and a word, and the status is 0 exactly where that formula holds
   -- at the beginning of that word
-  pub record TellsTruth (plan : Option EvaluatorPlan) (input : Input) (seen : Answer) : Type 0 where
+  pub record TellsTruth (plan : Option EvaluatorPlan) (input : Input) (seen : Seen) : Type 0 where
     pub reads : seen.status ≤ 1 → (R : Reading) × (w : Lasso) × AreRead plan input R w
     pub truth : seen.status ≤ 1 → (R : Reading) (w : Lasso) → AreRead plan input R w → (seen.status ≡ 0) ↔ Satisfies R.names w 0 R.formula
 
@@ -81,7 +82,7 @@ module _ (l : Limits) (form : AcceptanceForm) where
 
   -- A run of the checker that ends with status 0 or 1 has read a formula and an automaton. With 0 no word that this automaton accepts
   -- violates this formula; with 1 such a word was printed
-  pub record TellsVerdict (plan : Option CheckerPlan) (input file : Input) (seen : Answer) : Type 0 where
+  pub record TellsVerdict (plan : Option CheckerPlan) (input file : Input) (seen : Seen) : Type 0 where
     pub reads : seen.status ≤ 1 → (R : Reading) × (A : MarkedAutomaton) × AreInputs plan input file R A
     pub contained : (R : Reading) (A : MarkedAutomaton) → AreInputs plan input file R A → seen.status ≡ 0 → IsContained A R
     pub violated : (R : Reading) (A : MarkedAutomaton) → AreInputs plan input file R A → seen.status ≡ 1 → PrintsViolation A R seen.output
@@ -94,6 +95,13 @@ PlanOf Translator = TranslatorPlan
 PlanOf Checker = CheckerPlan
 PlanOf Evaluator = EvaluatorPlan
 
+-- an input that the program looks at couldn't be opened, or couldn't be read to its end
+abbrev pub HasInputAtFault : (tool : Tool) → Option (PlanOf tool) → Input → Input → Type 0
+HasInputAtFault tool None input file = ⊥
+HasInputAtFault Translator (Some p) input file = IsAtFault (input_of p.formula input)
+HasInputAtFault Checker (Some p) input file = IsAtFault (input_of p.formula input) ⊎ IsAtFault file
+HasInputAtFault Evaluator (Some p) input file = IsAtFault (input_of p.formula input)
+
 module _ (l : Limits) (form : AcceptanceForm) where
   -- the right answers, where this stands behind the name of the formula's file and this is the automaton's input
   abbrev pub ToolAnswers : (tool : Tool) → Option (PlanOf tool) → Input → Input → Answer → Type 0
@@ -102,12 +110,13 @@ module _ (l : Limits) (form : AcceptanceForm) where
   ToolAnswers Evaluator plan input file = EvaluatorAnswers l plan input
 
   -- what they mean, by satisfaction and acceptance alone
-  abbrev pub ToolTells : (tool : Tool) → Option (PlanOf tool) → Input → Input → Answer → Type 0
+  abbrev pub ToolTells : (tool : Tool) → Option (PlanOf tool) → Input → Input → Seen → Type 0
   ToolTells Translator plan input file = TellsModels l plan input
   ToolTells Checker plan input file = TellsVerdict l form plan input file
   ToolTells Evaluator plan input file = TellsTruth l plan input
 
-  -- Of a run, `seen` is its status and what its writers took: it gave a right answer, or was cut off, and what it showed is true
-  pub record MayShow (tool : Tool) (plan : Option (PlanOf tool)) (input file : Input) (seen : Answer) : Type 0 where
+  -- Of a run this was seen: it gave a right answer, or was cut off, what it showed is true, and a status of 5 has a cause
+  pub record MayShow (tool : Tool) (plan : Option (PlanOf tool)) (input file : Input) (seen : Seen) : Type 0 where
     pub promised : IsPromised l tool (ToolAnswers tool plan input file) seen
     pub tells : ToolTells tool plan input file seen
+    pub cause : seen.status ≡ status_of CannotWrite → (seen.output_stage ≡ Broken) ⊎ HasInputAtFault tool plan input file

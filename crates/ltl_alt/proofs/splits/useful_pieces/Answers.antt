@@ -1,7 +1,5 @@
-use Rattle.std.proofs.Common.{◌≡◌, ◌+◌, ◌≤◌, ap, arith, length, map, subst, sym}
-use Rattle.ltl_spec.proofs.Transitions.PartJoins.{join_all}
-use Rattle.ltl_spec.proofs.Transitions.SameJoins.{AreAlike}
-use Rattle.ltl_alt.specs.PieceView.{AreFew, piece_pairs}
+use Rattle.std.proofs.Common.{◌≡◌, ap, arith, length, subst, sym}
+use Rattle.ltl_alt.specs.PieceView.{AreFew}
 use Rattle.ltl_alt.specs.TransitionView.{table_at}
 use Rattle.ltl_alt.proofs.splits.useful_pieces.Goals as goal
 

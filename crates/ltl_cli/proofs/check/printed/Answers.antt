@@ -7,18 +7,18 @@ pub returns-in_err-verdict : goal.returns-in_err-verdict
 returns-in_err-verdict g c =
     let (input, s, file, t, h) = c.in_err-verdict.ensures in
     let p = err_from_is_err_and c.from_residual.result c.from_residual.ensures.1 in
-    (input, s, file, t, rw (p.1, p.2) (outcome_refused (checker_decides c.args.plan.now input file) _ _ h))
+    (input, s, file, t, rw (p.1, p.2) (outcome_refused (checker_decides c.args.plan.now input file) _ _ c.requires.output h))
 
 pub returns-in_err-printed : goal.returns-in_err-printed
 returns-in_err-printed g c =
     let (input, s, file, t, h) = c.in_ok-verdict.ensures in
     let p = err_from_is_err_and c.from_residual-in_err-printed.result c.from_residual-in_err-printed.ensures.1 in
     let w = rw c.outcome.ensures at (rw c.in_err-printed.was at c.print-printed.ensures.err) in
-    (input, s, file, t, rw (p.1, p.2) (outcome_broken (checker_decides c.args.plan.now input file) _ _ _ h w))
+    (input, s, file, t, rw (p.1, p.2) (outcome_broken (checker_decides c.args.plan.now input file) _ _ _ c.requires.output h w))
 
 pub returns : goal.returns
 returns g c =
     let (input, s, file, t, h) = c.in_ok-verdict.ensures in
     let w = rw c.outcome.ensures at (rw c.in_ok-printed.was at c.print-printed.ensures.ok) in
     let e = rw c.outcome-2.ensures at c.status_of-status.ensures in
-    (input, s, file, t, outcome_done (checker_decides c.args.plan.now input file) _ _ _ _ h w e)
+    (input, s, file, t, outcome_done (checker_decides c.args.plan.now input file) _ _ _ _ c.requires.output h w e)

@@ -1,7 +1,7 @@
 use Rattle.std.proofs.Common.{[], append-nil, codes, refl, sym}
 use Rattle.ltl_spec.specs.Automata.ClaimText.{line}
 use Rattle.ltl_spec.specs.Words.LassoText.{lasso_text}
-use Rattle.ltl_formula.proofs.SendLaws.{begun, leaves_all, leaves_held, leaves_step, some_sent, whole_sent}
+use Rattle.ltl_streams.proofs.SendLaws.{begun, leaves_all, leaves_held, leaves_step, some_sent, whole_sent}
 use Rattle.ltl_cli.proofs.check.put_word.Goals as goal
 
 pub returns-in_err-put-clause-err : goal.returns-in_err-put-clause-err

@@ -1,17 +1,18 @@
 use Rattle.std.proofs.Common.{ap}
 use Rattle.std.specs.Prelude.{option_map}
 use Rattle.ltl_spec.specs.Tools.Refusal.{Evaluator}
-use Rattle.ltl_cli.proofs.InputLaws.{some_input}
+use Rattle.ltl_cli.specs.Inputs.{most_taken}
+use Rattle.ltl_cli.proofs.InputLaws.{unread}
 use Rattle.ltl_cli.proofs.EvaluationLaws.{no_word}
 use Rattle.ltl_cli.proofs.RunLaws.{words_refused}
 use Rattle.ltl_cli.proofs.evaluate.answered.Goals as goal
 
 pub returns-in-Err : goal.returns-in-Err
 returns-in-Err g c =
-    let (input, s) = some_input g.R.Read.remaining c.args.source.now in
-    (input, s, λ file. words_refused Evaluator c.args.plan.now input file _ _ _ c.in-Err.is c.of_words.ensures)
+    let (input, s) = unread most_taken g.R.ByteSource.state c.args.source.now c.requires.source in
+    (input, s, λ file. words_refused Evaluator c.args.plan.now input file _ _ _ c.requires.output c.in-Err.is c.of_words.ensures)
 
 pub returns-in-None : goal.returns-in-None
 returns-in-None g c =
-    let (input, s) = some_input g.R.Read.remaining c.args.source.now in
-    (input, s, rw c.in-Ok.is (λ file. no_word c.in-Ok.plan input file _ (ap (option_map (λ t. t.now)) c.in-None.is)))
+    let (input, s) = unread most_taken g.R.ByteSource.state c.args.source.now c.requires.source in
+    (input, s, rw c.in-Ok.is (λ file. no_word c.in-Ok.plan input file _ c.requires.output (ap (option_map (λ t. t.now)) c.in-None.is)))

@@ -7,17 +7,17 @@ use Rattle.ltl_cli.proofs.message.put_line.Goals as goal
 
 pub returns-in_err-write_whole-clause-err : goal.returns-in_err-write_whole-clause-err
 returns-in_err-write_whole-clause-err g c =
-    first_failed _ _ _ _ (refusal_text stated_limits (tool_of c.args.tool) (refusal_of c.args.refusal)) (10 ∷ []) _
+    first_failed _ _ (refusal_text stated_limits (tool_of c.args.tool) (refusal_of c.args.refusal)) (10 ∷ [])
     (line_same (tool_of c.args.tool) (refusal_of c.args.refusal) _ c.name-name.ensures) c.in_err-write_whole.ensures.err
 
 pub returns-in_err-put_text-clause-err : goal.returns-in_err-put_text-clause-err
 returns-in_err-put_text-clause-err g c =
-    second_failed _ _ _ _ _ (refusal_text stated_limits (tool_of c.args.tool) (refusal_of c.args.refusal)) (10 ∷ []) _ (line_same (tool_of c.args.tool) (refusal_of c.args.refusal) _ c.name-name.ensures) c.in_ok-write_whole.ensures.ok c.in_err-put_text.ensures.err
+    second_failed _ _ (refusal_text stated_limits (tool_of c.args.tool) (refusal_of c.args.refusal)) (10 ∷ []) (line_same (tool_of c.args.tool) (refusal_of c.args.refusal) _ c.name-name.ensures) c.in_ok-write_whole.ensures.ok c.in_err-put_text.ensures.err
 
 pub returns-clause-ok : goal.returns-clause-ok
 returns-clause-ok g c =
-    all_went _ _ _ _ _ _ (refusal_text stated_limits (tool_of c.args.tool) (refusal_of c.args.refusal)) (10 ∷ []) _ (line_same (tool_of c.args.tool) (refusal_of c.args.refusal) _ c.name-name.ensures) c.in_ok-write_whole.ensures.ok c.in_ok-put_text.ensures.ok c.write_whole-2.ensures.ok
+    all_went _ _ (refusal_text stated_limits (tool_of c.args.tool) (refusal_of c.args.refusal)) (10 ∷ []) (line_same (tool_of c.args.tool) (refusal_of c.args.refusal) _ c.name-name.ensures) c.in_ok-write_whole.ensures.ok _ c.in_ok-put_text.ensures.ok c.write_whole-2.ensures.ok
 
 pub returns-clause-err : goal.returns-clause-err
 returns-clause-err g c =
-    third_failed _ _ _ _ _ _ (refusal_text stated_limits (tool_of c.args.tool) (refusal_of c.args.refusal)) (10 ∷ []) _ (line_same (tool_of c.args.tool) (refusal_of c.args.refusal) _ c.name-name.ensures) c.in_ok-write_whole.ensures.ok c.in_ok-put_text.ensures.ok c.write_whole-2.ensures.err
+    third_failed _ _ (refusal_text stated_limits (tool_of c.args.tool) (refusal_of c.args.refusal)) (10 ∷ []) (line_same (tool_of c.args.tool) (refusal_of c.args.refusal) _ c.name-name.ensures) c.in_ok-write_whole.ensures.ok _ c.in_ok-put_text.ensures.ok c.write_whole-2.ensures.err

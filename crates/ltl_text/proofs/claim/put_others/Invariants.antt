@@ -5,5 +5,5 @@ use Rattle.ltl_text.proofs.claim.put_others.Given as goal
 
 abbrev pub invariant-loop-k : goal.invariant-loop-k
 invariant-loop-k g l =
-    Remains g.W.Write.contents l.fn.output l.output
+    Remains g.S.ByteSink.state l.fn.output l.output
     (others_from l.automaton l.formula.names l.k) (others_text l.automaton l.formula.names)

@@ -5,4 +5,4 @@ use Rattle.ltl_text.proofs.generalized.put_acceptance.Given as goal
 
 abbrev pub invariant-loop-k : goal.invariant-loop-k
 invariant-loop-k g l =
-    Remains g.W.Write.contents l.fn.output l.output (sets_from l.sets l.k) (acceptance_text l.sets)
+    Remains g.S.ByteSink.state l.fn.output l.output (sets_from l.sets l.k) (acceptance_text l.sets)

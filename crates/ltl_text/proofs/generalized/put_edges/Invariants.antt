@@ -7,5 +7,5 @@ use Rattle.ltl_text.proofs.generalized.put_edges.Given as goal
 
 abbrev pub invariant-loop-edge : goal.invariant-loop-edge
 invariant-loop-edge g l =
-    Remains g.W.Write.contents l.fn.output l.output
+    Remains g.S.ByteSink.state l.fn.output l.output
     (flat_map marked_edge_line (map edge_of (drop l.edge-index l.edges))) (flat_map marked_edge_line (map edge_of l.edges))

@@ -8,4 +8,4 @@ use Rattle.ltl_text.proofs.generalized.put_marks.Given as goal
 
 abbrev pub invariant-loop-number : goal.invariant-loop-number
 invariant-loop-number g l =
-    Remains g.W.Write.contents l.fn.output l.output (led (codes " ") (map decimal l.number-iterator) ++ codes "}") (marks_text l.marks)
+    Remains g.S.ByteSink.state l.fn.output l.output (led (codes " ") (map decimal l.number-iterator) ++ codes "}") (marks_text l.marks)

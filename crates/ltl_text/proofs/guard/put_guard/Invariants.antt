@@ -10,6 +10,6 @@ use Rattle.ltl_text.proofs.guard.put_guard.Given as goal
 abbrev pub invariant-loop-literal : goal.invariant-loop-literal
 invariant-loop-literal g l = record {
   named : HasNames (length l.formula.names) (cube_of l.literal-iterator);
-  text : Remains g.W.Write.contents l.fn.output l.output
+  text : Remains g.S.ByteSink.state l.fn.output l.output
       (led (codes " && ") (texts_of l.formula.names l.literal-iterator) ++ codes ")") (cube_text l.formula.names l.cube);
 }

@@ -7,4 +7,4 @@ use Rattle.ltl_text.proofs.hoa.put_literals.Given as goal
 
 abbrev pub invariant-loop-literal : goal.invariant-loop-literal
 invariant-loop-literal g l =
-    Remains g.W.Write.contents l.fn.output l.output (led (codes "&") (labels_of l.literal-iterator)) (label_text l.cube)
+    Remains g.S.ByteSink.state l.fn.output l.output (led (codes "&") (labels_of l.literal-iterator)) (label_text l.cube)

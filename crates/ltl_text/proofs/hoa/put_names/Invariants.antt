@@ -5,4 +5,4 @@ use Rattle.ltl_text.proofs.hoa.put_names.Given as goal
 
 abbrev pub invariant-loop-k : goal.invariant-loop-k
 invariant-loop-k g l =
-    Remains g.W.Write.contents l.fn.output l.output (quoted_names (drop l.k l.formula.names)) (quoted_names l.formula.names)
+    Remains g.S.ByteSink.state l.fn.output l.output (quoted_names (drop l.k l.formula.names)) (quoted_names l.formula.names)

@@ -7,4 +7,4 @@ use Rattle.ltl_text.proofs.hoa.put_states.Given as goal
 
 abbrev pub invariant-loop-k : goal.invariant-loop-k
 invariant-loop-k g l =
-    Remains g.W.Write.contents l.fn.output l.output (states_from (state_lines l.automaton) (length l.automaton.states) l.k) (states_text l.automaton)
+    Remains g.S.ByteSink.state l.fn.output l.output (states_from (state_lines l.automaton) (length l.automaton.states) l.k) (states_text l.automaton)

@@ -9,6 +9,6 @@ use Rattle.ltl_text.proofs.options.put_guards.Given as goal
 abbrev pub invariant-loop-place : goal.invariant-loop-place
 invariant-loop-place g l = record {
   within : All (λ p. p < length l.edges) l.others;
-  text : Remains g.W.Write.contents l.fn.output l.output
+  text : Remains g.S.ByteSink.state l.fn.output l.output
       (led (codes " || ") (guards_of l.formula.names (map edge_of l.edges) (drop l.place-index l.others))) (guards_text l.formula.names (map edge_of l.edges) l.places);
 }

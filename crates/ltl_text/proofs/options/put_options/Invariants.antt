@@ -12,7 +12,7 @@ abbrev pub invariant-options : goal.invariant-options
 invariant-options g l = record {
   within : All (λ p. p < length l.edges) l.rest;
   rising : IsRising (place_cmp (target_at (map edge_of l.edges))) l.rest;
-  text : Remains g.W.Write.contents l.fn.output l.output
+  text : Remains g.S.ByteSink.state l.fn.output l.output
       (entries (target_at (map edge_of l.edges)) (option_text l.automaton l.formula.names (map edge_of l.edges)) l.rest)
       (options_text l.automaton l.formula.names (state_at l.automaton l.k));
 }

@@ -1,5 +1,5 @@
 use Rattle.std.proofs.Common.{refl}
-use Rattle.ltl_formula.proofs.SendLaws.{leaves_all, leaves_fails, leaves_puts, leaves_step}
+use Rattle.ltl_streams.proofs.SendLaws.{leaves_all, leaves_fails, leaves_puts, leaves_step}
 use Rattle.ltl_word.proofs.printing.put_next_name.Goals as goal
 
 pub returns-in_err-put : goal.returns-in_err-put

@@ -1,7 +1,7 @@
 use Rattle.std.proofs.Common.{◌++◌, ◌<◌, arith, map, length, refl, []}
 use Rattle.std.specs.Prelude.{codes, slice_index_or}
 use Rattle.std.specs.List.{AllByRecursion}
-use Rattle.ltl_formula.proofs.SendLaws.{leaves_fails, leaves_step}
+use Rattle.ltl_streams.proofs.SendLaws.{leaves_fails, leaves_step}
 use Rattle.ltl_spec.specs.Words.LassoText.{letter_text}
 use Rattle.ltl_word.specs.LassoView.{letter_of}
 use Rattle.ltl_word.proofs.TextLaws.{row_inside, flat_starts, two_pieces, two_there}

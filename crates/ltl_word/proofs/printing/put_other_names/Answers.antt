@@ -1,7 +1,7 @@
 use Rattle.std.proofs.Common.{◌≡◌, ◌∙◌, ◌<◌, sym, subst, length, map, []}
 use Rattle.std.specs.Prelude.{slice_index_or}
 use Rattle.std.specs.List.{AllByRecursion}
-use Rattle.ltl_formula.proofs.SendLaws.{leaves_all, leaves_fails, leaves_step}
+use Rattle.ltl_streams.proofs.SendLaws.{leaves_all, leaves_fails, leaves_step}
 use Rattle.ltl_word.proofs.NameLaws.{mapped_at}
 use Rattle.ltl_word.proofs.TextLaws.{other_name}
 use Rattle.ltl_word.proofs.printing.put_other_names.Goals as goal

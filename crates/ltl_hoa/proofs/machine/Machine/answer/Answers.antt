@@ -14,8 +14,8 @@ finish-requires g c =
     let end : c.self.inside.parser.place ≡ place.End = subst (λ (x : MachineView). x.parser.place ≡ place.End) (sym c.self.view_is) c.in-None.ensures.whole.1 in
     (omega arith, end_whole w c.requires.0 e none end)
 
-pub returns-in-None : goal.returns-in-None
-returns-in-None g c = λ text a.
+pub returns-in-None-clause-answers : goal.returns-in-None-clause-answers
+returns-in-None-clause-answers g c = λ text a.
     let w : MachineView = record { given = c.self.inside.given; line = c.self.inside.line; lexer = c.self.inside.lexer; parser = c.self.inside.parser; fault = c.self.inside.fault } in
     let e : IsEnded w text = subst (λ x. IsEnded x text) (sym c.self.view_is) a in
     let none : c.self.inside.fault ≡ None = subst (λ (x : MachineView). x.fault ≡ None) (sym c.self.view_is) c.in-None.ensures.whole.0 in

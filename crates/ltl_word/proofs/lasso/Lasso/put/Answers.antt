@@ -1,6 +1,6 @@
 use Rattle.std.proofs.Common.{◌∙◌, ◌<◌, ap, arith, sym, subst, refl, map, take, drop, length}
 use Rattle.std.specs.List.{AllByRecursion}
-use Rattle.ltl_formula.proofs.SendLaws.{leaves_all, leaves_fails, leaves_puts, leaves_step}
+use Rattle.ltl_streams.proofs.SendLaws.{leaves_all, leaves_fails, leaves_puts, leaves_step}
 use Rattle.ltl_spec.proofs.Collections.MemberLaws.{map_length}
 use Rattle.ltl_word.specs.LassoView.{lasso_of}
 use Rattle.ltl_word.proofs.TextLaws.{word_text, rest_inside}

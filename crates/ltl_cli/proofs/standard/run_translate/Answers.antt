@@ -1,0 +1,16 @@
+use Rattle.std.proofs.Common.{ap, rules}
+use Rattle.ltl_cli.specs.Inputs.{most_taken}
+use Rattle.ltl_cli.proofs.InputLaws.{input_before}
+use Rattle.ltl_cli.proofs.RunLaws.{shows_bytes}
+use Rattle.ltl_cli.proofs.standard.run_translate.Goals as goal
+
+pub returns-clause-shown : goal.returns-clause-shown
+returns-clause-shown g c =
+    let (input, s, h) = c.translate_over.ensures.shown in (
+      input,
+      input_before g.R.Read.remaining _ most_taken c.args.source _ _ input c.asked.ensures s,
+      λ file. shows_bytes (ap g.W.Write.contents c.new.ensures.now) (search rules) (ap g.E.Write.contents c.new-2.ensures.now) (search rules) (h file),
+    )
+
+pub returns-clause-memory : goal.returns-clause-memory
+returns-clause-memory g c takes = c.translate_over.ensures.memory (λ input s. takes input (input_before g.R.Read.remaining _ most_taken c.args.source _ _ input c.asked.ensures s))

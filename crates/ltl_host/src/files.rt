@@ -1,0 +1,54 @@
+//! The files of a runtime.
+
+ghost use Rattle.ltl_host.specs.Sources.{IsOpenedAs};
+
+use ltl_cli::Source;
+use ltl_streams::ReaderSource;
+use std::fs::File;
+use std::io;
+use std::io::Read;
+use std::rt::Files;
+
+/// The files of a runtime, and a reader as the standard input.
+#[derive(Drop)]
+pub struct HostFiles<'r, R, I> {
+    rt: &'r R,
+    input: I,
+}
+
+impl<'r, R, I> HostFiles<'r, R, I> {
+    /// Nothing is opened or read yet.
+    pub fn new(rt: &'r R, input: I) -> HostFiles<'r, R, I> {
+        HostFiles { rt, input }
+    }
+}
+
+/// The source of the file that was opened, or of one that could not be. Why it could not be opened isn't told.
+pub fn opened<F: Drop>(file: io::Result<F>) -> Source<ReaderSource<F>>
+    ensures { IsOpenedAs file result }
+{
+    match file {
+        Ok(file) => Source::Input(ReaderSource::new(file)),
+        Err(_) => Source::NotOpened,
+    }
+}
+
+impl<R: Files, I: Read + Copy + Drop> ltl_cli::Files for HostFiles<'_, R, I> {
+    type File = ReaderSource<R::File>;
+
+    type Input = ReaderSource<I>;
+
+    ghost use Rattle.ltl_host.specs.Sources.{Anything, AnythingBehind};
+
+    ghost Stands = { λ _ name input. AnythingBehind name input };
+
+    ghost Comes = { λ _ input. Anything input };
+
+    fn open(&self, name: &str) -> Source<ReaderSource<R::File>> {
+        opened(File::open(self.rt, name))
+    }
+
+    fn input(&self) -> ReaderSource<I> {
+        ReaderSource::new(self.input)
+    }
+}

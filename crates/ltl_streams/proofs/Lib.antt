@@ -1,0 +1,2 @@
+pub mod SendLaws
+pub mod StreamLemmas

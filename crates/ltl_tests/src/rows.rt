@@ -1,0 +1,294 @@
+//! The worked runs, each made over memory by the call that a `main` makes: its output, its message and its status are compared byte by byte.
+
+ghost use Rattle.std.specs.Prelude.{⊤};
+
+use crate::parts::text_of;
+use crate::row_table::{
+    AUTOMATON_LIMITS, CLAIMS, FORMULA_LIMITS, File, LAYOUTS, LONG_TEXTS, LOOP, MANY_STATES,
+    NESTED_TEXTS, REFUSED_BODIES, REFUSED_COMMANDS, REFUSED_FORMULAS, REFUSED_HEADERS,
+    REFUSED_LASSOS, Row, SIMPLIFICATIONS, TRUTHS, VERDICTS,
+};
+use ltl_cli::{Files, Source, Tool, run};
+use ltl_streams::{ReaderSource, WriterSink};
+use std::alloc::{AllocError, Global};
+use std::io;
+use std::io::Read;
+use std::test::Fail;
+
+/// A text that is read, or a folder, which can't be.
+#[derive(Clone, Copy, Drop)]
+struct Held<'t> {
+    rest: Option<&'t [u8]>,
+}
+
+impl Read for Held<'_> {
+    fn read(&mut self, buf: &mut [u8]) -> io::Result<usize> {
+        let Some(rest) = self.rest else {
+            return Err(io::Error::from(io::ErrorKind::IsADirectory));
+        };
+        let count = rest.len().min(buf.len());
+        buf[..count].copy_from_slice(&rest[..count]);
+        self.rest = Some(&rest[count..]);
+        Ok(count)
+    }
+}
+
+/// What a run finds: one file at most, and the standard input.
+#[derive(Clone, Copy)]
+struct Desk<'t> {
+    name: Option<&'t str>,
+    file: Held<'t>,
+    input: Held<'t>,
+}
+
+impl<'t> Files for Desk<'t> {
+    type File = ReaderSource<Held<'t>>;
+
+    type Input = ReaderSource<Held<'t>>;
+
+    ghost Stands = { λ _ _ _. ⊤ };
+
+    ghost Comes = { λ _ _. ⊤ };
+
+    fn open(&self, name: &str) -> Source<ReaderSource<Held<'t>>> {
+        if self.name == Some(name) {
+            Source::Input(ReaderSource::new(self.file))
+        } else {
+            Source::NotOpened
+        }
+    }
+
+    fn input(&self) -> ReaderSource<Held<'t>> {
+        ReaderSource::new(self.input)
+    }
+}
+
+/// The name under which a program is started.
+fn name_of(tool: Tool) -> &'static str {
+    match tool {
+        Tool::Translator => "ltl2ba",
+        Tool::Checker => "ltlcheck",
+        Tool::Evaluator => "ltleval",
+    }
+}
+
+/// The words of a row, the program's name first.
+fn words_of<'a>(alloc: Global, row: &Row, last: &'a str) -> Result<Vec<&'a str>, AllocError> {
+    let mut words = Vec::new(alloc);
+    words.push(name_of(row.tool))?;
+    for word in row.words {
+        words.push(*word)?;
+    }
+    if !last.is_empty() {
+        words.push(last)?;
+    }
+    Ok(words)
+}
+
+/// The text of the row's file; empty where there is none.
+fn file_text(alloc: Global, file: Option<File>) -> Result<String, AllocError> {
+    match file {
+        Some(
+            File {
+                text: Some(text),
+                ..
+            },
+        ) => text_of(alloc, text),
+        _ => Ok(String::new(alloc)),
+    }
+}
+
+/// The text as what is read; a folder where it is none.
+fn reader_of<'t>(file: Option<File>, text: &'t str) -> Held<'t> {
+    match file {
+        Some(File { text: None, .. }) => Held { rest: None },
+        _ => Held {
+            rest: Some(text.as_bytes()),
+        },
+    }
+}
+
+/// What is told of a run: its output, its message and its status.
+#[derive(Drop)]
+struct Told {
+    output: Vec<u8>,
+    message: Vec<u8>,
+    status: u8,
+}
+
+/// What is told of a program with these words, at this desk.
+fn ran(alloc: Global, tool: Tool, words: &[&str], desk: &Desk<'_>) -> Told {
+    let mut output = Vec::new(alloc);
+    let mut message = Vec::new(alloc);
+    let mut written = WriterSink::new(&mut output);
+    let mut said = WriterSink::new(&mut message);
+    let status = run(alloc, tool, Ok(words), desk, &mut written, &mut said);
+    Told {
+        output,
+        message,
+        status,
+    }
+}
+
+/// What is told of a row.
+fn ran_row(alloc: Global, row: &Row) -> Result<Told, AllocError> {
+    let last = text_of(alloc, row.last)?;
+    let input = text_of(alloc, row.input)?;
+    let text = file_text(alloc, row.file)?;
+    let words = words_of(alloc, row, last.as_str())?;
+    let desk = Desk {
+        name: row.file.map(|file| file.name),
+        file: reader_of(row.file, text.as_str()),
+        input: Held {
+            rest: Some(input.as_bytes()),
+        },
+    };
+    Ok(ran(alloc, row.tool, words.as_slice(), &desk))
+}
+
+/// What the first of these rows is about that gives something else than it has to.
+fn first_wrong(alloc: Global, rows: &[Row]) -> Result<Option<&'static str>, AllocError> {
+    for row in rows {
+        let told = ran_row(alloc, row)?;
+        let output = text_of(alloc, row.output)?;
+        let is_right = told.status == row.status
+            && told.output.as_slice() == output.as_bytes()
+            && told.message.as_slice() == row.message.as_bytes();
+        if !is_right {
+            return Ok(Some(row.about));
+        }
+    }
+    Ok(None)
+}
+
+#[test]
+fn claims(rt: HostRuntime) -> Result<(), Fail> {
+    assert_eq!(rt; first_wrong(rt.alloc(), &CLAIMS)?, None);
+    Ok(())
+}
+
+#[test]
+fn simplifications(rt: HostRuntime) -> Result<(), Fail> {
+    assert_eq!(rt; first_wrong(rt.alloc(), &SIMPLIFICATIONS)?, None);
+    Ok(())
+}
+
+#[test]
+fn layouts(rt: HostRuntime) -> Result<(), Fail> {
+    assert_eq!(rt; first_wrong(rt.alloc(), &LAYOUTS)?, None);
+    Ok(())
+}
+
+#[test]
+fn refused_formulas(rt: HostRuntime) -> Result<(), Fail> {
+    assert_eq!(rt; first_wrong(rt.alloc(), &REFUSED_FORMULAS)?, None);
+    Ok(())
+}
+
+#[test]
+fn refused_commands(rt: HostRuntime) -> Result<(), Fail> {
+    assert_eq!(rt; first_wrong(rt.alloc(), &REFUSED_COMMANDS)?, None);
+    Ok(())
+}
+
+#[test]
+fn formula_limits(rt: HostRuntime) -> Result<(), Fail> {
+    assert_eq!(rt; first_wrong(rt.alloc(), &FORMULA_LIMITS)?, None);
+    Ok(())
+}
+
+#[test]
+fn verdicts(rt: HostRuntime) -> Result<(), Fail> {
+    assert_eq!(rt; first_wrong(rt.alloc(), &VERDICTS)?, None);
+    Ok(())
+}
+
+#[test]
+fn refused_headers(rt: HostRuntime) -> Result<(), Fail> {
+    assert_eq!(rt; first_wrong(rt.alloc(), &REFUSED_HEADERS)?, None);
+    Ok(())
+}
+
+#[test]
+fn refused_bodies(rt: HostRuntime) -> Result<(), Fail> {
+    assert_eq!(rt; first_wrong(rt.alloc(), &REFUSED_BODIES)?, None);
+    Ok(())
+}
+
+#[test]
+fn automaton_limits(rt: HostRuntime) -> Result<(), Fail> {
+    assert_eq!(rt; first_wrong(rt.alloc(), &AUTOMATON_LIMITS)?, None);
+    Ok(())
+}
+
+#[test]
+fn nested_texts(rt: HostRuntime) -> Result<(), Fail> {
+    assert_eq!(rt; first_wrong(rt.alloc(), &NESTED_TEXTS)?, None);
+    Ok(())
+}
+
+#[test]
+fn long_texts(rt: HostRuntime) -> Result<(), Fail> {
+    assert_eq!(rt; first_wrong(rt.alloc(), &LONG_TEXTS)?, None);
+    Ok(())
+}
+
+#[test]
+fn many_states(rt: HostRuntime) -> Result<(), Fail> {
+    assert_eq!(rt; first_wrong(rt.alloc(), &MANY_STATES)?, None);
+    Ok(())
+}
+
+#[test]
+fn truths(rt: HostRuntime) -> Result<(), Fail> {
+    assert_eq!(rt; first_wrong(rt.alloc(), &TRUTHS)?, None);
+    Ok(())
+}
+
+#[test]
+fn refused_lassos(rt: HostRuntime) -> Result<(), Fail> {
+    assert_eq!(rt; first_wrong(rt.alloc(), &REFUSED_LASSOS)?, None);
+    Ok(())
+}
+
+/// What is told of these words, where the standard input is `LOOP`.
+fn ran_on_loop(alloc: Global, tool: Tool, words: &[&str]) -> Told {
+    let input = Held {
+        rest: Some(LOOP.as_bytes()),
+    };
+    let desk = Desk {
+        name: None,
+        file: input,
+        input,
+    };
+    ran(alloc, tool, words, &desk)
+}
+
+/// A proposition that the automaton doesn't list is free, so more than one word is a right answer: one in which `q` holds somewhere and `p` nowhere.
+#[test]
+fn a_word_with_a_free_proposition(rt: HostRuntime) -> Result<(), Fail> {
+    let alloc = rt.alloc();
+    let told = ran_on_loop(alloc, Tool::Checker, &["ltlcheck", "-f", "[]!q"]);
+    assert_eq!(rt; told.status, 1);
+    assert!(rt; told.message.is_empty());
+    let word = word_in(&told).expect(&rt, "a word");
+    let violates = ran_on_loop(
+        alloc,
+        Tool::Evaluator,
+        &["ltleval", "-f", "<>q", "-w", word],
+    );
+    assert_eq!(rt; violates.status, 0);
+    let is_accepted = ran_on_loop(
+        alloc,
+        Tool::Evaluator,
+        &["ltleval", "-f", "[]!p", "-w", word],
+    );
+    assert_eq!(rt; is_accepted.status, 0);
+    Ok(())
+}
+
+/// The word in what was told of a violation.
+fn word_in(told: &Told) -> Option<&str> {
+    let rest = told.output.as_slice().strip_prefix(b"violated\n")?;
+    str::from_utf8(rest.strip_suffix(b"\n")?).ok()
+}
