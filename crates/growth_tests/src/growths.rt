@@ -9,7 +9,7 @@ use crate::digest::{
 };
 use crate::inputs::{CASES, Case};
 use crate::streams::Given;
-use ltl_alt::{AltFault, Gba, pairs};
+use ltl_alt::{AltFault, Gba, Reach, pairs};
 use ltl_buchi::{Ba, BaFault, Options, generalized, levels, merge, merge_ba, renumber, translate};
 use ltl_check::{CheckFault, Graph, PRODUCT_LIMIT, Product, Steps, check, find};
 use ltl_formula::{BuildFault, Formula, ReadFault, Table, read};

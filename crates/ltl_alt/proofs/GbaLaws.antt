@@ -19,7 +19,7 @@ use Rattle.ltl_spec.proofs.Construction.GeneralizedBounds.{generalized_consisten
 use Rattle.ltl_spec.proofs.Construction.SetEdges.{generalized_sets}
 use Rattle.ltl_automaton.specs.Bounds.{IsBounded}
 use Rattle.ltl_automaton.specs.Net as net
-use Rattle.ltl_alt.specs.GbaView.{IsEdgeWithin, IsAcceptingGba}
+use Rattle.ltl_models.specs.GbaView.{IsEdgeWithin, IsAcceptingGba}
 use Rattle.ltl_alt.specs.ReachView.{arc_of, net_of}
 
 module _ (F : Normal) (keep : Bool) where

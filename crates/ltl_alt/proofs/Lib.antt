@@ -1,5 +1,4 @@
 pub mod AskedLaws
-pub mod ElementLaws
 pub mod ElementaryLaws
 pub mod GbaLaws
 pub mod GroupLaws
@@ -18,7 +17,6 @@ pub mod RowListLaws
 pub mod ProductLaws
 pub mod PruneLaws
 pub mod ShapeLaws
-pub mod SortLaws
 pub mod StandInLaws
 pub mod TransitionLaws
 pub mod TreeLaws

@@ -1,7 +1,5 @@
 pub mod AskedView
 pub mod Codes
-pub mod Elements
-pub mod GbaView
 pub mod GroupView
 pub mod JoinView
 pub mod NeedsView

@@ -14,7 +14,8 @@
 //! The transitions of the set are the products, one transition of each group at once; they are counted before they are made, then made and sorted
 //! (`product`). A set that has the transitions of an earlier one isn't asked for its own (`twins`): its groups have equal ones (`shapes`), or its
 //! parts are one group whose joins, which are remembered (`joins`), end at the same list (`wholes`). How many a set has is told ahead where its groups
-//! are remembered (`sizes`). The sets that are targets are numbered as they are met (`reach`): a `Gba`.
+//! are remembered (`sizes`). The sets that are targets are numbered as they are met (`reach`): a `Gba`,
+//! whose type stands below, in `ltl_models`, and which is asked for as `Gba::reach` (`of_table`).
 //!
 //! Two things here are subtle. To ask for less isn't enough to drop a pair early, since the pair that asks for less may put off an until row that the
 //! other one fulfils. And products need no test for implied ones across groups only because groups are apart: no proposition and no target is in two
@@ -29,8 +30,6 @@
 #![tactic(auto)]
 
 mod asked;
-pub mod elements;
-pub mod gba;
 mod groups;
 mod implied;
 mod joins;
@@ -38,6 +37,7 @@ mod lists;
 mod marks;
 mod near;
 mod needs;
+pub mod of_table;
 mod own;
 pub mod pair;
 pub mod pair_set;
@@ -59,7 +59,7 @@ mod transitions;
 mod twins;
 mod wholes;
 
-pub use gba::{Gba, MOST_EDGES, MOST_STATES};
-pub use ltl_automaton::{AutomatonFault as AltFault, Edge as GbaEdge};
+pub use ltl_models::{AltFault, Gba, GbaEdge, MOST_EDGES, MOST_STATES};
+pub use of_table::Reach;
 pub use pair::Pair;
 pub use pair_set::{PairSet, pairs};

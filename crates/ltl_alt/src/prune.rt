@@ -5,11 +5,11 @@ ghost use Rattle.ltl_spec.specs.Collections.Sets.{Has};
 ghost use Rattle.ltl_alt.specs.StandIns.{IsPruned, has_spare, is_asked, least_of, pair_of};
 ghost use Rattle.ltl_alt.specs.declared.prune.Measured as made;
 
-use crate::elements::{has_literal, has_row, tally_literals, tally_rows};
 use crate::lists::make_distinct;
 use crate::pair::Pair;
 use crate::rule::{Pruning, Rule};
 use least::{Below, Counting, Lookup};
+use ltl_models::elements::{has_literal, has_row, tally_literals, tally_rows};
 use smallvec::SmallVec;
 use std::alloc::{AllocError, Allocator};
 

@@ -9,7 +9,6 @@ ghost use Rattle.ltl_alt.specs.ReachView.{AreReady, arc_of, net_of};
 ghost use Rattle.ltl_alt.specs.ShapeView.{AreShapes};
 ghost use Rattle.ltl_alt.specs.TransitionView.{table_at};
 
-use crate::gba::{Gba, MOST_EDGES, MOST_STATES};
 use crate::groups::Groups;
 use crate::joins::Joins;
 use crate::own::all_own;
@@ -27,6 +26,7 @@ use crate::twins::twin;
 use crate::wholes::Wholes;
 use ltl_automaton::{Arc, AutomatonFault as AltFault, Limits, Successors, explore_from};
 use ltl_formula::{Row, Table};
+use ltl_models::{Gba, MOST_EDGES, MOST_STATES};
 use ltl_sets::RowSet;
 use std::alloc::{AllocError, Allocator};
 

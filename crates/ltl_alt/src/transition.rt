@@ -5,8 +5,8 @@ ghost use Rattle.std.specs.Ordering.{is_ne};
 ghost use Rattle.ltl_spec.specs.Transitions.RowTransitions.{implies, transition_cmp};
 ghost use Rattle.ltl_alt.specs.ProductView.{join_transitions};
 
-use crate::elements::{has_literal, has_row, tally_literals, tally_rows};
 use least::{Below, Counting};
+use ltl_models::elements::{has_literal, has_row, tally_literals, tally_rows};
 use ltl_sets::{Cube, RowSet};
 use std::alloc::AllocError;
 use std::cmp::Ordering;

@@ -7,7 +7,7 @@
 //! What flows: a start, and a type with the trait `Successors`, which answers for each thing that can be a state, as a set of rows or a state on a
 //! level, whether it accepts, and its `Arc`s, which are edges to things that have no numbers yet; a `Listing`, which numbers things as they are met;
 //! `explore_from`, which takes one after the other until none is left or a limit is passed: a `SharedStates`. A thing whose twin was taken, one with
-//! the same edges, gets the list that is there, and its edges aren't made again. So sets of rows are listed in `ltl_alt`, and in `ltl_buchi` copies
+//! the same edges, gets the list that is there, and its edges aren't made again. So sets of rows are listed in `ltl_alt`, and in `ltl_passes` copies
 //! on levels and, to number them anew, the states of an automaton that stands. Where many things wait that have many edges, the listing looks ahead
 //! (`ahead`): what these have at least, as far as `Successors` knows, is added to the edges there are, and too many are refused before they are made.
 //!

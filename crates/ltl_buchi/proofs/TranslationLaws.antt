@@ -18,9 +18,9 @@ use Rattle.ltl_spec.proofs.Semantics.LanguageLaws.{translation_language, transla
 use Rattle.ltl_spec.proofs.Construction.MergingRuns.{merged_closed}
 use Rattle.ltl_spec.proofs.Semantics.GeneralizedLaws.{generalized_closed}
 use Rattle.ltl_spec.proofs.Semantics.Runs.{IsClosed}
-use Rattle.ltl_buchi.specs.Agreeing.{AreAgreed}
-use Rattle.ltl_buchi.specs.Named.{HasNamesOf}
-use Rattle.ltl_buchi.proofs.ThinLaws.{generalized_thin, levels_thin, merged_thin}
+use Rattle.ltl_passes.specs.Agreeing.{AreAgreed}
+use Rattle.ltl_models.specs.Named.{HasNamesOf}
+use Rattle.ltl_passes.proofs.ThinLaws.{generalized_thin, levels_thin, merged_thin}
 
 -- A is the generalized automaton, S its merging
 module _ (F : Normal) (o : Options) (keep : Bool) (same : keep ≡ o.keep_implied) (A S : Automaton) (generalized : IsGeneralized F keep A) (small : S ≡ merged_automaton o.keep_implied o.keep_equal A) where

@@ -10,18 +10,15 @@ ghost use Rattle.ltl_spec.specs.Construction.Translation.{IsTranslation, IsTrans
 ghost use Rattle.ltl_spec.specs.Semantics.Language.{HasLanguageOf, AcceptsModels, AcceptsViolations};
 ghost use Rattle.ltl_spec.specs.Tools.Limits.{stated_limits};
 ghost use Rattle.ltl_formula.specs.TableView.{core_of};
-ghost use Rattle.ltl_buchi.specs.Named.{HasNamesOf};
+ghost use Rattle.ltl_models.specs.Named.{HasNamesOf};
 
-use crate::agreeing::are_copies_thin;
-use crate::automaton::Ba;
-use crate::copies::level_states;
-use crate::fault::BaFault;
-use crate::numbered::Gen;
-use crate::numbering::{numbered_states, renumber_generalized};
-use crate::options::Options;
-use crate::smaller::{smaller_gba, smaller_states};
-use ltl_alt::Gba;
+use ltl_alt::Reach;
 use ltl_formula::Table;
+use ltl_models::{Ba, BaFault, Gba, Gen, Options};
+use ltl_passes::{
+    are_copies_thin, level_states, numbered_states, renumber_generalized, smaller_gba,
+    smaller_states,
+};
 use std::alloc::Allocator;
 
 /// The Büchi automaton of a table's formula: the words that it accepts are those that satisfy the formula, whatever the options. Each

@@ -12,7 +12,7 @@ use Rattle.ltl_spec.specs.Automata.Automaton.{Automaton, Edge, state_at}
 use Rattle.ltl_spec.specs.Checking.Bounds.{HasNamesBelow}
 use Rattle.ltl_spec.proofs.Collections.ListLaws.{Has-at}
 use Rattle.ltl_automaton.specs.declared.edge.Edge as code
-use Rattle.ltl_buchi.specs.BaView.{edge_of}
+use Rattle.ltl_models.specs.BaView.{edge_of}
 use Rattle.ltl_sets.specs.declared.literal.Literal as made
 use Rattle.ltl_sets.specs.Literals.{literal_of, cube_of}
 use Rattle.ltl_spec.proofs.Transitions.SafeLaws.{contradiction_grows}

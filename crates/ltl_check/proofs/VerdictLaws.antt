@@ -22,7 +22,7 @@ use Rattle.ltl_spec.proofs.Words.UniqueLaws.{least_unique}
 use Rattle.ltl_spec.proofs.Checking.CheckLaws.{common_lasso, both_below}
 use Rattle.ltl_spec.proofs.Checking.VerdictLaws.{contained_verdict, violated_verdict, graph_is_graph}
 use Rattle.ltl_hoa.specs.MarkedView.{IsMarked, IsEdgeWithin}
-use Rattle.ltl_buchi.specs.BaView.{IsBa}
+use Rattle.ltl_models.specs.BaView.{IsBa}
 use Rattle.ltl_check.specs.declared.walk.Taken.{Taken}
 use Rattle.ltl_check.specs.Levels.{IsFullWalk, levels_net}
 use Rattle.ltl_check.specs.ProductView.{number_in, product_net, edge_pairs, pair_at, pair_count}

@@ -10,8 +10,8 @@ ghost use Rattle.ltl_sets.specs.declared.row_set.TheConstants.RowSet.{LIMIT};
 ghost use Rattle.ltl_check.specs.ProductView.{IsSearchable, number_in, pair_marks, first_edges, second_edges, pair_count, edge_pairs, IsPair, pair_place, pair_at, pair_step, start_pair};
 
 use crate::graph::{Graph, Step};
-use ltl_buchi::Ba;
 use ltl_hoa::Marked;
+use ltl_models::Ba;
 use ltl_sets::{Cube, Literal, RowSet};
 use std::alloc::Allocator;
 

@@ -25,7 +25,7 @@ use Rattle.ltl_formula.specs.GraphView.{node_of}
 use Rattle.ltl_spec.proofs.Checking.BelowLaws.{parsed_below}
 use Rattle.ltl_spec.proofs.Semantics.LanguageLaws.{generalized_models, translation_models}
 use Rattle.ltl_formula.specs.TableView.{TableView, IsTable, core_of, row_trees}
-use Rattle.ltl_buchi.specs.Named.{HasNamesOf}
+use Rattle.ltl_models.specs.Named.{HasNamesOf}
 use Rattle.ltl_automaton.specs.declared.fault.AutomatonFault.{AutomatonFault}
 use Rattle.ltl_automaton.specs.declared.fault.AutomatonFault.TheVariants as fault
 use Rattle.ltl_cli.specs.declared.refusal.Refusal.TheVariants.{OutOfMemory}

@@ -24,9 +24,9 @@ use Rattle.ltl_spec.proofs.Collections.ListLaws.{Has-at, All-at_has, All-from_ha
 use Rattle.ltl_spec.proofs.Hoa.HoaUniqueLaws.{one_automaton}
 use Rattle.ltl_spec.proofs.Semantics.LeavingEdges.{leaving, leaving_state, leaving_accepts}
 use Rattle.ltl_formula.specs.FormulaView.{FormulaView, IsFormula, reading_of}
-use Rattle.ltl_alt.specs.GbaView as gba
-use Rattle.ltl_buchi.specs.BaView.{IsBa}
-use Rattle.ltl_buchi.specs.Named.{HasNamesOf}
+use Rattle.ltl_models.specs.GbaView as gba
+use Rattle.ltl_models.specs.BaView.{IsBa}
+use Rattle.ltl_models.specs.Named.{HasNamesOf}
 use Rattle.ltl_hoa.specs.declared.marked.TheConstants.{MOST_SETS}
 use Rattle.ltl_hoa.specs.Printed.{IsPrintedEdge, IsPrinted, marked_edge, marked_of}
 use Rattle.ltl_hoa.proofs.PrintedLaws.{printed_reads, answered_back, generalized_printed, generalized_answered}

@@ -5,7 +5,7 @@ use Rattle.std.proofs.lemmas.Bool.Decides.{nat_tests}
 use Rattle.ltl_spec.specs.Automata.Automaton as spec
 use Rattle.ltl_spec.proofs.Collections.MemberLaws.{at_map, map_length}
 use Rattle.ltl_automaton.specs.declared.edge.Edge.{Edge}
-use Rattle.ltl_buchi.specs.BaView.{edge_of, target_at}
+use Rattle.ltl_models.specs.BaView.{edge_of, target_at}
 use Rattle.ltl_text.specs.Options.{edge_at}
 use Rattle.ltl_text.proofs.BlockLaws.{unequal}
 

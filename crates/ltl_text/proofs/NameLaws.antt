@@ -6,7 +6,7 @@ use Rattle.ltl_spec.specs.Checking.Bounds.{HasNamesBelow}
 use Rattle.ltl_spec.proofs.Collections.ListLaws.{Has-at}
 use Rattle.ltl_spec.proofs.Collections.MemberLaws.{Has-map}
 use Rattle.ltl_automaton.specs.declared.edge.Edge.{Edge}
-use Rattle.ltl_buchi.specs.BaView.{edge_of}
+use Rattle.ltl_models.specs.BaView.{edge_of}
 use Rattle.ltl_text.specs.Names.{AllHaveNames}
 
 pub all_have_names : (n : ℕ) (B : spec.Automaton) (k : ℕ) (es : List Edge) → HasNamesBelow n B → map edge_of es ≡ (spec.state_at B k).edges → AllHaveNames n es

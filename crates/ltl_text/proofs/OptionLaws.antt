@@ -20,7 +20,7 @@ use Rattle.ltl_spec.proofs.Collections.Orders.{nat_linear}
 use Rattle.ltl_spec.specs.Semantics.Word.{Name}
 use Rattle.ltl_spec.specs.Automata.Automaton.{Automaton, Edge, State}
 use Rattle.ltl_spec.specs.Automata.ClaimText.{cube_text, indented, label_of, option_line}
-use Rattle.ltl_buchi.specs.BaView.{IsTargetOrder, target_at}
+use Rattle.ltl_models.specs.BaView.{IsTargetOrder, target_at}
 use Rattle.ltl_text.specs.Options.{edge_at, guards_text, option_text, options_text}
 use Rattle.ltl_sets.specs.SubsetLaws.{filter_none}
 use Rattle.ltl_sets.specs.PlaceLaws.{less, below, IsRising-range, Has-range}

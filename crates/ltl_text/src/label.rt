@@ -5,13 +5,13 @@ ghost use Rattle.std.specs.Fmt.{decimal};
 ghost use Rattle.std.specs.Cmp.Lexicographic.{pointwise};
 ghost use Rattle.ltl_spec.specs.Automata.ClaimText as claim;
 ghost use Rattle.ltl_spec.specs.Construction.Merging.{same_edge};
-ghost use Rattle.ltl_buchi.specs.BaView.{edge_of};
+ghost use Rattle.ltl_models.specs.BaView.{edge_of};
 ghost use Rattle.ltl_text.specs.Options.{is_empty};
 ghost use Rattle.ltl_text.specs.Writing.{Writes};
 
 use crate::digits::Digits;
 use crate::output::Output;
-use ltl_buchi::{Ba, Edge};
+use ltl_models::{Ba, Edge};
 use ltl_sets::Cube;
 use ltl_streams::{ByteSink, WriteFault};
 use std::alloc::Allocator;

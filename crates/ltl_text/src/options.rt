@@ -5,7 +5,7 @@ ghost use Rattle.std.specs.List.{prefix_len};
 ghost use Rattle.ltl_spec.specs.Automata.Automaton.{state_at};
 ghost use Rattle.ltl_spec.specs.Automata.ClaimText.{skip_state};
 ghost use Rattle.ltl_spec.specs.Checking.Bounds.{HasNamesBelow};
-ghost use Rattle.ltl_buchi.specs.BaView.{edge_of, target_at};
+ghost use Rattle.ltl_models.specs.BaView.{edge_of, target_at};
 ghost use Rattle.ltl_text.specs.Names.{AllHaveNames};
 ghost use Rattle.ltl_text.specs.Options.{guards_text, options_text};
 ghost use Rattle.ltl_text.specs.Writing.{Writes};
@@ -13,8 +13,8 @@ ghost use Rattle.ltl_text.specs.Writing.{Writes};
 use crate::guard::put_guard;
 use crate::label::put_label;
 use crate::output::Output;
-use ltl_buchi::{Ba, Edge};
 use ltl_formula::Formula;
+use ltl_models::{Ba, Edge};
 use ltl_streams::{ByteSink, WriteFault};
 use std::alloc::Allocator;
 

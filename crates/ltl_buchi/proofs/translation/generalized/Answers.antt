@@ -13,7 +13,7 @@ use Rattle.ltl_spec.specs.Tools.Limits.{stated_limits}
 use Rattle.ltl_spec.specs.Semantics.Language.{HasLanguageOf, AcceptsModels, AcceptsViolations}
 use Rattle.ltl_spec.proofs.Semantics.LanguageLaws.{generalized_language, generalized_models, generalized_violations}
 use Rattle.ltl_formula.specs.TableView.{core_of}
-use Rattle.ltl_buchi.proofs.MergedLaws.{merged_rising}
+use Rattle.ltl_passes.proofs.MergedLaws.{merged_rising}
 use Rattle.ltl_buchi.proofs.TranslationLaws.{numbered, reached_thin, generalized_named}
 use Rattle.ltl_buchi.proofs.translation.generalized.Goals as goal
 

@@ -1,5 +1,5 @@
 use Rattle.std.proofs.Common.{refl}
-use Rattle.ltl_alt.specs.GbaView.{edge_of}
+use Rattle.ltl_models.specs.GbaView.{edge_of}
 use Rattle.ltl_text.proofs.OutputLaws.{remains_all, remains_fails, remains_puts, remains_step}
 use Rattle.ltl_text.proofs.HoaLaws.{marked_edge_pieces}
 use Rattle.ltl_text.proofs.generalized.put_edge.Goals as goal

@@ -1,7 +1,7 @@
 use Rattle.std.proofs.Common.{drop, map}
 use Rattle.std.specs.List.{flat_map}
 use Rattle.ltl_spec.specs.Automata.GeneralizedText.{marked_edge_line}
-use Rattle.ltl_alt.specs.GbaView.{edge_of}
+use Rattle.ltl_models.specs.GbaView.{edge_of}
 use Rattle.ltl_text.proofs.OutputLaws.{Remains}
 use Rattle.ltl_text.proofs.generalized.put_edges.Given as goal
 

@@ -1,4 +1,4 @@
-use Rattle.ltl_buchi.specs.BaView.{edge_of}
+use Rattle.ltl_models.specs.BaView.{edge_of}
 use Rattle.ltl_text.proofs.OutputLaws.{remains_all, remains_fails, remains_puts, remains_step}
 use Rattle.ltl_text.proofs.HoaLaws.{edge_pieces}
 use Rattle.ltl_text.proofs.hoa.put_edge.Goals as goal

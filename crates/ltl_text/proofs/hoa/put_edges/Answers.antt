@@ -1,6 +1,6 @@
 use Rattle.std.proofs.Common.{◌<◌, arith, length}
 use Rattle.ltl_spec.specs.Automata.HoaText.{edge_line}
-use Rattle.ltl_buchi.specs.BaView.{edge_of}
+use Rattle.ltl_models.specs.BaView.{edge_of}
 use Rattle.ltl_text.proofs.OutputLaws.{remains_fails, remains_step}
 use Rattle.ltl_text.proofs.HoaLaws.{edges_go_on}
 use Rattle.ltl_text.proofs.hoa.put_edges.Goals as goal

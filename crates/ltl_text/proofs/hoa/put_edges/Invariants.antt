@@ -1,7 +1,7 @@
 use Rattle.std.proofs.Common.{drop, map}
 use Rattle.std.specs.List.{flat_map}
 use Rattle.ltl_spec.specs.Automata.HoaText.{edge_line}
-use Rattle.ltl_buchi.specs.BaView.{edge_of}
+use Rattle.ltl_models.specs.BaView.{edge_of}
 use Rattle.ltl_text.proofs.OutputLaws.{Remains}
 use Rattle.ltl_text.proofs.hoa.put_edges.Given as goal
 

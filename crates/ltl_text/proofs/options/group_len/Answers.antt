@@ -1,7 +1,7 @@
 use Rattle.std.proofs.Common.{sym, map, arith}
 use Rattle.std.specs.Prelude.{◌==◌}
 use Rattle.std.proofs.lemmas.List.Sums.{prefix_len_is}
-use Rattle.ltl_buchi.specs.BaView.{edge_of, target_at}
+use Rattle.ltl_models.specs.BaView.{edge_of, target_at}
 use Rattle.ltl_text.proofs.EdgeLaws.{other_is}
 use Rattle.ltl_text.proofs.options.group_len.Goals as goal
 

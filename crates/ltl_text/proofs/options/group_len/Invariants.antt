@@ -1,6 +1,6 @@
 use Rattle.std.proofs.Common.{◌≡◌, ℕ, length, map, true, ◌-◌, ◌<◌, ◌≤◌, slice_index_or}
 use Rattle.std.specs.Prelude.{◌==◌}
-use Rattle.ltl_buchi.specs.BaView.{edge_of, target_at}
+use Rattle.ltl_models.specs.BaView.{edge_of, target_at}
 use Rattle.ltl_text.proofs.options.group_len.Given as goal
 
 abbrev pub invariant-group : goal.invariant-group

@@ -1,6 +1,6 @@
 use Rattle.std.proofs.Common.{arith, ◌<◌, ℕ, refl, map, length}
 use Rattle.std.proofs.lemmas.List.{drop_more}
-use Rattle.ltl_buchi.specs.BaView.{edge_of}
+use Rattle.ltl_models.specs.BaView.{edge_of}
 use Rattle.ltl_text.proofs.EdgeLaws.{cube_is}
 use Rattle.ltl_text.proofs.OutputLaws.{remains_all, remains_fails, remains_step}
 use Rattle.ltl_text.proofs.TextLaws.{first_all, guards_begin, guards_go_on, others_all}

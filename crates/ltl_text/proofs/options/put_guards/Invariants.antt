@@ -1,6 +1,6 @@
 use Rattle.std.proofs.Common.{◌<◌, length, map}
 use Rattle.std.specs.Prelude.{codes, drop, All}
-use Rattle.ltl_buchi.specs.BaView.{edge_of}
+use Rattle.ltl_models.specs.BaView.{edge_of}
 use Rattle.ltl_text.specs.Options.{guards_text}
 use Rattle.ltl_text.proofs.OutputLaws.{Remains}
 use Rattle.ltl_text.proofs.TextLaws.{led, guards_of}

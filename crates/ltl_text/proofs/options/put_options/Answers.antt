@@ -1,7 +1,7 @@
 use Rattle.std.proofs.Common.{◌<◌, ℕ, length, map, refl, subst, sym}
 use Rattle.ltl_spec.specs.Collections.Sets.{IsRising}
 use Rattle.ltl_spec.specs.Automata.Automaton.{state_at}
-use Rattle.ltl_buchi.specs.BaView.{edge_of, target_at}
+use Rattle.ltl_models.specs.BaView.{edge_of, target_at}
 use Rattle.ltl_text.proofs.EdgeLaws.{places_within, target_there}
 use Rattle.ltl_text.proofs.NameLaws.{all_have_names}
 use Rattle.ltl_text.proofs.OptionLaws.{entries_whole, options_fall, options_rise, options_step, options_within, place_cmp}

@@ -2,7 +2,7 @@ use Rattle.std.proofs.Common.{length, map, ◌<◌}
 use Rattle.std.specs.Prelude.{All}
 use Rattle.ltl_spec.specs.Collections.Sets.{IsRising}
 use Rattle.ltl_spec.specs.Automata.Automaton.{state_at}
-use Rattle.ltl_buchi.specs.BaView.{edge_of, target_at}
+use Rattle.ltl_models.specs.BaView.{edge_of, target_at}
 use Rattle.ltl_text.specs.Options.{option_text, options_text}
 use Rattle.ltl_text.proofs.OptionLaws.{entries, place_cmp}
 use Rattle.ltl_text.proofs.OutputLaws.{Remains}

@@ -1,7 +1,0 @@
-use Rattle.std.specs.Prelude.{map}
-use Rattle.ltl_automaton.specs.EdgeView.{edge_of}
-use Rattle.ltl_buchi.proofs.PlacedLaws.{IsPlaced}
-use Rattle.ltl_buchi.proofs.automaton.places_by_target.Given as goal
-
-abbrev pub invariant-loop-place : goal.invariant-loop-place
-invariant-loop-place g l = IsPlaced (map edge_of l.edges) l.place l.keys.items

@@ -1,5 +1,0 @@
-use Rattle.ltl_buchi.proofs.WeightLaws.{AreAlike}
-use Rattle.ltl_buchi.proofs.implied.weigh_alike.Given as goal
-
-abbrev pub invariant-loop-place : goal.invariant-loop-place
-invariant-loop-place l = AreAlike l.edges l.place

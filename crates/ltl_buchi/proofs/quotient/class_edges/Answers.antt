@@ -1,5 +1,0 @@
-use Rattle.ltl_buchi.proofs.Within.{retargeted_within}
-use Rattle.ltl_buchi.proofs.quotient.class_edges.Goals as goal
-
-pub unimplied-requires : goal.unimplied-requires
-unimplied-requires g c = record { within = retargeted_within c.args.numbers.now _ c.args.edges.now c.in_ok-made.made.items c.requires.within c.requires.heads c.in_ok-made.ensures }

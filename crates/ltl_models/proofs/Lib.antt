@@ -1,0 +1,4 @@
+pub mod ElementLaws
+pub mod PlacedLaws
+pub mod SortLaws
+pub mod Within

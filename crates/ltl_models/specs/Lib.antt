@@ -1,0 +1,5 @@
+pub mod BaView
+pub mod Elements
+pub mod GbaView
+pub mod Named
+pub mod OptionsView

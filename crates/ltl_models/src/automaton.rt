@@ -1,0 +1,143 @@
+//! Büchi automata.
+
+ghost use Rattle.std.specs.Prelude.{◌≡◌, ◌%◌, ◌<◌, ◌≤◌, [], length, map, All, IfOk};
+ghost use Rattle.ltl_spec.specs.Automata.Automaton.{state_at};
+ghost use Rattle.ltl_spec.specs.Tools.Limits.{stated_limits};
+ghost use Rattle.ltl_automaton.specs.EdgeView as view;
+ghost use Rattle.ltl_automaton.specs.SharedView.{automaton_of};
+ghost use Rattle.ltl_models.specs.BaView.{IsBa, IsTargetOrder, HaveOrders, edge_of};
+
+use ltl_automaton::{Edge, SharedStates};
+use smallvec::SmallVec;
+use std::alloc::{AllocError, Allocator};
+use std::marker::Model;
+
+/// Places of edges. Most states have few edges.
+type Places<'a, A> = SmallVec<usize, 4, &'a A>;
+
+/// No place of an edge reaches this.
+const PLACES: u128 = 18_446_744_073_709_551_616;
+
+/// The places of the edges, by target and then by place. A target and a place are sorted as one number.
+fn places_by_target<'a, A: Allocator>(
+    alloc: &'a A,
+    edges: &[Edge],
+) -> Result<Places<'a, A>, AllocError>
+    ensures order { IfOk result (λ ps. IsTargetOrder (map view.edge_of edges.now) ps.items) }
+{
+    let mut keys: SmallVec<u128, 4, &'a A> = SmallVec::with_capacity(alloc, edges.len())?;
+    for (place, edge) in edges.iter().enumerate() {
+        keys.push(edge.target as u128 * PLACES + place as u128)?;
+    }
+    keys.as_mut_slice().sort_unstable();
+    let places = places(alloc, keys.as_slice())?;
+    Ok(places)
+}
+
+/// The places alone.
+fn places<'a, A: Allocator>(alloc: &'a A, keys: &[u128]) -> Result<Places<'a, A>, AllocError>
+    ensures { IfOk result (λ ps. ps.items ≡ map (λ k. k % PLACES) keys.now) }
+{
+    let mut places: Places<'a, A> = SmallVec::with_capacity(alloc, keys.len())?;
+    for key in keys {
+        places.push((key % PLACES) as usize)?;
+    }
+    Ok(places)
+}
+
+/// The places of the edges of each list.
+fn orders<'a, A: Allocator>(
+    alloc: &'a A,
+    states: &SharedStates<'_, A>,
+) -> Result<Vec<Places<'a, A>, &'a A>, AllocError>
+    ensures { IfOk result (λ v. HaveOrders states.now.lists (map (λ p. p.items) v.items)) }
+{
+    let mut orders = Vec::new(alloc);
+    for list in 0..states.list_count() {
+        orders.push(places_by_target(alloc, states.list_edges(list))?)?;
+    }
+    Ok(orders)
+}
+
+/// A Büchi automaton. State 0 is the start.
+#[derive(Drop)]
+pub struct Ba<'a, A: Allocator> {
+    states: SharedStates<'a, A>,
+    orders: Vec<Places<'a, A>, &'a A>,
+}
+
+impl<'a, A: Allocator> Model for Ba<'a, A> {
+    ghost use Rattle.std.specs.Prelude.{map};
+    ghost use Rattle.ltl_spec.specs.Automata.Automaton.{Automaton};
+    ghost use Rattle.ltl_automaton.specs.Codes.{automaton_code};
+    ghost use Rattle.ltl_automaton.specs.SharedView.{automaton_of};
+    ghost use Rattle.ltl_models.specs.BaView.{IsOrderedBa};
+
+    ghost Value = { Automaton };
+
+    ghost coded = { automaton_code };
+
+    ghost view = { λ b. automaton_of b.states };
+
+    ghost invariant = { λ b. IsOrderedBa b.states (map (λ p. p.items) b.orders.items) };
+}
+
+impl<'a, A: Allocator> Ba<'a, A> {
+    pub fn new(alloc: &'a A, states: SharedStates<'a, A>) -> Result<Self, AllocError>
+        requires inside { IsBa (automaton_of states) }
+        ensures { IfOk result (λ b. b ≡ automaton_of states.entry) }
+    {
+        let orders = orders(alloc, &states)?;
+        Ok(Ba { states, orders })
+    }
+
+    /// The states, which share their lists of edges.
+    pub fn states(&self) -> &SharedStates<'a, A>
+        ensures { automaton_of result.now ≡ self.now }
+    {
+        &self.states
+    }
+
+    /// How many states there are, at least one.
+    pub fn len(&self) -> usize
+        ensures count { result ≡ length self.now.states }
+        ensures some { 0 < result }
+        ensures few { result ≤ stated_limits.states }
+    {
+        self.states.len()
+    }
+
+    /// Whether a state is accepting.
+    pub fn accepting(&self, i: usize) -> bool
+        requires { i < length self.now.states }
+        ensures { result ≡ (state_at self.now i).accepting }
+    {
+        self.states.accepting(i)
+    }
+
+    /// The edges of a state: by literals, then by target.
+    pub fn edges(&self, i: usize) -> &[Edge]
+        requires { i < length self.now.states }
+        ensures edges { map edge_of result.now ≡ (state_at self.now i).edges }
+        ensures within { All (λ e. e.target < length self.now.states) result.now }
+        ensures plain { All (λ e. e.marks ≡ []) result.now }
+    {
+        self.states.edges(i)
+    }
+
+    /// The places of a state's edges, by target and then by place.
+    pub fn by_target(&self, i: usize) -> &[usize]
+        requires { i < length self.now.states }
+        ensures order { IsTargetOrder (state_at self.now i).edges result.now }
+    {
+        let list = self.states.list(i);
+        self.orders[list].as_slice()
+    }
+
+    /// Hands what the type promises to callers.
+    pub fn invariant(&self)
+        ensures { IsBa self.now }
+    {
+        let _ = &self.states;
+    }
+}

@@ -1,0 +1,93 @@
+-- The steps of reading and making the states of automata that are merged.
+use Rattle.std.proofs.Common.{◌≡◌, ℕ, zero, suc, ◌+◌, ◌<◌, Bool, true, false, cond, List, [], ◌∷◌, ◌++◌, map, length, refl, sym, ◌∙◌, ap, subst, arith}
+use Rattle.std.specs.Prelude.{slice_index, slice_index_or}
+use Rattle.std.specs.Ordering.{nat_cmp}
+use Rattle.std.specs.Prelude.{nat_eq}
+use Rattle.std.specs.List.{filter}
+use Rattle.std.specs.Cmp.Lexicographic.{pointwise, pointwise_decides}
+use Rattle.ltl_automaton.specs.EdgeView.{edge_of}
+use Rattle.ltl_automaton.specs.SharedView.{Shared, IsShared, automaton_of, with_state}
+use Rattle.ltl_automaton.specs.declared.edge.Edge as made
+use Rattle.ltl_automaton.proofs.EdgeLaws.{map_pushed}
+use Rattle.std.proofs.lemmas.Bool.Decides.{Decides-eqb}
+use Rattle.std.proofs.lemmas.List.{get_or-map, append-nil}
+use Rattle.ltl_spec.specs.Collections.Sets.{Has, set_of}
+use Rattle.ltl_spec.specs.Automata.Automaton.{Automaton, State, Edge}
+use Rattle.ltl_spec.specs.Construction.Merging.{retargeted_state, without_implied, class_names}
+use Rattle.ltl_spec.proofs.Construction.RoundLaws.{names_length, name_low, name_twice}
+use Rattle.ltl_passes.specs.Classes.{number_in, IsNumbering, AreNames, IsCoded, IsLeastAlike, coded_place, list_view, retargeted_list, thinned}
+use Rattle.ltl_passes.proofs.CodeLaws.{seen_again, next_round, ends_early}
+
+pub index_own : (xs : List ℕ) (i d : ℕ) → i < length xs → slice_index_or xs i d ≡ slice_index_or xs i (slice_index_or xs i d)
+index_own xs i d l = any xs i d (slice_index_or xs i d) l
+  where
+    any : (xs : List ℕ) (i c d : ℕ) → i < length xs → slice_index_or xs i c ≡ slice_index_or xs i d
+    any [] i c d l = absurd (omega arith)
+    any (x ∷ xs) zero c d l = refl
+    any (x ∷ xs) (suc i) c d l = any xs i c d (omega arith)
+
+-- the names of a round are names
+pub names_of_round : (A : Automaton) (n : ℕ) (names : List ℕ) → names ≡ class_names A n → AreNames names
+names_of_round A n names e =
+    let long = names_length A n in
+    subst AreNames (sym e) (record { low = λ s l. name_low A n s (omega arith); twice = λ s l. name_twice A n s (omega arith) })
+
+pub long_of_round : (A : Automaton) (n : ℕ) (names : List ℕ) → names ≡ class_names A n → length names ≡ length A.states
+long_of_round A n names e = ap length e ∙ names_length A n
+
+-- the state of a class by the numbers that were found
+pub class_same : (names classes numbers : List ℕ) (keep_implied : Bool) (s : State) → IsNumbering names classes numbers → ((e : Edge) → Has s.edges e → e.target < length names)
+    → (let t : State = record { accepting = s.accepting; edges = thinned keep_implied (retargeted_list (slice_index numbers) s.edges) } in t)
+    ≡ without_implied keep_implied (retargeted_state (λ t. number_in (set_of nat_cmp names) (slice_index names t)) s)
+class_same names classes numbers keep_implied s w within =
+    ap (λ es. let t : State = record { accepting = s.accepting; edges = thinned keep_implied es } in t) (seen_again (slice_index numbers) (λ t. number_in (set_of nat_cmp names) (slice_index names t)) s.edges (λ e h.
+    ap (λ xs. slice_index xs e.target) w.numbered ∙ get_or-map (number_in classes) names e.target 0 0 (within e h) ∙ ap (λ cs. number_in cs (slice_index names e.target)) w.listed))
+    ∙ thin keep_implied (retargeted_list (λ t. number_in (set_of nat_cmp names) (slice_index names t)) s.edges)
+  where
+    thin : (b : Bool) (es : List Edge) → (let t : State = record { accepting = s.accepting; edges = thinned b es } in t) ≡ without_implied b (record { accepting = s.accepting; edges = es })
+    thin true es = refl
+    thin false es = refl
+
+-- one more state of a class
+pub class_pushed : (B C : Automaton) (sets : ℕ) (h : ℕ → State) (taken more_taken : List ℕ) (class : ℕ) (accepting : Bool) (es : List Edge) → B ≡ record { sets = sets; states = map h taken } → C ≡ with_state B accepting es
+    → record { accepting = accepting; edges = es } ≡ h class → more_taken ≡ taken ++ class ∷ [] → C ≡ record { sets = sets; states = map h more_taken }
+class_pushed B C sets h taken more_taken class accepting es b c s t =
+    c ∙ ap (λ X. with_state X accepting es) b ∙ (λ i. let X : Automaton = record { sets = sets; states = map h taken ++ s i ∷ [] } in X)
+    ∙ sym (ap (λ ss. let X : Automaton = record { sets = sets; states = ss } in X) (map_pushed h taken more_taken class t))
+
+-- one more that stays, or goes
+filter_append : (q : Edge → Bool) (xs : List Edge) (x : Edge) → filter q (xs ++ x ∷ []) ≡ filter q xs ++ cond (q x) (x ∷ []) []
+filter_append q [] x = refl
+filter_append q (y ∷ ys) x =
+    elim (q y) as (λ b. cond b (y ∷ filter q (ys ++ x ∷ [])) (filter q (ys ++ x ∷ [])) ≡ cond b (y ∷ filter q ys) (filter q ys) ++ cond (q x) (x ∷ []) []) [
+      | true ↦ ap (λ l. y ∷ l) (filter_append q ys x)
+      | false ↦ filter_append q ys x
+    ]
+
+pub kept_next : (q : Edge → Bool) (kept more_kept taken more_taken : List made.Edge) (x : made.Edge) → map edge_of kept ≡ filter q (map edge_of taken) → q (edge_of x) ≡ true
+    → more_kept ≡ kept ++ x ∷ [] → more_taken ≡ taken ++ x ∷ [] → map edge_of more_kept ≡ filter q (map edge_of more_taken)
+kept_next q kept more_kept taken more_taken x w t k e =
+    map_pushed edge_of kept more_kept x k ∙ (λ i. w i ++ cond (sym t i) (edge_of x ∷ []) [])
+    ∙ sym (filter_append q (map edge_of taken) (edge_of x)) ∙ sym (ap (filter q) (map_pushed edge_of taken more_taken x e))
+
+pub dropped_next : (q : Edge → Bool) (kept taken more_taken : List made.Edge) (x : made.Edge) → map edge_of kept ≡ filter q (map edge_of taken) → q (edge_of x) ≡ false
+    → more_taken ≡ taken ++ x ∷ [] → map edge_of kept ≡ filter q (map edge_of more_taken)
+dropped_next q kept taken more_taken x w t e =
+    w ∙ sym (append-nil (filter q (map edge_of taken))) ∙ ap (λ b. filter q (map edge_of taken) ++ cond b (edge_of x ∷ []) []) (sym t)
+    ∙ sym (filter_append q (map edge_of taken) (edge_of x)) ∙ sym (ap (filter q) (map_pushed edge_of taken more_taken x e))
+
+-- rounds
+module _ (S : Shared) (shared : IsShared S.lists S.states) where
+  pub round_on : (n : ℕ) (names codes next : List ℕ) (keys : List (List Edge)) → names ≡ class_names (automaton_of S) n → IsCoded (length S.lists) (list_view S.lists (slice_index names)) keys codes
+      → IsLeastAlike (length S.states) (coded_place S.states codes) next → next ≡ class_names (automaton_of S) (n + 1)
+  round_on n names codes next keys e c l =
+      let z : suc n ≡ n + 1 = omega arith in
+      next_round S shared n keys codes next (subst (λ ns. IsCoded (length S.lists) (list_view S.lists (slice_index ns)) keys codes) e c) l ∙ ap (class_names (automaton_of S)) z
+
+  pub round_done : (n : ℕ) (names codes next : List ℕ) (keys : List (List Edge)) → n < length (automaton_of S).states → names ≡ class_names (automaton_of S) n → IsCoded (length S.lists) (list_view S.lists (slice_index names)) keys codes
+      → IsLeastAlike (length S.states) (coded_place S.states codes) next → next ≡ names → names ≡ class_names (automaton_of S) (length (automaton_of S).states)
+  round_done n names codes next keys m e c l s =
+      e ∙ ends_early (automaton_of S) n (omega arith) (sym (next_round S shared n keys codes next (subst (λ ns. IsCoded (length S.lists) (list_view S.lists (slice_index ns)) keys codes) e c) l) ∙ s ∙ e)
+
+pub same_list : (xs ys : List ℕ) → pointwise nat_eq xs ys ≡ true → xs ≡ ys
+same_list xs ys t = (pointwise_decides Decides-eqb xs ys).0 t

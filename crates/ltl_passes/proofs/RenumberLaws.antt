@@ -1,0 +1,210 @@
+-- An automaton that is listed from its own states is the renumbered one, and what an automaton keeps when it is numbered.
+use Rattle.std.proofs.Common.{◌≡◌, ℕ, ◌<◌, ◌≤◌, true, false, inl, inr, List, [], ◌∷◌, length, map, refl, sym, ◌∙◌, ap, subst, arith, Some}
+use Rattle.std.specs.Prelude.{slice_get, slice_index_or, sum_by, take, ◌==◌, All}
+use Rattle.std.proofs.lemmas.Bool.Decides.{Decides-eqb}
+use Rattle.std.proofs.lemmas.List.{length-map, get_or_past}
+use Rattle.std.proofs.lemmas.List.Sums.{sum_by-cons}
+use Rattle.std.proofs.lemmas.List.Elements.{All-map}
+use Rattle.ltl_spec.specs.Collections.Sets.{Has, IsRising, set_of}
+use Rattle.ltl_spec.specs.Collections.Lists.{place_of}
+use Rattle.ltl_spec.specs.Automata.Automaton.{Automaton, State, Edge, edge_cmp, state_at}
+use Rattle.ltl_spec.specs.Automata.Listing.{listing, IsComplete, PassesLimits}
+use Rattle.ltl_spec.specs.Construction.Merging.{retargeted_edge, retargeted_state}
+use Rattle.ltl_spec.specs.Construction.ImpliedEdges.{IsSetEdge}
+use Rattle.ltl_spec.specs.Transitions.Cubes.{is_contradictory}
+use Rattle.ltl_spec.specs.Construction.Renumbered.{ordered_targets, reached_states, renumbered_automaton}
+use Rattle.ltl_spec.specs.Tools.Limits.{stated_limits}
+use Rattle.ltl_spec.proofs.Collections.Orders.{edge_linear}
+use Rattle.ltl_spec.proofs.Collections.SetLaws.{set_of_same, IsRising-set_of, Has-set_of}
+use Rattle.ltl_spec.proofs.Collections.MemberLaws.{Has-map, map_cases}
+use Rattle.ltl_spec.proofs.Collections.ListLaws.{All-at_has, All-from_has, Has-at}
+use Rattle.ltl_spec.proofs.Automata.ListedStates.{any_state}
+use Rattle.ltl_spec.proofs.Automata.ListingReach.{listed_within, listed_short, HasNoRepeats-listed}
+use Rattle.ltl_spec.proofs.Construction.EdgeBounds.{AreAll, renumbered_all, renumbered_few, renumbered_few_edges}
+use Rattle.ltl_spec.proofs.Construction.RenumberedRuns.{ordered_targets_cases, complete_reached, reached_short, renumbered_closed}
+use Rattle.ltl_spec.proofs.Semantics.Runs.{IsClosed}
+use Rattle.ltl_spec.proofs.Collections.SumLaws.{taken_sum}
+use Rattle.ltl_automaton.specs.Net.{Net, key_of, targets_of, edge_in, state_of, IsReachable}
+use Rattle.ltl_automaton.specs.SharedView.{Shared, automaton_of}
+use Rattle.ltl_automaton.proofs.NetLaws.{map_agree}
+use Rattle.ltl_automaton.proofs.WayLaws.{Has_taken_at, take_whole}
+use Rattle.ltl_models.specs.GbaView as gba
+use Rattle.ltl_models.specs.BaView.{IsBa, IsPlain}
+use Rattle.ltl_passes.specs.Numbered.{IsNumberable, arc_of, net_of}
+use Rattle.ltl_passes.proofs.MergedLaws.{of_all, gba_within}
+use Rattle.ltl_passes.proofs.ReachedLaws.{listed_reached}
+use Rattle.ltl_passes.proofs.Sums.{HasNoRepeats_take}
+use Rattle.ltl_models.proofs.Within.{edges_within}
+use Rattle.ltl_passes.proofs.TargetLaws.{states_at, closed_within}
+
+-- past the last state
+pub accepts_past : (A : Automaton) (s : ℕ) → length A.states ≤ s → true ≡ (state_at A s).accepting
+accepts_past A s l = ap (λ (t : State). t.accepting) (sym (get_or_past A.states s (record { accepting = true; edges = [] }) l))
+
+pub no_arcs_past : (A : Automaton) (s : ℕ) → length A.states ≤ s → [] ≡ map arc_of (state_at A s).edges
+no_arcs_past A s l = ap (λ (t : State). map arc_of t.edges) (sym (get_or_past A.states s (record { accepting = true; edges = [] }) l))
+
+-- states with one list have the same edges
+pub same_arcs : (s : Shared) (p q l m : ℕ) → slice_get s.lists l ≡ Some (state_at (automaton_of s) p).edges → slice_get s.lists m ≡ Some (state_at (automaton_of s) q).edges → m ≡ l
+    → (net_of (automaton_of s)).arcs q ≡ (net_of (automaton_of s)).arcs p
+same_arcs s p q l m v w e = ap (map arc_of) (one_thing _ _ (sym w ∙ ap (slice_get s.lists) e ∙ v))
+  where
+    one_thing : (x y : List Edge) → Some x ≡ Some y → x ≡ y
+    one_thing x y h = cc
+
+targets_plain : (es : List Edge) → map key_of (map arc_of es) ≡ map (λ (e : Edge). e.target) es
+targets_plain [] = refl
+targets_plain (e ∷ es) = ap (λ l. e.target ∷ l) (targets_plain es)
+
+edges_plain : (keys : List ℕ) (es : List Edge) → map (edge_in ◌==◌ keys) (map arc_of es) ≡ map (retargeted_edge (λ t. place_of ◌==◌ t keys)) es
+edges_plain keys [] = refl
+edges_plain keys (e ∷ es) = ap (λ l. retargeted_edge (λ t. place_of ◌==◌ t keys) e ∷ l) (edges_plain keys es)
+
+sums_less : {K : Type 0} (f g : K → ℕ) (xs : List K) → ((x : K) → f x ≤ g x) → sum_by f xs ≤ sum_by g xs
+sums_less f g [] h = omega arith
+sums_less f g (x ∷ xs) h = let a = sum_by-cons f x xs in let b = sum_by-cons g x xs in let c = sums_less f g xs h in let d = h x in omega arith
+
+module _ (A : Automaton) (inside : IsNumberable A) where
+  abbrev N : Net ℕ
+  N = net_of A
+
+  closed : IsClosed A
+  closed = record {
+    begins = inside.bounded.some;
+    inside = λ s e h. All-at_has (λ (f : Edge). f.target < length A.states) (state_at A s).edges
+        (edges_within A (λ (f : Edge). f.target < length A.states) s inside.bounded.within) e h;
+  }
+
+  targets_same : (s : ℕ) → targets_of N s ≡ ordered_targets A s
+  targets_same s =
+      let rises = states_at A (λ (t : State). IsRising edge_cmp t.edges) s tt inside.rising in
+      targets_plain (state_at A s).edges ∙ ap (map (λ (e : Edge). e.target)) (sym (set_of_same edge_linear (state_at A s).edges rises))
+
+  all_targets : targets_of N ≡ ordered_targets A
+  all_targets = λ i s. targets_same s i
+
+  leads : (s t : ℕ) → s < length A.states → Has (targets_of N s) t → t < length A.states
+  leads s t l h =
+      let w = map_cases (λ (e : Edge). e.target) (state_at A s).edges t (subst (λ ts. Has ts t) (targets_plain (state_at A s).edges) h) in
+      subst (λ u. u < length A.states) (sym w.2) (closed.inside s w.0 w.1)
+
+  abbrev keys : ℕ → List ℕ
+  keys n = listing ◌==◌ (targets_of N) 0 n
+
+  -- it is within the limits that the automaton is within
+  pub never_too_large : PassesLimits ◌==◌ (targets_of N) 0 stated_limits.states stated_limits.edges → ⊥
+  never_too_large (n, inl p) =
+      let short = listed_short ◌==◌ Decides-eqb (targets_of N) 0 (λ s. s < length A.states) closed.begins leads (λ t. t) (length A.states) (λ t l. l) (λ t u l m e. e) n in
+      let few = inside.bounded.few_states in
+      omega arith
+  never_too_large (n, inr p) =
+      let places = take n (keys n) in
+      let d = HasNoRepeats_take n (keys n) (HasNoRepeats-listed ◌==◌ Decides-eqb (targets_of N) 0 n) in
+      let below : (z : ℕ) → Has places z → z < length A.states = λ z h.
+      let q = Has_taken_at n (keys n) z h in
+      listed_within ◌==◌ Decides-eqb (targets_of N) 0 (λ s. s < length A.states) closed.begins leads n z (subst (Has (keys n)) q.3 (Has-at (keys n) q.0 z q.2)) in
+      let total = taken_sum (λ (s : State). length s.edges) (record { accepting = true; edges = [] }) A.states (length A.states) places (omega arith) d below in
+      let whole = ap (sum_by (λ (s : State). length s.edges)) (take_whole (length A.states) A.states (omega arith)) in
+      let less = sums_less (λ s. length (targets_of N s)) (λ s. length (state_at A s).edges) places (λ s. let e = ap length (targets_plain (state_at A s).edges) in let f = length-map (state_at A s).edges (λ (e : Edge). e.target) in omega arith) in
+      let few = inside.bounded.few_edges in
+      omega arith
+
+  module _ (B : Automaton) (w : IsReachable ◌==◌ true N 0 A.sets B) where
+    -- it is the automaton by its new numbers
+    pub is_renumbered : B ≡ renumbered_automaton A
+    is_renumbered =
+        let n = w.0 in
+        let c : IsComplete ◌==◌ (ordered_targets A) 0 n = subst (λ T. IsComplete ◌==◌ T 0 n) all_targets w.1 in
+        let reached : keys n ≡ reached_states A = ap (λ T. listing ◌==◌ T 0 n) all_targets ∙ complete_reached A closed n c in
+        let state : (ks : List ℕ) → ℕ → State = λ ks s. retargeted_state (λ t. place_of ◌==◌ t ks) (state_at A s) in
+        let each : map (state_of ◌==◌ true N (keys n)) (keys n) ≡ map (state (keys n)) (keys n) =
+        map_agree (state_of ◌==◌ true N (keys n)) (state (keys n)) (keys n) (λ s h. ap (λ es. let t : State = record { accepting = (state_at A s).accepting; edges = set_of edge_cmp es } in t) (edges_plain (keys n) (state_at A s).edges)) in
+        let states = each ∙ ap (λ ks. map (state ks) ks) reached in
+        w.2 ∙ (λ i. let X : Automaton = record { sets = A.sets; states = states i } in X)
+
+-- what can be numbered
+pub ba_numberable : (A : Automaton) → IsBa A → IsNumberable A
+ba_numberable A w = record { bounded = record { some = w.some; few_states = w.few_states; few_edges = w.few_edges; within = w.within }; rising = w.rising }
+
+pub gba_numberable : (A : Automaton) → gba.IsGba A → All (λ s. IsRising edge_cmp s.edges) A.states → IsNumberable A
+gba_numberable A w r = record { bounded = record { some = w.some; few_states = w.few_states; few_edges = w.few_edges; within = gba_within A w }; rising = r }
+
+-- ---- what the numbered automaton keeps
+
+module _ (A : Automaton) where
+  abbrev R : Automaton
+  R = renumbered_automaton A
+
+  abbrev renumbered_state : List ℕ → ℕ → State
+  renumbered_state keys s = retargeted_state (λ t. place_of ◌==◌ t keys) (state_at A s)
+
+  abbrev row_of : ℕ → State
+  row_of = renumbered_state (reached_states A)
+
+  abbrev Consistent : Edge → Type 0
+  Consistent e = is_contradictory e.cube ≡ false
+
+  -- what holds of the edges at each number holds of those of all states
+  by_states : (P : Edge → Type 0) → AreAll P R → All (λ s. All P s.edges) R.states
+  by_states P all k d b = All-from_has P (slice_index_or R.states k d).edges (λ e m. all k e (subst (λ (s : State). Has s.edges e) (any_state R.states k d b) m))
+
+  pub renumbered_rising : All (λ s. IsRising edge_cmp s.edges) R.states
+  renumbered_rising = All-map (λ (s : State). IsRising edge_cmp s.edges) row_of (reached_states A) (λ k d m. IsRising-set_of edge_linear (map (retargeted_edge (λ t. place_of ◌==◌ t (reached_states A))) (state_at A (slice_index_or (reached_states A) k d)).edges))
+
+  pub renumbered_accepting : All (λ s. s.accepting ≡ true) A.states → All (λ s. s.accepting ≡ true) R.states
+  renumbered_accepting a = All-map (λ (s : State). s.accepting ≡ true) row_of (reached_states A) (λ k d m. states_at A (λ (t : State). t.accepting ≡ true) (slice_index_or (reached_states A) k d) refl a)
+
+  renumbered_unmarked : IsPlain A → IsPlain R
+  renumbered_unmarked u = by_states (λ e. e.marks ≡ []) (renumbered_all (λ e. e.marks ≡ []) (λ f e m. m) A (of_all A (λ e. e.marks ≡ []) u))
+
+  module _ (closed : IsClosed A) where
+    closed_again : IsClosed R
+    closed_again = renumbered_closed A closed
+
+    has_edge : (ks : List ℕ) (s t : ℕ) → Has (ordered_targets A s) t → (e : Edge) × Has (renumbered_state ks s).edges e × (e.target ≡ place_of ◌==◌ t ks)
+    has_edge ks s t h =
+        let v = ordered_targets_cases A s t h in
+        let f = retargeted_edge (λ u. place_of ◌==◌ u ks) in
+        (f v.0, Has-set_of edge_linear (map f (state_at A s).edges) (f v.0) (Has-map f (state_at A s).edges v.0 v.1), ap (λ u. place_of ◌==◌ u ks) (sym v.2))
+
+    pub renumbered_gba : gba.IsGba A → gba.IsGba R
+    renumbered_gba w = record {
+      some = closed_again.begins;
+      few_states = let a = renumbered_few A closed in let b = w.few_states in omega arith;
+      few_edges = let a = renumbered_few_edges A closed in let b = w.few_edges in omega arith;
+      few_sets = w.few_sets;
+      within = by_states (gba.IsEdgeWithin (length R.states) A.sets) (λ s e h. record { target = closed_again.inside s e h; marks = marks s e h; rising = rising s e h; consistent = consistent s e h });
+    }
+      where
+        edge : AreAll (gba.IsEdgeWithin (length A.states) A.sets) A
+        edge = of_all A (gba.IsEdgeWithin (length A.states) A.sets) w.within
+
+        marks : AreAll (λ e. All (λ k. k < A.sets) e.marks) R
+        marks = renumbered_all (λ e. All (λ k. k < A.sets) e.marks) (λ f e m. m) A (λ s e h. (edge s e h).marks)
+
+        rising : AreAll IsSetEdge R
+        rising = renumbered_all IsSetEdge (λ f e m. record { cube = m.cube; marks = m.marks }) A (λ s e h. (edge s e h).rising)
+
+        consistent : AreAll Consistent R
+        consistent = renumbered_all Consistent (λ f e m. m) A (λ s e h. (edge s e h).consistent)
+
+    pub renumbered_ba : IsBa A → IsBa R
+    renumbered_ba w = record {
+      no_sets = w.no_sets;
+      some = closed_again.begins;
+      few_states = let a = renumbered_few A closed in let b = w.few_states in omega arith;
+      few_edges = let a = renumbered_few_edges A closed in let b = w.few_edges in omega arith;
+      within = by_states (λ e. e.target < length R.states) closed_again.inside;
+      plain = renumbered_unmarked w.plain;
+      sets = by_states IsSetEdge (renumbered_all IsSetEdge (λ f e m. record { cube = m.cube; marks = m.marks }) A (of_all A IsSetEdge w.sets));
+      consistent = by_states Consistent (renumbered_all Consistent (λ f e m. m) A (of_all A Consistent w.consistent));
+      rising = renumbered_rising;
+      reached = listed_reached ◌==◌ Decides-eqb (ordered_targets A) 0 renumbered_state A.sets (length A.states) (reached_short A closed) has_edge;
+    }
+
+-- the numbered automaton has what its type holds
+pub numbered_ba : (A : Automaton) → IsBa A → IsBa (renumbered_automaton A)
+numbered_ba A w = renumbered_ba A (closed_within A w.some w.within) w
+
+pub numbered_gba : (A : Automaton) → gba.IsGba A → All (λ s. s.accepting ≡ true) A.states → gba.IsAcceptingGba (renumbered_automaton A)
+numbered_gba A w a = record { inside = renumbered_gba A (closed_within A w.some (gba_within A w)) w; accepting = renumbered_accepting A a }

@@ -1,0 +1,48 @@
+-- What holds of all targets and states.
+use Rattle.std.proofs.Common.{◌≡◌, ℕ, ◌+◌, ◌<◌, true, inl, inr, List, [], ◌∷◌, ◌++◌, length, map, sym, ap, subst, length-append, ◌∙◌}
+use Rattle.std.specs.Prelude.{slice_index, All}
+use Rattle.std.proofs.lemmas.List.{get_or_past}
+use Rattle.std.proofs.lemmas.List.Elements.{All-get_or}
+use Rattle.std.proofs.lemmas.Bool.{cases_lt}
+use Rattle.ltl_spec.specs.Automata.Automaton.{Automaton, State, Edge, state_at}
+use Rattle.ltl_spec.specs.Construction.Merging.{retargeted_edge}
+use Rattle.ltl_spec.proofs.Collections.ListLaws.{All-at_has, All-from_has}
+use Rattle.ltl_spec.proofs.Collections.MemberLaws.{map_cases}
+use Rattle.ltl_spec.proofs.Collections.Orders.{edge_linear}
+use Rattle.ltl_spec.proofs.Collections.SetLaws.{set_of_cases}
+use Rattle.ltl_spec.proofs.Semantics.Runs.{IsClosed}
+use Rattle.ltl_automaton.specs.EdgeView.{edge_of}
+use Rattle.ltl_automaton.specs.declared.edge.Edge as code
+use Rattle.ltl_models.proofs.Within.{All_from_map, edges_within}
+use Rattle.ltl_passes.specs.Classes.{IsWithinStates, retargeted_list}
+
+-- an automaton whose edges lead to states is closed
+pub closed_within : (A : Automaton) → 0 < length A.states → IsWithinStates A.states → IsClosed A
+closed_within A some within = record {
+  begins = some;
+  inside = λ s e h. All-at_has (λ (f : Edge). f.target < length A.states) (state_at A s).edges (edges_within A (λ (f : Edge). f.target < length A.states) s within) e h;
+}
+
+-- one more is one longer
+pub pushed_longer : {K : Type 0} (xs ys : List K) (x : K) → ys ≡ xs ++ x ∷ [] → length ys ≡ length xs + 1
+pushed_longer xs ys x e = ap length e ∙ length-append xs (x ∷ [])
+
+-- what holds of all states, and where there is none, holds at each number
+pub states_at : (A : Automaton) (P : State → Type 0) (i : ℕ) → P (record { accepting = true; edges = [] }) → All P A.states → P (state_at A i)
+states_at A P i p a =
+    let none : State = record { accepting = true; edges = [] } in
+    elim (cases_lt i (length A.states)) [
+      | inl l ↦ All-get_or P A.states i none l a
+      | inr l ↦ subst P (sym (get_or_past A.states i none l)) p
+    ]
+
+-- edges lead to numbers where their targets have these
+pub retargeted_within : (numbers : List ℕ) (n : ℕ) (edges made : List code.Edge) → All (λ e. e.target < length numbers) edges → All (λ k. k < n) numbers → map edge_of made ≡ retargeted_list (slice_index numbers) (map edge_of edges)
+    → All (λ e. e.target < n) made
+retargeted_within numbers n edges made w h e =
+    let P : Edge → Type 0 = λ f. f.target < n in
+    All_from_map P edge_of made (subst (All P) (sym e) (All-from_has P (retargeted_list (slice_index numbers) (map edge_of edges)) (λ f k.
+    let (g, i, c) = map_cases (retargeted_edge (slice_index numbers)) (map edge_of edges) f (set_of_cases edge_linear (map (retargeted_edge (slice_index numbers)) (map edge_of edges)) f k) in
+    let (x, j, d) = map_cases edge_of edges g i in
+    let l : g.target < length numbers = subst (λ (y : Edge). y.target < length numbers) (sym d) (All-at_has (λ (y : code.Edge). y.target < length numbers) edges w x j) in
+    subst P (sym c) (h g.target 0 l))))

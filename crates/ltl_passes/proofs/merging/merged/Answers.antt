@@ -1,0 +1,12 @@
+use Rattle.std.proofs.Common.{◌∙◌, ap, sym, subst, length, cond}
+use Rattle.ltl_automaton.specs.SharedView.{automaton_of}
+use Rattle.ltl_passes.specs.Classes.{AreNames}
+use Rattle.ltl_passes.proofs.MergeLaws.{long_of_round, names_of_round}
+use Rattle.ltl_passes.proofs.merging.merged.Goals as goal
+
+pub quotient-requires-clause-long : goal.quotient-requires-clause-long
+quotient-requires-clause-long g c = ap length c.as_slice.ensures.value ∙ long_of_round (automaton_of c.args.states.now) (cond c.options.inside.keep_equal 0 (length (automaton_of c.args.states.now).states)) _ c.in_ok-names.ensures
+
+pub quotient-requires-clause-names : goal.quotient-requires-clause-names
+quotient-requires-clause-names g c =
+    subst AreNames (sym c.as_slice.ensures.value) (names_of_round (automaton_of c.args.states.now) (cond c.options.inside.keep_equal 0 (length (automaton_of c.args.states.now).states)) _ c.in_ok-names.ensures)

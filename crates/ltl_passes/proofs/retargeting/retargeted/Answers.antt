@@ -1,0 +1,7 @@
+use Rattle.std.proofs.Common.{◌∙◌, ap}
+use Rattle.ltl_spec.specs.Collections.Sets.{set_of}
+use Rattle.ltl_spec.specs.Automata.Automaton.{edge_cmp}
+use Rattle.ltl_passes.proofs.retargeting.retargeted.Goals as goal
+
+pub returns : goal.returns
+returns g c = c.sort_edges.ensures ∙ ap (set_of edge_cmp) c.in_ok-made.ensures

@@ -1,0 +1,10 @@
+pub mod Agreeing
+pub mod Apart
+pub mod Chains
+pub mod Classes
+pub mod Copies
+pub mod CopyCodes
+pub mod IndexedEdge
+pub mod Light
+pub mod Listed
+pub mod Numbered

@@ -1,0 +1,163 @@
+//! Numbering breadth first.
+
+ghost use Rattle.std.specs.Prelude.{◌≡◌, length, map, All, IfOk, IsErrOf};
+ghost use Rattle.ltl_spec.specs.Collections.Sets.{IsRising};
+ghost use Rattle.ltl_spec.specs.Automata.Automaton.{edge_cmp};
+ghost use Rattle.ltl_spec.specs.Construction.Renumbered.{renumbered_automaton};
+ghost use Rattle.ltl_automaton.specs.EdgeView.{edge_of};
+ghost use Rattle.ltl_automaton.specs.SharedView.{automaton_of};
+ghost use Rattle.ltl_models.specs.BaView.{IsBa};
+ghost use Rattle.ltl_passes.specs.Numbered.{IsNumberable, arc_of, net_of};
+
+use crate::listed::are_listed;
+use ltl_automaton::{Arc, AutomatonFault, Edge, Limits, SharedStates, Successors, explore_from};
+use ltl_models::{Ba, BaFault, Gba, Gen, MOST_EDGES, MOST_STATES};
+use std::alloc::{AllocError, Allocator};
+
+/// The states of an automaton as things that are listed, and for each list of edges a state: the first that was asked for with it.
+#[derive(Drop)]
+struct Numbers<'b, 's, 'a, A: Allocator> {
+    states: &'b SharedStates<'s, A>,
+    firsts: Vec<usize, &'a A>,
+}
+
+/// The edges by the numbers of their targets.
+fn arcs_of<'c, B: Allocator>(
+    alloc: &'c B,
+    edges: &[Edge],
+) -> Result<Vec<Arc<usize>, &'c B>, AllocError>
+    ensures { IfOk result (λ v. v.items ≡ map arc_of (map edge_of edges.now)) }
+{
+    let mut arcs = Vec::with_capacity(alloc, edges.len())?;
+    for edge in edges {
+        arcs.push(Arc {
+            cube: edge.cube,
+            key: edge.target,
+            marks: edge.marks,
+        })?;
+    }
+    Ok(arcs)
+}
+
+impl<'b, 's, 'a, A: Allocator> Successors<usize> for Numbers<'b, 's, 'a, A> {
+    ghost net = { λ n. net_of (automaton_of n.states.now) };
+
+    ghost ready = { λ n. length n.firsts.items ≡ length n.states.now.lists };
+
+    #[tactic(auto, using(crate::proofs::RenumberLaws::accepts_past))]
+    fn accepting(&self, key: &usize) -> bool {
+        if *key < self.states.len() {
+            self.states.accepting(*key)
+        } else {
+            true
+        }
+    }
+
+    /// The state that was first asked for with this list. That it has the list is tested, since 0 stands where none was asked for.
+    #[tactic(auto, using(crate::proofs::RenumberLaws::same_arcs))]
+    fn twin(&mut self, key: &usize) -> Result<Option<usize>, AllocError> {
+        let states = self.states;
+        if *key >= states.len() {
+            return Ok(None);
+        }
+        let list = states.list(*key);
+        let first = self.firsts[list];
+        if first < states.len() && states.list(first) == list {
+            return Ok(Some(first));
+        }
+        self.firsts[list] = *key;
+        Ok(None)
+    }
+
+    fn edges_at_least(&mut self, _key: &usize) -> Result<usize, AllocError> {
+        Ok(0)
+    }
+
+    #[tactic(auto, using(crate::proofs::RenumberLaws::no_arcs_past))]
+    fn arcs<'c, B: Allocator>(
+        &mut self,
+        alloc: &'c B,
+        key: &usize,
+        _most: usize,
+    ) -> Result<Vec<Arc<usize>, &'c B>, AutomatonFault> {
+        if *key < self.states.len() {
+            Ok(arcs_of(alloc, self.states.edges(*key))?)
+        } else {
+            Ok(Vec::new(alloc))
+        }
+    }
+}
+
+/// The states numbered breadth first: the start is 0; states are taken in the order of their numbers, their edges by literals, target and
+/// marks, and a new target gets the next number.
+fn renumbered<'a, A: Allocator>(
+    alloc: &'a A,
+    states: &SharedStates<'_, A>,
+) -> Result<SharedStates<'a, A>, BaFault>
+    requires { IsNumberable (automaton_of states.now) }
+    ensures renumbered { IfOk result (λ s. automaton_of s ≡ renumbered_automaton (automaton_of states.now)) }
+    ensures fits { ¬ IsErrOf result BaFault.TooLarge }
+{
+    let mut firsts = Vec::new(alloc);
+    firsts.resize(states.list_count(), 0)?;
+    let mut numbers = Numbers { states, firsts };
+    let limits = Limits {
+        states: MOST_STATES,
+        edges: MOST_EDGES,
+    };
+    explore_from(alloc, 0, states.sets(), &mut numbers, true, limits)
+}
+
+/// The states of the same automaton, numbered breadth first.
+pub(crate) fn renumbered_states<'a, A: Allocator>(
+    alloc: &'a A,
+    states: &SharedStates<'_, A>,
+) -> Result<SharedStates<'a, A>, BaFault>
+    requires inside { IsBa (automaton_of states.now) }
+    ensures renumbered { IfOk result (λ s. automaton_of s ≡ renumbered_automaton (automaton_of states.now)) }
+    ensures inside { IfOk result (λ s. IsBa (automaton_of s)) }
+    ensures fits { ¬ IsErrOf result BaFault.TooLarge }
+{
+    let numbered = renumbered(alloc, states)?;
+    Ok(numbered)
+}
+
+/// The states numbered breadth first, as they are where they are found to stand in that order.
+pub fn numbered_states<'a, A: Allocator>(
+    alloc: &'a A,
+    states: SharedStates<'a, A>,
+) -> Result<SharedStates<'a, A>, BaFault>
+    requires inside { IsBa (automaton_of states) }
+    ensures renumbered { IfOk result (λ s. automaton_of s ≡ renumbered_automaton (automaton_of states.entry)) }
+    ensures inside { IfOk result (λ s. IsBa (automaton_of s)) }
+    ensures fits { ¬ IsErrOf result BaFault.TooLarge }
+{
+    if are_listed(&states) {
+        return Ok(states);
+    }
+    renumbered_states(alloc, &states)
+}
+
+/// The same automaton with its states numbered breadth first.
+pub fn renumber<'a, A: Allocator>(alloc: &'a A, automaton: &Ba<'_, A>) -> Result<Ba<'a, A>, BaFault>
+    ensures renumbered { IfOk result (λ b. b ≡ renumbered_automaton automaton.now) }
+    ensures fits { ¬ IsErrOf result BaFault.TooLarge }
+{
+    automaton.invariant();
+    let states = renumbered_states(alloc, automaton.states())?;
+    Ok(Ba::new(alloc, states)?)
+}
+
+/// The same generalized automaton with its states numbered breadth first.
+pub fn renumber_generalized<'a, A: Allocator>(
+    alloc: &'a A,
+    automaton: &Gba<'_, A>,
+) -> Result<Gen<'a, A>, BaFault>
+    requires rising { All (λ s. IsRising edge_cmp s.edges) automaton.now.states }
+    ensures renumbered { IfOk result (λ g. g ≡ renumbered_automaton automaton.now) }
+    ensures fits { ¬ IsErrOf result BaFault.TooLarge }
+{
+    automaton.invariant();
+    let states = renumbered(alloc, automaton.states())?;
+    Ok(Gen::new(Gba::new(states)))
+}

@@ -1,0 +1,94 @@
+//! The automaton of the classes of states.
+
+ghost use Rattle.std.specs.Prelude.{◌≡◌, ◌<◌, length, map, slice_index, All, IfOk};
+ghost use Rattle.ltl_spec.specs.Construction.Merging as merging;
+ghost use Rattle.ltl_automaton.specs.EdgeView.{edge_of};
+ghost use Rattle.ltl_automaton.specs.SharedView.{automaton_of};
+ghost use Rattle.ltl_passes.specs.Classes.{AreNames, IsNumbering, IsWithinStates, retargeted_list, thinned};
+
+use crate::chains::Heads;
+use crate::implied::unimplied;
+use crate::retargeting::retargeted;
+use ltl_automaton::{Edge, SharedStates};
+use smallvec::SmallVec;
+use std::alloc::{AllocError, Allocator};
+
+/// The names of the classes, rising, and the number of each state's class.
+#[derive(Drop)]
+pub(crate) struct Numbering<'a, A: Allocator> {
+    pub(crate) classes: Vec<usize, &'a A>,
+    pub(crate) numbers: Vec<usize, &'a A>,
+}
+
+/// Numbers the classes in the order of their names, the least states.
+fn number_classes<'a, A: Allocator>(
+    alloc: &'a A,
+    names: &[usize],
+) -> Result<Numbering<'a, A>, AllocError>
+    requires { AreNames names.now }
+    ensures { IfOk result (λ w. IsNumbering names.now w.classes.items w.numbers.items) }
+{
+    let mut classes = Vec::new(alloc);
+    let mut numbers: Vec<usize, &'a A> = Vec::new(alloc);
+    for s in 0..names.len() {
+        let name = names[s];
+        if name == s {
+            numbers.push(classes.len())?;
+            classes.push(s)?;
+        } else {
+            let number = numbers[name];
+            numbers.push(number)?;
+        }
+    }
+    Ok(Numbering { classes, numbers })
+}
+
+/// The edges of a class, from those of the state that names it. The heads are room for the latest edge to each class.
+fn class_edges<'a, A: Allocator>(
+    alloc: &'a A,
+    edges: &[Edge],
+    numbers: &[usize],
+    keep_implied: bool,
+    heads: &mut [usize],
+) -> Result<Vec<Edge, &'a A>, AllocError>
+    requires within { All (λ e. e.target < length numbers.now) edges.now }
+    requires heads { All (λ n. n < length heads.old) numbers.now }
+    ensures wide { length heads.new ≡ length heads.old }
+    ensures edges { IfOk result (λ es. map edge_of es.items ≡ thinned keep_implied (retargeted_list (slice_index numbers.now) (map edge_of edges.now))) }
+{
+    let made = retargeted(alloc, edges, numbers)?;
+    if keep_implied {
+        return Ok(made);
+    }
+    unimplied(alloc, made, heads)
+}
+
+/// The automaton of the classes, in the order of the classes' names.
+pub(crate) fn quotient<'a, A: Allocator>(
+    alloc: &'a A,
+    states: &SharedStates<'_, A>,
+    names: &[usize],
+    keep_implied: bool,
+) -> Result<SharedStates<'a, A>, AllocError>
+    requires within { IsWithinStates (automaton_of states.now).states }
+    requires long { length names.now ≡ length (automaton_of states.now).states }
+    requires names { AreNames names.now }
+    ensures { IfOk result (λ m. automaton_of m ≡ merging.quotient keep_implied names.now (automaton_of states.now)) }
+{
+    let numbering = number_classes(alloc, names)?;
+    let mut made = SharedStates::new(alloc, states.sets());
+    let mut heads: Heads<'a, A> = SmallVec::new(alloc);
+    heads.resize(names.len(), 0)?;
+    for class in numbering.classes.as_slice() {
+        let numbers = numbering.numbers.as_slice();
+        let edges = class_edges(
+            alloc,
+            states.edges(*class),
+            numbers,
+            keep_implied,
+            heads.as_mut_slice(),
+        )?;
+        made.push(states.accepting(*class), edges)?;
+    }
+    Ok(made)
+}

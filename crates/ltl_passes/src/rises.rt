@@ -1,0 +1,69 @@
+//! How many edges a copy has at least, before they are made.
+
+ghost use Rattle.std.specs.Prelude.{◌≡◌, ◌≤◌, [], length, map, IfOk};
+ghost use Rattle.ltl_spec.specs.Construction.Levels as levels_of;
+ghost use Rattle.ltl_automaton.specs.SharedView.{automaton_of};
+ghost use Rattle.ltl_models.specs.GbaView as gba;
+ghost use Rattle.ltl_passes.specs.Copies.{HasAtLeast, HaveAtLeast};
+
+use crate::copies::{Copied, copy_edge};
+use ltl_automaton::SharedStates;
+use ltl_models::GbaEdge;
+use std::alloc::{AllocError, Allocator};
+use std::cmp::Ordering;
+
+/// How many edges rise above all before them by their literals and their targets. On no level do two of these become one.
+fn rises(edges: &[GbaEdge]) -> usize
+    ensures { HasAtLeast (map gba.edge_of edges.now) result }
+{
+    let Some(first) = edges.first() else {
+        return 0;
+    };
+    let mut last = copy_edge(0, first, 0);
+    let mut count = 1usize;
+    for edge in edges {
+        let next = copy_edge(0, edge, 0);
+        if let Ordering::Less = last.cmp_list(&next) {
+            last = next;
+            count += 1;
+        }
+    }
+    count
+}
+
+/// Counts the edges of each list that rise.
+#[tactic(auto, using(crate::proofs::RiseLaws::counted_more))]
+pub(crate) fn count_rises<'a, A: Allocator>(
+    states: &SharedStates<'_, A>,
+    counts: &mut Vec<usize, &'a A>,
+) -> Result<(), AllocError>
+    requires { counts.old.items ≡ [] }
+    ensures { IfOk result (λ _. HaveAtLeast states.now.lists counts.new.items) }
+{
+    let mut list = 0usize;
+    'lists: while list < states.list_count() {
+        counts.push(rises(states.list_edges(list)))?;
+        list += 1;
+    }
+    Ok(())
+}
+
+/// So many edges a copy has at least, by what was counted of the lists.
+#[tactic(auto, using(crate::proofs::RiseLaws::counted_least))]
+pub(crate) fn counted<A: Allocator>(
+    states: &SharedStates<'_, A>,
+    counts: &[usize],
+    copy: &Copied,
+) -> usize
+    requires { HaveAtLeast states.now.lists counts.now }
+    ensures { result ≤ length (levels_of.copy_edges (automaton_of states.now) copy.now) }
+{
+    if copy.state >= states.len() {
+        return 0;
+    }
+    let list = states.list(copy.state);
+    if list >= counts.len() {
+        return 0;
+    }
+    counts[list]
+}
