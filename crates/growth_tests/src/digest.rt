@@ -3,9 +3,10 @@
 use ltl_alt::{Gba, GbaEdge, PairSet};
 use ltl_buchi::{Ba, Gen};
 use ltl_check::{Outcome, Taken, Verdict, Walk};
-use ltl_formula::{Formula, Row, Table, text_to};
+use ltl_formula::{Row, Table};
 use ltl_hoa::Marked;
 use ltl_sets::{Cube, RowSet};
+use ltl_syntax::{Formula, text_to};
 use ltl_word::Lasso;
 use std::alloc::Allocator;
 use std::io;

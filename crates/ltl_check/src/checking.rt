@@ -24,10 +24,10 @@ use crate::names::{all_names, numbers};
 use crate::product::{Product, Steps};
 use crate::verdict::{Outcome, Verdict};
 use crate::walk::{Taken, Walk};
-use ltl_formula::{Formula, PROPOSITION_LIMIT};
 use ltl_hoa::Marked;
 use ltl_models::Ba;
 use ltl_sets::RowSet;
+use ltl_syntax::{Formula, PROPOSITION_LIMIT};
 use ltl_word::Lasso;
 use std::alloc::{AllocError, Allocator};
 

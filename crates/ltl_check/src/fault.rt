@@ -1,6 +1,6 @@
 //! Why there is no verdict.
 
-use ltl_formula::PROPOSITION_LIMIT;
+use ltl_syntax::PROPOSITION_LIMIT;
 use std::alloc::AllocError;
 use thiserror::Error;
 

@@ -12,7 +12,7 @@
 //! `find` searches any type with the trait `Graph`, whose laws say what a graph is. `check` is the whole way:
 //!
 //! ```
-//! let property = ltl_formula::read(&alloc, b"[]<>p")?;
+//! let property = ltl_syntax::read(&alloc, b"[]<>p")?;
 //! let table = Table::build(&alloc, &property, true, true)?;             // of the negation
 //! let violations = translate(&alloc, &table, &options)?;
 //! match check(&alloc, &automaton, &violations, &property)?.outcome() {

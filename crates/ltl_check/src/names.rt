@@ -6,8 +6,8 @@ ghost use Rattle.ltl_spec.specs.Formulas.Tokens.{same_name};
 ghost use Rattle.ltl_spec.specs.Formulas.Names.{unified};
 ghost use Rattle.ltl_check.specs.ProductView.{ArePlaces};
 
-use ltl_formula::Formula;
 use ltl_hoa::Marked;
+use ltl_syntax::Formula;
 use std::alloc::{AllocError, Allocator};
 
 fn is_same(a: &str, b: &str) -> bool

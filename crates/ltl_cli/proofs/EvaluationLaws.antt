@@ -13,7 +13,7 @@ use Rattle.ltl_spec.specs.Tools.Programs.{EvaluatorPlan, EvaluatorAnswers, Evalu
 use Rattle.ltl_spec.proofs.Tools.StepLaws.{never}
 use Rattle.ltl_spec.specs.Tools.Stage.{Open}
 use Rattle.ltl_streams.specs.Streams.{SinkState}
-use Rattle.ltl_formula.specs.FormulaView.{FormulaView, reading_of}
+use Rattle.ltl_syntax.specs.FormulaView.{FormulaView, reading_of}
 use Rattle.ltl_word.specs.declared.fault.WordFault.{WordFault}
 use Rattle.ltl_word.specs.declared.fault.WordFault.TheVariants as fault
 use Rattle.ltl_word.specs.ReadText.{IsReadAs, IsRefusedFor}

@@ -12,10 +12,10 @@ use Rattle.ltl_spec.specs.Tools.Outcome as outcome
 use Rattle.ltl_spec.specs.Tools.Programs.{InputReads, ReadsFormula}
 use Rattle.ltl_spec.specs.Tools.Stage.{Open}
 use Rattle.ltl_streams.specs.Streams.{SourceState}
-use Rattle.ltl_formula.specs.FormulaView.{FormulaView, reading_of}
-use Rattle.ltl_formula.specs.ReadText.{IsRefusedFor}
-use Rattle.ltl_formula.specs.declared.fault.ReadFault.{ReadFault}
-use Rattle.ltl_formula.specs.declared.fault.ReadFault.TheVariants as fault
+use Rattle.ltl_syntax.specs.FormulaView.{FormulaView, reading_of}
+use Rattle.ltl_syntax.specs.ReadText.{IsRefusedFor}
+use Rattle.ltl_syntax.specs.declared.fault.ReadFault.{ReadFault}
+use Rattle.ltl_syntax.specs.declared.fault.ReadFault.TheVariants as fault
 use Rattle.ltl_cli.specs.declared.source.Source.{Source}
 use Rattle.ltl_cli.specs.declared.source.Source.TheVariants as source
 use Rattle.ltl_cli.specs.declared.refusal.Refusal.{Refusal}

@@ -5,7 +5,7 @@ use Rattle.ltl_spec.specs.Tools.Limits.{stated_limits}
 use Rattle.ltl_spec.specs.Tools.Refusal as spec
 use Rattle.ltl_spec.specs.Tools.Outcome.{Input, input_of, printed}
 use Rattle.ltl_spec.specs.Tools.Programs.{InputReads}
-use Rattle.ltl_formula.specs.FormulaView.{FormulaView, reading_of}
+use Rattle.ltl_syntax.specs.FormulaView.{FormulaView, reading_of}
 use Rattle.ltl_cli.specs.declared.refusal.Refusal.{Refusal}
 use Rattle.ltl_cli.specs.declared.refusal.Refusal.TheVariants.{OutOfMemory}
 use Rattle.ltl_cli.specs.declared.request.Plan.{Plan}

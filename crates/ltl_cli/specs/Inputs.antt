@@ -7,7 +7,7 @@ use Rattle.ltl_spec.specs.Tools.Stage.{Open, Closed, Broken}
 use Rattle.ltl_spec.specs.Tools.Outcome as spec
 use Rattle.ltl_spec.specs.Tools.Programs.{InputReads}
 use Rattle.ltl_streams.specs.Streams.{SourceState}
-use Rattle.ltl_formula.specs.FormulaView.{FormulaView, reading_of}
+use Rattle.ltl_syntax.specs.FormulaView.{FormulaView, reading_of}
 use Rattle.ltl_cli.specs.declared.source.Source.{Source}
 use Rattle.ltl_cli.specs.declared.source.Source.TheVariants.{Text, Input, NotOpened}
 use Rattle.ltl_cli.specs.declared.refusal.Refusal.{Refusal}

@@ -1,8 +1,8 @@
 -- The refusals and statuses of the code as those of the definitions.
 use Rattle.std.specs.Prelude.{◌≡◌, ℕ, Result, MatchResult, Ok, Err, ◌⊎◌}
 use Rattle.ltl_spec.specs.Tools.Refusal as spec
-use Rattle.ltl_formula.specs.ParserView.{kind_of}
-use Rattle.ltl_formula.specs.declared.fault.ReadFault as read
+use Rattle.ltl_syntax.specs.ParserView.{kind_of}
+use Rattle.ltl_syntax.specs.declared.fault.ReadFault as read
 use Rattle.ltl_formula.specs.declared.build_fault.BuildFault as build
 use Rattle.ltl_automaton.specs.declared.fault.AutomatonFault as translation
 use Rattle.ltl_word.specs.declared.fault.WordFault as word

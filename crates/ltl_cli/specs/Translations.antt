@@ -1,6 +1,6 @@
 -- What the translator knows before it prints.
 use Rattle.std.specs.Prelude.{ℕ, Bool, false, List, Result}
-use Rattle.ltl_formula.specs.FormulaView.{FormulaView, reading_of}
+use Rattle.ltl_syntax.specs.FormulaView.{FormulaView, reading_of}
 use Rattle.ltl_spec.specs.Formulas.Formula.{Reading}
 use Rattle.ltl_spec.specs.NormalForms.NormalForm.{core}
 use Rattle.ltl_spec.specs.Automata.Automaton.{Automaton}

@@ -3,13 +3,14 @@
 ghost use Rattle.std.specs.Prelude.{◌≡◌, List, ℕ, length, IfOk};
 ghost use Rattle.ltl_spec.specs.Formulas.Grammar.{IsTextOf};
 ghost use Rattle.ltl_spec.specs.Checking.Bounds.{HasNamesBelow};
-ghost use Rattle.ltl_formula.specs.FormulaView.{reading_of};
+ghost use Rattle.ltl_syntax.specs.FormulaView.{reading_of};
 ghost use Rattle.ltl_cli.specs.Refusals.{TakesStep};
 ghost use Rattle.ltl_cli.specs.Translations.{MakesAutomaton, MakesGeneralized};
 
 use crate::refusal::Refusal;
 use ltl_buchi::{Ba, Gen, Options, generalized, translate};
-use ltl_formula::{Formula, Table};
+use ltl_formula::Table;
+use ltl_syntax::Formula;
 use std::alloc::Allocator;
 
 /// The automaton of a formula or, with `negate`, of its negation, whose normal form is rewritten with `rewrite`.

@@ -9,8 +9,8 @@ ghost use Rattle.ltl_cli.specs.Inputs.{HoldsText, IsOpen, IsReadFrom, IsReadOf, 
 use crate::refusal::Refusal;
 use crate::request::FormulaWord;
 use crate::source::Source;
-use ltl_formula::{Formula, TEXT_LIMIT, read};
 use ltl_streams::ByteSource;
+use ltl_syntax::{Formula, TEXT_LIMIT, read};
 use std::alloc::{AllocError, AllocFailed, Allocator};
 
 /// How many bytes of a formula's file are taken at most: one more than its text may have.

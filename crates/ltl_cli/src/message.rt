@@ -2,7 +2,7 @@
 
 ghost use Rattle.std.specs.Prelude.{◌≡◌, ◌++◌, List, ℕ, codes, OnOk, OnErr};
 ghost use Rattle.ltl_streams.specs.Streams.{Breaks, Takes};
-ghost use Rattle.ltl_formula.specs.ParserView.{kind_of};
+ghost use Rattle.ltl_syntax.specs.ParserView.{kind_of};
 ghost use Rattle.ltl_hoa.specs.TokenView as hoa;
 ghost use Rattle.ltl_spec.specs.Hoa.HoaFaultKind.{hoa_fault_text};
 ghost use Rattle.ltl_spec.specs.Tools.Refusal as spec;
@@ -12,9 +12,9 @@ ghost use Rattle.ltl_cli.specs.Runs.{IsTold};
 
 use crate::refusal::Refusal;
 use crate::tool::Tool;
-use ltl_formula::FaultKind;
 use ltl_hoa::HoaFaultKind;
 use ltl_streams::{ByteSink, WriteFault, write_whole};
+use ltl_syntax::FaultKind;
 use ltl_text::Digits;
 
 /// What a line for the tool begins with.

@@ -4,7 +4,7 @@ ghost use Rattle.std.specs.Prelude.{List, ℕ, length, IfOk};
 ghost use Rattle.ltl_spec.specs.Checking.Bounds.{HasNamesBelow};
 ghost use Rattle.ltl_spec.specs.Formulas.Grammar.{IsTextOf};
 ghost use Rattle.ltl_spec.specs.Semantics.Language.{AcceptsModels};
-ghost use Rattle.ltl_formula.specs.FormulaView.{reading_of};
+ghost use Rattle.ltl_syntax.specs.FormulaView.{reading_of};
 ghost use Rattle.ltl_cli.specs.Plans.{layout_in};
 ghost use Rattle.ltl_cli.specs.Refusals.{TakesStep};
 ghost use Rattle.ltl_cli.specs.Translations.{MakesText, automaton_in, text_of};
@@ -14,7 +14,7 @@ use crate::layout::Layout;
 use crate::refusal::Refusal;
 use crate::request::Plan;
 use ltl_buchi::{Ba, Gen};
-use ltl_formula::Formula;
+use ltl_syntax::Formula;
 use std::alloc::Allocator;
 
 /// An automaton in its layout.

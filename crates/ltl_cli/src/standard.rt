@@ -14,8 +14,8 @@ use crate::refusal::Refusal;
 use crate::request::{FormulaWord, Plan, PlanFault};
 use crate::source::Source;
 use crate::translate::translate_over;
-use ltl_formula::Formula;
 use ltl_streams::{ByteSource, LentReader, ReaderSource, WriterSink};
+use ltl_syntax::Formula;
 use std::alloc::Allocator;
 use std::io::{Read, Write};
 

@@ -7,7 +7,7 @@ ghost use Rattle.ltl_spec.specs.Tools.Stage.{Open};
 ghost use Rattle.ltl_spec.specs.Tools.Refusal.{Translator};
 ghost use Rattle.ltl_spec.specs.Tools.Outcome as spec;
 ghost use Rattle.ltl_streams.specs.Streams.{Breaks, Takes};
-ghost use Rattle.ltl_formula.specs.FormulaView.{reading_of};
+ghost use Rattle.ltl_syntax.specs.FormulaView.{reading_of};
 ghost use Rattle.ltl_cli.specs.Inputs.{IsOpen, WasFormula};
 ghost use Rattle.ltl_cli.specs.Runs.{Finishes, HasCause, IsOutcome, Shows, StaysAt, TakesNone, ToolRun};
 ghost use Rattle.ltl_cli.specs.Translations.{IsTranslated, automaton_in, text_of};
@@ -20,8 +20,8 @@ use crate::request::{Plan, PlanFault};
 use crate::source::Source;
 use crate::status::Status;
 use crate::tool::Tool;
-use ltl_formula::Formula;
 use ltl_streams::{ByteSink, ByteSource, WriteFault};
+use ltl_syntax::Formula;
 use ltl_text::{put_claim, put_generalized, put_hoa};
 use std::alloc::Allocator;
 

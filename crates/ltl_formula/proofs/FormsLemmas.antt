@@ -9,11 +9,11 @@ use Rattle.ltl_spec.proofs.NormalForms.BothPolarities as law
 use Rattle.ltl_spec.proofs.NormalForms.BothPolarities.{FlatNode, both_in, both_of, both_unary, both_binary, built, formula_in, formulas}
 use Rattle.ltl_spec.proofs.NormalForms.SharedRewriting.{IsMore, IsBuilt, Numbers, StandsFor, built_at, built_length, built_step, built_translated}
 use Rattle.ltl_spec.proofs.Collections.SumLaws.{take_whole}
-use Rattle.ltl_formula.specs.declared.operators.Node.{Node}
-use Rattle.ltl_formula.specs.declared.operators.Node.TheVariants as code
+use Rattle.ltl_syntax.specs.declared.operators.Node.{Node}
+use Rattle.ltl_syntax.specs.declared.operators.Node.TheVariants as code
 use Rattle.ltl_formula.specs.declared.polarity.Forms.{Forms}
 use Rattle.ltl_formula.specs.FormsView.{numbers_of, forms_in, flat_of, AreInside, MakesBoth}
-use Rattle.ltl_formula.specs.FormulaView.{StandsAt, trees, tree_of, tree_in, with_tree, whole_tree, unary_of, binary_of}
+use Rattle.ltl_syntax.specs.FormulaView.{StandsAt, trees, tree_of, tree_in, with_tree, whole_tree, unary_of, binary_of}
 use Rattle.ltl_formula.specs.GraphView.{GraphView, Makes}
 
 pub map_push : {X Y : Type 0} (f : X → Y) (xs : List X) (x : X) → map f (xs ++ x ∷ []) ≡ map f xs ++ f x ∷ []

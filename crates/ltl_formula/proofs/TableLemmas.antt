@@ -19,10 +19,10 @@ use Rattle.ltl_spec.proofs.Collections.MemberLaws.{at_map, map_length}
 use Rattle.ltl_spec.proofs.NormalForms.NormalLaws.{same_Decides}
 use Rattle.ltl_spec.proofs.NormalForms.RowsCollected.{operands, by_operands, postorder_cases}
 use Rattle.ltl_spec.proofs.NormalForms.SharedNodes.{Node, BottomNode, tree_of, tree_in, trees_length, tree_at, node_at, with_tree, tree_of_alike, index_last, AllBefore}
-use Rattle.ltl_formula.specs.declared.operators.Node as code
+use Rattle.ltl_syntax.specs.declared.operators.Node as code
 use Rattle.ltl_formula.specs.declared.row.Row.{Row}
 use Rattle.ltl_formula.specs.declared.row.Row.TheVariants as row
-use Rattle.ltl_formula.specs.FormulaView as formula
+use Rattle.ltl_syntax.specs.FormulaView as formula
 use Rattle.ltl_formula.specs.GraphView.{IsBelow, node_of}
 use Rattle.ltl_formula.specs.TableView.{TableView, AreOrdered, IsTable, IsTableOf, IsNamedBelow, row_trees, core_of, places_by, is_until_row, is_elementary_row, is_elementary_of}
 use Rattle.ltl_formula.proofs.OrderLemmas.{rows_last}

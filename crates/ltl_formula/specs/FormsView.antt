@@ -2,10 +2,10 @@
 use Rattle.std.specs.Prelude.{◌≡◌, ◌<◌, ℕ, List, length, slice_index_or}
 use Rattle.ltl_spec.specs.NormalForms.BothPolarities.{Both, FlatNode, FlatConstant, FlatProposition, FlatUnary, FlatBinary}
 use Rattle.ltl_spec.specs.NormalForms.SharedRewriting.{IsMore, StandsFor, Numbers, stand_for}
-use Rattle.ltl_formula.specs.FormulaView.{unary_of, binary_of}
+use Rattle.ltl_syntax.specs.FormulaView.{unary_of, binary_of}
 use Rattle.ltl_formula.specs.GraphView.{GraphView}
-use Rattle.ltl_formula.specs.declared.operators.Node.{Node}
-use Rattle.ltl_formula.specs.declared.operators.Node.TheVariants.{Constant, Proposition, Unary, Binary}
+use Rattle.ltl_syntax.specs.declared.operators.Node.{Node}
+use Rattle.ltl_syntax.specs.declared.operators.Node.TheVariants.{Constant, Proposition, Unary, Binary}
 use Rattle.ltl_formula.specs.declared.polarity.Forms.{Forms}
 
 abbrev pub numbers_of : Forms → Numbers

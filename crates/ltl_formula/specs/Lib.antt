@@ -1,11 +1,6 @@
-pub mod CanonicalWork
 pub mod ChoiceView
 pub mod FormsView
-pub mod FormulaView
 pub mod GraphView
-pub mod ParserView
 pub mod PlacesView
-pub mod ReadText
 pub mod TableView
-pub mod TokenView
 pub mod WalkView

@@ -1,12 +1,6 @@
-//! Limits of formulas and their tables.
+//! Limits of tables, and those of formulas.
 
-use ltl_names as names;
-
-/// How many bytes the text of a formula may have.
-pub const TEXT_LIMIT: usize = 65_536;
-
-/// How many propositions a formula may have.
-pub const PROPOSITION_LIMIT: usize = names::PROPOSITION_LIMIT;
+pub use ltl_syntax::limits::{PROPOSITION_LIMIT, TEXT_LIMIT};
 
 /// How many rows a table may have.
 pub const ROW_LIMIT: usize = 4096;

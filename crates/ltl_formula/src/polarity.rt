@@ -4,15 +4,14 @@ ghost use Rattle.std.specs.Prelude.{◌≡◌, ◌<◌, ◌≤◌, ℕ, [], if�
 ghost use Rattle.ltl_spec.specs.NormalForms.NormalForm.{core};
 ghost use Rattle.ltl_spec.specs.Checking.Bounds.{HasLeavesBelow};
 ghost use Rattle.ltl_spec.specs.Tools.Limits.{stated_limits};
-ghost use Rattle.ltl_formula.specs.FormulaView.{reading_of};
+ghost use Rattle.ltl_syntax.specs.FormulaView.{reading_of};
 ghost use Rattle.ltl_formula.specs.GraphView.{Makes};
 
-use crate::formula::Formula;
 use crate::graph::Graph;
-use crate::operators::{BinaryOperator, Node, UnaryOperator};
 use crate::rewriting::{Choice, choose_and, choose_next, choose_or, choose_release, choose_until};
 use crate::row::Row;
 use ltl_sets::Literal;
+use ltl_syntax::{BinaryOperator, Formula, Node, UnaryOperator};
 use smallvec::SmallVec;
 use std::alloc::{AllocError, Allocator};
 
@@ -54,7 +53,7 @@ impl<'a, A: Allocator> Graph<'a, A> {
     ghost use Rattle.ltl_spec.specs.NormalForms.BothPolarities.{FlatProposition, made_next, made_and, made_or, made_until, made_release, both_unary, both_binary, both_of};
     ghost use Rattle.ltl_formula.specs.ChoiceView.{choice_of, IsInside};
     ghost use Rattle.ltl_formula.specs.FormsView.{MakesBoth, AreInside, forms_at, forms_in, flat_of};
-    ghost use Rattle.ltl_formula.specs.FormulaView.{unary_of, binary_of, StandsAt};
+    ghost use Rattle.ltl_syntax.specs.FormulaView.{unary_of, binary_of, StandsAt};
     ghost use Rattle.ltl_formula.specs.GraphView.{Makes};
 
     /// The number of what was chosen.

@@ -5,7 +5,6 @@ ghost use Rattle.std.specs.Prelude.{◌≡◌, ◌<◌, ◌≤◌, ◌-◌, All,
 ghost use Rattle.ltl_formula.specs.declared.limits.TheConstants.{ROW_LIMIT};
 
 use crate::build_fault::BuildFault;
-use crate::formula::Formula;
 use crate::graph::Graph;
 use crate::limits::ELEMENTARY_ROW_LIMIT;
 use crate::places::{
@@ -14,6 +13,7 @@ use crate::places::{
 use crate::polarity::core_number;
 use crate::row::Row;
 use crate::walk::row_numbers;
+use ltl_syntax::Formula;
 use std::alloc::Allocator;
 use std::marker::Model;
 
@@ -39,7 +39,7 @@ impl<'a, A: Allocator> Table<'a, A> {
     ghost use Rattle.ltl_spec.specs.NormalForms.NormalForm.{core, elementary_rows, rows};
     ghost use Rattle.ltl_spec.specs.Checking.Bounds.{HasLeavesBelow};
     ghost use Rattle.ltl_spec.specs.NormalForms.SharedNodes.{tree_at};
-    ghost use Rattle.ltl_formula.specs.FormulaView.{reading_of};
+    ghost use Rattle.ltl_syntax.specs.FormulaView.{reading_of};
     ghost use Rattle.ltl_formula.specs.GraphView.{IsBelow};
     ghost use Rattle.ltl_formula.specs.TableView.{IsNamedBelow, IsTable, core_of};
 

@@ -6,8 +6,9 @@ ghost use Rattle.ltl_spec.specs.Checking.Bounds.{HasNamesBelow};
 use ltl_buchi::{Ba, Options, translate};
 use ltl_check::{Outcome, check};
 use ltl_cli::Refusal;
-use ltl_formula::{Formula, Table, read};
+use ltl_formula::Table;
 use ltl_hoa::hoa_read;
+use ltl_syntax::{Formula, read};
 use std::alloc::Global;
 
 /// Its only word has `p` in each second letter, from the first on.

@@ -1,7 +1,8 @@
 //! Generalized automata of formulas, and their texts.
 
 use ltl_buchi::{BaFault, Options, generalized};
-use ltl_formula::{Table, read};
+use ltl_formula::Table;
+use ltl_syntax::read;
 use ltl_text::gen_to;
 use refusing::Refusing;
 use std::alloc::Global;

@@ -1,8 +1,9 @@
 //! Pairs of rows.
 
 use ltl_alt::{Pair, pairs};
-use ltl_formula::{Table, read};
+use ltl_formula::Table;
 use ltl_sets::{Cube, RowSet};
+use ltl_syntax::read;
 use std::alloc::Global;
 use std::process::Abort;
 

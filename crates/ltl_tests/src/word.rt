@@ -1,7 +1,7 @@
 //! Words: their least forms, and their texts.
 
-use ltl_formula::read;
 use ltl_sets::RowSet;
+use ltl_syntax::read;
 use ltl_word::Lasso;
 use std::alloc::Global;
 use std::process::Abort;

@@ -23,7 +23,7 @@ use Rattle.ltl_spec.proofs.Checking.GeneralizedRead.{marked_accepts}
 use Rattle.ltl_spec.proofs.Collections.ListLaws.{Has-at, All-at_has, All-from_has}
 use Rattle.ltl_spec.proofs.Hoa.HoaUniqueLaws.{one_automaton}
 use Rattle.ltl_spec.proofs.Semantics.LeavingEdges.{leaving, leaving_state, leaving_accepts}
-use Rattle.ltl_formula.specs.FormulaView.{FormulaView, IsFormula, reading_of}
+use Rattle.ltl_syntax.specs.FormulaView.{FormulaView, IsFormula, reading_of}
 use Rattle.ltl_models.specs.GbaView as gba
 use Rattle.ltl_models.specs.BaView.{IsBa}
 use Rattle.ltl_models.specs.Named.{HasNamesOf}

@@ -5,16 +5,16 @@ ghost use Rattle.std.specs.Io.KnownBytes.{Appends};
 ghost use Rattle.ltl_spec.specs.Automata.ClaimText as claim;
 ghost use Rattle.ltl_spec.specs.Checking.Bounds.{HasNamesBelow};
 ghost use Rattle.ltl_streams.specs.Streams.{AppendsBeginning, Breaks, Takes};
-ghost use Rattle.ltl_formula.specs.FormulaView.{reading_of};
+ghost use Rattle.ltl_syntax.specs.FormulaView.{reading_of};
 ghost use Rattle.ltl_text.specs.Blocks.{blocks_text, others_text};
 ghost use Rattle.ltl_text.specs.Writing.{Writes};
 
 use crate::label::{put_label, skip_state};
 use crate::options::put_options;
 use crate::output::Output;
-use ltl_formula::{Formula, put_text};
 use ltl_models::Ba;
 use ltl_streams::{ByteSink, WriteFault, WriterSink, write_whole};
+use ltl_syntax::{Formula, put_text};
 use std::alloc::Allocator;
 use std::io::Write;
 

@@ -5,17 +5,17 @@ ghost use Rattle.std.specs.List.{flat_map};
 ghost use Rattle.std.specs.Io.KnownBytes.{Appends};
 ghost use Rattle.ltl_spec.specs.Automata.GeneralizedText as text;
 ghost use Rattle.ltl_streams.specs.Streams.{AppendsBeginning, Breaks, Takes};
-ghost use Rattle.ltl_formula.specs.FormulaView.{reading_of};
+ghost use Rattle.ltl_syntax.specs.FormulaView.{reading_of};
 ghost use Rattle.ltl_models.specs.GbaView.{edge_of};
 ghost use Rattle.ltl_text.specs.HoaPieces.{condition_text, marked_states_text, set_text};
 ghost use Rattle.ltl_text.specs.Writing.{Writes};
 
 use crate::hoa::{put_counts, put_number, put_state_number, put_step, write_title};
 use crate::output::Output;
-use ltl_formula::Formula;
 use ltl_models::{GbaEdge, Gen};
 use ltl_sets::RowSet;
 use ltl_streams::{ByteSink, WriteFault, WriterSink};
+use ltl_syntax::Formula;
 use std::alloc::Allocator;
 use std::io::Write;
 

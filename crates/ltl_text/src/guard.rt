@@ -7,9 +7,9 @@ ghost use Rattle.ltl_text.specs.Names.{HasNames};
 ghost use Rattle.ltl_text.specs.Writing.{Writes};
 
 use crate::output::Output;
-use ltl_formula::Formula;
 use ltl_sets::{Cube, Literal};
 use ltl_streams::{ByteSink, WriteFault};
+use ltl_syntax::Formula;
 use std::alloc::Allocator;
 
 #[inline(always)]

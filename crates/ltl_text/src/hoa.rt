@@ -7,17 +7,17 @@ ghost use Rattle.std.specs.Io.KnownBytes.{Appends};
 ghost use Rattle.ltl_spec.specs.Automata.HoaText as text;
 ghost use Rattle.ltl_sets.specs.Literals.{literal_of};
 ghost use Rattle.ltl_streams.specs.Streams.{AppendsBeginning, Breaks, Takes};
-ghost use Rattle.ltl_formula.specs.FormulaView.{reading_of};
+ghost use Rattle.ltl_syntax.specs.FormulaView.{reading_of};
 ghost use Rattle.ltl_models.specs.BaView.{edge_of};
 ghost use Rattle.ltl_text.specs.HoaPieces.{acceptance_text, counts_text, quoted_names, state_number, states_text, step_text, title_text};
 ghost use Rattle.ltl_text.specs.Writing.{Writes};
 
 use crate::digits::Digits;
 use crate::output::Output;
-use ltl_formula::{Formula, put_text};
 use ltl_models::{Ba, Edge};
 use ltl_sets::{Cube, Literal};
 use ltl_streams::{ByteSink, WriteFault, WriterSink, write_whole};
+use ltl_syntax::{Formula, put_text};
 use std::alloc::Allocator;
 use std::io::Write;
 

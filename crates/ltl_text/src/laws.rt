@@ -9,18 +9,18 @@ ghost use Rattle.ltl_spec.specs.Hoa.HoaPrinted as generalized;
 ghost use Rattle.ltl_spec.specs.NormalForms.Normal.{Normal};
 ghost use Rattle.ltl_spec.specs.NormalForms.NormalForm.{core};
 ghost use Rattle.ltl_spec.specs.Semantics.Language.{AcceptsModels};
-ghost use Rattle.ltl_formula.specs.FormulaView.{reading_of};
+ghost use Rattle.ltl_syntax.specs.FormulaView.{reading_of};
 ghost use Rattle.ltl_hoa.specs.Printed.{marked_of};
 ghost use Rattle.ltl_models.specs.Named.{HasNamesOf};
 ghost use Rattle.ltl_text.specs.ReadBack.{ReadsAlike, ReadsBack, ReadsModels};
 
-use ltl_formula::Formula;
 pub use ltl_hoa::laws::{
     printed_automata_are_read_back, printed_generalized_automata_are_read_back,
     texts_are_read_one_way,
 };
 use ltl_hoa::marked::MOST_SETS;
 use ltl_models::{Ba, Gen};
+use ltl_syntax::Formula;
 use std::alloc::Allocator;
 
 /// The text that `hoa_to` writes, if it is within the limit, reads as the automaton: its number of states, start, the formula's names, cubes

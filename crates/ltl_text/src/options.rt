@@ -13,9 +13,9 @@ ghost use Rattle.ltl_text.specs.Writing.{Writes};
 use crate::guard::put_guard;
 use crate::label::put_label;
 use crate::output::Output;
-use ltl_formula::Formula;
 use ltl_models::{Ba, Edge};
 use ltl_streams::{ByteSink, WriteFault};
+use ltl_syntax::Formula;
 use std::alloc::Allocator;
 
 /// How many places at the beginning have edges to this target.

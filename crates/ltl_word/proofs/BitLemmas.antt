@@ -10,7 +10,7 @@ use Rattle.std.proofs.lemmas.Nat.{and_mask, one_shl, shr-shr}
 use Rattle.std.proofs.lemmas.Bool.Decides.{nat_tests}
 use Rattle.std.proofs.lemmas.Nat.Bits.{bit_at-lt, bit_at_lowest, bit_at_or, bit_at_and, bit_at_xor, bit_at_not, bit_at-zero, bit_at_ones, bit_at-pow_same, bit_at-pow_other, bit_at_above}
 use Rattle.ltl_word.specs.Rows.{bit_of, IsRowFrom}
-use Rattle.ltl_formula.proofs.TreeLemmas.{push_at, push_before, push_length}
+use Rattle.ltl_syntax.proofs.TreeLemmas.{push_at, push_before, push_length}
 use Rattle.ltl_spec.proofs.Collections.CaseLaws.{last_or_below}
 use Rattle.ltl_spec.proofs.Collections.CaseLaws.{nat_eq_same, nat_eq_other}
 use Rattle.ltl_sets.specs.WordLaws.{either_one, both_one, below_two}

@@ -33,7 +33,7 @@ use Rattle.ltl_spec.proofs.Collections.ListLaws.{Has-at, numbered_short, place_b
 use Rattle.ltl_spec.proofs.Collections.SetLaws.{append_cases, append_left, append_right, set_of_cases, Has-set_of, Has-put, irreflexive}
 use Rattle.ltl_spec.proofs.Checking.UnifiedLaws.{HasNoRepeats-unified}
 use Rattle.ltl_spec.proofs.Formulas.NameLaws.{same_name_Decides}
-use Rattle.ltl_formula.proofs.TreeLemmas.{push_length, push_before, push_at}
+use Rattle.ltl_syntax.proofs.TreeLemmas.{push_length, push_before, push_at}
 use Rattle.ltl_word.specs.LassoView.{lasso_of, IsMade}
 use Rattle.ltl_word.specs.NameView.{AreAllPlaces, IsKnown}
 use Rattle.ltl_word.specs.ReadText.{IsReadAs, IsRefusedFor, IsWritten, IsSpelled}

@@ -17,12 +17,12 @@ use Rattle.std.proofs.Common.{◌∷◌, ◌++◌}
 use Rattle.std.specs.Prelude.{slice_get}
 use Rattle.std.proofs.lemmas.Option.{same_Some}
 use Rattle.ltl_spec.proofs.Collections.CaseLaws.{last_or_below}
-use Rattle.ltl_formula.specs.declared.operators.Node.{Node}
-use Rattle.ltl_formula.specs.declared.operators.Node.TheVariants.{Constant, Proposition, Unary, Binary}
-use Rattle.ltl_formula.specs.declared.operators.UnaryOperator.{UnaryOperator}
-use Rattle.ltl_formula.specs.declared.operators.BinaryOperator.{BinaryOperator}
-use Rattle.ltl_formula.specs.FormulaView.{FormulaView, IsFormula, StandsAt, binary_of, unary_of, tree_in, tree_of, trees}
-use Rattle.ltl_formula.proofs.TreeLemmas.{tree_at, push_length, push_before, push_at}
+use Rattle.ltl_syntax.specs.declared.operators.Node.{Node}
+use Rattle.ltl_syntax.specs.declared.operators.Node.TheVariants.{Constant, Proposition, Unary, Binary}
+use Rattle.ltl_syntax.specs.declared.operators.UnaryOperator.{UnaryOperator}
+use Rattle.ltl_syntax.specs.declared.operators.BinaryOperator.{BinaryOperator}
+use Rattle.ltl_syntax.specs.FormulaView.{FormulaView, IsFormula, StandsAt, binary_of, unary_of, tree_in, tree_of, trees}
+use Rattle.ltl_syntax.proofs.TreeLemmas.{tree_at, push_length, push_before, push_at}
 use Rattle.ltl_word.specs.Evaluation.{AreOperandRows, AreRows, IsRowAt, IsRowOf, IsUntilRow, going_of}
 use Rattle.ltl_word.specs.Uses.{AreLastUses, IsUsedAt, KeepsLater, row_by}
 use Rattle.ltl_word.specs.LassoView.{size}

@@ -4,9 +4,9 @@ use Rattle.std.specs.Bool.{Decides}
 use Rattle.ltl_spec.specs.Semantics.Word.{Name, Lasso}
 use Rattle.ltl_spec.specs.Semantics.Satisfaction.{HoldsUntil, Satisfies}
 use Rattle.ltl_spec.specs.Formulas.Formula.{Formula, Proposition, BinaryOperator, Until, Release}
-use Rattle.ltl_formula.specs.declared.operators.Node.{Node}
-use Rattle.ltl_formula.specs.declared.operators.Node.TheVariants as node
-use Rattle.ltl_formula.specs.FormulaView.{FormulaView, tree_in, trees}
+use Rattle.ltl_syntax.specs.declared.operators.Node.{Node}
+use Rattle.ltl_syntax.specs.declared.operators.Node.TheVariants as node
+use Rattle.ltl_syntax.specs.FormulaView.{FormulaView, tree_in, trees}
 use Rattle.ltl_word.specs.Rows.{IsRow, bit_of, step_of, turned, left_at, right_at}
 use Rattle.ltl_word.specs.LassoView.{size}
 use Rattle.ltl_word.specs.Uses.{row_by}

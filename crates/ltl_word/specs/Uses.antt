@@ -1,7 +1,7 @@
 -- Which rows of nodes are still to be looked at.
 use Rattle.std.specs.Prelude.{◌≡◌, ℕ, ◌-◌, ◌<◌, ◌≤◌, List, [], length, slice_index_or, false}
-use Rattle.ltl_formula.specs.declared.operators.Node.{Node}
-use Rattle.ltl_formula.specs.declared.operators.Node.TheVariants.{Constant, Proposition, Unary, Binary}
+use Rattle.ltl_syntax.specs.declared.operators.Node.{Node}
+use Rattle.ltl_syntax.specs.declared.operators.Node.TheVariants.{Constant, Proposition, Unary, Binary}
 
 -- no operand of the node of that number is used for the last time before it
 abbrev pub IsUsedAt : List ℕ → ℕ → Node → Type 0

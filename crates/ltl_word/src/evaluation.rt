@@ -5,7 +5,7 @@ ghost use Rattle.std.specs.Bool.{Decides};
 ghost use Rattle.ltl_spec.specs.Semantics.Word.{Name};
 ghost use Rattle.ltl_spec.specs.Semantics.Satisfaction.{Satisfies};
 ghost use Rattle.ltl_spec.specs.Formulas.Formula as spec;
-ghost use Rattle.ltl_formula.specs.FormulaView.{StandsAt, binary_of, reading_of, tree_of, trees, unary_of};
+ghost use Rattle.ltl_syntax.specs.FormulaView.{StandsAt, binary_of, reading_of, tree_of, trees, unary_of};
 ghost use Rattle.ltl_word.specs.Evaluation.{AreNameRows, AreOperandRows, IsRowOf, going_of};
 ghost use Rattle.ltl_word.specs.LassoView.{size};
 ghost use Rattle.ltl_word.specs.Rows.{bit_of, step_of};
@@ -16,7 +16,7 @@ use crate::going::Going;
 use crate::lasso::Lasso;
 use crate::machine_word::Junction;
 use crate::uses::last_uses;
-use ltl_formula::{BinaryOperator, Formula, Node, UnaryOperator};
+use ltl_syntax::{BinaryOperator, Formula, Node, UnaryOperator};
 use std::alloc::{AllocError, Allocator};
 
 /// The rows of the propositions, by number.

@@ -8,7 +8,7 @@
 //! time: `&&` and `||` by words, `X` by a shift, `U` and `V` from the last letter to the first (`going`). A row is given back after its last use.
 //!
 //! ```
-//! let formula = ltl_formula::read(&alloc, b"[](p -> X q)")?;
+//! let formula = ltl_syntax::read(&alloc, b"[](p -> X q)")?;
 //! let word = Lasso::read(&alloc, b"{p}; {q}; cycle {p}; {q}", &formula)?;
 //! word.least(&alloc)?                       // its text is: cycle {p}; {q}
 //! holds(&alloc, &formula, &word)?           // true

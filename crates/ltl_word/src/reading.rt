@@ -8,7 +8,7 @@ use crate::lasso::Lasso;
 use crate::limits::TEXT_LIMIT;
 use crate::name_list::gather;
 use crate::scan::read_letters;
-use ltl_formula::Formula;
+use ltl_syntax::Formula;
 use std::alloc::Allocator;
 
 impl<'a, A: Allocator> Lasso<'a, A> {

@@ -1,10 +1,10 @@
 //! Where the nodes of a formula are used for the last time.
 
 ghost use Rattle.std.specs.Prelude.{◌≡◌, ℕ, ◌<◌, ◌≤◌, length, slice_index_or, IfOk};
-ghost use Rattle.ltl_formula.specs.FormulaView.{StandsAt};
+ghost use Rattle.ltl_syntax.specs.FormulaView.{StandsAt};
 ghost use Rattle.ltl_word.specs.Uses.{AreLastUses, IsUsedAt};
 
-use ltl_formula::{Formula, Node};
+use ltl_syntax::{Formula, Node};
 use std::alloc::{AllocError, Allocator};
 
 /// Notes that the node of that number uses its operands.

@@ -1,7 +1,7 @@
 use Rattle.std.proofs.Common.{true}
 use Rattle.ltl_spec.specs.Tools.Programs.{plain_options}
 use Rattle.ltl_spec.proofs.Checking.BelowLaws.{translation_named}
-use Rattle.ltl_formula.specs.FormulaView.{reading_of}
+use Rattle.ltl_syntax.specs.FormulaView.{reading_of}
 use Rattle.example_embed.proofs.translated.Goals as goal
 
 -- the propositions of the automaton have names in the formula, since that was read from a text

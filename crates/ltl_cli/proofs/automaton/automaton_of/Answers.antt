@@ -1,7 +1,7 @@
 use Rattle.std.proofs.lemmas.Result.{err_from_is_err_and}
 use Rattle.ltl_spec.specs.Formulas.Tokens.{tokens}
 use Rattle.ltl_spec.proofs.Checking.BelowLaws.{translation_named}
-use Rattle.ltl_formula.specs.FormulaView.{reading_of}
+use Rattle.ltl_syntax.specs.FormulaView.{reading_of}
 use Rattle.ltl_cli.proofs.AutomatonLaws.{translation_refused, translation_made}
 use Rattle.ltl_cli.proofs.automaton.automaton_of.Goals as goal
 

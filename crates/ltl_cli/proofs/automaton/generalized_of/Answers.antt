@@ -1,6 +1,6 @@
 use Rattle.std.proofs.Common.{false}
 use Rattle.std.proofs.lemmas.Result.{err_from_is_err_and}
-use Rattle.ltl_formula.specs.FormulaView.{reading_of}
+use Rattle.ltl_syntax.specs.FormulaView.{reading_of}
 use Rattle.ltl_cli.proofs.AutomatonLaws.{read_named, generalized_refused, generalized_made}
 use Rattle.ltl_cli.proofs.automaton.generalized_of.Goals as goal
 

@@ -1,5 +1,5 @@
 use Rattle.std.proofs.lemmas.Result.{err_from_is_err_and}
-use Rattle.ltl_formula.specs.FormulaView.{reading_of}
+use Rattle.ltl_syntax.specs.FormulaView.{reading_of}
 use Rattle.ltl_cli.specs.Inputs.{most_of_automaton}
 use Rattle.ltl_cli.proofs.InputLaws.{unread}
 use Rattle.ltl_cli.proofs.CheckLaws.{negates_violations}

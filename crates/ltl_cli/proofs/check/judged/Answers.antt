@@ -1,6 +1,6 @@
 use Rattle.std.proofs.lemmas.Result.{err_from_is_err_and}
 use Rattle.ltl_spec.specs.Checking.Check.{IsViolation}
-use Rattle.ltl_formula.specs.FormulaView.{reading_of}
+use Rattle.ltl_syntax.specs.FormulaView.{reading_of}
 use Rattle.ltl_check.specs.VerdictView.{verdict_of}
 use Rattle.ltl_cli.proofs.CheckLaws.{verdict_moves, verdict_refused}
 use Rattle.ltl_cli.proofs.check.judged.Goals as goal

@@ -1,5 +1,5 @@
 use Rattle.std.proofs.lemmas.Result.{err_from_is_err_and}
-use Rattle.ltl_formula.specs.FormulaView.{reading_of}
+use Rattle.ltl_syntax.specs.FormulaView.{reading_of}
 use Rattle.ltl_cli.proofs.CheckLaws.{formula_refused, negation_refused}
 use Rattle.ltl_cli.proofs.check.negated.Goals as goal
 

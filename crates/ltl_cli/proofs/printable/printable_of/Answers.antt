@@ -1,4 +1,4 @@
-use Rattle.ltl_formula.specs.FormulaView.{reading_of}
+use Rattle.ltl_syntax.specs.FormulaView.{reading_of}
 use Rattle.ltl_cli.proofs.AutomatonLaws.{claim_made, generalizing_models, hoa_made, sets_made, translating_models}
 use Rattle.ltl_cli.proofs.printable.printable_of.Goals as goal
 

@@ -3,7 +3,7 @@ use Rattle.std.specs.Prelude.{All, List}
 use Rattle.ltl_spec.proofs.NormalForms.SharedRewriting.{more_on}
 use Rattle.ltl_formula.specs.declared.polarity.Forms.{Forms}
 use Rattle.ltl_formula.specs.FormsView.{AreInside}
-use Rattle.ltl_formula.specs.FormulaView.{whole_tree}
+use Rattle.ltl_syntax.specs.FormulaView.{whole_tree}
 use Rattle.ltl_spec.proofs.Checking.BelowLaws.{core_below}
 use Rattle.ltl_formula.proofs.TableLemmas.{whole_below}
 use Rattle.ltl_formula.proofs.FormsLemmas.{all_inside, stands_before, step_built, last_inside, core_made}

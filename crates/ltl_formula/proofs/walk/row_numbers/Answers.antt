@@ -4,7 +4,7 @@ use Rattle.ltl_spec.proofs.NormalForms.RowsCollected.{flags_begin}
 use Rattle.std.proofs.lemmas.Grind.{common_steps}
 use Rattle.ltl_formula.proofs.OrderLemmas.{numbers_in_order}
 use Rattle.ltl_formula.proofs.WalkLemmas.{loop_begins, loop_goes_on, loop_pops, listed_few, walk_done}
-use Rattle.ltl_formula.proofs.StateLemmas.{none_left}
+use Rattle.ltl_syntax.proofs.CallLemmas.{none_left}
 use Rattle.ltl_formula.proofs.walk.row_numbers.Goals as goal
 
 pub work-init : goal.work-init

@@ -1,4 +1,4 @@
-use Rattle.ltl_formula.proofs.PrintLemmas.{where_ok}
+use Rattle.ltl_syntax.proofs.CallLemmas.{where_ok}
 use Rattle.ltl_formula.proofs.WalkLemmas.{passed, listed_leaf, one_operand, two_operands}
 use Rattle.ltl_formula.proofs.walk.step.Goals as goal
 

@@ -1,5 +1,5 @@
 use Rattle.std.proofs.Common.{[], append-nil, refl, rules, sym}
-use Rattle.ltl_formula.specs.FormulaView.{reading_of}
+use Rattle.ltl_syntax.specs.FormulaView.{reading_of}
 use Rattle.ltl_streams.proofs.SendLaws.{begun, leaves_all, leaves_step, sends_straight, stops_straight}
 use Rattle.ltl_text.proofs.OutputLaws.{awaits_all, awaits_step, ends_early, ends_stopped, ends_whole}
 use Rattle.ltl_text.proofs.HoaLaws.{hoa_pieces}

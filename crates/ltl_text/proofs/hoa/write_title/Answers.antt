@@ -1,7 +1,7 @@
 use Rattle.std.proofs.Common.{refl}
 use Rattle.std.specs.Prelude.{codes}
 use Rattle.ltl_spec.specs.Formulas.Canonical.{canonical_text}
-use Rattle.ltl_formula.specs.FormulaView.{reading_of}
+use Rattle.ltl_syntax.specs.FormulaView.{reading_of}
 use Rattle.ltl_streams.proofs.SendLaws.{begun, leaves_all, leaves_part, some_sent, stops_straight, whole_sent}
 use Rattle.ltl_text.proofs.hoa.write_title.Goals as goal
 

@@ -1,7 +1,7 @@
 use Rattle.std.proofs.Common.{◌∙◌, ◌∷◌, ◌++◌, [], refl, sym, subst, length}
 use Rattle.ltl_word.specs.Evaluation.{AreOperandRows, IsRowOf}
 use Rattle.ltl_word.specs.Uses.{KeepsLater, row_by}
-use Rattle.ltl_formula.specs.FormulaView.{tree_of, trees}
+use Rattle.ltl_syntax.specs.FormulaView.{tree_of, trees}
 use Rattle.ltl_word.proofs.BitLemmas.{count_push}
 use Rattle.ltl_word.proofs.RowLaws.{operand_rows, rows_step}
 use Rattle.ltl_word.proofs.evaluation.holds.Goals as goal

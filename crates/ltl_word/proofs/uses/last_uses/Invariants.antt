@@ -1,6 +1,6 @@
 use Rattle.std.proofs.Common.{◌≡◌, ◌<◌, ℕ, length, false}
 use Rattle.std.specs.Prelude.{slice_index_or}
-use Rattle.ltl_formula.specs.declared.operators.Node.TheVariants.{Constant}
+use Rattle.ltl_syntax.specs.declared.operators.Node.TheVariants.{Constant}
 use Rattle.ltl_word.specs.Uses.{IsUsedAt}
 use Rattle.ltl_word.proofs.uses.last_uses.Given as goal
 

@@ -3,7 +3,7 @@ use Rattle.ltl_spec.specs.NormalForms.Normal.{Normal}
 use Rattle.ltl_spec.specs.NormalForms.NormalForm.{core}
 use Rattle.ltl_spec.specs.Tools.Limits.{stated_limits}
 use Rattle.ltl_spec.proofs.Checking.BelowLaws.{HasLeavesBelow}
-use Rattle.ltl_formula.specs.FormulaView.{whole_tree}
+use Rattle.ltl_syntax.specs.FormulaView.{whole_tree}
 use Rattle.ltl_formula.proofs.TableLemmas.{leaves_more, table_literals}
 use Rattle.ltl_formula.proofs.table.Table.build.Goals as goal
 

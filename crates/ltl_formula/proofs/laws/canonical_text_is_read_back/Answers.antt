@@ -1,5 +1,0 @@
-use Rattle.ltl_formula.proofs.ReadLemmas.{read_back}
-use Rattle.ltl_formula.proofs.laws.canonical_text_is_read_back.Goals as goal
-
-pub returns : goal.returns
-returns c = read_back

@@ -1,0 +1,9 @@
+pub mod CallLemmas
+mod LexerLemmas
+mod NameLemmas
+pub mod ParserLemmas
+mod PrintLemmas
+mod ReadLemmas
+mod StateLemmas
+pub mod TreeLemmas
+mod UseLemmas

@@ -1,0 +1,5 @@
+pub mod CanonicalWork
+pub mod FormulaView
+pub mod ParserView
+pub mod ReadText
+pub mod TokenView

@@ -1,0 +1,94 @@
+//! A formula as it was read.
+
+ghost use Rattle.std.specs.Prelude.{◌≡◌, ◌<◌, length, slice_index_or, slice_get, Some, [], map, string_bytes};
+ghost use Rattle.ltl_syntax.specs.FormulaView.{IsFormula, StandsAt, reading_of, whole_tree};
+ghost use Rattle.ltl_spec.specs.Formulas.Canonical.{canonical_text, formula_text};
+
+use crate::operators::Node;
+use std::alloc::Allocator;
+use std::marker::Model;
+
+/// A formula: its nodes, operands first, the whole formula last; the names of its propositions, by number; and its canonical text.
+#[derive(Drop)]
+pub struct Formula<'a, A: Allocator> {
+    nodes: Vec<Node, &'a A>,
+    names: Vec<String<&'a A>, &'a A>,
+    text: Vec<u8, &'a A>,
+}
+
+impl<'a, A: Allocator> Model for Formula<'a, A> {
+    ghost use Rattle.std.specs.Prelude.{map, string_bytes};
+    ghost use Rattle.ltl_syntax.specs.FormulaView.{FormulaView, IsFormula, reading_of};
+
+    ghost Value = { FormulaView };
+
+    ghost view = { λ f. record { nodes = f.nodes.items; names = map string_bytes f.names.items } };
+
+    ghost use Rattle.std.specs.Prelude.{◌≡◌};
+    ghost use Rattle.ltl_spec.specs.Formulas.Canonical.{canonical_text};
+
+    ghost invariant = { λ f. IsFormula f.nodes.items (map string_bytes f.names.items)
+        × (f.text.items ≡ canonical_text (reading_of (record { nodes = f.nodes.items; names = map string_bytes f.names.items }))) };
+}
+
+impl<'a, A: Allocator> Formula<'a, A> {
+    /// A formula of its parts.
+    pub(crate) fn from_parts(
+        nodes: Vec<Node, &'a A>,
+        names: Vec<String<&'a A>, &'a A>,
+        text: Vec<u8, &'a A>,
+    ) -> Formula<'a, A>
+        requires formula { IsFormula nodes.items (map string_bytes names.items) }
+        requires canonical { text.items ≡ formula_text (map string_bytes names.items) (whole_tree nodes.items) }
+        ensures nodes { result.nodes ≡ nodes.entry.items }
+        ensures names { result.names ≡ map string_bytes names.entry.items }
+    {
+        Formula { nodes, names, text }
+    }
+
+    /// The canonical text.
+    pub(crate) fn text(&self) -> &[u8]
+        ensures { result.now ≡ canonical_text (reading_of self.now) }
+    {
+        self.text.as_slice()
+    }
+
+    /// How many nodes there are, at least one.
+    pub fn len(&self) -> usize
+        ensures count { result ≡ length self.now.nodes }
+        ensures formula { IsFormula self.now.nodes self.now.names }
+    {
+        self.nodes.len()
+    }
+
+    /// Hands what the type promises to callers.
+    pub fn invariant(&self)
+        ensures { IsFormula self.now.nodes self.now.names }
+    {
+        let _ = &self.nodes;
+    }
+
+    /// A node by its number.
+    pub fn node(&self, i: usize) -> Node
+        requires { i < length self.now.nodes }
+        ensures found { slice_get self.now.nodes i ≡ Some result }
+        ensures operands { StandsAt (length self.now.names) i result }
+    {
+        self.nodes[i]
+    }
+
+    /// How many propositions there are.
+    pub fn name_count(&self) -> usize
+        ensures { result ≡ length self.now.names }
+    {
+        self.names.len()
+    }
+
+    /// The name of a proposition.
+    pub fn name(&self, i: usize) -> &str
+        requires { i < length self.now.names }
+        ensures { result.now ≡ slice_index_or self.now.names i [] }
+    {
+        self.names[i].as_str()
+    }
+}
