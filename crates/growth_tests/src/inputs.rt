@@ -1,6 +1,6 @@
 //! What is translated, checked and evaluated.
 
-use ltl_cli::Tool;
+use ltl_words::Tool;
 
 /// A formula, a word and an automaton, for the calls of the libraries.
 #[derive(Clone, Copy, Drop)]

@@ -2,7 +2,8 @@
 
 use crate::inputs::{LOOP, MANY, RUNS, Run};
 use crate::streams::{Failing, Given, Taken};
-use ltl_cli::{Source, Tool, plan, run_check, run_eval, run_translate};
+use ltl_cli::{Source, run_check, run_eval, run_translate};
+use ltl_words::{Tool, plan};
 use refusing::Refusing;
 use std::alloc::{Allocator, Global};
 use std::test::Fail;

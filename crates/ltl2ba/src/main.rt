@@ -1,8 +1,8 @@
 //! `ltl2ba`: hands the process to the translator.
 #![tactic(auto)]
 
-use ltl_cli::Tool;
 use ltl_host::run;
+use ltl_words::Tool;
 use std::io;
 use std::process::ExitCode;
 

@@ -10,11 +10,11 @@ use Rattle.ltl_spec.specs.Tools.Outcome.{FormulaWord, Input, IsAtFault, input_of
 use Rattle.ltl_spec.specs.Tools.Programs.{EvaluatorPlan}
 use Rattle.ltl_spec.specs.Tools.Run.{HasInputAtFault}
 use Rattle.ltl_streams.specs.Streams.{SinkState, SourceState}
-use Rattle.ltl_cli.specs.declared.request.Plan.{Plan}
-use Rattle.ltl_cli.specs.declared.request.PlanFault.{PlanFault}
+use Rattle.ltl_words.specs.declared.request.Plan.{Plan}
+use Rattle.ltl_words.specs.declared.request.PlanFault.{PlanFault}
 use Rattle.ltl_cli.specs.declared.source.Source.{Source}
 use Rattle.ltl_cli.specs.declared.source.Source.TheVariants as source
-use Rattle.ltl_cli.specs.Plans.{formula_word, planned}
+use Rattle.ltl_words.specs.Plans.{formula_word, planned}
 use Rattle.ltl_cli.specs.Inputs.{HoldsText, IsSourceAtFault, WasFormula, WasInput, WasStream, WasAutomaton}
 use Rattle.ltl_cli.specs.Runs.{HasCause, NamesFile}
 

@@ -27,9 +27,9 @@ use Rattle.ltl_check.specs.declared.fault.CheckFault.{CheckFault}
 use Rattle.ltl_check.specs.declared.fault.CheckFault.TheVariants as fault
 use Rattle.ltl_cli.specs.declared.refusal.Refusal.{Refusal}
 use Rattle.ltl_cli.specs.declared.refusal.Refusal.TheVariants.{OutOfMemory}
-use Rattle.ltl_cli.specs.declared.request.Plan.{Plan}
+use Rattle.ltl_words.specs.declared.request.Plan.{Plan}
 use Rattle.ltl_cli.specs.Refusals.{TakesStep, of_check, of_hoa, refusal_of}
-use Rattle.ltl_cli.specs.Plans.{formula_word}
+use Rattle.ltl_words.specs.Plans.{formula_word}
 use Rattle.ltl_cli.specs.Inputs.{RefusesInput, TakesFewer, TakesUpTo, WasStream, most_of_automaton}
 use Rattle.ltl_cli.specs.Checks.{FindsVerdict, IsChecked, Negates, ReadsAutomaton, RefusesCheck}
 use Rattle.ltl_cli.proofs.InputLaws.{not_long, reads_takes}

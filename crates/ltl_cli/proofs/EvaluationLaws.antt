@@ -19,11 +19,11 @@ use Rattle.ltl_word.specs.declared.fault.WordFault.TheVariants as fault
 use Rattle.ltl_word.specs.ReadText.{IsReadAs, IsRefusedFor}
 use Rattle.ltl_cli.specs.declared.refusal.Refusal.{Refusal}
 use Rattle.ltl_cli.specs.declared.refusal.Refusal.TheVariants.{OutOfMemory, Usage}
-use Rattle.ltl_cli.specs.declared.request.Plan.{Plan}
-use Rattle.ltl_cli.specs.declared.request.PlanFault.TheVariants as plan
+use Rattle.ltl_words.specs.declared.request.Plan.{Plan}
+use Rattle.ltl_words.specs.declared.request.PlanFault.TheVariants as plan
 use Rattle.ltl_cli.specs.Refusals.{of_word}
-use Rattle.ltl_cli.specs.Plans.{formula_word, planned, request_in}
-use Rattle.ltl_cli.specs.Words.{evaluator_plan}
+use Rattle.ltl_words.specs.Plans.{formula_word, planned, request_in}
+use Rattle.ltl_words.specs.Words.{evaluator_plan}
 use Rattle.ltl_cli.specs.Inputs.{RefusesFor, RefusesInput}
 use Rattle.ltl_cli.specs.Runs.{IsOutcome, formula_asked}
 use Rattle.ltl_cli.specs.Evaluations.{FindsTruth}

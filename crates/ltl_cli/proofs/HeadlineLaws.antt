@@ -8,13 +8,13 @@ use Rattle.ltl_spec.specs.Tools.Refusal.{Tool, Translator, Checker, Evaluator}
 use Rattle.ltl_spec.specs.Tools.Outcome.{Input, NotOpened, Seen}
 use Rattle.ltl_spec.specs.Tools.Run.{MayShow}
 use Rattle.ltl_streams.specs.Streams.{SinkState, SourceState}
-use Rattle.ltl_cli.specs.declared.request.Plan.{Plan}
-use Rattle.ltl_cli.specs.declared.request.PlanFault.{PlanFault}
-use Rattle.ltl_cli.specs.declared.request.PlanFault.TheVariants as fault
+use Rattle.ltl_words.specs.declared.request.Plan.{Plan}
+use Rattle.ltl_words.specs.declared.request.PlanFault.{PlanFault}
+use Rattle.ltl_words.specs.declared.request.PlanFault.TheVariants as fault
 use Rattle.ltl_cli.specs.declared.source.Source.{Source}
 use Rattle.ltl_cli.specs.declared.source.Source.TheVariants as source
-use Rattle.ltl_cli.specs.Words.{Request, plan_of}
-use Rattle.ltl_cli.specs.Plans.{planned}
+use Rattle.ltl_words.specs.Words.{Request, plan_of}
+use Rattle.ltl_words.specs.Plans.{planned}
 use Rattle.ltl_cli.specs.Inputs.{IsFileOf, IsOpen, TurnsOut, WasInput}
 use Rattle.ltl_cli.specs.Headline.{AreBehind, IsBehind, IsBehindOrComes, IsSourceOf, PlanMayShow, PlansFor, WordsMayShow, automaton_file, formula_file, request_planned}
 use Rattle.ltl_cli.specs.Runs.{Shows, ToolRun}

@@ -8,4 +8,3 @@ pub mod MessageLaws
 pub mod RunLaws
 pub mod StreamLaws
 pub mod TranslationLaws
-pub mod WordLaws

@@ -19,12 +19,13 @@ use Rattle.ltl_streams.specs.Streams.{Breaks, SinkState, Takes}
 use Rattle.ltl_cli.specs.declared.refusal.Refusal.{Refusal}
 use Rattle.ltl_cli.specs.declared.refusal.Refusal.TheVariants as code
 use Rattle.ltl_cli.specs.declared.refusal.Refusal.TheVariants.{OutOfMemory, CannotWrite, Usage}
-use Rattle.ltl_cli.specs.declared.status.Status.{Status}
-use Rattle.ltl_cli.specs.declared.request.Plan.{Plan}
-use Rattle.ltl_cli.specs.declared.request.PlanFault.{PlanFault}
-use Rattle.ltl_cli.specs.declared.request.PlanFault.TheVariants as fault
-use Rattle.ltl_cli.specs.Refusals.{of_plan, refusal_of, status_number}
-use Rattle.ltl_cli.specs.Plans.{formula_word, planned}
+use Rattle.ltl_words.specs.declared.status.Status.{Status}
+use Rattle.ltl_words.specs.declared.request.Plan.{Plan}
+use Rattle.ltl_words.specs.declared.request.PlanFault.{PlanFault}
+use Rattle.ltl_words.specs.declared.request.PlanFault.TheVariants as fault
+use Rattle.ltl_cli.specs.Refusals.{of_plan, refusal_of}
+use Rattle.ltl_words.specs.Tools.{status_number}
+use Rattle.ltl_words.specs.Plans.{formula_word, planned}
 use Rattle.ltl_cli.specs.Inputs.{RefusesFor, RefusesInput}
 use Rattle.ltl_cli.specs.Runs.{Finishes, IsOutcome, IsTold, Shows, ShowsBytes, TakesNone, ToolRun, message_with, status_with}
 

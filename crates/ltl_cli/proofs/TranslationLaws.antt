@@ -8,9 +8,9 @@ use Rattle.ltl_spec.specs.Tools.Programs.{InputReads}
 use Rattle.ltl_syntax.specs.FormulaView.{FormulaView, reading_of}
 use Rattle.ltl_cli.specs.declared.refusal.Refusal.{Refusal}
 use Rattle.ltl_cli.specs.declared.refusal.Refusal.TheVariants.{OutOfMemory}
-use Rattle.ltl_cli.specs.declared.request.Plan.{Plan}
+use Rattle.ltl_words.specs.declared.request.Plan.{Plan}
 use Rattle.ltl_cli.specs.Refusals.{refusal_of}
-use Rattle.ltl_cli.specs.Plans.{formula_word, layout_in}
+use Rattle.ltl_words.specs.Plans.{formula_word, layout_in}
 use Rattle.ltl_cli.specs.Inputs.{RefusesFor, RefusesInput}
 use Rattle.ltl_cli.specs.Translations.{MakesText, PlanPrints}
 use Rattle.ltl_cli.proofs.AutomatonLaws.{making_takes}

@@ -13,9 +13,9 @@ use Rattle.ltl_spec.specs.Tools.Run.{AutomatonReads}
 use Rattle.ltl_check.specs.declared.verdict.Outcome.{Outcome}
 use Rattle.ltl_check.specs.VerdictView.{verdict_of}
 use Rattle.ltl_cli.specs.declared.refusal.Refusal.{Refusal}
-use Rattle.ltl_cli.specs.declared.request.Plan.{Plan}
-use Rattle.ltl_cli.specs.Words.{checker_plan}
-use Rattle.ltl_cli.specs.Plans.{formula_word, request_in}
+use Rattle.ltl_words.specs.declared.request.Plan.{Plan}
+use Rattle.ltl_words.specs.Words.{checker_plan}
+use Rattle.ltl_words.specs.Plans.{formula_word, request_in}
 use Rattle.ltl_cli.specs.Inputs.{IsFound, RefusesFor}
 
 -- the automaton that is checked

@@ -5,8 +5,8 @@ use Rattle.ltl_spec.specs.Tools.Refusal as spec
 use Rattle.ltl_spec.specs.Tools.Outcome.{Input}
 use Rattle.ltl_spec.specs.Tools.Programs.{EvaluatorPlan, EvaluatorFinds}
 use Rattle.ltl_cli.specs.declared.refusal.Refusal.{Refusal}
-use Rattle.ltl_cli.specs.declared.request.Plan.{Plan}
-use Rattle.ltl_cli.specs.Plans.{formula_word}
+use Rattle.ltl_words.specs.declared.request.Plan.{Plan}
+use Rattle.ltl_words.specs.Plans.{formula_word}
 use Rattle.ltl_cli.specs.Inputs.{IsFound}
 
 -- the plan of the definitions, with the text of a word

@@ -7,13 +7,13 @@ use Rattle.ltl_spec.specs.Tools.Refusal.{Tool, Checker}
 use Rattle.ltl_spec.specs.Tools.Outcome.{FormulaWord, Given, File, Input, IsShortOfMemory, Seen}
 use Rattle.ltl_spec.specs.Tools.Run.{MayShow}
 use Rattle.ltl_streams.specs.Streams.{SourceState}
-use Rattle.ltl_cli.specs.declared.request.Plan.{Plan}
-use Rattle.ltl_cli.specs.declared.request.PlanFault.{PlanFault}
-use Rattle.ltl_cli.specs.declared.request.PlanFault.TheVariants as fault
+use Rattle.ltl_words.specs.declared.request.Plan.{Plan}
+use Rattle.ltl_words.specs.declared.request.PlanFault.{PlanFault}
+use Rattle.ltl_words.specs.declared.request.PlanFault.TheVariants as fault
 use Rattle.ltl_cli.specs.declared.source.Source.{Source}
 use Rattle.ltl_cli.specs.declared.source.Source.TheVariants as source
-use Rattle.ltl_cli.specs.Words.{Request, plan_of, request_of}
-use Rattle.ltl_cli.specs.Plans.{Plans, request_in}
+use Rattle.ltl_words.specs.Words.{Request, plan_of, request_of}
+use Rattle.ltl_words.specs.Plans.{Plans, request_in}
 use Rattle.ltl_cli.specs.Inputs.{IsFileOf}
 use Rattle.ltl_cli.specs.Runs.{ToolRun}
 

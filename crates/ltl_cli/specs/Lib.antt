@@ -3,8 +3,6 @@ pub mod Evaluations
 pub mod Headline
 pub mod Inputs
 pub mod Messages
-pub mod Plans
 pub mod Refusals
 pub mod Runs
 pub mod Translations
-pub mod Words

@@ -3,9 +3,10 @@ use Rattle.std.specs.Prelude.{ℕ, List, [], ◌++◌, Option, Some, None, codes
 use Rattle.ltl_spec.specs.Hoa.HoaFaultKind.{hoa_fault_text}
 use Rattle.ltl_spec.specs.Tools.Limits.{stated_limits}
 use Rattle.ltl_spec.specs.Tools.Refusal.{Tool, Refusal, BadFormula, BadWord, BadAutomaton, fault_text, message, refusal_text}
-use Rattle.ltl_cli.specs.declared.tool.Tool as code
+use Rattle.ltl_words.specs.declared.tool.Tool as code
 use Rattle.ltl_cli.specs.declared.refusal.Refusal as why
-use Rattle.ltl_cli.specs.Refusals.{refusal_of, tool_of}
+use Rattle.ltl_cli.specs.Refusals.{refusal_of}
+use Rattle.ltl_words.specs.Tools.{tool_of}
 
 abbrev pub front_text : Tool → Refusal → List ℕ
 front_text tool (BadFormula place kind) = codes "formula: byte "

@@ -1,5 +1,5 @@
--- The refusals and statuses of the code as those of the definitions.
-use Rattle.std.specs.Prelude.{◌≡◌, ℕ, Result, MatchResult, Ok, Err, ◌⊎◌}
+-- The refusals of the code as those of the definitions.
+use Rattle.std.specs.Prelude.{◌≡◌, Result, MatchResult, Ok, Err, ◌⊎◌}
 use Rattle.ltl_spec.specs.Tools.Refusal as spec
 use Rattle.ltl_syntax.specs.ParserView.{kind_of}
 use Rattle.ltl_syntax.specs.declared.fault.ReadFault as read
@@ -9,16 +9,9 @@ use Rattle.ltl_word.specs.declared.fault.WordFault as word
 use Rattle.ltl_hoa.specs.TokenView as hoa_view
 use Rattle.ltl_hoa.specs.declared.fault.HoaFault as hoa
 use Rattle.ltl_check.specs.declared.fault.CheckFault as check
-use Rattle.ltl_cli.specs.declared.request.PlanFault as plan
-use Rattle.ltl_cli.specs.declared.tool.Tool as tool
+use Rattle.ltl_words.specs.declared.request.PlanFault as plan
 use Rattle.ltl_cli.specs.declared.refusal.Refusal.{Refusal}
 use Rattle.ltl_cli.specs.declared.refusal.Refusal.TheVariants.{Usage, CannotOpen, CannotRead, CannotWrite, OutOfMemory, LongFormula, BadFormula, TooManyPropositions, TooManyRows, TooManyElementaryRows, LargeAutomaton, LongWord, BadWord, BadAutomaton, LargeProduct}
-use Rattle.ltl_cli.specs.declared.status.Status as status
-
-abbrev pub tool_of : tool.Tool → spec.Tool
-tool_of tool.TheVariants.Translator = spec.Translator
-tool_of tool.TheVariants.Checker = spec.Checker
-tool_of tool.TheVariants.Evaluator = spec.Evaluator
 
 abbrev pub refusal_of : Refusal → spec.Refusal
 refusal_of Usage = spec.Usage
@@ -36,14 +29,6 @@ refusal_of LongWord = spec.LongWord
 refusal_of (BadWord place) = spec.BadWord place
 refusal_of (BadAutomaton line kind) = spec.BadAutomaton line (hoa_view.kind_of kind)
 refusal_of LargeProduct = spec.LargeProduct
-
-abbrev pub status_number : status.Status → ℕ
-status_number status.TheVariants.Done = 0
-status_number status.TheVariants.Violated = 1
-status_number status.TheVariants.Usage = 2
-status_number status.TheVariants.Refused = 3
-status_number status.TheVariants.OutOfMemory = 4
-status_number status.TheVariants.Failed = 5
 
 -- the refusals for the faults of the layers
 

@@ -9,14 +9,15 @@ use Rattle.ltl_spec.specs.Tools.Outcome.{FormulaWord, Input, IsShortOfMemory, Se
 use Rattle.ltl_spec.specs.Tools.Run.{MayShow, PlanOf}
 use Rattle.ltl_streams.specs.Streams.{Breaks, SinkState, SourceState, Takes}
 use Rattle.ltl_cli.specs.declared.refusal.Refusal.{Refusal}
-use Rattle.ltl_cli.specs.declared.status.Status.{Status}
-use Rattle.ltl_cli.specs.declared.request.Plan.{Plan}
-use Rattle.ltl_cli.specs.declared.request.PlanFault.{PlanFault}
-use Rattle.ltl_cli.specs.declared.request.PlanFault.TheVariants as fault
-use Rattle.ltl_cli.specs.Refusals.{refusal_of, status_number}
+use Rattle.ltl_words.specs.declared.status.Status.{Status}
+use Rattle.ltl_words.specs.declared.request.Plan.{Plan}
+use Rattle.ltl_words.specs.declared.request.PlanFault.{PlanFault}
+use Rattle.ltl_words.specs.declared.request.PlanFault.TheVariants as fault
+use Rattle.ltl_cli.specs.Refusals.{refusal_of}
+use Rattle.ltl_words.specs.Tools.{status_number}
 use Rattle.ltl_cli.specs.declared.source.Source.{Source}
 use Rattle.ltl_cli.specs.Inputs.{HoldsText, IsSourceAtFault}
-use Rattle.ltl_cli.specs.Plans.{formula_word, planned}
+use Rattle.ltl_words.specs.Plans.{formula_word, planned}
 
 -- the formula that a plan of a program is for
 abbrev pub formula_asked : (tool : spec.Tool) → PlanOf tool → FormulaWord

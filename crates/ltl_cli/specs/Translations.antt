@@ -13,9 +13,9 @@ use Rattle.ltl_spec.specs.Tools.Run.{laid_out}
 use Rattle.ltl_cli.specs.declared.refusal.Refusal.{Refusal}
 use Rattle.ltl_cli.specs.declared.printable.Printable.{Printable}
 use Rattle.ltl_cli.specs.declared.printable.Printable.TheVariants as shown
-use Rattle.ltl_cli.specs.declared.request.Plan.{Plan}
-use Rattle.ltl_cli.specs.Words.{translator_plan}
-use Rattle.ltl_cli.specs.Plans.{formula_word, request_in}
+use Rattle.ltl_words.specs.declared.request.Plan.{Plan}
+use Rattle.ltl_words.specs.Words.{translator_plan}
+use Rattle.ltl_words.specs.Plans.{formula_word, request_in}
 use Rattle.ltl_cli.specs.Inputs.{IsFound}
 
 -- from a formula to the automaton of its normal form

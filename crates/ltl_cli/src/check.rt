@@ -11,9 +11,10 @@ ghost use Rattle.ltl_spec.specs.Tools.Outcome as spec;
 ghost use Rattle.ltl_streams.specs.Streams.{Breaks, Takes};
 ghost use Rattle.ltl_syntax.specs.FormulaView.{reading_of};
 ghost use Rattle.ltl_check.specs.VerdictView.{verdict_of};
-ghost use Rattle.ltl_cli.specs.declared.request.Plan as asked;
+ghost use Rattle.ltl_words.specs.declared.request.Plan as asked;
 ghost use Rattle.ltl_cli.specs.Inputs.{IsOpen, IsSourceAtFault, WasAutomaton, WasFormula};
-ghost use Rattle.ltl_cli.specs.Refusals.{TakesStep, status_number};
+ghost use Rattle.ltl_cli.specs.Refusals.{TakesStep};
+ghost use Rattle.ltl_words.specs.Tools.{status_number};
 ghost use Rattle.ltl_cli.specs.Runs.{Finishes, HasCause, IsOutcome, Shows, StaysAt, ToolRun};
 ghost use Rattle.ltl_cli.specs.Checks.{IsChecked, IsNegated, JudgesFormula, ReadsAutomaton, answer_for};
 
@@ -21,16 +22,14 @@ use crate::automaton::automaton_of;
 use crate::finish::finish;
 use crate::input::formula_from;
 use crate::refusal::Refusal;
-use crate::request::{Plan, PlanFault};
 use crate::source::Source;
-use crate::status::Status;
-use crate::tool::Tool;
 use ltl_buchi::{Ba, Options};
 use ltl_check::{Outcome, Verdict, check};
 use ltl_hoa::{Marked, hoa_read_from};
 use ltl_streams::{ByteSink, ByteSource, Piece, WriteFault, write_whole};
 use ltl_syntax::Formula;
 use ltl_word::Lasso;
+use ltl_words::{Plan, PlanFault, Status, Tool};
 use std::alloc::Allocator;
 
 /// A formula and the automaton of the words that violate it.
@@ -51,7 +50,7 @@ fn negated<'a, A: Allocator, R: ByteSource>(
         × IsNegated plan.now input (λ t. reading_of t.formula) (λ t. t.violations) result }
     ensures named { IfOk result (λ t. HasNamesBelow (length t.formula.names) t.violations) }
 {
-    let formula = formula_from(alloc, plan.formula, source)?;
+    let formula = formula_from(alloc, plan.formula(), source)?;
     let options = Options {
         keep_implied: false,
         keep_equal: false,

@@ -1,14 +1,13 @@
 //! The end of a run: the message and the status.
 
 ghost use Rattle.std.specs.Prelude.{◌≡◌};
-ghost use Rattle.ltl_cli.specs.Refusals.{tool_of};
+ghost use Rattle.ltl_words.specs.Tools.{tool_of};
 ghost use Rattle.ltl_cli.specs.Runs.{IsTold, message_with, status_with};
 
 use crate::message;
 use crate::refusal::Refusal;
-use crate::status::Status;
-use crate::tool::Tool;
 use ltl_streams::ByteSink;
+use ltl_words::{Status, Tool};
 
 /// Writes the message of a refusal, or as much of it as is taken, and answers the exit status.
 pub fn finish<M: ByteSink>(tool: Tool, outcome: Result<Status, Refusal>, message: &mut M) -> u8

@@ -3,14 +3,14 @@
 ghost use Rattle.std.specs.Prelude.{◌≡◌, [], take, IfOk, IfSome, IsErrOf};
 ghost use Rattle.ltl_spec.specs.Tools.Stage.{Open};
 ghost use Rattle.ltl_spec.specs.Tools.Outcome as spec;
-ghost use Rattle.ltl_cli.specs.Plans.{formula_word};
+ghost use Rattle.ltl_words.specs.Plans.{formula_word};
 ghost use Rattle.ltl_cli.specs.Inputs.{HoldsText, IsOpen, IsReadFrom, IsReadOf, TakesFewer, WasFormula, WasStream, most_taken};
 
 use crate::refusal::Refusal;
-use crate::request::FormulaWord;
 use crate::source::Source;
 use ltl_streams::ByteSource;
 use ltl_syntax::{Formula, TEXT_LIMIT, read};
+use ltl_words::FormulaWord;
 use std::alloc::{AllocError, AllocFailed, Allocator};
 
 /// How many bytes of a formula's file are taken at most: one more than its text may have.

@@ -7,15 +7,16 @@ ghost use Rattle.ltl_hoa.specs.TokenView as hoa;
 ghost use Rattle.ltl_spec.specs.Hoa.HoaFaultKind.{hoa_fault_text};
 ghost use Rattle.ltl_spec.specs.Tools.Refusal as spec;
 ghost use Rattle.ltl_cli.specs.Messages.{back_text, front_text, line_for, number_in, number_text, text_for};
-ghost use Rattle.ltl_cli.specs.Refusals.{refusal_of, tool_of};
+ghost use Rattle.ltl_cli.specs.Refusals.{refusal_of};
+ghost use Rattle.ltl_words.specs.Tools.{tool_of};
 ghost use Rattle.ltl_cli.specs.Runs.{IsTold};
 
 use crate::refusal::Refusal;
-use crate::tool::Tool;
 use ltl_hoa::HoaFaultKind;
 use ltl_streams::{ByteSink, WriteFault, write_whole};
 use ltl_syntax::FaultKind;
 use ltl_text::Digits;
+use ltl_words::Tool;
 
 /// What a line for the tool begins with.
 fn name(tool: Tool) -> &'static [u8]

@@ -5,16 +5,15 @@ ghost use Rattle.ltl_spec.specs.Checking.Bounds.{HasNamesBelow};
 ghost use Rattle.ltl_spec.specs.Formulas.Grammar.{IsTextOf};
 ghost use Rattle.ltl_spec.specs.Semantics.Language.{AcceptsModels};
 ghost use Rattle.ltl_syntax.specs.FormulaView.{reading_of};
-ghost use Rattle.ltl_cli.specs.Plans.{layout_in};
+ghost use Rattle.ltl_words.specs.Plans.{layout_in};
 ghost use Rattle.ltl_cli.specs.Refusals.{TakesStep};
 ghost use Rattle.ltl_cli.specs.Translations.{MakesText, automaton_in, text_of};
 
 use crate::automaton::{automaton_of, generalized_of};
-use crate::layout::Layout;
 use crate::refusal::Refusal;
-use crate::request::Plan;
 use ltl_buchi::{Ba, Gen};
 use ltl_syntax::Formula;
+use ltl_words::{Layout, Plan};
 use std::alloc::Allocator;
 
 /// An automaton in its layout.
@@ -39,17 +38,17 @@ pub fn printable_of<'a, A: Allocator>(
     ensures models { IfOk result (λ t. AcceptsModels (automaton_in t) (reading_of formula.now).formula) }
     ensures named { IfOk result (λ t. (text : List ℕ) → IsTextOf text (reading_of formula.now) → HasNamesBelow (length formula.now.names) (automaton_in t)) }
 {
-    match plan.layout {
+    match plan.layout() {
         Layout::Claim => {
-            let automaton = automaton_of(alloc, formula, false, plan.rewrite, &plan.options)?;
+            let automaton = automaton_of(alloc, formula, false, plan.rewrite(), &plan.options())?;
             Ok(Printable::Claim(automaton))
         }
         Layout::Hoa => {
-            let automaton = automaton_of(alloc, formula, false, plan.rewrite, &plan.options)?;
+            let automaton = automaton_of(alloc, formula, false, plan.rewrite(), &plan.options())?;
             Ok(Printable::Hoa(automaton))
         }
         Layout::Generalized => {
-            let automaton = generalized_of(alloc, formula, plan.rewrite, &plan.options)?;
+            let automaton = generalized_of(alloc, formula, plan.rewrite(), &plan.options())?;
             Ok(Printable::Generalized(automaton))
         }
     }

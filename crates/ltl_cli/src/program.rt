@@ -4,18 +4,16 @@ ghost use Rattle.std.specs.Prelude.{◌≡◌, map, option_map};
 ghost use Rattle.ltl_spec.specs.Tools.Stage.{Open};
 ghost use Rattle.ltl_spec.specs.Tools.Refusal.{Checker};
 ghost use Rattle.ltl_cli.specs.Headline.{IsSourceOf, PlanMayShow, PlansFor, WordsMayShow, automaton_file, formula_file, map_ok, request_planned};
-ghost use Rattle.ltl_cli.specs.Refusals.{tool_of};
+ghost use Rattle.ltl_words.specs.Tools.{tool_of};
 ghost use Rattle.ltl_cli.specs.Runs.{Shows, StaysAt};
 
 use crate::check::check_over;
 use crate::evaluate::evaluate_over;
 use crate::files::Files;
-use crate::request::{FormulaWord, Plan, PlanFault};
 use crate::source::Source;
-use crate::tool::Tool;
 use crate::translate::translate_over;
-use crate::words::plan;
 use ltl_streams::ByteSink;
+use ltl_words::{FormulaWord, Plan, PlanFault, Tool, plan};
 use std::alloc::Global;
 
 /// What the words ask for, or why there are no words.
@@ -39,7 +37,7 @@ fn formula_source<F: Files>(files: &F, plan: &Result<Plan<'_>, PlanFault>) -> So
     let Ok(plan) = plan else {
         return Source::Text;
     };
-    match plan.formula {
+    match plan.formula() {
         FormulaWord::Given(_) => Source::Text,
         FormulaWord::File(name) => files.open(name),
     }
@@ -52,7 +50,7 @@ fn automaton_name<'a>(plan: &Result<Plan<'a>, PlanFault>) -> Option<&'a str>
     let Ok(plan) = plan else {
         return None;
     };
-    plan.automaton
+    plan.automaton()
 }
 
 /// Checks the automaton of the file that the plan names, or else of the standard input.

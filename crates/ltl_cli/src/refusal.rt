@@ -2,10 +2,9 @@
 
 ghost use Rattle.std.specs.Prelude.{◌≡◌};
 ghost use Rattle.ltl_spec.specs.Tools.Refusal.{status_of};
-ghost use Rattle.ltl_cli.specs.Refusals.{of_plan, refusal_of, status_number};
+ghost use Rattle.ltl_cli.specs.Refusals.{of_plan, refusal_of};
+ghost use Rattle.ltl_words.specs.Tools.{status_number};
 
-use crate::request::PlanFault;
-use crate::status::Status;
 use ltl_buchi::BaFault;
 use ltl_check::CheckFault;
 use ltl_formula::BuildFault;
@@ -13,6 +12,7 @@ use ltl_hoa::{HoaFault, HoaFaultKind};
 use ltl_streams::WriteFault;
 use ltl_syntax::{FaultKind, ReadFault};
 use ltl_word::WordFault;
+use ltl_words::{PlanFault, Status};
 use std::alloc::AllocError;
 use thiserror::Error;
 

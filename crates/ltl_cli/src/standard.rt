@@ -3,7 +3,7 @@
 ghost use Rattle.std.specs.Prelude.{◌≡◌, IsErrOf};
 ghost use Rattle.ltl_spec.specs.Tools.Refusal.{Checker, Evaluator, Translator};
 ghost use Rattle.ltl_spec.specs.Tools.Outcome as spec;
-ghost use Rattle.ltl_cli.specs.Plans.{formula_word};
+ghost use Rattle.ltl_words.specs.Plans.{formula_word};
 ghost use Rattle.ltl_cli.specs.Inputs.{GivesBytesOf, HoldsText, IsInputOf, IsReadFrom, TakesFewer, TakesUpTo, bytes_of, most_taken};
 ghost use Rattle.ltl_cli.specs.Runs.{ShowsBytes, TakesNone, ToolRun};
 
@@ -11,11 +11,11 @@ use crate::check::check_over;
 use crate::evaluate::evaluate_over;
 use crate::input::{read_file, read_given};
 use crate::refusal::Refusal;
-use crate::request::{FormulaWord, Plan, PlanFault};
 use crate::source::Source;
 use crate::translate::translate_over;
 use ltl_streams::{ByteSource, LentReader, ReaderSource, WriterSink};
 use ltl_syntax::Formula;
+use ltl_words::{FormulaWord, Plan, PlanFault};
 use std::alloc::Allocator;
 use std::io::{Read, Write};
 

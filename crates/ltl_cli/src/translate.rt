@@ -16,13 +16,11 @@ use crate::finish::finish;
 use crate::input::formula_from;
 use crate::printable::{Printable, printable_of};
 use crate::refusal::Refusal;
-use crate::request::{Plan, PlanFault};
 use crate::source::Source;
-use crate::status::Status;
-use crate::tool::Tool;
 use ltl_streams::{ByteSink, ByteSource, WriteFault};
 use ltl_syntax::Formula;
 use ltl_text::{put_claim, put_generalized, put_hoa};
+use ltl_words::{Plan, PlanFault, Status, Tool};
 use std::alloc::Allocator;
 
 /// A formula and its automaton in the layout that is asked for.
@@ -74,7 +72,7 @@ fn translated<'a, A: Allocator, R: ByteSource>(
     ensures language { IfOk result (λ t. AcceptsModels (automaton_in t.automaton) (reading_of t.formula).formula) }
     ensures named { IfOk result (λ t. HasNamesBelow (length t.formula.names) (automaton_in t.automaton)) }
 {
-    let formula = formula_from(alloc, plan.formula, source)?;
+    let formula = formula_from(alloc, plan.formula(), source)?;
     let automaton = printable_of(alloc, &formula, plan)?;
     Ok(Translation { formula, automaton })
 }

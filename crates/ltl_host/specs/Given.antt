@@ -7,8 +7,8 @@ use Rattle.std.specs.declared.io.ErrorKind.TheVariants as kind
 use Rattle.std.specs.declared.vec.IntoIter.{IntoIter}
 use Rattle.std.specs.declared.vec.Vec.{Vec}
 use Rattle.std.specs.Vec.Iter.{into_iter_items}
-use Rattle.ltl_cli.specs.declared.request.PlanFault.{PlanFault}
-use Rattle.ltl_cli.specs.declared.request.PlanFault.TheVariants as fault
+use Rattle.ltl_words.specs.declared.request.PlanFault.{PlanFault}
+use Rattle.ltl_words.specs.declared.request.PlanFault.TheVariants as fault
 
 -- want of memory, or words that mean nothing
 abbrev pub fault_for : ErrorKind → PlanFault

@@ -18,16 +18,16 @@ ghost use Rattle.std.specs.Prelude.{◌≡◌, List, ℕ, map, string_bytes, IfO
 ghost use Rattle.std.specs.IoError.{error_kind};
 ghost use Rattle.std.specs.Vec.Iter.{into_iter_items};
 ghost use Rattle.ltl_spec.specs.Tools.Stage.{Open};
-ghost use Rattle.ltl_cli.specs.declared.request.PlanFault as cli;
-ghost use Rattle.ltl_cli.specs.Refusals.{tool_of};
+ghost use Rattle.ltl_words.specs.declared.request.PlanFault as cli;
+ghost use Rattle.ltl_words.specs.Tools.{tool_of};
 ghost use Rattle.ltl_cli.specs.Runs.{Shows, ShowsBytes, StaysAt};
 ghost use Rattle.ltl_cli.specs.Headline.{WordsMayShow};
 ghost use Rattle.ltl_host.specs.Given.{HandsOver, fault_for};
 ghost use Rattle.ltl_host.specs.Sources.{Anything, AnythingBehind};
 
 pub use files::{HostFiles, opened};
-use ltl_cli::{PlanFault, Tool};
 use ltl_streams::{ByteSink, WriterSink};
+use ltl_words::{PlanFault, Tool};
 use std::alloc::{AllocError, Allocator, Global};
 use std::env::Args;
 use std::io::{Read, Write};

@@ -3,11 +3,12 @@
 use ltl_alt::AltFault;
 use ltl_buchi::BaFault;
 use ltl_check::CheckFault;
-use ltl_cli::{PlanFault, Refusal};
+use ltl_cli::Refusal;
 use ltl_formula::BuildFault;
 use ltl_hoa::{HoaFault, HoaFaultKind};
 use ltl_syntax::{FaultKind, ReadFault, WriteFault};
 use ltl_word::WordFault;
+use ltl_words::PlanFault;
 use std::error::Error;
 use std::fmt::InlineText;
 

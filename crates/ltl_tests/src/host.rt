@@ -2,9 +2,10 @@
 
 ghost use Rattle.std.specs.Prelude.{◌≤◌};
 
-use ltl_cli::{PlanFault, Source, Tool};
+use ltl_cli::Source;
 use ltl_host::{HostFiles, run, texts, words};
 use ltl_streams::ByteSource;
+use ltl_words::{PlanFault, Tool};
 use refusing::Refusing;
 use std::alloc::Allocator;
 use std::env::FillError;

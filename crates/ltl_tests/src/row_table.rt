@@ -1,7 +1,7 @@
 //! Worked runs of the programs: the words, the files and the input of each, and what it has to give.
 
 use crate::parts::Part;
-use ltl_cli::Tool;
+use ltl_words::Tool;
 
 /// A file that a run finds, or a folder, which has no text: it opens and can't be read.
 #[derive(Clone, Copy)]

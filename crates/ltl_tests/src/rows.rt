@@ -8,8 +8,9 @@ use crate::row_table::{
     NESTED_TEXTS, REFUSED_BODIES, REFUSED_COMMANDS, REFUSED_FORMULAS, REFUSED_HEADERS,
     REFUSED_LASSOS, Row, SIMPLIFICATIONS, TRUTHS, VERDICTS,
 };
-use ltl_cli::{Files, Source, Tool, run};
+use ltl_cli::{Files, Source, run};
 use ltl_streams::{ReaderSource, WriterSink};
+use ltl_words::Tool;
 use std::alloc::{AllocError, Global};
 use std::io;
 use std::io::Read;

@@ -1,8 +1,8 @@
 //! `ltlcheck`: hands the process to the checker.
 #![tactic(auto)]
 
-use ltl_cli::Tool;
 use ltl_host::run;
+use ltl_words::Tool;
 use std::io;
 use std::process::ExitCode;
 

@@ -1,8 +1,8 @@
 //! `ltleval`: hands the process to the evaluator.
 #![tactic(auto)]
 
-use ltl_cli::Tool;
 use ltl_host::run;
+use ltl_words::Tool;
 use std::io;
 use std::process::ExitCode;
 

@@ -1,6 +1,6 @@
 use Rattle.std.proofs.Common.{refl}
 use Rattle.std.proofs.lemmas.Result.{err_from_is_err_and}
-use Rattle.ltl_cli.specs.declared.status.Status.TheVariants.{Done, Violated}
+use Rattle.ltl_words.specs.declared.status.Status.TheVariants.{Done, Violated}
 use Rattle.ltl_cli.proofs.EvaluationLaws.{evaluator_decides}
 use Rattle.ltl_cli.proofs.RunLaws.{outcome_broken, outcome_done, outcome_refused}
 use Rattle.ltl_cli.proofs.evaluate.printed.Goals as goal

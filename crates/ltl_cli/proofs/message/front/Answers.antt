@@ -1,5 +1,5 @@
 use Rattle.std.proofs.Common.{sym}
-use Rattle.ltl_cli.specs.Refusals.{tool_of}
+use Rattle.ltl_words.specs.Tools.{tool_of}
 use Rattle.ltl_cli.proofs.MessageLaws.{long_formula, long_word, many_elementary_rows, many_propositions, many_rows}
 use Rattle.ltl_cli.proofs.message.front.Goals as goal
 

@@ -1,7 +1,8 @@
 use Rattle.std.proofs.Common.{◌∷◌, []}
 use Rattle.ltl_spec.specs.Tools.Limits.{stated_limits}
 use Rattle.ltl_spec.specs.Tools.Refusal.{refusal_text}
-use Rattle.ltl_cli.specs.Refusals.{refusal_of, tool_of}
+use Rattle.ltl_cli.specs.Refusals.{refusal_of}
+use Rattle.ltl_words.specs.Tools.{tool_of}
 use Rattle.ltl_cli.proofs.MessageLaws.{all_went, first_failed, second_failed, third_failed, line_same}
 use Rattle.ltl_cli.proofs.message.put_line.Goals as goal
 

@@ -1,7 +1,8 @@
 use Rattle.std.proofs.Common.{List, ℕ, subst}
 use Rattle.std.specs.Prelude.{OnOk, OnErr}
 use Rattle.ltl_streams.specs.Streams.{Breaks, Takes}
-use Rattle.ltl_cli.specs.Refusals.{refusal_of, tool_of}
+use Rattle.ltl_cli.specs.Refusals.{refusal_of}
+use Rattle.ltl_words.specs.Tools.{tool_of}
 use Rattle.ltl_cli.proofs.MessageLaws.{put_same}
 use Rattle.ltl_cli.proofs.message.put_text.Goals as goal
 

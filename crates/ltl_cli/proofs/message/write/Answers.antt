@@ -1,4 +1,5 @@
-use Rattle.ltl_cli.specs.Refusals.{refusal_of, tool_of}
+use Rattle.ltl_cli.specs.Refusals.{refusal_of}
+use Rattle.ltl_words.specs.Tools.{tool_of}
 use Rattle.ltl_cli.proofs.MessageLaws.{either_told, line_long}
 use Rattle.ltl_cli.proofs.message.write.Goals as goal
 

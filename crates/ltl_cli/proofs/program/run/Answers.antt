@@ -1,6 +1,6 @@
 use Rattle.std.specs.Prelude.{map}
 use Rattle.ltl_cli.specs.Headline.{map_ok}
-use Rattle.ltl_cli.specs.Refusals.{tool_of}
+use Rattle.ltl_words.specs.Tools.{tool_of}
 use Rattle.ltl_cli.proofs.HeadlineLaws.{words_show}
 use Rattle.ltl_cli.proofs.program.run.Goals as goal
 

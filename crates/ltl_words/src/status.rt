@@ -1,7 +1,7 @@
 //! How a program ends.
 
 ghost use Rattle.std.specs.Prelude.{◌≡◌};
-ghost use Rattle.ltl_cli.specs.Refusals.{status_number};
+ghost use Rattle.ltl_words.specs.Tools.{status_number};
 
 /// The exit status of a program.
 #[derive(Clone, Copy, Debug, PartialEq, Eq)]

@@ -7,7 +7,7 @@ use Rattle.clap.proofs.OnLiterals.{clap_on_literals}
 use Rattle.ltl_spec.specs.Tools.Refusal.{Tool, Translator, Checker, Evaluator}
 use Rattle.ltl_spec.specs.Tools.Outcome.{FormulaWord}
 use Rattle.ltl_spec.specs.Tools.Programs.{Layout}
-use Rattle.ltl_cli.specs.Words.{app_for, formula_among, lacks_word, layout_among, request_for, request_if, request_of, request_of_rows, request_with}
+use Rattle.ltl_words.specs.Words.{app_for, formula_among, lacks_word, layout_among, request_for, request_if, request_of, request_of_rows, request_with}
 
 pub app_is_simple : (tool : Tool) → is_simple (app_for tool) ≡ true
 unfolding clap_on_literals

@@ -1,7 +1,7 @@
 use Rattle.std.proofs.Common.{ap₂, ◌∙◌}
 use Rattle.std.proofs.lemmas.Result.{IfOk-weaker}
 use Rattle.clap.specs.Words.{with_rule}
-use Rattle.ltl_cli.proofs.command.translator_command.Goals as goal
+use Rattle.ltl_words.proofs.command.translator_command.Goals as goal
 
 pub returns : goal.returns
 returns c =

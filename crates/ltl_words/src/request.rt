@@ -3,7 +3,7 @@
 ghost use Rattle.std.specs.Prelude.{◌≡◌, option_map};
 
 use crate::layout::Layout;
-use ltl_buchi::Options;
+use ltl_models::Options;
 use std::alloc::{AllocError, AllocFailed};
 use thiserror::Error;
 
@@ -28,7 +28,7 @@ pub struct Plan<'a> {
 }
 
 impl<'a> Plan<'a> {
-    ghost use Rattle.ltl_cli.specs.Plans.{formula_word, is_generalized, is_hoa, layout_in};
+    ghost use Rattle.ltl_words.specs.Plans.{formula_word, is_generalized, is_hoa, layout_in};
 
     /// The formula, or its file.
     pub fn formula(&self) -> FormulaWord<'a>
@@ -65,6 +65,13 @@ impl<'a> Plan<'a> {
         self.options
     }
 
+    /// How an automaton is printed.
+    pub fn layout(&self) -> Layout
+        ensures { result ≡ self.now.layout }
+    {
+        self.layout
+    }
+
     /// Whether a Büchi automaton in the Hanoi Omega-Automata format is asked for, and no never claim.
     pub fn hoa(&self) -> bool
         ensures { result ≡ is_hoa (layout_in self.now.layout) }
@@ -93,7 +100,7 @@ pub enum PlanFault {
 
 impl From<AllocError> for PlanFault {
     ghost use Rattle.std.specs.Prelude.{◌≡◌};
-    ghost use Rattle.ltl_cli.specs.declared.request.PlanFault.TheVariants.{OutOfMemory};
+    ghost use Rattle.ltl_words.specs.declared.request.PlanFault.TheVariants.{OutOfMemory};
 
     ghost from_gives = { λ _ fault. fault ≡ OutOfMemory };
 
@@ -104,7 +111,7 @@ impl From<AllocError> for PlanFault {
 
 impl<T: Drop> From<AllocFailed<T>> for PlanFault {
     ghost use Rattle.std.specs.Prelude.{◌≡◌};
-    ghost use Rattle.ltl_cli.specs.declared.request.PlanFault.TheVariants.{OutOfMemory};
+    ghost use Rattle.ltl_words.specs.declared.request.PlanFault.TheVariants.{OutOfMemory};
 
     ghost from_gives = { λ _ fault. fault ≡ OutOfMemory };
 

@@ -3,12 +3,12 @@ use Rattle.std.specs.Prelude.{option_map}
 use Rattle.clap.specs.Words.{found_of, rows_of}
 use Rattle.clap.proofs.WalkLemmas.{first_value-rows}
 use Rattle.ltl_spec.specs.Tools.Programs.{layout_of}
-use Rattle.ltl_cli.specs.Words.{lacks_word, layout_among, request_for}
-use Rattle.ltl_cli.specs.Plans.{formula_word, layout_in, request_in}
-use Rattle.ltl_cli.specs.Refusals.{tool_of}
-use Rattle.ltl_cli.specs.declared.request.FormulaWord.{FormulaWord}
-use Rattle.ltl_cli.proofs.WordLaws.{request_is, request_lacks, request_stands, request_torn}
-use Rattle.ltl_cli.proofs.words.planned.Goals as goal
+use Rattle.ltl_words.specs.Words.{lacks_word, layout_among, request_for}
+use Rattle.ltl_words.specs.Plans.{formula_word, layout_in, request_in}
+use Rattle.ltl_words.specs.Tools.{tool_of}
+use Rattle.ltl_words.specs.declared.request.FormulaWord.{FormulaWord}
+use Rattle.ltl_words.proofs.WordLaws.{request_is, request_lacks, request_stands, request_torn}
+use Rattle.ltl_words.proofs.words.planned.Goals as goal
 
 pub returns-in_err-formula : goal.returns-in_err-formula
 returns-in_err-formula c =

@@ -2,9 +2,9 @@
 
 ghost use Rattle.std.specs.Prelude.{◌≡◌, map, IfOk, false};
 ghost use Rattle.clap.specs.Words.{app_of, found_of, rows_of, rule_of};
-ghost use Rattle.ltl_cli.specs.Words.{app_for, checker_app, evaluator_app, flag_rule, has_flag, translator_app, value_rule};
-ghost use Rattle.ltl_cli.specs.Plans.{Matches};
-ghost use Rattle.ltl_cli.specs.Refusals.{tool_of};
+ghost use Rattle.ltl_words.specs.Words.{app_for, checker_app, evaluator_app, flag_rule, has_flag, translator_app, value_rule};
+ghost use Rattle.ltl_words.specs.Plans.{Matches};
+ghost use Rattle.ltl_words.specs.Tools.{tool_of};
 
 use crate::request::PlanFault;
 use crate::tool::Tool;

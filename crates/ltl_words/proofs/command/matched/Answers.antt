@@ -1,8 +1,8 @@
 use Rattle.std.proofs.Common.{subst, ◌≡◌}
 use Rattle.clap.specs.declared.error.kind.ErrorKind.TheVariants as kind
-use Rattle.ltl_cli.specs.Refusals.{tool_of}
-use Rattle.ltl_cli.proofs.WordLaws.{fault_free, refused_means_none, rows_matched}
-use Rattle.ltl_cli.proofs.command.matched.Goals as goal
+use Rattle.ltl_words.specs.Tools.{tool_of}
+use Rattle.ltl_words.proofs.WordLaws.{fault_free, refused_means_none, rows_matched}
+use Rattle.ltl_words.proofs.command.matched.Goals as goal
 
 pub returns-in-Ok : goal.returns-in-Ok
 returns-in-Ok c = record {

@@ -2,17 +2,17 @@
 
 ghost use Rattle.std.specs.Prelude.{◌≡◌, map, option_map};
 ghost use Rattle.clap.specs.Words.{found_of, rows_of};
-ghost use Rattle.ltl_cli.specs.Words.{formula_among, lacks_word, request_of_rows};
+ghost use Rattle.ltl_words.specs.Words.{formula_among, lacks_word, request_of_rows};
 ghost use Rattle.ltl_spec.specs.Tools.Programs.{layout_of};
-ghost use Rattle.ltl_cli.specs.Plans.{Plans, formula_word, layout_in, request_in};
-ghost use Rattle.ltl_cli.specs.Refusals.{tool_of};
+ghost use Rattle.ltl_words.specs.Plans.{Plans, formula_word, layout_in, request_in};
+ghost use Rattle.ltl_words.specs.Tools.{tool_of};
 
 use crate::command::{is_set, matched};
 use crate::layout::Layout;
 use crate::request::{FormulaWord, Plan, PlanFault};
 use crate::tool::Tool;
 use clap::ArgMatches;
-use ltl_buchi::Options;
+use ltl_models::Options;
 use std::alloc::Global;
 
 /// The one of the two that was given.

@@ -6,14 +6,14 @@ use Rattle.ltl_spec.specs.Tools.Programs.{Layout, Claim, Hoa, Generalized}
 use Rattle.ltl_spec.specs.Tools.Run.{PlanOf}
 use Rattle.clap.specs.Words.{Text, fault_of, found_of, matches_of, rows_of}
 use Rattle.clap.specs.declared.parser.matches.ArgMatches.{ArgMatches}
-use Rattle.ltl_cli.specs.Words.{Request, app_for, plan_of, request_of}
-use Rattle.ltl_cli.specs.declared.layout.Layout as code
-use Rattle.ltl_cli.specs.declared.layout.Layout.TheVariants as layout
-use Rattle.ltl_cli.specs.declared.request.Plan.{Plan}
-use Rattle.ltl_cli.specs.declared.request.FormulaWord.{FormulaWord}
-use Rattle.ltl_cli.specs.declared.request.FormulaWord.TheVariants as word
-use Rattle.ltl_cli.specs.declared.request.PlanFault.{PlanFault}
-use Rattle.ltl_cli.specs.declared.request.PlanFault.TheVariants.{Usage, OutOfMemory}
+use Rattle.ltl_words.specs.Words.{Request, app_for, plan_of, request_of}
+use Rattle.ltl_words.specs.declared.layout.Layout as code
+use Rattle.ltl_words.specs.declared.layout.Layout.TheVariants as layout
+use Rattle.ltl_words.specs.declared.request.Plan.{Plan}
+use Rattle.ltl_words.specs.declared.request.FormulaWord.{FormulaWord}
+use Rattle.ltl_words.specs.declared.request.FormulaWord.TheVariants as word
+use Rattle.ltl_words.specs.declared.request.PlanFault.{PlanFault}
+use Rattle.ltl_words.specs.declared.request.PlanFault.TheVariants.{Usage, OutOfMemory}
 
 abbrev pub formula_word : FormulaWord → spec.FormulaWord
 formula_word (word.Given text) = spec.Given text.now

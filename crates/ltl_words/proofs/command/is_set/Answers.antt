@@ -1,7 +1,7 @@
 use Rattle.std.proofs.Common.{refl}
 use Rattle.clap.specs.Words.{found_of}
 use Rattle.clap.proofs.WalkLemmas.{first_value-rows}
-use Rattle.ltl_cli.proofs.command.is_set.Goals as goal
+use Rattle.ltl_words.proofs.command.is_set.Goals as goal
 
 pub returns-in-Some : goal.returns-in-Some
 returns-in-Some c = rw (← first_value-rows (found_of c.args.matches.now) c.args.id.now, ← c.get_str.ensures, c.in-Some.is) c.eq.ensures
