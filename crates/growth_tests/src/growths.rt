@@ -8,7 +8,6 @@ use crate::digest::{
     of_word,
 };
 use crate::inputs::{CASES, Case};
-use crate::streams::Given;
 use ltl_alt::{AltFault, Gba, Reach, pairs};
 use ltl_buchi::{Ba, BaFault, Options, generalized, levels, merge, merge_ba, renumber, translate};
 use ltl_check::{CheckFault, Graph, PRODUCT_LIMIT, Product, Steps, check, find};
@@ -274,7 +273,7 @@ fn automaton<'a, B: Allocator>(alloc: &'a Memory<B>, text: &str) -> Option<Marke
         alloc,
         Digest::new(),
         HoaFault::OutOfMemory,
-        hoa_read(alloc, &mut Given::of(text))
+        hoa_read(alloc, &mut text.as_bytes())
     ))
 }
 
@@ -351,7 +350,7 @@ fn checks<'a, B: Allocator>(
     case: &Case<'_>,
 ) -> Option<Digest> {
     let (formula, ba) = violations(calm, case.formula)?;
-    let Ok(automaton) = hoa_read(calm, &mut Given::of(case.automaton)) else {
+    let Ok(automaton) = hoa_read(calm, &mut case.automaton.as_bytes()) else {
         return None;
     };
     let digest = checked(alloc, &automaton, &ba, &formula)?;

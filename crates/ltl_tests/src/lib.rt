@@ -1,42 +1,24 @@
-//! Tests of libraries, over their public calls alone.
+//! Tests of what stands on all libraries, over their public calls alone: worked runs of the three programs over memory, from a table; looks of a search;
+//! messages of faults; and what the mains share.
 //!
-//! A clause that pins a result leaves a test nothing to show, so the tests here are few: worked runs of the three programs over memory, from a table;
-//! sets, least ones, lists of edges, pairs of rows, the reader of automata and its faults by their lines, words, generalized automata and their texts,
-//! looks of a search, messages of faults, how often readers and writers are called, what the mains share, and the allocator that refuses. Wanted values
-//! come from the definitions, by hand or by a reference in another language. Each growth of memory, read and write failing in turn is tested in
-//! `growth_tests`, and whole programs as they are built by `tests/run.py`. No other crate has tests of its own, for it would be proved once more with
-//! them.
+//! A clause that pins a result leaves a test nothing to show, so tests are few. Wanted values come from the definitions, by hand or by a reference in
+//! another language. They stand in crates by what they call, so that none waits for more: sets, least ones and the allocator that refuses in
+//! `sets_tests`; automata that are read, words and streams in `reader_tests`; lists of edges, pairs of rows and generalized automata in
+//! `automata_tests`. Each growth of memory that fails in turn is tested in `growth_tests`, in calls, and in `program_tests`, in programs, where each read
+//! and write fails too; whole programs as they are built by `tests/run.py`. No library has tests of its own, for it would be proved once more with them.
 //!
 //! `rt try --test` in this folder runs them without a proof, `rt test` with one.
 #![tactic(auto)]
 
 #[cfg(test)]
-mod allocator;
-#[cfg(test)]
-mod automata;
-#[cfg(test)]
 mod checks;
 #[cfg(test)]
 mod faults;
 #[cfg(test)]
-mod generalized;
-#[cfg(test)]
-mod hoa;
-#[cfg(test)]
 mod host;
-#[cfg(test)]
-mod least_ones;
-#[cfg(test)]
-mod pairs;
 #[cfg(test)]
 mod parts;
 #[cfg(test)]
 mod row_table;
 #[cfg(test)]
 mod rows;
-#[cfg(test)]
-mod sets;
-#[cfg(test)]
-mod streams;
-#[cfg(test)]
-mod word;
