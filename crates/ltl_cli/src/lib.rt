@@ -5,7 +5,8 @@
 //! opens the files that the words name otherwise. `run_translate`, `run_check` and `run_eval` are the same over readers and writers of the standard
 //! library.
 //!
-//! What flows: words, to a `Plan` (`ltl_words`, whose calls are handed out here too); its files, to sources (`files`, `program`); the formula, from the plan or a `Source` (`input`); for the translator its automaton and the automaton's text, for the checker the
+//! What flows: words, to a `Plan` (by `ltl_words`, which is handed out here); its files, to sources (`files`, `program`); the formula, from the plan
+//! or a `Source` (`input`); for the translator its automaton and the automaton's text, for the checker the
 //! automaton of its negation, the automaton that is read and the verdict, for the evaluator the word and its truth. Each step answers a value or a
 //! `Refusal`, and `?` keeps their order. At the end there is a `Status`, or the line that tells of the refusal (`message`), and the number of the exit
 //! status (`finish`). Nothing goes out before all of the steps were taken.
@@ -35,7 +36,9 @@ pub use check::check_over;
 pub use evaluate::evaluate_over;
 pub use files::Files;
 pub use input::formula_from;
-pub use ltl_words::{FormulaWord, Plan, PlanFault, Status, Tool, plan, request, status, tool};
+pub use ltl_words::{
+    FormulaWord, Layout, Plan, PlanFault, Status, Tool, layout, plan, request, status, tool,
+};
 pub use program::run;
 pub use refusal::Refusal;
 pub use source::Source;
