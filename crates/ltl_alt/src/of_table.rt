@@ -11,17 +11,25 @@ use ltl_models::{AltFault, Gba};
 use std::alloc::Allocator;
 
 /// What is made of a table. The type of what is made stands in a crate below, which knows no tables.
-pub trait Reach<'a, A: Allocator> {
+pub trait Reach<A: Allocator> {
     /// The automaton of a table's formula. Its states are the sets of rows that are reached from the root alone; with `keep_implied` the
     /// transitions that another one implies stay.
-    fn reach(alloc: &'a A, table: &Table<'_, A>, keep_implied: bool) -> Result<Gba<'a, A>, AltFault>
+    fn reach<'a>(
+        alloc: &'a A,
+        table: &Table<'_, A>,
+        keep_implied: bool,
+    ) -> Result<Gba<'a, A>, AltFault>
         ensures generalized { IfOk result (IsGeneralized (core_of table.now) keep_implied) }
         ensures fits { IfOk result (λ _. ¬ (IsTooLarge (core_of table.now) keep_implied stated_limits.states stated_limits.edges)) }
         ensures large { IsErrOf result AltFault.TooLarge → IsTooLarge (core_of table.now) keep_implied stated_limits.states stated_limits.edges };
 }
 
-impl<'a, A: Allocator> Reach<'a, A> for Gba<'a, A> {
-    fn reach(alloc: &'a A, table: &Table<'_, A>, keep_implied: bool) -> Result<Gba<'a, A>, AltFault>
+impl<'b, A: Allocator> Reach<A> for Gba<'b, A> {
+    fn reach<'a>(
+        alloc: &'a A,
+        table: &Table<'_, A>,
+        keep_implied: bool,
+    ) -> Result<Gba<'a, A>, AltFault>
         ensures generalized { IfOk result (IsGeneralized (core_of table.now) keep_implied) }
         ensures fits { IfOk result (λ _. ¬ (IsTooLarge (core_of table.now) keep_implied stated_limits.states stated_limits.edges)) }
         ensures large { IsErrOf result AltFault.TooLarge → IsTooLarge (core_of table.now) keep_implied stated_limits.states stated_limits.edges }

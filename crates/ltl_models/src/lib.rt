@@ -9,11 +9,11 @@
 //! alone, and not on those that make automata. `Options` says what is left out on the way. What cubes and sets of rows have is numbered by `elements`,
 //! for who indexes things that have such parts.
 //!
-//! The Büchi automaton of `[]<>p`, and of its state 0 the places of the edges by target:
+//! The Büchi automaton of `[]<>p`, whose states have one list of edges:
 //!
 //! ```
-//! state 0:             [!p] to 0    [p] to 1        0, 1
-//! state 1, accepting:  [!p] to 0    [p] to 1        0, 1
+//! state 0:             [t] to 0    [p] to 1
+//! state 1, accepting:  [t] to 0    [p] to 1
 //! ```
 #![tactic(auto)]
 

@@ -12,7 +12,7 @@
 //! differ in weight, along chains of these (`chains`), and by an index where chains are long (`implied`); where it is sure that there are none
 //! (`agreeing`, `thin`), they are not sought.
 //!
-//! The levels of an automaton of one state with set 0 on the edge `p` are two copies of it. Both have the same list of edges, and the second accepts:
+//! The generalized automaton of `[]<>p` has, merged, one state, with `[t]` in no set and `[p]` in set 0. On levels it has two copies with one list:
 //!
 //! ```
 //! (0, 0):             [t] to (0, 0)    [p] to (0, 1)
