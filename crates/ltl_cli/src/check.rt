@@ -50,7 +50,7 @@ fn negated<'a, A: Allocator, R: ByteSource>(
         × IsNegated plan.now input (λ t. reading_of t.formula) (λ t. t.violations) result }
     ensures named { IfOk result (λ t. HasNamesBelow (length t.formula.names) t.violations) }
 {
-    let formula = formula_from(alloc, plan.formula, source)?;
+    let formula = formula_from(alloc, plan.formula(), source)?;
     let options = Options {
         keep_implied: false,
         keep_equal: false,

@@ -30,7 +30,7 @@ fn evaluated<A: Allocator, R: ByteSource>(
     requires { IsOpen R.state source.old }
     ensures { (input : spec.Input) × WasFormula R.state source.old source.new input × IsEvaluated plan.now text.now input result }
 {
-    let formula = formula_from(alloc, plan.formula, source)?;
+    let formula = formula_from(alloc, plan.formula(), source)?;
     let word = Lasso::read(alloc, text.as_bytes(), &formula)?;
     let truth = holds(alloc, &formula, &word)?;
     Ok(truth)
@@ -87,7 +87,7 @@ fn answered<A: Allocator, R: ByteSource, S: ByteSink>(
         → IsOutcome Evaluator plan.now input file (S.state output.old) (S.state output.new) result) }
 {
     match plan {
-        Ok(plan) => match plan.word {
+        Ok(plan) => match plan.word() {
             Some(text) => printed(alloc, plan, text, source, output),
             None => Err(Refusal::Usage),
         },

@@ -38,17 +38,17 @@ pub fn printable_of<'a, A: Allocator>(
     ensures models { IfOk result (λ t. AcceptsModels (automaton_in t) (reading_of formula.now).formula) }
     ensures named { IfOk result (λ t. (text : List ℕ) → IsTextOf text (reading_of formula.now) → HasNamesBelow (length formula.now.names) (automaton_in t)) }
 {
-    match plan.layout {
+    match plan.layout() {
         Layout::Claim => {
-            let automaton = automaton_of(alloc, formula, false, plan.rewrite, &plan.options)?;
+            let automaton = automaton_of(alloc, formula, false, plan.rewrite(), &plan.options())?;
             Ok(Printable::Claim(automaton))
         }
         Layout::Hoa => {
-            let automaton = automaton_of(alloc, formula, false, plan.rewrite, &plan.options)?;
+            let automaton = automaton_of(alloc, formula, false, plan.rewrite(), &plan.options())?;
             Ok(Printable::Hoa(automaton))
         }
         Layout::Generalized => {
-            let automaton = generalized_of(alloc, formula, plan.rewrite, &plan.options)?;
+            let automaton = generalized_of(alloc, formula, plan.rewrite(), &plan.options())?;
             Ok(Printable::Generalized(automaton))
         }
     }

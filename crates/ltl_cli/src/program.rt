@@ -37,7 +37,7 @@ fn formula_source<F: Files>(files: &F, plan: &Result<Plan<'_>, PlanFault>) -> So
     let Ok(plan) = plan else {
         return Source::Text;
     };
-    match plan.formula {
+    match plan.formula() {
         FormulaWord::Given(_) => Source::Text,
         FormulaWord::File(name) => files.open(name),
     }
@@ -50,7 +50,7 @@ fn automaton_name<'a>(plan: &Result<Plan<'a>, PlanFault>) -> Option<&'a str>
     let Ok(plan) = plan else {
         return None;
     };
-    plan.automaton
+    plan.automaton()
 }
 
 /// Checks the automaton of the file that the plan names, or else of the standard input.

@@ -72,7 +72,7 @@ fn translated<'a, A: Allocator, R: ByteSource>(
     ensures language { IfOk result (λ t. AcceptsModels (automaton_in t.automaton) (reading_of t.formula).formula) }
     ensures named { IfOk result (λ t. HasNamesBelow (length t.formula.names) (automaton_in t.automaton)) }
 {
-    let formula = formula_from(alloc, plan.formula, source)?;
+    let formula = formula_from(alloc, plan.formula(), source)?;
     let automaton = printable_of(alloc, &formula, plan)?;
     Ok(Translation { formula, automaton })
 }

@@ -19,18 +19,12 @@ pub enum FormulaWord<'a> {
 /// What the words ask for. A look that a program has no word for answers what a command line without that word asks for.
 #[derive(Clone, Copy, Debug)]
 pub struct Plan<'a> {
-    /// The formula, or its file.
-    pub formula: FormulaWord<'a>,
-    /// The name of the automaton's file, where one was given.
-    pub automaton: Option<&'a str>,
-    /// The text of the word, where one was given.
-    pub word: Option<&'a str>,
-    /// Whether the normal form is rewritten.
-    pub rewrite: bool,
-    /// What is left out of simplification.
-    pub options: Options,
-    /// How an automaton is printed.
-    pub layout: Layout,
+    pub(crate) formula: FormulaWord<'a>,
+    pub(crate) automaton: Option<&'a str>,
+    pub(crate) word: Option<&'a str>,
+    pub(crate) rewrite: bool,
+    pub(crate) options: Options,
+    pub(crate) layout: Layout,
 }
 
 impl<'a> Plan<'a> {
@@ -69,6 +63,13 @@ impl<'a> Plan<'a> {
         ensures { result ≡ self.now.options }
     {
         self.options
+    }
+
+    /// How an automaton is printed.
+    pub fn layout(&self) -> Layout
+        ensures { result ≡ self.now.layout }
+    {
+        self.layout
     }
 
     /// Whether a Büchi automaton in the Hanoi Omega-Automata format is asked for, and no never claim.
