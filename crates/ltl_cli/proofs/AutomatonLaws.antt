@@ -123,6 +123,13 @@ module _ (R : Reading) (rewrite : Bool) (o : Options) where
   pub sets_made : (G : Automaton) → MakesGeneralized R rewrite o (Ok G) → MakesText Generalized R rewrite o (Ok (generalized_text G R))
   sets_made = text_made (core R.formula false rewrite) (λ M. TranslatesGeneralized stated_limits M o) (λ G. generalized_text G R)
 
+-- the same options make the same automaton
+pub translated_same : (R : Reading) (a b : Bool) → a ≡ b → (o u : Options) → o ≡ u → (B : Automaton) → MakesAutomaton R false a o (Ok B) → MakesAutomaton R false b u (Ok B)
+translated_same R a b p o u q B h = subst (λ (x : Options). MakesAutomaton R false b x (Ok B)) q (subst (λ (x : Bool). MakesAutomaton R false x o (Ok B)) p h)
+
+pub generalized_same : (R : Reading) (a b : Bool) → a ≡ b → (o u : Options) → o ≡ u → (G : Automaton) → MakesGeneralized R a o (Ok G) → MakesGeneralized R b u (Ok G)
+generalized_same R a b p o u q G h = subst (λ (x : Options). MakesGeneralized R b x (Ok G)) q (subst (λ (x : Bool). MakesGeneralized R x o (Ok G)) p h)
+
 -- no step says that memory was refused
 pub making_takes : (layout : Layout) (R : Reading) (rewrite : Bool) (o : Options) → MakesText layout R rewrite o (Err spec.OutOfMemory) → ⊥
 making_takes Claim R rewrite o = text_takes (core R.formula false rewrite) (λ M. Translates stated_limits M o) (λ B. never_text B R) (λ M h. h)

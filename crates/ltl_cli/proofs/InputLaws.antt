@@ -20,6 +20,8 @@ use Rattle.ltl_cli.specs.declared.source.Source.{Source}
 use Rattle.ltl_cli.specs.declared.source.Source.TheVariants as source
 use Rattle.ltl_cli.specs.declared.refusal.Refusal.{Refusal}
 use Rattle.ltl_cli.specs.declared.refusal.Refusal.TheVariants.{OutOfMemory, CannotRead}
+use Rattle.ltl_words.specs.declared.request.FormulaWord.{FormulaWord}
+use Rattle.ltl_words.specs.Plans.{formula_word}
 use Rattle.ltl_cli.specs.Refusals.{of_read, refusal_of}
 use Rattle.ltl_cli.specs.Inputs.{GivesBytesOf, IsInputOf, IsOpen, IsReadFrom, IsStream, IsUnread, RefusesInput, TakesFewer, TakesUpTo, WasInput, WasStream, WentWell, most_taken}
 use Rattle.ltl_spec.proofs.Tools.StepLaws.{never}
@@ -219,6 +221,14 @@ reads_takes (outcome.File name) input R h = λ m. closed (subst (λ (i : outcome
     closed : InputReads stated_limits outcome.NotOpened (Ok R) → ⊥
     closed (inl (e, p, q)) = never R e (sym q)
     closed (inr (a, p, q)) = never a spec.CannotOpen (sym p)
+
+-- the same words read as the same formula, and are refused for the same
+pub read_same : (w v : FormulaWord) → w ≡ v → (input : outcome.Input) (R : Reading) → InputReads stated_limits (outcome.input_of (formula_word w) input) (Ok R)
+    → InputReads stated_limits (outcome.input_of (formula_word v) input) (Ok R)
+read_same w v q input R = subst (λ (x : FormulaWord). InputReads stated_limits (outcome.input_of (formula_word x) input) (Ok R)) q
+
+pub refused_same : (w v : FormulaWord) → w ≡ v → (input : outcome.Input) (e : Refusal) → RefusesInput (formula_word w) input e → RefusesInput (formula_word v) input e
+refused_same w v q input e = subst (λ (x : FormulaWord). RefusesInput (formula_word x) input e) q
 
 -- a text that is known is never refused for a read
 pub given_readable : (text : List ℕ) (input : outcome.Input) {A : Type 0} (r : Result FormulaView Refusal) → IsReadFrom (outcome.Given text) input r → IsErrOf r CannotRead → A

@@ -1,5 +1,4 @@
-use Rattle.std.proofs.Common.{ap}
-use Rattle.std.specs.Prelude.{option_map}
+use Rattle.std.proofs.Common.{sym}
 use Rattle.ltl_spec.specs.Tools.Refusal.{Evaluator}
 use Rattle.ltl_cli.specs.Inputs.{most_taken}
 use Rattle.ltl_cli.proofs.InputLaws.{unread}
@@ -15,4 +14,4 @@ returns-in-Err g c =
 pub returns-in-None : goal.returns-in-None
 returns-in-None g c =
     let (input, s) = unread most_taken g.R.ByteSource.state c.args.source.now c.requires.source in
-    (input, s, rw c.in-Ok.is (λ file. no_word c.in-Ok.plan input file _ c.requires.output (ap (option_map (λ t. t.now)) c.in-None.is)))
+    (input, s, rw c.in-Ok.is (λ file. no_word c.in-Ok.plan input file _ c.requires.output (sym (rw c.in-None.is at c.word.ensures))))
