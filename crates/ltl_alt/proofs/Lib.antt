@@ -1,10 +1,13 @@
 pub mod AskedLaws
 pub mod ElementaryLaws
+pub mod FinalLaws
 pub mod GbaLaws
 pub mod GroupLaws
 pub mod ImpliedLaws
 pub mod JoinLaws
 pub mod ListsLaws
+pub mod KeyLaws
+pub mod MapLaws
 pub mod NearLaws
 pub mod NeedsLaws
 pub mod OwnLaws
@@ -16,7 +19,6 @@ pub mod RowLaws
 pub mod RowListLaws
 pub mod ProductLaws
 pub mod PruneLaws
-pub mod ShapeLaws
 pub mod StandInLaws
 pub mod TransitionLaws
 pub mod TreeLaws

@@ -1,11 +1,11 @@
 -- Parts of rows, one after another.
-use Rattle.std.proofs.Common.{map, ◌≡◌, ◌≢◌, ℕ, zero, suc, ◌+◌, ◌-◌, ◌<◌, ◌≤◌, ◌⊎◌, Bool, true, false, cond, not, inl, inr, List, [], ◌∷◌, ◌++◌, length, refl, sym, ◌∙◌, ap, subst, arith}
-use Rattle.std.specs.Prelude.{slice_get, slice_index_or, slice_set, nat_eq, Some, None, filter, min}
+use Rattle.std.proofs.Common.{map, ◌≡◌, ◌≢◌, ℕ, zero, suc, ◌+◌, ◌<◌, ◌≤◌, ◌⊎◌, Bool, true, false, cond, not, ◌&&◌, inl, inr, List, [], ◌∷◌, ◌++◌, length, refl, sym, ◌∙◌, ap, subst, arith}
+use Rattle.std.specs.Prelude.{slice_get, slice_index_or, slice_set, nat_eq, Some, None, filter}
 use Rattle.std.proofs.lemmas.Bool.Decides.{nat_tests}
 use Rattle.std.proofs.lemmas.Bool.{cases_lt}
 use Rattle.std.specs.Ordering.{nat_cmp}
 use Rattle.std.proofs.lemmas.List.{length-append, get_or_past, append-nil, append_assoc}
-use Rattle.ltl_spec.specs.Collections.Sets.{Has, has, put, union}
+use Rattle.ltl_spec.specs.Collections.Sets.{Has, has, is_subset, put, union}
 use Rattle.ltl_spec.specs.Collections.Lists.{places_where, places_from}
 use Rattle.ltl_spec.specs.Transitions.Pairs.{RowSet, Pair, join, empty_pair, later_pair, pairs}
 use Rattle.ltl_formula.specs.TableView.{TableView}
@@ -13,13 +13,12 @@ use Rattle.ltl_spec.specs.Transitions.RowTransitions.{Table, pairs_at}
 use Rattle.ltl_spec.proofs.Collections.SetLaws.{has_Decides, put_cases, Has-put, append_cases, union_left, union_right, union_cases, filter_cases, Has-filter}
 use Rattle.ltl_spec.proofs.Collections.ListLaws.{places_cases}
 use Rattle.ltl_spec.proofs.Collections.CaseLaws.{false_is_true}
-use Rattle.ltl_spec.proofs.Collections.SumLaws.{filter_length}
 use Rattle.ltl_spec.proofs.Collections.Orders.{nat_linear}
 use Rattle.ltl_spec.proofs.Transitions.PartJoins.{join_all, join_of}
 use Rattle.ltl_spec.proofs.Transitions.SameJoins.{AreAlike, AreSound, sound_some}
 use Rattle.ltl_alt.specs.declared.asked.Demand.{Demand}
 use Rattle.ltl_alt.specs.AskedView.{Demands}
-use Rattle.ltl_alt.specs.PartView.{part_of, demand_of, links_of, tells_apart, numbers_of, IsLinked, AreAdded, AreKeptBy, AreLinked, AreMade, HasMade, HasRoom, IsLonger, IsGroup, unmade}
+use Rattle.ltl_alt.specs.PartView.{part_of, demand_of, links_of, tells_apart, numbers_of, IsLinked, AreAdded, AreKeptBy, AreLinked, AreMade, IsGroup}
 use Rattle.ltl_alt.specs.declared.rule.Rule.{Rule}
 use Rattle.ltl_alt.specs.RowLists.{row_place, IsListedRow}
 use Rattle.ltl_alt.specs.PieceView.{piece_pairs}
@@ -361,30 +360,39 @@ made_more T r made owners new_made new lists new_lists i pss w new_row alike a f
 pub kept_sound : (T : Table) (r : Rule) (ps qs : List Pair) → AreSound ps → IsKeptBy (StandsFor T r) ps qs → AreSound qs
 kept_sound T r ps qs s k = sound_some ps qs k.from s
 
--- where nothing was taken apart there is room for each set
-pub room_for_all : (made state : RowSet) (lists : List (List Pair)) → lists ≡ [] → length state ≤ 256 → HasRoom made lists state
-room_for_all made state lists e l = let n = ap length e in let f = filter_length (λ i. not (has nat_cmp i made)) state in omega arith
-
-pub longer_none : (lists : List (List Pair)) → IsLonger lists lists
-longer_none lists = ([], sym (append-nil lists))
-
-pub longer_on : (a b c : List (List Pair)) → IsLonger a b → IsLonger b c → IsLonger a c
-longer_on a b c (x, e) (y, f) = (x ++ y, f ∙ ap (λ z. z ++ y) e ∙ append_assoc a x y)
-
--- ---- members
-
-pub none_left : (made state rest : List ℕ) → rest ≡ unmade made state → (i : ℕ) → Has state i → Has made i ⊎ Has rest i
-none_left made state rest e i h = at (has nat_cmp i made) refl
+-- what isn't among others
+pub not_subset : (xs ys : RowSet) → is_subset nat_cmp xs ys ≡ false → (i : ℕ) × Has xs i × (Has ys i → ⊥)
+not_subset [] ys e = cc
+not_subset (x ∷ xs) ys e = at (has nat_cmp x ys) refl (λ d. not_subset xs ys d)
   where
-    at : (b : Bool) → has nat_cmp i made ≡ b → Has made i ⊎ Has rest i
-    at true d = inl ((has_Decides nat_linear i made).0 d)
-    at false d = inr (subst (λ xs. Has xs i) (sym e) (Has-filter (λ k. not (has nat_cmp k made)) state i h (ap not d)))
+    at : (b : Bool) → has nat_cmp x ys ≡ b → (is_subset nat_cmp xs ys ≡ false → (i : ℕ) × Has xs i × (Has ys i → ⊥)) → (i : ℕ) × Has (x ∷ xs) i × (Has ys i → ⊥)
+    at false d rest = (x, inl refl, λ h. false_is_true (sym d ∙ (has_Decides nat_linear x ys).1 h))
+    at true d rest = let (i, h, n) = rest (ap (λ b. b && is_subset nat_cmp xs ys) (sym d) ∙ e) in (i, inr h, n)
 
-pub one_made : (made more state rest left : List ℕ) (k : ℕ) → rest ≡ k ∷ left → ((i : ℕ) → Has state i → Has made i ⊎ Has rest i) → HasMade k made more → (i : ℕ) → Has state i → Has more i ⊎ Has left i
-one_made made more state rest left k e f m i h = elim (f i h) [
-  | inl x ↦ inl (m.1 i x)
-  | inr x ↦ elim (subst (λ xs. Has xs i) e x) [ inl q ↦ inl (subst (Has more) (sym q) m.0) | inr y ↦ inr y ]
-]
+-- ---- places that are left
+
+pub taken_one : (one : RowSet) (k : ℕ) → one ≡ k ∷ [] → Has one k
+taken_one one k e = subst (λ xs. Has xs k) (sym e) (inl refl)
+
+pub still_left : (rest one left : RowSet) (k i : ℕ) → one ≡ k ∷ [] → left ≡ filter (λ j. not (has nat_cmp j one)) rest → Has left i → Has rest i × (i ≢ k)
+still_left rest one left k i e d h =
+    let c = filter_cases (λ j. not (has nat_cmp j one)) rest i (subst (λ xs. Has xs i) d h) in
+    (c.0, λ f. absurd (at (has nat_cmp i one) ((has_Decides nat_linear i one).1 (subst (λ xs. Has xs i) (sym e) (inl f))) c.1))
+  where
+    at : (b : Bool) → b ≡ true → not b ≡ true → ⊥
+    at true p q = cc
+    at false p q = cc
+
+pub left_stays : (rest one left : RowSet) (k i : ℕ) → one ≡ k ∷ [] → left ≡ filter (λ j. not (has nat_cmp j one)) rest → Has rest i → i ≢ k → Has left i
+left_stays rest one left k i e d h n = subst (λ xs. Has xs i) (sym d) (Has-filter (λ j. not (has nat_cmp j one)) rest i h (at (has nat_cmp i one) refl))
+  where
+    other : Has (k ∷ []) i → ⊥
+    other (inl f) = n f
+    other (inr z) = z
+
+    at : (b : Bool) → has nat_cmp i one ≡ b → not b ≡ true
+    at false p = refl
+    at true p = absurd (other (subst (λ xs. Has xs i) e ((has_Decides nat_linear i one).0 p)))
 
 -- ---- groups
 
@@ -454,12 +462,3 @@ released_listed t r own i k at now all qs fit w e d p =
     let both = kept_append (stands_in T r) (pairs (row_place t) (row_tree t i)) now one one w.kept (kept_all (stands_in T r) one) in
     let kept = subst (IsKeptBy (StandsFor T r) (piece_pairs t (piece.Released i k))) (sym (d ∙ ap (λ m. now ++ later_pair m ∷ []) e)) both in
     pruned_of T r own (piece_pairs t (piece.Released i k)) all qs (fit_of T r own fit) kept p
-
--- ---- room
-
-pub rest_shorter : (rest left : List ℕ) (k : ℕ) → rest ≡ k ∷ left → length rest ≡ length left + 1
-rest_shorter rest left k e = ap length e ∙ (let c : length (k ∷ left) ≡ length left + 1 = omega arith in c)
-
--- after one row there still is a number for each that is left
-pub room_after : (old new rest left n most taken : ℕ) → n ≡ old → left ≡ rest + 1 → old + (rest + 1) ≤ 256 → new ≤ old + taken → taken ≡ min (256 - n - (left - 1)) most → new + rest ≤ 256
-room_after old new rest left n most taken e f l m d = omega arith

@@ -1,10 +1,9 @@
 -- Transitions at once, and those of a set of rows by its groups.
 use Rattle.std.proofs.Common.{◌≡◌, ℕ, zero, suc, ◌+◌, ◌-◌, ◌*◌, ◌<◌, ◌≤◌, Bool, true, false, cond, inl, inr, List, [], ◌∷◌, ◌++◌, length, map, drop, refl, sym, ◌∙◌, ap, subst, arith, Some, None}
-use Rattle.std.specs.Prelude.{slice_index_or, filter, filter_map, option_map, nat_eq, not}
+use Rattle.std.specs.Prelude.{slice_get, slice_index_or, filter, filter_map, option_map, nat_eq, not}
 use Rattle.std.specs.List.Sorted.{IsSorted, IsPermutation}
 use Rattle.std.specs.Ordering.{nat_cmp}
 use Rattle.std.proofs.lemmas.Bool.Decides.{nat_tests}
-use Rattle.std.proofs.lemmas.List.{length-append}
 use Rattle.std.proofs.lemmas.List.Sorted.{Contains-permutation, IsPermutation-append, IsPermutation-map, IsPermutation-refl, IsPermutation-sym, IsPermutation-trans}
 use Rattle.ltl_spec.specs.Collections.Sets.{Has, IsRising, has, union}
 use Rattle.ltl_spec.specs.Collections.Lists.{places_where}
@@ -12,7 +11,7 @@ use Rattle.ltl_spec.specs.NormalForms.Normal.{Normal}
 use Rattle.ltl_spec.specs.Transitions.Cubes.{Cube, is_contradictory, literal_cmp}
 use Rattle.ltl_spec.specs.Transitions.Pairs.{RowSet, Pair}
 use Rattle.ltl_spec.specs.Transitions.RowTransitions.{Table, pairs_at, Transition, transition_cmp, transitions}
-use Rattle.ltl_spec.proofs.Collections.SetLaws.{has_Decides, Has-set_of, append_left, append_right, append_cases}
+use Rattle.ltl_spec.proofs.Collections.SetLaws.{has_Decides, Has-set_of, append_left, append_right}
 use Rattle.ltl_spec.proofs.Collections.ListLaws.{places_cases, Contains-from_has, Has-from_contains, Has-places, IsRising-places}
 use Rattle.ltl_spec.proofs.Collections.Orders.{nat_linear}
 use Rattle.ltl_spec.proofs.Collections.ProductLists.{products, rising_once}
@@ -23,17 +22,24 @@ use Rattle.ltl_spec.proofs.Transitions.ApartTests.{own_at, enough_at, apart_by_t
 use Rattle.ltl_spec.proofs.Transitions.FactorLaws.{AreTakenOut, all_products, product_size, group_transitions, factors_law}
 use Rattle.ltl_spec.proofs.Transitions.FactoredTransitions.{AreListedFor, sorted_by_factors, count_by_factors, transitions_by_factors}
 use Rattle.ltl_spec.proofs.Transitions.LinkLaws.{LinksTell, without, taken_closed}
-use Rattle.ltl_spec.proofs.Transitions.PartJoins.{join_of, sound_join_of}
+use Rattle.ltl_spec.proofs.Transitions.JoinLaws.{join_parts}
+use Rattle.ltl_spec.proofs.Transitions.PartJoins.{join_of, sound_join_of, transitions_by_rows}
 use Rattle.ltl_spec.proofs.Transitions.PartSets.{ArePartsOf}
-use Rattle.ltl_spec.proofs.Transitions.ProductTransitions.{transitions_of, product, transitions_of_cases, in_order}
+use Rattle.ltl_spec.proofs.Transitions.ProductTransitions.{transitions_of, product, transitions_of_cases, in_order, alike_transitions}
 use Rattle.ltl_spec.proofs.Transitions.SameJoins.{AreSound}
 use Rattle.ltl_spec.proofs.Transitions.UnimpliedLaws.{marks_too_linear}
 use Rattle.ltl_alt.specs.declared.asked.Demand.{Demand}
-use Rattle.ltl_alt.specs.GroupView.{key_of, made_of, AreGroups, AreGroupsOf, IsKeyAt, AreKeysKept}
-use Rattle.ltl_alt.specs.PartView.{part_of, demand_of, links_of, numbers_of, numbers_in, AreLinked, AreParts, IsGroup, IsLonger}
+use Rattle.ltl_alt.specs.BasisView.{IsBasisOf}
+use Rattle.ltl_alt.specs.FinalView.{AreLists}
+use Rattle.ltl_alt.specs.PartView.{part_of, demand_of, links_of, numbers_of, numbers_in, AreLinked, HasEach, HasNoPart, IsGroup}
+use Rattle.ltl_alt.specs.TransitionView.{table_at}
+use Rattle.ltl_alt.specs.declared.rule.Rule.{Rule}
+use Rattle.ltl_formula.specs.TableView.{TableView, IsTable}
 use Rattle.ltl_alt.specs.ProductView.{AreConsistent, join_transitions, joined_products}
 use Rattle.ltl_alt.specs.StandIns.{IsKeptBy, StandsFor, AreOwn, rule_of}
-use Rattle.ltl_alt.proofs.PartLaws.{join_same, numbers_below}
+use Rattle.ltl_alt.proofs.KeyLaws.{AllListsProper, groups_proper}
+use Rattle.ltl_alt.proofs.PartLaws.{map_behind, numbers_below}
+use Rattle.ltl_alt.proofs.PieceLaws.{no_piece_at}
 
 -- ---- products
 
@@ -57,10 +63,18 @@ product_joins (t ∷ ts) us f =
     λ i. first i ++ rest i
 
 -- what stands at a place, and what is behind it
-dropped_at : {X : Type 0} (h : ℕ → X) (ns : List ℕ) (j k : ℕ) → j < length ns → k ≡ slice_index_or ns j 0 → drop j (map h ns) ≡ h k ∷ drop (j + 1) (map h ns)
-dropped_at h [] j k l e = absurd (omega arith)
-dropped_at h (n ∷ ns) zero k l e = ap (λ x. h x ∷ map h ns) (sym e)
-dropped_at h (n ∷ ns) (suc j) k l e = let m : suc (j + 1) ≡ suc j + 1 = omega arith in dropped_at h ns j k (omega arith) e ∙ ap (λ x. h k ∷ drop x (h n ∷ map h ns)) m
+dropped_at : (tss : List (List Transition)) (j : ℕ) → j < length tss → drop j tss ≡ slice_index_or tss j [] ∷ drop (j + 1) tss
+dropped_at tss j l = by_suc tss j l ∙ ap (λ n. slice_index_or tss j [] ∷ drop n tss) (let s : suc j ≡ j + 1 = omega arith in s)
+  where
+    by_suc : (uss : List (List Transition)) (i : ℕ) → i < length uss → drop i uss ≡ slice_index_or uss i [] ∷ drop (suc i) uss
+    by_suc [] i m = absurd (omega arith)
+    by_suc (us ∷ uss) zero m = refl
+    by_suc (us ∷ uss) (suc i) m = by_suc uss i (omega arith)
+
+pub mapped_at : {X : Type 0} (h : X → List Transition) (xs : List X) (j : ℕ) (x : X) → j < length xs → x ≡ slice_index_or xs j x → slice_index_or (map h xs) j [] ≡ h x
+mapped_at h [] j x l e = absurd (omega arith)
+mapped_at h (y ∷ ys) zero x l e = ap h (sym e)
+mapped_at h (y ∷ ys) (suc j) x l e = mapped_at h ys j x (omega arith) e
 
 -- what the second list has in another order, and so the product
 products_moved : (ts us vs : List Transition) → IsPermutation us vs → IsPermutation (product ts us) (product ts vs)
@@ -68,20 +82,17 @@ products_moved [] us vs p = IsPermutation-refl []
 products_moved (t ∷ ts) us vs p = IsPermutation-append (map (at_once t) us) (map (at_once t) vs) (product ts us) (product ts vs) (IsPermutation-map (at_once t) us vs p) (products_moved ts us vs p)
 
 -- one list more
-pub products_step : (T : Table) (lists : List (List Transition)) (numbers : List ℕ) (left k : ℕ) (ts us vs : List Transition) → left < length numbers → k ≡ slice_index_or numbers left 0
-    → ((j : ℕ) → AreConsistent (all_products T (drop j (map (made_of lists) numbers)))) → IsPermutation (all_products T (drop (left + 1) (map (made_of lists) numbers))) us → ts ≡ made_of lists k → vs ≡ joined_products ts us
-    → IsPermutation (all_products T (drop left (map (made_of lists) numbers))) vs
-products_step T lists numbers left k ts us vs l found f p d g =
-    let all = all_products T (drop (left + 1) (map (made_of lists) numbers)) in
-    let next : drop left (map (made_of lists) numbers) ≡ made_of lists k ∷ drop (left + 1) (map (made_of lists) numbers) = dropped_at (made_of lists) numbers left k l found in
-    let whole = ap (all_products T) next in
-    let consistent : AreConsistent (product (made_of lists k) all) = subst AreConsistent whole (f left) in
-    let moved = products_moved (made_of lists k) all us p in
-    let back : IsPermutation (product (made_of lists k) us) (product (made_of lists k) all) = IsPermutation-sym (product (made_of lists k) all) (product (made_of lists k) us) moved in
-    let also : AreConsistent (product (made_of lists k) us) = λ t h.
-    consistent t (Has-from_contains (product (made_of lists k) all) t (Contains-permutation (product (made_of lists k) us) (product (made_of lists k) all) t back (Contains-from_has (product (made_of lists k) us) t h))) in
-    let same : vs ≡ product (made_of lists k) us = g ∙ ap (λ xs. joined_products xs us) d ∙ product_joins (made_of lists k) us also in
-    subst (λ xs. IsPermutation xs vs) (sym whole) (subst (IsPermutation (product (made_of lists k) all)) (sym same) moved)
+pub products_step : (T : Table) (tss : List (List Transition)) (left : ℕ) (ts us vs : List Transition) → left < length tss → ((j : ℕ) → AreConsistent (all_products T (drop j tss)))
+    → IsPermutation (all_products T (drop (left + 1) tss)) us → ts ≡ slice_index_or tss left [] → vs ≡ joined_products ts us → IsPermutation (all_products T (drop left tss)) vs
+products_step T tss left ts us vs l f p d g =
+    let all = all_products T (drop (left + 1) tss) in
+    let whole : all_products T (drop left tss) ≡ product ts all = ap (all_products T) (dropped_at tss left l) ∙ ap (λ xs. product xs all) (sym d) in
+    let consistent : AreConsistent (product ts all) = subst AreConsistent whole (f left) in
+    let moved = products_moved ts all us p in
+    let back : IsPermutation (product ts us) (product ts all) = IsPermutation-sym (product ts all) (product ts us) moved in
+    let also : AreConsistent (product ts us) = λ t h. consistent t (Has-from_contains (product ts all) t (Contains-permutation (product ts us) (product ts all) t back (Contains-from_has (product ts us) t h))) in
+    let same : vs ≡ product ts us = g ∙ product_joins ts us also in
+    subst (λ xs. IsPermutation xs vs) (sym whole) (subst (IsPermutation (product ts all)) (sym same) moved)
 
 -- ---- groups that were taken out
 
@@ -111,27 +122,6 @@ module _ (T : Table) (own : List (List Pair)) (fit : AreOwn T own) (part : ℕ �
       dropped_map h [] (suc k) = refl
       dropped_map h (x ∷ xs) (suc k) = dropped_map h xs k
 
--- the lists under these numbers are the transitions of their groups
-pub lists_are : (T : Table) (keep : Bool) (parts : List (List Pair)) (keys : List RowSet) (lists : List (List Transition)) (numbers : List ℕ) → AreGroups T keep parts keys lists → ((k : ℕ) → Has numbers k → k < length keys)
-    → map (made_of lists) numbers ≡ group_transitions T (part_of parts) keep (map (key_of keys) numbers)
-lists_are T keep parts keys lists [] w f = refl
-lists_are T keep parts keys lists (k ∷ ks) w f =
-    let first = w.made k (f k (inl refl)) in
-    let rest = lists_are T keep parts keys lists ks w (λ j h. f j (inr h)) in
-    λ i. first i ∷ rest i
-
--- numbers keep their groups
-keys_are : (old new : List RowSet) (numbers : List ℕ) → AreKeysKept old new → ((k : ℕ) → Has numbers k → k < length old) → map (key_of new) numbers ≡ map (key_of old) numbers
-keys_are old new [] w f = refl
-keys_are old new (k ∷ ks) w f =
-    let first = w.same k (f k (inl refl)) in
-    let rest = keys_are old new ks w (λ j h. f j (inr h)) in
-    λ i. first i ∷ rest i
-
-map_behind : {X : Type 0} (h : ℕ → X) (ns : List ℕ) (n : ℕ) → map h (ns ++ n ∷ []) ≡ map h ns ++ h n ∷ []
-map_behind h [] n = refl
-map_behind h (m ∷ ns) n = ap (λ xs. h m ∷ xs) (map_behind h ns n)
-
 -- the links of parts tell which have nothing to do with each other
 links_tell : (T : Table) (own lists : List (List Pair)) (demands : List Demand) (links : List RowSet) (all : List ℕ) → AreLinked T own lists demands links → ((k : ℕ) → Has all k → k < length lists)
     → LinksTell T (own_at T own) (part_of lists) (links_of links) all
@@ -144,16 +134,19 @@ links_tell T own lists demands links all w f i j h k e =
           (apart_by_test T (own_at T own) (demand_of demands j).asked (demand_of demands j).awaited (demand_of demands i).asked (demand_of demands i).awaited (part_of lists j) (part_of lists i) dj.asked dj.awaited di.asked di.awaited t)
     ]
 
--- one group more is taken out
-pub taken_more : (T : Table) (own lists : List (List Pair)) (demands : List Demand) (links : List RowSet) (all : List ℕ) (keys new : List RowSet) (numbers more : List ℕ) (rest inside left : RowSet) (first n : ℕ)
-    → AreLinked T own lists demands links → ((k : ℕ) → Has rest k → k < length lists) → AreTakenOut T (own_at T own) (part_of lists) all (map (key_of keys) numbers) rest → IsRising nat_cmp rest → IsRising nat_cmp inside
-    → IsGroup links first rest inside → AreKeysKept keys new → ((k : ℕ) → Has numbers k → k < length keys) → IsKeyAt new inside n → more ≡ numbers ++ n ∷ [] → left ≡ without rest inside
-    → AreTakenOut T (own_at T own) (part_of lists) all (map (key_of new) more) left
-taken_more T own lists demands links all keys new numbers more rest inside left first n w f t r s group kept within found e d =
-    let gs = ap (map (key_of new)) e ∙ map_behind (key_of new) numbers n ∙ (λ i. keys_are keys new numbers kept within i ++ found.1 i ∷ []) in
-    subst (λ xs. AreTakenOut T (own_at T own) (part_of lists) all xs left) (sym gs)
-    (subst (AreTakenOut T (own_at T own) (part_of lists) all (map (key_of keys) numbers ++ inside ∷ [])) (sym d)
-    (taken_closed T (own_at T own) (part_of lists) (links_of links) all (map (key_of keys) numbers) rest inside t r s group.some (links_tell T own lists demands links rest w f) group.closed))
+-- one group more is taken out, and its transitions stand behind those of the others
+pub lists_more : (T : Table) (keep : Bool) (own parts : List (List Pair)) (demands : List Demand) (links : List RowSet) (all : List ℕ) (tss more : List (List Transition)) (ts : List Transition) (rest inside left : RowSet) (first : ℕ)
+    → AreLinked T own parts demands links → ((k : ℕ) → Has rest k → k < length parts) → AreLists T keep own parts all tss rest → IsRising nat_cmp rest → IsRising nat_cmp inside
+    → IsGroup links first rest inside → ts ≡ transitions_of T keep (join_of (part_of parts) inside) → more ≡ tss ++ ts ∷ [] → left ≡ without rest inside → AreLists T keep own parts all more left
+lists_more T keep own parts demands links all tss more ts rest inside left first w f a r s group d e g = record {
+  groups = a.groups ++ inside ∷ [];
+  taken = subst (AreTakenOut T (own_at T own) (part_of parts) all (a.groups ++ inside ∷ [])) (sym g)
+      (taken_closed T (own_at T own) (part_of parts) (links_of links) all a.groups rest inside a.taken r s group.some (links_tell T own parts demands links rest w f) group.closed);
+  lists = e ∙ (λ i. a.lists i ++ d i ∷ []) ∙ sym (map_behind (λ g. transitions_of T keep (join_of (part_of parts) g)) a.groups inside);
+}
+
+pub lists_none : (T : Table) (keep : Bool) (own parts : List (List Pair)) (all : RowSet) → AreLists T keep own parts all [] all
+lists_none T keep own parts all = record { groups = []; taken = refl; lists = refl }
 
 -- ---- the transitions of a set of rows
 
@@ -199,31 +192,70 @@ listed_for : (T : Table) (keep : Bool) (ps qs : List Pair) → IsKeptBy (StandsF
 listed_for T true ps qs k = record { there = λ p h. let (q, m, e) = k.covers p h in subst (Has qs) (sym e) m; back = k.from }
 listed_for T false ps qs k = record { from = k.from; covers = k.covers }
 
-pub factored : (T : Table) (own : List (List Pair)) (keep : Bool) (made owners : List ℕ) (parts : List (List Pair)) (demands : List Demand) (links : List RowSet) (keys : List RowSet) (lists : List (List Transition))
-    (state numbers : List ℕ) (products sorted : List Transition) → AreOwn T own → AreParts T (rule_of keep) own made owners parts demands links → AreGroups T keep parts keys lists → IsRising nat_cmp state
-    → ((i : ℕ) → Has state i → Has made i) → AreTakenOut T (own_at T own) (part_of parts) (numbers_in owners state) (map (key_of keys) numbers) [] → ((k : ℕ) → Has numbers k → k < length keys)
-    → IsPermutation (all_products T (map (made_of lists) numbers)) products → IsPermutation products sorted → IsSorted transition_cmp sorted → sorted ≡ transitions T keep state
-factored T own keep made owners parts demands links keys lists state numbers products sorted fit w groups rising there taken within moved permuted order =
-    sorted_by_factors T (own_at T own) (enough_at T own fit.enough) (part_of parts) w.linked.sound keep (numbers_of owners) state (numbers_in owners state) (parts_of_state owners state rising)
-    (λ i h. listed_for T keep (pairs_at T i) (join_of (part_of parts) (numbers_of owners i)) (w.rows.listed i (there i h)))
-    (map (key_of keys) numbers) taken sorted
-    (subst (λ ts. IsPermutation ts sorted) (ap (all_products T) (lists_are T keep parts keys lists numbers groups within)) (IsPermutation-trans (all_products T (map (made_of lists) numbers)) products sorted moved permuted)) order
+-- ---- a set of rows, its parts, and the transitions of their groups
 
--- ---- groups under way
+module _ (t : TableView) (keep : Bool) (r : Rule) (own : List (List Pair)) (made owners : List ℕ) (parts : List (List Pair)) (demands : List Demand) (links : List RowSet)
+    (b : IsBasisOf t keep r own made owners parts demands links) (state all : RowSet) (rising : IsRising nat_cmp state) (there : HasEach made state) (e : all ≡ numbers_in owners state) (tss : List (List Transition))
+    (a : AreLists (table_at t) keep own parts all tss []) where
+  enough_own : (f : Normal) → Has (table_at t).untils f → IsEnough (own_pairs (table_at t) f) (own_at (table_at t) own f)
+  enough_own = enough_at (table_at t) own b.own_pairs.enough
 
-pub groups_of_none : (T : Table) (own parts : List (List Pair)) (keys : List RowSet) (all : RowSet) (numbers : List ℕ) → numbers ≡ [] → AreGroupsOf T own parts keys all numbers all
-groups_of_none T own parts keys all numbers e = subst (λ ns. AreGroupsOf T own parts keys all ns all) (sym e) (record { taken = refl; within = λ k h. absurd h })
+  listed : (i : ℕ) → Has state i → AreListedFor (table_at t) keep (pairs_at (table_at t) i) (join_of (part_of parts) (numbers_of owners i))
+  listed i h = listed_for (table_at t) keep (pairs_at (table_at t) i) (join_of (part_of parts) (numbers_of owners i))
+      (subst (λ q. IsKeptBy (StandsFor (table_at t) q) (pairs_at (table_at t) i) (join_of (part_of parts) (numbers_of owners i))) b.rule (b.parts.rows.listed i (there i h)))
 
-pub groups_of_more : (T : Table) (own lists : List (List Pair)) (demands : List Demand) (links : List RowSet) (all : List ℕ) (keys new : List RowSet) (numbers more : List ℕ) (rest inside left : RowSet) (first n : ℕ)
-    → AreLinked T own lists demands links → ((k : ℕ) → Has rest k → k < length lists) → AreGroupsOf T own lists keys all numbers rest → IsRising nat_cmp rest → IsRising nat_cmp inside
-    → IsGroup links first rest inside → AreKeysKept keys new → IsKeyAt new inside n → more ≡ numbers ++ n ∷ [] → left ≡ without rest inside → AreGroupsOf T own lists new all more left
-groups_of_more T own lists demands links all keys new numbers more rest inside left first n w f t r s group kept found e d = record {
-  taken = taken_more T own lists demands links all keys new numbers more rest inside left first n w f t.taken r s group kept t.within found e d;
-  within = λ k h. elim (append_cases numbers (n ∷ []) k (subst (λ ns. Has ns k) e h)) [
-    | inl m ↦ let l = t.within k m in let c = kept.more in omega arith
-    | inr m ↦ elim m [ inl q ↦ subst (λ x. x < length new) (sym q) found.0 | inr z ↦ absurd z ]
-  ];
-}
+  taken : AreTakenOut (table_at t) (own_at (table_at t) own) (part_of parts) (numbers_in owners state) a.groups []
+  taken = subst (λ x. AreTakenOut (table_at t) (own_at (table_at t) own) (part_of parts) x a.groups []) e a.taken
+
+  pub set_shape : transitions (table_at t) keep state ≡ in_order (all_products (table_at t) tss)
+  set_shape =
+      transitions_by_factors (table_at t) (own_at (table_at t) own) enough_own (part_of parts) b.parts.linked.sound keep (numbers_of owners) state (numbers_in owners state) (parts_of_state owners state rising) listed a.groups taken
+      ∙ ap (λ x. in_order (all_products (table_at t) x)) (sym a.lists)
+
+  pub set_count : length (transitions (table_at t) keep state) ≡ product_size tss
+  set_count =
+      count_by_factors (table_at t) (own_at (table_at t) own) enough_own (part_of parts) b.parts.linked.sound keep (numbers_of owners) state (numbers_in owners state) (parts_of_state owners state rising) listed a.groups taken
+      ∙ ap product_size (sym a.lists)
+
+  pub set_sorted : (products sorted : List Transition) → IsPermutation (all_products (table_at t) tss) products → IsPermutation products sorted → IsSorted transition_cmp sorted → sorted ≡ transitions (table_at t) keep state
+  set_sorted products sorted moved permuted order =
+      sorted_by_factors (table_at t) (own_at (table_at t) own) enough_own (part_of parts) b.parts.linked.sound keep (numbers_of owners) state (numbers_in owners state) (parts_of_state owners state rising) listed a.groups taken sorted
+      (subst (λ x. IsPermutation (all_products (table_at t) x) sorted) a.lists (IsPermutation-trans (all_products (table_at t) tss) products sorted moved permuted)) order
+
+  pub set_consistent : (k : ℕ) → AreConsistent (all_products (table_at t) (drop k tss))
+  set_consistent k = subst (λ x. AreConsistent (all_products (table_at t) (drop k x))) (sym a.lists) (suffix_consistent (table_at t) own b.own_pairs (part_of parts) b.parts.linked.sound keep all a.groups k a.taken)
+
+  pub set_proper : AllListsProper tss
+  set_proper = subst AllListsProper (sym a.lists) (groups_proper (table_at t) (part_of parts) b.parts.linked.sound keep a.groups)
+
+-- where a place has no row there are none
+no_member : (part : ℕ → List Pair) (e : List ℕ) (i : ℕ) → Has e i → part i ≡ [] → (r : Pair) → Has (join_of part e) r → ⊥
+no_member part [] i h d r k = absurd h
+no_member part (j ∷ e) i (inl q) d r k =
+    let (x, y, m, n, f) = join_parts (part j) (join_of part e) r k in
+    subst (λ xs. Has xs x) (ap part (sym q) ∙ d) m
+no_member part (j ∷ e) i (inr h) d r k =
+    let (x, y, m, n, f) = join_parts (part j) (join_of part e) r k in
+    no_member part e i h d y n
+
+pub no_transitions : (t : TableView) (keep : Bool) (made state : RowSet) → IsTable t → ((i : ℕ) → i < length t.elementary → Has made i) → HasNoPart made state → transitions (table_at t) keep state ≡ []
+no_transitions t keep made state w all (i, h, n) =
+    let T = table_at t in
+    transitions_by_rows T keep state
+    ∙ alike_transitions T keep (join_of (pairs_at T) state) [] (record { there = λ p k. absurd (no_member (pairs_at T) state i h nothing p k); back = λ p k. absurd k })
+    ∙ none keep
+  where
+    past : (xs : List ℕ) (k : ℕ) → (k < length xs → ⊥) → slice_get xs k ≡ None
+    past [] k f = refl
+    past (x ∷ xs) zero f = absurd (f (omega arith))
+    past (x ∷ xs) (suc k) f = past xs k (λ l. f (omega (arith, l)))
+
+    nothing : pairs_at (table_at t) i ≡ []
+    nothing = no_piece_at t i w (past t.elementary i (λ l. n (all i l)))
+
+    none : (k : Bool) → transitions_of (table_at t) k [] ≡ []
+    none true = refl
+    none false = refl
 
 -- what is left gets shorter
 pub fewer_left : (rest inside left : RowSet) (first : ℕ) → Has rest first → Has inside first → left ≡ without rest inside → length left < length rest
@@ -250,14 +282,6 @@ fewer_left rest inside left first h k e = subst (λ xs. length xs < length rest)
         at true l = omega arith
         at false l = omega arith
 
--- groups stay right where more parts are listed
-pub groups_longer : (T : Table) (keep : Bool) (old new : List (List Pair)) (keys : List RowSet) (lists : List (List Transition)) → IsLonger old new → AreGroups T keep old keys lists → AreGroups T keep new keys lists
-groups_longer T keep old new keys lists (more, e) w = subst (λ x. AreGroups T keep x keys lists) (sym e) (record {
-  count = w.count;
-  inside = λ k l n h. let i = w.inside k l n h in let c = length-append old more in omega arith;
-  made = λ k l. w.made k l ∙ ap (transitions_of T keep) (sym (join_same old more (key_of keys k) (w.inside k l)));
-})
-
 -- the numbers of the parts of rows are numbers of parts
 pub numbers_inside : (owners : List ℕ) (lists : List (List Pair)) (state all : RowSet) → length owners ≡ length lists → all ≡ numbers_in owners state → (k : ℕ) → Has all k → k < length lists
 numbers_inside owners lists state all e d k h = let l = numbers_below (λ o. has nat_cmp o state) owners k (subst (λ xs. Has xs k) d h) in omega arith
@@ -265,36 +289,13 @@ numbers_inside owners lists state all e d k h = let l = numbers_below (λ o. has
 -- ---- how many combinations
 
 -- no more than so many, with one list more
-pub size_at_least : (lists : List (List Transition)) (numbers : List ℕ) (left k count len : ℕ) → left < length numbers → k ≡ slice_index_or numbers left 0 → count ≤ product_size (drop (left + 1) (map (made_of lists) numbers))
-    → len ≡ length (made_of lists k) → count * len ≤ product_size (drop left (map (made_of lists) numbers))
-size_at_least lists numbers left k count len l found e d =
-    let behind = product_size (drop (left + 1) (map (made_of lists) numbers)) in
-    let size : length (made_of lists k) * behind ≡ product_size (drop left (map (made_of lists) numbers)) = ap product_size (sym (dropped_at (made_of lists) numbers left k l found)) in
+pub size_at_least : (tss : List (List Transition)) (left count len : ℕ) → left < length tss → count ≤ product_size (drop (left + 1) tss) → len ≡ length (slice_index_or tss left []) → count * len ≤ product_size (drop left tss)
+size_at_least tss left count len l e d =
+    let behind = product_size (drop (left + 1) tss) in
+    let size : length (slice_index_or tss left []) * behind ≡ product_size (drop left tss) = ap product_size (sym (dropped_at tss left l)) in
     let less : count * len ≤ len * behind = grown count behind len e in
-    let same : len * behind ≡ length (made_of lists k) * behind = ap (λ n. n * behind) d in
+    let same : len * behind ≡ length (slice_index_or tss left []) * behind = ap (λ n. n * behind) d in
     omega (arith, size, less, same)
   where
     grown : (m n k : ℕ) → m ≤ n → m * k ≤ k * n
     grown m n k l = grind (arith)
-
--- so many transitions a set of rows has
-pub factored_count : (T : Table) (own : List (List Pair)) (keep : Bool) (made owners : List ℕ) (parts : List (List Pair)) (demands : List Demand) (links : List RowSet) (keys : List RowSet) (lists : List (List Transition))
-    (state numbers : List ℕ) → AreOwn T own → AreParts T (rule_of keep) own made owners parts demands links → AreGroups T keep parts keys lists → IsRising nat_cmp state
-    → ((i : ℕ) → Has state i → Has made i) → AreTakenOut T (own_at T own) (part_of parts) (numbers_in owners state) (map (key_of keys) numbers) [] → ((k : ℕ) → Has numbers k → k < length keys)
-    → length (transitions T keep state) ≡ product_size (map (made_of lists) numbers)
-factored_count T own keep made owners parts demands links keys lists state numbers fit w groups rising there taken within =
-    count_by_factors T (own_at T own) (enough_at T own fit.enough) (part_of parts) w.linked.sound keep (numbers_of owners) state (numbers_in owners state) (parts_of_state owners state rising)
-    (λ i h. listed_for T keep (pairs_at T i) (join_of (part_of parts) (numbers_of owners i)) (w.rows.listed i (there i h)))
-    (map (key_of keys) numbers) taken
-    ∙ ap product_size (sym (lists_are T keep parts keys lists numbers groups within))
-
--- the transitions of a set of rows are those of its groups at once, in every way, in order
-pub shaped : (T : Table) (own : List (List Pair)) (keep : Bool) (made owners : List ℕ) (parts : List (List Pair)) (demands : List Demand) (links : List RowSet) (keys : List RowSet) (lists : List (List Transition))
-    (state all numbers : List ℕ) → AreOwn T own → AreParts T (rule_of keep) own made owners parts demands links → AreGroups T keep parts keys lists → IsRising nat_cmp state
-    → ((i : ℕ) → Has state i → Has made i) → all ≡ numbers_in owners state → AreGroupsOf T own parts keys all numbers [] → transitions T keep state ≡ in_order (all_products T (map (made_of lists) numbers))
-shaped T own keep made owners parts demands links keys lists state all numbers fit w groups rising there e taken =
-    let found = subst (λ x. AreGroupsOf T own parts keys x numbers []) e taken in
-    transitions_by_factors T (own_at T own) (enough_at T own fit.enough) (part_of parts) w.linked.sound keep (numbers_of owners) state (numbers_in owners state) (parts_of_state owners state rising)
-    (λ i h. listed_for T keep (pairs_at T i) (join_of (part_of parts) (numbers_of owners i)) (w.rows.listed i (there i h)))
-    (map (key_of keys) numbers) found.taken
-    ∙ ap (λ x. in_order (all_products T x)) (sym (lists_are T keep parts keys lists numbers groups found.within))

@@ -1,42 +1,34 @@
--- Groups of parts by number, and the transitions of each.
-use Rattle.std.specs.Prelude.{◌≡◌, ℕ, ◌<◌, ◌≤◌, Bool, List, [], length, map, slice_index_or}
-use Rattle.ltl_spec.specs.Collections.Sets.{Has}
-use Rattle.ltl_spec.specs.Transitions.Pairs.{RowSet, Pair}
-use Rattle.ltl_spec.specs.Transitions.RowTransitions.{Table, Transition}
-use Rattle.ltl_spec.proofs.Transitions.ApartTests.{own_at}
-use Rattle.ltl_spec.proofs.Transitions.FactorLaws.{AreTakenOut}
-use Rattle.ltl_spec.proofs.Transitions.PartJoins.{join_of}
-use Rattle.ltl_spec.proofs.Transitions.ProductTransitions.{transitions_of}
+-- Groups of parts, and the lists of pairs that are made of them.
+use Rattle.std.specs.Prelude.{◌≡◌, ℕ, ◌<◌, List, [], ◌∷◌, length, fold, slice_index_or}
+use Rattle.ltl_spec.specs.Transitions.Pairs.{RowSet, Pair, join, empty_pair}
+use Rattle.ltl_spec.specs.Transitions.RowTransitions.{Table}
+use Rattle.ltl_alt.specs.declared.basis.Basis.{Basis}
 use Rattle.ltl_alt.specs.declared.groups.Groups.{Groups}
-use Rattle.ltl_alt.specs.declared.parts.Parts.{Parts}
+use Rattle.ltl_alt.specs.declared.memo.JoinKey.{JoinKey}
+use Rattle.ltl_alt.specs.declared.rule.Rule.{Rule}
+use Rattle.ltl_alt.specs.MemoView.{AreJoins, IsListAt}
 use Rattle.ltl_alt.specs.PartView.{part_of}
+use Rattle.ltl_alt.specs.StandIns.{IsListed, StandsFor}
+use Rattle.ltl_alt.specs.TransitionView.{table_at}
 
--- the group with that number, and its transitions
-abbrev pub key_of : List RowSet → ℕ → RowSet
-key_of keys k = slice_index_or keys k []
+-- the number of a part's list
+abbrev pub start_of : List ℕ → ℕ → ℕ
+start_of starts k = slice_index_or starts k 0
 
-abbrev pub made_of : List (List Transition) → ℕ → List Transition
-made_of lists k = slice_index_or lists k []
+-- the list of each part stands under its number
+pub record AreStarts (parts lists : List (List Pair)) (starts : List ℕ) : Type 0 where
+  pub count : length starts ≡ length parts
+  pub each : (k : ℕ) → k < length parts → IsListAt lists (part_of parts k) (start_of starts k)
 
--- the transitions of each group stand under its number
-pub record AreGroups (T : Table) (keep : Bool) (parts : List (List Pair)) (keys : List RowSet) (lists : List (List Transition)) : Type 0 where
-  pub count : length lists ≡ length keys
-  pub inside : (k : ℕ) → k < length keys → (n : ℕ) → Has (key_of keys k) n → n < length parts
-  pub made : (k : ℕ) → k < length keys → made_of lists k ≡ transitions_of T keep (join_of (part_of parts) (key_of keys k))
+-- so does that of the pair that asks for nothing, and joins are remembered
+pub record AreGroups (T : Table) (r : Rule) (parts lists : List (List Pair)) (made : List (JoinKey × ℕ)) (none : ℕ) (firsts : List ℕ) : Type 0 where
+  pub joins : AreJoins T r lists made
+  pub nothing : IsListAt lists (empty_pair ∷ []) none
+  pub starts : AreStarts parts lists firsts
 
-abbrev pub HasGroups : {A : Type 0} → Table → Bool → Parts A → Groups A → Type 0
-HasGroups T keep parts groups = AreGroups T keep parts.lists.items groups.keys.keys groups.lists.items
+abbrev pub HasGroups : {A : Type 0} → Basis A → Groups A → Type 0
+HasGroups b g = AreGroups (table_at b.table.now) b.pruning.rule b.parts.lists.items g.memo.lists.keys g.memo.joins.entries g.nothing g.starts.items
 
--- a group stands under this number
-abbrev pub IsKeyAt : List RowSet → RowSet → ℕ → Type 0
-IsKeyAt keys group k = (k < length keys) × (key_of keys k ≡ group)
-
--- those that had numbers keep them
-pub record AreKeysKept (old new : List RowSet) : Type 0 where
-  pub more : length old ≤ length new
-  pub same : (k : ℕ) → k < length old → key_of new k ≡ key_of old k
-
--- these groups were taken out of all parts one after another, each apart from what was then left, and the rest is left
-pub record AreGroupsOf (T : Table) (own parts : List (List Pair)) (keys : List RowSet) (all : RowSet) (numbers : List ℕ) (rest : RowSet) : Type 0 where
-  pub taken : AreTakenOut T (own_at T own) (part_of parts) all (map (key_of keys) numbers) rest
-  pub within : (k : ℕ) → Has numbers k → k < length keys
+-- what is kept of all these parts at once stands under the number
+abbrev pub IsJoinOf : Table → Rule → List (List Pair) → List (List Pair) → RowSet → ℕ → Type 0
+IsJoinOf T r parts lists group k = (k < length lists) × IsListed (StandsFor T r) (fold (λ ps i. join ps (part_of parts i)) (empty_pair ∷ []) group) (part_of lists k)

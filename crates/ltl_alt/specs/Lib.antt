@@ -1,7 +1,11 @@
 pub mod AskedView
+pub mod BasisView
 pub mod Codes
+pub mod FinalView
 pub mod GroupView
-pub mod JoinView
+pub mod KeyView
+pub mod ListHash
+pub mod MemoView
 pub mod NeedsView
 pub mod PairHash
 pub mod PartView
@@ -9,6 +13,6 @@ pub mod PieceView
 pub mod ProductView
 pub mod ReachView
 pub mod RowLists
-pub mod ShapeView
 pub mod StandIns
+pub mod TransitionHash
 pub mod TransitionView

@@ -1,5 +1,5 @@
 -- Rows taken apart into parts, and which parts have to do with each other.
-use Rattle.std.specs.Prelude.{◌≡◌, ℕ, ◌+◌, ◌<◌, ◌≤◌, ◌⊎◌, Bool, true, false, not, List, [], ◌∷◌, ◌++◌, length, map, filter, slice_index_or, nat_eq}
+use Rattle.std.specs.Prelude.{◌≡◌, ℕ, ◌+◌, ◌<◌, ◌≤◌, ◌⊎◌, Bool, true, false, List, [], ◌∷◌, ◌++◌, length, map, slice_index_or, nat_eq}
 use Rattle.std.specs.Ordering.{nat_cmp}
 use Rattle.ltl_spec.specs.Collections.Sets.{Has, has}
 use Rattle.ltl_spec.specs.Collections.Lists.{places_where}
@@ -13,6 +13,8 @@ use Rattle.ltl_alt.specs.declared.asked.Demand.{Demand}
 use Rattle.ltl_alt.specs.declared.rule.Rule.{Rule}
 use Rattle.ltl_alt.specs.AskedView.{Demands}
 use Rattle.ltl_alt.specs.StandIns.{IsKeptBy, StandsFor}
+use Rattle.ltl_alt.specs.TransitionView.{table_at}
+use Rattle.ltl_formula.specs.TableView.{TableView}
 
 -- the pairs of the part with that number, what they ask for, and the parts that have to do with it
 abbrev pub part_of : List (List Pair) → ℕ → List Pair
@@ -67,9 +69,16 @@ pub record AreParts (T : Table) (r : Rule) (own : List (List Pair)) (made owners
 abbrev pub HasParts : {A : Type 0} → Table → Rule → List (List Pair) → Parts A → Type 0
 HasParts T r own parts = AreParts T r own parts.made parts.owners.items parts.lists.items parts.demands.items parts.links.items
 
--- one row more was taken apart, and none was forgotten
-abbrev pub HasMade : ℕ → List ℕ → List ℕ → Type 0
-HasMade i old new = Has new i × ((j : ℕ) → Has old j → Has new j)
+-- and all elementary rows of the table were
+abbrev pub HasAllParts : {A : Type 0} → TableView → Rule → List (List Pair) → Parts A → Type 0
+HasAllParts t r own parts = HasParts (table_at t) r own parts × ((i : ℕ) → i < length t.elementary → Has parts.made i)
+
+-- each row of a set was taken apart, or one of them wasn't
+abbrev pub HasEach : RowSet → RowSet → Type 0
+HasEach made state = (i : ℕ) → Has state i → Has made i
+
+abbrev pub HasNoPart : RowSet → RowSet → Type 0
+HasNoPart made state = (i : ℕ) × Has state i × (Has made i → ⊥)
 
 -- of each of these lists some pairs were kept
 abbrev pub AreKeptBy : (Pair → Pair → Type 0) → List (List Pair) → List (List Pair) → Type 0
@@ -92,19 +101,6 @@ IsLonger old new = (more : List (List Pair)) × (new ≡ old ++ more)
 -- the row at a place may get so many numbers
 abbrev pub IsRoom : ℕ → ℕ → List (List Pair) → Type 0
 IsRoom place most lists = (place < 256) × (0 < most) × (length lists + most ≤ 256)
-
--- it was taken apart into no more parts, and none was forgotten
-pub record IsTaken (place most : ℕ) (made new_made : RowSet) (lists new_lists : List (List Pair)) : Type 0 where
-  pub made_more : HasMade place made new_made
-  pub longer : IsLonger lists new_lists
-  pub few : length new_lists ≤ length lists + most
-
--- the rows of a set that weren't taken apart, and that there is a number for each of them
-abbrev pub unmade : RowSet → RowSet → RowSet
-unmade made state = filter (λ i. not (has nat_cmp i made)) state
-
-abbrev pub HasRoom : RowSet → List (List Pair) → RowSet → Type 0
-HasRoom made lists state = length lists + length (unmade made state) ≤ 256
 
 -- of the rest, the parts that have to do with the first one, with those that have to do with them, and so on
 pub record IsGroup (links : List RowSet) (first : ℕ) (rest inside : RowSet) : Type 0 where

@@ -6,15 +6,15 @@
 //! row unless it puts the row off, which is to promise it again without a pair that fulfils it. A transition that another one implies goes, unless it
 //! is asked to stay: the other's literals and targets are among its own, and the other is in every set that it is in.
 //!
-//! What flows: a table of rows; for each row that is met the pieces that it is made of (`pieces`), whose pairs (`row_lists`) are a part each
-//! (`parts`, `room`), with what they ask for and what fulfils the until rows that they put off (`asked`). Parts that may have to do with each other
-//! are linked, and the parts of a set of rows fall into groups that are closed under links (`transitions`). For each group this is done once, as many
-//! sets have it (`groups`): its parts are joined (`lists`, `repeats`), where pairs that stay implied whatever comes are dropped on the way (`prune`,
-//! `rule`, `near`), the joins get their marks (`marks`), and implied ones go (`implied`).
+//! What flows: a table of rows; for each elementary row the pieces that it is made of (`pieces`), whose pairs (`row_lists`) are a part each (`parts`),
+//! with what they ask for and what fulfils the until rows that they put off (`asked`). Parts that may have to do with each other are linked. All this
+//! is made before the first set of rows, and never changes (`basis`).
+//! The parts of a set of rows fall into groups that are closed under links. The parts of a group are joined (`lists`, `repeats`), where pairs that stay
+//! implied whatever comes are dropped on the way (`prune`, `rule`, `near`); each join is made once (`memo`, `groups`). What is kept gets its marks
+//! (`marks`), implied transitions go (`implied`), and what is left is the group's (`finals`).
 //! The transitions of the set are the products, one transition of each group at once; they are counted before they are made, then made and sorted
-//! (`product`). A set that has the transitions of an earlier one isn't asked for its own (`twins`): its groups have equal ones (`shapes`), or its
-//! parts are one group whose joins, which are remembered (`joins`), end at the same list (`wholes`). How many a set has is told ahead where its groups
-//! are remembered (`sizes`). The sets that are targets are numbered as they are met (`reach`): a `Gba`,
+//! (`factors`, `product`). A set that has the transitions of an earlier one, which is seen by the numbers of its groups' transitions, isn't asked for
+//! its own (`keys`). The sets that are targets are numbered as they are met (`reach`): a `Gba`,
 //! whose type stands below, in `ltl_models`, and which is asked for as `Gba::reach` (`of_table`).
 //!
 //! Two things here are subtle. To ask for less isn't enough to drop a pair early, since the pair that asks for less may put off an until row that the
@@ -30,11 +30,15 @@
 #![tactic(auto)]
 
 mod asked;
+mod basis;
+mod factors;
+mod finals;
 mod groups;
 mod implied;
-mod joins;
+mod keys;
 mod lists;
 mod marks;
+mod memo;
 mod near;
 mod needs;
 pub mod of_table;
@@ -48,16 +52,10 @@ mod product;
 mod prune;
 mod reach;
 mod repeats;
-mod room;
 mod row_lists;
 mod rule;
-mod shapes;
-mod sizes;
-mod splits;
 mod transition;
-mod transitions;
-mod twins;
-mod wholes;
+mod transition_list;
 
 pub use ltl_models::{AltFault, Gba, GbaEdge, MOST_EDGES, MOST_STATES};
 pub use of_table::Reach;

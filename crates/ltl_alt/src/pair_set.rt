@@ -8,6 +8,7 @@ use crate::row_lists::RowLists;
 use crate::rule::{Pruning, Rule};
 use ltl_formula::Table;
 use std::alloc::{AllocError, Allocator};
+use std::hash::{Hash, Hasher};
 use std::marker::Model;
 
 /// The pairs of a row, by literals and then by targets, each once.
@@ -27,6 +28,37 @@ impl<'a, A: Allocator> Model for PairSet<'a, A> {
     ghost coded = { coded_list pair_code };
 
     ghost view = { λ s. s.pairs.items };
+}
+
+impl<'a, A: Allocator> PartialEq for PairSet<'a, A> {
+    ghost use Rattle.std.specs.Cmp.{partial_equiv_from_equiv};
+    ghost use Rattle.ltl_alt.specs.ListHash.{same_pairs, same_pairs_equiv};
+
+    ghost eq = { same_pairs };
+
+    ghost laws = { partial_equiv_from_equiv same_pairs_equiv };
+
+    fn eq(&self, other: &PairSet<'a, A>) -> bool {
+        self.pairs == other.pairs
+    }
+}
+
+impl<'a, A: Allocator> Eq for PairSet<'a, A> {
+    ghost use Rattle.ltl_alt.specs.ListHash.{same_pairs_equiv};
+
+    ghost laws = { same_pairs_equiv };
+}
+
+impl<'a, A: Allocator> Hash for PairSet<'a, A> {
+    ghost use Rattle.ltl_alt.specs.ListHash.{hash_of_pairs, hash_of_same_pairs};
+
+    ghost hash_input = { hash_of_pairs };
+
+    ghost respects_eq = { hash_of_same_pairs };
+
+    fn hash<H: Hasher>(&self, state: &mut H) {
+        self.pairs.hash(state);
+    }
 }
 
 impl<'a, A: Allocator> PairSet<'a, A> {

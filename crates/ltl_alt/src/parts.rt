@@ -1,14 +1,15 @@
 //! The rows of a table taken apart into parts, and which parts have to do with each other.
 
-ghost use Rattle.std.specs.Prelude.{◌≡◌, slice_get, ℕ, ◌<◌, ◌≤◌, ◌++◌, ◌∷◌, [], List, length, map, OnOk, IfOk};
-ghost use Rattle.ltl_spec.specs.Collections.Sets.{Has};
+ghost use Rattle.std.specs.Prelude.{◌≡◌, slice_get, ℕ, ◌+◌, ◌<◌, ◌≤◌, ◌++◌, ◌∷◌, [], List, length, map, MatchOption, OnOk, IfOk};
+ghost use Rattle.std.specs.Ordering.{nat_cmp};
+ghost use Rattle.ltl_spec.specs.Collections.Sets.{Has, put};
 ghost use Rattle.ltl_spec.specs.Transitions.Pairs as spec_pairs;
 ghost use Rattle.ltl_spec.specs.Transitions.RowTransitions as spec;
 ghost use Rattle.ltl_spec.proofs.Transitions.SameJoins.{AreSound};
 ghost use Rattle.ltl_alt.specs.declared.pieces.Piece.TheVariants as made_piece;
 ghost use Rattle.ltl_alt.specs.declared.rule.Rule as made_rule;
-ghost use Rattle.ltl_alt.specs.PartView.{AreAdded, AreLinked, AreMade, HasParts, HasRoom, IsGroup};
-ghost use Rattle.ltl_alt.specs.PartView.{IsLinked, IsLonger, IsRoom, IsTaken, links_of, numbers_in, part_of};
+ghost use Rattle.ltl_alt.specs.PartView.{AreAdded, AreLinked, AreMade, HasAllParts, HasParts, IsGroup};
+ghost use Rattle.ltl_alt.specs.PartView.{HasEach, HasNoPart, IsLinked, IsRoom, links_of, numbers_in, part_of};
 ghost use Rattle.ltl_alt.specs.PieceView.{AreFew, IsPiece, piece_pairs};
 ghost use Rattle.ltl_alt.specs.RowLists.{AreLists, IsListedRow};
 ghost use Rattle.ltl_alt.specs.StandIns.{AreOwn, IsListed, StandsFor};
@@ -18,18 +19,14 @@ use crate::asked::Demand;
 use crate::lists::both;
 use crate::pair::Pair;
 use crate::pair_set::PairSet;
-use crate::pieces::Piece;
-use crate::place::{place, put_if};
+use crate::pieces::{Piece, piece_at, pieces};
+use crate::place::{elementary_places, elementary_row, first, place, put_if};
 use crate::prune::prune;
 use crate::row_lists::RowLists;
 use crate::rule::Pruning;
-use crate::splits::useful_pieces;
-use ltl_formula::Table;
+use ltl_formula::{Row, Table};
 use ltl_sets::RowSet;
 use std::alloc::{AllocError, Allocator};
-
-/// So often all rows are taken apart anew, as there were no numbers left. From then on each row is one part.
-const MOST_RESTARTS: usize = 8;
 
 /// Parts of rows by number. The pairs of a row are those of its parts at once.
 #[derive(Drop)]
@@ -42,8 +39,6 @@ pub(crate) struct Parts<'a, A: Allocator> {
     pub(crate) links: Vec<RowSet, &'a A>,
     /// The places of the rows that were taken apart.
     pub(crate) made: RowSet,
-    /// How often parts were forgotten.
-    restarts: usize,
 }
 
 /// Links a new part with those that may have to do with it. Answers its own links.
@@ -66,8 +61,9 @@ impl<'a, A: Allocator> Parts<'a, A> {
     /// No row was taken apart yet.
     pub(crate) fn new(alloc: &'a A) -> Self
         ensures linked { (T : spec.Table) → (own : List (List spec_pairs.Pair)) → AreLinked T own result.lists.items result.demands.items result.links.items }
-        ensures made { (T : spec.Table) → (r : made_rule.Rule) → AreMade T r result.made result.owners.items result.lists.items }
+        ensures rows { (T : spec.Table) → (r : made_rule.Rule) → AreMade T r result.made result.owners.items result.lists.items }
         ensures lists { result.lists.items ≡ [] }
+        ensures made { result.made ≡ [] }
     {
         Parts {
             owners: Vec::new(alloc),
@@ -75,7 +71,6 @@ impl<'a, A: Allocator> Parts<'a, A> {
             demands: Vec::new(alloc),
             links: Vec::new(alloc),
             made: RowSet::empty(),
-            restarts: 0,
         }
     }
 
@@ -84,27 +79,6 @@ impl<'a, A: Allocator> Parts<'a, A> {
         ensures { result ≡ length self.now.lists.items }
     {
         self.lists.len()
-    }
-
-    /// The most parts that a row may get.
-    pub(crate) fn most(&self) -> usize
-        ensures some { 0 < result }
-    {
-        if self.restarts < MOST_RESTARTS {
-            RowSet::LIMIT
-        } else {
-            1
-        }
-    }
-
-    /// Forgets all parts.
-    pub(crate) fn forget(&mut self, alloc: &'a A)
-        ensures parts { (T : spec.Table) → (r : made_rule.Rule) → (own : List (List spec_pairs.Pair)) → HasParts T r own self.new }
-        ensures lists { self.new.lists.items ≡ [] }
-    {
-        let restarts = self.restarts.saturating_add(1);
-        *self = Parts::new(alloc);
-        self.restarts = restarts;
     }
 
     /// One part more, of the row at a place.
@@ -134,7 +108,7 @@ impl<'a, A: Allocator> Parts<'a, A> {
     }
 
     /// Puts the pieces of the row at a place behind the other parts.
-    pub(crate) fn push_pieces(
+    fn push_pieces(
         &mut self,
         alloc: &'a A,
         table: &Table<'_, A>,
@@ -160,7 +134,7 @@ impl<'a, A: Allocator> Parts<'a, A> {
         Ok(())
     }
 
-    /// Takes the row at a place apart, into no more than `most` parts, unless this was done before.
+    /// Takes the row at a place apart, into no more than `most` parts.
     fn add(
         &mut self,
         alloc: &'a A,
@@ -173,48 +147,39 @@ impl<'a, A: Allocator> Parts<'a, A> {
         requires lists { AreLists table.now pruning.now.rule rows.old.pairs.items rows.old.sets.items }
         requires own { AreOwn (table_at table.now) pruning.now.own.now }
         requires parts { HasParts (table_at table.now) pruning.now.rule pruning.now.own.now self.old }
+        requires new { Has self.old.made place → ⊥ }
         requires room { IsRoom place most self.old.lists.items }
         ensures lists { OnOk result (AreLists table.now pruning.now.rule rows.new.pairs.items rows.new.sets.items) }
         ensures parts { OnOk result (HasParts (table_at table.now) pruning.now.rule pruning.now.own.now self.new) }
-        ensures taken { OnOk result (IsTaken place most self.old.made self.new.made self.old.lists.items self.new.lists.items) }
+        ensures made { OnOk result (self.new.made ≡ put nat_cmp place self.old.made) }
+        ensures few { OnOk result (length self.new.lists.items ≤ length self.old.lists.items + most) }
     {
-        if self.made.contains(place) {
-            return Ok(());
-        }
-        let pieces = useful_pieces(alloc, table, rows, pruning, place, most)?;
+        let pieces = pieces(alloc, table, piece_at(table, place), most)?;
         self.push_pieces(alloc, table, rows, pruning, place, pieces.as_slice())?;
         self.made.insert(place);
         Ok(())
     }
 
-    /// Takes the rows of a set apart, for each of which there is a number.
-    pub(crate) fn prepare(
-        &mut self,
+    /// All elementary rows of a table taken apart. Each has a number, and those that are left go to the first rows that are made of more parts.
+    pub(crate) fn of(
         alloc: &'a A,
         table: &Table<'_, A>,
-        rows: &mut RowLists<'a, A>,
         pruning: &Pruning<'_, 'a, A>,
-        state: &RowSet,
-    ) -> Result<(), AllocError>
-        requires lists { AreLists table.now pruning.now.rule rows.old.pairs.items rows.old.sets.items }
+    ) -> Result<Parts<'a, A>, AllocError>
         requires own { AreOwn (table_at table.now) pruning.now.own.now }
-        requires parts { HasParts (table_at table.now) pruning.now.rule pruning.now.own.now self.old }
-        requires room { HasRoom self.old.made self.old.lists.items state.now }
-        ensures lists { OnOk result (AreLists table.now pruning.now.rule rows.new.pairs.items rows.new.sets.items) }
-        ensures parts { OnOk result (HasParts (table_at table.now) pruning.now.rule pruning.now.own.now self.new) }
-        ensures made { OnOk result ((i : ℕ) → Has state.now i → Has self.new.made i) }
-        ensures longer { OnOk result (IsLonger self.old.lists.items self.new.lists.items) }
+        ensures parts { IfOk result (HasAllParts table.now pruning.now.rule pruning.now.own.now) }
     {
-        let unmade = state.without(&self.made);
-        unmade.invariant();
-        let mut left = count(&unmade);
-        let mut rest = unmade.iter();
-        'members: while let Some(place) = rest.next() {
-            left -= 1;
-            let most = (RowSet::LIMIT - self.len() - left).min(self.most());
-            self.add(alloc, table, rows, pruning, place, most)?;
+        table.invariant();
+        let mut lists = RowLists::new(alloc, table)?;
+        let mut parts = Parts::new(alloc);
+        let mut rest = elementary_places(table);
+        'rows: while let Some(place) = next_row(table, &rest) {
+            rest.invariant();
+            rest = rest.without(&RowSet::single(place));
+            let most = RowSet::LIMIT - parts.len() - count(&rest);
+            parts.add(alloc, table, &mut lists, pruning, place, most)?;
         }
-        Ok(())
+        Ok(parts)
     }
 
     /// The pairs of the part with that number.
@@ -225,18 +190,21 @@ impl<'a, A: Allocator> Parts<'a, A> {
         self.lists[number].as_slice()
     }
 
-    /// The numbers of the parts of the rows of a set.
-    pub(crate) fn numbers(&self, state: &RowSet) -> RowSet
+    /// The numbers of the parts of the rows of a set, unless there is no row at one of its places.
+    pub(crate) fn numbers(&self, state: &RowSet) -> Option<RowSet>
         requires owned { (o : ℕ) → Has self.now.owners.items o → Has self.now.made o }
         requires few { length self.now.owners.items ≤ RowSet.LIMIT }
-        ensures { result ≡ numbers_in self.now.owners.items state.now }
+        ensures { MatchOption result (HasNoPart self.now.made state.now) (λ all. all ≡ numbers_in self.now.owners.items state.now × HasEach self.now.made state.now) }
     {
+        if !state.is_subset(&self.made) {
+            return None;
+        }
         self.made.invariant();
         let mut numbers = RowSet::empty();
         'parts: for k in 0..self.owners.len() {
             put_if(&mut numbers, k, state.contains(self.owners[k]));
         }
-        numbers
+        Some(numbers)
     }
 
     /// The parts that may have to do with the one of that number.
@@ -289,6 +257,31 @@ fn count(rows: &RowSet) -> usize
         count += 1;
     }
     count
+}
+
+/// Whether a release row stands at a place among the elementary rows.
+fn is_release<A: Allocator>(table: &Table<'_, A>, place: usize) -> bool {
+    match elementary_row(table, place) {
+        Some(row) => {
+            table.invariant();
+            matches!(table.row(row), Row::Release(_, _))
+        }
+        None => false,
+    }
+}
+
+/// Of these places the next whose row is taken apart. Parts are joined in the order of their numbers. Release rows come first: they stay in the sets of
+/// rows that follow, so that their joins are made once.
+fn next_row<A: Allocator>(table: &Table<'_, A>, rest: &RowSet) -> Option<usize>
+    ensures { MatchOption result (rest.now ≡ []) (λ i. Has rest.now i) }
+{
+    let mut members = rest.iter();
+    'members: while let Some(place) = members.next() {
+        if is_release(table, place) {
+            return Some(place);
+        }
+    }
+    first(rest)
 }
 
 /// The pairs of a row, as far as they are needed.

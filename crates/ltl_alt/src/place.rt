@@ -6,7 +6,7 @@ ghost use Rattle.ltl_formula.specs.TableView.{row_tree};
 ghost use Rattle.ltl_spec.specs.Collections.Sets.{Has};
 ghost use Rattle.ltl_spec.specs.Collections.Sets.{put};
 ghost use Rattle.std.specs.Ordering.{nat_cmp};
-ghost use Rattle.std.specs.Prelude.{position, ◌==◌, ◌≡◌, ◌≤◌, ◌<◌, length, slice_get, Some, IfSome, if◌then◌else◌};
+ghost use Rattle.std.specs.Prelude.{position, ℕ, ◌==◌, ◌≡◌, ◌≤◌, ◌<◌, [], length, slice_get, Some, IfSome, MatchOption, if◌then◌else◌};
 
 use ltl_formula::Table;
 use ltl_sets::RowSet;
@@ -50,6 +50,28 @@ pub(crate) fn until_row<A: Allocator>(table: &Table<'_, A>, number: usize) -> us
 {
     table.invariant();
     table.untils()[number]
+}
+
+/// The first member of a set.
+pub(crate) fn first(rows: &RowSet) -> Option<usize>
+    ensures { MatchOption result (rows.now ≡ []) (λ i. Has rows.now i) }
+{
+    let mut members = rows.iter();
+    members.next()
+}
+
+/// The places of the elementary rows.
+pub(crate) fn elementary_places<A: Allocator>(table: &Table<'_, A>) -> RowSet
+    ensures all { (i : ℕ) → i < length table.now.elementary → Has result i }
+    ensures few { length result ≤ RowSet.LIMIT }
+{
+    table.invariant();
+    let mut places = RowSet::empty();
+    'places: for place in 0..table.elementary().len() {
+        places.insert(place);
+    }
+    places.invariant();
+    places
 }
 
 /// What stands at a place among the elementary rows.

@@ -1,21 +1,19 @@
 //! One transition of each of some groups at once, in every way.
 
-ghost use Rattle.std.specs.Prelude.{◌≡◌, ℕ, ◌<◌, ◌≤◌, ◌++◌, filter_map, length, map, drop, IfOk, OnOk};
+ghost use Rattle.std.specs.Prelude.{◌≡◌, ℕ, ◌≤◌, ◌++◌, filter_map, map, drop, IfOk, OnOk};
 ghost use Rattle.std.specs.List.Sorted.{IsPermutation, IsSorted};
-ghost use Rattle.ltl_spec.specs.Collections.Sets.{Has};
 ghost use Rattle.ltl_spec.specs.Transitions.RowTransitions as spec;
 ghost use Rattle.ltl_spec.proofs.Transitions.FactorLaws.{all_products, product_size};
-ghost use Rattle.ltl_alt.specs.GroupView.{made_of};
+ghost use Rattle.ltl_alt.specs.BasisView.{IsBasis};
+ghost use Rattle.ltl_alt.specs.FinalView.{AreWithin, list_of};
 ghost use Rattle.ltl_alt.specs.ProductView.{AreConsistent, join_transitions, joined_products};
-ghost use Rattle.ltl_alt.specs.StandIns.{AreOwn};
 ghost use Rattle.ltl_alt.specs.TransitionView.{table_at};
 
-use crate::groups::Groups;
+use crate::basis::Basis;
+use crate::finals::{Factor, Finals};
 use crate::marks::marked;
 use crate::pair::Pair;
-use crate::pair_set::PairSet;
 use crate::transition::Transition;
-use ltl_formula::Table;
 use std::alloc::{AllocError, Allocator};
 
 /// Puts what a transition and each of a list are at once behind the others.
@@ -58,43 +56,43 @@ pub(crate) fn sort<A: Allocator>(transitions: &mut Vec<Transition, &A>) -> Resul
     Ok(())
 }
 
-/// One transition of each of these groups at once, in every way, in some order. What goes into a product is sorted before, so that each has few runs.
+/// One transition of each of these factors at once, in every way, in some order. What goes into a product is sorted before, so that each has few runs.
 pub(crate) fn all_products<'a, A: Allocator>(
-    alloc: &'a A,
-    table: &Table<'_, A>,
-    own: &[PairSet<'a, A>],
-    groups: &Groups<'a, A>,
-    numbers: &[usize],
+    basis: &Basis<'_, '_, '_, 'a, A>,
+    finals: &Finals<'a, A>,
+    factors: &[Factor<'a, A>],
 ) -> Result<Vec<Transition, &'a A>, AllocError>
-    requires own { AreOwn (table_at table.now) own.now }
-    requires within { (k : ℕ) → Has numbers.now k → k < length groups.now.lists.items }
-    requires consistent { (k : ℕ) → AreConsistent (all_products (table_at table.now) (drop k (map (made_of groups.now.lists.items) numbers.now))) }
-    ensures { IfOk result (λ v. IsPermutation (all_products (table_at table.now) (map (made_of groups.now.lists.items) numbers.now)) v.items) }
+    requires basis { IsBasis basis.now }
+    requires within { AreWithin finals.now.lists.keys factors.now }
+    requires consistent { (k : ℕ) → AreConsistent (all_products (table_at basis.now.table.now) (drop k (map (list_of finals.now.lists.keys) factors.now))) }
+    ensures { IfOk result (λ v. IsPermutation (all_products (table_at basis.now.table.now) (map (list_of finals.now.lists.keys) factors.now)) v.items) }
 {
-    let mut products = marked(alloc, table, own, &[Pair::empty()])?;
-    let mut left = numbers.len();
-    'groups: while left > 0 {
+    let alloc = basis.alloc;
+    let mut products = marked(alloc, basis.table, basis.pruning.own, &[Pair::empty()])?;
+    let mut left = factors.len();
+    'factors: while left > 0 {
         left -= 1;
         sort(&mut products)?;
-        products = product(
-            alloc,
-            groups.transitions(numbers[left]),
-            products.as_slice(),
-        )?;
+        let list = (&*finals).of_factor(&factors[left]);
+        products = product(alloc, list, products.as_slice())?;
     }
     Ok(products)
 }
 
-/// How many combinations of one transition of each of these groups there are, or `usize::MAX` where they are more.
-pub(crate) fn combinations<A: Allocator>(groups: &Groups<'_, A>, numbers: &[usize]) -> usize
-    requires within { (k : ℕ) → Has numbers.now k → k < length groups.now.lists.items }
-    ensures { result ≤ product_size (map (made_of groups.now.lists.items) numbers.now) }
+/// How many combinations of one transition of each of these factors there are, or `usize::MAX` where they are more.
+pub(crate) fn combinations<'a, A: Allocator>(
+    finals: &Finals<'a, A>,
+    factors: &[Factor<'a, A>],
+) -> usize
+    requires within { AreWithin finals.now.lists.keys factors.now }
+    ensures { result ≤ product_size (map (list_of finals.now.lists.keys) factors.now) }
 {
     let mut count = 1usize;
-    let mut left = numbers.len();
-    'groups: while left > 0 {
+    let mut left = factors.len();
+    'factors: while left > 0 {
         left -= 1;
-        count = count.saturating_mul(groups.transitions(numbers[left]).len());
+        let size = (&*finals).of_factor(&factors[left]).len();
+        count = count.saturating_mul(size);
     }
     count
 }

@@ -1,6 +1,6 @@
 //! Transitions of sets of rows.
 
-ghost use Rattle.std.specs.Prelude.{◌≡◌, ◌+◌, true, length};
+ghost use Rattle.std.specs.Prelude.{◌≡◌, ◌+◌, length};
 ghost use Rattle.std.specs.Ordering.{is_ne};
 ghost use Rattle.ltl_spec.specs.Transitions.RowTransitions.{implies, transition_cmp};
 ghost use Rattle.ltl_alt.specs.ProductView.{join_transitions};
@@ -10,6 +10,7 @@ use ltl_models::elements::{has_literal, has_row, tally_literals, tally_rows};
 use ltl_sets::{Cube, RowSet};
 use std::alloc::AllocError;
 use std::cmp::Ordering;
+use std::hash::{Hash, Hasher};
 use std::marker::Model;
 
 /// A transition: its literals, its target, and the places of the until rows that it does not put off.
@@ -50,14 +51,6 @@ impl Transition {
             targets: self.targets.union(&other.targets),
             marks: self.marks.common(&other.marks),
         })
-    }
-
-    /// Whether the two are equal.
-    #[tactic(auto, using(crate::proofs::ShapeLaws::same_transition))]
-    pub(crate) fn is_same(&self, other: &Transition) -> bool
-        ensures { result ≡ true → self.now ≡ other.now }
-    {
-        self.cube == other.cube && self.targets == other.targets && self.marks == other.marks
     }
 
     /// Whether this transition asks for no more than the other, and is in each acceptance set that the other is in.
@@ -154,3 +147,38 @@ impl Clone for Transition {
 }
 
 impl Copy for Transition {}
+
+impl PartialEq for Transition {
+    ghost use Rattle.std.specs.Cmp.{partial_equiv_from_equiv};
+    ghost use Rattle.ltl_alt.specs.TransitionHash.{same_transition, same_transition_equiv};
+
+    ghost eq = { same_transition };
+
+    ghost laws = { partial_equiv_from_equiv same_transition_equiv };
+
+    #[inline(always)]
+    fn eq(&self, other: &Transition) -> bool {
+        self.cube == other.cube && self.targets == other.targets && self.marks == other.marks
+    }
+}
+
+impl Eq for Transition {
+    ghost use Rattle.ltl_alt.specs.TransitionHash.{same_transition_equiv};
+
+    ghost laws = { same_transition_equiv };
+}
+
+impl Hash for Transition {
+    ghost use Rattle.ltl_alt.specs.TransitionHash.{hash_of_transition, hash_of_same_transition};
+
+    ghost hash_input = { hash_of_transition };
+
+    ghost respects_eq = { hash_of_same_transition };
+
+    #[inline(always)]
+    fn hash<H: Hasher>(&self, state: &mut H) {
+        self.cube.hash(state);
+        self.targets.hash(state);
+        self.marks.hash(state);
+    }
+}

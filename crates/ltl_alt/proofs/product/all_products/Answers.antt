@@ -1,36 +1,43 @@
-use Rattle.std.proofs.Common.{◌≡◌, ℕ, ◌+◌, ◌-◌, ◌<◌, arith, drop, length, map, refl, subst, sym}
+use Rattle.std.proofs.Common.{◌≡◌, ℕ, ◌+◌, ◌-◌, ◌<◌, ◌∙◌, arith, drop, length, map, subst, sym}
 use Rattle.std.specs.List.Sorted.{IsPermutation}
-use Rattle.std.specs.Prelude.{slice_index_or}
 use Rattle.std.proofs.lemmas.List.Sorted.{IsPermutation-trans}
+use Rattle.ltl_spec.specs.Collections.Sets.{Has}
 use Rattle.ltl_spec.proofs.Collections.ListLaws.{Has-at}
+use Rattle.ltl_spec.proofs.Collections.MemberLaws.{map_length}
 use Rattle.ltl_spec.proofs.Transitions.FactorLaws.{all_products}
-use Rattle.ltl_alt.specs.GroupView.{made_of}
+use Rattle.ltl_alt.specs.FinalView.{list_of}
 use Rattle.ltl_alt.specs.TransitionView.{table_at}
-use Rattle.ltl_alt.proofs.ProductLaws.{products_step}
+use Rattle.ltl_alt.proofs.ProductLaws.{mapped_at, products_step}
 use Rattle.ltl_alt.proofs.product.all_products.Goals as goal
 
-pub transitions-requires : goal.transitions-requires
-transitions-requires g c =
-    let within = c.groups.invariant.within in
-    let some = c.groups-test.true in
-    let inside : c.groups.left - 1 < length c.args.numbers.now = omega arith in
-    c.requires.within (slice_index_or c.args.numbers.now (c.groups.left - 1) 0) (Has-at c.args.numbers.now (c.groups.left - 1) 0 inside)
+pub marked-requires : goal.marked-requires
+marked-requires g c = c.requires.basis.own_pairs
 
-pub groups-preserved : goal.groups-preserved
-groups-preserved g c =
-    let T = table_at c.args.table.now in
-    let lists = c.args.groups.now.lists.items in
-    let numbers = c.args.numbers.now in
-    let within = c.groups.invariant.within in
-    let some = c.groups-test.true in
-    let left = c.groups.left - 1 in
-    let inside : left < length numbers = omega arith in
-    let next : c.groups.left ≡ left + 1 = omega arith in
-    let rest = λ (n : ℕ). all_products T (drop n (map (made_of lists) numbers)) in
+pub of_factor-list-requires : goal.of_factor-list-requires
+of_factor-list-requires g c =
+    let within = c.factors.invariant.within in
+    let some = c.factors-test.true in
+    let inside : c.factors.left - 1 < length c.args.factors.now = omega arith in
+    c.requires.within c.index-factors-left.result (subst (Has c.args.factors.now) (sym c.index-factors-left.is) (Has-at c.args.factors.now (c.factors.left - 1) c.index-factors-left.result inside))
+
+pub factors-preserved : goal.factors-preserved
+factors-preserved g c =
+    let T = table_at c.args.basis.now.table.now in
+    let h = list_of c.args.finals.now.lists.keys in
+    let factors = c.args.factors.now in
+    let tss = map h factors in
+    let within = c.factors.invariant.within in
+    let some = c.factors-test.true in
+    let left = c.factors.left - 1 in
+    let inside : left < length factors = omega arith in
+    let long = map_length h factors in
+    let also : left < length tss = omega arith in
+    let next : c.factors.left ≡ left + 1 = omega arith in
+    let rest = λ (n : ℕ). all_products T (drop n tss) in
     let moved : IsPermutation (rest (left + 1)) c.as_slice.result.now =
     subst (λ n. IsPermutation (rest n) c.as_slice.result.now) next
-    (subst (IsPermutation (rest c.groups.left)) (sym c.as_slice.ensures.value) (IsPermutation-trans (rest c.groups.left) c.groups.products.items c.sort.new.transitions.items c.groups.invariant.products c.in_ok-sort.ensures.permutation)) in
+    (subst (IsPermutation (rest c.factors.left)) (sym c.as_slice.ensures.value) (IsPermutation-trans (rest c.factors.left) c.factors.products.items c.sort.new.transitions.items c.factors.invariant.products c.in_ok-sort.ensures.permutation)) in
     record {
       within = omega arith;
-      products = products_step T lists numbers left (slice_index_or numbers left 0) c.transitions.result.now c.as_slice.result.now c.in_ok-products-2.products.items inside refl c.requires.consistent moved c.transitions.ensures c.in_ok-products-2.ensures;
+      products = products_step T tss left c.of_factor-list.result.now c.as_slice.result.now c.in_ok-products-2.products.items also c.requires.consistent moved (c.of_factor-list.ensures ∙ sym (mapped_at h factors left c.index-factors-left.result inside c.index-factors-left.is)) c.in_ok-products-2.ensures;
     }

@@ -1,29 +1,32 @@
-use Rattle.std.proofs.Common.{◌≡◌, ◌+◌, ◌-◌, ◌<◌, ◌≤◌, ap, arith, drop, length, map, refl, subst}
-use Rattle.std.specs.Prelude.{slice_index_or}
+use Rattle.std.proofs.Common.{◌≡◌, ◌+◌, ◌-◌, ◌<◌, ◌≤◌, ◌∙◌, ap, arith, drop, length, map, subst, sym}
+use Rattle.ltl_spec.specs.Collections.Sets.{Has}
 use Rattle.ltl_spec.proofs.Collections.ListLaws.{Has-at}
+use Rattle.ltl_spec.proofs.Collections.MemberLaws.{map_length}
 use Rattle.ltl_spec.proofs.Transitions.FactorLaws.{product_size}
-use Rattle.ltl_alt.specs.GroupView.{made_of}
-use Rattle.ltl_alt.proofs.ProductLaws.{size_at_least}
+use Rattle.ltl_alt.specs.FinalView.{list_of}
+use Rattle.ltl_alt.proofs.ProductLaws.{mapped_at, size_at_least}
 use Rattle.ltl_alt.proofs.product.combinations.Goals as goal
 
-pub transitions-requires : goal.transitions-requires
-transitions-requires g c =
-    let within = c.groups.invariant.within in
-    let some = c.groups-test.true in
-    let inside : c.groups.left - 1 < length c.args.numbers.now = omega (arith, within, some) in
-    c.requires.within (slice_index_or c.args.numbers.now (c.groups.left - 1) 0) (Has-at c.args.numbers.now (c.groups.left - 1) 0 inside)
+pub of_factor-size-requires : goal.of_factor-size-requires
+of_factor-size-requires g c =
+    let within = c.factors.invariant.within in
+    let some = c.factors-test.true in
+    let inside : c.factors.left - 1 < length c.args.factors.now = omega (arith, within, some) in
+    c.requires.within c.index-factors-left.result (subst (Has c.args.factors.now) (sym c.index-factors-left.is) (Has-at c.args.factors.now (c.factors.left - 1) c.index-factors-left.result inside))
 
-pub groups-preserved : goal.groups-preserved
-groups-preserved g c =
-    let lists = c.args.groups.now.lists.items in
-    let numbers = c.args.numbers.now in
-    let within = c.groups.invariant.within in
-    let some = c.groups-test.true in
-    let left = c.groups.left - 1 in
-    let inside : left < length numbers = omega (arith, within, some) in
-    let next : c.groups.left ≡ left + 1 = omega (arith, some) in
-    let least = size_at_least lists numbers left (slice_index_or numbers left 0) c.groups.count (length c.transitions.result.now) inside refl
-    (subst (λ n. c.groups.count ≤ product_size (drop n (map (made_of lists) numbers))) next c.groups.invariant.count) (ap length c.transitions.ensures) in
+pub factors-preserved : goal.factors-preserved
+factors-preserved g c =
+    let h = list_of c.args.finals.now.lists.keys in
+    let factors = c.args.factors.now in
+    let tss = map h factors in
+    let within = c.factors.invariant.within in
+    let some = c.factors-test.true in
+    let left = c.factors.left - 1 in
+    let inside : left < length factors = omega (arith, within, some) in
+    let long = map_length h factors in
+    let also : left < length tss = omega (arith, inside, long) in
+    let next : c.factors.left ≡ left + 1 = omega (arith, some) in
+    let least = size_at_least tss left c.factors.count (length c.of_factor-size.result.now) also (subst (λ n. c.factors.count ≤ product_size (drop n tss)) next c.factors.invariant.count) (ap length (c.of_factor-size.ensures ∙ sym (mapped_at h factors left c.index-factors-left.result inside c.index-factors-left.is))) in
     let most = c.saturating_mul-count.ensures in
     record {
       within = omega (arith, within);

@@ -1,6 +1,8 @@
-use Rattle.std.proofs.Common.{◌≡◌, ℕ, ◌∷◌, [], ◌∙◌, ap, sym, subst, Result, Err, false}
+use Rattle.std.proofs.Common.{◌≡◌, ℕ, List, ◌∷◌, [], ◌∙◌, ap, sym, subst, Result, Err, false}
 use Rattle.std.specs.Result.{IsErrOf, IsErrAnd}
-use Rattle.ltl_spec.specs.Transitions.Pairs.{RowSet}
+use Rattle.ltl_spec.specs.Collections.Sets.{Has}
+use Rattle.ltl_spec.specs.Transitions.Pairs.{RowSet, Pair}
+use Rattle.ltl_spec.specs.Transitions.RowTransitions.{Table}
 use Rattle.ltl_spec.specs.Automata.Listing.{PassesLimits}
 use Rattle.ltl_spec.specs.Automata.Generalized.{same_row_set, root_set, IsGeneralized}
 use Rattle.ltl_spec.specs.Tools.Limits.{stated_limits}
@@ -9,10 +11,12 @@ use Rattle.ltl_automaton.specs.Net.{IsReachable, targets_of}
 use Rattle.ltl_automaton.specs.SharedView.{automaton_of}
 use Rattle.ltl_automaton.specs.declared.fault.AutomatonFault.{AutomatonFault}
 use Rattle.ltl_automaton.specs.declared.fault.AutomatonFault.TheVariants.{TooLarge}
+use Rattle.ltl_alt.specs.declared.groups.Groups.{Groups}
+use Rattle.ltl_alt.specs.declared.rule.Rule.{Rule}
 use Rattle.ltl_alt.specs.ReachView.{net_of}
-use Rattle.ltl_alt.specs.PartView.{AreParts}
-use Rattle.ltl_alt.specs.RowLists.{row_place, AreLists}
-use Rattle.ltl_alt.specs.StandIns.{rule_of}
+use Rattle.ltl_alt.specs.GroupView.{AreGroups}
+use Rattle.ltl_alt.specs.RowLists.{row_place}
+use Rattle.ltl_alt.specs.StandIns.{AreOwn}
 use Rattle.ltl_alt.specs.TransitionView.{table_at}
 use Rattle.ltl_alt.proofs.ElementaryLaws.{root_stands}
 use Rattle.ltl_alt.proofs.GbaLaws.{is_generalized, is_gba, is_too_large, is_not_too_large}
@@ -22,29 +26,31 @@ use Rattle.ltl_alt.proofs.reach.reach.Goals as goal
 passed_on : {T : Type 0} (r : Result T AutomatonFault) (P : AutomatonFault → Type 0) → IsErrAnd r P → IsErrOf r TooLarge → P TooLarge
 passed_on r P a e = subst (λ q. IsErrAnd q P) e a
 
+groups_in : {A : Type 0} (T : Table) (r : Rule) (parts : List (List Pair)) (x y : Groups A) → x ≡ y → AreGroups T r parts y.memo.lists.keys y.memo.joins.entries y.nothing y.starts.items → AreGroups T r parts x.memo.lists.keys x.memo.joins.entries x.nothing x.starts.items
+groups_in {A} T r parts x y e w = subst (λ (z : Groups A). AreGroups T r parts z.memo.lists.keys z.memo.joins.entries z.nothing z.starts.items) (sym e) w
+
 pub single-root-requires : goal.single-root-requires
 single-root-requires g c = c.place.ensures.small (root_stands c.args.table.now c.root.result c.invariant.ensures c.root.ensures.last)
-
-pub prepare-requires-clause-lists : goal.prepare-requires-clause-lists
-prepare-requires-clause-lists g c = c.in_ok-lists.ensures c.of.result
-
-pub prepare-requires-clause-parts : goal.prepare-requires-clause-parts
-prepare-requires-clause-parts g c = record { linked = c.new-parts.ensures.linked (table_at c.args.table.now) c.as_slice.result.now; rows = c.new-parts.ensures.made (table_at c.args.table.now) c.of.result }
 
 pub explore_from-requires-clause-ready : goal.explore_from-requires-clause-ready
 explore_from-requires-clause-ready g c =
     let T = table_at c.args.table.now in
-    let new = c.prepare.new.parts in
-    let rows = c.prepare.new.rows in
-    let own = c.in_ok-own.own.items in (
+    let parts = c.in_ok-parts.parts.lists.items in (
       record {
-        lists = subst (λ r. AreLists c.args.table.now r rows.pairs.items rows.sets.items) c.of.ensures c.in_ok-prepare.ensures.lists;
-        own_pairs = c.in_ok-own.ensures;
-        parts = subst (λ r. AreParts T r own new.made new.owners.items new.lists.items new.demands.items new.links.items) c.of.ensures (subst (λ x. AreParts T c.of.result x new.made new.owners.items new.lists.items new.demands.items new.links.items) c.as_slice.ensures.value c.in_ok-prepare.ensures.parts);
-        groups = c.in_ok-prepare.ensures.groups c.args.keep_implied (c.new-groups.ensures T c.args.keep_implied c.new-parts.result.lists.items);
+        table = c.invariant.ensures;
+        rule = c.of.ensures;
+        own_pairs = subst (AreOwn T) (sym c.as_slice.ensures.value) c.in_ok-own.ensures;
+        parts = c.in_ok-parts.ensures.parts.0;
+        all = c.in_ok-parts.ensures.parts.1;
       },
-      c.new-shapes.ensures T c.args.keep_implied,
-      record { joins = c.new-joins.ensures T (rule_of c.args.keep_implied); states = c.new-wholes.ensures T c.args.keep_implied c.new-joins.result.lists.items },
+      (
+        groups_in T c.of.result parts c.new-2.result.groups c.in_ok-groups.groups c.new-2.ensures.groups (c.in_ok-groups.ensures T c.of.result),
+        record {
+          of_lists = λ k n h. absurd (subst (λ es. Has es (k, n)) c.new-2.ensures.lists h);
+          of_groups = λ k o h. absurd (subst (λ es. Has es (k, o)) c.new-2.ensures.met h);
+        },
+      ),
+      λ key state h. absurd (subst (λ es. Has es (key, state)) c.new-3.ensures h),
     )
 
 pub returns-in_err-states-clause-large : goal.returns-in_err-states-clause-large
@@ -55,8 +61,8 @@ returns-in_err-states-clause-large g c = λ e.
     let large = c.in_err-states.ensures.large (ap (λ (f : AutomatonFault). Err f) (sym (passed_on _ _ c.from_residual-in_err-states.ensures.1 e))) in
     is_too_large F keep (subst (λ (s : RowSet). PassesLimits same_row_set (targets_of (net_of F keep)) s stated_limits.states stated_limits.edges) root large)
 
-pub new-requires-2 : goal.new-requires-2
-new-requires-2 g c =
+pub new-requires-4 : goal.new-requires-4
+new-requires-4 g c =
     let F = core_of c.args.table.now in
     let keep = c.args.keep_implied in
     let root : c.single-root.result ≡ root_set F keep = c.single-root.ensures ∙ ap (λ (k : ℕ). k ∷ []) (c.place.ensures.place ∙ ap (λ k. row_place c.args.table.now (row_tree c.args.table.now k)) c.root.ensures.last) in
@@ -71,7 +77,7 @@ returns-clause-generalized g c =
     let root : c.single-root.result ≡ root_set F keep = c.single-root.ensures ∙ ap (λ (k : ℕ). k ∷ []) (c.place.ensures.place ∙ ap (λ k. row_place c.args.table.now (row_tree c.args.table.now k)) c.root.ensures.last) in
     let A = automaton_of c.in_ok-states.states in
     let reachable = subst (λ (s : RowSet). IsReachable same_row_set false (net_of F keep) s c.until_count.result A) root c.in_ok-states.ensures.reachable in
-    subst (IsGeneralized F keep) (sym c.new-2.ensures) (is_generalized F keep c.until_count.result (c.until_count.ensures.count ∙ sym (untils_count c.args.table.now c.invariant.ensures)) A reachable)
+    subst (IsGeneralized F keep) (sym c.new-4.ensures) (is_generalized F keep c.until_count.result (c.until_count.ensures.count ∙ sym (untils_count c.args.table.now c.invariant.ensures)) A reachable)
 
 pub returns-clause-fits : goal.returns-clause-fits
 returns-clause-fits g c =

@@ -1,9 +1,11 @@
-use Rattle.std.proofs.Common.{◌<◌, ◌∙◌, ap, arith, sym, subst, length}
+use Rattle.std.proofs.Common.{◌≡◌, ◌<◌, ◌∙◌, ap, arith, sym, subst, length}
 use Rattle.std.specs.Ordering.{nat_cmp}
 use Rattle.ltl_spec.specs.Collections.Sets.{Has, has}
 use Rattle.ltl_spec.proofs.Collections.ListLaws.{Has-at}
-use Rattle.ltl_spec.proofs.Collections.SetLaws.{all_at}
-use Rattle.ltl_alt.proofs.TransitionLaws.{marks_step}
+use Rattle.ltl_spec.proofs.Collections.Orders.{nat_linear}
+use Rattle.ltl_spec.proofs.Collections.SetLaws.{all_at, is_subset_Decides}
+use Rattle.ltl_alt.proofs.PartLaws.{not_subset}
+use Rattle.ltl_alt.proofs.TransitionLaws.{marks_end, marks_step}
 use Rattle.ltl_alt.proofs.parts.Parts.numbers.Goals as goal
 
 pub contains-requires : goal.contains-requires
@@ -30,3 +32,16 @@ parts-preserved g c =
     let test = c.parts-test.true in
     let inside : c.parts.k < length owners = omega arith in
     c.put_if.ensures ∙ marks_step (λ o. has nat_cmp o state) c.index.result.now owners c.parts.k c.contains.result c.parts.numbers inside (c.contains.ensures ∙ ap (λ o. has nat_cmp o state) c.index.ensures) c.parts.invariant
+
+pub returns-then-not-is_subset : goal.returns-then-not-is_subset
+returns-then-not-is_subset g c = not_subset c.args.state.now c.args.self.now.made (sym c.is_subset.ensures ∙ c.if-not-is_subset.true)
+
+pub returns : goal.returns
+returns g c =
+    let owners = c.args.self.now.owners.items in
+    let state = c.args.state.now in
+    let long = c.len-k-end.ensures in
+    let past = c.parts-test.false in
+    let most = c.parts.auto.k-end in
+    let all : c.parts.k ≡ length owners = omega arith in
+    (marks_end (λ o. has nat_cmp o state) owners c.parts.k c.parts.numbers all c.parts.invariant, (is_subset_Decides nat_linear state c.args.self.now.made).0 (sym c.is_subset.ensures ∙ c.if-not-is_subset.false))

@@ -1,0 +1,23 @@
+use Rattle.std.proofs.Common.{ℕ, ◌<◌, ◌∷◌, [], length}
+use Rattle.ltl_spec.specs.Collections.Sets.{Has, IsRising}
+use Rattle.ltl_spec.specs.Transitions.Pairs.{pair_cmp, empty_pair}
+use Rattle.ltl_alt.specs.GroupView.{AreGroups}
+use Rattle.ltl_alt.specs.PartView.{IsLonger, part_of}
+use Rattle.ltl_alt.specs.StandIns.{IsKeptBy, StandsFor}
+use Rattle.ltl_alt.specs.TransitionView.{table_at}
+use Rattle.ltl_alt.proofs.GroupLaws.{joined_on}
+use Rattle.ltl_alt.proofs.groups.Groups.list.Given as goal
+
+abbrev pub invariant-members : goal.invariant-members
+invariant-members g l = record {
+  inside : (k : ℕ) → Has l.rest k → k < length l.basis.parts.lists.items;
+  within : l.list < length l.self.memo.lists.keys;
+  rising : IsRising pair_cmp (part_of l.self.memo.lists.keys l.list);
+  groups : AreGroups (table_at l.basis.table.now) l.basis.pruning.rule l.basis.parts.lists.items l.self.memo.lists.keys l.self.memo.joins.entries l.self.nothing l.self.starts.items;
+  longer : IsLonger l.fn.self.memo.lists.keys l.self.memo.lists.keys;
+  pairs : IsKeptBy (StandsFor (table_at l.basis.table.now) l.basis.pruning.rule) (joined_on (part_of l.basis.parts.lists.items) (empty_pair ∷ []) l.group)
+      (joined_on (part_of l.basis.parts.lists.items) (part_of l.self.memo.lists.keys l.list) l.rest);
+}
+
+abbrev pub decreases-members : goal.decreases-members
+decreases-members g l = length l.rest

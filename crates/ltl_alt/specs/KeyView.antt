@@ -1,0 +1,33 @@
+-- Sets of rows by the numbers of the transitions of their groups.
+use Rattle.std.specs.Prelude.{◌≡◌, ℕ, ◌<◌, ◌≤◌, Bool, List, [], ◌∷◌, insert, length, map}
+use Rattle.std.specs.declared.vec.Vec.{Vec}
+use Rattle.ltl_spec.specs.Collections.Sets.{Has}
+use Rattle.ltl_spec.specs.Transitions.Pairs.{RowSet}
+use Rattle.ltl_spec.specs.Transitions.RowTransitions.{Table, Transition, transitions}
+use Rattle.ltl_spec.proofs.Transitions.FactorLaws.{all_products}
+use Rattle.ltl_spec.proofs.Transitions.ProductTransitions.{in_order}
+use Rattle.ltl_alt.specs.declared.finals.Factor.{Factor}
+use Rattle.ltl_alt.specs.FinalView.{list_of, made_of}
+
+-- the second list has the elements of the first one, each of which was put in at some place
+abbrev pub IsMoved : {X : Type 0} → List X → List X → Type 0
+IsMoved [] ys = ys ≡ []
+IsMoved {X} (x ∷ xs) ys = (zs : List X) × (i : ℕ) × IsMoved xs zs × (i ≤ length zs) × (ys ≡ insert zs i x)
+
+-- the numbers of these factors in some order
+pub record AreNumbersOf {A : Type 0} (lists : List (List Transition)) (factors : List (Factor A)) (numbers : List ℕ) : Type 0 where
+  pub within : (k : ℕ) → Has numbers k → k < length lists
+  pub moved : IsMoved (map (list_of lists) factors) (map (made_of lists) numbers)
+
+-- the transitions of a set of rows are one of each of the lists with these numbers at once, in every way
+pub record IsKeyOf (T : Table) (keep : Bool) (lists : List (List Transition)) (numbers : List ℕ) (state : RowSet) : Type 0 where
+  pub within : (k : ℕ) → Has numbers k → k < length lists
+  pub transitions : transitions T keep state ≡ in_order (all_products T (map (made_of lists) numbers))
+
+-- so it is with each of these
+abbrev pub AreKeys : {A : Type 0} → Table → Bool → List (List Transition) → List (Vec ℕ A × RowSet) → Type 0
+AreKeys {A} T keep lists states = (key : Vec ℕ A) (state : RowSet) → Has states (key, state) → IsKeyOf T keep lists key.items state
+
+-- both sets of rows have the same transitions
+abbrev pub IsTwin : Table → Bool → RowSet → RowSet → Type 0
+IsTwin T keep state twin = transitions T keep twin ≡ transitions T keep state

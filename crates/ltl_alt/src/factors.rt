@@ -1,0 +1,101 @@
+//! The transitions of sets of rows, by groups of parts that have nothing to do with each other.
+
+ghost use Rattle.std.specs.Prelude.{◌≡◌, ℕ, ◌<◌, ◌≤◌, [], true, length, IsSome, OnOk, IfOk, IfSome, IsErrOf};
+ghost use Rattle.ltl_spec.specs.Collections.Sets.{Has};
+ghost use Rattle.ltl_spec.specs.Transitions.RowTransitions as spec;
+ghost use Rattle.ltl_alt.specs.BasisView.{IsBasis};
+ghost use Rattle.ltl_alt.specs.FinalView.{AreFactorsOf, HasFinals, IsLonger};
+ghost use Rattle.ltl_alt.specs.TransitionView.{table_at};
+
+use crate::basis::Basis;
+use crate::finals::{Factor, Finals};
+use crate::place::first;
+use crate::product::{all_products, combinations, sort};
+use crate::transition::Transition;
+use ltl_automaton::AutomatonFault as AltFault;
+use ltl_sets::RowSet;
+use std::alloc::{AllocError, Allocator};
+
+impl<'a, A: Allocator> Finals<'a, A> {
+    /// The transitions of each of the groups of these parts. If this isn't asked, none are made that aren't remembered.
+    pub(crate) fn factors(
+        &mut self,
+        basis: &Basis<'_, '_, '_, 'a, A>,
+        all: &RowSet,
+        is_asked: bool,
+    ) -> Result<Option<Vec<Factor<'a, A>, &'a A>>, AllocError>
+        requires basis { IsBasis basis.now }
+        requires finals { HasFinals basis.now self.old }
+        requires inside { (k : ℕ) → Has all.now k → k < length basis.now.parts.lists.items }
+        ensures finals { OnOk result (HasFinals basis.now self.new) }
+        ensures factors { IfOk result (λ o. IfSome o (λ v. AreFactorsOf basis.now self.new.lists.keys all.now v.items [])) }
+        ensures asked { is_asked ≡ true → IfOk result (λ o. IsSome o) }
+        ensures longer { OnOk result (IsLonger self.old.lists.keys self.new.lists.keys) }
+    {
+        let mut factors = Vec::new(basis.alloc);
+        let mut rest = *all;
+        'groups: while let Some(part) = first(&rest) {
+            rest.invariant();
+            let group = basis.parts.group(part, &rest);
+            group.invariant();
+            let Some(factor) = self.factor(basis, &group, is_asked)? else {
+                return Ok(None);
+            };
+            factors.push(factor)?;
+            rest = rest.without(&group);
+        }
+        Ok(Some(factors))
+    }
+
+    /// So many transitions a set of rows has at least: how many it has, unless one of its groups is too large to be remembered, else 0.
+    pub(crate) fn transitions_at_least(
+        &mut self,
+        basis: &Basis<'_, '_, '_, 'a, A>,
+        state: &RowSet,
+    ) -> Result<usize, AllocError>
+        requires basis { IsBasis basis.now }
+        requires finals { HasFinals basis.now self.old }
+        ensures finals { OnOk result (HasFinals basis.now self.new) }
+        ensures least { IfOk result (λ n. n ≤ length (spec.transitions (table_at basis.now.table.now) basis.now.keep_implied state.now)) }
+        ensures longer { OnOk result (IsLonger self.old.lists.keys self.new.lists.keys) }
+    {
+        let Some(all) = basis.parts.numbers(state) else {
+            return Ok(0);
+        };
+        state.invariant();
+        match self.factors(basis, &all, false)? {
+            Some(factors) => Ok(combinations(self, factors.as_slice())),
+            None => Ok(0),
+        }
+    }
+
+    /// The transitions of a set of rows, rising by literals and then by targets. Where they are more than `most` they may be refused, which is known
+    /// before they are made.
+    pub(crate) fn set_transitions(
+        &mut self,
+        basis: &Basis<'_, '_, '_, 'a, A>,
+        state: &RowSet,
+        most: usize,
+    ) -> Result<Vec<Transition, &'a A>, AltFault>
+        requires basis { IsBasis basis.now }
+        requires finals { HasFinals basis.now self.old }
+        ensures finals { OnOk result (HasFinals basis.now self.new) }
+        ensures transitions { IfOk result (λ v. v.items ≡ spec.transitions (table_at basis.now.table.now) basis.now.keep_implied state.now) }
+        ensures large { IsErrOf result AltFault.TooLarge → most < length (spec.transitions (table_at basis.now.table.now) basis.now.keep_implied state.now) }
+        ensures longer { OnOk result (IsLonger self.old.lists.keys self.new.lists.keys) }
+    {
+        let Some(all) = basis.parts.numbers(state) else {
+            return Ok(Vec::new(basis.alloc));
+        };
+        state.invariant();
+        let Some(factors) = self.factors(basis, &all, true)? else {
+            return Ok(Vec::new(basis.alloc));
+        };
+        if combinations(self, factors.as_slice()) > most {
+            return Err(AltFault::TooLarge);
+        }
+        let mut products = all_products(basis, self, factors.as_slice())?;
+        sort(&mut products)?;
+        Ok(products)
+    }
+}

@@ -1,0 +1,200 @@
+//! The transitions of groups of parts, by number.
+
+ghost use Rattle.std.specs.Prelude.{◌≡◌, ℕ, ◌<◌, [], true, Bool, map, length, IsSome, IfOk, IfSome, OnOk};
+ghost use Rattle.ltl_spec.specs.Collections.Sets.{Has, IsRising};
+ghost use Rattle.ltl_spec.specs.Transitions.Pairs as spec_pairs;
+ghost use Rattle.ltl_spec.specs.Transitions.RowTransitions as spec;
+ghost use Rattle.ltl_spec.proofs.Transitions.PartJoins.{join_of};
+ghost use Rattle.ltl_spec.proofs.Transitions.ProductTransitions.{transitions_of};
+ghost use Rattle.ltl_alt.specs.BasisView.{IsBasis};
+ghost use Rattle.ltl_alt.specs.FinalView.{HasFinals, IsFactorOf, IsFinal, IsListOf, IsLonger, IsWithin, list_of, made_of};
+ghost use Rattle.ltl_alt.specs.GroupView.{HasGroups};
+ghost use Rattle.ltl_alt.specs.PartView.{part_of};
+ghost use Rattle.ltl_alt.specs.TransitionView.{AllSets, table_at};
+
+use crate::basis::Basis;
+use crate::groups::{Groups, group_pairs};
+use crate::implied::unimplied;
+use crate::marks::marked;
+use crate::pair::Pair;
+use crate::transition::Transition;
+use crate::transition_list::TransitionList;
+use indexmap::IndexMap;
+use ltl_automaton::Distinct;
+use ltl_sets::RowSet;
+use std::alloc::{AllocError, Allocator};
+use std::hash::{BuildHasherDefault, FoldHasher};
+
+/// The transitions of groups, each list of which stands once.
+#[derive(Drop)]
+pub(crate) struct Finals<'a, A: Allocator> {
+    pub(crate) groups: Groups<'a, A>,
+    pub(crate) lists: Distinct<'a, TransitionList<'a, A>, A>,
+    /// For lists of pairs the numbers of their transitions.
+    pub(crate) of_lists: IndexMap<usize, usize, BuildHasherDefault<FoldHasher>, &'a A>,
+    /// For the groups that were met the numbers of their transitions, unless there was no room.
+    pub(crate) of_groups: IndexMap<RowSet, Option<usize>, BuildHasherDefault<FoldHasher>, &'a A>,
+}
+
+/// The transitions of a group: those with a number, or others.
+#[derive(Drop)]
+pub(crate) enum Factor<'a, A: Allocator> {
+    Known(usize),
+    Made(TransitionList<'a, A>),
+}
+
+/// The transitions of pairs.
+fn pair_transitions<'a, A: Allocator>(
+    basis: &Basis<'_, '_, '_, 'a, A>,
+    pairs: &[Pair],
+) -> Result<TransitionList<'a, A>, AllocError>
+    requires basis { IsBasis basis.now }
+    requires sets { AllSets (map (spec.with_marks (table_at basis.now.table.now)) pairs.now) }
+    requires rising { IsRising spec_pairs.pair_cmp pairs.now }
+    ensures { IfOk result (λ l. l ≡ transitions_of (table_at basis.now.table.now) basis.now.keep_implied pairs.now) }
+{
+    let all = marked(basis.alloc, basis.table, basis.pruning.own, pairs)?;
+    if basis.keep_implied {
+        return Ok(TransitionList { transitions: all });
+    }
+    let transitions = unimplied(basis.alloc, all)?;
+    Ok(TransitionList { transitions })
+}
+
+/// The transitions of a group, which are not remembered.
+fn made_transitions<'a, A: Allocator>(
+    basis: &Basis<'_, '_, '_, 'a, A>,
+    group: &RowSet,
+) -> Result<TransitionList<'a, A>, AllocError>
+    requires basis { IsBasis basis.now }
+    requires inside { (k : ℕ) → Has group.now k → k < length basis.now.parts.lists.items }
+    ensures { IfOk result (λ l. l ≡ transitions_of (table_at basis.now.table.now) basis.now.keep_implied (join_of (part_of basis.now.parts.lists.items) group.now)) }
+{
+    let pairs = group_pairs(basis, group)?;
+    pair_transitions(basis, pairs.as_slice())
+}
+
+impl<'a, A: Allocator> Finals<'a, A> {
+    /// No group was met yet.
+    pub(crate) fn new(alloc: &'a A, groups: Groups<'a, A>) -> Self
+        ensures groups { result.groups ≡ groups.entry }
+        ensures lists { result.of_lists.entries ≡ [] }
+        ensures met { result.of_groups.entries ≡ [] }
+    {
+        Finals {
+            groups,
+            lists: Distinct::new(alloc),
+            of_lists: IndexMap::new(alloc),
+            of_groups: IndexMap::new(alloc),
+        }
+    }
+
+    /// The transitions with that number.
+    fn transitions(&self, number: usize) -> &[Transition]
+        requires { number < length self.now.lists.keys }
+        ensures { result.now ≡ made_of self.now.lists.keys number }
+    {
+        self.lists.get(number).as_slice()
+    }
+
+    /// The transitions that a factor stands for.
+    pub(crate) fn of_factor<'f>(&'f self, factor: &'f Factor<'a, A>) -> &'f [Transition]
+        requires { IsWithin self.now.lists.keys factor.now }
+        ensures { result.now ≡ list_of self.now.lists.keys factor.now }
+    {
+        match factor {
+            Factor::Known(number) => self.transitions(*number),
+            Factor::Made(list) => list.as_slice(),
+        }
+    }
+
+    /// The number of the transitions of a list of pairs.
+    fn of_list(
+        &mut self,
+        basis: &Basis<'_, '_, '_, 'a, A>,
+        list: usize,
+    ) -> Result<usize, AllocError>
+        requires basis { IsBasis basis.now }
+        requires finals { HasFinals basis.now self.old }
+        requires within { list < length self.old.groups.memo.lists.keys }
+        requires sets { AllSets (map (spec.with_marks (table_at basis.now.table.now)) (part_of self.old.groups.memo.lists.keys list)) }
+        requires rising { IsRising spec_pairs.pair_cmp (part_of self.old.groups.memo.lists.keys list) }
+        ensures finals { OnOk result (HasFinals basis.now self.new) }
+        ensures number { IfOk result (λ n. IsListOf (table_at basis.now.table.now) basis.now.keep_implied self.old.groups.memo.lists.keys self.new.lists.keys list n) }
+        ensures longer { OnOk result (IsLonger self.old.lists.keys self.new.lists.keys) }
+    {
+        if let Some(number) = self.of_lists.get(&list).copied() {
+            return Ok(number);
+        }
+        let transitions = pair_transitions(basis, self.groups.memo.pairs(list))?;
+        let number = self.lists.number(transitions)?;
+        self.of_lists.insert(list, number)?;
+        Ok(number)
+    }
+
+    /// The number of the transitions of a group that wasn't met before, unless there is no room for its list.
+    fn new_number(
+        &mut self,
+        basis: &Basis<'_, '_, '_, 'a, A>,
+        group: &RowSet,
+    ) -> Result<Option<usize>, AllocError>
+        requires basis { IsBasis basis.now }
+        requires finals { HasFinals basis.now self.old }
+        requires inside { (k : ℕ) → Has group.now k → k < length basis.now.parts.lists.items }
+        ensures finals { OnOk result (HasFinals basis.now self.new) }
+        ensures number { IfOk result (λ o. IfSome o (IsFinal (table_at basis.now.table.now) basis.now.keep_implied basis.now.parts.lists.items self.new.lists.keys group.now)) }
+        ensures longer { OnOk result (IsLonger self.old.lists.keys self.new.lists.keys) }
+    {
+        let Some(list) = self.groups.list(basis, group)? else {
+            return Ok(None);
+        };
+        let number = self.of_list(basis, list)?;
+        Ok(Some(number))
+    }
+
+    /// The number of the transitions of a group, unless there is no room for its list.
+    fn number(
+        &mut self,
+        basis: &Basis<'_, '_, '_, 'a, A>,
+        group: &RowSet,
+    ) -> Result<Option<usize>, AllocError>
+        requires basis { IsBasis basis.now }
+        requires finals { HasFinals basis.now self.old }
+        requires inside { (k : ℕ) → Has group.now k → k < length basis.now.parts.lists.items }
+        ensures finals { OnOk result (HasFinals basis.now self.new) }
+        ensures number { IfOk result (λ o. IfSome o (IsFinal (table_at basis.now.table.now) basis.now.keep_implied basis.now.parts.lists.items self.new.lists.keys group.now)) }
+        ensures longer { OnOk result (IsLonger self.old.lists.keys self.new.lists.keys) }
+    {
+        if let Some(number) = self.of_groups.get(group).copied() {
+            return Ok(number);
+        }
+        let number = self.new_number(basis, group)?;
+        self.of_groups.insert(*group, number)?;
+        Ok(number)
+    }
+
+    /// The transitions of a group. If this isn't asked, none are made that aren't remembered.
+    pub(crate) fn factor(
+        &mut self,
+        basis: &Basis<'_, '_, '_, 'a, A>,
+        group: &RowSet,
+        is_asked: bool,
+    ) -> Result<Option<Factor<'a, A>>, AllocError>
+        requires basis { IsBasis basis.now }
+        requires finals { HasFinals basis.now self.old }
+        requires inside { (k : ℕ) → Has group.now k → k < length basis.now.parts.lists.items }
+        ensures finals { OnOk result (HasFinals basis.now self.new) }
+        ensures factor { IfOk result (λ o. IfSome o (IsFactorOf (table_at basis.now.table.now) basis.now.keep_implied basis.now.parts.lists.items self.new.lists.keys group.now)) }
+        ensures asked { is_asked ≡ true → IfOk result (λ o. IsSome o) }
+        ensures longer { OnOk result (IsLonger self.old.lists.keys self.new.lists.keys) }
+    {
+        if let Some(number) = self.number(basis, group)? {
+            return Ok(Some(Factor::Known(number)));
+        }
+        if !is_asked {
+            return Ok(None);
+        }
+        let transitions = made_transitions(basis, group)?;
+        Ok(Some(Factor::Made(transitions)))
+    }
+}

@@ -1,0 +1,109 @@
+//! Sets of rows that have the transitions of one that was asked for before.
+
+ghost use Rattle.std.specs.Prelude.{◌≡◌, ◌≤◌, List, [], Bool, length, IfOk, IfSome, OnOk};
+ghost use Rattle.ltl_spec.specs.Transitions.RowTransitions as spec;
+ghost use Rattle.ltl_alt.specs.BasisView.{IsBasis};
+ghost use Rattle.ltl_alt.specs.FinalView.{AreWithin, HasFinals};
+ghost use Rattle.ltl_alt.specs.KeyView.{AreKeys, AreNumbersOf, IsKeyOf, IsTwin};
+ghost use Rattle.ltl_alt.specs.TransitionView.{table_at};
+
+use crate::basis::Basis;
+use crate::finals::{Factor, Finals};
+use indexmap::IndexMap;
+use ltl_sets::RowSet;
+use std::alloc::{AllocError, Allocator};
+use std::hash::{BuildHasherDefault, FoldHasher};
+
+/// The sorted numbers of the transitions of the groups of a set of rows.
+type Key<'a, A> = Vec<usize, &'a A>;
+
+/// For each key that was met the first set of rows that has it.
+#[derive(Drop)]
+pub(crate) struct Keys<'a, A: Allocator> {
+    pub(crate) states: IndexMap<Key<'a, A>, RowSet, BuildHasherDefault<FoldHasher>, &'a A>,
+}
+
+/// The place of a number among sorted ones.
+fn place_in(numbers: &[usize], number: usize) -> usize
+    ensures { result ≤ length numbers.now }
+{
+    for k in 0..numbers.len() {
+        if number <= numbers[k] {
+            return k;
+        }
+    }
+    numbers.len()
+}
+
+/// The sorted numbers of factors, unless one has none.
+fn key<'a, A: Allocator>(
+    alloc: &'a A,
+    factors: &[Factor<'a, A>],
+) -> Result<Option<Key<'a, A>>, AllocError>
+    ensures { (lists : List (List spec.Transition)) → AreWithin lists factors.now → IfOk result (λ o. IfSome o (λ v. AreNumbersOf lists factors.now v.items)) }
+{
+    let mut key = Vec::with_capacity(alloc, factors.len())?;
+    let mut left = factors.len();
+    'factors: while left > 0 {
+        left -= 1;
+        let Factor::Known(number) = &factors[left] else {
+            return Ok(None);
+        };
+        let place = place_in(key.as_slice(), *number);
+        key.insert(place, *number)?;
+    }
+    Ok(Some(key))
+}
+
+impl<'a, A: Allocator> Keys<'a, A> {
+    /// None was met yet.
+    pub(crate) fn new(alloc: &'a A) -> Self
+        ensures { result.states.entries ≡ [] }
+    {
+        Keys {
+            states: IndexMap::new(alloc),
+        }
+    }
+
+    /// The first set of rows with this key, if there is one. Else it is this one.
+    fn first(&mut self, key: Key<'a, A>, state: &RowSet) -> Result<Option<RowSet>, AllocError>
+        ensures keys { (T : spec.Table) → (keep : Bool) → (lists : List (List spec.Transition)) → IsKeyOf T keep lists key.entry.items state.now
+            → AreKeys T keep lists self.old.states.entries → OnOk result (AreKeys T keep lists self.new.states.entries) }
+        ensures first { (T : spec.Table) → (keep : Bool) → (lists : List (List spec.Transition)) → AreKeys T keep lists self.old.states.entries
+            → IfOk result (λ o. IfSome o (IsKeyOf T keep lists key.entry.items)) }
+    {
+        if let Some(first) = self.states.get(&key).copied() {
+            return Ok(Some(first));
+        }
+        self.states.insert(key, *state)?;
+        Ok(None)
+    }
+
+    /// A set of rows that was asked for before and has the transitions of this one, if one is remembered. Else this one is, unless one of its groups is
+    /// too large.
+    pub(crate) fn twin(
+        &mut self,
+        basis: &Basis<'_, '_, '_, 'a, A>,
+        finals: &mut Finals<'a, A>,
+        state: &RowSet,
+    ) -> Result<Option<RowSet>, AllocError>
+        requires basis { IsBasis basis.now }
+        requires finals { HasFinals basis.now finals.old }
+        requires keys { AreKeys (table_at basis.now.table.now) basis.now.keep_implied finals.old.lists.keys self.old.states.entries }
+        ensures finals { OnOk result (HasFinals basis.now finals.new) }
+        ensures keys { OnOk result (AreKeys (table_at basis.now.table.now) basis.now.keep_implied finals.new.lists.keys self.new.states.entries) }
+        ensures twin { IfOk result (λ o. IfSome o (IsTwin (table_at basis.now.table.now) basis.now.keep_implied state.now)) }
+    {
+        let Some(all) = basis.parts.numbers(state) else {
+            return Ok(None);
+        };
+        state.invariant();
+        let Some(factors) = finals.factors(basis, &all, false)? else {
+            return Ok(None);
+        };
+        let Some(key) = key(basis.alloc, factors.as_slice())? else {
+            return Ok(None);
+        };
+        self.first(key, state)
+    }
+}
