@@ -4,12 +4,14 @@ use Rattle.std.specs.Prelude.{slice_get, slice_index_or, Some, filter}
 use Rattle.std.specs.Bool.{beq}
 use Rattle.std.specs.Ordering.{nat_cmp}
 use Rattle.ltl_spec.specs.Collections.Sets.{Has, has}
-use Rattle.ltl_spec.specs.Transitions.Cubes.{Literal}
+use Rattle.ltl_spec.specs.Transitions.Cubes.{Literal, Cube, literal_cmp}
 use Rattle.ltl_spec.specs.NormalForms.Normal.{Bottom}
 use Rattle.ltl_spec.specs.Transitions.Pairs.{RowSet, Pair}
 use Rattle.ltl_spec.specs.Transitions.RowTransitions.{Table, place}
 use Rattle.ltl_spec.proofs.Collections.SetLaws.{has_Decides}
-use Rattle.ltl_spec.proofs.Collections.Orders.{nat_linear}
+use Rattle.ltl_spec.proofs.Collections.Orders.{nat_linear, literal_linear}
+use Rattle.ltl_spec.proofs.Transitions.LeastPairs.{same_truth}
+use Rattle.ltl_spec.proofs.Transitions.ApartTests.{of_sign, Has-names, names_cases, names_of_sign}
 use Rattle.ltl_spec.proofs.Transitions.ApartTests.{Asked, names_in, asked_by, together, Covers, covers_one, covers_append, covers_more, within_together_left, within_together_right, awaits_at}
 use Rattle.ltl_sets.specs.Words.{letter_of, forbidden_of}
 use Rattle.ltl_formula.specs.TableView.{TableView, IsTable, row_tree}
@@ -44,6 +46,22 @@ asked_by_is p ps ns ts d e f =
     let positive = d ∙ letter_names p.cube in
     let negative = e ∙ forbidden_names p.cube in
     λ i. record { positive = positive i; negative = negative i; targets = f i }
+
+-- a pair asks for a literal where its proposition is among those of its sign
+pub reads_is : (p : Pair) (l : Literal) → has nat_cmp l.proposition (of_sign l.positive (asked_by p)) ≡ has literal_cmp l p.cube
+reads_is p l = same_truth (has nat_cmp l.proposition (of_sign l.positive (asked_by p))) (has literal_cmp l p.cube)
+    (λ e. (has_Decides literal_linear l p.cube).1 (back l.positive ((has_Decides nat_linear l.proposition (of_sign l.positive (asked_by p))).0 e)))
+    (λ e. (has_Decides nat_linear l.proposition (of_sign l.positive (asked_by p))).1 (names_of_sign p l.positive l.proposition (Has-names p.cube l ((has_Decides literal_linear l p.cube).0 e))))
+  where
+    back : (s : Bool) → Has (of_sign s (asked_by p)) l.proposition → Has p.cube (record { proposition = l.proposition; positive = s })
+    back true h = names_cases true p.cube l.proposition h
+    back false h = names_cases false p.cube l.proposition h
+
+pub reads_positive : (c : Cube) (n : ℕ) → has nat_cmp n (letter_of c) ≡ has literal_cmp (record { proposition = n; positive = true }) c
+reads_positive c n = ap (has nat_cmp n) (letter_names c) ∙ reads_is (record { cube = c; targets = [] }) (record { proposition = n; positive = true })
+
+pub reads_negative : (c : Cube) (n : ℕ) → has nat_cmp n (forbidden_of c) ≡ has literal_cmp (record { proposition = n; positive = false }) c
+reads_negative c n = ap (has nat_cmp n) (forbidden_names c) ∙ reads_is (record { cube = c; targets = [] }) (record { proposition = n; positive = false })
 
 -- ---- lists
 

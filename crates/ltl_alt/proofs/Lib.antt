@@ -1,6 +1,7 @@
 pub mod AskedLaws
 pub mod ElementaryLaws
 pub mod FinalLaws
+pub mod FulfilLaws
 pub mod GbaLaws
 pub mod GroupLaws
 pub mod ImpliedLaws
@@ -18,7 +19,9 @@ pub mod RepeatLaws
 pub mod RowLaws
 pub mod RowListLaws
 pub mod ProductLaws
+pub mod ProgramLaws
 pub mod PruneLaws
 pub mod StandInLaws
+pub mod TestLaws
 pub mod TransitionLaws
 pub mod TreeLaws

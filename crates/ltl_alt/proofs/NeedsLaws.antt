@@ -8,7 +8,7 @@ use Rattle.ltl_formula.specs.TableView.{TableView}
 use Rattle.ltl_formula.specs.declared.row.Row.{Row}
 use Rattle.ltl_formula.specs.declared.row.Row.TheVariants as row
 use Rattle.ltl_alt.specs.declared.needs.Need.{Need}
-use Rattle.ltl_alt.specs.NeedsView.{join_needs, need_at, asked_one, asked_both, asked_of, IsWithin, IsAsked, AskedFrom}
+use Rattle.ltl_alt.specs.NeedsView.{join_needs, need_at, asked_one, asked_both, asked_of, asked_second, IsWithin, IsAsked, AskedFrom, IsSecondNeeded}
 
 pub same_or_other : (i j : ℕ) → (i ≡ j) ⊎ (i ≢ j)
 same_or_other i j = at (i == j) refl
@@ -31,10 +31,10 @@ or_right : (a b : Bool) → b ≡ true → (a || b) ≡ true
 or_right true b e = refl
 or_right false b e = e
 
-within_refl : (n : Need) → IsWithin n n
+pub within_refl : (n : Need) → IsWithin n n
 within_refl n = record { pairs = λ e. e; sets = λ e. e }
 
-within_trans : (l m n : Need) → IsWithin l m → IsWithin m n → IsWithin l n
+pub within_trans : (l m n : Need) → IsWithin l m → IsWithin m n → IsWithin l n
 within_trans l m n a b = record { pairs = λ e. b.pairs (a.pairs e); sets = λ e. b.sets (a.sets e) }
 
 joined_left : (m n : Need) → IsWithin m (join_needs m n)
@@ -52,10 +52,10 @@ one_here ns i n l = get_or-set_same ns i (join_needs (need_at ns i) n) none l
 one_other : (ns : List Need) (i k : ℕ) (n : Need) → k ≢ i → need_at (asked_one ns i n) k ≡ need_at ns k
 one_other ns i k n d = get_or-set_other ns i k (join_needs (need_at ns i) n) none d
 
-one_length : (ns : List Need) (i : ℕ) (n : Need) → length (asked_one ns i n) ≡ length ns
+pub one_length : (ns : List Need) (i : ℕ) (n : Need) → length (asked_one ns i n) ≡ length ns
 one_length ns i n = length-set _ _ _
 
-one_more : (ns : List Need) (i k : ℕ) (n : Need) → i < length ns → IsWithin (need_at ns k) (need_at (asked_one ns i n) k)
+pub one_more : (ns : List Need) (i k : ℕ) (n : Need) → i < length ns → IsWithin (need_at ns k) (need_at (asked_one ns i n) k)
 one_more ns i k n l = elim (same_or_other k i) [
   | inl e ↦ subst (λ j. IsWithin (need_at ns j) (need_at (asked_one ns i n) j)) (sym e) (subst (IsWithin (need_at ns i)) (sym (one_here ns i n l)) (joined_left (need_at ns i) n))
   | inr d ↦ subst (IsWithin (need_at ns k)) (sym (one_other ns i k n d)) (within_refl (need_at ns k))
@@ -165,3 +165,69 @@ pub same_default : {K : Type 0} (xs : List K) (i : ℕ) (d e : K) → i < length
 same_default [] i d e l = absurd (omega arith)
 same_default (x ∷ xs) zero d e l = refl
 same_default (x ∷ xs) (suc i) d e l = same_default xs i d e (omega arith)
+
+-- the second operand of an until row
+pub second_length : (ns : List Need) (r : Row) → length (asked_second ns r) ≡ length ns
+second_length ns row.True = refl
+second_length ns row.False = refl
+second_length ns (row.Literal l) = refl
+second_length ns (row.Next i) = refl
+second_length ns (row.And i j) = refl
+second_length ns (row.Or i j) = refl
+second_length ns (row.Until i j) = one_length ns j (record { pairs = true; sets = false })
+second_length ns (row.Release i j) = refl
+
+second_more : (ns : List Need) (r : Row) → IsBelow (length ns) r → (k : ℕ) → IsWithin (need_at ns k) (need_at (asked_second ns r) k)
+second_more ns row.True b k = within_refl (need_at ns k)
+second_more ns row.False b k = within_refl (need_at ns k)
+second_more ns (row.Literal l) b k = within_refl (need_at ns k)
+second_more ns (row.Next i) b k = within_refl (need_at ns k)
+second_more ns (row.And i j) b k = within_refl (need_at ns k)
+second_more ns (row.Or i j) b k = within_refl (need_at ns k)
+second_more ns (row.Until i j) b k = one_more ns j k (record { pairs = true; sets = false }) b.1
+second_more ns (row.Release i j) b k = within_refl (need_at ns k)
+
+second_needed : (ns : List Need) (r : Row) → IsBelow (length ns) r → IsSecondNeeded (asked_second ns r) r
+second_needed ns row.True b = tt
+second_needed ns row.False b = tt
+second_needed ns (row.Literal l) b = tt
+second_needed ns (row.Next i) b = tt
+second_needed ns (row.And i j) b = tt
+second_needed ns (row.Or i j) b = tt
+second_needed ns (row.Until i j) b = (one_asked ns j (record { pairs = true; sets = false }) b.1).pairs refl
+second_needed ns (row.Release i j) b = tt
+
+-- it is still needed
+pub second_still : (ms ns : List Need) (r : Row) → ((k : ℕ) → IsWithin (need_at ms k) (need_at ns k)) → IsSecondNeeded ms r → IsSecondNeeded ns r
+second_still ms ns row.True w h = tt
+second_still ms ns row.False w h = tt
+second_still ms ns (row.Literal l) w h = tt
+second_still ms ns (row.Next i) w h = tt
+second_still ms ns (row.And i j) w h = tt
+second_still ms ns (row.Or i j) w h = tt
+second_still ms ns (row.Until i j) w h = (w j).pairs h
+second_still ms ns (row.Release i j) w h = tt
+
+-- those of the first until rows
+abbrev pub AreSecondsBelow : TableView → ℕ → List Need → Type 0
+AreSecondsBelow t n ns = (i k : ℕ) (r : Row) → i < n → slice_get t.untils i ≡ Some k → slice_get t.rows k ≡ Some r → IsSecondNeeded ns r
+
+pub second_step : (t : TableView) (n k : ℕ) (r : Row) (ns : List Need) → slice_get t.untils n ≡ Some k → slice_get t.rows k ≡ Some r → IsBelow (length ns) r → AreSecondsBelow t n ns → AreSecondsBelow t (n + 1) (asked_second ns r)
+second_step t n k r ns e f b all i j s l g h = elim (same_or_other i n) [
+  | inl d ↦
+      let c : j ≡ k = cc (ap (slice_get t.untils) d) in
+      let same : r ≡ s = same_row t.rows k r s f (sym (ap (slice_get t.rows) c) ∙ h) in
+      subst (λ x. IsSecondNeeded (asked_second ns r) x) same (second_needed ns r b)
+  | inr d ↦ let before : i < n = omega arith in second_still ns (asked_second ns r) s (second_more ns r b) (all i j s before g h)
+]
+
+-- operands of a row are rows
+pub below_more : (m n : ℕ) (r : Row) → m ≤ n → IsBelow m r → IsBelow n r
+below_more m n row.True l b = tt
+below_more m n row.False l b = tt
+below_more m n (row.Literal x) l b = tt
+below_more m n (row.Next i) l b = omega arith
+below_more m n (row.And i j) l b = let p = b.0 in let q = b.1 in (omega arith, omega arith)
+below_more m n (row.Or i j) l b = let p = b.0 in let q = b.1 in (omega arith, omega arith)
+below_more m n (row.Until i j) l b = let p = b.0 in let q = b.1 in (omega arith, omega arith)
+below_more m n (row.Release i j) l b = let p = b.0 in let q = b.1 in (omega arith, omega arith)

@@ -30,6 +30,8 @@ use Rattle.ltl_spec.proofs.Transitions.SameJoins.{AreSound}
 use Rattle.ltl_spec.proofs.Transitions.UnimpliedLaws.{marks_too_linear}
 use Rattle.ltl_alt.specs.declared.asked.Demand.{Demand}
 use Rattle.ltl_alt.specs.BasisView.{IsBasisOf}
+use Rattle.ltl_alt.specs.declared.fulfilment.UntilTest.{UntilTest}
+use Rattle.ltl_alt.specs.declared.program.Step.{Step}
 use Rattle.ltl_alt.specs.FinalView.{AreLists}
 use Rattle.ltl_alt.specs.PartView.{part_of, demand_of, links_of, numbers_of, numbers_in, AreLinked, HasEach, HasNoPart, IsGroup}
 use Rattle.ltl_alt.specs.TransitionView.{table_at}
@@ -195,7 +197,7 @@ listed_for T false ps qs k = record { from = k.from; covers = k.covers }
 -- ---- a set of rows, its parts, and the transitions of their groups
 
 module _ (t : TableView) (keep : Bool) (r : Rule) (own : List (List Pair)) (made owners : List ℕ) (parts : List (List Pair)) (demands : List Demand) (links : List RowSet)
-    (b : IsBasisOf t keep r own made owners parts demands links) (state all : RowSet) (rising : IsRising nat_cmp state) (there : HasEach made state) (e : all ≡ numbers_in owners state) (tss : List (List Transition))
+    {steps : List Step} {untils : List UntilTest} (b : IsBasisOf t keep r own made owners parts demands links steps untils) (state all : RowSet) (rising : IsRising nat_cmp state) (there : HasEach made state) (e : all ≡ numbers_in owners state) (tss : List (List Transition))
     (a : AreLists (table_at t) keep own parts all tss []) where
   enough_own : (f : Normal) → Has (table_at t).untils f → IsEnough (own_pairs (table_at t) f) (own_at (table_at t) own f)
   enough_own = enough_at (table_at t) own b.own_pairs.enough

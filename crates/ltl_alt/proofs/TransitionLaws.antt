@@ -12,12 +12,10 @@ use Rattle.ltl_spec.specs.Collections.Sets.{Has, has, put, by_order}
 use Rattle.ltl_spec.specs.Collections.Lists.{places_where, places_from}
 use Rattle.ltl_spec.specs.NormalForms.Normal.{Normal, Bottom}
 use Rattle.ltl_spec.specs.Transitions.Pairs.{Pair}
-use Rattle.ltl_spec.proofs.Transitions.LeastPairs.{marked_by_enough}
 use Rattle.ltl_spec.specs.Transitions.Pruning.{is_within}
 use Rattle.ltl_formula.specs.TableView.{TableView, IsTable, row_tree}
 use Rattle.ltl_alt.specs.RowLists.{row_place}
-use Rattle.ltl_alt.specs.StandIns.{AreOwn}
-use Rattle.ltl_alt.specs.TransitionView.{table_at, is_marked_at}
+use Rattle.ltl_alt.specs.TransitionView.{table_at}
 use Rattle.ltl_alt.proofs.PlaceLaws.{untils_is}
 
 -- ---- marks
@@ -43,18 +41,6 @@ pub index_same : {K : Type 0} (xs : List K) (k : ℕ) (x y : K) → k < length x
 index_same [] k x y l = absurd (omega arith)
 index_same (z ∷ xs) zero x y l = refl
 index_same (z ∷ xs) (suc k) x y l = index_same xs k x y (omega arith)
-
--- the own pairs that are enough tell the mark
-pub marked_by_own : (t : TableView) (own : List (List Pair)) (p : Pair) (i k at : ℕ) (ms : List Pair) → AreOwn (table_at t) own → i < length own → ms ≡ slice_index_or own i ms → IsTable t → slice_get t.untils i ≡ Some k → at ≡ row_place t (row_tree t k)
-    → (not (has nat_cmp at p.targets) || list_any (λ m. is_within m p) ms) ≡ is_marked_at t p i
-marked_by_own t own p i k at ms fit l found w e d =
-    let f = until_tree t i k w e in
-    let F = slice_index_or (table_at t).untils i Bottom in
-    let inside : i < length (table_at t).untils = omega (arith, fit.count) in
-    let list : slice_index_or own i [] ≡ ms = index_same own i [] ms l ∙ sym found in
-    ap (λ j. not (has nat_cmp j p.targets) || list_any (λ m. is_within m p) ms) (d ∙ ap (row_place t) (sym f))
-    ∙ ap (λ xs. not (has nat_cmp (row_place t F) p.targets) || list_any (λ m. is_within m p) xs) (sym list)
-    ∙ sym (marked_by_enough (table_at t) F (slice_index_or own i []) (fit.enough i inside) p)
 
 -- one number more
 pub places_push : {K : Type 0} (p : K → Bool) (n : ℕ) (xs : List K) (x : K) → places_from p n (xs ++ x ∷ []) ≡ places_from p n xs ++ cond (p x) ((n + length xs) ∷ []) []

@@ -14,5 +14,7 @@ pub mod ProductView
 pub mod ReachView
 pub mod RowLists
 pub mod StandIns
+pub mod Steps
 pub mod TransitionHash
+pub mod Tests
 pub mod TransitionView

@@ -53,3 +53,25 @@ AskedFrom t low ns = (k : ℕ) (r : Row) → low ≤ k → k < length ns → sli
 
 abbrev pub AllAsked : TableView → List Need → Type 0
 AllAsked t ns = AskedFrom t 0 ns
+
+-- the pairs of the second operand of an until row are needed besides
+abbrev pub asked_second : List Need → Row → List Need
+asked_second ns row.True = ns
+asked_second ns row.False = ns
+asked_second ns (row.Literal l) = ns
+asked_second ns (row.Next i) = ns
+asked_second ns (row.And i j) = ns
+asked_second ns (row.Or i j) = ns
+asked_second ns (row.Until i j) = asked_one ns j (record { pairs = true; sets = false })
+asked_second ns (row.Release i j) = ns
+
+-- they are
+abbrev pub IsSecondNeeded : List Need → Row → Type 0
+IsSecondNeeded ns row.True = Unit {0}
+IsSecondNeeded ns row.False = Unit {0}
+IsSecondNeeded ns (row.Literal l) = Unit {0}
+IsSecondNeeded ns (row.Next i) = Unit {0}
+IsSecondNeeded ns (row.And i j) = Unit {0}
+IsSecondNeeded ns (row.Or i j) = Unit {0}
+IsSecondNeeded ns (row.Until i j) = (need_at ns j).pairs ≡ true
+IsSecondNeeded ns (row.Release i j) = Unit {0}

@@ -1,20 +1,14 @@
 -- Steps towards the transitions of a set of rows.
-use Rattle.std.specs.Prelude.{ℕ, ◌+◌, ◌≤◌, Bool, not, ◌&&◌, nat_lt, List, length, slice_index_or}
+use Rattle.std.specs.Prelude.{ℕ, ◌+◌, ◌≤◌, Bool, not, ◌&&◌, nat_lt, List, length}
 use Rattle.std.specs.List.{list_any}
 use Rattle.std.specs.Ordering.{is_ne}
 use Rattle.ltl_spec.specs.Collections.Sets.{Has}
-use Rattle.ltl_spec.specs.NormalForms.Normal.{Bottom}
-use Rattle.ltl_spec.specs.Transitions.Pairs.{Pair}
-use Rattle.ltl_spec.specs.Transitions.RowTransitions.{Table, table_of, is_marked, Transition, HasSets, implies, transition_cmp}
+use Rattle.ltl_spec.specs.Transitions.RowTransitions.{Table, table_of, Transition, HasSets, implies, transition_cmp}
 use Rattle.ltl_formula.specs.TableView.{TableView, core_of}
 
 -- the elementary rows and the until rows of a table's formula
 abbrev pub table_at : TableView → Table
 table_at t = table_of (core_of t)
-
--- the transition doesn't put the until row of that number off
-abbrev pub is_marked_at : TableView → Pair → ℕ → Bool
-is_marked_at t p i = is_marked (table_at t) p (slice_index_or (table_at t).untils i Bottom)
 
 -- the literals and the targets of each are sets
 abbrev pub AllSets : List Transition → Type 0

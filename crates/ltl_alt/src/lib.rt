@@ -11,7 +11,8 @@
 //! is made before the first set of rows, and never changes (`basis`).
 //! The parts of a set of rows fall into groups that are closed under links. The parts of a group are joined (`lists`, `repeats`), where pairs that stay
 //! implied whatever comes are dropped on the way (`prune`, `rule`, `near`); each join is made once (`memo`, `groups`). What is kept gets its marks
-//! (`marks`), implied transitions go (`implied`), and what is left is the group's (`finals`).
+//! (`marks`), by steps of tests that tell which until rows a pair fulfils (`program`, `fulfilment`); implied transitions go (`implied`), and what is left
+//! is the group's (`finals`).
 //! The transitions of the set are the products, one transition of each group at once; they are counted before they are made, then made and sorted
 //! (`factors`, `product`). A set that has the transitions of an earlier one, which is seen by the numbers of its groups' transitions, isn't asked for
 //! its own (`keys`). The sets that are targets are numbered as they are met (`reach`): a `Gba`,
@@ -33,6 +34,7 @@ mod asked;
 mod basis;
 mod factors;
 mod finals;
+mod fulfilment;
 mod groups;
 mod implied;
 mod keys;
@@ -49,6 +51,7 @@ mod parts;
 mod pieces;
 mod place;
 mod product;
+mod program;
 mod prune;
 mod reach;
 mod repeats;

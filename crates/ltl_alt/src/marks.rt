@@ -1,92 +1,45 @@
 //! The until rows that pairs don't put off.
 
-ghost use Rattle.std.specs.Prelude.{◌≡◌, ◌<◌, ◌||◌, not, length, map, IfOk};
+ghost use Rattle.std.specs.Prelude.{◌≡◌, ◌||◌, false, not, map, slice_index_or, IfOk};
 ghost use Rattle.std.specs.Ordering.{nat_cmp};
 ghost use Rattle.ltl_spec.specs.Collections.Sets.{has};
-ghost use Rattle.std.specs.List.{list_any};
 ghost use Rattle.ltl_spec.specs.Transitions.RowTransitions as spec;
-ghost use Rattle.ltl_spec.specs.Transitions.Pruning.{is_within};
-ghost use Rattle.ltl_formula.specs.TableView.{row_tree};
-ghost use Rattle.ltl_alt.specs.RowLists.{row_place};
-ghost use Rattle.ltl_alt.specs.StandIns.{AreOwn};
-ghost use Rattle.ltl_alt.specs.TransitionView.{table_at, is_marked_at};
+ghost use Rattle.ltl_spec.proofs.Transitions.Fulfilment.{passes};
+ghost use Rattle.ltl_spec.proofs.Transitions.Steps.{tests_of};
+ghost use Rattle.ltl_alt.specs.Tests.{AreTests, steps_of};
+ghost use Rattle.ltl_alt.specs.TransitionView.{table_at};
 
+use crate::fulfilment::{Fulfilment, UntilTest, answer_at};
 use crate::pair::Pair;
-use crate::pair_set::PairSet;
-use crate::place::{place, put_if, until_count, until_row};
+use crate::place::put_if;
 use crate::transition::Transition;
 use ltl_formula::Table;
 use ltl_sets::RowSet;
-use smallvec::SmallVec;
 use std::alloc::{AllocError, Allocator};
 
-/// Whether one of the pairs asks for no more than this one.
-fn has_within(pairs: &[Pair], pair: &Pair) -> bool
-    ensures { result ≡ list_any (λ m. is_within m pair.now) pairs.now }
-{
-    pairs.iter().any(|other| other.is_within(pair))
-}
-
-/// Whether the pair does not put off the until row at a place, which these pairs fulfil.
+/// Whether the pair does not put off an until row, by the answers of all steps.
 #[inline(always)]
-fn is_kept_up(place: usize, own: &[Pair], pair: &Pair) -> bool
-    ensures { result ≡ (not (has nat_cmp place pair.now.targets) || list_any (λ m. is_within m pair.now) own.now) }
+fn is_kept_up(until: &UntilTest, pair: &Pair, answers: &[bool]) -> bool
+    ensures { result ≡ (not (has nat_cmp until.now.place pair.now.targets) || slice_index_or answers.now until.now.step false) }
 {
-    !pair.targets.holds(place) || has_within(own, pair)
+    !pair.targets.holds(until.place) || answer_at(answers, until.step)
 }
 
-/// The places of the until rows. Most formulas have few.
-type Places<'a, A> = SmallVec<usize, 16, &'a A>;
-
-/// The places of the until rows in their order.
-fn until_places<'a, A: Allocator>(
-    alloc: &'a A,
-    table: &Table<'_, A>,
-) -> Result<Places<'a, A>, AllocError>
-    ensures { IfOk result (λ v. v.items ≡ map (λ k. row_place table.now (row_tree table.now k)) table.now.untils) }
-{
-    table.invariant();
-    let mut places: Places<'a, A> = SmallVec::new(alloc);
-    'untils: for number in 0..until_count(table) {
-        places.push(place(table, until_row(table, number)))?;
-    }
-    Ok(places)
-}
-
-/// Whether the pair does not put the until row of that number off.
-#[inline(always)]
-fn is_marked<A: Allocator>(
-    table: &Table<'_, A>,
-    places: &[usize],
-    own: &[PairSet<'_, A>],
-    pair: &Pair,
-    number: usize,
-) -> bool
-    requires places { places.now ≡ map (λ k. row_place table.now (row_tree table.now k)) table.now.untils }
-    requires own { AreOwn (table_at table.now) own.now }
-    requires listed { number < length own.now }
-    requires within { number < length table.now.untils }
-    ensures { result ≡ is_marked_at table.now pair.now number }
-{
-    table.invariant();
-    is_kept_up(places[number], own[number].as_slice(), pair)
-}
-
-/// The places of the until rows that the pair does not put off.
+/// The places of the until rows that the pair does not put off, by the answers of all steps.
 fn marks<A: Allocator>(
     table: &Table<'_, A>,
-    places: &[usize],
-    own: &[PairSet<'_, A>],
+    fulfilment: &Fulfilment<'_, A>,
     pair: &Pair,
+    answers: &[bool],
 ) -> RowSet
-    requires places { places.now ≡ map (λ k. row_place table.now (row_tree table.now k)) table.now.untils }
-    requires own { AreOwn (table_at table.now) own.now }
+    requires tests { AreTests (table_at table.now) fulfilment.now }
+    requires answers { answers.now ≡ map (passes pair.now) (tests_of (steps_of fulfilment.now.steps.items)) }
     ensures { result ≡ (spec.with_marks (table_at table.now) pair.now).marks }
 {
-    table.invariant();
+    pair.cube.invariant();
     let mut marks = RowSet::empty();
-    'untils: for number in 0..until_count(table) {
-        let is_mark = is_marked(table, places, own, pair, number);
+    'untils: for number in 0..fulfilment.untils.len() {
+        let is_mark = is_kept_up(&fulfilment.until(number), pair, answers);
         put_if(&mut marks, number, is_mark);
     }
     marks
@@ -96,19 +49,20 @@ fn marks<A: Allocator>(
 pub(crate) fn marked<'a, A: Allocator>(
     alloc: &'a A,
     table: &Table<'_, A>,
-    own: &[PairSet<'_, A>],
+    fulfilment: &Fulfilment<'a, A>,
     pairs: &[Pair],
 ) -> Result<Vec<Transition, &'a A>, AllocError>
-    requires { AreOwn (table_at table.now) own.now }
+    requires { AreTests (table_at table.now) fulfilment.now }
     ensures { IfOk result (λ v. v.items ≡ map (spec.with_marks (table_at table.now)) pairs.now) }
 {
-    let places = until_places(alloc, table)?;
+    let mut answers = Vec::new(alloc);
     let mut all = Vec::with_capacity(alloc, pairs.len())?;
     'pairs: for pair in pairs {
+        fulfilment.put_answers(pair, &mut answers)?;
         all.push(Transition {
             cube: pair.cube,
             targets: pair.targets,
-            marks: marks(table, places.as_slice(), own, pair),
+            marks: marks(table, fulfilment, pair, answers.as_slice()),
         })?;
     }
     Ok(all)

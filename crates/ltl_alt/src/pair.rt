@@ -2,6 +2,8 @@
 
 ghost use Rattle.std.specs.Prelude.{◌≡◌, ◌<◌, [], ◌∷◌, true};
 ghost use Rattle.ltl_sets.specs.Literals.{literal_of};
+ghost use Rattle.ltl_spec.specs.Collections.Sets.{has};
+ghost use Rattle.ltl_spec.specs.Transitions.Cubes.{literal_cmp};
 ghost use Rattle.ltl_spec.specs.Transitions.Pairs.{pair_cmp, join_pair, empty_pair};
 ghost use Rattle.ltl_spec.specs.Transitions.Pruning.{is_within};
 ghost use Rattle.ltl_alt.specs.StandIns.{common_pair};
@@ -73,6 +75,18 @@ impl Pair {
             cube,
             targets: self.targets.union(&other.targets),
         })
+    }
+
+    /// Whether it asks for the literal.
+    #[inline(always)]
+    pub(crate) fn reads(&self, literal: Literal) -> bool
+        ensures { result ≡ has literal_cmp (literal_of literal) self.now.cube }
+    {
+        if literal.positive {
+            self.cube.letter().holds(literal.proposition)
+        } else {
+            self.cube.forbidden().holds(literal.proposition)
+        }
     }
 
     /// What both ask for.

@@ -12,6 +12,7 @@ ghost use Rattle.ltl_alt.specs.TransitionView.{table_at};
 
 use crate::basis::Basis;
 use crate::finals::Finals;
+use crate::fulfilment::Fulfilment;
 use crate::groups::Groups;
 use crate::keys::Keys;
 use crate::own::all_own;
@@ -92,6 +93,7 @@ pub(crate) fn reach<'a, A: Allocator>(
 {
     table.invariant();
     let own = all_own(alloc, table)?;
+    let fulfilment = Fulfilment::of(alloc, table)?;
     let pruning = Pruning {
         rule: Rule::of(keep_implied),
         own: own.as_slice(),
@@ -103,6 +105,7 @@ pub(crate) fn reach<'a, A: Allocator>(
             alloc,
             table,
             pruning,
+            fulfilment: &fulfilment,
             parts,
             keep_implied,
         },

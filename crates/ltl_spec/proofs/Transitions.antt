@@ -20,3 +20,13 @@ pub mod PartSets
 pub mod ApartTests
 pub mod LinkLaws
 pub mod FactoredTransitions
+pub mod Fulfilment
+pub mod Steps
+pub mod FulfilmentLaws
+pub mod CodeLaws
+pub mod SafeAmongLaws
+pub mod KeptAmongLaws
+pub mod StepLaws
+pub mod AskedSteps
+pub mod SpokenLaws
+pub mod AskedTests

@@ -33,6 +33,10 @@ pub consistent_empty : AllConsistent (empty_pair ∷ [])
 consistent_empty r (inl e) = subst IsConsistent (sym e) refl
 consistent_empty r (inr x) = absurd x
 
+-- with nothing more a pair asks for no more
+pub united_alone : (p : Pair) → Within (united p empty_pair) p
+united_alone p = united_least p empty_pair p (within_refl p) (record { cube = λ l k. absurd k; targets = λ i k. absurd k })
+
 module _ (table : Table) where
   -- what was kept
 
@@ -73,14 +77,12 @@ module _ (table : Table) where
   -- a consistent pair that is safe to drop has its marks with the other one too
   pub safe_marked : (t u : Pair) → IsConsistent t → IsSafeToDrop table t u → (f : Normal) → Has table.untils f → is_marked table t f ≡ true → is_marked table u f ≡ true
   safe_marked t u c s f h m =
-      marked_alike table (united u empty_pair) u f (alone u) (within_left u empty_pair)
-      (safe_keeps table t u s empty_pair (consistent_within (united t empty_pair) t (alone t) c) f h (marked_alike table t (united t empty_pair) f (within_left t empty_pair) (alone t) m))
-    where
-      alone : (p : Pair) → Within (united p empty_pair) p
-      alone p = united_least p empty_pair p (within_refl p) (record { cube = λ l k. absurd k; targets = λ i k. absurd k })
+      marked_alike table (united u empty_pair) u f (united_alone u) (within_left u empty_pair)
+      (safe_keeps table t u s empty_pair (consistent_within (united t empty_pair) t (united_alone t) c) f h
+      (marked_alike table t (united t empty_pair) f (within_left t empty_pair) (united_alone t) m))
 
   -- a pair within t that has its marks too has a transition that implies that of t
-  marked_implies : (t u : Pair) → Within u t → ((f : Normal) → Has table.untils f → is_marked table t f ≡ true → is_marked table u f ≡ true) → Implies (with_marks table u) (with_marks table t)
+  pub marked_implies : (t u : Pair) → Within u t → ((f : Normal) → Has table.untils f → is_marked table t f ≡ true → is_marked table u f ≡ true) → Implies (with_marks table u) (with_marks table t)
   marked_implies t u w marked = record {
     cube = w.cube;
     targets = w.targets;

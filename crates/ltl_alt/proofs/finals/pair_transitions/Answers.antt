@@ -7,7 +7,7 @@ use Rattle.ltl_alt.specs.TransitionView.{AllSets, table_at}
 use Rattle.ltl_alt.proofs.finals.pair_transitions.Goals as goal
 
 pub marked-requires : goal.marked-requires
-marked-requires g c = c.requires.basis.own_pairs
+marked-requires g c = c.requires.basis.tests
 
 pub returns-then-basis : goal.returns-then-basis
 returns-then-basis g c =

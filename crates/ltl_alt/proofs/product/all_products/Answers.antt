@@ -11,7 +11,7 @@ use Rattle.ltl_alt.proofs.ProductLaws.{mapped_at, products_step}
 use Rattle.ltl_alt.proofs.product.all_products.Goals as goal
 
 pub marked-requires : goal.marked-requires
-marked-requires g c = c.requires.basis.own_pairs
+marked-requires g c = c.requires.basis.tests
 
 pub of_factor-list-requires : goal.of_factor-list-requires
 of_factor-list-requires g c =

@@ -38,13 +38,14 @@ explore_from-requires-clause-ready g c =
     let parts = c.in_ok-parts.parts.lists.items in (
       record {
         table = c.invariant.ensures;
-        rule = c.of.ensures;
+        rule = c.of-2.ensures;
         own_pairs = subst (AreOwn T) (sym c.as_slice.ensures.value) c.in_ok-own.ensures;
+        tests = c.in_ok-fulfilment.ensures;
         parts = c.in_ok-parts.ensures.parts.0;
         all = c.in_ok-parts.ensures.parts.1;
       },
       (
-        groups_in T c.of.result parts c.new-2.result.groups c.in_ok-groups.groups c.new-2.ensures.groups (c.in_ok-groups.ensures T c.of.result),
+        groups_in T c.of-2.result parts c.new-2.result.groups c.in_ok-groups.groups c.new-2.ensures.groups (c.in_ok-groups.ensures T c.of-2.result),
         record {
           of_lists = λ k n h. absurd (subst (λ es. Has es (k, n)) c.new-2.ensures.lists h);
           of_groups = λ k o h. absurd (subst (λ es. Has es (k, o)) c.new-2.ensures.met h);

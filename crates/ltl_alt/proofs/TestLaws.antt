@@ -1,0 +1,47 @@
+-- The tests of until rows of a table.
+use Rattle.std.proofs.Common.{◌≡◌, ℕ, zero, suc, ◌+◌, ◌<◌, ◌⊎◌, inl, inr, List, [], ◌∷◌, ◌++◌, length, refl, sym, ◌∙◌, ap, subst, arith, Some}
+use Rattle.std.specs.Prelude.{slice_get, slice_index_or}
+use Rattle.std.proofs.lemmas.List.{length-append}
+use Rattle.ltl_spec.specs.NormalForms.Normal.{Bottom}
+use Rattle.ltl_spec.specs.Transitions.RowTransitions.{Table}
+use Rattle.ltl_formula.specs.TableView.{TableView, IsTable, core_of}
+use Rattle.ltl_alt.specs.Steps.{AreUntilSteps}
+use Rattle.ltl_alt.specs.Tests.{AreTestsOf, IsUntilTest}
+use Rattle.ltl_alt.specs.TransitionView.{table_at}
+use Rattle.ltl_alt.specs.declared.fulfilment.UntilTest.{UntilTest}
+use Rattle.ltl_alt.specs.declared.program.RowSteps.{RowSteps}
+use Rattle.ltl_alt.specs.declared.program.Step.{Step}
+use Rattle.ltl_alt.proofs.RowLaws.{untils_few}
+use Rattle.ltl_alt.proofs.TransitionLaws.{untils_count}
+
+-- ---- one by one
+
+-- the tests of the first until rows
+pub record AreTestsSoFar (T : Table) (ss : List Step) (n : ℕ) (us : List UntilTest) : Type 0 where
+  pub count : length us ≡ n
+  pub each : (i : ℕ) (u : UntilTest) → slice_get us i ≡ Some u → IsUntilTest T ss u (slice_index_or T.untils i Bottom)
+
+pub tests_push : (T : Table) (ss : List Step) (n : ℕ) (us more : List UntilTest) (u : UntilTest) → more ≡ us ++ u ∷ [] → IsUntilTest T ss u (slice_index_or T.untils n Bottom) → AreTestsSoFar T ss n us → AreTestsSoFar T ss (n + 1) more
+tests_push T ss n us more u e t w = subst (AreTestsSoFar T ss (n + 1)) (sym e) (record {
+  count = let a = length-append us (u ∷ []) in let b = w.count in omega arith;
+  each = λ i v f. elim (at_end us u v i f) [
+    | inl (g, l) ↦ w.each i v g
+    | inr (d, s) ↦ subst (λ x. IsUntilTest T ss x (slice_index_or T.untils i Bottom)) (sym s) (subst (λ j. IsUntilTest T ss u (slice_index_or T.untils j Bottom)) (sym (d ∙ w.count)) t)
+  ];
+})
+  where
+    at_end : (xs : List UntilTest) (y v : UntilTest) (i : ℕ) → slice_get (xs ++ y ∷ []) i ≡ Some v → (slice_get xs i ≡ Some v) × (i < length xs) ⊎ ((i ≡ length xs) × (v ≡ y))
+    at_end [] y v zero f = inr (refl, cc)
+    at_end [] y v (suc i) f = cc
+    at_end (x ∷ xs) y v zero f = inl (f, omega arith)
+    at_end (x ∷ xs) y v (suc i) f = elim (at_end xs y v i f) [ inl (g, l) ↦ inl (g, omega arith) | inr (d, s) ↦ inr (ap suc d, s) ]
+
+pub tests_end : (t : TableView) (ss : List Step) (rs : List RowSteps) (n : ℕ) (us : List UntilTest) → IsTable t → AreUntilSteps t ss rs → n ≡ length t.untils → AreTestsSoFar (table_at t) ss n us → AreTestsOf (table_at t) ss us
+tests_end t ss rs n us w steps e so_far = record {
+  core = core_of t;
+  is_table = refl;
+  earlier = steps.earlier;
+  few = let a = untils_few t w in let b = so_far.count in omega arith;
+  count = let a = untils_count t w in so_far.count ∙ e ∙ sym a;
+  each = so_far.each;
+}

@@ -1,0 +1,142 @@
+//! Which until rows pairs fulfil, by evaluation of the formula.
+
+ghost use Rattle.std.specs.Prelude.{◌≡◌, ◌<◌, length, map, slice_get, slice_index_or, Some, IfOk, OnOk, false};
+ghost use Rattle.ltl_formula.specs.GraphView.{IsBelow};
+ghost use Rattle.ltl_spec.specs.NormalForms.Normal.{Bottom};
+ghost use Rattle.ltl_spec.proofs.Transitions.Fulfilment.{passes};
+ghost use Rattle.ltl_spec.proofs.Transitions.Steps.{step_passes, tests_of};
+ghost use Rattle.ltl_alt.specs.Steps.{AreUntilSteps, until_step};
+ghost use Rattle.ltl_alt.specs.Tests.{AreTests, IsUntilTest, step_of, steps_of};
+ghost use Rattle.ltl_alt.specs.TransitionView.{table_at};
+
+use crate::pair::Pair;
+use crate::place::{place, until_count, until_row};
+use crate::program::{Program, Step, until_steps};
+use ltl_formula::{Row, Table};
+use std::alloc::{AllocError, Allocator};
+
+/// An until row: its place, and the step of its test.
+#[derive(Clone, Copy)]
+pub(crate) struct UntilTest {
+    pub(crate) place: usize,
+    pub(crate) step: usize,
+}
+
+/// The tests of the until rows of a table, by number.
+#[derive(Drop)]
+pub(crate) struct Fulfilment<'a, A: Allocator> {
+    pub(crate) steps: Vec<Step, &'a A>,
+    pub(crate) untils: Vec<UntilTest, &'a A>,
+}
+
+/// Whether the step of that number is passed, if there is one.
+#[inline(always)]
+pub(crate) fn answer_at(answers: &[bool], number: usize) -> bool
+    ensures { result ≡ slice_index_or answers.now number false }
+{
+    if number < answers.len() {
+        answers[number]
+    } else {
+        false
+    }
+}
+
+/// Whether a pair passes a step, by the answers of the steps before it.
+#[inline(always)]
+fn step_passes(pair: &Pair, answers: &[bool], step: Step) -> bool
+    ensures { result ≡ step_passes pair.now answers.now (step_of step) }
+{
+    match step {
+        Step::Always => true,
+        Step::Never => false,
+        Step::Reads(literal) => pair.reads(literal),
+        Step::Leads(place) => pair.targets.holds(place),
+        Step::Both(i, j) => answer_at(answers, i) && answer_at(answers, j),
+        Step::Either(i, j) => answer_at(answers, i) || answer_at(answers, j),
+    }
+}
+
+/// The steps as a list.
+fn listed_steps<'a, A: Allocator>(
+    alloc: &'a A,
+    program: &Program<'a, A>,
+) -> Result<Vec<Step, &'a A>, AllocError>
+    ensures { IfOk result (λ v. v.items ≡ program.now.steps.keys) }
+{
+    let mut steps = Vec::with_capacity(alloc, program.len())?;
+    'steps: for k in 0..program.len() {
+        steps.push(program.step(k))?;
+    }
+    Ok(steps)
+}
+
+/// The number of the step that is the test of an until row, or 0 for another row.
+fn test_step<A: Allocator>(program: &Program<'_, A>, row: Row) -> usize
+    requires { IsBelow (length program.now.rows.items) row }
+    ensures { result ≡ until_step program.now.rows.items row }
+{
+    match row {
+        Row::Until(_, j) => program.pair_step(j),
+        _ => 0,
+    }
+}
+
+/// The test of the until row of that number.
+fn until_test<A: Allocator>(
+    table: &Table<'_, A>,
+    program: &Program<'_, A>,
+    number: usize,
+) -> UntilTest
+    requires within { number < length table.now.untils }
+    requires steps { AreUntilSteps table.now program.now.steps.keys program.now.rows.items }
+    ensures { IsUntilTest (table_at table.now) program.now.steps.keys result (slice_index_or (table_at table.now).untils number Bottom) }
+{
+    table.invariant();
+    let row = until_row(table, number);
+    UntilTest {
+        place: place(table, row),
+        step: test_step(program, table.row(row)),
+    }
+}
+
+impl<'a, A: Allocator> Fulfilment<'a, A> {
+    /// That of a table's until rows.
+    pub(crate) fn of(alloc: &'a A, table: &Table<'_, A>) -> Result<Self, AllocError>
+        ensures { IfOk result (AreTests (table_at table.now)) }
+    {
+        table.invariant();
+        let program = until_steps(alloc, table)?;
+        let steps = listed_steps(alloc, &program)?;
+        let mut untils = Vec::new(alloc);
+        'untils: for number in 0..until_count(table) {
+            untils.push(until_test(table, &program, number))?;
+        }
+        Ok(Fulfilment { steps, untils })
+    }
+
+    /// The test of the until row of that number.
+    #[inline(always)]
+    pub(crate) fn until(&self, number: usize) -> UntilTest
+        requires { number < length self.now.untils.items }
+        ensures { slice_get self.now.untils.items number ≡ Some result }
+    {
+        self.untils[number]
+    }
+
+    /// Puts for each step whether a pair passes it.
+    pub(crate) fn put_answers(
+        &self,
+        pair: &Pair,
+        answers: &mut Vec<bool, &A>,
+    ) -> Result<(), AllocError>
+        ensures { OnOk result (answers.new.items ≡ map (passes pair.now) (tests_of (steps_of self.now.steps.items))) }
+    {
+        answers.clear();
+        'steps: for k in 0..self.steps.len() {
+            let step = self.steps[k];
+            let answer = step_passes(pair, answers.as_slice(), step);
+            answers.push(answer)?;
+        }
+        Ok(())
+    }
+}

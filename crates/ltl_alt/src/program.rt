@@ -1,0 +1,238 @@
+//! The tests of until rows as steps by number.
+//!
+//! Whether a pair fulfils an until row is a test of the formula: literals and targets are looked for in the pair, `&&` is both and `||` is either. Each
+//! step is made of earlier ones, so that one pass tells all of them, and equal ones are one step.
+
+ghost use Rattle.std.specs.Prelude.{◌≡◌, ℕ, ◌+◌, ◌<◌, ◌≤◌, length, slice_get, Some, IfOk, OnOk, true};
+ghost use Rattle.ltl_formula.specs.GraphView.{IsBelow};
+ghost use Rattle.ltl_formula.specs.TableView.{IsNamedBelow, is_elementary_row};
+ghost use Rattle.ltl_spec.proofs.Transitions.Fulfilment as test;
+ghost use Rattle.ltl_alt.specs.NeedsView.{AllAsked};
+ghost use Rattle.ltl_alt.specs.Steps.{AreOrdered, AreUntilSteps, HavePairSteps, HaveSetSteps, IsNumbered, IsNumberedIf, IsProgram, pair_test_from, set_test_from, steps_at, test_by};
+ghost use Rattle.ltl_alt.specs.Tests.{HasOperands, IsSmall, step_of};
+
+use crate::needs::{Need, need_of, until_needs};
+use crate::place::place;
+use ltl_automaton::Distinct;
+use ltl_formula::{Row, Table};
+use ltl_sets::{Literal, RowSet};
+use std::alloc::{AllocError, Allocator};
+
+/// A step of a test.
+#[derive(Clone, Copy, Debug, PartialEq, Eq, Hash)]
+pub(crate) enum Step {
+    /// Each pair passes.
+    Always,
+    /// No pair passes.
+    Never,
+    /// Passed by a pair that asks for the literal.
+    Reads(Literal),
+    /// Passed by a pair that has the row at that place among its targets.
+    Leads(usize),
+    /// Passed where both steps are.
+    Both(usize, usize),
+    /// Passed where one of the steps is.
+    Either(usize, usize),
+}
+
+/// The numbers of the steps of a row, as far as they are needed: that of its pairs, and that of its sets.
+#[derive(Clone, Copy)]
+pub(crate) struct RowSteps {
+    pub(crate) pairs: usize,
+    pub(crate) sets: usize,
+}
+
+/// Steps of the rows of a table.
+#[derive(Drop)]
+pub(crate) struct Program<'a, A: Allocator> {
+    pub(crate) steps: Distinct<'a, Step, A>,
+    pub(crate) rows: Vec<RowSteps, &'a A>,
+}
+
+/// The number of a step.
+fn number<A: Allocator>(steps: &mut Distinct<'_, Step, A>, step: Step) -> Result<usize, AllocError>
+    ensures { IfOk result (λ k. AreOrdered steps.old.keys → IsSmall step → HasOperands (length steps.old.keys) (step_of step)
+        → IsNumbered steps.old.keys steps.new.keys k (test_by steps.old.keys step)) }
+{
+    let number = steps.number(step)?;
+    Ok(number)
+}
+
+impl<'a, A: Allocator> Program<'a, A> {
+    /// How many steps there are.
+    pub(crate) fn len(&self) -> usize
+        ensures { result ≡ length self.now.steps.keys }
+    {
+        self.steps.len()
+    }
+
+    /// The step of that number.
+    pub(crate) fn step(&self, number: usize) -> Step
+        requires { number < length self.now.steps.keys }
+        ensures { slice_get self.now.steps.keys number ≡ Some result }
+    {
+        *self.steps.get(number)
+    }
+
+    /// The number of the step that tells whether a pair fulfils a row now.
+    pub(crate) fn pair_step(&self, row: usize) -> usize
+        requires { row < length self.now.rows.items }
+        ensures { result ≡ (steps_at self.now.rows.items row).pairs }
+    {
+        self.rows[row].pairs
+    }
+
+    /// The number of the step that tells whether a pair fulfils a row later.
+    fn set_step(&self, row: usize) -> usize
+        requires { row < length self.now.rows.items }
+        ensures { result ≡ (steps_at self.now.rows.items row).sets }
+    {
+        self.rows[row].sets
+    }
+
+    /// The number of a step for the pairs of a row at a place.
+    fn number_pairs(&mut self, row: Row, place: usize) -> Result<usize, AllocError>
+        requires rows { IsBelow (length self.old.rows.items) row }
+        requires literal { IsNamedBelow RowSet.LIMIT row }
+        requires place { is_elementary_row row ≡ true → place < RowSet.LIMIT }
+        ensures rows { self.new.rows.items ≡ self.old.rows.items }
+        ensures step { IfOk result (λ k. (ps es : ℕ → test.Test) → AreOrdered self.old.steps.keys
+            → HavePairSteps self.old.steps.keys self.old.rows.items ps es row
+            → IsNumbered self.old.steps.keys self.new.steps.keys k (pair_test_from ps es place row)) }
+    {
+        match row {
+            Row::True => number(&mut self.steps, Step::Always),
+            Row::False => number(&mut self.steps, Step::Never),
+            Row::Literal(literal) => number(&mut self.steps, Step::Reads(literal)),
+            Row::Next(i) => Ok(self.set_step(i)),
+            Row::And(i, j) => {
+                let both = Step::Both(self.pair_step(i), self.pair_step(j));
+                number(&mut self.steps, both)
+            }
+            Row::Or(i, j) => {
+                let either = Step::Either(self.pair_step(i), self.pair_step(j));
+                number(&mut self.steps, either)
+            }
+            Row::Until(i, j) => {
+                let (left, right) = (self.pair_step(i), self.pair_step(j));
+                let again = number(&mut self.steps, Step::Leads(place))?;
+                let put_off = number(&mut self.steps, Step::Both(left, again))?;
+                let either = number(&mut self.steps, Step::Either(right, put_off))?;
+                Ok(either)
+            }
+            Row::Release(i, j) => {
+                let (left, right) = (self.pair_step(i), self.pair_step(j));
+                let again = number(&mut self.steps, Step::Leads(place))?;
+                let released = number(&mut self.steps, Step::Either(left, again))?;
+                let both = number(&mut self.steps, Step::Both(right, released))?;
+                Ok(both)
+            }
+        }
+    }
+
+    /// The number of a step for the sets of a row at a place.
+    fn number_sets(&mut self, row: Row, place: usize) -> Result<usize, AllocError>
+        requires rows { IsBelow (length self.old.rows.items) row }
+        requires literal { IsNamedBelow RowSet.LIMIT row }
+        requires place { is_elementary_row row ≡ true → place < RowSet.LIMIT }
+        ensures rows { self.new.rows.items ≡ self.old.rows.items }
+        ensures step { IfOk result (λ k. (es : ℕ → test.Test) → AreOrdered self.old.steps.keys
+            → HaveSetSteps self.old.steps.keys self.old.rows.items es row
+            → IsNumbered self.old.steps.keys self.new.steps.keys k (set_test_from es place row)) }
+    {
+        match row {
+            Row::True => number(&mut self.steps, Step::Always),
+            Row::False => number(&mut self.steps, Step::Never),
+            Row::And(i, j) => {
+                let both = Step::Both(self.set_step(i), self.set_step(j));
+                number(&mut self.steps, both)
+            }
+            Row::Or(i, j) => {
+                let either = Step::Either(self.set_step(i), self.set_step(j));
+                number(&mut self.steps, either)
+            }
+            Row::Literal(_) | Row::Next(_) | Row::Until(_, _) | Row::Release(_, _) => {
+                let leads = number(&mut self.steps, Step::Leads(place))?;
+                Ok(leads)
+            }
+        }
+    }
+
+    /// The number of the step for the pairs of a row, if it is needed.
+    fn needed_pairs(&mut self, row: Row, place: usize, is_needed: bool) -> Result<usize, AllocError>
+        requires rows { IsBelow (length self.old.rows.items) row }
+        requires literal { IsNamedBelow RowSet.LIMIT row }
+        requires place { is_elementary_row row ≡ true → place < RowSet.LIMIT }
+        ensures rows { self.new.rows.items ≡ self.old.rows.items }
+        ensures step { IfOk result (λ k. (ps es : ℕ → test.Test) → AreOrdered self.old.steps.keys
+            → (is_needed ≡ true → HavePairSteps self.old.steps.keys self.old.rows.items ps es row)
+            → IsNumberedIf is_needed self.old.steps.keys self.new.steps.keys k (pair_test_from ps es place row)) }
+    {
+        if is_needed {
+            self.number_pairs(row, place)
+        } else {
+            Ok(0)
+        }
+    }
+
+    /// The number of the step for the sets of a row, if it is needed.
+    fn needed_sets(&mut self, row: Row, place: usize, is_needed: bool) -> Result<usize, AllocError>
+        requires rows { IsBelow (length self.old.rows.items) row }
+        requires literal { IsNamedBelow RowSet.LIMIT row }
+        requires place { is_elementary_row row ≡ true → place < RowSet.LIMIT }
+        ensures rows { self.new.rows.items ≡ self.old.rows.items }
+        ensures step { IfOk result (λ k. (es : ℕ → test.Test) → AreOrdered self.old.steps.keys
+            → (is_needed ≡ true → HaveSetSteps self.old.steps.keys self.old.rows.items es row)
+            → IsNumberedIf is_needed self.old.steps.keys self.new.steps.keys k (set_test_from es place row)) }
+    {
+        if is_needed {
+            self.number_sets(row, place)
+        } else {
+            Ok(0)
+        }
+    }
+
+    /// Numbers what is needed of one row more.
+    fn add_row(
+        &mut self,
+        table: &Table<'_, A>,
+        needs: &[Need],
+        row: usize,
+    ) -> Result<(), AllocError>
+        requires within { row < length table.now.rows }
+        requires count { length self.old.rows.items ≡ row }
+        requires needed { row < length needs.now }
+        requires asked { AllAsked table.now needs.now }
+        requires program { IsProgram table.now needs.now self.old.steps.keys self.old.rows.items }
+        ensures count { OnOk result (length self.new.rows.items ≡ row + 1) }
+        ensures program { OnOk result (IsProgram table.now needs.now self.new.steps.keys self.new.rows.items) }
+    {
+        table.invariant();
+        let place = place(table, row);
+        let kind = table.row(row);
+        let need = need_of(needs, row);
+        let pairs = self.needed_pairs(kind, place, need.pairs)?;
+        let sets = self.needed_sets(kind, place, need.sets)?;
+        self.rows.push(RowSteps { pairs, sets })?;
+        Ok(())
+    }
+}
+
+/// The steps of what is needed of the rows of a table to tell which until rows a pair fulfils.
+pub(crate) fn until_steps<'a, A: Allocator>(
+    alloc: &'a A,
+    table: &Table<'_, A>,
+) -> Result<Program<'a, A>, AllocError>
+    ensures { IfOk result (λ p. AreUntilSteps table.now p.steps.keys p.rows.items) }
+{
+    table.invariant();
+    let needs = until_needs(alloc, table)?;
+    let mut program = Program {
+        steps: Distinct::new(alloc),
+        rows: Vec::new(alloc),
+    };
+    'rows: for k in 0..table.len() {
+        program.add_row(table, needs.as_slice(), k)?;
+    }
+    Ok(program)
+}

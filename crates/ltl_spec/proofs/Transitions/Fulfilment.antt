@@ -1,0 +1,123 @@
+-- Which until rows a pair fulfils, and can still fulfil: by tests of what it asks for.
+use Rattle.std.specs.Prelude.{◌≡◌, ℕ, min, max, Bool, true, false, ◌&&◌, ◌||◌, if◌then◌else◌, List, [], ◌∷◌, ◌++◌}
+use Rattle.std.specs.Ordering.{nat_cmp}
+use Rattle.ltl_spec.specs.Collections.Sets.{Has, has}
+use Rattle.ltl_spec.specs.Transitions.Cubes.{Literal, literal_cmp}
+use Rattle.ltl_spec.specs.NormalForms.Normal.{Normal, Top, Bottom, Leaf, Next, And, Or, Until, Release}
+use Rattle.ltl_spec.specs.Transitions.Pairs.{RowSet, Pair, Within}
+use Rattle.ltl_spec.specs.Transitions.RowTransitions.{Table, is_marked}
+use Rattle.ltl_spec.proofs.Transitions.JoinLaws.{united, IsConsistent}
+
+-- a test of a pair. What asks for more passes too
+pub data Test : Type 0 where
+  Always Never : Test
+  Reads : Literal → Test
+  Leads : ℕ → Test
+  Both Either : Test → Test → Test
+
+-- the pair asks for what the test wants
+abbrev pub passes : Pair → Test → Bool
+passes p Always = true
+passes p Never = false
+passes p (Reads l) = has literal_cmp l p.cube
+passes p (Leads k) = has nat_cmp k p.targets
+passes p (Both a b) = passes p a && passes p b
+passes p (Either a b) = passes p a || passes p b
+
+-- the literals that a test speaks of
+abbrev pub literals_of : Test → List Literal
+literals_of Always = []
+literals_of Never = []
+literals_of (Reads l) = l ∷ []
+literals_of (Leads k) = []
+literals_of (Both a b) = literals_of a ++ literals_of b
+literals_of (Either a b) = literals_of a ++ literals_of b
+
+-- the targets that it speaks of
+abbrev pub targets_of : Test → RowSet
+targets_of Always = []
+targets_of Never = []
+targets_of (Reads l) = []
+targets_of (Leads k) = k ∷ []
+targets_of (Both a b) = targets_of a ++ targets_of b
+targets_of (Either a b) = targets_of a ++ targets_of b
+
+-- `place` gives the place of an elementary row
+module _ (place : Normal → ℕ) where
+  -- passed where one of the sets of rows of the formula is among the targets
+  abbrev pub set_test : Normal → Test
+  set_test Top = Always
+  set_test Bottom = Never
+  set_test (And a b) = Both (set_test a) (set_test b)
+  set_test (Or a b) = Either (set_test a) (set_test b)
+  set_test (Leaf l) = Leads (place (Leaf l))
+  set_test (Next a) = Leads (place (Next a))
+  set_test (Until a b) = Leads (place (Until a b))
+  set_test (Release a b) = Leads (place (Release a b))
+
+  -- passed where the pair asks for all that one of the pairs of the formula asks for
+  abbrev pub pair_test : Normal → Test
+  pair_test Top = Always
+  pair_test Bottom = Never
+  pair_test (Leaf l) = Reads l
+  pair_test (And a b) = Both (pair_test a) (pair_test b)
+  pair_test (Or a b) = Either (pair_test a) (pair_test b)
+  pair_test (Next a) = set_test a
+  pair_test (Until a b) = Either (pair_test b) (Both (pair_test a) (Leads (place (Until a b))))
+  pair_test (Release a b) = Both (pair_test b) (Either (pair_test a) (Leads (place (Release a b))))
+
+  -- passed where the pair fulfils the until row
+  abbrev pub until_test : Normal → Test
+  until_test (Until a b) = pair_test b
+  until_test _ = Never
+
+-- what can still come: some literals and some targets
+pub record Coming : Type 0 where
+  pub literal : Literal → Bool
+  pub target : ℕ → Bool
+
+-- all of them
+abbrev pub anything : Coming
+anything = record { literal = λ _. true; target = λ _. true }
+
+-- the pair asks for nothing else
+pub record IsComing (r : Coming) (x : Pair) : Type 0 where
+  pub cube : (l : Literal) → Has x.cube l → r.literal l ≡ true
+  pub targets : (k : ℕ) → Has x.targets k → r.target k ≡ true
+
+-- the one lets come no more than the other
+pub record IsAmong (r s : Coming) : Type 0 where
+  pub literal : (l : Literal) → r.literal l ≡ true → s.literal l ≡ true
+  pub target : (k : ℕ) → r.target k ≡ true → s.target k ≡ true
+
+-- 2: it is there. 1: it can come. 0: neither
+abbrev pub leaf_code : Bool → Bool → ℕ
+leaf_code there comes = if there then 2 else if comes then 1 else 0
+
+-- 2: the pair passes. 1: it may pass with what comes. 0: it never does
+abbrev pub code : Coming → Pair → Test → ℕ
+code r p Always = 2
+code r p Never = 0
+code r p (Reads l) = leaf_code (has literal_cmp l p.cube) (r.literal l)
+code r p (Leads k) = leaf_code (has nat_cmp k p.targets) (r.target k)
+code r p (Both a b) = min (code r p a) (code r p b)
+code r p (Either a b) = max (code r p a) (code r p b)
+
+-- the two pairs have the same codes, as far as these are still open
+abbrev pub Agree : Coming → Pair → Pair → Test → Type 0
+Agree r t u Always = code r t Always ≡ code r u Always
+Agree r t u Never = code r t Never ≡ code r u Never
+Agree r t u (Reads l) = code r t (Reads l) ≡ code r u (Reads l)
+Agree r t u (Leads k) = code r t (Leads k) ≡ code r u (Leads k)
+Agree r t u (Both a b) = (code r t (Both a b) ≡ code r u (Both a b)) × (code r t (Both a b) ≡ 1 → Agree r t u a × Agree r t u b)
+Agree r t u (Either a b) = (code r t (Either a b) ≡ code r u (Either a b)) × (code r t (Either a b) ≡ 1 → Agree r t u a × Agree r t u b)
+
+-- u asks for no more than t, and whatever comes to both: each until row that it is marked for with t, it is marked for with u
+pub record IsSafeAmong (table : Table) (r : Coming) (t u : Pair) : Type 0 where
+  pub less : Within u t
+  pub marks : (x : Pair) → IsComing r x → IsConsistent (united t x) → (f : Normal) → Has table.untils f → is_marked table (united t x) f ≡ true → is_marked table (united u x) f ≡ true
+
+-- of all these pairs those were kept, each other one may be dropped for one of them where no more comes
+pub record IsKeptAmong (table : Table) (r : Coming) (ps qs : List Pair) : Type 0 where
+  pub from : (q : Pair) → Has qs q → Has ps q
+  pub covers : (p : Pair) → Has ps p → (q : Pair) × Has qs q × IsSafeAmong table r p q

@@ -1,0 +1,145 @@
+-- The steps of a list stand for tests. The codes of all come one by one, and where two pairs have the same codes asked, they agree.
+use Rattle.std.proofs.Common.{◌≡◌, ◌≢◌, ℕ, zero, suc, ◌+◌, ◌<◌, ◌≤◌, min, max, false, ◌&&◌, ◌||◌, inl, inr, List, [], ◌∷◌, ◌++◌, map, length, take, drop, refl, sym, ◌∙◌, ap, subst, arith}
+use Rattle.std.specs.Prelude.{slice_index_or}
+use Rattle.std.proofs.lemmas.Bool.{cases_lt}
+use Rattle.std.proofs.lemmas.List.{map-append, length-append, length-take-le, take-append-drop, take_more, get_or_past}
+use Rattle.ltl_spec.specs.Transitions.Pairs.{Pair}
+use Rattle.ltl_spec.proofs.Collections.ListLaws.{index_append, index_done}
+use Rattle.ltl_spec.proofs.Transitions.Fulfilment as by
+use Rattle.ltl_spec.proofs.Transitions.Fulfilment.{Test, passes, Coming, code, Agree}
+use Rattle.ltl_spec.proofs.Transitions.Steps.{Step, Always, Never, Reads, Leads, Both, Either, test_at, step_test, tests_from, tests_of, step_code, step_passes, IsOperand, AreAsked}
+
+-- what a map has at a number
+at_mapped : {X Y : Type 0} (f : X → Y) (xs : List X) (i : ℕ) (d : X) → slice_index_or (map f xs) i (f d) ≡ f (slice_index_or xs i d)
+at_mapped f [] i d = refl
+at_mapped f (x ∷ xs) zero d = refl
+at_mapped f (x ∷ xs) (suc i) d = at_mapped f xs i d
+
+-- the code of a number, and its answer
+pub code_at : (r : Coming) (p : Pair) (ts : List Test) (i : ℕ) → slice_index_or (map (code r p) ts) i 0 ≡ code r p (test_at ts i)
+code_at r p ts i = at_mapped (code r p) ts i by.Never
+
+pub answer_at : (p : Pair) (ts : List Test) (i : ℕ) → slice_index_or (map (passes p) ts) i false ≡ passes p (test_at ts i)
+answer_at p ts i = at_mapped (passes p) ts i by.Never
+
+-- the code of the next step comes from those of the steps before it
+pub code_next : (r : Coming) (p : Pair) (ts : List Test) (s : Step) → step_code r p (map (code r p) ts) s ≡ code r p (step_test ts s)
+code_next r p ts Always = refl
+code_next r p ts Never = refl
+code_next r p ts (Reads l) = refl
+code_next r p ts (Leads k) = refl
+code_next r p ts (Both i j) = λ k. min (code_at r p ts i k) (code_at r p ts j k)
+code_next r p ts (Either i j) = λ k. max (code_at r p ts i k) (code_at r p ts j k)
+
+-- so does the answer of the next step
+pub passes_next : (p : Pair) (ts : List Test) (s : Step) → step_passes p (map (passes p) ts) s ≡ passes p (step_test ts s)
+passes_next p ts Always = refl
+passes_next p ts Never = refl
+passes_next p ts (Reads l) = refl
+passes_next p ts (Leads k) = refl
+passes_next p ts (Both i j) = λ k. answer_at p ts i k && answer_at p ts j k
+passes_next p ts (Either i j) = λ k. answer_at p ts i k || answer_at p ts j k
+
+-- the tests of a list of steps
+
+tests_append : (ts : List Test) (ss rest : List Step) → tests_from ts (ss ++ rest) ≡ tests_from (tests_from ts ss) rest
+tests_append ts [] rest = refl
+tests_append ts (s ∷ ss) rest = tests_append (ts ++ step_test ts s ∷ []) ss rest
+
+-- one more step is one more test
+pub tests_next : (ss : List Step) (s : Step) → tests_of (ss ++ s ∷ []) ≡ tests_of ss ++ step_test (tests_of ss) s ∷ []
+tests_next ss s = tests_append [] ss (s ∷ [])
+
+-- one more code
+pub codes_next : (r : Coming) (p : Pair) (ss : List Step) (s : Step)
+    → map (code r p) (tests_of (ss ++ s ∷ [])) ≡ map (code r p) (tests_of ss) ++ step_code r p (map (code r p) (tests_of ss)) s ∷ []
+codes_next r p ss s =
+    ap (map (code r p)) (tests_next ss s) ∙ map-append (code r p) (tests_of ss) (step_test (tests_of ss) s ∷ [])
+    ∙ ap (λ c. map (code r p) (tests_of ss) ++ c ∷ []) (sym (code_next r p (tests_of ss) s))
+
+-- and one more answer
+pub answers_next : (p : Pair) (ss : List Step) (s : Step)
+    → map (passes p) (tests_of (ss ++ s ∷ [])) ≡ map (passes p) (tests_of ss) ++ step_passes p (map (passes p) (tests_of ss)) s ∷ []
+answers_next p ss s =
+    ap (map (passes p)) (tests_next ss s) ∙ map-append (passes p) (tests_of ss) (step_test (tests_of ss) s ∷ [])
+    ∙ ap (λ c. map (passes p) (tests_of ss) ++ c ∷ []) (sym (passes_next p (tests_of ss) s))
+
+tests_from_length : (ts : List Test) (ss : List Step) → length (tests_from ts ss) ≡ length ts + length ss
+tests_from_length ts [] = omega arith
+tests_from_length ts (s ∷ ss) =
+    let e = tests_from_length (ts ++ step_test ts s ∷ []) ss in
+    let d = length-append ts (step_test ts s ∷ []) in
+    omega arith
+
+pub tests_length : (ss : List Step) → length (tests_of ss) ≡ length ss
+tests_length ss = let e = tests_from_length [] ss in omega arith
+
+-- later steps change no test
+earlier_from : (ts : List Test) (ss : List Step) (j : ℕ) → j < length ts → test_at (tests_from ts ss) j ≡ test_at ts j
+earlier_from ts [] j l = refl
+earlier_from ts (s ∷ ss) j l =
+    let d = length-append ts (step_test ts s ∷ []) in
+    earlier_from (ts ++ step_test ts s ∷ []) ss j (omega arith) ∙ index_append ts (step_test ts s ∷ []) j by.Never l
+
+pub test_earlier : (ss : List Step) (i j : ℕ) → j < i → i ≤ length ss → test_at (tests_of ss) j ≡ test_at (tests_of (take i ss)) j
+test_earlier ss i j l m =
+    let d = tests_length (take i ss) in
+    let e = length-take-le i ss m in
+    ap (λ x. test_at (tests_of x) j) (sym (take-append-drop i ss)) ∙ ap (λ x. test_at x j) (tests_append [] (take i ss) (drop i ss))
+    ∙ earlier_from (tests_of (take i ss)) (drop i ss) j (omega arith)
+
+-- the test of a number is that of its step
+pub test_of_step : (ss : List Step) (i : ℕ) → i < length ss → test_at (tests_of ss) i ≡ step_test (tests_of (take i ss)) (slice_index_or ss i Always)
+test_of_step ss i l =
+    let s = slice_index_or ss i Always in
+    let d = tests_length (take i ss) in
+    let e = length-take-le i ss (omega arith) in
+    let n : length (tests_of (take i ss)) ≡ i = omega arith in
+    test_earlier ss (i + 1) i (omega arith) (omega arith) ∙ ap (λ x. test_at (tests_of x) i) (take_more ss i Always l) ∙ ap (λ x. test_at x i) (tests_next (take i ss) s)
+    ∙ subst (λ m. test_at (tests_of (take i ss) ++ step_test (tests_of (take i ss)) s ∷ []) m ≡ step_test (tests_of (take i ss)) s) n (index_done (tests_of (take i ss)) [] (step_test (tests_of (take i ss)) s) by.Never)
+
+-- what is asked
+module _ (r : Coming) (t u : Pair) (steps : List Step) (asked : List ℕ) (a : AreAsked r t steps asked) (b : AreAsked r u steps asked) where
+  -- the code that is asked
+  asked_code : (p : Pair) → AreAsked r p steps asked → (i : ℕ) → i < length steps → slice_index_or asked i 3 ≢ 3
+      → slice_index_or asked i 3 ≡ code r p (step_test (tests_of (take i steps)) (slice_index_or steps i Always))
+  asked_code p c i l n = elim (c.codes i l) [ inl e ↦ absurd (n e) | inr e ↦ e ∙ ap (code r p) (test_of_step steps i l) ]
+
+  -- two pairs of which the same is asked agree on an asked step, where they agree on the asked ones before it
+  agree_step : (i : ℕ) → i < length steps → slice_index_or asked i 3 ≢ 3
+      → ((k : ℕ) → k < i → slice_index_or asked k 3 ≢ 3 → Agree r t u (test_at (tests_of steps) k)) → Agree r t u (test_at (tests_of steps) i)
+  agree_step i m h earlier = subst (Agree r t u) (sym (test_of_step steps i m)) (at (slice_index_or steps i Always) refl)
+    where
+      before : List Test
+      before = tests_of (take i steps)
+
+      same : (s : Step) → slice_index_or steps i Always ≡ s → code r t (step_test before s) ≡ code r u (step_test before s)
+      same s e = subst (λ x. code r t (step_test before x) ≡ code r u (step_test before x)) e (sym (asked_code t a i m h) ∙ asked_code u b i m h)
+
+      operand : (s : Step) → slice_index_or steps i Always ≡ s → code r t (step_test before s) ≡ 1 → (k : ℕ) → IsOperand s k → Agree r t u (test_at before k)
+      operand s e o k w =
+          let one : slice_index_or asked i 3 ≡ 1 = asked_code t a i m h ∙ ap (λ x. code r t (step_test before x)) e ∙ o in
+          let g = a.below i m one k (subst (λ x. IsOperand x k) (sym e) w) in
+          elim (cases_lt k i) [
+            | inl x ↦ subst (Agree r t u) (test_earlier steps i k x (omega arith)) (earlier k x g)
+            | inr x ↦
+                let d = tests_length (take i steps) in
+                let f = length-take-le i steps (omega arith) in
+                subst (Agree r t u) (sym (get_or_past before k by.Never (omega arith))) refl
+          ]
+
+      at : (s : Step) → slice_index_or steps i Always ≡ s → Agree r t u (step_test before s)
+      at Always e = refl
+      at Never e = refl
+      at (Reads l) e = same (Reads l) e
+      at (Leads k) e = same (Leads k) e
+      at (Both j k) e = (same (Both j k) e, λ o. (operand (Both j k) e o j (inl refl), operand (Both j k) e o k (inr refl)))
+      at (Either j k) e = (same (Either j k) e, λ o. (operand (Either j k) e o j (inl refl), operand (Either j k) e o k (inr refl)))
+
+  agree_below : (n i : ℕ) → i < n → i < length steps → slice_index_or asked i 3 ≢ 3 → Agree r t u (test_at (tests_of steps) i)
+  agree_below zero i l m h = absurd (omega arith)
+  agree_below (suc n) i l m h = agree_step i m h (λ k x g. agree_below n k (omega arith) (omega arith) g)
+
+  -- so they agree on each asked step
+  pub agree_by_asked : (i : ℕ) → i < length steps → slice_index_or asked i 3 ≢ 3 → Agree r t u (test_at (tests_of steps) i)
+  agree_by_asked i l h = agree_below (suc i) i (omega arith) l h
