@@ -14,7 +14,9 @@ use ltl_check::{CheckFault, Graph, PRODUCT_LIMIT, Product, Steps, check, find};
 use ltl_formula::{BuildFault, Table};
 use ltl_hoa::{HoaFault, Marked, hoa_read};
 use ltl_sets::RowSet;
+use ltl_streams::WriterSink;
 use ltl_syntax::{Formula, ReadFault, read};
+use ltl_timeline::{TimelineFault, timeline_to};
 use ltl_word::{Lasso, WordFault, holds};
 use refusing::Refusing;
 use std::alloc::{Allocator, Global};
@@ -245,6 +247,22 @@ fn truth<'a, B: Allocator>(
     ))
 }
 
+/// The table of the word and the formula.
+fn table_of_truth<'a, B: Allocator>(
+    alloc: &'a Memory<B>,
+    formula: &Read<'a, B>,
+    word: &Lasso<'a, Memory<B>>,
+) -> Option<Digest> {
+    let mut digest = Digest::new();
+    made!(
+        alloc,
+        of_formula(formula).with(of_word(word)),
+        TimelineFault::OutOfMemory,
+        timeline_to(alloc, formula, word, &mut WriterSink::new(&mut digest))
+    );
+    Some(digest)
+}
+
 fn word_of_numbers<B: Allocator>(alloc: &Memory<B>) -> Option<Digest> {
     let cycle = [RowSet::single(1), RowSet::empty()];
     let found = made!(
@@ -256,7 +274,7 @@ fn word_of_numbers<B: Allocator>(alloc: &Memory<B>) -> Option<Digest> {
     Some(of_word(&found))
 }
 
-/// What the words are, and the formula's truth on one of them.
+/// What the words are, and the formula's truth on one of them and its subformulas' at each position.
 fn words<'a, B: Allocator>(
     alloc: &'a Memory<B>,
     formula: &Read<'a, B>,
@@ -265,6 +283,7 @@ fn words<'a, B: Allocator>(
     let word = word(alloc, formula, text)?;
     let mut digest = of_word(&word).with(least(alloc, &word)?);
     digest.take(truth(alloc, formula, &word)? as usize);
+    digest = digest.with(table_of_truth(alloc, formula, &word)?);
     Some(digest.with(word_of_numbers(alloc)?))
 }
 

@@ -3,23 +3,31 @@ use Rattle.std.proofs.Common.{◌≡◌, ℕ, ◌+◌, ◌<◌, Bool, true, fals
 use Rattle.std.specs.Prelude.{slice_get, slice_index_or, Some, filter}
 use Rattle.std.specs.Bool.{beq}
 use Rattle.std.specs.Ordering.{nat_cmp}
+use Rattle.ltl_spec.specs.Collections.Lists.{place_of}
 use Rattle.ltl_spec.specs.Collections.Sets.{Has, has}
 use Rattle.ltl_spec.specs.Transitions.Cubes.{Literal, Cube, literal_cmp}
-use Rattle.ltl_spec.specs.NormalForms.Normal.{Bottom}
+use Rattle.ltl_spec.specs.NormalForms.Normal.{Bottom, same}
+use Rattle.ltl_spec.specs.NormalForms.NormalForm.{until_rows}
 use Rattle.ltl_spec.specs.Transitions.Pairs.{RowSet, Pair}
+use Rattle.ltl_spec.specs.Transitions.Pruning.{own_pairs}
 use Rattle.ltl_spec.specs.Transitions.RowTransitions.{Table, place}
+use Rattle.ltl_spec.proofs.Collections.CaseLaws.{false_is_true}
+use Rattle.ltl_spec.proofs.Collections.ListLaws.{Has-at, at_place, place_below}
 use Rattle.ltl_spec.proofs.Collections.SetLaws.{has_Decides}
 use Rattle.ltl_spec.proofs.Collections.Orders.{nat_linear, literal_linear}
+use Rattle.ltl_spec.proofs.NormalForms.NormalLaws.{same_Decides}
+use Rattle.ltl_spec.proofs.Transitions.ApartPairs.{Leads}
+use Rattle.ltl_spec.proofs.Transitions.AskedTests.{TellsOf, covers_own}
+use Rattle.ltl_spec.proofs.Transitions.Fulfilment.{until_test}
 use Rattle.ltl_spec.proofs.Transitions.LeastPairs.{same_truth}
 use Rattle.ltl_spec.proofs.Transitions.ApartTests.{of_sign, Has-names, names_cases, names_of_sign}
-use Rattle.ltl_spec.proofs.Transitions.ApartTests.{Asked, names_in, asked_by, together, Covers, covers_one, covers_append, covers_more, within_together_left, within_together_right, awaits_at}
+use Rattle.ltl_spec.proofs.Transitions.ApartTests.{Asked, names_in, ask_nothing, asked_by, together, Covers, covers_one, covers_append, covers_more, within_together_left, within_together_right, Awaits}
 use Rattle.ltl_sets.specs.Words.{letter_of, forbidden_of}
-use Rattle.ltl_formula.specs.TableView.{TableView, IsTable, row_tree}
 use Rattle.ltl_alt.specs.AskedView.{IsAdded, AwaitsAll, Demands}
-use Rattle.ltl_alt.specs.RowLists.{row_place}
-use Rattle.ltl_alt.specs.TransitionView.{table_at}
+use Rattle.ltl_alt.specs.Tests.{AreTests}
+use Rattle.ltl_alt.specs.declared.fulfilment.Fulfilment.{Fulfilment}
+use Rattle.ltl_alt.specs.declared.fulfilment.UntilTest.{UntilTest}
 use Rattle.ltl_alt.proofs.NeedsLaws.{same_or_other}
-use Rattle.ltl_alt.proofs.TransitionLaws.{until_tree, index_same}
 
 -- ---- one pair
 
@@ -70,28 +78,36 @@ pub covers_step : (a b c : Asked) (ps : List Pair) (p : Pair) (qs : List Pair) �
 covers_step a b c ps p qs w d e f =
     subst (Covers c) (sym f) (subst (λ x. Covers x (ps ++ p ∷ [])) (sym e) (covers_append a b ps (p ∷ []) w (subst (λ x. Covers x (p ∷ [])) (sym d) (covers_one p))))
 
-pub added_own : (a b c : Asked) (own : List Pair) (o : Bool) → Covers b own → c ≡ together a b → IsAdded a own o c
-added_own a b c own o w e = subst (IsAdded a own o) (sym e) (record {
-  more = within_together_left a b;
-  own_pairs = λ t. covers_more b (together a b) own (within_together_right a b) w;
-})
+pub added_leaves : (a b c : Asked) (o : Bool) → c ≡ together a b → IsAdded a b o c
+added_leaves a b c o e = subst (IsAdded a b o) (sym e) (record { more = within_together_left a b; told = λ t. within_together_right a b })
+
+pub added_nothing : (a b : Asked) (o : Bool) → o ≡ false → IsAdded a b o a
+added_nothing a b o e = record { more = record { positive = λ n h. h; negative = λ n h. h; targets = λ n h. h }; told = λ t. false_is_true (sym e ∙ t) }
 
 -- ---- until rows
 
-pub awaits_step : (t : TableView) (own : List (List Pair)) (targets : RowSet) (n k at : ℕ) (ms : List Pair) (o : Bool) (a b : Asked) → IsTable t → slice_get t.untils n ≡ Some k → at ≡ row_place t (row_tree t k)
-    → n < length own → ms ≡ slice_index_or own n ms → o ≡ has nat_cmp at targets → AwaitsAll (table_at t) own targets n a → IsAdded a ms o b → AwaitsAll (table_at t) own targets (n + 1) b
-awaits_step t own targets n k at ms o a b w found d l own_is test all added i less h = elim (same_or_other i n) [
+pub awaits_step : {A : Type 0} (T : Table) (f : Fulfilment A) (tests : AreTests T f) (targets : RowSet) (n : ℕ) (u : UntilTest) (v a b : Asked) (o : Bool) → slice_get f.untils.items n ≡ Some u → n < length T.untils
+    → v ≡ slice_index_or f.leaves.items u.step ask_nothing → o ≡ has nat_cmp u.place targets → AwaitsAll T targets n a → IsAdded a v o b → AwaitsAll T targets (n + 1) b
+awaits_step T f tests targets n u v a b o found l is test all added i less h = elim (same_or_other i n) [
   | inl e ↦
-      let f = until_tree t n k w found in
-      let here : Has targets at = subst (Has targets) (sym (d ∙ ap (row_place t) (sym f))) (subst (λ j. Has targets (place (table_at t) (slice_index_or (table_at t).untils j Bottom))) e h) in
-      subst (λ j. Covers b (slice_index_or own j [])) (sym e)
-      (subst (Covers b) (own_is ∙ index_same own n ms [] l) (added.own_pairs (test ∙ (has_Decides nat_linear at targets).1 here)))
-  | inr e ↦ let before : i < n = omega arith in covers_more a b (slice_index_or own i []) added.more (all i before h)
+      let F = slice_index_or T.untils n Bottom in
+      let w = tests.each n u found in
+      let here : Has targets u.place = subst (Has targets) (sym w.place_of) (subst (λ j. Has targets (place T (slice_index_or T.untils j Bottom))) e h) in
+      let tell : TellsOf v (until_test (place T) F) = subst (λ x. TellsOf x (until_test (place T) F)) (sym is) (subst (TellsOf (slice_index_or f.leaves.items u.step ask_nothing)) w.test (tests.leaves.tell u.step)) in
+      let there : Has (until_rows tests.core) F = subst (λ (X : Table). Has X.untils F) tests.is_table (Has-at T.untils n Bottom l) in
+      let covers : Covers v (own_pairs T F) = subst (λ X. Covers v (own_pairs X F)) (sym tests.is_table)
+      (covers_own tests.core v F there (subst (λ X. TellsOf v (until_test (place X) F)) tests.is_table tell)) in
+      subst (λ j. Covers b (own_pairs T (slice_index_or T.untils j Bottom))) (sym e)
+      (covers_more v b (own_pairs T F) (added.told (test ∙ (has_Decides nat_linear u.place targets).1 here)) covers)
+  | inr e ↦ let before : i < n = omega arith in covers_more a b (own_pairs T (slice_index_or T.untils i Bottom)) added.more (all i before h)
 ]
 
+-- each until row stands at its place
+awaits_each : (T : Table) (w : Asked) (ps : List Pair) → ((i : ℕ) → i < length T.untils → Leads ps (place T (slice_index_or T.untils i Bottom)) → Covers w (own_pairs T (slice_index_or T.untils i Bottom))) → Awaits T (own_pairs T) w ps
+awaits_each T w ps each f h l =
+    let at = at_place same same_Decides f T.untils Bottom h in
+    subst (λ g. Covers w (own_pairs T g)) at (each (place_of same f T.untils) (place_below same same_Decides f T.untils h) (subst (λ g. Leads ps (place T g)) (sym at) l))
+
 -- the demand of a list
-pub demands : (T : Table) (own : List (List Pair)) (ps : List Pair) (a w : Asked) → Covers a ps → AwaitsAll T own a.targets (length T.untils) w → Demands T own ps (record { asked = a; awaited = w })
-demands T own ps a w c all = record {
-  asked = c;
-  awaited = awaits_at T own w ps (λ i l h. all i l (c.rows (place T (slice_index_or T.untils i Bottom)) h));
-}
+pub demands : (T : Table) (ps : List Pair) (a w : Asked) → Covers a ps → AwaitsAll T a.targets (length T.untils) w → Demands T ps (record { asked = a; awaited = w })
+demands T ps a w c all = record { asked = c; awaited = awaits_each T w ps (λ i l h. all i l (c.rows (place T (slice_index_or T.untils i Bottom)) h)) }

@@ -11,6 +11,7 @@ use Rattle.ltl_spec.proofs.Transitions.PartJoins.{join_of, joined_from_nothing, 
 use Rattle.ltl_spec.proofs.Transitions.ProductTransitions.{transitions_of}
 use Rattle.ltl_spec.proofs.Transitions.SameJoins.{AreSound, sound_alike, alike_sym}
 use Rattle.ltl_alt.specs.declared.rule.Rule.{Rule}
+use Rattle.ltl_alt.specs.declared.fulfilment.Fulfilment.{Fulfilment}
 use Rattle.ltl_alt.specs.StandIns.{IsKeptBy, IsListed, StandsFor, IsFit, IsPruned, rule_of}
 use Rattle.ltl_alt.proofs.StandInLaws.{stands_in, kept_all, kept_same, kept_on, kept_rest, pruned_of, listed_equal, listed_safe}
 
@@ -20,8 +21,8 @@ use Rattle.ltl_alt.proofs.StandInLaws.{stands_in, kept_all, kept_same, kept_on, 
 abbrev pub joined_on : (ℕ → List Pair) → List Pair → List ℕ → List Pair
 joined_on f ps is = fold (λ xs k. join xs (f k)) ps is
 
-pub joined_pruned : (T : Table) (r : Rule) (own : List (List Pair)) (ps js zs : List Pair) → IsFit T r own → set_of pair_cmp js ≡ set_of pair_cmp ps → IsPruned r own js zs → IsListed (StandsFor T r) ps zs
-joined_pruned T r own ps js zs fit e w = pruned_of T r own ps js zs fit (kept_same (stands_in T r) ps js e) w
+pub joined_pruned : {A : Type 0} (T : Table) (r : Rule) (f : Fulfilment A) (ps js zs : List Pair) → IsFit T r f → set_of pair_cmp js ≡ set_of pair_cmp ps → IsPruned r f js zs → IsListed (StandsFor T r) ps zs
+joined_pruned T r f ps js zs fit e w = pruned_of T r f ps js zs fit (kept_same (stands_in T r) ps js e) w
 
 pub joins_begin : (T : Table) (r : Rule) (f : ℕ → List Pair) (e is : List ℕ) (ps : List Pair) → is ≡ e → ps ≡ empty_pair ∷ [] → IsKeptBy (StandsFor T r) (joined_on f (empty_pair ∷ []) e) (joined_on f ps is)
 joins_begin T r f e is ps d g =

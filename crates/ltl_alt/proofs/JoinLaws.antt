@@ -19,6 +19,7 @@ use Rattle.ltl_alt.specs.declared.rule.Rule.{Rule}
 use Rattle.ltl_alt.specs.GroupView.{AreGroups, start_of}
 use Rattle.ltl_alt.specs.MemoView.{IsListAt, IsJoin, AreJoins}
 use Rattle.ltl_alt.specs.PartView.{IsLonger, part_of}
+use Rattle.ltl_alt.specs.declared.fulfilment.Fulfilment.{Fulfilment}
 use Rattle.ltl_alt.specs.StandIns.{IsFit, IsListed, IsPruned, StandsFor, rule_of}
 use Rattle.ltl_alt.proofs.GroupLaws.{joined_on, joined_pruned, group_all, group_few}
 use Rattle.ltl_alt.proofs.MapLaws.{exact_cases, longer_within, longer_there}
@@ -41,15 +42,15 @@ key_exact k l e =
     λ i. let m : JoinKey = record { left = left i; right = right i } in m
 
 -- what is kept of two lists
-pub kept_of : (T : Table) (r : Rule) (own lists : List (List Pair)) (left right : ℕ) (xs ys js zs : List Pair) → IsFit T r own → xs ≡ part_of lists left → ys ≡ part_of lists right
-    → set_of pair_cmp js ≡ set_of pair_cmp (join xs ys) → IsPruned r own js zs → IsListed (StandsFor T r) (join (part_of lists left) (part_of lists right)) zs
-kept_of T r own lists left right xs ys js zs fit e d f w =
-    joined_pruned T r own (join (part_of lists left) (part_of lists right)) js zs fit (f ∙ (λ i. set_of pair_cmp (join (e i) (d i)))) w
+pub kept_of : {A : Type 0} (T : Table) (r : Rule) (f : Fulfilment A) (lists : List (List Pair)) (left right : ℕ) (xs ys js zs : List Pair) → IsFit T r f → xs ≡ part_of lists left → ys ≡ part_of lists right
+    → set_of pair_cmp js ≡ set_of pair_cmp (join xs ys) → IsPruned r f js zs → IsListed (StandsFor T r) (join (part_of lists left) (part_of lists right)) zs
+kept_of T r f lists left right xs ys js zs fit e d g w =
+    joined_pruned T r f (join (part_of lists left) (part_of lists right)) js zs fit (g ∙ (λ i. set_of pair_cmp (join (e i) (d i)))) w
 
 -- with a part more
-pub part_joined : (T : Table) (r : Rule) (own parts : List (List Pair)) (ps : List Pair) (part : ℕ) (ys js zs : List Pair) → IsFit T r own → ys ≡ part_of parts part
-    → set_of pair_cmp js ≡ set_of pair_cmp (join ps ys) → IsPruned r own js zs → IsListed (StandsFor T r) (join ps (part_of parts part)) zs
-part_joined T r own parts ps part ys js zs fit d f w = joined_pruned T r own (join ps (part_of parts part)) js zs fit (f ∙ ap (λ xs. set_of pair_cmp (join ps xs)) d) w
+pub part_joined : {A : Type 0} (T : Table) (r : Rule) (f : Fulfilment A) (parts : List (List Pair)) (ps : List Pair) (part : ℕ) (ys js zs : List Pair) → IsFit T r f → ys ≡ part_of parts part
+    → set_of pair_cmp js ≡ set_of pair_cmp (join ps ys) → IsPruned r f js zs → IsListed (StandsFor T r) (join ps (part_of parts part)) zs
+part_joined T r f parts ps part ys js zs fit d g w = joined_pruned T r f (join ps (part_of parts part)) js zs fit (g ∙ ap (λ xs. set_of pair_cmp (join ps xs)) d) w
 
 module _ (T : Table) (r : Rule) where
   -- a join that was made

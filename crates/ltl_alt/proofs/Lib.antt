@@ -1,4 +1,5 @@
 pub mod AskedLaws
+pub mod CodedLaws
 pub mod ElementaryLaws
 pub mod FinalLaws
 pub mod FulfilLaws
@@ -9,9 +10,8 @@ pub mod JoinLaws
 pub mod ListsLaws
 pub mod KeyLaws
 pub mod MapLaws
-pub mod NearLaws
 pub mod NeedsLaws
-pub mod OwnLaws
+pub mod OpenLaws
 pub mod PartLaws
 pub mod PieceLaws
 pub mod PlaceLaws
@@ -21,6 +21,7 @@ pub mod RowListLaws
 pub mod ProductLaws
 pub mod ProgramLaws
 pub mod PruneLaws
+pub mod SpareLaws
 pub mod StandInLaws
 pub mod TestLaws
 pub mod TransitionLaws

@@ -7,7 +7,6 @@ use Rattle.indexmap.specs.IndexMap.{insert_entry}
 use Rattle.ltl_spec.specs.Collections.Lists.{with_new}
 use Rattle.ltl_spec.specs.Collections.Sets.{Has}
 use Rattle.ltl_spec.proofs.Automata.ListingLaws.{with_new_behind}
-use Rattle.ltl_alt.proofs.OwnLaws.{at_before}
 
 -- ---- maps
 
@@ -51,6 +50,17 @@ pub some_is : {X : Type 0} (P : X → Type 0) (r : Option X) (x : X) → IfSome 
 some_is P r x h e = subst (λ o. IfSome o P) e h
 
 -- ---- lists
+
+pub at_last : {K : Type 0} (xs : List K) (y d : K) (i : ℕ) → i ≡ length xs → slice_index_or (xs ++ y ∷ []) i d ≡ y
+at_last [] y d zero e = refl
+at_last [] y d (suc i) e = absurd (omega arith)
+at_last (x ∷ xs) y d zero e = absurd (omega arith)
+at_last (x ∷ xs) y d (suc i) e = at_last xs y d i (omega arith)
+
+pub at_before : {K : Type 0} (xs ys : List K) (d : K) (i : ℕ) → i < length xs → slice_index_or (xs ++ ys) i d ≡ slice_index_or xs i d
+at_before [] ys d i l = absurd (omega arith)
+at_before (x ∷ xs) ys d zero l = refl
+at_before (x ∷ xs) ys d (suc i) l = at_before xs ys d i (omega arith)
 
 -- some things more stand behind the others
 abbrev pub Longer : {X : Type 0} → List X → List X → Type 0

@@ -23,13 +23,14 @@ use Rattle.ltl_alt.specs.declared.rule.Rule.{Rule}
 use Rattle.ltl_alt.specs.RowLists.{row_place, IsListedRow}
 use Rattle.ltl_alt.specs.PieceView.{piece_pairs}
 use Rattle.ltl_alt.specs.declared.pieces.Piece.TheVariants as piece
-use Rattle.ltl_alt.specs.declared.rule.Rule.TheVariants as rule
 use Rattle.ltl_formula.specs.TableView.{row_tree}
-use Rattle.ltl_alt.specs.StandIns.{AreOwn, IsFit, IsKeptBy, IsListed, IsPruned, StandsFor}
+use Rattle.ltl_alt.specs.declared.fulfilment.Fulfilment.{Fulfilment}
+use Rattle.ltl_alt.specs.Tests.{AreTests}
+use Rattle.ltl_alt.specs.StandIns.{IsKeptBy, IsListed, IsPruned, StandsFor}
 use Rattle.ltl_alt.specs.TransitionView.{table_at}
-use Rattle.ltl_alt.proofs.StandInLaws.{IsStandIn, stands_in, kept_on, kept_all, kept_join, kept_append, pruned_of}
+use Rattle.ltl_alt.proofs.StandInLaws.{IsStandIn, stands_in, kept_on, kept_all, kept_join, kept_append, pruned_of, tests_fit}
 use Rattle.ltl_alt.proofs.NeedsLaws.{same_or_other}
-use Rattle.ltl_alt.proofs.OwnLaws.{at_last, at_before}
+use Rattle.ltl_alt.proofs.MapLaws.{at_last, at_before}
 
 -- ---- sets of numbers
 
@@ -119,18 +120,18 @@ nothing_sound : AreSound []
 nothing_sound = record { proper = λ r h. absurd h; consistent = λ r h. absurd h }
 
 -- the parts so far, with one more behind them
-pub linked_push : (T : Table) (own lists : List (List Pair)) (demands : List Demand) (links new : List RowSet) (more : List (List Pair)) (more_demands : List Demand) (more_links : List RowSet)
-    (ps : List Pair) (d : Demand) (line : RowSet) → AreLinked T own lists demands links → AreSound ps → Demands T own ps d → IsLinked demands d (length lists) (length lists) links new line
-    → more ≡ lists ++ ps ∷ [] → more_demands ≡ demands ++ d ∷ [] → more_links ≡ new ++ line ∷ [] → AreLinked T own more more_demands more_links
-linked_push T own lists demands links new more more_demands more_links ps d line w s a l e f g =
-    subst (λ x. AreLinked T own x more_demands more_links) (sym e) (subst (λ x. AreLinked T own (lists ++ ps ∷ []) x more_links) (sym f) (subst (AreLinked T own (lists ++ ps ∷ []) (demands ++ d ∷ [])) (sym g) (record {
+pub linked_push : (T : Table) (lists : List (List Pair)) (demands : List Demand) (links new : List RowSet) (more : List (List Pair)) (more_demands : List Demand) (more_links : List RowSet)
+    (ps : List Pair) (d : Demand) (line : RowSet) → AreLinked T lists demands links → AreSound ps → Demands T ps d → IsLinked demands d (length lists) (length lists) links new line
+    → more ≡ lists ++ ps ∷ [] → more_demands ≡ demands ++ d ∷ [] → more_links ≡ new ++ line ∷ [] → AreLinked T more more_demands more_links
+linked_push T lists demands links new more more_demands more_links ps d line w s a l e f g =
+    subst (λ x. AreLinked T x more_demands more_links) (sym e) (subst (λ x. AreLinked T (lists ++ ps ∷ []) x more_links) (sym f) (subst (AreLinked T (lists ++ ps ∷ []) (demands ++ d ∷ [])) (sym g) (record {
       demand_count = longer demands lists d ps w.demand_count;
       link_count = longer new lists line ps (l.count ∙ w.link_count);
       sound = λ k. sound k;
       demanded = λ k m. elim (same_or_other k n) [
-        | inl o ↦ subst (λ x. Demands T own (part_of (lists ++ ps ∷ []) x) (demand_of (demands ++ d ∷ []) x)) (sym o)
-            (subst (λ x. Demands T own x (demand_of (demands ++ d ∷ []) n)) (sym part_last) (subst (Demands T own ps) (sym demand_last) a))
-        | inr o ↦ subst (λ x. Demands T own x (demand_of (demands ++ d ∷ []) k)) (sym (part_before k (before k m o))) (subst (Demands T own (part_of lists k)) (sym (demand_before k (before k m o))) (w.demanded k (before k m o)))
+        | inl o ↦ subst (λ x. Demands T (part_of (lists ++ ps ∷ []) x) (demand_of (demands ++ d ∷ []) x)) (sym o)
+            (subst (λ x. Demands T x (demand_of (demands ++ d ∷ []) n)) (sym part_last) (subst (Demands T ps) (sym demand_last) a))
+        | inr o ↦ subst (λ x. Demands T x (demand_of (demands ++ d ∷ []) k)) (sym (part_before k (before k m o))) (subst (Demands T (part_of lists k)) (sym (demand_before k (before k m o))) (w.demanded k (before k m o)))
       ];
       linked = λ i j m o h. linked i j (same_or_other i n) (same_or_other j n) m o h;
     })))
@@ -447,18 +448,12 @@ more_there first rest inside linked more h e = subst (λ xs. Has xs first) (sym 
 
 -- ---- pieces
 
--- what a rule takes, of own pairs that are as they should be
-fit_of : (T : Table) (r : Rule) (own : List (List Pair)) → AreOwn T own → IsFit T r own
-fit_of T rule.Equal own w = tt
-fit_of T rule.Contained own w = tt
-fit_of T rule.Safe own w = w
-
 -- the pairs of a row with the one that asks for another row later
-pub released_listed : (t : TableView) (r : Rule) (own : List (List Pair)) (i k at : ℕ) (now all qs : List Pair) → AreOwn (table_at t) own → IsListedRow t r i now → at ≡ row_place t (row_tree t k) → all ≡ now ++ later_pair at ∷ []
-    → IsPruned r own all qs → IsListed (StandsFor (table_at t) r) (piece_pairs t (piece.Released i k)) qs
-released_listed t r own i k at now all qs fit w e d p =
+pub released_listed : {A : Type 0} (t : TableView) (r : Rule) (f : Fulfilment A) (i k at : ℕ) (now all qs : List Pair) → AreTests (table_at t) f → IsListedRow t r i now → at ≡ row_place t (row_tree t k) → all ≡ now ++ later_pair at ∷ []
+    → IsPruned r f all qs → IsListed (StandsFor (table_at t) r) (piece_pairs t (piece.Released i k)) qs
+released_listed t r f i k at now all qs fit w e d p =
     let T = table_at t in
     let one = later_pair (row_place t (row_tree t k)) ∷ [] in
     let both = kept_append (stands_in T r) (pairs (row_place t) (row_tree t i)) now one one w.kept (kept_all (stands_in T r) one) in
     let kept = subst (IsKeptBy (StandsFor T r) (piece_pairs t (piece.Released i k))) (sym (d ∙ ap (λ m. now ++ later_pair m ∷ []) e)) both in
-    pruned_of T r own (piece_pairs t (piece.Released i k)) all qs (fit_of T r own fit) kept p
+    pruned_of T r f (piece_pairs t (piece.Released i k)) all qs (tests_fit T r f fit) kept p

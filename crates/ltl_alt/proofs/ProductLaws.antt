@@ -18,11 +18,12 @@ use Rattle.ltl_spec.proofs.Collections.ProductLists.{products, rising_once}
 use Rattle.ltl_spec.specs.Transitions.Pruning.{IsEnough, own_pairs}
 use Rattle.ltl_spec.proofs.Transitions.ApartMarks.{common, at_once}
 use Rattle.ltl_spec.proofs.Transitions.ApartPairs.{apart_sym}
-use Rattle.ltl_spec.proofs.Transitions.ApartTests.{own_at, enough_at, apart_by_test}
+use Rattle.ltl_spec.proofs.Transitions.ApartTests.{apart_by_test}
 use Rattle.ltl_spec.proofs.Transitions.FactorLaws.{AreTakenOut, all_products, product_size, group_transitions, factors_law}
 use Rattle.ltl_spec.proofs.Transitions.FactoredTransitions.{AreListedFor, sorted_by_factors, count_by_factors, transitions_by_factors}
 use Rattle.ltl_spec.proofs.Transitions.LinkLaws.{LinksTell, without, taken_closed}
-use Rattle.ltl_spec.proofs.Transitions.JoinLaws.{join_parts}
+use Rattle.ltl_spec.proofs.Transitions.JoinLaws.{join_parts, within_refl}
+use Rattle.ltl_spec.proofs.Transitions.LeastPairs.{enough_from}
 use Rattle.ltl_spec.proofs.Transitions.PartJoins.{join_of, sound_join_of, transitions_by_rows}
 use Rattle.ltl_spec.proofs.Transitions.PartSets.{ArePartsOf}
 use Rattle.ltl_spec.proofs.Transitions.ProductTransitions.{transitions_of, product, transitions_of_cases, in_order, alike_transitions}
@@ -30,15 +31,14 @@ use Rattle.ltl_spec.proofs.Transitions.SameJoins.{AreSound}
 use Rattle.ltl_spec.proofs.Transitions.UnimpliedLaws.{marks_too_linear}
 use Rattle.ltl_alt.specs.declared.asked.Demand.{Demand}
 use Rattle.ltl_alt.specs.BasisView.{IsBasisOf}
-use Rattle.ltl_alt.specs.declared.fulfilment.UntilTest.{UntilTest}
-use Rattle.ltl_alt.specs.declared.program.Step.{Step}
+use Rattle.ltl_alt.specs.declared.fulfilment.Fulfilment.{Fulfilment}
 use Rattle.ltl_alt.specs.FinalView.{AreLists}
 use Rattle.ltl_alt.specs.PartView.{part_of, demand_of, links_of, numbers_of, numbers_in, AreLinked, HasEach, HasNoPart, IsGroup}
 use Rattle.ltl_alt.specs.TransitionView.{table_at}
 use Rattle.ltl_alt.specs.declared.rule.Rule.{Rule}
 use Rattle.ltl_formula.specs.TableView.{TableView, IsTable}
 use Rattle.ltl_alt.specs.ProductView.{AreConsistent, join_transitions, joined_products}
-use Rattle.ltl_alt.specs.StandIns.{IsKeptBy, StandsFor, AreOwn, rule_of}
+use Rattle.ltl_alt.specs.StandIns.{IsKeptBy, StandsFor, rule_of}
 use Rattle.ltl_alt.proofs.KeyLaws.{AllListsProper, groups_proper}
 use Rattle.ltl_alt.proofs.PartLaws.{map_behind, numbers_below}
 use Rattle.ltl_alt.proofs.PieceLaws.{no_piece_at}
@@ -104,19 +104,20 @@ taken_drop T chosen part gs zero all t = (all, t)
 taken_drop T chosen part [] (suc k) all t = ([], refl)
 taken_drop T chosen part (g ∷ gs) (suc k) all t = taken_drop T chosen part gs k (filter (λ i. not (t.0 i)) all) t.3
 
-module _ (T : Table) (own : List (List Pair)) (fit : AreOwn T own) (part : ℕ → List Pair) (sound : (i : ℕ) → AreSound (part i)) (keep : Bool) where
-  enough : (f : Normal) → Has T.untils f → IsEnough (own_pairs T f) (own_at T own f)
-  enough = enough_at T own fit.enough
+-- the pairs that fulfil an until row are enough of them
+own_enough : (T : Table) (f : Normal) → Has T.untils f → IsEnough (own_pairs T f) (own_pairs T f)
+own_enough T f h = enough_from (own_pairs T f) (own_pairs T f) (λ q k. k) (λ q k. (q, k, within_refl q))
 
-  products_consistent : (all : List ℕ) (gs : List (List ℕ)) → AreTakenOut T (own_at T own) part all gs [] → AreConsistent (all_products T (group_transitions T part keep gs))
+module _ (T : Table) (part : ℕ → List Pair) (sound : (i : ℕ) → AreSound (part i)) (keep : Bool) where
+  products_consistent : (all : List ℕ) (gs : List (List ℕ)) → AreTakenOut T (own_pairs T) part all gs [] → AreConsistent (all_products T (group_transitions T part keep gs))
   products_consistent all gs t u h =
-      let there = subst (λ us. Has us u) (sym (factors_law T (own_at T own) enough part sound keep all gs t)) (Has-set_of marks_too_linear (all_products T (group_transitions T part keep gs)) u h) in
+      let there = subst (λ us. Has us u) (sym (factors_law T (own_pairs T) (own_enough T) part sound keep all gs t)) (Has-set_of marks_too_linear (all_products T (group_transitions T part keep gs)) u h) in
       let (p, k, e, f) = transitions_of_cases T keep (join_of part all) u there in
       ap (λ (x : Transition). is_contradictory x.cube) e ∙ (sound_join_of part sound all).consistent p k
 
-  pub suffix_consistent : (all : List ℕ) (gs : List (List ℕ)) (k : ℕ) → AreTakenOut T (own_at T own) part all gs [] → AreConsistent (all_products T (drop k (group_transitions T part keep gs)))
+  pub suffix_consistent : (all : List ℕ) (gs : List (List ℕ)) (k : ℕ) → AreTakenOut T (own_pairs T) part all gs [] → AreConsistent (all_products T (drop k (group_transitions T part keep gs)))
   suffix_consistent all gs k t =
-      let (some, s) = taken_drop T (own_at T own) part gs k all t in
+      let (some, s) = taken_drop T (own_pairs T) part gs k all t in
       subst (λ x. AreConsistent (all_products T x)) (sym (dropped_map (λ g. transitions_of T keep (join_of part g)) gs k)) (products_consistent some (drop k gs) s)
     where
       dropped_map : {X Y : Type 0} (h : X → Y) (xs : List X) (k : ℕ) → drop k (map h xs) ≡ map h (drop k xs)
@@ -125,30 +126,30 @@ module _ (T : Table) (own : List (List Pair)) (fit : AreOwn T own) (part : ℕ �
       dropped_map h (x ∷ xs) (suc k) = dropped_map h xs k
 
 -- the links of parts tell which have nothing to do with each other
-links_tell : (T : Table) (own lists : List (List Pair)) (demands : List Demand) (links : List RowSet) (all : List ℕ) → AreLinked T own lists demands links → ((k : ℕ) → Has all k → k < length lists)
-    → LinksTell T (own_at T own) (part_of lists) (links_of links) all
-links_tell T own lists demands links all w f i j h k e =
+links_tell : (T : Table) (lists : List (List Pair)) (demands : List Demand) (links : List RowSet) (all : List ℕ) → AreLinked T lists demands links → ((k : ℕ) → Has all k → k < length lists)
+    → LinksTell T (own_pairs T) (part_of lists) (links_of links) all
+links_tell T lists demands links all w f i j h k e =
     let di = w.demanded i (f i h) in
     let dj = w.demanded j (f j k) in
     elim (w.linked i j (f i h) (f j k) e) [
-      | inl t ↦ apart_by_test T (own_at T own) (demand_of demands i).asked (demand_of demands i).awaited (demand_of demands j).asked (demand_of demands j).awaited (part_of lists i) (part_of lists j) di.asked di.awaited dj.asked dj.awaited t
-      | inr t ↦ apart_sym T (own_at T own) (part_of lists j) (part_of lists i)
-          (apart_by_test T (own_at T own) (demand_of demands j).asked (demand_of demands j).awaited (demand_of demands i).asked (demand_of demands i).awaited (part_of lists j) (part_of lists i) dj.asked dj.awaited di.asked di.awaited t)
+      | inl t ↦ apart_by_test T (own_pairs T) (demand_of demands i).asked (demand_of demands i).awaited (demand_of demands j).asked (demand_of demands j).awaited (part_of lists i) (part_of lists j) di.asked di.awaited dj.asked dj.awaited t
+      | inr t ↦ apart_sym T (own_pairs T) (part_of lists j) (part_of lists i)
+          (apart_by_test T (own_pairs T) (demand_of demands j).asked (demand_of demands j).awaited (demand_of demands i).asked (demand_of demands i).awaited (part_of lists j) (part_of lists i) dj.asked dj.awaited di.asked di.awaited t)
     ]
 
 -- one group more is taken out, and its transitions stand behind those of the others
-pub lists_more : (T : Table) (keep : Bool) (own parts : List (List Pair)) (demands : List Demand) (links : List RowSet) (all : List ℕ) (tss more : List (List Transition)) (ts : List Transition) (rest inside left : RowSet) (first : ℕ)
-    → AreLinked T own parts demands links → ((k : ℕ) → Has rest k → k < length parts) → AreLists T keep own parts all tss rest → IsRising nat_cmp rest → IsRising nat_cmp inside
-    → IsGroup links first rest inside → ts ≡ transitions_of T keep (join_of (part_of parts) inside) → more ≡ tss ++ ts ∷ [] → left ≡ without rest inside → AreLists T keep own parts all more left
-lists_more T keep own parts demands links all tss more ts rest inside left first w f a r s group d e g = record {
+pub lists_more : (T : Table) (keep : Bool) (parts : List (List Pair)) (demands : List Demand) (links : List RowSet) (all : List ℕ) (tss more : List (List Transition)) (ts : List Transition) (rest inside left : RowSet) (first : ℕ)
+    → AreLinked T parts demands links → ((k : ℕ) → Has rest k → k < length parts) → AreLists T keep parts all tss rest → IsRising nat_cmp rest → IsRising nat_cmp inside
+    → IsGroup links first rest inside → ts ≡ transitions_of T keep (join_of (part_of parts) inside) → more ≡ tss ++ ts ∷ [] → left ≡ without rest inside → AreLists T keep parts all more left
+lists_more T keep parts demands links all tss more ts rest inside left first w f a r s group d e g = record {
   groups = a.groups ++ inside ∷ [];
-  taken = subst (AreTakenOut T (own_at T own) (part_of parts) all (a.groups ++ inside ∷ [])) (sym g)
-      (taken_closed T (own_at T own) (part_of parts) (links_of links) all a.groups rest inside a.taken r s group.some (links_tell T own parts demands links rest w f) group.closed);
+  taken = subst (AreTakenOut T (own_pairs T) (part_of parts) all (a.groups ++ inside ∷ [])) (sym g)
+      (taken_closed T (own_pairs T) (part_of parts) (links_of links) all a.groups rest inside a.taken r s group.some (links_tell T parts demands links rest w f) group.closed);
   lists = e ∙ (λ i. a.lists i ++ d i ∷ []) ∙ sym (map_behind (λ g. transitions_of T keep (join_of (part_of parts) g)) a.groups inside);
 }
 
-pub lists_none : (T : Table) (keep : Bool) (own parts : List (List Pair)) (all : RowSet) → AreLists T keep own parts all [] all
-lists_none T keep own parts all = record { groups = []; taken = refl; lists = refl }
+pub lists_none : (T : Table) (keep : Bool) (parts : List (List Pair)) (all : RowSet) → AreLists T keep parts all [] all
+lists_none T keep parts all = record { groups = []; taken = refl; lists = refl }
 
 -- ---- the transitions of a set of rows
 
@@ -196,36 +197,33 @@ listed_for T false ps qs k = record { from = k.from; covers = k.covers }
 
 -- ---- a set of rows, its parts, and the transitions of their groups
 
-module _ (t : TableView) (keep : Bool) (r : Rule) (own : List (List Pair)) (made owners : List ℕ) (parts : List (List Pair)) (demands : List Demand) (links : List RowSet)
-    {steps : List Step} {untils : List UntilTest} (b : IsBasisOf t keep r own made owners parts demands links steps untils) (state all : RowSet) (rising : IsRising nat_cmp state) (there : HasEach made state) (e : all ≡ numbers_in owners state) (tss : List (List Transition))
-    (a : AreLists (table_at t) keep own parts all tss []) where
-  enough_own : (f : Normal) → Has (table_at t).untils f → IsEnough (own_pairs (table_at t) f) (own_at (table_at t) own f)
-  enough_own = enough_at (table_at t) own b.own_pairs.enough
-
+module _ {A : Type 0} (t : TableView) (keep : Bool) (r : Rule) (f : Fulfilment A) (made owners : List ℕ) (parts : List (List Pair)) (demands : List Demand) (links : List RowSet)
+    (b : IsBasisOf t keep r f made owners parts demands links) (state all : RowSet) (rising : IsRising nat_cmp state) (there : HasEach made state) (e : all ≡ numbers_in owners state) (tss : List (List Transition))
+    (a : AreLists (table_at t) keep parts all tss []) where
   listed : (i : ℕ) → Has state i → AreListedFor (table_at t) keep (pairs_at (table_at t) i) (join_of (part_of parts) (numbers_of owners i))
   listed i h = listed_for (table_at t) keep (pairs_at (table_at t) i) (join_of (part_of parts) (numbers_of owners i))
       (subst (λ q. IsKeptBy (StandsFor (table_at t) q) (pairs_at (table_at t) i) (join_of (part_of parts) (numbers_of owners i))) b.rule (b.parts.rows.listed i (there i h)))
 
-  taken : AreTakenOut (table_at t) (own_at (table_at t) own) (part_of parts) (numbers_in owners state) a.groups []
-  taken = subst (λ x. AreTakenOut (table_at t) (own_at (table_at t) own) (part_of parts) x a.groups []) e a.taken
+  taken : AreTakenOut (table_at t) (own_pairs (table_at t)) (part_of parts) (numbers_in owners state) a.groups []
+  taken = subst (λ x. AreTakenOut (table_at t) (own_pairs (table_at t)) (part_of parts) x a.groups []) e a.taken
 
   pub set_shape : transitions (table_at t) keep state ≡ in_order (all_products (table_at t) tss)
   set_shape =
-      transitions_by_factors (table_at t) (own_at (table_at t) own) enough_own (part_of parts) b.parts.linked.sound keep (numbers_of owners) state (numbers_in owners state) (parts_of_state owners state rising) listed a.groups taken
+      transitions_by_factors (table_at t) (own_pairs (table_at t)) (own_enough (table_at t)) (part_of parts) b.parts.linked.sound keep (numbers_of owners) state (numbers_in owners state) (parts_of_state owners state rising) listed a.groups taken
       ∙ ap (λ x. in_order (all_products (table_at t) x)) (sym a.lists)
 
   pub set_count : length (transitions (table_at t) keep state) ≡ product_size tss
   set_count =
-      count_by_factors (table_at t) (own_at (table_at t) own) enough_own (part_of parts) b.parts.linked.sound keep (numbers_of owners) state (numbers_in owners state) (parts_of_state owners state rising) listed a.groups taken
+      count_by_factors (table_at t) (own_pairs (table_at t)) (own_enough (table_at t)) (part_of parts) b.parts.linked.sound keep (numbers_of owners) state (numbers_in owners state) (parts_of_state owners state rising) listed a.groups taken
       ∙ ap product_size (sym a.lists)
 
   pub set_sorted : (products sorted : List Transition) → IsPermutation (all_products (table_at t) tss) products → IsPermutation products sorted → IsSorted transition_cmp sorted → sorted ≡ transitions (table_at t) keep state
   set_sorted products sorted moved permuted order =
-      sorted_by_factors (table_at t) (own_at (table_at t) own) enough_own (part_of parts) b.parts.linked.sound keep (numbers_of owners) state (numbers_in owners state) (parts_of_state owners state rising) listed a.groups taken sorted
+      sorted_by_factors (table_at t) (own_pairs (table_at t)) (own_enough (table_at t)) (part_of parts) b.parts.linked.sound keep (numbers_of owners) state (numbers_in owners state) (parts_of_state owners state rising) listed a.groups taken sorted
       (subst (λ x. IsPermutation (all_products (table_at t) x) sorted) a.lists (IsPermutation-trans (all_products (table_at t) tss) products sorted moved permuted)) order
 
   pub set_consistent : (k : ℕ) → AreConsistent (all_products (table_at t) (drop k tss))
-  set_consistent k = subst (λ x. AreConsistent (all_products (table_at t) (drop k x))) (sym a.lists) (suffix_consistent (table_at t) own b.own_pairs (part_of parts) b.parts.linked.sound keep all a.groups k a.taken)
+  set_consistent k = subst (λ x. AreConsistent (all_products (table_at t) (drop k x))) (sym a.lists) (suffix_consistent (table_at t) (part_of parts) b.parts.linked.sound keep all a.groups k a.taken)
 
   pub set_proper : AllListsProper tss
   set_proper = subst AllListsProper (sym a.lists) (groups_proper (table_at t) (part_of parts) b.parts.linked.sound keep a.groups)

@@ -1,5 +1,5 @@
 -- Steps of tests as they are numbered.
-use Rattle.std.proofs.Common.{◌≡◌, ℕ, zero, suc, ◌+◌, ◌<◌, ◌≤◌, Bool, true, false, cond, ◌&&◌, ◌⊎◌, eqb, inl, inr, List, [], ◌∷◌, ◌++◌, length, take, refl, sym, ◌∙◌, ap, subst, arith, Some}
+use Rattle.std.proofs.Common.{◌≡◌, ℕ, zero, suc, ◌+◌, ◌<◌, Bool, true, false, cond, ◌&&◌, ◌⊎◌, eqb, inl, inr, List, [], ◌∷◌, ◌++◌, length, take, refl, sym, ◌∙◌, ap, subst, arith, Some}
 use Rattle.std.specs.Prelude.{slice_get, slice_index_or}
 use Rattle.std.specs.Bool.{beq}
 use Rattle.std.specs.List.{list_any}
@@ -30,7 +30,7 @@ use Rattle.ltl_formula.specs.declared.row.Row.TheVariants as row
 use Rattle.ltl_alt.specs.NeedsView.{need_at, AllAsked, IsAsked, IsSecondNeeded}
 use Rattle.ltl_alt.specs.RowLists.{row_place}
 use Rattle.ltl_alt.specs.Steps.{AreOrdered, AreRowSteps, AreUntilSteps, HavePairSteps, HaveSetSteps, IsGrown, IsNumbered, IsNumberedIf, IsProgram, IsStepOf, pair_test_from, set_test_from, steps_at, test_by, until_step}
-use Rattle.ltl_alt.specs.Tests.{AreEarlier, AreSmall, HasOperands, IsSmall, IsUntilTest, step_of, steps_of, test_of}
+use Rattle.ltl_alt.specs.Tests.{AreEarlier, AreSmall, HasOperands, IsSmall, IsUntilTest, step_of, steps_of}
 use Rattle.ltl_alt.specs.declared.needs.Need.{Need}
 use Rattle.ltl_alt.specs.declared.program.RowSteps.{RowSteps}
 use Rattle.ltl_alt.specs.declared.program.Step.{Step}

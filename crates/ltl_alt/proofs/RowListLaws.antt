@@ -13,6 +13,7 @@ use Rattle.ltl_formula.specs.declared.row.Row.{Row}
 use Rattle.ltl_formula.specs.declared.row.Row.TheVariants as row
 use Rattle.ltl_sets.specs.Literals.{literal_of}
 use Rattle.ltl_alt.specs.RowLists.{row_place, pairs_from, sets_from, next_pair, IsListedRow, IsListedSet, HavePairs, HaveSets}
+use Rattle.ltl_alt.specs.declared.fulfilment.Fulfilment.{Fulfilment}
 use Rattle.ltl_alt.specs.StandIns.{IsKeptBy, StandsFor, IsFit, IsPruned}
 use Rattle.ltl_alt.specs.declared.rule.Rule.{Rule}
 use Rattle.ltl_alt.proofs.StandInLaws.{IsStandIn, stands_in, kept_all, kept_on, kept_same, kept_join, kept_append, pruned_of}
@@ -114,18 +115,18 @@ module _ (t : TableView) (q : Rule) (ps es : ℕ → List spec.Pair) (at : ℕ) 
   sets_kept (row.Until i j) e h = later _ e
   sets_kept (row.Release i j) e h = later _ e
 
-  module _ (own : List (List spec.Pair)) (fit : IsFit (table_of (core_of t)) q own) (k : ℕ) (r : Row) (f : slice_get t.rows k ≡ Some r) (l : IsBelow k r) (p : at ≡ row_place t (row_tree t k)) (xs ys : List spec.Pair) where
+  module _ {A : Type 0} (tests : Fulfilment A) (fit : IsFit (table_of (core_of t)) q tests) (k : ℕ) (r : Row) (f : slice_get t.rows k ≡ Some r) (l : IsBelow k r) (p : at ≡ row_place t (row_tree t k)) (xs ys : List spec.Pair) where
     tree : row_tree t k ≡ tree_of (row_tree t) (node_of r)
     tree = row_tree_is t k r f l
 
-    pub pairs_listed : HavePairs t q ps es r → set_of spec.pair_cmp xs ≡ set_of spec.pair_cmp (pairs_from ps es at r) → IsPruned q own xs ys → IsListedRow t q k ys
+    pub pairs_listed : HavePairs t q ps es r → set_of spec.pair_cmp xs ≡ set_of spec.pair_cmp (pairs_from ps es at r) → IsPruned q tests xs ys → IsListedRow t q k ys
     pairs_listed h e w =
-        pruned_of (table_of (core_of t)) q own (of k) xs ys fit
+        pruned_of (table_of (core_of t)) q tests (of k) xs ys fit
         (subst (λ F. IsKeptBy (StandsFor (table_of (core_of t)) q) (spec.pairs (row_place t) F) xs) (sym tree)
         (kept_on stands (spec.pairs (row_place t) (tree_of (row_tree t) (node_of r))) (pairs_from ps es at r) xs (pairs_kept r (p ∙ ap (row_place t) tree) h) (kept_same stands (pairs_from ps es at r) xs e))) w
 
-    pub sets_listed : HaveSets t q es r → set_of spec.pair_cmp xs ≡ set_of spec.pair_cmp (sets_from es at r) → IsPruned q own xs ys → IsListedSet t q k ys
+    pub sets_listed : HaveSets t q es r → set_of spec.pair_cmp xs ≡ set_of spec.pair_cmp (sets_from es at r) → IsPruned q tests xs ys → IsListedSet t q k ys
     sets_listed h e w =
-        pruned_of (table_of (core_of t)) q own (next_of k) xs ys fit
+        pruned_of (table_of (core_of t)) q tests (next_of k) xs ys fit
         (subst (λ F. IsKeptBy (StandsFor (table_of (core_of t)) q) (map next_pair (spec.conj (row_place t) F)) xs) (sym tree)
         (kept_on stands (map next_pair (spec.conj (row_place t) (tree_of (row_tree t) (node_of r)))) (sets_from es at r) xs (sets_kept r (p ∙ ap (row_place t) tree) h) (kept_same stands (sets_from es at r) xs e))) w

@@ -1,20 +1,16 @@
 -- The marks of pairs, step by step.
-use Rattle.std.proofs.Common.{◌≡◌, ℕ, zero, suc, ◌+◌, ◌<◌, Bool, true, false, cond, not, ◌||◌, inl, inr, List, [], ◌∷◌, ◌++◌, length, map, take, refl, sym, ◌∙◌, ap, arith, Some}
+use Rattle.std.proofs.Common.{◌≡◌, ℕ, zero, suc, ◌+◌, ◌<◌, Bool, true, false, cond, inl, inr, List, [], ◌∷◌, ◌++◌, length, map, take, refl, sym, ◌∙◌, ap, arith, Some}
 use Rattle.std.proofs.lemmas.List.{take_more, length-take-le}
 use Rattle.std.specs.Prelude.{slice_get, slice_index_or}
-use Rattle.std.specs.List.{list_any}
 use Rattle.std.specs.Ordering.{nat_cmp}
 use Rattle.std.specs.declared.cmp.Ordering.TheVariants.{Greater}
 use Rattle.std.proofs.lemmas.Bool.Decides.{nat_tests}
 use Rattle.std.proofs.lemmas.List.{append-nil}
 use Rattle.ltl_spec.proofs.Collections.ListLaws.{places_cases}
-use Rattle.ltl_spec.specs.Collections.Sets.{Has, has, put, by_order}
+use Rattle.ltl_spec.specs.Collections.Sets.{Has, put, by_order}
 use Rattle.ltl_spec.specs.Collections.Lists.{places_where, places_from}
 use Rattle.ltl_spec.specs.NormalForms.Normal.{Normal, Bottom}
-use Rattle.ltl_spec.specs.Transitions.Pairs.{Pair}
-use Rattle.ltl_spec.specs.Transitions.Pruning.{is_within}
 use Rattle.ltl_formula.specs.TableView.{TableView, IsTable, row_tree}
-use Rattle.ltl_alt.specs.RowLists.{row_place}
 use Rattle.ltl_alt.specs.TransitionView.{table_at}
 use Rattle.ltl_alt.proofs.PlaceLaws.{untils_is}
 

@@ -5,22 +5,20 @@ use Rattle.ltl_spec.specs.Transitions.Pairs.{RowSet, Pair}
 use Rattle.ltl_formula.specs.TableView.{TableView, IsTable}
 use Rattle.ltl_alt.specs.declared.asked.Demand.{Demand}
 use Rattle.ltl_alt.specs.declared.basis.Basis.{Basis}
-use Rattle.ltl_alt.specs.declared.fulfilment.UntilTest.{UntilTest}
-use Rattle.ltl_alt.specs.declared.program.Step.{Step}
+use Rattle.ltl_alt.specs.declared.fulfilment.Fulfilment.{Fulfilment}
 use Rattle.ltl_alt.specs.declared.rule.Rule.{Rule}
 use Rattle.ltl_alt.specs.PartView.{AreParts}
-use Rattle.ltl_alt.specs.StandIns.{AreOwn, rule_of}
-use Rattle.ltl_alt.specs.Tests.{AreTestsOf}
+use Rattle.ltl_alt.specs.StandIns.{rule_of}
+use Rattle.ltl_alt.specs.Tests.{AreTests}
 use Rattle.ltl_alt.specs.TransitionView.{table_at}
 
 -- the rule is that of the sets of rows, and all elementary rows of the table were taken apart by it
-pub record IsBasisOf (t : TableView) (keep : Bool) (r : Rule) (own : List (List Pair)) (made owners : List ℕ) (lists : List (List Pair)) (demands : List Demand) (links : List RowSet) (steps : List Step) (untils : List UntilTest) : Type 0 where
+pub record IsBasisOf {A : Type 0} (t : TableView) (keep : Bool) (r : Rule) (f : Fulfilment A) (made owners : List ℕ) (lists : List (List Pair)) (demands : List Demand) (links : List RowSet) : Type 0 where
   pub table : IsTable t
   pub rule : r ≡ rule_of keep
-  pub own_pairs : AreOwn (table_at t) own
-  pub tests : AreTestsOf (table_at t) steps untils
-  pub parts : AreParts (table_at t) r own made owners lists demands links
+  pub tests : AreTests (table_at t) f
+  pub parts : AreParts (table_at t) r made owners lists demands links
   pub all : (i : ℕ) → i < length t.elementary → Has made i
 
 abbrev pub IsBasis : {A : Type 0} → Basis A → Type 0
-IsBasis b = IsBasisOf b.table.now b.keep_implied b.pruning.rule b.pruning.own.now b.parts.made b.parts.owners.items b.parts.lists.items b.parts.demands.items b.parts.links.items b.fulfilment.now.steps.items b.fulfilment.now.untils.items
+IsBasis b = IsBasisOf b.table.now b.keep_implied b.pruning.rule b.pruning.fulfilment.now b.parts.made b.parts.owners.items b.parts.lists.items b.parts.demands.items b.parts.links.items

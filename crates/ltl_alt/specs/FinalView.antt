@@ -3,7 +3,7 @@ use Rattle.std.specs.Prelude.{◌≡◌, ℕ, ◌<◌, Bool, List, [], ◌++◌,
 use Rattle.ltl_spec.specs.Collections.Sets.{Has}
 use Rattle.ltl_spec.specs.Transitions.Pairs.{RowSet, Pair}
 use Rattle.ltl_spec.specs.Transitions.RowTransitions.{Table, Transition}
-use Rattle.ltl_spec.proofs.Transitions.ApartTests.{own_at}
+use Rattle.ltl_spec.specs.Transitions.Pruning.{own_pairs}
 use Rattle.ltl_spec.proofs.Transitions.FactorLaws.{AreTakenOut, group_transitions}
 use Rattle.ltl_spec.proofs.Transitions.PartJoins.{join_of}
 use Rattle.ltl_spec.proofs.Transitions.ProductTransitions.{transitions_of}
@@ -56,11 +56,11 @@ abbrev pub HasFinals : {A : Type 0} → Basis A → Finals A → Type 0
 HasFinals b f = HasGroups b f.groups × AreFinals (table_at b.table.now) b.keep_implied b.parts.lists.items f.groups.memo.lists.keys f.lists.keys f.of_lists.entries f.of_groups.entries
 
 -- groups were taken out of all parts one after another, each apart from what was then left, these are the transitions of each, and the rest is left
-pub record AreLists (T : Table) (keep : Bool) (own parts : List (List Pair)) (all : RowSet) (tss : List (List Transition)) (rest : RowSet) : Type 0 where
+pub record AreLists (T : Table) (keep : Bool) (parts : List (List Pair)) (all : RowSet) (tss : List (List Transition)) (rest : RowSet) : Type 0 where
   pub groups : List RowSet
-  pub taken : AreTakenOut T (own_at T own) (part_of parts) all groups rest
+  pub taken : AreTakenOut T (own_pairs T) (part_of parts) all groups rest
   pub lists : tss ≡ group_transitions T (part_of parts) keep groups
 
 abbrev pub AreFactorsOf : {A : Type 0} → Basis A → List (List Transition) → RowSet → List (Factor A) → RowSet → Type 0
 AreFactorsOf b lists all factors rest =
-    AreWithin lists factors × AreLists (table_at b.table.now) b.keep_implied b.pruning.own.now b.parts.lists.items all (map (list_of lists) factors) rest
+    AreWithin lists factors × AreLists (table_at b.table.now) b.keep_implied b.parts.lists.items all (map (list_of lists) factors) rest

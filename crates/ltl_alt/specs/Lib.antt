@@ -1,5 +1,6 @@
 pub mod AskedView
 pub mod BasisView
+pub mod CodeView
 pub mod Codes
 pub mod FinalView
 pub mod GroupView

@@ -17,7 +17,7 @@ use Rattle.ltl_alt.specs.TransitionHash.{same_transition, transition_Decides, ha
 abbrev pub same_pairs : List Pair → List Pair → Bool
 same_pairs = pointwise (eq_by_cmp pair_cmp)
 
-pair_Decides : (p q : Pair) → Decides (eq_by_cmp pair_cmp p q) (p ≡ q)
+pub pair_Decides : (p q : Pair) → Decides (eq_by_cmp pair_cmp p q) (p ≡ q)
 pair_Decides p q = (exact p q, λ e. ap (λ x. is_eq (pair_cmp x q)) e ∙ ap is_eq (tied_itself pair_linear.total q))
 
 pub pairs_Decides : (s t : List Pair) → Decides (same_pairs s t) (s ≡ t)

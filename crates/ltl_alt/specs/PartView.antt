@@ -46,11 +46,11 @@ pub record IsLinked (demands : List Demand) (d : Demand) (n k : ℕ) (old new : 
   pub itself : has nat_cmp n own ≡ true
 
 -- parts that aren't linked have nothing to do with each other
-pub record AreLinked (T : Table) (own lists : List (List Pair)) (demands : List Demand) (links : List RowSet) : Type 0 where
+pub record AreLinked (T : Table) (lists : List (List Pair)) (demands : List Demand) (links : List RowSet) : Type 0 where
   pub demand_count : length demands ≡ length lists
   pub link_count : length links ≡ length lists
   pub sound : (k : ℕ) → AreSound (part_of lists k)
-  pub demanded : (k : ℕ) → k < length lists → Demands T own (part_of lists k) (demand_of demands k)
+  pub demanded : (k : ℕ) → k < length lists → Demands T (part_of lists k) (demand_of demands k)
   pub linked : (i j : ℕ) → i < length lists → j < length lists → has nat_cmp j (links_of links i) ≡ false
       → (tells_apart (demand_of demands i) (demand_of demands j) ≡ true) ⊎ (tells_apart (demand_of demands j) (demand_of demands i) ≡ true)
 
@@ -62,16 +62,16 @@ pub record AreMade (T : Table) (r : Rule) (made owners : List ℕ) (lists : List
   pub listed : (i : ℕ) → Has made i → IsKeptBy (StandsFor T r) (pairs_at T i) (join_of (part_of lists) (numbers_of owners i))
 
 -- both
-pub record AreParts (T : Table) (r : Rule) (own : List (List Pair)) (made owners : List ℕ) (lists : List (List Pair)) (demands : List Demand) (links : List RowSet) : Type 0 where
-  pub linked : AreLinked T own lists demands links
+pub record AreParts (T : Table) (r : Rule) (made owners : List ℕ) (lists : List (List Pair)) (demands : List Demand) (links : List RowSet) : Type 0 where
+  pub linked : AreLinked T lists demands links
   pub rows : AreMade T r made owners lists
 
-abbrev pub HasParts : {A : Type 0} → Table → Rule → List (List Pair) → Parts A → Type 0
-HasParts T r own parts = AreParts T r own parts.made parts.owners.items parts.lists.items parts.demands.items parts.links.items
+abbrev pub HasParts : {A : Type 0} → Table → Rule → Parts A → Type 0
+HasParts T r parts = AreParts T r parts.made parts.owners.items parts.lists.items parts.demands.items parts.links.items
 
 -- and all elementary rows of the table were
-abbrev pub HasAllParts : {A : Type 0} → TableView → Rule → List (List Pair) → Parts A → Type 0
-HasAllParts t r own parts = HasParts (table_at t) r own parts × ((i : ℕ) → i < length t.elementary → Has parts.made i)
+abbrev pub HasAllParts : {A : Type 0} → TableView → Rule → Parts A → Type 0
+HasAllParts t r parts = HasParts (table_at t) r parts × ((i : ℕ) → i < length t.elementary → Has parts.made i)
 
 -- each row of a set was taken apart, or one of them wasn't
 abbrev pub HasEach : RowSet → RowSet → Type 0

@@ -4,12 +4,11 @@ ghost use Rattle.std.specs.Prelude.{◌≡◌, length};
 ghost use Rattle.ltl_spec.specs.Transitions.Pairs as spec_pairs;
 ghost use Rattle.ltl_spec.proofs.Transitions.ApartTests as apart;
 ghost use Rattle.ltl_alt.specs.AskedView.{IsAdded, AwaitsAll, Demands};
-ghost use Rattle.ltl_alt.specs.StandIns.{AreOwn};
+ghost use Rattle.ltl_alt.specs.Tests.{AreTests};
 ghost use Rattle.ltl_alt.specs.TransitionView.{table_at};
 
+use crate::fulfilment::Fulfilment;
 use crate::pair::Pair;
-use crate::pair_set::PairSet;
-use crate::place::{place, until_count, until_row};
 use ltl_formula::Table;
 use ltl_sets::RowSet;
 use std::alloc::{AllocError, Allocator};
@@ -34,7 +33,7 @@ impl Model for Asked {
 
 impl Asked {
     /// Nothing is asked for.
-    fn nothing() -> Asked
+    pub(crate) fn nothing() -> Asked
         ensures { result ≡ apart.ask_nothing }
     {
         Asked {
@@ -45,7 +44,7 @@ impl Asked {
     }
 
     /// What one pair asks for.
-    fn by(pair: &Pair) -> Asked
+    pub(crate) fn by(pair: &Pair) -> Asked
         ensures { result ≡ apart.asked_by pair.now }
     {
         Asked {
@@ -56,7 +55,7 @@ impl Asked {
     }
 
     /// What both ask for.
-    fn together(&self, other: &Asked) -> Asked
+    pub(crate) fn together(&self, other: &Asked) -> Asked
         ensures { result ≡ apart.together self.now other.now }
     {
         Asked {
@@ -67,7 +66,7 @@ impl Asked {
     }
 
     /// What the pairs of a list ask for.
-    fn of(pairs: &[Pair]) -> Asked
+    pub(crate) fn of(pairs: &[Pair]) -> Asked
         ensures { apart.Covers result pairs.now }
     {
         let mut asked = Asked::nothing();
@@ -77,8 +76,13 @@ impl Asked {
         asked
     }
 
+    /// The rows.
+    pub(crate) fn targets(&self) -> RowSet {
+        self.targets
+    }
+
     /// Whether a literal or a row is in both.
-    fn shares_some(&self, other: &Asked) -> bool
+    pub(crate) fn shares_some(&self, other: &Asked) -> bool
         ensures { result ≡ apart.shares_some self.now other.now }
     {
         self.positive.meets(&other.positive)
@@ -110,28 +114,31 @@ impl Clone for Asked {
 
 impl Copy for Asked {}
 
-/// With what these pairs ask for, if they fulfil a row that is put off.
-fn with_own(awaited: Asked, own: &[Pair], is_put_off: bool) -> Asked
-    ensures { IsAdded awaited own.now is_put_off result }
+/// With what the test of a row speaks of, if the row is put off.
+fn with_leaves(awaited: Asked, leaves: &Asked, is_put_off: bool) -> Asked
+    ensures { IsAdded awaited leaves.now is_put_off result }
 {
     if is_put_off {
-        awaited.together(&Asked::of(own))
+        awaited.together(leaves)
     } else {
         awaited
     }
 }
 
 /// What fulfils the until rows among these.
-fn awaited_by<A: Allocator>(table: &Table<'_, A>, own: &[PairSet<'_, A>], targets: &RowSet) -> Asked
-    requires own { AreOwn (table_at table.now) own.now }
-    ensures { AwaitsAll (table_at table.now) own.now targets.now (length (table_at table.now).untils) result }
+fn awaited_by<A: Allocator>(
+    table: &Table<'_, A>,
+    fulfilment: &Fulfilment<'_, A>,
+    targets: &RowSet,
+) -> Asked
+    requires tests { AreTests (table_at table.now) fulfilment.now }
+    ensures { AwaitsAll (table_at table.now) targets.now (length (table_at table.now).untils) result }
 {
-    table.invariant();
     let mut awaited = Asked::nothing();
-    'untils: for number in 0..until_count(table) {
-        let place = place(table, until_row(table, number));
-        let is_put_off = targets.contains(place);
-        awaited = with_own(awaited, own[number].as_slice(), is_put_off);
+    'untils: for number in 0..fulfilment.untils.len() {
+        let until = fulfilment.until(number);
+        let is_put_off = targets.holds(until.place);
+        awaited = with_leaves(awaited, &fulfilment.leaves(until.step), is_put_off);
     }
     awaited
 }
@@ -147,16 +154,16 @@ impl Demand {
     /// That of a list of pairs.
     pub(crate) fn of<A: Allocator>(
         table: &Table<'_, A>,
-        own: &[PairSet<'_, A>],
+        fulfilment: &Fulfilment<'_, A>,
         pairs: &[Pair],
     ) -> Demand
-        requires own { AreOwn (table_at table.now) own.now }
-        ensures { Demands (table_at table.now) own.now pairs.now result }
+        requires tests { AreTests (table_at table.now) fulfilment.now }
+        ensures { Demands (table_at table.now) pairs.now result }
     {
         let asked = Asked::of(pairs);
         Demand {
             asked,
-            awaited: awaited_by(table, own, &asked.targets),
+            awaited: awaited_by(table, fulfilment, &asked.targets),
         }
     }
 

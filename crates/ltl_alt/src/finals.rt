@@ -53,7 +53,7 @@ fn pair_transitions<'a, A: Allocator>(
     requires rising { IsRising spec_pairs.pair_cmp pairs.now }
     ensures { IfOk result (λ l. l ≡ transitions_of (table_at basis.now.table.now) basis.now.keep_implied pairs.now) }
 {
-    let all = marked(basis.alloc, basis.table, basis.fulfilment, pairs)?;
+    let all = marked(basis.alloc, basis.table, basis.pruning.fulfilment, pairs)?;
     if basis.keep_implied {
         return Ok(TransitionList { transitions: all });
     }

@@ -3,12 +3,15 @@
 ghost use Rattle.std.specs.Prelude.{◌≡◌, ◌<◌, length, map, slice_get, slice_index_or, Some, IfOk, OnOk, false};
 ghost use Rattle.ltl_formula.specs.GraphView.{IsBelow};
 ghost use Rattle.ltl_spec.specs.NormalForms.Normal.{Bottom};
+ghost use Rattle.ltl_spec.proofs.Transitions.ApartTests.{ask_nothing};
 ghost use Rattle.ltl_spec.proofs.Transitions.Fulfilment.{passes};
 ghost use Rattle.ltl_spec.proofs.Transitions.Steps.{step_passes, tests_of};
 ghost use Rattle.ltl_alt.specs.Steps.{AreUntilSteps, until_step};
 ghost use Rattle.ltl_alt.specs.Tests.{AreTests, IsUntilTest, step_of, steps_of};
 ghost use Rattle.ltl_alt.specs.TransitionView.{table_at};
 
+use crate::asked::Asked;
+use crate::leaves::{leaves, leaves_at};
 use crate::pair::Pair;
 use crate::place::{place, until_count, until_row};
 use crate::program::{Program, Step, until_steps};
@@ -26,6 +29,8 @@ pub(crate) struct UntilTest {
 #[derive(Drop)]
 pub(crate) struct Fulfilment<'a, A: Allocator> {
     pub(crate) steps: Vec<Step, &'a A>,
+    /// The literals and the rows that each step speaks of.
+    pub(crate) leaves: Vec<Asked, &'a A>,
     pub(crate) untils: Vec<UntilTest, &'a A>,
 }
 
@@ -100,6 +105,15 @@ fn until_test<A: Allocator>(
 }
 
 impl<'a, A: Allocator> Fulfilment<'a, A> {
+    /// There are no until rows.
+    pub(crate) fn nothing(alloc: &'a A) -> Self {
+        Fulfilment {
+            steps: Vec::new(alloc),
+            leaves: Vec::new(alloc),
+            untils: Vec::new(alloc),
+        }
+    }
+
     /// That of a table's until rows.
     pub(crate) fn of(alloc: &'a A, table: &Table<'_, A>) -> Result<Self, AllocError>
         ensures { IfOk result (AreTests (table_at table.now)) }
@@ -107,11 +121,16 @@ impl<'a, A: Allocator> Fulfilment<'a, A> {
         table.invariant();
         let program = until_steps(alloc, table)?;
         let steps = listed_steps(alloc, &program)?;
+        let leaves = leaves(alloc, steps.as_slice())?;
         let mut untils = Vec::new(alloc);
         'untils: for number in 0..until_count(table) {
             untils.push(until_test(table, &program, number))?;
         }
-        Ok(Fulfilment { steps, untils })
+        Ok(Fulfilment {
+            steps,
+            leaves,
+            untils,
+        })
     }
 
     /// The test of the until row of that number.
@@ -121,6 +140,13 @@ impl<'a, A: Allocator> Fulfilment<'a, A> {
         ensures { slice_get self.now.untils.items number ≡ Some result }
     {
         self.untils[number]
+    }
+
+    /// The literals and the rows that the step of that number speaks of.
+    pub(crate) fn leaves(&self, number: usize) -> Asked
+        ensures { result ≡ slice_index_or self.now.leaves.items number ask_nothing }
+    {
+        leaves_at(self.leaves.as_slice(), number)
     }
 
     /// Puts for each step whether a pair passes it.

@@ -7,10 +7,10 @@
 //! is asked to stay: the other's literals and targets are among its own, and the other is in every set that it is in.
 //!
 //! What flows: a table of rows; for each elementary row the pieces that it is made of (`pieces`), whose pairs (`row_lists`) are a part each (`parts`),
-//! with what they ask for and what fulfils the until rows that they put off (`asked`). Parts that may have to do with each other are linked. All this
+//! with what they ask for and what fulfils the until rows that they put off (`asked`, `leaves`). Parts that may have to do with each other are linked. All this
 //! is made before the first set of rows, and never changes (`basis`).
 //! The parts of a set of rows fall into groups that are closed under links. The parts of a group are joined (`lists`, `repeats`), where pairs that stay
-//! implied whatever comes are dropped on the way (`prune`, `rule`, `near`); each join is made once (`memo`, `groups`). What is kept gets its marks
+//! implied whatever comes are dropped on the way (`prune`, `rule`, `roots`, `lacks`, `codes`); each join is made once (`memo`, `groups`). What is kept gets its marks
 //! (`marks`), by steps of tests that tell which until rows a pair fulfils (`program`, `fulfilment`); implied transitions go (`implied`), and what is left
 //! is the group's (`finals`).
 //! The transitions of the set are the products, one transition of each group at once; they are counted before they are made, then made and sorted
@@ -32,19 +32,20 @@
 
 mod asked;
 mod basis;
+mod codes;
 mod factors;
 mod finals;
 mod fulfilment;
 mod groups;
 mod implied;
 mod keys;
+mod lacks;
+mod leaves;
 mod lists;
 mod marks;
 mod memo;
-mod near;
 mod needs;
 pub mod of_table;
-mod own;
 pub mod pair;
 pub mod pair_set;
 mod parts;
@@ -55,6 +56,7 @@ mod program;
 mod prune;
 mod reach;
 mod repeats;
+mod roots;
 mod row_lists;
 mod rule;
 mod transition;

@@ -89,7 +89,7 @@ impl<'a, A: Allocator> Memo<'a, A> {
         key: &JoinKey,
     ) -> Result<PairSet<'a, A>, AllocError>
         requires within { key.now.left < length self.now.lists.keys × key.now.right < length self.now.lists.keys }
-        ensures { (T : spec.Table) → IsFit T pruning.now.rule pruning.now.own.now
+        ensures { (T : spec.Table) → IsFit T pruning.now.rule pruning.now.fulfilment.now
             → IfOk result (IsListed (StandsFor T pruning.now.rule) (join (part_of self.now.lists.keys key.now.left) (part_of self.now.lists.keys key.now.right))) }
     {
         let left = self.pairs(key.left);
@@ -108,9 +108,9 @@ impl<'a, A: Allocator> Memo<'a, A> {
         right: usize,
     ) -> Result<Option<usize>, AllocError>
         requires within { left < length self.old.lists.keys × right < length self.old.lists.keys }
-        ensures joins { (T : spec.Table) → IsFit T pruning.now.rule pruning.now.own.now → AreJoins T pruning.now.rule self.old.lists.keys self.old.joins.entries
+        ensures joins { (T : spec.Table) → IsFit T pruning.now.rule pruning.now.fulfilment.now → AreJoins T pruning.now.rule self.old.lists.keys self.old.joins.entries
             → OnOk result (AreJoins T pruning.now.rule self.new.lists.keys self.new.joins.entries) }
-        ensures joined { (T : spec.Table) → IsFit T pruning.now.rule pruning.now.own.now → AreJoins T pruning.now.rule self.old.lists.keys self.old.joins.entries
+        ensures joined { (T : spec.Table) → IsFit T pruning.now.rule pruning.now.fulfilment.now → AreJoins T pruning.now.rule self.old.lists.keys self.old.joins.entries
             → IfOk result (λ o. IfSome o (IsJoin T pruning.now.rule self.new.lists.keys (record { left = left; right = right }))) }
         ensures longer { OnOk result (IsLonger self.old.lists.keys self.new.lists.keys) }
     {

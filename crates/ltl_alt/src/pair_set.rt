@@ -3,6 +3,7 @@
 ghost use Rattle.std.specs.Prelude.{◌≡◌, ◌<◌, length, IfOk};
 ghost use Rattle.ltl_alt.specs.RowLists.{row_pairs};
 
+use crate::fulfilment::Fulfilment;
 use crate::pair::Pair;
 use crate::row_lists::RowLists;
 use crate::rule::{Pruning, Rule};
@@ -79,9 +80,10 @@ pub fn pairs<'a, A: Allocator>(
     requires { row < length table.now.rows }
     ensures { IfOk result (λ s. s ≡ row_pairs table.now row) }
 {
+    let none = Fulfilment::nothing(alloc);
     let pruning = Pruning {
         rule: Rule::Equal,
-        own: &[],
+        fulfilment: &none,
     };
     let mut lists = RowLists::new(alloc, table)?;
     lists.prepare(alloc, table, &pruning, row)?;

@@ -12,10 +12,12 @@ ghost use Rattle.ltl_alt.specs.PartView.{AreAdded, AreLinked, AreMade, HasAllPar
 ghost use Rattle.ltl_alt.specs.PartView.{HasEach, HasNoPart, IsLinked, IsRoom, links_of, numbers_in, part_of};
 ghost use Rattle.ltl_alt.specs.PieceView.{AreFew, IsPiece, piece_pairs};
 ghost use Rattle.ltl_alt.specs.RowLists.{AreLists, IsListedRow};
-ghost use Rattle.ltl_alt.specs.StandIns.{AreOwn, IsListed, StandsFor};
+ghost use Rattle.ltl_alt.specs.StandIns.{IsListed, StandsFor};
+ghost use Rattle.ltl_alt.specs.Tests.{AreTests};
 ghost use Rattle.ltl_alt.specs.TransitionView.{table_at};
 
 use crate::asked::Demand;
+use crate::fulfilment::Fulfilment;
 use crate::lists::both;
 use crate::pair::Pair;
 use crate::pair_set::PairSet;
@@ -60,7 +62,7 @@ fn link<A: Allocator>(links: &mut Vec<RowSet, &A>, demands: &[Demand], demand: &
 impl<'a, A: Allocator> Parts<'a, A> {
     /// No row was taken apart yet.
     pub(crate) fn new(alloc: &'a A) -> Self
-        ensures linked { (T : spec.Table) → (own : List (List spec_pairs.Pair)) → AreLinked T own result.lists.items result.demands.items result.links.items }
+        ensures linked { (T : spec.Table) → AreLinked T result.lists.items result.demands.items result.links.items }
         ensures rows { (T : spec.Table) → (r : made_rule.Rule) → AreMade T r result.made result.owners.items result.lists.items }
         ensures lists { result.lists.items ≡ [] }
         ensures made { result.made ≡ [] }
@@ -85,20 +87,20 @@ impl<'a, A: Allocator> Parts<'a, A> {
     fn push(
         &mut self,
         table: &Table<'_, A>,
-        own: &[PairSet<'a, A>],
+        fulfilment: &Fulfilment<'a, A>,
         place: usize,
         pairs: PairSet<'a, A>,
     ) -> Result<(), AllocError>
-        requires own { AreOwn (table_at table.now) own.now }
-        requires linked { AreLinked (table_at table.now) own.now self.old.lists.items self.old.demands.items self.old.links.items }
+        requires tests { AreTests (table_at table.now) fulfilment.now }
+        requires linked { AreLinked (table_at table.now) self.old.lists.items self.old.demands.items self.old.links.items }
         requires few { length self.old.lists.items < RowSet.LIMIT }
         requires sound { AreSound pairs }
-        ensures linked { OnOk result (AreLinked (table_at table.now) own.now self.new.lists.items self.new.demands.items self.new.links.items) }
+        ensures linked { OnOk result (AreLinked (table_at table.now) self.new.lists.items self.new.demands.items self.new.links.items) }
         ensures owners { OnOk result (self.new.owners.items ≡ self.old.owners.items ++ place ∷ []) }
         ensures lists { OnOk result (self.new.lists.items ≡ self.old.lists.items ++ pairs.entry ∷ []) }
         ensures made { self.new.made ≡ self.old.made }
     {
-        let demand = Demand::of(table, own, pairs.as_slice());
+        let demand = Demand::of(table, fulfilment, pairs.as_slice());
         let links = link(&mut self.links, self.demands.as_slice(), &demand);
         self.links.push(links)?;
         self.demands.push(demand)?;
@@ -118,18 +120,18 @@ impl<'a, A: Allocator> Parts<'a, A> {
         pieces: &[Piece],
     ) -> Result<(), AllocError>
         requires lists { AreLists table.now pruning.now.rule rows.old.pairs.items rows.old.sets.items }
-        requires own { AreOwn (table_at table.now) pruning.now.own.now }
-        requires linked { AreLinked (table_at table.now) pruning.now.own.now self.old.lists.items self.old.demands.items self.old.links.items }
+        requires tests { AreTests (table_at table.now) pruning.now.fulfilment.now }
+        requires linked { AreLinked (table_at table.now) self.old.lists.items self.old.demands.items self.old.links.items }
         requires pieces { AreFew table.now pieces.now (length self.old.lists.items) }
         ensures lists { OnOk result (AreLists table.now pruning.now.rule rows.new.pairs.items rows.new.sets.items) }
-        ensures linked { OnOk result (AreLinked (table_at table.now) pruning.now.own.now self.new.lists.items self.new.demands.items self.new.links.items) }
+        ensures linked { OnOk result (AreLinked (table_at table.now) self.new.lists.items self.new.demands.items self.new.links.items) }
         ensures added { OnOk result (AreAdded (table_at table.now) pruning.now.rule place
             (map (piece_pairs table.now) pieces.now) self.old.owners.items self.new.owners.items self.old.lists.items self.new.lists.items) }
         ensures made { OnOk result (self.new.made ≡ self.old.made) }
     {
         'pieces: for piece in pieces {
             let pairs = piece_pairs(alloc, table, rows, pruning, *piece)?;
-            self.push(table, pruning.own, place, pairs)?;
+            self.push(table, pruning.fulfilment, place, pairs)?;
         }
         Ok(())
     }
@@ -145,12 +147,12 @@ impl<'a, A: Allocator> Parts<'a, A> {
         most: usize,
     ) -> Result<(), AllocError>
         requires lists { AreLists table.now pruning.now.rule rows.old.pairs.items rows.old.sets.items }
-        requires own { AreOwn (table_at table.now) pruning.now.own.now }
-        requires parts { HasParts (table_at table.now) pruning.now.rule pruning.now.own.now self.old }
+        requires tests { AreTests (table_at table.now) pruning.now.fulfilment.now }
+        requires parts { HasParts (table_at table.now) pruning.now.rule self.old }
         requires new { Has self.old.made place → ⊥ }
         requires room { IsRoom place most self.old.lists.items }
         ensures lists { OnOk result (AreLists table.now pruning.now.rule rows.new.pairs.items rows.new.sets.items) }
-        ensures parts { OnOk result (HasParts (table_at table.now) pruning.now.rule pruning.now.own.now self.new) }
+        ensures parts { OnOk result (HasParts (table_at table.now) pruning.now.rule self.new) }
         ensures made { OnOk result (self.new.made ≡ put nat_cmp place self.old.made) }
         ensures few { OnOk result (length self.new.lists.items ≤ length self.old.lists.items + most) }
     {
@@ -166,8 +168,8 @@ impl<'a, A: Allocator> Parts<'a, A> {
         table: &Table<'_, A>,
         pruning: &Pruning<'_, 'a, A>,
     ) -> Result<Parts<'a, A>, AllocError>
-        requires own { AreOwn (table_at table.now) pruning.now.own.now }
-        ensures parts { IfOk result (HasAllParts table.now pruning.now.rule pruning.now.own.now) }
+        requires tests { AreTests (table_at table.now) pruning.now.fulfilment.now }
+        ensures parts { IfOk result (HasAllParts table.now pruning.now.rule) }
     {
         table.invariant();
         let mut lists = RowLists::new(alloc, table)?;
@@ -293,7 +295,7 @@ fn row_pairs<'a, A: Allocator>(
     row: usize,
 ) -> Result<PairSet<'a, A>, AllocError>
     requires lists { AreLists table.now pruning.now.rule rows.old.pairs.items rows.old.sets.items }
-    requires own { AreOwn (table_at table.now) pruning.now.own.now }
+    requires tests { AreTests (table_at table.now) pruning.now.fulfilment.now }
     requires within { row < length table.now.rows }
     ensures lists { OnOk result (AreLists table.now pruning.now.rule rows.new.pairs.items rows.new.sets.items) }
     ensures pairs { IfOk result (IsListedRow table.now pruning.now.rule row) }
@@ -313,7 +315,7 @@ fn released_pairs<'a, A: Allocator>(
     row: usize,
 ) -> Result<PairSet<'a, A>, AllocError>
     requires lists { AreLists table.now pruning.now.rule rows.old.pairs.items rows.old.sets.items }
-    requires own { AreOwn (table_at table.now) pruning.now.own.now }
+    requires tests { AreTests (table_at table.now) pruning.now.fulfilment.now }
     requires piece { IsPiece table.now (made_piece.Released left row) }
     ensures lists { OnOk result (AreLists table.now pruning.now.rule rows.new.pairs.items rows.new.sets.items) }
     ensures pairs { IfOk result (IsListed (StandsFor (table_at table.now) pruning.now.rule) (piece_pairs table.now (made_piece.Released left row))) }
@@ -334,7 +336,7 @@ fn piece_pairs<'a, A: Allocator>(
     piece: Piece,
 ) -> Result<PairSet<'a, A>, AllocError>
     requires lists { AreLists table.now pruning.now.rule rows.old.pairs.items rows.old.sets.items }
-    requires own { AreOwn (table_at table.now) pruning.now.own.now }
+    requires tests { AreTests (table_at table.now) pruning.now.fulfilment.now }
     requires piece { IsPiece table.now piece }
     ensures lists { OnOk result (AreLists table.now pruning.now.rule rows.new.pairs.items rows.new.sets.items) }
     ensures pairs { IfOk result (IsListed (StandsFor (table_at table.now) pruning.now.rule) (piece_pairs table.now piece)) }

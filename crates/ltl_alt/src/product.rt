@@ -68,7 +68,12 @@ pub(crate) fn all_products<'a, A: Allocator>(
     ensures { IfOk result (λ v. IsPermutation (all_products (table_at basis.now.table.now) (map (list_of finals.now.lists.keys) factors.now)) v.items) }
 {
     let alloc = basis.alloc;
-    let mut products = marked(alloc, basis.table, basis.fulfilment, &[Pair::empty()])?;
+    let mut products = marked(
+        alloc,
+        basis.table,
+        basis.pruning.fulfilment,
+        &[Pair::empty()],
+    )?;
     let mut left = factors.len();
     'factors: while left > 0 {
         left -= 1;

@@ -1,12 +1,18 @@
 //! Lists of pairs without those that need not stand there.
 
 ghost use Rattle.std.specs.Prelude.{◌≡◌, IfOk, OnOk, map};
-ghost use Rattle.ltl_spec.specs.Collections.Sets.{Has};
-ghost use Rattle.ltl_alt.specs.StandIns.{IsPruned, has_spare, is_asked, least_of, pair_of};
-ghost use Rattle.ltl_alt.specs.declared.prune.Measured as made;
+ghost use Rattle.ltl_spec.specs.Collections.Sets.{IsRising};
+ghost use Rattle.ltl_spec.specs.Transitions.Pairs.{pair_cmp};
+ghost use Rattle.ltl_alt.specs.CodeView.{AreLacks, AreSpares};
+ghost use Rattle.ltl_alt.specs.StandIns.{IsPruned, IsPrunedSafely, has_spare, is_asked, least_of, pair_of};
 
+use crate::asked::Asked;
+use crate::fulfilment::Fulfilment;
+use crate::lacks::{Lacks, core_of, rows_of};
+use crate::leaves::leaves_at;
 use crate::lists::make_distinct;
 use crate::pair::Pair;
+use crate::roots::open_steps;
 use crate::rule::{Pruning, Rule};
 use least::{Below, Counting, Lookup};
 use ltl_models::elements::{has_literal, has_row, tally_literals, tally_rows};
@@ -22,10 +28,11 @@ const SAMPLE: usize = 64;
 /// So far apart, where the list is thought of as a ring: a prime, so that no order of the list is met.
 const APART: usize = 2_654_435_761;
 
-/// A pair, how many literals and rows it asks for, and whether it stood on the left side of a join already.
+/// A pair, how many literals and rows it asks for, its number if it may stand in for others, and whether it stood on the left side of a join already.
 #[derive(Clone, Copy)]
 struct Measured {
     size: usize,
+    number: usize,
     is_old: bool,
     pair: Pair,
 }
@@ -37,6 +44,7 @@ impl Default for Measured {
     fn default() -> Measured {
         Measured {
             size: 0,
+            number: 0,
             is_old: false,
             pair: Pair::empty(),
         }
@@ -59,6 +67,7 @@ impl Below for Measured {
     fn common(&self, other: &Measured) -> Measured {
         Measured {
             size: 0,
+            number: 0,
             is_old: false,
             pair: self.pair.common(&other.pair),
         }
@@ -76,15 +85,22 @@ impl Below for Measured {
     ghost transitive = { λ m n o. is_within_transitive m.pair n.pair o.pair };
 }
 
-/// A smaller pair counts that may be listed in place of the other one.
-impl<'b, 'a, A: Allocator> Counting<Measured> for Pruning<'b, 'a, A> {
+/// What pairs lack to fulfil until rows, by their numbers.
+#[derive(Drop)]
+struct Lacking<'b> {
+    lacks: &'b [Asked],
+}
+
+/// A smaller pair counts that lacks nothing that the other one asks for.
+impl<'b> Counting<Measured> for Lacking<'b> {
     ghost use Rattle.ltl_alt.specs.StandIns.{is_spare};
 
-    ghost counts = { λ p m n. is_spare p.rule p.own.now m n };
+    ghost counts = { λ l m n. is_spare l.lacks.now m n };
 
     #[inline(always)]
     fn counts(&self, other: &Measured, item: &Measured) -> bool {
-        other.size < item.size && self.may_drop(&item.pair, &other.pair)
+        other.size < item.size
+            && !leaves_at(self.lacks, other.number).shares_some(&Asked::by(&item.pair))
     }
 }
 
@@ -117,6 +133,7 @@ fn measure<'a, A: Allocator>(
         at = place_from(left, at, pair);
         measured.push(Measured {
             size: pair.size(),
+            number: 0,
             is_old: at < left.len() && left[at].is_same(pair),
             pair: *pair,
         })?;
@@ -147,22 +164,33 @@ fn largest(measured: &[Measured]) -> usize {
     most
 }
 
-/// Those of less than the greatest size. No other one is smaller than one of the pairs.
-fn smaller<'a, A: Allocator>(
+/// Those of less than the greatest size, with the numbers of what they lack of these steps. No other one is smaller than one of the pairs.
+fn spares<'a, A: Allocator>(
     alloc: &'a A,
+    fulfilment: &Fulfilment<'_, A>,
+    roots: &[usize],
     measured: &[Measured],
     only_old: bool,
+    lacks: &mut Lacks<'a, A>,
 ) -> Result<MeasuredPairs<'a, A>, AllocError>
-    ensures { IfOk result (λ v. (m : made.Measured) → Has v.items m → Has measured.now m) }
+    requires { AreLacks fulfilment.now roots.now lacks.old.cores.keys lacks.old.lacks.items }
+    ensures { IfOk result (λ v. AreSpares fulfilment.now roots.now measured.now v.items lacks.new.lacks.items) }
 {
     let most = largest(measured);
-    let mut smaller: MeasuredPairs<'a, A> = SmallVec::new(alloc);
+    let rows = rows_of(fulfilment, roots);
+    let mut spares: MeasuredPairs<'a, A> = SmallVec::new(alloc);
     'measured: for m in measured {
         if may_stand_in(m, most, only_old) {
-            smaller.push(*m)?;
+            let number = lacks.number(fulfilment, roots, core_of(&m.pair, &rows))?;
+            spares.push(Measured {
+                size: m.size,
+                number,
+                is_old: m.is_old,
+                pair: m.pair,
+            })?;
         }
     }
-    Ok(smaller)
+    Ok(spares)
 }
 
 /// Whether it is looked for a smaller one: old ones had none, and none is smaller than the least.
@@ -175,20 +203,20 @@ fn is_asked(m: &Measured, least: usize) -> bool
 /// Whether a smaller one is found that may be listed in place of this one.
 fn has_spare<A: Allocator>(
     lookup: &Lookup<'_, '_, Measured, A>,
-    pruning: &Pruning<'_, '_, A>,
+    lacks: &Lacking<'_>,
     least: usize,
     m: &Measured,
 ) -> bool
-    ensures { result ≡ has_spare pruning.now.rule pruning.now.own.now least lookup.now m.now }
+    ensures { result ≡ has_spare lacks.now.lacks.now least lookup.now m.now }
 {
-    is_asked(m, least) && lookup.has_lesser(pruning, m)
+    is_asked(m, least) && lookup.has_lesser(lacks, m)
 }
 
 /// Whether there are many pairs, and none of some of them has a smaller one in its place. Then few have one or none has, and to ask each costs more than it
 /// leaves out.
 fn seem_least<A: Allocator>(
     lookup: &Lookup<'_, '_, Measured, A>,
-    pruning: &Pruning<'_, '_, A>,
+    lacks: &Lacking<'_>,
     least: usize,
     measured: &[Measured],
 ) -> bool {
@@ -197,7 +225,7 @@ fn seem_least<A: Allocator>(
     }
     for k in 0..SAMPLE {
         if let Some(m) = measured.get(k.wrapping_mul(APART) % measured.len()) {
-            if has_spare(lookup, pruning, least, m) {
+            if has_spare(lookup, lacks, least, m) {
                 return false;
             }
         }
@@ -209,18 +237,56 @@ fn seem_least<A: Allocator>(
 fn put_least<A: Allocator>(
     pairs: &mut Vec<Pair, &A>,
     lookup: &Lookup<'_, '_, Measured, A>,
-    pruning: &Pruning<'_, '_, A>,
+    lacks: &Lacking<'_>,
     least: usize,
     measured: &[Measured],
 ) -> Result<(), AllocError>
-    ensures { OnOk result (pairs.new.items ≡ map pair_of (least_of pruning.now.rule pruning.now.own.now least lookup.now measured.now)) }
+    ensures { OnOk result (pairs.new.items ≡ map pair_of (least_of lacks.now.lacks.now least lookup.now measured.now)) }
 {
     pairs.clear();
     'measured: for m in measured {
-        if !has_spare(lookup, pruning, least, m) {
+        if !has_spare(lookup, lacks, least, m) {
             pairs.push(m.pair)?;
         }
     }
+    Ok(())
+}
+
+/// Leaves out some of the pairs in whose place others may be listed.
+fn prune_safely<'a, A: Allocator>(
+    alloc: &'a A,
+    fulfilment: &Fulfilment<'_, A>,
+    left: &[Pair],
+    right: &[Pair],
+    pairs: &mut Vec<Pair, &'a A>,
+) -> Result<(), AllocError>
+    requires { IsRising pair_cmp pairs.old.items }
+    ensures { OnOk result (IsPrunedSafely fulfilment.now pairs.old.items pairs.new.items) }
+{
+    let measured = measure(alloc, left, pairs.as_slice())?;
+    let roots = open_steps(alloc, fulfilment, pairs.as_slice())?;
+    let only_old = !left.is_empty() && are_single(right);
+    let mut lacks = Lacks::new(alloc);
+    let spares = spares(
+        alloc,
+        fulfilment,
+        roots.as_slice(),
+        measured.as_slice(),
+        only_old,
+        &mut lacks,
+    )?;
+    if spares.is_empty() {
+        return Ok(());
+    }
+    let lookup = Lookup::new(alloc, spares.as_slice())?;
+    let least = least_size(spares.as_slice());
+    let by = Lacking {
+        lacks: lacks.lacks.as_slice(),
+    };
+    if seem_least(&lookup, &by, least, measured.as_slice()) {
+        return Ok(());
+    }
+    put_least(pairs, &lookup, &by, least, measured.as_slice())?;
     Ok(())
 }
 
@@ -232,29 +298,17 @@ pub(crate) fn prune<'a, A: Allocator>(
     right: &[Pair],
     mut pairs: Vec<Pair, &'a A>,
 ) -> Result<Vec<Pair, &'a A>, AllocError>
-    ensures { IfOk result (λ v. IsPruned pruning.now.rule pruning.now.own.now pairs.entry.items v.items) }
+    ensures { IfOk result (λ v. IsPruned pruning.now.rule pruning.now.fulfilment.now pairs.entry.items v.items) }
 {
     make_distinct(&mut pairs)?;
     if pairs.len() < 2 {
         return Ok(pairs);
     }
-    if pruning.rule == Rule::Equal {
-        return Ok(pairs);
+    match pruning.rule {
+        Rule::Equal => Ok(pairs),
+        Rule::Safe => {
+            prune_safely(alloc, pruning.fulfilment, left, right, &mut pairs)?;
+            Ok(pairs)
+        }
     }
-    let measured = measure(alloc, left, pairs.as_slice())?;
-    let smaller = smaller(
-        alloc,
-        measured.as_slice(),
-        !left.is_empty() && are_single(right),
-    )?;
-    if smaller.is_empty() {
-        return Ok(pairs);
-    }
-    let lookup = Lookup::new(alloc, smaller.as_slice())?;
-    let least = least_size(smaller.as_slice());
-    if seem_least(&lookup, pruning, least, measured.as_slice()) {
-        return Ok(pairs);
-    }
-    put_least(&mut pairs, &lookup, pruning, least, measured.as_slice())?;
-    Ok(pairs)
 }

@@ -15,7 +15,6 @@ use crate::finals::Finals;
 use crate::fulfilment::Fulfilment;
 use crate::groups::Groups;
 use crate::keys::Keys;
-use crate::own::all_own;
 use crate::parts::Parts;
 use crate::place::{place, until_count};
 use crate::rule::{Pruning, Rule};
@@ -92,11 +91,10 @@ pub(crate) fn reach<'a, A: Allocator>(
     ensures large { IsErrOf result AltFault.TooLarge → IsTooLarge (core_of table.now) keep_implied stated_limits.states stated_limits.edges }
 {
     table.invariant();
-    let own = all_own(alloc, table)?;
     let fulfilment = Fulfilment::of(alloc, table)?;
     let pruning = Pruning {
         rule: Rule::of(keep_implied),
-        own: own.as_slice(),
+        fulfilment: &fulfilment,
     };
     let parts = Parts::of(alloc, table, &pruning)?;
     let groups = Groups::new(alloc, &parts)?;
@@ -105,7 +103,6 @@ pub(crate) fn reach<'a, A: Allocator>(
             alloc,
             table,
             pruning,
-            fulfilment: &fulfilment,
             parts,
             keep_implied,
         },

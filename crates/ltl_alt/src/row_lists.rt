@@ -92,7 +92,7 @@ impl<'a, A: Allocator> RowLists<'a, A> {
         row: usize,
     ) -> Result<(), AllocError>
         requires lists { AreLists table.now pruning.now.rule self.old.pairs.items self.old.sets.items }
-        requires fit { IsFit (table_at table.now) pruning.now.rule pruning.now.own.now }
+        requires fit { IsFit (table_at table.now) pruning.now.rule pruning.now.fulfilment.now }
         requires within { row < length table.now.rows }
         ensures lists { OnOk result (AreLists table.now pruning.now.rule self.new.pairs.items self.new.sets.items) }
         ensures pairs { OnOk result (IsListedRow table.now pruning.now.rule row (list_at self.new.pairs.items row)) }
@@ -120,7 +120,7 @@ impl<'a, A: Allocator> RowLists<'a, A> {
         is_needed: bool,
     ) -> Result<(), AllocError>
         requires lists { AreLists table.now pruning.now.rule self.old.pairs.items self.old.sets.items }
-        requires fit { IsFit (table_at table.now) pruning.now.rule pruning.now.own.now }
+        requires fit { IsFit (table_at table.now) pruning.now.rule pruning.now.fulfilment.now }
         requires within { row < length table.now.rows }
         requires have { is_needed ≡ true → (r : made.Row) → slice_get table.now.rows row ≡ Some r
             → HavePairs table.now pruning.now.rule (list_at self.old.pairs.items) (list_at self.old.sets.items) r }
@@ -149,7 +149,7 @@ impl<'a, A: Allocator> RowLists<'a, A> {
         is_needed: bool,
     ) -> Result<(), AllocError>
         requires lists { AreLists table.now pruning.now.rule self.old.pairs.items self.old.sets.items }
-        requires fit { IsFit (table_at table.now) pruning.now.rule pruning.now.own.now }
+        requires fit { IsFit (table_at table.now) pruning.now.rule pruning.now.fulfilment.now }
         requires within { row < length table.now.rows }
         requires have { is_needed ≡ true → (r : made.Row) → slice_get table.now.rows row ≡ Some r
             → HaveSets table.now pruning.now.rule (list_at self.old.sets.items) r }
@@ -177,7 +177,7 @@ impl<'a, A: Allocator> RowLists<'a, A> {
         row: usize,
     ) -> Result<(), AllocError>
         requires lists { AreLists table.now pruning.now.rule self.old.pairs.items self.old.sets.items }
-        requires fit { IsFit (table_at table.now) pruning.now.rule pruning.now.own.now }
+        requires fit { IsFit (table_at table.now) pruning.now.rule pruning.now.fulfilment.now }
         requires within { row < length table.now.rows }
         requires have { (r : made.Row) → slice_get table.now.rows row ≡ Some r
             → HavePairs table.now pruning.now.rule (list_at self.old.pairs.items) (list_at self.old.sets.items) r }
@@ -198,7 +198,7 @@ impl<'a, A: Allocator> RowLists<'a, A> {
         row: usize,
     ) -> Result<(), AllocError>
         requires lists { AreLists table.now pruning.now.rule self.old.pairs.items self.old.sets.items }
-        requires fit { IsFit (table_at table.now) pruning.now.rule pruning.now.own.now }
+        requires fit { IsFit (table_at table.now) pruning.now.rule pruning.now.fulfilment.now }
         requires within { row < length table.now.rows }
         requires have { (r : made.Row) → slice_get table.now.rows row ≡ Some r → HaveSets table.now pruning.now.rule (list_at self.old.sets.items) r }
         ensures sets { OnOk result (HasAdded (IsListedSet table.now pruning.now.rule row) row self.old.sets.items self.new.sets.items) }
@@ -218,7 +218,7 @@ impl<'a, A: Allocator> RowLists<'a, A> {
         row: usize,
     ) -> Result<PairSet<'a, A>, AllocError>
         requires lists { AreLists table.now pruning.now.rule self.now.pairs.items self.now.sets.items }
-        requires fit { IsFit (table_at table.now) pruning.now.rule pruning.now.own.now }
+        requires fit { IsFit (table_at table.now) pruning.now.rule pruning.now.fulfilment.now }
         requires within { row < length table.now.rows }
         requires have { (r : made.Row) → slice_get table.now.rows row ≡ Some r
             → HavePairs table.now pruning.now.rule (list_at self.now.pairs.items) (list_at self.now.sets.items) r }
@@ -274,7 +274,7 @@ impl<'a, A: Allocator> RowLists<'a, A> {
         row: usize,
     ) -> Result<PairSet<'a, A>, AllocError>
         requires lists { AreLists table.now pruning.now.rule self.now.pairs.items self.now.sets.items }
-        requires fit { IsFit (table_at table.now) pruning.now.rule pruning.now.own.now }
+        requires fit { IsFit (table_at table.now) pruning.now.rule pruning.now.fulfilment.now }
         requires within { row < length table.now.rows }
         requires have { (r : made.Row) → slice_get table.now.rows row ≡ Some r → HaveSets table.now pruning.now.rule (list_at self.now.sets.items) r }
         ensures { IfOk result (IsListedSet table.now pruning.now.rule row) }

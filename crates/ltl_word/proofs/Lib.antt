@@ -7,5 +7,7 @@ mod NameLaws
 mod NumberLaws
 mod RowLaws
 mod ScanLaws
+mod StandingNames
+mod SubformulaLaws
 mod TextLaws
 mod WordLaws

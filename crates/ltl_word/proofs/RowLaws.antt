@@ -168,7 +168,7 @@ junction_rows op w a b (Err e) long each = tt
 
 -- the rows of nodes
 
-get_index : {X : Type 0} (xs : List X) (i : ℕ) (x d : X) → slice_get xs i ≡ Some x → (i < length xs) × (slice_index_or xs i d ≡ x)
+pub get_index : {X : Type 0} (xs : List X) (i : ℕ) (x d : X) → slice_get xs i ≡ Some x → (i < length xs) × (slice_index_or xs i d ≡ x)
 get_index [] i x d e = cc
 get_index (y ∷ ys) zero x d e = (omega arith, same_Some y x e)
 get_index (y ∷ ys) (suc i) x d e = let w = get_index ys i x d e in ((let l = w.0 in omega arith), w.1)

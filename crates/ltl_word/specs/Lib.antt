@@ -4,5 +4,6 @@ pub mod LeastView
 pub mod NameView
 pub mod ReadText
 pub mod Rows
+pub mod SubformulaRows
 pub mod Uses
 pub mod WrittenView

@@ -11,7 +11,7 @@ use std::marker::Model;
 /// Bits by number, seen as words of 64 of them. Two words need no memory: the words that people write and that the checker prints have fewer
 /// than 128 letters.
 #[derive(Drop)]
-pub(crate) struct Bits<'a, A: Allocator> {
+pub struct Bits<'a, A: Allocator> {
     words: SmallVec<u64, 2, &'a A>,
 }
 
@@ -46,7 +46,7 @@ impl<'a, A: Allocator> Bits<'a, A> {
         Ok(Bits { words })
     }
 
-    pub(crate) fn get(&self, i: usize) -> bool
+    pub fn get(&self, i: usize) -> bool
         requires { i / 64 < length self.now }
         ensures { result ≡ bit_of self.now i }
     {

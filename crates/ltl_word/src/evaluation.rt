@@ -161,7 +161,7 @@ fn node_row<'a, A: Allocator, B: Allocator, C: Allocator>(
 }
 
 /// The row of an operator over this operand.
-fn unary_row<'a, A: Allocator, C: Allocator>(
+pub(crate) fn unary_row<'a, A: Allocator, C: Allocator>(
     alloc: &'a A,
     word: &Lasso<'_, C>,
     operator: UnaryOperator,
@@ -231,7 +231,7 @@ fn next_row<'a, A: Allocator>(
 }
 
 /// The row of an operator over these operands.
-fn binary_row<'a, A: Allocator, C: Allocator>(
+pub(crate) fn binary_row<'a, A: Allocator, C: Allocator>(
     alloc: &'a A,
     word: &Lasso<'_, C>,
     operator: BinaryOperator,

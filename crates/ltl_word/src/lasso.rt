@@ -49,7 +49,7 @@ impl<'a, A: Allocator> Lasso<'a, A> {
 
     /// How many letters are written, those of the stem and of the cycle.
     #[tactic(auto, using(crate::proofs::LetterLaws::size_is))]
-    pub(crate) fn len(&self) -> usize
+    pub fn len(&self) -> usize
         ensures { result ≡ size self.now }
     {
         self.letters.len()
@@ -67,7 +67,7 @@ impl<'a, A: Allocator> Lasso<'a, A> {
 
     /// How many letters the stem has.
     #[tactic(auto, using(crate::proofs::LetterLaws::size_is, crate::proofs::LetterLaws::stem_is))]
-    pub(crate) fn stem_len(&self) -> usize
+    pub fn stem_len(&self) -> usize
         ensures stem { result ≡ length self.now.stem }
         ensures cycle { result < size self.now }
     {
@@ -75,7 +75,7 @@ impl<'a, A: Allocator> Lasso<'a, A> {
     }
 
     /// The row of the positions where the name is true.
-    pub(crate) fn row_of_name<'r, B: Allocator>(
+    pub fn row_of_name<'r, B: Allocator>(
         &self,
         alloc: &'r B,
         name: &[u8],

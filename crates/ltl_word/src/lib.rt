@@ -6,6 +6,7 @@
 //! What flows: a text, byte by byte (`scan`), to the letters as they are written (`written`); with the names sorted once, to a `Lasso`, whose letters
 //! are sets of places of names. `holds` makes a row of bits for each node of the formula, operands first, a bit for each written letter, 64 at a
 //! time: `&&` and `||` by words, `X` by a shift, `U` and `V` from the last letter to the first (`going`). A row is given back after its last use.
+//! `subformula_rows` makes the same rows and hands out all of them.
 //!
 //! ```
 //! let formula = ltl_syntax::read(&alloc, b"[](p -> X q)")?;
@@ -15,7 +16,7 @@
 //! ```
 #![tactic(auto)]
 
-mod bits;
+pub mod bits;
 pub mod evaluation;
 pub mod fault;
 mod going;
@@ -27,15 +28,19 @@ mod machine_word;
 mod making;
 mod name;
 mod name_list;
+pub mod names;
 mod numbered;
 mod place;
 mod printing;
 mod reading;
 mod scan;
+pub mod subformulas;
 mod uses;
 mod written;
 
+pub use bits::Bits;
 pub use evaluation::holds;
 pub use fault::WordFault;
 pub use lasso::Lasso;
 pub use limits::{NAME_LIMIT, TEXT_LIMIT};
+pub use subformulas::subformula_rows;

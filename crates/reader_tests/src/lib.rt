@@ -11,4 +11,6 @@ mod hoa;
 #[cfg(test)]
 mod streams;
 #[cfg(test)]
+mod timeline;
+#[cfg(test)]
 mod word;

@@ -6,7 +6,7 @@ use Rattle.ltl_alt.specs.PartView.{part_of}
 use Rattle.ltl_alt.proofs.JoinLaws.{list_at_longer}
 use Rattle.ltl_alt.proofs.MapLaws.{longer_same, longer_trans}
 use Rattle.ltl_alt.proofs.NeedsLaws.{same_or_other}
-use Rattle.ltl_alt.proofs.OwnLaws.{at_last, at_before}
+use Rattle.ltl_alt.proofs.MapLaws.{at_last, at_before}
 use Rattle.ltl_alt.proofs.groups.starts.Goals as goal
 
 pub parts-init : goal.parts-init

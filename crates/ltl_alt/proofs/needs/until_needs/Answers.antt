@@ -1,4 +1,4 @@
-use Rattle.std.proofs.Common.{◌≡◌, ◌+◌, ◌<◌, ◌≤◌, ◌∙◌, ap, sym, subst, arith, length, List}
+use Rattle.std.proofs.Common.{◌+◌, ◌∙◌, ap, sym, subst, arith, length, List}
 use Rattle.std.proofs.lemmas.Option.{slice_get_within}
 use Rattle.ltl_formula.specs.GraphView.{IsBelow}
 use Rattle.ltl_alt.specs.declared.needs.Need.{Need}

@@ -6,8 +6,6 @@ use Rattle.ltl_alt.proofs.prune.put_least.Goals.{then-not-has_spare+in_ok-push, 
 
 pub measured-preserved : goal.measured-preserved
 measured-preserved g c =
-    let r = c.args.pruning.now.rule in
-    let own = c.args.pruning.now.own.now in
     let all = c.args.lookup.now in
     let ms = c.args.measured.now in
     let i = c.measured.m-index in
@@ -16,8 +14,8 @@ measured-preserved g c =
     let next : take (i + 1) ms ≡ take i ms ++ m ∷ [] = take_more ms i m inside ∙ ap (λ x. take i ms ++ x ∷ []) (sym c.m-item.is) in
     elim c.if-not-has_spare.branch [
       | then-not-has_spare+in_ok-push w ↦
-          least_stays r own c.args.least all (take i ms) (take (i + 1) ms) m c.measured.pairs.items c.if-not-has_spare.pairs.items next (sym c.has_spare.ensures ∙ w.if-not-has_spare.true)
+          least_stays c.args.lacks.now.lacks.now c.args.least all (take i ms) (take (i + 1) ms) m c.measured.pairs.items c.if-not-has_spare.pairs.items next (sym c.has_spare.ensures ∙ w.if-not-has_spare.true)
           (ap (λ v. v.items) w.pairs-is ∙ w.in_ok-push.ensures.items) c.measured.invariant
       | else-not-has_spare w ↦
-          least_goes r own c.args.least all (take i ms) (take (i + 1) ms) m c.measured.pairs.items c.if-not-has_spare.pairs.items next (sym c.has_spare.ensures ∙ w.if-not-has_spare.false) (ap (λ v. v.items) w.pairs-is) c.measured.invariant
+          least_goes c.args.lacks.now.lacks.now c.args.least all (take i ms) (take (i + 1) ms) m c.measured.pairs.items c.if-not-has_spare.pairs.items next (sym c.has_spare.ensures ∙ w.if-not-has_spare.false) (ap (λ v. v.items) w.pairs-is) c.measured.invariant
     ]

@@ -16,7 +16,6 @@ use Rattle.ltl_alt.specs.declared.rule.Rule.{Rule}
 use Rattle.ltl_alt.specs.ReachView.{net_of}
 use Rattle.ltl_alt.specs.GroupView.{AreGroups}
 use Rattle.ltl_alt.specs.RowLists.{row_place}
-use Rattle.ltl_alt.specs.StandIns.{AreOwn}
 use Rattle.ltl_alt.specs.TransitionView.{table_at}
 use Rattle.ltl_alt.proofs.ElementaryLaws.{root_stands}
 use Rattle.ltl_alt.proofs.GbaLaws.{is_generalized, is_gba, is_too_large, is_not_too_large}
@@ -39,7 +38,6 @@ explore_from-requires-clause-ready g c =
       record {
         table = c.invariant.ensures;
         rule = c.of-2.ensures;
-        own_pairs = subst (AreOwn T) (sym c.as_slice.ensures.value) c.in_ok-own.ensures;
         tests = c.in_ok-fulfilment.ensures;
         parts = c.in_ok-parts.ensures.parts.0;
         all = c.in_ok-parts.ensures.parts.1;

@@ -9,5 +9,5 @@ pub returns : goal.returns
 returns g c =
     let T = table_at c.args.table.now in
     let targets = ap (λ (a : Asked). a.targets) c.asked.view_is in
-    demands T c.args.own.now c.args.pairs.now c.of-asked.result c.awaited_by.result c.of-asked.ensures
-    (subst (λ ts. AwaitsAll T c.args.own.now ts (length T.untils) c.awaited_by.result) targets c.awaited_by.ensures)
+    demands T c.args.pairs.now c.of-asked.result c.awaited_by.result c.of-asked.ensures
+    (subst (λ ts. AwaitsAll T ts (length T.untils) c.awaited_by.result) targets c.awaited_by.ensures)

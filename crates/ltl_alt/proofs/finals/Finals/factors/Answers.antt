@@ -18,8 +18,8 @@ groups-init g c =
       finals = c.requires.finals;
       factors = (
         λ f h. absurd (subst (λ xs. Has xs f) c.new-factors.ensures.items h),
-        subst (λ xs. AreLists (table_at b.table.now) b.keep_implied b.pruning.own.now b.parts.lists.items c.args.all.now (map (list_of c.args.self.now.lists.keys) xs) c.args.all.now) (sym c.new-factors.ensures.items)
-            (lists_none (table_at b.table.now) b.keep_implied b.pruning.own.now b.parts.lists.items c.args.all.now),
+        subst (λ xs. AreLists (table_at b.table.now) b.keep_implied b.parts.lists.items c.args.all.now (map (list_of c.args.self.now.lists.keys) xs) c.args.all.now) (sym c.new-factors.ensures.items)
+            (lists_none (table_at b.table.now) b.keep_implied b.parts.lists.items c.args.all.now),
       );
       longer = longer_same c.args.self.now.lists.keys;
       inside = c.requires.inside;
@@ -52,7 +52,7 @@ groups-preserved g c =
           | inl m ↦ within_longer old new f longer (was.0 f m)
           | inr m ↦ elim m [ inl e ↦ subst (IsWithin new) (sym e) is.0 | inr z ↦ absurd z ]
         ],
-        lists_more (table_at b.table.now) b.keep_implied b.pruning.own.now b.parts.lists.items b.parts.demands.items b.parts.links.items c.args.all.now (map (list_of old) before) (map (list_of new) c.push.new.self.items) (list_of new one)
+        lists_more (table_at b.table.now) b.keep_implied b.parts.lists.items b.parts.demands.items b.parts.links.items c.args.all.now (map (list_of old) before) (map (list_of new) c.push.new.self.items) (list_of new one)
             c.groups.rest c.group-group.result c.without-rest.result c.in-Some.part parts.linked c.groups.invariant.inside was.1 c.invariant.ensures.rising c.invariant-in-Some.ensures.rising c.group-group.ensures is.1
             (ap (map (list_of new)) c.in_ok-push.ensures.items ∙ map_behind (list_of new) before one ∙ ap (λ xs. xs ++ list_of new one ∷ []) (factors_longer old new before longer was.0)) c.without-rest.ensures,
       );

@@ -1,6 +1,3 @@
-use Rattle.std.proofs.Common.{◌≡◌, ℕ, length, Some}
-use Rattle.std.specs.Prelude.{slice_get, slice_index_or}
-use Rattle.ltl_spec.specs.NormalForms.Normal.{Bottom}
 use Rattle.ltl_alt.proofs.TestLaws.{AreTestsSoFar}
 use Rattle.ltl_alt.specs.TransitionView.{table_at}
 use Rattle.ltl_alt.proofs.fulfilment.Fulfilment.of.Given as goal

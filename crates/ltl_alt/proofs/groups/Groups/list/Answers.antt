@@ -8,7 +8,7 @@ use Rattle.ltl_alt.specs.TransitionView.{table_at}
 use Rattle.ltl_alt.proofs.GroupLaws.{joined_on, joins_begin, joins_step, joins_end, one_rises}
 use Rattle.ltl_alt.proofs.JoinLaws.{groups_longer, join_lists}
 use Rattle.ltl_alt.proofs.MapLaws.{longer_same, longer_trans, some_is}
-use Rattle.ltl_alt.proofs.StandInLaws.{own_fit}
+use Rattle.ltl_alt.proofs.StandInLaws.{tests_fit}
 use Rattle.ltl_alt.proofs.TransitionLaws.{index_same}
 use Rattle.ltl_alt.proofs.groups.Groups.list.Goals as goal
 
@@ -50,7 +50,7 @@ members-preserved g c =
     let old = c.members.self.memo.lists.keys in
     let new = c.join.new.self.lists.keys in
     let groups = c.members.invariant.groups in
-    let fit = own_fit T b.keep_implied r b.pruning.own.now c.requires.basis.rule c.requires.basis.own_pairs in
+    let fit = tests_fit T r b.pruning.fulfilment.now c.requires.basis.tests in
     let inside = c.members.invariant.inside c.in-Some.part (subst (λ xs. Has xs c.in-Some.part) (sym c.in-Some.ensures.steps) (inl refl)) in
     let count = groups.starts.count in
     let below : c.in-Some.part < length c.members.self.starts.items = omega (arith, inside, count) in
@@ -75,7 +75,7 @@ returns-in_default-2-clause-groups g c =
     let T = table_at b.table.now in
     let r = b.pruning.rule in
     let groups = c.members.invariant.groups in
-    let fit = own_fit T b.keep_implied r b.pruning.own.now c.requires.basis.rule c.requires.basis.own_pairs in
+    let fit = tests_fit T r b.pruning.fulfilment.now c.requires.basis.tests in
     groups_longer T r b.parts.lists.items c.members.self.memo.lists.keys c.join.new.self.lists.keys _ _ _ _ c.in_ok-joined.ensures.longer (c.in_ok-joined.ensures.joins T fit groups.joins) groups
 
 pub returns-in_default-2-clause-longer : goal.returns-in_default-2-clause-longer

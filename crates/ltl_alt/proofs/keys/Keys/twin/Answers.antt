@@ -29,9 +29,9 @@ returns-clause-keys g c =
     let new = c.factors.new.self.lists.keys in
     let fs = c.in-Some-2.factors.items in
     let found : AreFactorsOf b new c.in-Some.all fs [] = some_is _ _ _ c.in_ok-factors.ensures.factors c.in-Some-2.is in
-    let shape = set_shape b.table.now b.keep_implied b.pruning.rule b.pruning.own.now b.parts.made b.parts.owners.items b.parts.lists.items b.parts.demands.items b.parts.links.items c.requires.basis c.args.state.now c.in-Some.all
+    let shape = set_shape b.table.now b.keep_implied b.pruning.rule b.pruning.fulfilment.now b.parts.made b.parts.owners.items b.parts.lists.items b.parts.demands.items b.parts.links.items c.requires.basis c.args.state.now c.in-Some.all
     c.invariant.ensures.rising c.in-Some.ensures.1 c.in-Some.ensures.0 (map (list_of new) fs) found.1 in
-    let proper = set_proper b.table.now b.keep_implied b.pruning.rule b.pruning.own.now b.parts.made b.parts.owners.items b.parts.lists.items b.parts.demands.items b.parts.links.items c.requires.basis c.args.state.now c.in-Some.all
+    let proper = set_proper b.table.now b.keep_implied b.pruning.rule b.pruning.fulfilment.now b.parts.made b.parts.owners.items b.parts.lists.items b.parts.demands.items b.parts.links.items c.requires.basis c.args.state.now c.in-Some.all
     c.invariant.ensures.rising c.in-Some.ensures.1 c.in-Some.ensures.0 (map (list_of new) fs) found.1 in
     let numbers : AreNumbersOf new fs c.in-Some-3.key.items = subst (λ xs. AreNumbersOf new xs c.in-Some-3.key.items) c.as_slice.ensures.value (some_is _ _ _ (c.in_ok-key.ensures new (subst (AreWithin new) (sym c.as_slice.ensures.value) found.0)) c.in-Some-3.is) in
     let is : IsKeyOf T b.keep_implied new c.in-Some-3.key.items c.args.state.now = key_of T b.keep_implied new fs c.in-Some-3.key.items c.args.state.now numbers proper shape in
@@ -44,9 +44,9 @@ returns-clause-twin g c =
     let new = c.factors.new.self.lists.keys in
     let fs = c.in-Some-2.factors.items in
     let found : AreFactorsOf b new c.in-Some.all fs [] = some_is _ _ _ c.in_ok-factors.ensures.factors c.in-Some-2.is in
-    let shape = set_shape b.table.now b.keep_implied b.pruning.rule b.pruning.own.now b.parts.made b.parts.owners.items b.parts.lists.items b.parts.demands.items b.parts.links.items c.requires.basis c.args.state.now c.in-Some.all
+    let shape = set_shape b.table.now b.keep_implied b.pruning.rule b.pruning.fulfilment.now b.parts.made b.parts.owners.items b.parts.lists.items b.parts.demands.items b.parts.links.items c.requires.basis c.args.state.now c.in-Some.all
     c.invariant.ensures.rising c.in-Some.ensures.1 c.in-Some.ensures.0 (map (list_of new) fs) found.1 in
-    let proper = set_proper b.table.now b.keep_implied b.pruning.rule b.pruning.own.now b.parts.made b.parts.owners.items b.parts.lists.items b.parts.demands.items b.parts.links.items c.requires.basis c.args.state.now c.in-Some.all
+    let proper = set_proper b.table.now b.keep_implied b.pruning.rule b.pruning.fulfilment.now b.parts.made b.parts.owners.items b.parts.lists.items b.parts.demands.items b.parts.links.items c.requires.basis c.args.state.now c.in-Some.all
     c.invariant.ensures.rising c.in-Some.ensures.1 c.in-Some.ensures.0 (map (list_of new) fs) found.1 in
     let numbers : AreNumbersOf new fs c.in-Some-3.key.items = subst (λ xs. AreNumbersOf new xs c.in-Some-3.key.items) c.as_slice.ensures.value (some_is _ _ _ (c.in_ok-key.ensures new (subst (AreWithin new) (sym c.as_slice.ensures.value) found.0)) c.in-Some-3.is) in
     let is : IsKeyOf T b.keep_implied new c.in-Some-3.key.items c.args.state.now = key_of T b.keep_implied new fs c.in-Some-3.key.items c.args.state.now numbers proper shape in

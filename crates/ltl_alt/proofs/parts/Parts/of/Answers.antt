@@ -15,7 +15,7 @@ rows-init g c =
     let few = c.elementary_places-rest.ensures.few in
     record {
       lists = c.in_ok-lists.ensures c.args.pruning.now.rule;
-      parts = record { linked = c.new-parts.ensures.linked (table_at c.args.table.now) c.args.pruning.now.own.now; rows = c.new-parts.ensures.rows (table_at c.args.table.now) c.args.pruning.now.rule };
+      parts = record { linked = c.new-parts.ensures.linked (table_at c.args.table.now); rows = c.new-parts.ensures.rows (table_at c.args.table.now) c.args.pruning.now.rule };
       room = omega arith;
       new = λ i h k. subst (λ xs. Has xs i) c.new-parts.ensures.made k;
       all = λ i l. inr (c.elementary_places-rest.ensures.all i l);

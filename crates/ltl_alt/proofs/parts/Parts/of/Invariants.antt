@@ -8,7 +8,7 @@ use Rattle.ltl_alt.proofs.parts.Parts.of.Given as goal
 abbrev pub invariant-rows : goal.invariant-rows
 invariant-rows g l = record {
   lists : AreLists l.table l.pruning.rule l.lists.pairs.items l.lists.sets.items;
-  parts : AreParts (table_at l.table) l.pruning.rule l.pruning.own.now l.parts.made l.parts.owners.items l.parts.lists.items l.parts.demands.items l.parts.links.items;
+  parts : AreParts (table_at l.table) l.pruning.rule l.parts.made l.parts.owners.items l.parts.lists.items l.parts.demands.items l.parts.links.items;
   room : length l.parts.lists.items + length l.rest ≤ 256;
   new : (i : ℕ) → Has l.rest i → Has l.parts.made i → ⊥;
   all : (i : ℕ) → i < length l.table.elementary → Has l.parts.made i ⊎ Has l.rest i;

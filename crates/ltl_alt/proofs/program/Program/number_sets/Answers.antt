@@ -1,6 +1,4 @@
-use Rattle.std.proofs.Common.{◌≡◌, ◌<◌, inl, inr, refl, sym, subst, true}
-use Rattle.ltl_formula.specs.TableView.{is_elementary_row}
-use Rattle.ltl_alt.specs.Steps.{IsNumbered, set_test_from}
+use Rattle.std.proofs.Common.{inl, inr, refl, sym}
 use Rattle.ltl_alt.proofs.ProgramLaws.{leads_given}
 use Rattle.ltl_alt.proofs.program.Program.number_sets.Goals as goal
 

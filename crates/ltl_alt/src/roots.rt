@@ -1,0 +1,28 @@
+//! Which until rows pairs can differ in.
+
+ghost use Rattle.std.specs.Prelude.{IfOk};
+ghost use Rattle.ltl_alt.specs.CodeView.{AreOpenSteps};
+
+use crate::asked::Asked;
+use crate::fulfilment::Fulfilment;
+use crate::pair::Pair;
+use std::alloc::{AllocError, Allocator};
+
+/// The steps of the until rows whose tests speak of what these pairs ask for.
+pub(crate) fn open_steps<'a, A: Allocator>(
+    alloc: &'a A,
+    fulfilment: &Fulfilment<'_, A>,
+    pairs: &[Pair],
+) -> Result<Vec<usize, &'a A>, AllocError>
+    ensures { IfOk result (λ v. AreOpenSteps fulfilment.now.untils.items fulfilment.now.leaves.items pairs.now v.items) }
+{
+    let asked = Asked::of(pairs);
+    let mut roots = Vec::new(alloc);
+    'untils: for number in 0..fulfilment.untils.len() {
+        let step = fulfilment.until(number).step;
+        if fulfilment.leaves(step).shares_some(&asked) {
+            roots.push(step)?;
+        }
+    }
+    Ok(roots)
+}

@@ -1,0 +1,3 @@
+pub mod CallLaws
+pub mod LineLaws
+pub mod StepLaws

@@ -1,0 +1,88 @@
+-- What a call from C hands over: what a run of a program shows for the same texts.
+use Rattle.std.specs.Prelude.{◌≡◌, ◌⊎◌, ◌<◌, ◌++◌, ℕ, not, List, [], ◌∷◌, length, drop, slice_get, slice_index_or, Option, Some, None, Result, Err, codes, option_map}
+use Rattle.std.specs.Option.{option_map_or}
+use Rattle.ltl_spec.specs.Automata.ClaimText.{line}
+use Rattle.ltl_spec.specs.Hoa.HoaReading.{stated_form}
+use Rattle.ltl_spec.specs.Tools.Limits.{stated_limits}
+use Rattle.ltl_spec.specs.Tools.Refusal.{Refusal, Tool, Usage, message}
+use Rattle.ltl_spec.specs.Tools.Stage.{Open}
+use Rattle.ltl_spec.specs.Tools.Outcome.{Given, Input, NotOpened, Seen, stage_behind}
+use Rattle.ltl_spec.specs.Tools.Programs.{CheckerPlan, EvaluatorPlan, Layout, Claim, Hoa, Generalized, TranslatorPlan, TranslatorPrints}
+use Rattle.ltl_spec.specs.Tools.Run.{MayShow, PlanOf}
+use Rattle.ltl_c.specs.declared.refusal_code.RefusalCode.{RefusalCode}
+use Rattle.ltl_c.specs.declared.text_options.TextOptions.{TextOptions}
+use Rattle.ltl_c.specs.Codes.{refusal_in}
+
+-- ---- what the programs would be asked
+
+-- the layouts by number
+abbrev pub layout_numbered : ℕ → Option Layout
+layout_numbered n = slice_get (Claim ∷ Hoa ∷ Generalized ∷ []) n
+
+abbrev pub plan_with : List ℕ → TextOptions → Layout → TranslatorPlan
+plan_with text o layout = record {
+  formula = Given text;
+  rewrite = not o.no_rewrite;
+  options = record { keep_implied = o.keep_implied; keep_equal = o.keep_equal };
+  layout = layout;
+}
+
+-- the text of a formula's automaton is asked for by these options, or nothing is, where the layout has no such number
+abbrev pub translator_asked : List ℕ → TextOptions → Option TranslatorPlan
+translator_asked text o = option_map (plan_with text o) (layout_numbered o.layout)
+
+abbrev pub evaluator_asked : List ℕ → List ℕ → EvaluatorPlan
+evaluator_asked text word = record { formula = Given text; word = word }
+
+-- the automaton's text comes from the standard input
+abbrev pub checker_asked : List ℕ → CheckerPlan
+checker_asked text = record { formula = Given text; automaton = None }
+
+-- ---- what a call hands over
+
+-- the line that the program prints for the refusal of this code, and nothing where there is none
+abbrev pub told : Tool → RefusalCode → List ℕ
+told tool code = option_map_or (message stated_limits tool) (refusal_in code) []
+
+-- a run that ended with this status, of which no write failed
+abbrev pub run_with : ℕ → List ℕ → List ℕ → Seen
+run_with status output message = record { output = output; output_stage = stage_behind status; message = message; message_stage = Open; status = status }
+
+-- the program may show this for its plan, with these bytes in its input
+abbrev pub MayEnd : (tool : Tool) → Option (PlanOf tool) → Input → ℕ → List ℕ → List ℕ → Type 0
+MayEnd tool plan file status output message = MayShow stated_limits stated_form tool plan NotOpened file (run_with status output message)
+
+-- the status of a call whose buffer is too short
+abbrev pub too_short : ℕ
+too_short = 6
+
+-- The text of a run with that status goes to the buffer's beginning, and the call has the run's status; or the buffer is too short for it, and stays
+-- as it was. The count is the text's length in both cases
+abbrev pub Delivers : ℕ → List ℕ → List ℕ → List ℕ → ℕ → ℕ → Type 0
+Delivers ended text old new count status = (count ≡ length text) × ((status ≡ ended) × (new ≡ text ++ drop (length text) old)
+    ⊎ (status ≡ too_short) × (length old < length text) × (new ≡ old))
+
+-- A call with a buffer: the program may end so, with this text in what it prints, and the text is delivered
+pub record HandsOver (tool : Tool) (plan : Option (PlanOf tool)) (file : Input) (printed : ℕ → List ℕ → List ℕ) (code : RefusalCode) (old new : List ℕ) (count status : ℕ) : Type 0 where
+  pub text : List ℕ
+  pub ended : ℕ
+  pub shown : MayEnd tool plan file ended (printed ended text) (told tool code)
+  pub delivered : Delivers ended text old new count status
+
+-- ---- what the programs print, by their status and the text
+
+abbrev pub text_alone : ℕ → List ℕ → List ℕ
+text_alone status text = text
+
+abbrev pub truth_line : ℕ → List ℕ
+truth_line status = slice_index_or (line (codes "true") ∷ line (codes "false") ∷ []) status []
+
+abbrev pub verdict_lines : ℕ → List ℕ → List ℕ
+verdict_lines status text = slice_index_or (line (codes "contained") ∷ (line (codes "violated") ++ line text) ∷ []) status text
+
+-- ---- on the way there
+
+-- the text of the automaton that is asked for, and usage where none is
+abbrev pub PrintsAsked : Option TranslatorPlan → Result (List ℕ) Refusal → Type 0
+PrintsAsked None r = r ≡ Err Usage
+PrintsAsked (Some p) r = TranslatorPrints stated_limits p NotOpened r

@@ -1,0 +1,129 @@
+//! The exports, each once.
+
+use crate::checking::{Found, ltlcheck_verdict};
+use crate::evaluation::ltleval_holds;
+use crate::message::ltl2ba_message;
+use crate::names::ltl2ba_names;
+use crate::refusal_code::{RefusalCode, no_refusal};
+use crate::text::ltl2ba_text;
+use crate::text_options::TextOptions;
+use std::alloc::Global;
+
+fn options(layout: u32) -> TextOptions {
+    TextOptions {
+        no_rewrite: false,
+        keep_implied: false,
+        keep_equal: false,
+        layout,
+    }
+}
+
+const HOA: &str =
+    "HOA: v1\nname: \"[]<>p\"\nStates: 2\nStart: 0\nAP: 1 \"p\"\nacc-name: Buchi\nAcceptance: 1 Inf(0)\nproperties: trans-labels explicit-labels state-acc\n--BODY--\nState: 0\n[t] 0\n[0] 1\nState: 1 {0}\n[t] 0\n[0] 1\n--END--\n";
+
+#[test]
+fn text_of_a_formula(rt: HostRuntime) {
+    let mut buffer = [0u8; 1000];
+    let mut count = 0;
+    let mut refusal = no_refusal();
+    let status = ltl2ba_text(
+        rt.alloc(),
+        b"[]<>p",
+        &options(1),
+        &mut buffer,
+        &mut count,
+        &mut refusal,
+    );
+    assert_eq!(rt; status, 0);
+    assert!(rt; &buffer[..count] == HOA.as_bytes());
+    let mut small = [0u8; 100];
+    let short = ltl2ba_text(
+        rt.alloc(),
+        b"[]<>p",
+        &options(1),
+        &mut small,
+        &mut count,
+        &mut refusal,
+    );
+    assert_eq!(rt; short, 6);
+    assert_eq!(rt; count, HOA.len());
+}
+
+#[test]
+fn truth_of_a_formula(rt: HostRuntime) {
+    let mut truth = false;
+    let mut refusal = no_refusal();
+    let status = ltleval_holds(
+        rt.alloc(),
+        b"[]<>p",
+        b"cycle {p}; {}",
+        &mut truth,
+        &mut refusal,
+    );
+    assert_eq!(rt; (status, truth), (0, true));
+    let refused = ltleval_holds(
+        rt.alloc(),
+        b"[]<>",
+        b"cycle {p}; {}",
+        &mut truth,
+        &mut refusal,
+    );
+    assert_eq!(rt; (refused, truth), (3, false));
+    let mut buffer = [0u8; 100];
+    let mut count = 0;
+    assert_eq!(rt; ltl2ba_message(2, &refusal, &mut buffer, &mut count), 0);
+    assert!(rt; &buffer[..count] == b"ltleval: formula: byte 4: expected operand\n".as_slice());
+}
+
+#[test]
+fn verdict_on_an_automaton(rt: HostRuntime) {
+    let mut buffer = [0u8; 100];
+    let mut found = Found {
+        count: 0,
+        contained: false,
+    };
+    let mut refusal = no_refusal();
+    let status = ltlcheck_verdict(
+        rt.alloc(),
+        b"<>[]p",
+        HOA.as_bytes(),
+        &mut buffer,
+        &mut found,
+        &mut refusal,
+    );
+    assert_eq!(rt; (status, found.contained), (1, false));
+    let mut truth = false;
+    let breaks = ltleval_holds(
+        rt.alloc(),
+        b"[]<>p && !<>[]p",
+        &buffer[..found.count],
+        &mut truth,
+        &mut refusal,
+    );
+    assert_eq!(rt; (breaks, truth), (0, true));
+    let contained = ltlcheck_verdict(
+        rt.alloc(),
+        b"<>p",
+        HOA.as_bytes(),
+        &mut buffer,
+        &mut found,
+        &mut refusal,
+    );
+    assert_eq!(rt; (contained, found.contained), (0, true));
+}
+
+#[test]
+fn names_of_a_formula(rt: HostRuntime) {
+    let mut buffer = [0u8; 100];
+    let mut count = 0;
+    let mut refusal = no_refusal();
+    let status = ltl2ba_names(
+        rt.alloc(),
+        b"q U (p && q)",
+        &mut buffer,
+        &mut count,
+        &mut refusal,
+    );
+    assert_eq!(rt; status, 0);
+    assert!(rt; &buffer[..count] == b"q\0p\0".as_slice());
+}

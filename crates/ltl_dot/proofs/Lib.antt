@@ -1,0 +1,5 @@
+pub mod ArrowLaws
+pub mod DrawnLaws
+pub mod EdgeLaws
+pub mod OrderLaws
+pub mod PutLaws

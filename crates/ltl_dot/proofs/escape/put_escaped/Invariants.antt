@@ -1,0 +1,7 @@
+use Rattle.std.proofs.Common.{drop}
+use Rattle.ltl_streams.proofs.SendLaws.{Leaves}
+use Rattle.ltl_dot.specs.DotText.{escaped}
+use Rattle.ltl_dot.proofs.escape.put_escaped.Given as goal
+
+abbrev pub invariant-loop-byte : goal.invariant-loop-byte
+invariant-loop-byte g l = Leaves (g.S.ByteSink.state l.fn.sink) l.fn.piece (g.S.ByteSink.state l.sink) l.piece (escaped (drop l.byte-index l.text)) (escaped l.text)

@@ -1,0 +1,68 @@
+-- The text of a picture in the language of Graphviz' dot.
+use Rattle.std.specs.Prelude.{ℕ, zero, suc, ◌+◌, Bool, not, ◌&&◌, ◌||◌, ◌==◌, nat_le, if◌then◌else◌, List, [], ◌∷◌, ◌++◌, map, flat_map, slice_index_or, codes, decimal}
+use Rattle.std.specs.List.{range_with_len}
+use Rattle.ltl_spec.specs.Collections.Lists.{joined_by}
+use Rattle.ltl_spec.specs.Semantics.Word.{Name}
+use Rattle.ltl_spec.specs.Transitions.Cubes.{Literal, Cube}
+use Rattle.ltl_spec.specs.Automata.Automaton.{Edge}
+use Rattle.ltl_spec.specs.Hoa.HoaReading.{MarkedAutomaton}
+use Rattle.ltl_dot.specs.Picture.{Arrow, arrows, edges_at, is_accepting, is_state_based}
+
+-- a byte between quotes: a quote and a backslash stand behind a backslash
+abbrev pub escaped_byte : ℕ → List ℕ
+escaped_byte b = if b == 34 || b == 92 then 92 ∷ b ∷ [] else b ∷ []
+
+abbrev pub escaped : List ℕ → List ℕ
+escaped text = flat_map escaped_byte text
+
+-- the number of a set behind a blank: as a disc with the number in it (U+24FF, from U+2776, from U+24EB) up to 20, then in brackets
+abbrev pub disc : ℕ → List ℕ
+disc k =
+    if k == 0 then 32 ∷ 226 ∷ 147 ∷ 191 ∷ [] else
+    if nat_le k 10 then 32 ∷ 226 ∷ 157 ∷ (181 + k) ∷ [] else
+    if nat_le k 20 then 32 ∷ 226 ∷ 147 ∷ (160 + k) ∷ [] else
+    codes " (" ++ decimal k ++ codes ")"
+
+abbrev pub literal_text : List Name → Literal → List ℕ
+literal_text names l = let name = escaped (slice_index_or names l.proposition []) in if l.positive then name else codes "!" ++ name
+
+-- a label as a formula of propositions, `1` where it has no literal
+abbrev pub formula_text : List Name → Cube → List ℕ
+formula_text names [] = codes "1"
+formula_text names (l ∷ ls) = joined_by (codes " && ") (map (literal_text names) (l ∷ ls))
+
+-- an edge: its label, and its sets where they are shown
+abbrev pub edge_text : List Name → Bool → Edge → List ℕ
+edge_text names shown e = formula_text names e.cube ++ (if shown then flat_map disc e.marks else [])
+
+-- an arrow with a line for each of its edges
+abbrev pub arrow_text : List Name → Bool → Arrow → List ℕ
+arrow_text names shown a =
+    codes "  " ++ decimal a.from ++ codes " -> " ++ decimal a.to ++ codes " [label=\"" ++ joined_by (codes "\\n") (map (edge_text names shown) a.edges) ++ codes "\"]\n"
+
+-- a state, with a double line where it is accepting
+abbrev pub node_text : Bool → ℕ → List ℕ
+node_text accepting k = codes "  " ++ decimal k ++ (if accepting then codes " [peripheries=2]\n" else codes "\n")
+
+-- a state and the arrows from it
+abbrev pub state_text : MarkedAutomaton → ℕ → List ℕ
+state_text A k =
+    let es = edges_at A k in
+    let by_states = is_state_based A in
+    node_text (by_states && is_accepting es) k ++ flat_map (arrow_text A.names (not by_states)) (arrows k es)
+
+-- what the condition of so many sets is called
+abbrev pub acceptance_name : ℕ → List ℕ
+acceptance_name zero = codes "all"
+acceptance_name (suc zero) = codes "Buchi"
+acceptance_name n = codes "generalized-Buchi " ++ decimal n
+
+-- the condition above the picture, and an arrow from nowhere to the start
+abbrev pub head_text : MarkedAutomaton → List ℕ
+head_text A =
+    codes "digraph automaton {\n  rankdir=LR\n  labelloc=t\n  label=\"" ++ acceptance_name A.sets
+    ++ codes "\"\n  node [shape=circle]\n  I [label=\"\", style=invis, width=0]\n  I -> " ++ decimal A.start ++ codes "\n"
+
+-- the whole text
+abbrev pub dot_text : MarkedAutomaton → List ℕ
+dot_text A = head_text A ++ flat_map (state_text A) (range_with_len 0 A.states) ++ codes "}\n"

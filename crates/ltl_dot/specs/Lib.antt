@@ -1,0 +1,4 @@
+pub mod DotText
+pub mod Drawn
+pub mod Picture
+pub mod Pieces

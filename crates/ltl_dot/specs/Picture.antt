@@ -1,0 +1,45 @@
+-- An automaton that was read as a picture: its accepting states, and one arrow from a state to each of its targets.
+use Rattle.std.specs.Prelude.{ℕ, Bool, true, false, not, ◌&&◌, ◌||◌, ◌==◌, List, [], ◌∷◌, map, filter, slice_index_or}
+use Rattle.std.specs.List.{list_all, list_any}
+use Rattle.std.specs.Ordering.{nat_cmp}
+use Rattle.ltl_spec.specs.Collections.Sets.{set_of}
+use Rattle.ltl_spec.specs.Automata.Automaton.{Edge}
+use Rattle.ltl_spec.specs.Hoa.HoaReading.{MarkedAutomaton}
+
+-- the edges of a state
+abbrev pub edges_at : MarkedAutomaton → ℕ → List Edge
+edges_at A k = slice_index_or A.edges k []
+
+-- whether the edge is in an acceptance set
+abbrev pub has_some : List ℕ → Bool
+has_some [] = false
+has_some (k ∷ ks) = true
+
+abbrev pub is_marked : Edge → Bool
+is_marked e = has_some e.marks
+
+-- either all edges of a state are in the set or none is
+abbrev pub is_even : List Edge → Bool
+is_even es = list_all is_marked es || not (list_any is_marked es)
+
+-- there is one set, and to be in it is a matter of states
+abbrev pub is_state_based : MarkedAutomaton → Bool
+is_state_based A = A.sets == 1 && list_all is_even A.edges
+
+-- a state that an edge of the set leaves, and no other edge
+abbrev pub is_accepting : List Edge → Bool
+is_accepting es = list_any is_marked es && list_all is_marked es
+
+-- an arrow and the edges that it stands for
+pub record Arrow : Type 0 where
+  pub from : ℕ
+  pub to : ℕ
+  pub edges : List Edge
+
+-- the arrow from state k with these edges to a target
+abbrev pub arrow_to : ℕ → List Edge → ℕ → Arrow
+arrow_to k es t = record { from = k; to = t; edges = filter (λ e. e.target == t) es }
+
+-- the arrows from the state, in the order of their targets
+abbrev pub arrows : ℕ → List Edge → List Arrow
+arrows k es = map (arrow_to k es) (set_of nat_cmp (map (λ e. e.target) es))

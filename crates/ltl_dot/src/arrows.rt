@@ -1,0 +1,105 @@
+//! The arrows from a state, one to each target.
+
+ghost use Rattle.std.specs.Prelude.{◌≡◌, ◌<◌, ◌≤◌, ◌==◌, ◌++◌, length, map, flat_map, string_bytes, codes, All};
+ghost use Rattle.std.specs.Fmt.{decimal};
+ghost use Rattle.std.specs.List.{prefix_len};
+ghost use Rattle.ltl_models.specs.BaView.{IsTargetOrder, target_at};
+ghost use Rattle.ltl_streams.specs.Sending.{Puts};
+ghost use Rattle.ltl_hoa.specs.MarkedView.{edge_of};
+ghost use Rattle.ltl_dot.specs.DotText.{arrow_text};
+ghost use Rattle.ltl_dot.specs.Drawn.{AreNamed};
+ghost use Rattle.ltl_dot.specs.Picture.{arrows};
+ghost use Rattle.ltl_dot.specs.Pieces.{front_text, lines_text};
+
+use crate::label::{put_edge, put_number};
+use ltl_hoa::MarkedEdge;
+use ltl_streams::{ByteSink, Piece, WriteFault};
+use std::alloc::Allocator;
+
+/// How many places at the beginning have edges to this target.
+fn group_len(edges: &[MarkedEdge], places: &[usize], target: usize) -> usize
+    requires { All (λ p. p < length edges.now) places.now }
+    ensures within { result ≤ length places.now }
+    ensures group { result ≡ prefix_len (λ p. target_at (map edge_of edges.now) p == target) places.now }
+{
+    let mut len = 0;
+    'group: while len < places.len() && edges[places[len]].target == target {
+        len += 1;
+    }
+    len
+}
+
+/// Puts an arrow up to its label.
+fn put_front<S: ByteSink>(
+    from: usize,
+    to: usize,
+    piece: &mut Piece,
+    sink: &mut S,
+) -> Result<(), WriteFault>
+    ensures { Puts result (S.state sink.old) piece.old (S.state sink.new) piece.new (front_text from to) }
+{
+    piece.put(b"  ", sink)?;
+    put_number(from, piece, sink)?;
+    piece.put(b" -> ", sink)?;
+    put_number(to, piece, sink)?;
+    piece.put(b" [label=\"", sink)
+}
+
+/// Puts the edges at these places, each in a line of its own.
+fn put_lines<A: Allocator, S: ByteSink>(
+    names: &[String<&A>],
+    shown: bool,
+    edges: &[MarkedEdge],
+    places: &[usize],
+    piece: &mut Piece,
+    sink: &mut S,
+) -> Result<(), WriteFault>
+    requires within { All (λ p. p < length edges.now) places.now }
+    requires named { AreNamed (length names.now) (map edge_of edges.now) }
+    ensures { Puts result (S.state sink.old) piece.old (S.state sink.new) piece.new
+        (lines_text (map string_bytes names.now) shown (map edge_of edges.now) places.now) }
+{
+    let Some((first, others)) = places.split_first() else {
+        return Ok(());
+    };
+    put_edge(names, shown, &edges[*first], piece, sink)?;
+    for place in others {
+        piece.put(b"\\n", sink)?;
+        put_edge(names, shown, &edges[*place], piece, sink)?;
+    }
+    Ok(())
+}
+
+/// The edges of a state, and their places by target and then by place.
+#[derive(Clone, Copy)]
+pub(crate) struct Ordered<'e> {
+    pub edges: &'e [MarkedEdge],
+    pub places: &'e [usize],
+}
+
+/// Puts the arrows from state `k`, whose edges these are.
+pub(crate) fn put_arrows<A: Allocator, S: ByteSink>(
+    names: &[String<&A>],
+    shown: bool,
+    ordered: Ordered<'_>,
+    k: usize,
+    piece: &mut Piece,
+    sink: &mut S,
+) -> Result<(), WriteFault>
+    requires order { IsTargetOrder (map edge_of ordered.edges.now) ordered.places.now }
+    requires named { AreNamed (length names.now) (map edge_of ordered.edges.now) }
+    ensures { Puts result (S.state sink.old) piece.old (S.state sink.new) piece.new
+        (flat_map (arrow_text (map string_bytes names.now) shown) (arrows k (map edge_of ordered.entry.edges.now))) }
+{
+    let edges = ordered.edges;
+    let mut rest = ordered.places;
+    'arrows: while let Some((place, _)) = rest.split_first() {
+        let target = edges[*place].target;
+        let (group, others) = rest.split_at(group_len(edges, rest, target));
+        put_front(k, target, piece, sink)?;
+        put_lines(names, shown, edges, group, piece, sink)?;
+        piece.put(b"\"]\n", sink)?;
+        rest = others;
+    }
+    Ok(())
+}

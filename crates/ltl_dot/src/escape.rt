@@ -1,0 +1,29 @@
+//! Texts between quotes.
+
+ghost use Rattle.ltl_streams.specs.Sending.{Puts};
+ghost use Rattle.ltl_dot.specs.DotText.{escaped, escaped_byte};
+
+use ltl_streams::{ByteSink, Piece, WriteFault};
+
+fn put_byte<S: ByteSink>(byte: u8, piece: &mut Piece, sink: &mut S) -> Result<(), WriteFault>
+    ensures { Puts result (S.state sink.old) piece.old (S.state sink.new) piece.new (escaped_byte byte) }
+{
+    if byte == b'"' || byte == b'\\' {
+        return piece.put(&[b'\\', byte], sink);
+    }
+    piece.put(&[byte], sink)
+}
+
+/// Puts a text between quotes: a backslash before each quote and each backslash.
+pub fn put_escaped<S: ByteSink>(
+    text: &[u8],
+    piece: &mut Piece,
+    sink: &mut S,
+) -> Result<(), WriteFault>
+    ensures { Puts result (S.state sink.old) piece.old (S.state sink.new) piece.new (escaped text.now) }
+{
+    for byte in text {
+        put_byte(*byte, piece, sink)?;
+    }
+    Ok(())
+}

@@ -1,0 +1,57 @@
+//! The edges of each state by their targets.
+
+ghost use Rattle.std.specs.Prelude.{◌≡◌, ◌%◌, map, IfOk};
+ghost use Rattle.ltl_models.specs.BaView.{IsTargetOrder};
+ghost use Rattle.ltl_hoa.specs.MarkedView.{edge_of};
+ghost use Rattle.ltl_dot.specs.Drawn.{HaveOrders};
+
+use ltl_hoa::{Marked, MarkedEdge};
+use smallvec::SmallVec;
+use std::alloc::{AllocError, Allocator};
+
+/// Places of edges. Most states have few edges.
+pub(crate) type Places<'a, A> = SmallVec<usize, 4, &'a A>;
+
+/// No place of an edge reaches this.
+const PLACES: u128 = 18_446_744_073_709_551_616;
+
+/// The places of the edges, by target and then by place. A target and a place are sorted as one number.
+fn places_by_target<'a, A: Allocator>(
+    alloc: &'a A,
+    edges: &[MarkedEdge],
+) -> Result<Places<'a, A>, AllocError>
+    ensures order { IfOk result (λ ps. IsTargetOrder (map edge_of edges.now) ps.items) }
+{
+    let mut keys: SmallVec<u128, 4, &'a A> = SmallVec::with_capacity(alloc, edges.len())?;
+    for (place, edge) in edges.iter().enumerate() {
+        keys.push(edge.target as u128 * PLACES + place as u128)?;
+    }
+    keys.as_mut_slice().sort_unstable();
+    let places = places(alloc, keys.as_slice())?;
+    Ok(places)
+}
+
+/// The places alone.
+fn places<'a, A: Allocator>(alloc: &'a A, keys: &[u128]) -> Result<Places<'a, A>, AllocError>
+    ensures { IfOk result (λ ps. ps.items ≡ map (λ k. k % PLACES) keys.now) }
+{
+    let mut places: Places<'a, A> = SmallVec::with_capacity(alloc, keys.len())?;
+    for key in keys {
+        places.push((key % PLACES) as usize)?;
+    }
+    Ok(places)
+}
+
+/// The places of the edges of each state.
+pub(crate) fn orders<'a, A: Allocator>(
+    alloc: &'a A,
+    automaton: &Marked<'_, A>,
+) -> Result<Vec<Places<'a, A>, &'a A>, AllocError>
+    ensures { IfOk result (λ v. HaveOrders automaton.now (map (λ p. p.items) v.items)) }
+{
+    let mut orders = Vec::new(alloc);
+    for k in 0..automaton.len() {
+        orders.push(places_by_target(alloc, automaton.edges(k))?)?;
+    }
+    Ok(orders)
+}

@@ -1,0 +1,128 @@
+//! The whole text.
+
+ghost use Rattle.std.specs.Prelude.{◌≡◌, ◌<◌, ◌&&◌, map, codes, if◌then◌else◌};
+ghost use Rattle.ltl_streams.specs.Sending.{Puts};
+ghost use Rattle.ltl_hoa.specs.MarkedView.{edge_of};
+ghost use Rattle.ltl_dot.specs.DotText as text;
+ghost use Rattle.ltl_dot.specs.Drawn.{HaveOrders, IsDrawing};
+ghost use Rattle.ltl_dot.specs.Picture as picture;
+ghost use Rattle.ltl_dot.specs.Pieces.{states_text};
+
+use crate::acceptance::is_accepting;
+use crate::arrows::{Ordered, put_arrows};
+use crate::label::put_number;
+use crate::order::Places;
+use ltl_hoa::{Marked, MarkedEdge};
+use ltl_streams::{ByteSink, Piece, WriteFault};
+use std::alloc::Allocator;
+
+/// Puts what the condition of so many sets is called.
+fn put_acceptance_name<S: ByteSink>(
+    sets: usize,
+    piece: &mut Piece,
+    sink: &mut S,
+) -> Result<(), WriteFault>
+    ensures { Puts result (S.state sink.old) piece.old (S.state sink.new) piece.new (text.acceptance_name sets) }
+{
+    if sets == 0 {
+        return piece.put(b"all", sink);
+    }
+    if sets == 1 {
+        return piece.put(b"Buchi", sink);
+    }
+    piece.put(b"generalized-Buchi ", sink)?;
+    put_number(sets, piece, sink)
+}
+
+/// Puts the condition above the picture, and an arrow from nowhere to the start.
+pub(crate) fn put_head<A: Allocator, S: ByteSink>(
+    automaton: &Marked<'_, A>,
+    piece: &mut Piece,
+    sink: &mut S,
+) -> Result<(), WriteFault>
+    ensures { Puts result (S.state sink.old) piece.old (S.state sink.new) piece.new (text.head_text automaton.now) }
+{
+    piece.put(
+        b"digraph automaton {\n  rankdir=LR\n  labelloc=t\n  label=\"",
+        sink,
+    )?;
+    put_acceptance_name(automaton.sets(), piece, sink)?;
+    piece.put(
+        b"\"\n  node [shape=circle]\n  I [label=\"\", style=invis, width=0]\n  I -> ",
+        sink,
+    )?;
+    put_number(automaton.start(), piece, sink)?;
+    piece.put(b"\n", sink)
+}
+
+/// Whether a state has a double line.
+fn is_double(by_states: bool, edges: &[MarkedEdge]) -> bool
+    ensures { result ≡ (by_states && picture.is_accepting (map edge_of edges.now)) }
+{
+    by_states && is_accepting(edges)
+}
+
+/// What stands behind the number of a state.
+fn node_end(accepting: bool) -> &'static [u8]
+    ensures { result.now ≡ (if accepting then codes " [peripheries=2]\n" else codes "\n") }
+{
+    if accepting {
+        b" [peripheries=2]\n"
+    } else {
+        b"\n"
+    }
+}
+
+/// Puts a state, with a double line where it is accepting.
+fn put_node<S: ByteSink>(
+    accepting: bool,
+    k: usize,
+    piece: &mut Piece,
+    sink: &mut S,
+) -> Result<(), WriteFault>
+    ensures { Puts result (S.state sink.old) piece.old (S.state sink.new) piece.new (text.node_text accepting k) }
+{
+    piece.put(b"  ", sink)?;
+    put_number(k, piece, sink)?;
+    piece.put(node_end(accepting), sink)
+}
+
+/// Puts a state and the arrows from it.
+fn put_state<A: Allocator, S: ByteSink>(
+    automaton: &Marked<'_, A>,
+    orders: &[Places<'_, A>],
+    by_states: bool,
+    k: usize,
+    piece: &mut Piece,
+    sink: &mut S,
+) -> Result<(), WriteFault>
+    requires drawing { IsDrawing automaton.now (map (λ p. p.items) orders.now) by_states }
+    requires within { k < automaton.now.states }
+    ensures { Puts result (S.state sink.old) piece.old (S.state sink.new) piece.new (text.state_text automaton.now k) }
+{
+    automaton.invariant();
+    let edges = automaton.edges(k);
+    put_node(is_double(by_states, edges), k, piece, sink)?;
+    let ordered = Ordered {
+        edges,
+        places: orders[k].as_slice(),
+    };
+    put_arrows(automaton.names(), !by_states, ordered, k, piece, sink)
+}
+
+/// Puts all states.
+pub(crate) fn put_states<A: Allocator, S: ByteSink>(
+    automaton: &Marked<'_, A>,
+    orders: &[Places<'_, A>],
+    by_states: bool,
+    piece: &mut Piece,
+    sink: &mut S,
+) -> Result<(), WriteFault>
+    requires { IsDrawing automaton.now (map (λ p. p.items) orders.now) by_states }
+    ensures { Puts result (S.state sink.old) piece.old (S.state sink.new) piece.new (states_text automaton.now) }
+{
+    for k in 0..automaton.len() {
+        put_state(automaton, orders, by_states, k, piece, sink)?;
+    }
+    Ok(())
+}

@@ -1,0 +1,4 @@
+pub mod MessageLaws
+pub mod PlanLaws
+pub mod RunLaws
+pub mod TimelineLaws

@@ -1,0 +1,18 @@
+use Rattle.std.proofs.Common.{subst, sym}
+use Rattle.std.specs.Prelude.{Ok}
+use Rattle.ltl_cli.specs.declared.source.Source.TheVariants as source
+use Rattle.ltl_cli.specs.Inputs.{most_of_automaton}
+use Rattle.ltl_cli.proofs.InputLaws.{unread}
+use Rattle.ltl_draw.specs.declared.request.Plan.{Plan}
+use Rattle.ltl_draw.specs.Plans.{request_in}
+use Rattle.ltl_draw.specs.Runs.{IsOutcome}
+use Rattle.ltl_draw.proofs.draw.asked.Goals as goal
+
+pub returns-in-Timeline-clause-shown : goal.returns-in-Timeline-clause-shown
+returns-in-Timeline-clause-shown g c =
+    let (input, s) = unread most_of_automaton g.R.ByteSource.state (source.Input c.args.source.now) c.requires.source in (
+      input,
+      s,
+      subst (λ (p : Plan). IsOutcome (Ok (request_in p)) input (g.S.ByteSink.state c.args.output.now) (g.S.ByteSink.state c.shown.new.output) c.shown.result)
+          (sym c.in-Timeline.is) (c.shown.ensures input),
+    )

@@ -1,0 +1,22 @@
+use Rattle.std.proofs.lemmas.Result.{err_from_is_err_and}
+use Rattle.ltl_draw.proofs.RunLaws.{automaton_refused, cut_off, drawn}
+use Rattle.ltl_draw.proofs.draw.printed.Goals as goal
+
+pub returns-in_err-drawing : goal.returns-in_err-drawing
+returns-in_err-drawing g c =
+    let (input, s, h) = c.in_err-drawing.ensures in
+    let p = err_from_is_err_and c.from_residual.result c.from_residual.ensures.1 in
+    (input, s, rw (p.1, p.2) (automaton_refused input _ c.requires.output _ h))
+
+pub returns-in_err-printed : goal.returns-in_err-printed
+returns-in_err-printed g c =
+    let (input, s, h) = c.in_ok-drawing.ensures in
+    let p = err_from_is_err_and c.from_residual-in_err-printed.result c.from_residual-in_err-printed.ensures.1 in
+    let w = rw c.in_err-printed.was at c.print-printed.ensures.err in
+    (input, s, rw (p.1, p.2) (cut_off input _ c.requires.output _ _ h w))
+
+pub returns : goal.returns
+returns g c =
+    let (input, s, h) = c.in_ok-drawing.ensures in
+    let w = rw c.in_ok-printed.was at c.print-printed.ensures.ok in
+    (input, s, drawn input _ c.requires.output _ _ h _ w)

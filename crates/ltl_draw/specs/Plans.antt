@@ -1,0 +1,66 @@
+-- The command line of `ltldraw`, as the library for command lines documents it, and what its words ask for.
+use Rattle.std.specs.Prelude.{◌≡◌, List, [], Option, Some, None, Result, Ok, Err, MatchResult, codes, option_map}
+use Rattle.clap.specs.Words.{App, Kinds, Row, Text, fault_of, first_of, found_of, matches_of, new_app, rows_of, with_rule}
+use Rattle.clap.specs.declared.parser.matches.ArgMatches.{ArgMatches}
+use Rattle.ltl_words.specs.Words.{value_rule}
+use Rattle.ltl_words.specs.declared.request.PlanFault.{PlanFault}
+use Rattle.ltl_words.specs.declared.request.PlanFault.TheVariants.{Usage, OutOfMemory}
+use Rattle.ltl_draw.specs.declared.request.Plan.{Plan}
+use Rattle.ltl_draw.specs.declared.request.Plan.TheVariants as plan
+
+-- a picture of the automaton that is read, or a timeline of the word of a text, and of the formula of another one, where there is one
+pub data Request : Type 0 where
+  Picture : Request
+  Timeline : Text → Option Text → Request
+
+-- `-t lasso` and `-f formula`
+abbrev pub draw_app : App
+draw_app = with_rule (with_rule (new_app (codes "ltldraw")) (value_rule (codes "t") 116)) (value_rule (codes "f") 102)
+
+-- with a word a timeline, with nothing a picture; a formula alone asks for nothing
+abbrev pub request_for : Option Text → Option Text → Option Request
+request_for (Some word) formula = Some (Timeline word formula)
+request_for None None = Some Picture
+request_for None (Some formula) = None
+
+abbrev pub request_of_rows : List Row → Option Request
+request_of_rows rows = request_for (first_of (codes "t") rows) (first_of (codes "f") rows)
+
+abbrev pub request_if : Kinds → List Row → Option Request
+request_if [] rows = request_of_rows rows
+request_if _ rows = None
+
+-- what the words ask for, of which the first is the program's name; none where they are usage
+abbrev pub request_of : List Text → Option Request
+request_of words = request_if (fault_of draw_app words) (matches_of draw_app words)
+
+-- usage only where the words mean nothing; memory may be refused for any words
+abbrev pub RefusesWords : List Text → PlanFault → Type 0
+RefusesWords words Usage = request_of words ≡ None
+RefusesWords words OutOfMemory = Unit {0}
+
+abbrev pub Plans : List Text → Result Request PlanFault → Type 0
+Plans words r = MatchResult r (λ p. request_of words ≡ Some p) (RefusesWords words)
+
+-- the request is that of the words, or there are none
+abbrev pub PlansFor : Result (List Text) PlanFault → Result Request PlanFault → Type 0
+PlansFor (Ok words) r = Plans words r
+PlansFor (Err e) r = r ≡ Err e
+
+-- the matches are those that the library gives the words, or the words are refused
+pub record IsMatched (words : List Text) (m : ArgMatches) : Type 0 where
+  pub passes : fault_of draw_app words ≡ []
+  pub rows : rows_of (found_of m) ≡ matches_of draw_app words
+
+abbrev pub Matches : List Text → Result ArgMatches PlanFault → Type 0
+Matches words r = MatchResult r (IsMatched words) (RefusesWords words)
+
+-- ---- plans of the code
+
+abbrev pub request_in : Plan → Request
+request_in plan.Picture = Picture
+request_in (plan.Timeline word formula) = Timeline word.now (option_map (λ s. s.now) formula)
+
+abbrev pub requested : Result Plan PlanFault → Result Request PlanFault
+requested (Ok p) = Ok (request_in p)
+requested (Err e) = Err e

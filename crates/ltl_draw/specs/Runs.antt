@@ -1,0 +1,99 @@
+-- What a run of `ltldraw` shows.
+use Rattle.std.specs.Prelude.{◌≡◌, ◌⊎◌, ℕ, List, [], Some, None, Result, Ok, Err, MatchResult, ⊤}
+use Rattle.std.specs.Io.KnownBytes.{Appends}
+use Rattle.clap.specs.Words.{Text}
+use Rattle.ltl_spec.specs.Formulas.Formula.{Reading}
+use Rattle.ltl_spec.specs.Semantics.Word.{Lasso}
+use Rattle.ltl_spec.specs.Tools.Limits.{stated_limits}
+use Rattle.ltl_spec.specs.Tools.Programs.{ReadsFormula, ReadsWord}
+use Rattle.ltl_spec.specs.Tools.Refusal as spec
+use Rattle.ltl_spec.specs.Tools.Stage.{Broken}
+use Rattle.ltl_spec.specs.Tools.Outcome.{Answer, Input, IsBeginningOf, IsGiven, Seen, TellsMessage, Then, printed}
+use Rattle.ltl_streams.specs.Streams.{SinkState}
+use Rattle.ltl_syntax.specs.FormulaView.{FormulaView, IsFormula, reading_of}
+use Rattle.ltl_words.specs.declared.request.PlanFault.{PlanFault}
+use Rattle.ltl_cli.specs.declared.refusal.Refusal.{Refusal}
+use Rattle.ltl_cli.specs.declared.refusal.Refusal.TheVariants.{CannotWrite, OutOfMemory}
+use Rattle.ltl_cli.specs.Checks.{ReadsAutomaton}
+use Rattle.ltl_cli.specs.Refusals.{of_plan, refusal_of}
+use Rattle.ltl_cli.specs.Runs.{Finishes}
+use Rattle.ltl_dot.specs.DotText.{dot_text}
+use Rattle.ltl_timeline.specs.Timeline.{word_timeline}
+use Rattle.ltl_timeline.specs.TimelineView.{FailsToShow, HasTrueMarks}
+use Rattle.ltl_timeline.specs.declared.fault.TimelineFault as timeline
+use Rattle.ltl_draw.specs.Messages.{draw_message}
+use Rattle.ltl_draw.specs.Plans.{PlansFor, Request, Picture, Timeline}
+
+-- no output, the message and the status of the refusal
+abbrev pub draw_refused : spec.Refusal → Answer
+draw_refused r = record { output = []; message = draw_message r; status = spec.status_of r }
+
+-- what is printed, or why nothing is
+abbrev pub draw_answer : Result (List ℕ) spec.Refusal → Answer
+draw_answer (Ok text) = printed text 0
+draw_answer (Err r) = draw_refused r
+
+-- the table of a word and a formula, with a line for each node of the formula's tree and marks that are the truth
+abbrev pub ShowsTruth : Reading → Lasso → Result (List ℕ) spec.Refusal → Type 0
+ShowsTruth R w r = (f : FormulaView) × IsFormula f.nodes f.names × (reading_of f ≡ R) × HasTrueMarks f w (λ text. r ≡ Ok text)
+
+-- What is printed for a request: the picture of the automaton that the input's text reads as; the table of the word that the words' text reads as,
+-- with no formula; or that of both, where the formula is read first, and the word beside its names. Or the refusal
+abbrev pub Prints : Request → Input → Result (List ℕ) spec.Refusal → Type 0
+Prints Picture input = Then (ReadsAutomaton input) (λ A r. r ≡ Ok (dot_text A))
+Prints (Timeline text None) input = Then (ReadsWord stated_limits [] text) (λ w r. r ≡ Ok (word_timeline w))
+Prints (Timeline text (Some formula)) input = Then (ReadsFormula stated_limits formula) (λ R. Then (ReadsWord stated_limits R.names text) (λ w. ShowsTruth R w))
+
+-- the right answers for what is asked for and for the input
+abbrev pub DrawAnswers : Result Request PlanFault → Input → Answer → Type 0
+DrawAnswers (Ok request) input a = (r : Result (List ℕ) spec.Refusal) × Prints request input r × (a ≡ draw_answer r)
+DrawAnswers (Err e) input a = a ≡ draw_refused (refusal_of (of_plan e))
+
+-- a write of the output or the flush failed, behind which there was no call, and a beginning went out
+abbrev pub IsCutOff : Result Request PlanFault → Input → Seen → Type 0
+IsCutOff request input seen =
+    (a : Answer) × DrawAnswers request input a × (a.message ≡ []) × (seen.status ≡ spec.status_of spec.CannotWrite) × IsBeginningOf seen.output a.output
+    × (seen.output_stage ≡ Broken) × TellsMessage (draw_message spec.CannotWrite) seen
+
+-- what a run may show: a right answer, want of memory before the first byte of output, or a beginning of what is right and a failure that is told
+abbrev pub MayDraw : Result Request PlanFault → Input → Seen → Type 0
+MayDraw request input seen = ((a : Answer) × DrawAnswers request input a × IsGiven seen a) ⊎ IsGiven seen (draw_refused spec.OutOfMemory) ⊎ IsCutOff request input seen
+
+-- the same for the words of the command line, or for want of them
+abbrev pub WordsMayDraw : Result (List Text) PlanFault → Seen → Type 0
+WordsMayDraw words seen = (request : Result Request PlanFault) × PlansFor words request × (input : Input) × MayDraw request input seen
+
+-- all but a picture is made of the words alone
+abbrev pub NeedsNoInput : Result Request PlanFault → Type 0
+NeedsNoInput (Ok Picture) = ⊥
+NeedsNoInput request = ⊤
+
+-- ---- before the message
+
+-- the status and the message that an outcome ends with
+
+abbrev pub status_with : {T : Type 0} → Result T Refusal → ℕ
+status_with (Ok x) = 0
+status_with (Err e) = spec.status_of (refusal_of e)
+
+abbrev pub message_with : {T : Type 0} → Result T Refusal → List ℕ
+message_with (Ok x) = []
+message_with (Err e) = draw_message (refusal_of e)
+
+-- what went out makes such a run, whatever is told of the message of the result
+pub record IsOutcome {T : Type 0} (request : Result Request PlanFault) (input : Input) (old new : SinkState) (result : Result T Refusal) : Type 0 where
+  pub output : List ℕ
+  pub written : Appends old.bytes new.bytes output
+  pub same : new.through ≡ old.through
+  pub ends : (seen : Seen) → seen.output ≡ output → seen.output_stage ≡ new.stage → seen.status ≡ status_with result
+      → TellsMessage (message_with result) seen → MayDraw request input seen
+
+-- ---- timelines on their way out
+
+abbrev pub of_timeline : timeline.TimelineFault → Refusal
+of_timeline timeline.TheVariants.CannotWrite = CannotWrite
+of_timeline timeline.TheVariants.OutOfMemory = OutOfMemory
+
+-- such a text was written and flushed, or a beginning of one until a call failed, or nothing for want of memory
+abbrev pub IsSent : {T : Type 0} → ((List ℕ → Type 0) → Type 0) → SinkState → SinkState → Result T timeline.TimelineFault → Type 0
+IsSent IsText old new r = MatchResult r (λ _. IsText (Finishes old new)) (FailsToShow old new IsText)

@@ -1,0 +1,128 @@
+//! What the words ask for: from an automaton's text to the text of its picture, or a timeline.
+
+ghost use Rattle.std.specs.Prelude.{◌≡◌, OnOk, OnErr, Ok};
+ghost use Rattle.ltl_spec.specs.Tools.Stage.{Open};
+ghost use Rattle.ltl_spec.specs.Tools.Outcome as spec;
+ghost use Rattle.ltl_streams.specs.Streams.{Breaks};
+ghost use Rattle.ltl_cli.specs.Checks.{ReadsAutomaton};
+ghost use Rattle.ltl_cli.specs.Inputs.{WasStream, most_of_automaton};
+ghost use Rattle.ltl_cli.specs.Refusals.{TakesStep};
+ghost use Rattle.ltl_cli.specs.Runs.{Finishes, Shows, StaysAt};
+ghost use Rattle.ltl_dot.specs.DotText.{dot_text};
+ghost use Rattle.ltl_draw.specs.Plans.{Picture, request_in, requested};
+ghost use Rattle.ltl_draw.specs.Runs.{IsOutcome, MayDraw, NeedsNoInput};
+
+use crate::finish::finish;
+use crate::request::Plan;
+use crate::timeline::shown;
+use ltl_cli::Refusal;
+use ltl_dot::Drawing;
+use ltl_hoa::hoa_read_from;
+use ltl_streams::{ByteSink, ByteSource, WriteFault};
+use ltl_words::PlanFault;
+use std::alloc::Allocator;
+
+/// The drawing of the automaton that the source gives.
+fn drawing_of<'a, A: Allocator, R: ByteSource>(
+    alloc: &'a A,
+    source: &mut R,
+) -> Result<Drawing<'a, A>, Refusal>
+    requires { (R.state source.old).stage ≡ Open }
+    ensures { (input : spec.Input) × WasStream most_of_automaton (R.state source.old) (R.state source.new) input
+        × TakesStep (ReadsAutomaton input) (λ A. A) result }
+{
+    let automaton = hoa_read_from(alloc, source)?;
+    let drawing = Drawing::new(alloc, automaton)?;
+    Ok(drawing)
+}
+
+/// Writes the picture, and flushes.
+fn print<A: Allocator, S: ByteSink>(
+    drawing: &Drawing<'_, A>,
+    output: &mut S,
+) -> Result<(), WriteFault>
+    ensures ok { OnOk result (Finishes (S.state output.old) (S.state output.new) (dot_text drawing.now)) }
+    ensures err { OnErr result (Breaks (S.state output.old) (S.state output.new) (dot_text drawing.now)) }
+{
+    drawing.put_dot(output)?;
+    output.flush()
+}
+
+/// Prints the picture of the automaton that the source gives.
+fn printed<A: Allocator, R: ByteSource, S: ByteSink>(
+    alloc: &A,
+    source: &mut R,
+    output: &mut S,
+) -> Result<(), Refusal>
+    requires source { (R.state source.old).stage ≡ Open }
+    requires output { (S.state output.old).stage ≡ Open }
+    ensures { (input : spec.Input) × WasStream most_of_automaton (R.state source.old) (R.state source.new) input
+        × IsOutcome (Ok Picture) input (S.state output.old) (S.state output.new) result }
+{
+    let drawing = drawing_of(alloc, source)?;
+    let printed = print(&drawing, output);
+    drop(drawing);
+    printed?;
+    Ok(())
+}
+
+/// Prints what the plan asks for.
+fn asked<A: Allocator, R: ByteSource, S: ByteSink>(
+    alloc: &A,
+    plan: &Plan<'_>,
+    source: &mut R,
+    output: &mut S,
+) -> Result<(), Refusal>
+    requires source { (R.state source.old).stage ≡ Open }
+    requires output { (S.state output.old).stage ≡ Open }
+    ensures shown { (input : spec.Input) × WasStream most_of_automaton (R.state source.old) (R.state source.new) input
+        × IsOutcome (Ok (request_in plan.now)) input (S.state output.old) (S.state output.new) result }
+    ensures unread { NeedsNoInput (Ok (request_in plan.now)) → source.new ≡ source.old }
+{
+    match plan {
+        Plan::Picture => printed(alloc, source, output),
+        Plan::Timeline(text, formula) => shown(alloc, *text, *formula, output),
+    }
+}
+
+/// Prints what the plan asks for, where there is one.
+fn answered<A: Allocator, R: ByteSource, S: ByteSink>(
+    alloc: &A,
+    plan: &Result<Plan<'_>, PlanFault>,
+    source: &mut R,
+    output: &mut S,
+) -> Result<(), Refusal>
+    requires source { (R.state source.old).stage ≡ Open }
+    requires output { (S.state output.old).stage ≡ Open }
+    ensures shown { (input : spec.Input) × WasStream most_of_automaton (R.state source.old) (R.state source.new) input
+        × IsOutcome (requested plan.now) input (S.state output.old) (S.state output.new) result }
+    ensures unread { NeedsNoInput (requested plan.now) → source.new ≡ source.old }
+{
+    match plan {
+        Ok(plan) => asked(alloc, plan, source, output),
+        Err(fault) => Err(Refusal::of_words(*fault)),
+    }
+}
+
+/// Draws what the plan asks for: writes the picture of the automaton that the source gives, or the timeline of a word, and flushes, or writes the message
+/// of a refusal, and answers the exit status. Of the source nothing is asked but for a picture, and nothing of the output before a refusal. After a call
+/// that failed the stream isn't asked again.
+pub fn draw_over<A: Allocator, R: ByteSource, S: ByteSink, M: ByteSink>(
+    alloc: &A,
+    plan: &Result<Plan<'_>, PlanFault>,
+    source: &mut R,
+    output: &mut S,
+    message: &mut M,
+) -> u8
+    requires source { (R.state source.old).stage ≡ Open }
+    requires output { (S.state output.old).stage ≡ Open }
+    requires message { (M.state message.old).stage ≡ Open }
+    ensures shown { (input : spec.Input) × WasStream most_of_automaton (R.state source.old) (R.state source.new) input
+        × Shows (MayDraw (requested plan.now) input) (S.state output.old) (S.state output.new) (M.state message.old) (M.state message.new) result }
+    ensures unread { NeedsNoInput (requested plan.now) → source.new ≡ source.old }
+    ensures same_output { StaysAt (S.state output.old) (S.state output.new) }
+    ensures same_message { StaysAt (M.state message.old) (M.state message.new) }
+{
+    let outcome = answered(alloc, plan, source, output);
+    finish(outcome, message)
+}

@@ -1,0 +1,142 @@
+//! From the texts of a word and of a formula to the text of their timeline.
+
+ghost use Rattle.std.specs.Prelude.{◌≡◌, [], option_map, Ok, Some, None, IfOk, IfErr};
+ghost use Rattle.ltl_spec.specs.Tools.Limits.{stated_limits};
+ghost use Rattle.ltl_spec.specs.Tools.Outcome as spec;
+ghost use Rattle.ltl_spec.specs.Tools.Programs.{ReadsFormula, ReadsWord};
+ghost use Rattle.ltl_spec.specs.Tools.Stage.{Open};
+ghost use Rattle.ltl_syntax.specs.FormulaView.{IsFormula, reading_of};
+ghost use Rattle.ltl_cli.specs.Refusals.{TakesStep};
+ghost use Rattle.ltl_timeline.specs.Timeline.{word_timeline};
+ghost use Rattle.ltl_timeline.specs.TimelineView.{HasTrueMarks};
+ghost use Rattle.ltl_draw.specs.Plans.{Timeline};
+ghost use Rattle.ltl_draw.specs.Runs.{IsOutcome, IsSent, of_timeline};
+
+use ltl_cli::Refusal;
+use ltl_streams::ByteSink;
+use ltl_syntax::{Formula, read};
+use ltl_timeline::{TimelineFault, timeline_to, word_timeline_to};
+use ltl_word::Lasso;
+use std::alloc::Allocator;
+
+/// The formula of this text.
+fn formula_of<'a, A: Allocator>(alloc: &'a A, text: &str) -> Result<Formula<'a, A>, Refusal>
+    ensures step { TakesStep (ReadsFormula stated_limits text.now) reading_of result }
+    ensures formula { IfOk result (λ f. IsFormula f.nodes f.names) }
+{
+    let formula = read(alloc, text.as_bytes())?;
+    formula.invariant();
+    Ok(formula)
+}
+
+/// A formula of no propositions. Its text is refused for want of memory alone.
+fn no_propositions<'a, A: Allocator>(alloc: &'a A) -> Result<Formula<'a, A>, Refusal>
+    ensures names { IfOk result (λ f. f.names ≡ []) }
+    ensures memory { IfErr result (λ e. e ≡ Refusal.OutOfMemory) }
+{
+    match read(alloc, b"true") {
+        Ok(formula) => Ok(formula),
+        Err(_) => Err(Refusal::OutOfMemory),
+    }
+}
+
+/// The word of this text, to be looked at with the formula.
+fn word_of<'a, A: Allocator>(
+    alloc: &'a A,
+    text: &str,
+    formula: &Formula<'_, A>,
+) -> Result<Lasso<'a, A>, Refusal>
+    ensures { TakesStep (ReadsWord stated_limits formula.now.names text.now) (λ w. w) result }
+{
+    let word = Lasso::read(alloc, text.as_bytes(), formula)?;
+    Ok(word)
+}
+
+/// The refusal for a timeline that isn't written whole.
+fn refused(fault: TimelineFault) -> Refusal
+    ensures { result ≡ of_timeline fault }
+{
+    match fault {
+        TimelineFault::CannotWrite => Refusal::CannotWrite,
+        TimelineFault::OutOfMemory => Refusal::OutOfMemory,
+    }
+}
+
+/// Writes the timeline of the word, and flushes.
+fn send_word<A: Allocator, S: ByteSink>(
+    alloc: &A,
+    word: &Lasso<'_, A>,
+    output: &mut S,
+) -> Result<(), TimelineFault>
+    ensures { IsSent (λ P. P (word_timeline word.now)) (S.state output.old) (S.state output.new) result }
+{
+    word_timeline_to(alloc, word, output)?;
+    output.flush()?;
+    Ok(())
+}
+
+/// Writes the timeline of the word and the formula, and flushes.
+fn send_both<A: Allocator, S: ByteSink>(
+    alloc: &A,
+    formula: &Formula<'_, A>,
+    word: &Lasso<'_, A>,
+    output: &mut S,
+) -> Result<(), TimelineFault>
+    ensures { IsSent (HasTrueMarks formula.now word.now) (S.state output.old) (S.state output.new) result }
+{
+    timeline_to(alloc, formula, word, output)?;
+    output.flush()?;
+    Ok(())
+}
+
+/// Prints the timeline of the word of this text.
+fn word_shown<A: Allocator, S: ByteSink>(
+    alloc: &A,
+    text: &str,
+    output: &mut S,
+) -> Result<(), Refusal>
+    requires { (S.state output.old).stage ≡ Open }
+    ensures { (input : spec.Input) → IsOutcome (Ok (Timeline text.now None)) input (S.state output.old) (S.state output.new) result }
+{
+    let formula = no_propositions(alloc)?;
+    let word = word_of(alloc, text, &formula)?;
+    match send_word(alloc, &word, output) {
+        Ok(()) => Ok(()),
+        Err(fault) => Err(refused(fault)),
+    }
+}
+
+/// Prints the timeline of the word of this text and of the formula of the other one.
+fn both_shown<A: Allocator, S: ByteSink>(
+    alloc: &A,
+    text: &str,
+    formula: &str,
+    output: &mut S,
+) -> Result<(), Refusal>
+    requires { (S.state output.old).stage ≡ Open }
+    ensures { (input : spec.Input) → IsOutcome (Ok (Timeline text.now (Some formula.now))) input (S.state output.old) (S.state output.new) result }
+{
+    let read = formula_of(alloc, formula)?;
+    let word = word_of(alloc, text, &read)?;
+    match send_both(alloc, &read, &word, output) {
+        Ok(()) => Ok(()),
+        Err(fault) => Err(refused(fault)),
+    }
+}
+
+/// Prints the timeline of the word of this text, and of the formula, where there is one. The formula is read first, as the evaluator does.
+pub(crate) fn shown<A: Allocator, S: ByteSink>(
+    alloc: &A,
+    text: &str,
+    formula: Option<&str>,
+    output: &mut S,
+) -> Result<(), Refusal>
+    requires { (S.state output.old).stage ≡ Open }
+    ensures { (input : spec.Input)
+        → IsOutcome (Ok (Timeline text.now (option_map (λ s. s.now) formula.entry))) input (S.state output.old) (S.state output.new) result }
+{
+    match formula {
+        Some(formula) => both_shown(alloc, text, formula, output),
+        None => word_shown(alloc, text, output),
+    }
+}

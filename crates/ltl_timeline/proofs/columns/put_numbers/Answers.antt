@@ -1,0 +1,26 @@
+use Rattle.std.proofs.Common.{◌≤◌, ◌<◌, ap₂, arith, length, sym}
+use Rattle.ltl_streams.proofs.SendLaws.{leaves_all}
+use Rattle.ltl_timeline.specs.Timeline.{column, digit}
+use Rattle.ltl_word.specs.LassoView.{size}
+use Rattle.ltl_timeline.proofs.LineLaws.{from_start, from_step, from_fails, from_end}
+use Rattle.ltl_timeline.proofs.columns.put_numbers.Goals as goal
+
+pub loop-i-init : goal.loop-i-init
+loop-i-init g c = from_start (λ i. column (length c.args.word.now.stem) i (digit i)) (size c.args.word.now) (leaves_all _ _ _)
+
+pub returns-in_err-put_column : goal.returns-in_err-put_column
+returns-in_err-put_column g c =
+    let l : c.loop-i.i < size c.args.word.now = omega arith in
+    from_fails (λ i. column (length c.args.word.now.stem) i (digit i)) (size c.args.word.now) c.loop-i.i _ _ l c.loop-i.invariant c.from_residual.ensures.0
+    (sym (ap₂ (λ s d. column s c.loop-i.i d) c.stem_len.ensures.stem c.digit.ensures)) c.in_err-put_column.ensures
+
+pub loop-i-preserved : goal.loop-i-preserved
+loop-i-preserved g c =
+    let l : c.loop-i.i < size c.args.word.now = omega arith in
+    from_step (λ i. column (length c.args.word.now.stem) i (digit i)) (size c.args.word.now) c.loop-i.i l c.loop-i.invariant
+    (sym (ap₂ (λ s d. column s c.loop-i.i d) c.stem_len.ensures.stem c.digit.ensures)) c.in_ok-put_column.ensures
+
+pub returns : goal.returns
+returns g c =
+    let l : size c.args.word.now ≤ c.loop-i.i = omega arith in
+    from_end (λ i. column (length c.args.word.now.stem) i (digit i)) (size c.args.word.now) c.loop-i.i l c.loop-i.invariant

@@ -1,0 +1,2 @@
+pub mod Timeline
+pub mod TimelineView

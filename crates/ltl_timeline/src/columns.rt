@@ -1,0 +1,84 @@
+//! The columns of a line.
+
+ghost use Rattle.std.specs.Prelude.{◌≡◌, ◌+◌, ◌/◌, ◌==◌, [], codes, if◌then◌else◌, length};
+ghost use Rattle.ltl_streams.specs.Sending.{Puts};
+ghost use Rattle.ltl_timeline.specs.Timeline as spec;
+ghost use Rattle.ltl_word.specs.LassoView.{size};
+ghost use Rattle.ltl_word.specs.Rows.{bit_of};
+
+use ltl_streams::{ByteSink, Piece, WriteFault};
+use ltl_word::{Bits, Lasso};
+use std::alloc::Allocator;
+
+fn mark(value: bool) -> u8
+    ensures { result ≡ spec.mark value }
+{
+    if value { b'*' } else { b'.' }
+}
+
+fn digit(i: usize) -> u8
+    ensures { result ≡ spec.digit i }
+{
+    b'0' + (i % 10) as u8
+}
+
+/// Puts a bar where the cycle begins.
+fn put_bar<S: ByteSink>(
+    stem: usize,
+    i: usize,
+    piece: &mut Piece,
+    sink: &mut S,
+) -> Result<(), WriteFault>
+    ensures { Puts result (S.state sink.old) piece.old (S.state sink.new) piece.new (if i == stem then codes " |" else []) }
+{
+    if i == stem {
+        return piece.put(b" |", sink);
+    }
+    Ok(())
+}
+
+/// Puts a column, behind a bar where the cycle begins.
+fn put_column<S: ByteSink>(
+    stem: usize,
+    i: usize,
+    byte: u8,
+    piece: &mut Piece,
+    sink: &mut S,
+) -> Result<(), WriteFault>
+    ensures { Puts result (S.state sink.old) piece.old (S.state sink.new) piece.new (spec.column stem i byte) }
+{
+    put_bar(stem, i, piece, sink)?;
+    piece.put(&[b' ', byte], sink)
+}
+
+/// Puts the last digits of the numbers of the positions.
+pub(crate) fn put_numbers<C: Allocator, S: ByteSink>(
+    word: &Lasso<'_, C>,
+    piece: &mut Piece,
+    sink: &mut S,
+) -> Result<(), WriteFault>
+    ensures { Puts result (S.state sink.old) piece.old (S.state sink.new) piece.new
+        (spec.texts_from (λ i. spec.column (length word.now.stem) i (spec.digit i)) 0 (size word.now)) }
+{
+    for i in 0..word.len() {
+        put_column(word.stem_len(), i, digit(i), piece, sink)?;
+    }
+    Ok(())
+}
+
+/// Puts a mark for each position.
+pub(crate) fn put_marks<A: Allocator, C: Allocator, S: ByteSink>(
+    word: &Lasso<'_, C>,
+    row: &Bits<'_, A>,
+    piece: &mut Piece,
+    sink: &mut S,
+) -> Result<(), WriteFault>
+    requires { length row.now ≡ size word.now / 64 + 1 }
+    ensures { Puts result (S.state sink.old) piece.old (S.state sink.new) piece.new
+        (spec.texts_from (λ i. spec.column (length word.now.stem) i (spec.mark (bit_of row.now i))) 0 (size word.now)) }
+{
+    for i in 0..word.len() {
+        put_column(word.stem_len(), i, mark(row.get(i)), piece, sink)?;
+    }
+    Ok(())
+}

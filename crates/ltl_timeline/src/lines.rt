@@ -1,0 +1,74 @@
+//! The lines of a table.
+
+ghost use Rattle.std.specs.Prelude.{◌≡◌, ◌+◌, ◌-◌, ◌/◌, [], length, replicate};
+ghost use Rattle.ltl_streams.specs.Sending.{Puts};
+ghost use Rattle.ltl_timeline.specs.Timeline as spec;
+ghost use Rattle.ltl_word.specs.LassoView.{size};
+ghost use Rattle.ltl_word.specs.Rows.{bit_of};
+
+use crate::columns::{put_marks, put_numbers};
+use ltl_streams::{ByteSink, Piece, WriteFault};
+use ltl_word::{Bits, Lasso};
+use std::alloc::Allocator;
+
+/// Puts a blank for each number from the first on that is below the second.
+fn put_blanks<S: ByteSink>(
+    from: usize,
+    to: usize,
+    piece: &mut Piece,
+    sink: &mut S,
+) -> Result<(), WriteFault>
+    ensures { Puts result (S.state sink.old) piece.old (S.state sink.new) piece.new (replicate (to - from) 32) }
+{
+    let mut at = from;
+    'blanks: while at < to {
+        piece.put(b" ", sink)?;
+        at += 1;
+    }
+    Ok(())
+}
+
+/// Puts a label, and behind it blanks up to the width.
+fn put_label<S: ByteSink>(
+    width: usize,
+    label: &[u8],
+    piece: &mut Piece,
+    sink: &mut S,
+) -> Result<(), WriteFault>
+    ensures { Puts result (S.state sink.old) piece.old (S.state sink.new) piece.new (spec.padded width label.now) }
+{
+    piece.put(label, sink)?;
+    put_blanks(label.len(), width, piece, sink)
+}
+
+/// Puts the line of the numbers of the positions.
+pub(crate) fn put_head<C: Allocator, S: ByteSink>(
+    width: usize,
+    word: &Lasso<'_, C>,
+    piece: &mut Piece,
+    sink: &mut S,
+) -> Result<(), WriteFault>
+    ensures { Puts result (S.state sink.old) piece.old (S.state sink.new) piece.new (spec.line width word.now [] spec.digit) }
+{
+    put_label(width, b"", piece, sink)?;
+    put_numbers(word, piece, sink)?;
+    piece.put(b"\n", sink)
+}
+
+/// Puts the line of a row.
+pub(crate) fn put_line<A: Allocator, C: Allocator, S: ByteSink>(
+    width: usize,
+    word: &Lasso<'_, C>,
+    label: &[u8],
+    row: &Bits<'_, A>,
+    piece: &mut Piece,
+    sink: &mut S,
+) -> Result<(), WriteFault>
+    requires { length row.now ≡ size word.now / 64 + 1 }
+    ensures { Puts result (S.state sink.old) piece.old (S.state sink.new) piece.new
+        (spec.line width word.now label.now (λ i. spec.mark (bit_of row.now i))) }
+{
+    put_label(width, label, piece, sink)?;
+    put_marks(word, row, piece, sink)?;
+    piece.put(b"\n", sink)
+}

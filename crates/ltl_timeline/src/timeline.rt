@@ -1,0 +1,88 @@
+//! Timelines: words as tables of characters.
+
+ghost use Rattle.std.specs.Prelude.{◌≡◌, [], length, map, MatchResult, OnOk, OnErr};
+ghost use Rattle.ltl_streams.specs.Streams.{Breaks, Takes};
+ghost use Rattle.ltl_timeline.specs.Timeline.{timeline, with_names_of, word_timeline};
+ghost use Rattle.ltl_timeline.specs.TimelineView.{AreNameRows, AreTexts, FailsToShow, HasTrueMarks};
+ghost use Rattle.ltl_word.specs.SubformulaRows.{AreSubformulaRows};
+
+use crate::fault::TimelineFault;
+use crate::propositions::Propositions;
+use crate::subformulas::Subformulas;
+use ltl_streams::{ByteSink, Piece, WriteFault};
+use ltl_syntax::Formula;
+use ltl_word::Lasso;
+use std::alloc::Allocator;
+
+/// Writes the lines of the propositions.
+fn write_word<A: Allocator, C: Allocator, S: ByteSink>(
+    word: &Lasso<'_, C>,
+    propositions: &Propositions<'_, '_, A>,
+    sink: &mut S,
+) -> Result<(), WriteFault>
+    requires names { map (λ n. n.now) propositions.now.names.items ≡ with_names_of word.now [] }
+    requires rows { AreNameRows word.now (map (λ n. n.now) propositions.now.names.items) propositions.now.rows.items }
+    ensures ok { OnOk result (Takes (S.state sink.old) (S.state sink.new) (word_timeline word.now)) }
+    ensures err { OnErr result (Breaks (S.state sink.old) (S.state sink.new) (word_timeline word.now)) }
+{
+    let mut piece = Piece::new();
+    propositions.put(propositions.width(), word, &mut piece, sink)?;
+    piece.send(sink)
+}
+
+/// Writes the lines of the propositions and of the subformulas.
+fn write_both<A: Allocator, B: Allocator, C: Allocator, S: ByteSink>(
+    formula: &Formula<'_, B>,
+    word: &Lasso<'_, C>,
+    propositions: &Propositions<'_, '_, A>,
+    subformulas: &Subformulas<'_, A>,
+    sink: &mut S,
+) -> Result<(), WriteFault>
+    requires names { map (λ n. n.now) propositions.now.names.items ≡ with_names_of word.now formula.now.names }
+    requires rows { AreNameRows word.now (map (λ n. n.now) propositions.now.names.items) propositions.now.rows.items }
+    requires count { length subformulas.now.texts.items ≡ length formula.now.nodes }
+    requires texts { AreTexts formula.now (map (λ t. t.items) subformulas.now.texts.items) }
+    requires truth { AreSubformulaRows formula.now word.now subformulas.now.rows.items }
+    ensures ok { OnOk result (HasTrueMarks formula.now word.now (Takes (S.state sink.old) (S.state sink.new))) }
+    ensures err { OnErr result (HasTrueMarks formula.now word.now (Breaks (S.state sink.old) (S.state sink.new))) }
+{
+    let width = propositions.width().max(subformulas.width());
+    let mut piece = Piece::new();
+    propositions.put(width, word, &mut piece, sink)?;
+    subformulas.put(width, formula, word, &mut piece, sink)?;
+    piece.send(sink)
+}
+
+/// Writes the word as a table: the last digits of the numbers of its positions, and a line for each proposition, `*` where it is true and `.` where it
+/// isn't, with `|` before the first position of the cycle. All memory is taken before any output.
+pub fn word_timeline_to<A: Allocator, C: Allocator, S: ByteSink>(
+    alloc: &A,
+    word: &Lasso<'_, C>,
+    sink: &mut S,
+) -> Result<(), TimelineFault>
+    ensures { MatchResult result
+        (λ _. Takes (S.state sink.old) (S.state sink.new) (word_timeline word.now))
+        (FailsToShow (S.state sink.old) (S.state sink.new) (λ P. P (word_timeline word.now))) }
+{
+    let propositions = Propositions::of_word(alloc, word)?;
+    write_word(word, &propositions, sink)?;
+    Ok(())
+}
+
+/// Writes the same table with a line for each subformula too that is no proposition, `*` at the positions where it holds. It takes a bit for each position
+/// and subformula, and the texts of all subformulas. All memory is taken before any output.
+pub fn timeline_to<A: Allocator, B: Allocator, C: Allocator, S: ByteSink>(
+    alloc: &A,
+    formula: &Formula<'_, B>,
+    word: &Lasso<'_, C>,
+    sink: &mut S,
+) -> Result<(), TimelineFault>
+    ensures { MatchResult result
+        (λ _. HasTrueMarks formula.now word.now (Takes (S.state sink.old) (S.state sink.new)))
+        (FailsToShow (S.state sink.old) (S.state sink.new) (HasTrueMarks formula.now word.now)) }
+{
+    let propositions = Propositions::of_both(alloc, formula, word)?;
+    let subformulas = Subformulas::new(alloc, formula, word)?;
+    write_both(formula, word, &propositions, &subformulas, sink)?;
+    Ok(())
+}

@@ -1,0 +1,225 @@
+#!/usr/bin/env python3
+"""Builds what stands in tests/c and examples/c against the C library, and compares what its calls answer with the programs: on the stored runs of tests/*.json, on 500
+random formulas, with every length of a buffer up to the needed one, with each growth of memory refused, under valgrind and with the sanitizers of the compiler.
+
+Usage: tests/c_library.py [FOLDER]; the programs are those of the folder, or those that the gate built. What is not installed is named as skipped, and counts for
+nothing. The last line is 'N passed, M failed'."""
+
+import getopt
+import json
+import os
+import random
+import shlex
+import shutil
+import subprocess
+import sys
+import tempfile
+from pathlib import Path
+
+from run import text
+
+TOP = Path(__file__).resolve().parent.parent
+PROGRAMS = "ltl2ba", "ltlcheck", "ltleval"
+COMPILER, COMPILER_OF_CPP = os.environ.get("CC", "cc"), os.environ.get("CXX", "c++")
+SECONDS, RANDOM_FORMULAS = 600, 500
+KINDS = {"ltl2ba": "t", "ltlcheck": "c", "ltleval": "e"}
+FORMULAS = "[]<>p", "p U (q U r)", "[](p -> <>q)", "<>[]p && []<>q", "true", "false", "p", "X(p V q) || !r", "[](a U b) -> <>c", "(p <-> q) U X X r"
+WORD = b"{p}; cycle {q}; {}"
+SANITIZERS = "-fsanitize=address,undefined", "-fno-sanitize-recover=all"
+
+
+class Tally:
+    passed = failed = 0
+
+    def expect(self, about, seen, wanted):
+        self.passed, self.failed = self.passed + (seen == wanted), self.failed + (seen != wanted)
+        if seen != wanted:
+            print(f"{about}: {seen!r:.300}, and not {wanted!r:.300}")
+
+
+def request(kind, formula, layout=0, flags=0, room=-1, second=b""):
+    return f"{kind} {layout} {flags} {room} {len(formula)} {len(second)}\n".encode() + formula + second
+
+
+def answers(words, requests):
+    """For each request the status, the text, the message and three counts."""
+    ran = subprocess.run(words, input=b"".join(requests), capture_output=True, timeout=SECONDS, check=False)
+    found, left = [], ran.stdout
+    while left:
+        head, _, left = left.partition(b"\n")
+        status, length, told, *counts = map(int, head.split())
+        found.append((status, left[:length], left[length : length + told], counts))
+        left = left[length + told :]
+    return found, ran.returncode, ran.stderr.decode(errors="replace")
+
+
+def asked(tool, run):
+    """The request that stands for a stored run, where there is one, and its layout."""
+    if run["status"] in (2, 5) or "output" in run or "message" in run or "stdout_begins" in run:
+        return None
+    words, rest = getopt.getopt([it if isinstance(it, str) else text(it).decode() for it in run["args"]], "lopHGf:F:w:A:")
+    values = dict(words)
+    files = {name: text(it) for name, it in run.get("files", {}).items() if it is not None}
+    if rest or any(it.startswith("=") for it in values.values()) or len(values) != len(words):
+        return None
+    formula = values["-f"].encode() if "-f" in values else files.get(values.get("-F"))
+    second = values["-w"].encode() if tool == "ltleval" else files.get(values["-A"]) if "-A" in values else text(run.get("stdin", []))
+    if formula is None or second is None:
+        return None
+    layout = 1 if "-H" in values else 2 if "-G" in values else 0
+    flags = sum(bit for bit, it in ((1, "-l"), (2, "-o"), (4, "-p")) if it in values)
+    return request(KINDS[tool], formula, layout, flags, -1, b"" if tool == "ltl2ba" else second)
+
+
+def output_of(tool, found):
+    """What the program prints where the call answers that."""
+    status, handed, _, _ = found
+    if tool == "ltleval":
+        return {0: b"true\n", 1: b"false\n"}.get(status, b"")
+    if tool == "ltlcheck":
+        return {0: b"contained\n", 1: b"violated\n" + handed + b"\n"}.get(status, b"")
+    return handed
+
+
+def try_stored_runs(tally, driver):
+    for tool in PROGRAMS:
+        runs = [it for it in json.loads((TOP / f"tests/{tool}.json").read_text(encoding="utf-8")) if asked(tool, it)]
+        found, status, told = answers([driver], [asked(tool, it) for it in runs])
+        tally.expect(f"{tool}: the driver ends", (status, told, len(found)), (0, "", len(runs)))
+        for run, it in zip(runs, found):
+            wanted = run["status"], text(run["stdout"]), text(run["stderr"])
+            tally.expect(f"{tool}: {run['about']}", (it[0], output_of(tool, it), it[2]), wanted)
+        print(f"{tool}: {len(runs)} stored runs")
+
+
+def random_formula(chance, depth):
+    if depth == 0 or chance.random() < 0.15:
+        return chance.choice(["p", "q", "r", "s", "true", "false"])
+    if chance.random() < 0.45:
+        return chance.choice(["!", "X", "[]", "<>"]) + f"({random_formula(chance, depth - 1)})"
+    sign = chance.choice(["&&", "||", "->", "<->", "U", "V"])
+    return f"({random_formula(chance, depth - 1)}) {sign} ({random_formula(chance, depth - 1)})"
+
+
+def try_random_formulas(tally, driver, folder):
+    chance, requests, wanted = random.Random(53), [], []
+    for _ in range(RANDOM_FORMULAS):
+        formula, layout, flags = random_formula(chance, chance.choice([2, 3, 4])), chance.choice([0, 1, 2]), chance.choice([0, 0, 1, 2, 4, 7])
+        words = [word for bit, word in ((1, "-l"), (2, "-o"), (4, "-p")) if flags & bit] + [[], ["-H"], ["-G"]][layout] + ["-f", formula]
+        ran = subprocess.run([f"{folder}/ltl2ba", *words], capture_output=True, timeout=SECONDS, check=False)
+        requests.append(request("t", formula.encode(), layout, flags))
+        wanted.append((formula, ran.returncode, ran.stdout, ran.stderr))
+    found, status, told = answers([driver], requests)
+    tally.expect("random formulas: the driver ends", (status, told, len(found)), (0, "", len(wanted)))
+    for (formula, *it), (code, handed, message, _) in zip(wanted, found):
+        tally.expect(formula, (code, handed, message), tuple(it))
+    print(f"{RANDOM_FORMULAS} random formulas")
+
+
+def try_lengths(tally, driver):
+    for formula in FORMULAS:
+        whole = answers([driver], [request("t", formula.encode(), 1), request("n", formula.encode())])[0]
+        for kind, (status, handed, _, _) in zip("tn", whole):
+            rooms = range(len(handed) + 2)
+            found, code, told = answers([driver], [request(kind, formula.encode(), 1, 0, room) for room in rooms])
+            tally.expect(f"{formula}: the driver ends", (status, code, told), (0, 0, ""))
+            for room, it in zip(rooms, found):
+                wanted = (0, handed) if room >= len(handed) else (6, b"")
+                tally.expect(f"{formula} with room for {room}", (it[:2], it[3][0], it[3][2]), (wanted, len(handed), 0))
+
+
+def try_growths(tally, driver, formulas):
+    growths = 0
+    for formula in formulas:
+        hoa = answers([driver], [request("t", b"true", 1)])[0][0][1]
+        requests = [request(kind, formula.encode(), layout, 0, -2, second) for kind, layout, second in (("t", 0, b""), ("t", 1, b""), ("t", 2, b""), ("n", 0, b""), ("e", 0, WORD), ("c", 0, hoa))]
+        found, code, told = answers([driver], requests)
+        tally.expect(f"{formula}: the driver ends", (code, told, len(found)), (0, "", len(requests)))
+        for it in found:
+            tally.expect(f"{formula}: refused growths", it[0] in (0, 1), True)
+            growths += it[3][1]
+    print(f"{growths} growths refused")
+
+
+def compiled(words):
+    ran = subprocess.run(words, capture_output=True, text=True, timeout=SECONDS, check=False)
+    return None if ran.returncode == 0 else ran.stdout + ran.stderr
+
+
+def driver_in(folder, name, archive, *more):
+    """The driver, and what the compiler has against it."""
+    where = f"{folder}/{name}"
+    words = [*shlex.split(COMPILER), "-std=gnu11", "-Wall", "-Wextra", "-Werror", "-g", *more, "-Wl,--wrap=malloc,--wrap=realloc", f"-I{TOP}/include", "-o", where, str(TOP / "tests/c/driver.c"), str(archive)]
+    return where, compiled(words)
+
+
+def try_examples(tally, folder, programs, checker):
+    """Builds the examples against an installed library, with one line of pkg-config, and runs them."""
+    root = f"{folder}/installed"
+    installed = subprocess.run([TOP / "install", root], capture_output=True, text=True, check=False)
+    tally.expect("./install", (installed.stderr, installed.returncode), ("", 0))
+    shutil.copytree(TOP / "examples/c", f"{folder}/examples")
+    made = subprocess.run(["make", f"PKG_CONFIG_PATH={root}/lib/pkgconfig"], cwd=f"{folder}/examples", capture_output=True, text=True, check=False)
+    tally.expect("make in examples/c", (made.stderr, made.returncode), ("", 0))
+    for formula in FORMULAS:
+        printed = subprocess.run([f"{programs}/ltl2ba", "-H", "-f", formula], capture_output=True, text=True, check=False).stdout
+        names = printed.partition("\nAP: ")[2].split()[0]
+        translated = subprocess.run([*checker, f"{folder}/examples/translate", formula], capture_output=True, text=True, check=False)
+        tally.expect(f"translate {formula}", (translated.stdout, translated.stderr, translated.returncode), (printed, f"{names} propositions\n", 0))
+        verdict = subprocess.run([f"{programs}/ltlcheck", "-f", FORMULAS[0]], input=printed, capture_output=True, text=True, check=False)
+        checked = subprocess.run([*checker, f"{folder}/examples/check", formula, FORMULAS[0]], capture_output=True, text=True, check=False)
+        tally.expect(f"check {formula}", (checked.stdout, checked.stderr, checked.returncode), (verdict.stdout.removeprefix("violated\n"), "", verdict.returncode))
+    refused = subprocess.run([f"{folder}/examples/translate", "p U"], capture_output=True, text=True, check=False)
+    tally.expect("the message of translate", (refused.stderr, refused.returncode), ("ltl2ba: formula: byte 3: expected operand\n", 3))
+
+
+def main(words):
+    tally = Tally()
+    programs = words[0] if words else None
+    with tempfile.TemporaryDirectory() as folder:
+        if programs is None:
+            programs = f"{folder}/programs"
+            os.mkdir(programs)
+            for it in PROGRAMS:
+                os.symlink(TOP / f"crates/{it}/out/{it}", f"{programs}/{it}")
+        if not shutil.which(shlex.split(COMPILER)[0]):
+            print(f"skipped: all of this, for want of a C compiler ({COMPILER})")
+            print("0 passed, 0 failed")
+            return 0
+        archive = subprocess.run([TOP / "tools/c_archive"], capture_output=True, text=True, check=False)
+        tally.expect("tools/c_archive", (archive.stderr, archive.returncode), ("", 0))
+        driver, faults = driver_in(folder, "driver", archive.stdout.strip())
+        tally.expect("the driver is compiled", faults, None)
+        if not tally.failed:
+            try_all(tally, folder, programs, driver, archive.stdout.strip())
+    print(f"{tally.passed} passed, {tally.failed} failed")
+    return 1 if tally.failed or not tally.passed else 0
+
+
+def try_all(tally, folder, programs, driver, archive):
+    try_stored_runs(tally, driver)
+    try_random_formulas(tally, driver, programs)
+    try_lengths(tally, driver)
+    try_growths(tally, driver, FORMULAS)
+    sanitized, faults = driver_in(folder, "sanitized", archive, *SANITIZERS)
+    few = [request(kind, it.encode(), layout, 0, -1, second) for it in FORMULAS for kind, layout, second in (("t", 0, b""), ("t", 2, b""), ("n", 0, b""), ("e", 0, WORD), ("c", 0, b"HOA: v2"))]
+    right = answers([driver], few)[0]
+    if faults is None:
+        tally.expect("with sanitizers", answers([sanitized], few), (right, 0, ""))
+        try_growths(tally, sanitized, FORMULAS[:3])
+    else:
+        print(f"skipped: the driver with {SANITIZERS[0]}, which the compiler does not build")
+    valgrind = ["valgrind", "--quiet", "--leak-check=full", "--errors-for-leak-kinds=all", "--error-exitcode=99"] if shutil.which("valgrind") else []
+    if valgrind:
+        tally.expect("under valgrind", answers([*valgrind, driver], few), (right, 0, ""))
+    else:
+        print("skipped: all under valgrind, which is not installed")
+    missing = [it for it in ("make", "pkg-config", shlex.split(COMPILER_OF_CPP)[0]) if not shutil.which(it)]
+    if missing:
+        print(f"skipped: examples/c, for want of {', '.join(missing)}")
+    else:
+        try_examples(tally, folder, programs, valgrind)
+
+
+if __name__ == "__main__":
+    sys.exit(main(sys.argv[1:]))

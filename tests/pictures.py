@@ -1,0 +1,151 @@
+#!/usr/bin/env python3
+"""Draws the automata of 200 random formulas with the built programs, and has `dot` of Graphviz read each picture. Of the image it counts the states, the arrows and
+their lines, and compares them with what stands in the text of the automaton. And it draws the pictures of docs/pictures anew, as docs/pictures.py does: each has to
+be there byte by byte, and a page has to show it. An image is compared where this dot, with its font, is the one that made it.
+
+Usage: tests/pictures.py [-p FOLDER]; the programs are those of the folder, or those that the gate built. What isn't compared, or drawn for want of `dot`, is told in
+a line that begins with 'skipped: '. The last line is 'N passed, M failed'."""
+
+import html
+import os
+import random
+import re
+import runpy
+import shutil
+import subprocess
+import sys
+import tempfile
+from pathlib import Path
+
+TOP = Path(__file__).resolve().parent.parent
+KEPT = TOP / "docs/pictures"
+COUNT, SEED, SECONDS = 200, 54, 60
+DISCS = {disc: k for k, disc in enumerate("⓿❶❷❸❹❺❻❼❽❾❿⓫⓬⓭⓮⓯⓰⓱⓲⓳⓴")}
+
+
+def formula(dice, depth):
+    """A random formula."""
+    if depth == 0 or dice.random() < 0.1:
+        return dice.choice("pqr")
+    sign = dice.choice(["!", "[]", "<>", "X ", "&&", "||", "->", "U", "V"])
+    if sign in ("!", "[]", "<>", "X "):
+        return f"{sign}({formula(dice, depth - 1)})"
+    return f"({formula(dice, depth - 1)}) {sign} ({formula(dice, depth - 1)})"
+
+
+def label_of(label, names):
+    """A label of an automaton's text as it is drawn."""
+    return "1" if label == "t" else " && ".join("!" * it.startswith("!") + names[int(it.lstrip("!"))] for it in label.split("&"))
+
+
+def edges_of(text):
+    """The number of states of an automaton that ltl2ba printed, that of its sets, and its edges: state, target, label and sets."""
+    names = re.findall(r'"([^"]*)"', re.search(r"^AP:.*$", text, re.M)[0])
+    count, sets, edges = int(re.search(r"^States: (\d+)$", text, re.M)[1]), int(re.search(r"^Acceptance: (\d+)", text, re.M)[1]), []
+    for line in text.partition("--BODY--\n")[2].split("\n"):
+        state = re.match(r"State: (\d+)( \{0\})?", line)
+        edge = re.match(r"\[([^]]*)\] (\d+)(?: \{([0-9 ]*)\})?$", line)
+        if state:
+            here, own = state[1], "0" if state[2] else ""
+        elif edge:
+            edges.append((here, edge[2], label_of(edge[1], names), edge[3] or own))
+    return count, sets, edges
+
+
+def drawn(picture):
+    """The same of an image that dot made: what stands in its groups."""
+    groups = re.findall(r'<g id="\w+" class="(\w+)">\s*<title>([^<]*)</title>(.*?)</g>', picture, re.S)
+    states = {html.unescape(name): body for kind, name, body in groups if kind == "node" and name != "I"}
+    edges = []
+    for kind, name, body in groups:
+        ends = html.unescape(name).split("->")
+        if kind == "edge" and ends[0] != "I":
+            edges += [(*ends, html.unescape(it).replace("\xa0", " ")) for it in re.findall(r"<text[^>]*>([^<]*)</text>", body)]
+    starts = [html.unescape(name).split("->")[1] for kind, name, body in groups if kind == "edge" and name.startswith("I")]
+    return states, edges, starts
+
+
+def with_sets(line):
+    """A line of an arrow as its label and its sets."""
+    words = line.split(" ")
+    return " ".join(it for it in words if it not in DISCS), " ".join(str(DISCS[it]) for it in words if it in DISCS)
+
+
+def fault_of(words, programs):
+    """What is wrong with the picture of the automaton that ltl2ba prints for these words."""
+    text = subprocess.run([programs("ltl2ba"), *words], capture_output=True, text=True, timeout=SECONDS, check=True).stdout
+    picture = subprocess.run([programs("ltldraw")], input=text, capture_output=True, text=True, timeout=SECONDS, check=True).stdout
+    image = subprocess.run(["dot", "-Tsvg"], input=picture, capture_output=True, text=True, timeout=SECONDS, check=False)
+    if image.returncode or image.stderr:
+        return f"dot ends with {image.returncode}: {image.stderr[:200]}"
+    (count, sets, edges), (states, lines, starts) = edges_of(text), drawn(image.stdout)
+    marks = {state: {it[3] for it in edges if it[0] == state} for state, *_ in edges}
+    by_states = sets == 1 and all(len(it) == 1 for it in marks.values())
+    accepting = {state for state, seen in marks.items() if by_states and seen == {"0"}}
+    wanted = sorted((*it[:3], "" if by_states else it[3]) for it in edges)
+    seen = sorted((source, target, *with_sets(line)) for source, target, line in lines)
+    arrows = len(re.findall(r"^  \d+ -> ", picture, re.M))
+    double = {name for name, body in states.items() if body.count("<ellipse") == 2}
+    if sorted(states, key=int) != [str(k) for k in range(count)] or starts != ["0"]:
+        return f"has the states {sorted(states)} and the start {starts}"
+    if wanted != seen or arrows != len({it[:2] for it in edges}):
+        return f"has the edges {seen} on {arrows} arrows, and not {wanted}"
+    if double != accepting:
+        return f"doubles {sorted(double)}, and not {sorted(accepting)}"
+    return None
+
+
+def last_line(image):
+    """The dot and the font that an image names as those that made it."""
+    return image.read_text(encoding="utf-8").rstrip("\n").rpartition("\n")[2].removeprefix("<!-- ").removesuffix(" -->")
+
+
+def compared(programs):
+    """Of each picture of the pages: its name, what is wrong with it, and why it isn't compared where it isn't."""
+    drawing = runpy.run_path(str(TOP / "docs/pictures.py"))
+    pages = {link for page in (TOP / "README.md", *TOP.glob("docs/**/*.md")) for link in re.findall(r"pictures/(\w+\.svg)\)", page.read_text(encoding="utf-8"))}
+    wanted = {f"{name}.{kind}" for name, _, _ in drawing["TABLE"] for kind in ("dot", "svg")}
+    with tempfile.TemporaryDirectory() as folder:
+        drawing["draw"](Path(folder), lambda name: Path(programs(name)))
+        for name in sorted(wanted | {it.name for it in KEPT.iterdir()}):
+            made, kept = Path(folder, name), KEPT / name
+            if name not in wanted:
+                yield name, "is drawn by no line of docs/pictures.py", None
+            elif not kept.exists():
+                yield name, "isn't there", None
+            elif name.endswith(".svg") and name not in pages:
+                yield name, "is shown by no page", None
+            elif not made.exists():
+                yield name, None, "for want of Graphviz' dot"
+            elif name.endswith(".svg") and last_line(made) != last_line(kept):
+                yield name, None, f"since {last_line(kept)} made it, and here is {last_line(made)}"
+            else:
+                yield name, None if made.read_bytes() == kept.read_bytes() else "isn't what docs/pictures.py draws", None
+
+
+def main(words):
+    folder = os.path.abspath(words[1]) if words[:1] == ["-p"] else None
+
+    def programs(name):
+        return f"{folder}/{name}" if folder else str(TOP / f"crates/{name}/out/{name}")
+
+    passed = failed = 0
+    for name, fault, reason in compared(programs):
+        passed, failed = passed + (not fault and not reason), failed + bool(fault)
+        if fault or reason:
+            print(f"docs/pictures/{name} {fault}" if fault else f"skipped: docs/pictures/{name}, {reason}")
+    dice, count = random.Random(SEED), COUNT if shutil.which("dot") else 0
+    if not count:
+        print("skipped: pictures of random formulas, for want of Graphviz' dot")
+    for k in range(count):
+        tried = ["-G" if k % 2 else "-H", "-f", formula(dice, 3)]
+        fault = fault_of(tried, programs)
+        passed, failed = passed + (not fault), failed + bool(fault)
+        if fault:
+            print(f"{tried}: {fault}")
+    print(f"{passed} passed, {failed} failed")
+    return 1 if failed else 0
+
+
+if __name__ == "__main__":
+    sys.exit(main(sys.argv[1:]))
