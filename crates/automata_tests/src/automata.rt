@@ -1,8 +1,10 @@
-//! Lists of edges: equal ones stand once, and those that a twin has are not made again, which no clause tells of.
+//! Lists of edges: equal ones stand once, and those that a known state has are not made again, which no clause tells of.
 
 ghost use Rattle.std.specs.Prelude.{◌∷◌, [], true, ⊤};
 
-use ltl_automaton::{Arc, AutomatonFault, Edge, Limits, SharedStates, Successors, explore_from};
+use ltl_automaton::{
+    AutomatonFault, Edge, Limits, SharedStates, Successor, Successors, explore_from,
+};
 use ltl_sets::{Cube, RowSet};
 use std::alloc::{AllocError, Allocator};
 use std::test::Fail;
@@ -39,7 +41,7 @@ struct Two {
 }
 
 impl Successors<usize> for Two {
-    ghost net = { λ _. record { arcs = λ _. record { cube = []; key = 0; marks = [] } ∷ record { cube = []; key = 1; marks = [] } ∷ []; accepts = λ _. true } };
+    ghost net = { λ _. record { successors = λ _. record { cube = []; key = 0; marks = [] } ∷ record { cube = []; key = 1; marks = [] } ∷ []; accepts = λ _. true } };
 
     ghost ready = { λ _. ⊤ };
 
@@ -47,7 +49,7 @@ impl Successors<usize> for Two {
         true
     }
 
-    fn twin(&mut self, _key: &usize) -> Result<Option<usize>, AllocError> {
+    fn same_successors_as(&mut self, _key: &usize) -> Result<Option<usize>, AllocError> {
         Ok(Some(0))
     }
 
@@ -55,20 +57,20 @@ impl Successors<usize> for Two {
         Ok(2)
     }
 
-    fn arcs<'a, A: Allocator>(
+    fn successors<'a, A: Allocator>(
         &mut self,
         alloc: &'a A,
         _key: &usize,
         _most: usize,
-    ) -> Result<Vec<Arc<usize>, &'a A>, AutomatonFault> {
+    ) -> Result<Vec<Successor<usize>, &'a A>, AutomatonFault> {
         self.again = self.made;
         self.made = true;
-        let here = Arc {
+        let here = Successor {
             cube: Cube::empty(),
             key: 0usize,
             marks: RowSet::empty(),
         };
-        let there = Arc {
+        let there = Successor {
             cube: Cube::empty(),
             key: 1usize,
             marks: RowSet::empty(),
@@ -78,7 +80,7 @@ impl Successors<usize> for Two {
 }
 
 #[test]
-fn edges_of_a_twin_are_not_made(rt: HostRuntime) -> Result<(), Fail> {
+fn edges_of_an_equal_state_are_not_made(rt: HostRuntime) -> Result<(), Fail> {
     let alloc = rt.alloc();
     let mut two = Two {
         made: false,

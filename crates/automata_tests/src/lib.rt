@@ -1,4 +1,4 @@
-//! Tests of how automata are made: lists of edges that stand once, edges of a twin, pairs of rows, generalized automata and their texts.
+//! Tests of how automata are made: lists of edges that stand once, edges of a state with the same ones, pairs of rows, generalized automata and their texts.
 //!
 //! `ltl_tests` says why tests stand in crates of their own, by what they call, and where the other ones are.
 //!

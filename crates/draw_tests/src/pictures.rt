@@ -2,7 +2,7 @@
 
 use ltl_dot::{Drawing, put_escaped};
 use ltl_hoa::hoa_read;
-use ltl_streams::{Piece, WriterSink};
+use ltl_streams::{OutputBuffer, WriterSink};
 use std::alloc::Global;
 use std::process::Abort;
 
@@ -64,9 +64,9 @@ fn pictures(rt: HostRuntime) {
 fn escaped<R: Abort>(rt: &R, alloc: Global, text: &str) -> Vec<u8> {
     let mut held = Vec::new(alloc);
     let mut sink = WriterSink::new(&mut held);
-    let mut piece = Piece::new();
-    put_escaped(text.as_bytes(), &mut piece, &mut sink).expect(rt, "a writer");
-    piece.send(&mut sink).expect(rt, "a writer");
+    let mut buffer = OutputBuffer::new();
+    put_escaped(text.as_bytes(), &mut buffer, &mut sink).expect(rt, "a writer");
+    buffer.send(&mut sink).expect(rt, "a writer");
     held
 }
 

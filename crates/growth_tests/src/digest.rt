@@ -202,8 +202,8 @@ pub(crate) fn of_verdict<A: Allocator>(verdict: &Verdict<'_, A>) -> Digest {
 pub(crate) fn of_walk<A: Allocator>(walk: &Option<Walk<'_, A>>) -> Digest {
     let mut digest = Digest::new();
     if let Some(walk) = walk {
-        digest.steps(&walk.way);
-        digest.steps(&walk.turn);
+        digest.steps(&walk.stem);
+        digest.steps(&walk.cycle);
     }
     digest
 }

@@ -16,8 +16,8 @@ use Rattle.ltl_spec.proofs.Collections.Orders.{nat_linear, literal_linear}
 use Rattle.ltl_spec.proofs.Collections.CaseLaws.{false_is_true}
 use Rattle.ltl_spec.proofs.Transitions.JoinLaws.{within_refl, within_trans, united, within_left, within_right, IsConsistent}
 use Rattle.ltl_spec.proofs.Transitions.SafeLaws.{consistent_within, united_within, safe_from}
-use Rattle.ltl_spec.proofs.Transitions.AskedTests.{TellsOf, untouched}
-use Rattle.ltl_spec.proofs.Transitions.ApartTests.{Asked, Has-names, ask_nothing, asked_by, names_of_sign, shares_row, shares_sign, shares_some}
+use Rattle.ltl_spec.proofs.Transitions.SupportTests.{TellsOf, untouched}
+use Rattle.ltl_spec.proofs.Transitions.IndependenceTests.{Support, Has-names, no_support, support_of, names_of_sign, shares_row, shares_sign, shares_some}
 use Rattle.ltl_spec.proofs.Transitions.Fulfilment as by
 use Rattle.ltl_spec.proofs.Transitions.Fulfilment.{Test, until_test, Coming, anything, IsComing, code}
 use Rattle.ltl_spec.proofs.Transitions.FulfilmentLaws.{Passes, passes_more, marked_passes, passes_marked}
@@ -49,7 +49,7 @@ comes_within r u x c w n = record { cube = λ l h. and_true (r.literal l) (not (
 
 -- u asks for no more than t, both with x. Where t with x passes an asked step, u with x does
 module _ (t u x : Pair) (less : Within u t) (n : IsConsistent (united t x)) (ss : List steps.Step) (asked : List ℕ) (a : AreAsked (coming_to anything u) u ss asked)
-    (v : Asked) (leaves : AreLeavesFrom 0 ss asked v) (apart : shares_some v (asked_by t) ≡ false) where
+    (v : Support) (leaves : AreLeavesFrom 0 ss asked v) (independent : shares_some v (support_of t) ≡ false) where
   more : Within (united u x) (united t x)
   more = united_within u t x x less (within_refl x)
 
@@ -93,11 +93,11 @@ module _ (t u x : Pair) (less : Within u t) (n : IsConsistent (united t x)) (ss 
       at steps.Always e o h = tt
       at steps.Never e o h = h
       at (steps.Reads l) e o h = elim (union_cases literal_linear t.cube x.cube l h) [
-        | inl k ↦ false_is_true (sym apart ∙ shares_sign v (asked_by t) l.positive l.proposition (leaf (steps.Reads l) e o) (names_of_sign t l.positive l.proposition (Has-names t.cube l k)))
+        | inl k ↦ false_is_true (sym independent ∙ shares_sign v (support_of t) l.positive l.proposition (leaf (steps.Reads l) e o) (names_of_sign t l.positive l.proposition (Has-names t.cube l k)))
         | inr k ↦ (within_right u x).cube l k
       ]
       at (steps.Leads j) e o h = elim (union_cases nat_linear t.targets x.targets j h) [
-        | inl k ↦ false_is_true (sym apart ∙ shares_row v (asked_by t) j (leaf (steps.Leads j) e o) k)
+        | inl k ↦ false_is_true (sym independent ∙ shares_row v (support_of t) j (leaf (steps.Leads j) e o) k)
         | inr k ↦ (within_right u x).targets j k
       ]
       at (steps.Both j k) e o h = (operand (steps.Both j k) e o j (inl refl) h.0, operand (steps.Both j k) e o k (inr refl) h.1)
@@ -123,7 +123,7 @@ pub sound_steps : {A : Type 0} (T : Table) (f : Fulfilment A) → AreTests T f �
 sound_steps T f w = record { earlier = w.earlier; leaves = w.leaves }
 
 module _ {A : Type 0} (T : Table) (f : Fulfilment A) (tests : AreTests T f) (ps : List Pair) (roots : List ℕ) (opens : AreOpenSteps f.untils.items f.leaves.items ps roots)
-    (t u core : Pair) (there : Has ps t) (v : Asked) (lack : IsLack f roots core v) (apart : shares_some v (asked_by t) ≡ false) (less : Within u t) (smaller : Within core u) where
+    (t u core : Pair) (there : Has ps t) (v : Support) (lack : IsLack f roots core v) (independent : shares_some v (support_of t) ≡ false) (less : Within u t) (smaller : Within core u) where
   -- the test of each until row is one of those that are open, or has nothing to do with the pair
   until_through : (x : Pair) → IsConsistent (united t x) → (F : Normal) → Has T.untils F → Has (united u x).targets (place T F) → Passes (united t x) (until_test (place T) F) → Passes (united u x) (until_test (place T) F)
   until_through x n F h k p =
@@ -139,10 +139,10 @@ module _ {A : Type 0} (T : Table) (f : Fulfilment A) (tests : AreTests T f) (ps 
       elim (opens i y found) [
         | inl o ↦ passes_more (united core x) (united u x) (until_test (place T) F) (united_within core u x x smaller (within_refl x))
             (subst (λ b. Passes (united t x) b → Passes (united core x) b) is
-            (asked_through t core x (within_trans core u t smaller less) n (steps_of f.steps.items) lacked.asked lacked.codes v lacked.leaves apart y.step inside (lacked.rooted y.step o inside)) p)
+            (asked_through t core x (within_trans core u t smaller less) n (steps_of f.steps.items) lacked.asked lacked.codes v lacked.leaves independent y.step inside (lacked.rooted y.step o inside)) p)
         | inr (b, c, g) ↦ keeps_through T anything t u x (coming_anything x) F
-            (Untouched (untouched (slice_index_or f.leaves.items y.step ask_nothing) b (until_test (place T) F) ps t u
-            (subst (TellsOf (slice_index_or f.leaves.items y.step ask_nothing)) is (tests.leaves.tell y.step)) c there g)) k p
+            (Untouched (untouched (slice_index_or f.leaves.items y.step no_support) b (until_test (place T) F) ps t u
+            (subst (TellsOf (slice_index_or f.leaves.items y.step no_support)) is (tests.leaves.tell y.step)) c there g)) k p
       ]
 
   -- so the one may stand for the other

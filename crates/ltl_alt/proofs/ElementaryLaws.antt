@@ -11,7 +11,7 @@ use Rattle.ltl_spec.proofs.Collections.ListLaws.{Has-places, places_cases, slice
 use Rattle.ltl_spec.proofs.NormalForms.NormalLaws.{same_refl}
 use Rattle.ltl_spec.proofs.NormalForms.SharedNodes.{tree_of}
 use Rattle.ltl_sets.specs.declared.row_set.TheConstants.RowSet.{LIMIT}
-use Rattle.ltl_formula.specs.GraphView.{node_of, IsBelow}
+use Rattle.ltl_formula.specs.SharedNodesView.{node_of, IsBelow}
 use Rattle.ltl_formula.specs.TableView.{TableView, IsTable, row_tree, core_of, is_elementary_row}
 use Rattle.ltl_formula.specs.declared.row.Row.{Row}
 use Rattle.ltl_formula.specs.declared.row.Row.TheVariants as row

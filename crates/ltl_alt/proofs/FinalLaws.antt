@@ -1,4 +1,4 @@
--- The transitions of groups by number, where more are listed.
+-- The transitions of components by number, where more are listed.
 use Rattle.std.proofs.Common.{◌≡◌, ℕ, Bool, true, inl, inr, List, [], ◌∷◌, map, refl, sym, ◌∙◌, ap, subst, Option, Some, None}
 use Rattle.std.specs.Prelude.{IfSome, nat_eq}
 use Rattle.std.specs.Cmp.Lexicographic.{pointwise, bytes_decides}
@@ -12,31 +12,31 @@ use Rattle.ltl_spec.proofs.Transitions.ProductTransitions.{transitions_of}
 use Rattle.ltl_alt.specs.declared.finals.Factor.{Factor}
 use Rattle.ltl_alt.specs.declared.finals.Factor.TheVariants as factor
 use Rattle.ltl_alt.specs.FinalView.{AreFinals, AreWithin, IsFinal, IsListOf, IsLonger, IsWithin, list_of}
-use Rattle.ltl_alt.specs.PartView as parts
-use Rattle.ltl_alt.specs.PartView.{part_of}
+use Rattle.ltl_alt.specs.ConjunctTableView as conjuncts
+use Rattle.ltl_alt.specs.ConjunctTableView.{conjunct_of}
 use Rattle.ltl_alt.proofs.MapLaws.{exact_cases, map_known, longer_within, longer_there}
 
 -- ---- where more is listed
 
-list_longer : (T : Table) (keep : Bool) (pairs more : List (List Pair)) (lists new : List (List Transition)) (list n : ℕ) → parts.IsLonger pairs more → IsLonger lists new → IsListOf T keep pairs lists list n → IsListOf T keep more new list n
+list_longer : (T : Table) (keep : Bool) (pairs more : List (List Pair)) (lists new : List (List Transition)) (list n : ℕ) → conjuncts.IsLonger pairs more → IsLonger lists new → IsListOf T keep pairs lists list n → IsListOf T keep more new list n
 list_longer T keep pairs more lists new list n g h w = record {
   list = longer_within pairs more g list w.list;
   number = longer_within lists new h n w.number;
   made = longer_there [] lists new h n w.number ∙ w.made ∙ ap (transitions_of T keep) (sym (longer_there [] pairs more g list w.list));
 }
 
-pub final_longer : (T : Table) (keep : Bool) (ps : List (List Pair)) (lists new : List (List Transition)) (group : RowSet) (n : ℕ) → IsLonger lists new → IsFinal T keep ps lists group n → IsFinal T keep ps new group n
-final_longer T keep ps lists new group n h w = (longer_within lists new h n w.0, longer_there [] lists new h n w.0 ∙ w.1)
+pub final_longer : (T : Table) (keep : Bool) (ps : List (List Pair)) (lists new : List (List Transition)) (component : RowSet) (n : ℕ) → IsLonger lists new → IsFinal T keep ps lists component n → IsFinal T keep ps new component n
+final_longer T keep ps lists new component n h w = (longer_within lists new h n w.0, longer_there [] lists new h n w.0 ∙ w.1)
 
-some_longer : (T : Table) (keep : Bool) (ps : List (List Pair)) (lists new : List (List Transition)) (group : RowSet) (o : Option ℕ) → IsLonger lists new → IfSome o (IsFinal T keep ps lists group) → IfSome o (IsFinal T keep ps new group)
-some_longer T keep ps lists new group None h w = tt
-some_longer T keep ps lists new group (Some n) h w = final_longer T keep ps lists new group n h w
+some_longer : (T : Table) (keep : Bool) (ps : List (List Pair)) (lists new : List (List Transition)) (component : RowSet) (o : Option ℕ) → IsLonger lists new → IfSome o (IsFinal T keep ps lists component) → IfSome o (IsFinal T keep ps new component)
+some_longer T keep ps lists new component None h w = tt
+some_longer T keep ps lists new component (Some n) h w = final_longer T keep ps lists new component n h w
 
-pub finals_longer : (T : Table) (keep : Bool) (ps pairs more : List (List Pair)) (lists new : List (List Transition)) (of_lists : List (ℕ × ℕ)) (of_groups : List (RowSet × Option ℕ)) → parts.IsLonger pairs more → IsLonger lists new
-    → AreFinals T keep ps pairs lists of_lists of_groups → AreFinals T keep ps more new of_lists of_groups
-finals_longer T keep ps pairs more lists new of_lists of_groups g h w = record {
+pub finals_longer : (T : Table) (keep : Bool) (ps pairs more : List (List Pair)) (lists new : List (List Transition)) (of_lists : List (ℕ × ℕ)) (of_components : List (RowSet × Option ℕ)) → conjuncts.IsLonger pairs more → IsLonger lists new
+    → AreFinals T keep ps pairs lists of_lists of_components → AreFinals T keep ps more new of_lists of_components
+finals_longer T keep ps pairs more lists new of_lists of_components g h w = record {
   of_lists = λ list n k. list_longer T keep pairs more lists new list n g h (w.of_lists list n k);
-  of_groups = λ group o k. some_longer T keep ps lists new group o h (w.of_groups group o k);
+  of_components = λ component o k. some_longer T keep ps lists new component o h (w.of_components component o k);
 }
 
 -- factors stay what they are
@@ -63,32 +63,32 @@ nat_exact x y e = (Decides-eqb x y).0 e
 pub set_exact : (x y : RowSet) → pointwise nat_eq x y ≡ true → x ≡ y
 set_exact x y e = (bytes_decides x y).0 e
 
-pub lists_more : (T : Table) (keep : Bool) (ps pairs : List (List Pair)) (lists : List (List Transition)) (of_lists more : List (ℕ × ℕ)) (of_groups : List (RowSet × Option ℕ)) (list n : ℕ) → AreFinals T keep ps pairs lists of_lists of_groups
-    → IsListOf T keep pairs lists list n → more ≡ insert_entry nat_eq of_lists list n → AreFinals T keep ps pairs lists more of_groups
-lists_more T keep ps pairs lists of_lists more of_groups list n w is e = record {
+pub lists_more : (T : Table) (keep : Bool) (ps pairs : List (List Pair)) (lists : List (List Transition)) (of_lists more : List (ℕ × ℕ)) (of_components : List (RowSet × Option ℕ)) (list n : ℕ) → AreFinals T keep ps pairs lists of_lists of_components
+    → IsListOf T keep pairs lists list n → more ≡ insert_entry nat_eq of_lists list n → AreFinals T keep ps pairs lists more of_components
+lists_more T keep ps pairs lists of_lists more of_components list n w is e = record {
   of_lists = λ l m h. elim (exact_cases nat_eq nat_exact of_lists list l n m (subst (λ es. Has es (l, m)) e h)) [
     | inl k ↦ w.of_lists l m k
     | inr k ↦ subst (λ x. IsListOf T keep pairs lists x m) (sym k.0) (subst (IsListOf T keep pairs lists list) (sym k.1) is)
   ];
-  of_groups = w.of_groups;
+  of_components = w.of_components;
 }
 
-pub groups_more : (T : Table) (keep : Bool) (ps pairs : List (List Pair)) (lists : List (List Transition)) (of_lists : List (ℕ × ℕ)) (of_groups more : List (RowSet × Option ℕ)) (group : RowSet) (o : Option ℕ) → AreFinals T keep ps pairs lists of_lists of_groups
-    → IfSome o (IsFinal T keep ps lists group) → more ≡ insert_entry (pointwise nat_eq) of_groups group o → AreFinals T keep ps pairs lists of_lists more
-groups_more T keep ps pairs lists of_lists of_groups more group o w is e = record {
+pub components_more : (T : Table) (keep : Bool) (ps pairs : List (List Pair)) (lists : List (List Transition)) (of_lists : List (ℕ × ℕ)) (of_components more : List (RowSet × Option ℕ)) (component : RowSet) (o : Option ℕ) → AreFinals T keep ps pairs lists of_lists of_components
+    → IfSome o (IsFinal T keep ps lists component) → more ≡ insert_entry (pointwise nat_eq) of_components component o → AreFinals T keep ps pairs lists of_lists more
+components_more T keep ps pairs lists of_lists of_components more component o w is e = record {
   of_lists = w.of_lists;
-  of_groups = λ g p h. elim (exact_cases (pointwise nat_eq) set_exact of_groups group g o p (subst (λ es. Has es (g, p)) e h)) [
-    | inl k ↦ w.of_groups g p k
-    | inr k ↦ subst (λ x. IfSome p (IsFinal T keep ps lists x)) (sym k.0) (subst (λ q. IfSome q (IsFinal T keep ps lists group)) (sym k.1) is)
+  of_components = λ g p h. elim (exact_cases (pointwise nat_eq) set_exact of_components component g o p (subst (λ es. Has es (g, p)) e h)) [
+    | inl k ↦ w.of_components g p k
+    | inr k ↦ subst (λ x. IfSome p (IsFinal T keep ps lists x)) (sym k.0) (subst (λ q. IfSome q (IsFinal T keep ps lists component)) (sym k.1) is)
   ];
 }
 
 -- what is found
-pub list_known : (T : Table) (keep : Bool) (ps pairs : List (List Pair)) (lists : List (List Transition)) (of_lists : List (ℕ × ℕ)) (of_groups : List (RowSet × Option ℕ)) (list n : ℕ) → AreFinals T keep ps pairs lists of_lists of_groups
+pub list_known : (T : Table) (keep : Bool) (ps pairs : List (List Pair)) (lists : List (List Transition)) (of_lists : List (ℕ × ℕ)) (of_components : List (RowSet × Option ℕ)) (list n : ℕ) → AreFinals T keep ps pairs lists of_lists of_components
     → Some n ≡ lookup (nat_eq list) of_lists → IsListOf T keep pairs lists list n
-list_known T keep ps pairs lists of_lists of_groups list n w e = map_known nat_eq nat_exact (IsListOf T keep pairs lists list) list of_lists (Some n) e (λ m h. w.of_lists list m h)
+list_known T keep ps pairs lists of_lists of_components list n w e = map_known nat_eq nat_exact (IsListOf T keep pairs lists list) list of_lists (Some n) e (λ m h. w.of_lists list m h)
 
-pub group_known : (T : Table) (keep : Bool) (ps pairs : List (List Pair)) (lists : List (List Transition)) (of_lists : List (ℕ × ℕ)) (of_groups : List (RowSet × Option ℕ)) (group : RowSet) (o : Option ℕ) → AreFinals T keep ps pairs lists of_lists of_groups
-    → Some o ≡ lookup (pointwise nat_eq group) of_groups → IfSome o (IsFinal T keep ps lists group)
-group_known T keep ps pairs lists of_lists of_groups group o w e =
-    map_known (pointwise nat_eq) set_exact (λ p. IfSome p (IsFinal T keep ps lists group)) group of_groups (Some o) e (λ p h. w.of_groups group p h)
+pub component_known : (T : Table) (keep : Bool) (ps pairs : List (List Pair)) (lists : List (List Transition)) (of_lists : List (ℕ × ℕ)) (of_components : List (RowSet × Option ℕ)) (component : RowSet) (o : Option ℕ) → AreFinals T keep ps pairs lists of_lists of_components
+    → Some o ≡ lookup (pointwise nat_eq component) of_components → IfSome o (IsFinal T keep ps lists component)
+component_known T keep ps pairs lists of_lists of_components component o w e =
+    map_known (pointwise nat_eq) set_exact (λ p. IfSome p (IsFinal T keep ps lists component)) component of_components (Some o) e (λ p h. w.of_components component p h)

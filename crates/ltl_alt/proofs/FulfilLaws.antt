@@ -9,8 +9,8 @@ use Rattle.ltl_spec.specs.NormalForms.NormalForm.{until_rows}
 use Rattle.ltl_spec.specs.Transitions.Pairs.{Pair}
 use Rattle.ltl_spec.specs.Transitions.RowTransitions.{Table, is_marked, place}
 use Rattle.ltl_spec.proofs.Collections.ListLaws.{Has-at}
-use Rattle.ltl_spec.proofs.Transitions.ApartTests.{Asked}
-use Rattle.ltl_spec.proofs.Transitions.AskedTests.{AllTell, all_tell_next, step_leaves}
+use Rattle.ltl_spec.proofs.Transitions.IndependenceTests.{Support}
+use Rattle.ltl_spec.proofs.Transitions.SupportTests.{AllTell, all_tell_next, step_leaves}
 use Rattle.ltl_spec.proofs.Transitions.Fulfilment.{Coming, code, passes, until_test}
 use Rattle.ltl_spec.proofs.Transitions.FulfilmentLaws.{marked_by_test}
 use Rattle.ltl_spec.proofs.Transitions.JoinLaws.{IsConsistent}
@@ -39,7 +39,7 @@ codes_step r p ss k s old new c l e f g h =
     f ∙ (λ i. h i ++ d i ∷ []) ∙ sym (codes_next r p (steps_of (take k ss)) (step_of s)) ∙ ap (λ xs. map (code r p) (tests_of xs)) (sym (steps_take ss k s l e))
 
 -- what one step more speaks of
-pub leaves_step : (ss : List Step) (k : ℕ) (s : Step) (old new : List Asked) (v : Asked) → k < length ss → s ≡ slice_index_or ss k s → new ≡ old ++ v ∷ [] → v ≡ step_leaves old (step_of s)
+pub leaves_step : (ss : List Step) (k : ℕ) (s : Step) (old new : List Support) (v : Support) → k < length ss → s ≡ slice_index_or ss k s → new ≡ old ++ v ∷ [] → v ≡ step_leaves old (step_of s)
     → AreLeaves (take k ss) old → AreLeaves (take (k + 1) ss) new
 leaves_step ss k s old new v l e f g w =
     let before = steps_of (take k ss) in

@@ -20,7 +20,7 @@ use Rattle.ltl_spec.proofs.Construction.SetEdges.{generalized_sets}
 use Rattle.ltl_automaton.specs.Bounds.{IsBounded}
 use Rattle.ltl_automaton.specs.Net as net
 use Rattle.ltl_models.specs.GbaView.{IsEdgeWithin, IsAcceptingGba}
-use Rattle.ltl_alt.specs.ReachView.{arc_of, net_of}
+use Rattle.ltl_alt.specs.ReachView.{successor_of, net_of}
 
 module _ (F : Normal) (keep : Bool) where
   abbrev moves : RowSet → List Transition
@@ -29,14 +29,14 @@ module _ (F : Normal) (keep : Bool) where
   all_targets : net.targets_of (net_of F keep) ≡ target_sets F keep
   all_targets = λ i e. over (moves e) i
     where
-      over : (ts : List Transition) → map net.key_of (map arc_of ts) ≡ map (λ (t : Transition). t.targets) ts
+      over : (ts : List Transition) → map net.key_of (map successor_of ts) ≡ map (λ (t : Transition). t.targets) ts
       over [] = refl
       over (t ∷ ts) = ap (λ l. t.targets ∷ l) (over ts)
 
   all_states : (keys : List RowSet) → net.state_of same_row_set false (net_of F keep) keys ≡ state_of F keep keys
   all_states keys = λ i e. let s : State = record { accepting = true; edges = over (moves e) i } in s
     where
-      over : (ts : List Transition) → map (net.edge_in same_row_set keys) (map arc_of ts) ≡ map (edge_to F keep keys) ts
+      over : (ts : List Transition) → map (net.edge_in same_row_set keys) (map successor_of ts) ≡ map (edge_to F keep keys) ts
       over [] = refl
       over (t ∷ ts) = ap (λ l. edge_to F keep keys t ∷ l) (over ts)
 
@@ -78,8 +78,8 @@ module _ (F : Normal) (keep : Bool) where
       marked : (x : State) → Has A.states x → (e : Edge) → Has x.edges e → All (λ k. k < A.sets) e.marks
       marked x h e m =
           let v = map_cases (net.state_of same_row_set false (net_of F keep) keys) keys x (subst (λ (B : Automaton). Has B.states x) w.2 h) in
-          let u = map_cases (net.edge_in same_row_set keys) (map arc_of (moves v.0)) e (subst (λ (y : State). Has y.edges e) v.2 m) in
-          let t = map_cases arc_of (moves v.0) u.0 u.1 in
+          let u = map_cases (net.edge_in same_row_set keys) (map successor_of (moves v.0)) e (subst (λ (y : State). Has y.edges e) v.2 m) in
+          let t = map_cases successor_of (moves v.0) u.0 u.1 in
           let below = All-from_has (λ k. k < sets) t.0.marks (marks_below v.0 t.0 t.1) in
           let marks : e.marks ≡ t.0.marks = ap (λ (f : Edge). f.marks) u.2 ∙ ap (λ a. a.marks) t.2 in
           subst (λ ks. All (λ k. k < A.sets) ks) (sym marks) (subst (λ n. All (λ k. k < n) t.0.marks) (sym (ap (λ (B : Automaton). B.sets) w.2)) below)

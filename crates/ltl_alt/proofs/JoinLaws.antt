@@ -1,4 +1,4 @@
--- Equal pairs, joins that are remembered, and groups that are joined one part after another.
+-- Equal pairs, joins that are remembered, and components that are joined one conjunct after another.
 use Rattle.std.proofs.Common.{◌≡◌, ℕ, ◌<◌, Bool, true, false, ◌&&◌, inl, inr, List, [], ◌∷◌, length, map, refl, sym, ◌∙◌, ap, subst}
 use Rattle.std.specs.Prelude.{nat_eq}
 use Rattle.std.specs.Cmp.{first_so, second_so}
@@ -10,18 +10,18 @@ use Rattle.ltl_spec.specs.Transitions.Pairs.{Pair, pair_cmp, join, empty_pair}
 use Rattle.ltl_spec.specs.Transitions.RowTransitions.{Table, with_marks, unimplied_transitions}
 use Rattle.ltl_spec.proofs.Collections.Orders.{pair_linear}
 use Rattle.ltl_spec.proofs.Collections.SetLaws.{set_of_same}
-use Rattle.ltl_spec.proofs.Transitions.PartJoins.{join_of}
+use Rattle.ltl_spec.proofs.Transitions.ConjunctJoins.{join_of}
 use Rattle.ltl_spec.proofs.Transitions.ProductTransitions.{transitions_of}
 use Rattle.ltl_spec.proofs.Transitions.SameJoins.{AreSound}
 use Rattle.ltl_sets.specs.CubeEq.{same_cube, cube_Decides}
 use Rattle.ltl_alt.specs.declared.memo.JoinKey.{JoinKey}
 use Rattle.ltl_alt.specs.declared.rule.Rule.{Rule}
-use Rattle.ltl_alt.specs.GroupView.{AreGroups, start_of}
+use Rattle.ltl_alt.specs.ComponentView.{AreComponents, start_of}
 use Rattle.ltl_alt.specs.MemoView.{IsListAt, IsJoin, AreJoins}
-use Rattle.ltl_alt.specs.PartView.{IsLonger, part_of}
+use Rattle.ltl_alt.specs.ConjunctTableView.{IsLonger, conjunct_of}
 use Rattle.ltl_alt.specs.declared.fulfilment.Fulfilment.{Fulfilment}
 use Rattle.ltl_alt.specs.StandIns.{IsFit, IsListed, IsPruned, StandsFor, rule_of}
-use Rattle.ltl_alt.proofs.GroupLaws.{joined_on, joined_pruned, group_all, group_few}
+use Rattle.ltl_alt.proofs.ComponentLaws.{joined_on, joined_pruned, component_all, component_few}
 use Rattle.ltl_alt.proofs.MapLaws.{exact_cases, longer_within, longer_there}
 
 pub same_pair : (p q : Pair) → same_cube p.cube q.cube ≡ true → pointwise nat_eq p.targets q.targets ≡ true → p ≡ q
@@ -42,20 +42,20 @@ key_exact k l e =
     λ i. let m : JoinKey = record { left = left i; right = right i } in m
 
 -- what is kept of two lists
-pub kept_of : {A : Type 0} (T : Table) (r : Rule) (f : Fulfilment A) (lists : List (List Pair)) (left right : ℕ) (xs ys js zs : List Pair) → IsFit T r f → xs ≡ part_of lists left → ys ≡ part_of lists right
-    → set_of pair_cmp js ≡ set_of pair_cmp (join xs ys) → IsPruned r f js zs → IsListed (StandsFor T r) (join (part_of lists left) (part_of lists right)) zs
+pub kept_of : {A : Type 0} (T : Table) (r : Rule) (f : Fulfilment A) (lists : List (List Pair)) (left right : ℕ) (xs ys js zs : List Pair) → IsFit T r f → xs ≡ conjunct_of lists left → ys ≡ conjunct_of lists right
+    → set_of pair_cmp js ≡ set_of pair_cmp (join xs ys) → IsPruned r f js zs → IsListed (StandsFor T r) (join (conjunct_of lists left) (conjunct_of lists right)) zs
 kept_of T r f lists left right xs ys js zs fit e d g w =
-    joined_pruned T r f (join (part_of lists left) (part_of lists right)) js zs fit (g ∙ (λ i. set_of pair_cmp (join (e i) (d i)))) w
+    joined_pruned T r f (join (conjunct_of lists left) (conjunct_of lists right)) js zs fit (g ∙ (λ i. set_of pair_cmp (join (e i) (d i)))) w
 
--- with a part more
-pub part_joined : {A : Type 0} (T : Table) (r : Rule) (f : Fulfilment A) (parts : List (List Pair)) (ps : List Pair) (part : ℕ) (ys js zs : List Pair) → IsFit T r f → ys ≡ part_of parts part
-    → set_of pair_cmp js ≡ set_of pair_cmp (join ps ys) → IsPruned r f js zs → IsListed (StandsFor T r) (join ps (part_of parts part)) zs
-part_joined T r f parts ps part ys js zs fit d g w = joined_pruned T r f (join ps (part_of parts part)) js zs fit (g ∙ ap (λ xs. set_of pair_cmp (join ps xs)) d) w
+-- with a conjunct more
+pub conjunct_joined : {A : Type 0} (T : Table) (r : Rule) (f : Fulfilment A) (conjuncts : List (List Pair)) (ps : List Pair) (conjunct : ℕ) (ys js zs : List Pair) → IsFit T r f → ys ≡ conjunct_of conjuncts conjunct
+    → set_of pair_cmp js ≡ set_of pair_cmp (join ps ys) → IsPruned r f js zs → IsListed (StandsFor T r) (join ps (conjunct_of conjuncts conjunct)) zs
+conjunct_joined T r f conjuncts ps conjunct ys js zs fit d g w = joined_pruned T r f (join ps (conjunct_of conjuncts conjunct)) js zs fit (g ∙ ap (λ xs. set_of pair_cmp (join ps xs)) d) w
 
 module _ (T : Table) (r : Rule) where
   -- a join that was made
   pub new_join : (old new : List (List Pair)) (key : JoinKey) (joined : ℕ) (zs : List Pair) → key.left < length old → key.right < length old → IsLonger old new → IsListAt new zs joined
-      → IsListed (StandsFor T r) (join (part_of old key.left) (part_of old key.right)) zs → IsJoin T r new key joined
+      → IsListed (StandsFor T r) (join (conjunct_of old key.left) (conjunct_of old key.right)) zs → IsJoin T r new key joined
   new_join old new key joined zs l m g at w =
       let first = longer_there [] old new g key.left l in
       let second = longer_there [] old new g key.right m in
@@ -63,13 +63,13 @@ module _ (T : Table) (r : Rule) where
         left = longer_within old new g key.left l;
         right = longer_within old new g key.right m;
         both = at.0;
-        listed = subst (IsListed (StandsFor T r) (join (part_of new key.left) (part_of new key.right))) (sym at.1)
+        listed = subst (IsListed (StandsFor T r) (join (conjunct_of new key.left) (conjunct_of new key.right))) (sym at.1)
             (subst (λ ps. IsListed (StandsFor T r) ps zs) (sym (λ i. join (first i) (second i))) w);
       }
 
   -- it stays one where more lists are listed
   pub join_longer : (old new : List (List Pair)) (key : JoinKey) (joined : ℕ) → IsLonger old new → IsJoin T r old key joined → IsJoin T r new key joined
-  join_longer old new key joined g w = new_join old new key joined (part_of old joined) w.left w.right g (longer_within old new g joined w.both, longer_there [] old new g joined w.both) w.listed
+  join_longer old new key joined g w = new_join old new key joined (conjunct_of old joined) w.left w.right g (longer_within old new g joined w.both, longer_there [] old new g joined w.both) w.listed
 
   pub joins_longer : (old new : List (List Pair)) (joins : List (JoinKey × ℕ)) → IsLonger old new → AreJoins T r old joins → AreJoins T r new joins
   joins_longer old new joins g w key joined h = join_longer old new key joined g (w key joined h)
@@ -84,30 +84,30 @@ module _ (T : Table) (r : Rule) where
 
   -- what it lists
   pub join_lists : (old new : List (List Pair)) (left right joined : ℕ) (xs : List Pair) → IsLonger old new → left < length old → IsListAt old xs right → IsJoin T r new (record { left = left; right = right }) joined
-      → IsListed (StandsFor T r) (join (part_of old left) xs) (part_of new joined)
+      → IsListed (StandsFor T r) (join (conjunct_of old left) xs) (conjunct_of new joined)
   join_lists old new left right joined xs g l at w =
       let first = longer_there [] old new g left l in
       let second = longer_there [] old new g right at.0 ∙ at.1 in
-      subst (λ ps. IsListed (StandsFor T r) ps (part_of new joined)) (λ i. join (first i) (second i)) w.listed
+      subst (λ ps. IsListed (StandsFor T r) ps (conjunct_of new joined)) (λ i. join (first i) (second i)) w.listed
 
 -- a list keeps its number
 pub list_at_longer : (old new : List (List Pair)) (ps : List Pair) (k : ℕ) → IsLonger old new → IsListAt old ps k → IsListAt new ps k
 list_at_longer old new ps k g at = (longer_within old new g k at.0, longer_there [] old new g k at.0 ∙ at.1)
 
--- ---- groups
+-- ---- components
 
--- groups stay as they should be where more is listed
-pub groups_longer : (T : Table) (r : Rule) (parts old new : List (List Pair)) (joins more : List (JoinKey × ℕ)) (nothing : ℕ) (starts : List ℕ) → IsLonger old new → AreJoins T r new more
-    → AreGroups T r parts old joins nothing starts → AreGroups T r parts new more nothing starts
-groups_longer T r parts old new joins more nothing starts g w a = record {
+-- components stay as they should be where more is listed
+pub components_longer : (T : Table) (r : Rule) (conjuncts old new : List (List Pair)) (joins more : List (JoinKey × ℕ)) (nothing : ℕ) (starts : List ℕ) → IsLonger old new → AreJoins T r new more
+    → AreComponents T r conjuncts old joins nothing starts → AreComponents T r conjuncts new more nothing starts
+components_longer T r conjuncts old new joins more nothing starts g w a = record {
   joins = w;
   nothing = list_at_longer old new (empty_pair ∷ []) nothing g a.nothing;
-  starts = record { count = a.starts.count; each = λ k l. list_at_longer old new (part_of parts k) (start_of starts k) g (a.starts.each k l) };
+  starts = record { count = a.starts.count; each = λ k l. list_at_longer old new (conjunct_of conjuncts k) (start_of starts k) g (a.starts.each k l) };
 }
 
--- what is kept of parts at once has the transitions of their joins
-pub kept_transitions_of : (T : Table) (part : ℕ → List Pair) (sound : (k : ℕ) → AreSound (part k)) (keep : Bool) (g : List ℕ) (ps : List Pair) → IsListed (StandsFor T (rule_of keep)) (joined_on part (empty_pair ∷ []) g) ps
-    → transitions_of T keep ps ≡ transitions_of T keep (join_of part g)
-kept_transitions_of T part sound true g ps w = ap (map (with_marks T)) (set_of_same pair_linear ps w.rising) ∙ group_all T part sound g ps w (map (with_marks T) ps) refl
-kept_transitions_of T part sound false g ps w =
-    ap (λ xs. unimplied_transitions (map (with_marks T) xs)) (set_of_same pair_linear ps w.rising) ∙ group_few T part sound g ps w (map (with_marks T) ps) (unimplied_transitions (map (with_marks T) ps)) refl refl
+-- what is kept of conjuncts at once has the transitions of their joins
+pub kept_transitions_of : (T : Table) (conjunct : ℕ → List Pair) (sound : (k : ℕ) → AreSound (conjunct k)) (keep : Bool) (g : List ℕ) (ps : List Pair) → IsListed (StandsFor T (rule_of keep)) (joined_on conjunct (empty_pair ∷ []) g) ps
+    → transitions_of T keep ps ≡ transitions_of T keep (join_of conjunct g)
+kept_transitions_of T conjunct sound true g ps w = ap (map (with_marks T)) (set_of_same pair_linear ps w.rising) ∙ component_all T conjunct sound g ps w (map (with_marks T) ps) refl
+kept_transitions_of T conjunct sound false g ps w =
+    ap (λ xs. unimplied_transitions (map (with_marks T) xs)) (set_of_same pair_linear ps w.rising) ∙ component_few T conjunct sound g ps w (map (with_marks T) ps) (unimplied_transitions (map (with_marks T) ps)) refl refl

@@ -16,16 +16,16 @@ use Rattle.ltl_spec.proofs.Collections.MemberLaws.{map_length}
 use Rattle.ltl_spec.proofs.Collections.Orders.{literal_linear, nat_linear}
 use Rattle.ltl_spec.proofs.Collections.ProductLists.{products_cases, Has-products}
 use Rattle.ltl_spec.proofs.Collections.SetLaws.{IsRising-union, IsRising-filter, same_members, set_of_alike, union_assoc, union_comm}
-use Rattle.ltl_spec.proofs.Transitions.ApartMarks.{common, common_cases, Has-common, at_once}
-use Rattle.ltl_spec.proofs.Transitions.FactorLaws.{all_products, group_transitions}
-use Rattle.ltl_spec.proofs.Transitions.PartJoins.{join_of, sound_join_of}
+use Rattle.ltl_spec.proofs.Transitions.IndependentMarks.{common, common_cases, Has-common, at_once}
+use Rattle.ltl_spec.proofs.Transitions.FactorLaws.{all_products, component_transitions}
+use Rattle.ltl_spec.proofs.Transitions.ConjunctJoins.{join_of, sound_join_of}
 use Rattle.ltl_spec.proofs.Transitions.ProductTransitions.{in_order, product, transitions_of_cases}
 use Rattle.ltl_spec.proofs.Transitions.SameJoins.{AreSound}
 use Rattle.ltl_spec.proofs.Transitions.UnimpliedLaws.{marks_too_linear}
 use Rattle.ltl_alt.specs.declared.finals.Factor.{Factor}
 use Rattle.ltl_alt.specs.declared.finals.Factor.TheVariants as factor
 use Rattle.ltl_alt.specs.FinalView.{IsLonger, list_of, made_of}
-use Rattle.ltl_alt.specs.KeyView.{AreKeys, AreNumbersOf, IsKeyOf, IsMoved, IsTwin}
+use Rattle.ltl_alt.specs.KeyView.{AreKeys, AreNumbersOf, IsKeyOf, IsMoved, HasSameTransitions}
 use Rattle.ltl_alt.proofs.MapLaws.{entry_cases, entry_passes, longer_there, longer_within}
 
 -- ---- two at once in another order
@@ -148,13 +148,13 @@ moved_same T (ts ∷ tss) uss m f =
 pub moved_order : (T : Table) (tss uss : List (List Transition)) → IsMoved tss uss → AllListsProper tss → in_order (all_products T tss) ≡ in_order (all_products T uss)
 moved_order T tss uss m f = let s = moved_same T tss uss m f in set_of_alike marks_too_linear (all_products T tss) (all_products T uss) s.there s.back
 
--- the transitions of groups are so
-pub groups_proper : (T : Table) (part : ℕ → List Pair) → ((k : ℕ) → AreSound (part k)) → (keep : Bool) (gs : List (List ℕ)) → AllListsProper (group_transitions T part keep gs)
-groups_proper T part sound keep [] ts h t k = absurd h
-groups_proper T part sound keep (g ∷ gs) ts (inr h) t k = groups_proper T part sound keep gs ts h t k
-groups_proper T part sound keep (g ∷ gs) ts (inl e) t h =
-    let (p, k, d, f) = transitions_of_cases T keep (join_of part g) t (subst (λ xs. Has xs t) e h) in
-    let s = (sound_join_of part sound g).proper p k in
+-- the transitions of components are so
+pub components_proper : (T : Table) (conjunct : ℕ → List Pair) → ((k : ℕ) → AreSound (conjunct k)) → (keep : Bool) (gs : List (List ℕ)) → AllListsProper (component_transitions T conjunct keep gs)
+components_proper T conjunct sound keep [] ts h t k = absurd h
+components_proper T conjunct sound keep (g ∷ gs) ts (inr h) t k = components_proper T conjunct sound keep gs ts h t k
+components_proper T conjunct sound keep (g ∷ gs) ts (inl e) t h =
+    let (p, k, d, f) = transitions_of_cases T keep (join_of conjunct g) t (subst (λ xs. Has xs t) e h) in
+    let s = (sound_join_of conjunct sound g).proper p k in
     subst IsProper (sym d) (record { cube = s.cube; targets = s.targets; marks = IsRising-places (is_marked T p) 0 T.untils })
 
 -- ---- numbers
@@ -239,8 +239,8 @@ nothing_behind xs n e = ap (λ m. drop m xs) e ∙ all xs
     all (y ∷ ys) = all ys
 
 -- sets of rows with one key have the same transitions
-pub twin_of : (T : Table) (keep : Bool) (lists : List (List Transition)) (numbers : List ℕ) (state : RowSet) (r : Result (Option RowSet) AllocError) → IsKeyOf T keep lists numbers state → IfOk r (λ o. IfSome o (IsKeyOf T keep lists numbers))
-    → IfOk r (λ o. IfSome o (IsTwin T keep state))
-twin_of T keep lists numbers state (Err e) w f = tt
-twin_of T keep lists numbers state (Ok None) w f = tt
-twin_of T keep lists numbers state (Ok (Some twin)) w f = f.transitions ∙ sym w.transitions
+pub same_transitions_of : (T : Table) (keep : Bool) (lists : List (List Transition)) (numbers : List ℕ) (state : RowSet) (r : Result (Option RowSet) AllocError) → IsKeyOf T keep lists numbers state → IfOk r (λ o. IfSome o (IsKeyOf T keep lists numbers))
+    → IfOk r (λ o. IfSome o (HasSameTransitions T keep state))
+same_transitions_of T keep lists numbers state (Err e) w f = tt
+same_transitions_of T keep lists numbers state (Ok None) w f = tt
+same_transitions_of T keep lists numbers state (Ok (Some same_successors_as)) w f = f.transitions ∙ sym w.transitions

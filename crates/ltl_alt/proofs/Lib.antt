@@ -1,10 +1,10 @@
-pub mod AskedLaws
+pub mod SupportLaws
 pub mod CodedLaws
 pub mod ElementaryLaws
 pub mod FinalLaws
 pub mod FulfilLaws
 pub mod GbaLaws
-pub mod GroupLaws
+pub mod ComponentLaws
 pub mod ImpliedLaws
 pub mod JoinLaws
 pub mod ListsLaws
@@ -12,8 +12,8 @@ pub mod KeyLaws
 pub mod MapLaws
 pub mod NeedsLaws
 pub mod OpenLaws
-pub mod PartLaws
-pub mod PieceLaws
+pub mod ConjunctTableLaws
+pub mod ConjunctLaws
 pub mod PlaceLaws
 pub mod RepeatLaws
 pub mod RowLaws

@@ -2,7 +2,7 @@
 use Rattle.std.proofs.Common.{◌≡◌, ◌≢◌, ℕ, zero, suc, ◌+◌, ◌<◌, true, inl, inr, List, [], ◌∷◌, length, refl, sym, ◌∙◌, ap, subst, arith, Some, Option, length-set}
 use Rattle.std.specs.Prelude.{slice_get, slice_set}
 use Rattle.ltl_spec.specs.Transitions.Pairs as spec
-use Rattle.ltl_formula.specs.GraphView.{IsBelow}
+use Rattle.ltl_formula.specs.SharedNodesView.{IsBelow}
 use Rattle.ltl_formula.specs.TableView.{TableView}
 use Rattle.ltl_formula.specs.declared.row.Row.{Row}
 use Rattle.ltl_formula.specs.declared.row.Row.TheVariants as row

@@ -3,7 +3,7 @@ use Rattle.std.proofs.Common.{◌≡◌, ◌≢◌, ℕ, zero, suc, ◌+◌, ◌
 use Rattle.std.specs.Prelude.{slice_get, slice_index_or, ◌==◌}
 use Rattle.std.proofs.lemmas.Bool.Decides.{nat_tests}
 use Rattle.std.proofs.lemmas.Option.{get_or_from_slice_get}
-use Rattle.ltl_formula.specs.GraphView.{IsBelow}
+use Rattle.ltl_formula.specs.SharedNodesView.{IsBelow}
 use Rattle.ltl_formula.specs.TableView.{TableView}
 use Rattle.ltl_formula.specs.declared.row.Row.{Row}
 use Rattle.ltl_formula.specs.declared.row.Row.TheVariants as row

@@ -8,9 +8,9 @@ use Rattle.ltl_spec.specs.Collections.Sets.{Has}
 use Rattle.ltl_spec.specs.Transitions.Pairs.{Pair}
 use Rattle.ltl_spec.proofs.Collections.SetLaws.{append_cases}
 use Rattle.ltl_spec.proofs.Collections.CaseLaws.{here_or_above}
-use Rattle.ltl_spec.proofs.Transitions.ApartTests.{Asked, IsWithinAsked, ask_nothing, together, within_sign, within_together_left, within_together_right}
+use Rattle.ltl_spec.proofs.Transitions.IndependenceTests.{Support, IsWithinSupport, no_support, together, within_sign, within_together_left, within_together_right}
 use Rattle.ltl_spec.proofs.Transitions.AskedSteps.{ask_step, ask_operands, AreAskedFrom, AreCodes, codes_small, asked_now, asked_still, asked_more, asked_closed, asked_open, asked_all}
-use Rattle.ltl_spec.proofs.Transitions.AskedTests.{TellsOf}
+use Rattle.ltl_spec.proofs.Transitions.SupportTests.{TellsOf}
 use Rattle.ltl_spec.proofs.Transitions.Fulfilment.{Test, anything, code}
 use Rattle.ltl_spec.proofs.Transitions.Steps as steps
 use Rattle.ltl_spec.proofs.Transitions.Steps.{IsOperand, step_test, tests_of}
@@ -26,7 +26,7 @@ step_at ss k s l e = get_or-map step_of ss k s steps.Always l ∙ ap step_of (sy
 
 -- ---- leaves
 
-pub leaf_added : (old leaves new : Asked) (s : steps.Step) → new ≡ together old leaves → IsWithLeaf old leaves s new
+pub leaf_added : (old leaves new : Support) (s : steps.Step) → new ≡ together old leaves → IsWithLeaf old leaves s new
 leaf_added old leaves new s e = subst (IsWithLeaf old leaves s) (sym e) (within_together_left old leaves, at s)
   where
     at : (s : steps.Step) → IsLeafWithin leaves s (together old leaves)
@@ -38,7 +38,7 @@ leaf_added old leaves new s e = subst (IsWithLeaf old leaves s) (sym e) (within_
     at (steps.Either i j) = tt
 
 -- a literal or a row that a step looks for is among what it speaks of
-leaf_in : (ts : List Test) (leaves v w : Asked) (s : steps.Step) → IsWithLeaf v leaves s w → TellsOf leaves (step_test ts s) → IsLeafIn w s
+leaf_in : (ts : List Test) (leaves v w : Support) (s : steps.Step) → IsWithLeaf v leaves s w → TellsOf leaves (step_test ts s) → IsLeafIn w s
 leaf_in ts leaves v w steps.Always d t = tt
 leaf_in ts leaves v w steps.Never d t = tt
 leaf_in ts leaves v w (steps.Reads l) d t = within_sign leaves w d.1 l.positive l.proposition (t.literals l (inl refl))
@@ -46,7 +46,7 @@ leaf_in ts leaves v w (steps.Leads k) d t = d.1.targets k (t.rows k (inl refl))
 leaf_in ts leaves v w (steps.Both i j) d t = tt
 leaf_in ts leaves v w (steps.Either i j) d t = tt
 
-leaf_more : (v w : Asked) (s : steps.Step) → IsWithinAsked v w → IsLeafIn v s → IsLeafIn w s
+leaf_more : (v w : Support) (s : steps.Step) → IsWithinSupport v w → IsLeafIn v s → IsLeafIn w s
 leaf_more v w steps.Always d h = tt
 leaf_more v w steps.Never d h = tt
 leaf_more v w (steps.Reads l) d h = within_sign v w d l.positive l.proposition h
@@ -166,13 +166,13 @@ module _ (codes : List ℕ) where
       }
 
 -- before the first step back
-pub back_begins : {A : Type 0} (f : Fulfilment A) (codes old : List ℕ) (n : ℕ) (v : Asked) → n ≡ length f.steps.items → IsAskedBelow f codes old n old v
+pub back_begins : {A : Type 0} (f : Fulfilment A) (codes old : List ℕ) (n : ℕ) (v : Support) → n ≡ length f.steps.items → IsAskedBelow f codes old n old v
 back_begins f codes old n v e roots small sound first =
     let long : length (steps_of f.steps.items) ≡ n = length-map f.steps.items step_of ∙ sym e in
     (subst (λ m. IsAskedBack codes (steps_of f.steps.items) roots m old) long first, λ k g l d. absurd (omega arith))
 
 -- one step back: past one that isn't open, and past one that is
-module _ {A : Type 0} (f : Fulfilment A) (codes old asked : List ℕ) (n k : ℕ) (v : Asked) (next : n ≡ k + 1) (l : k < length f.steps.items) (w : IsAskedBelow f codes old n asked v) where
+module _ {A : Type 0} (f : Fulfilment A) (codes old asked : List ℕ) (n k : ℕ) (v : Support) (next : n ≡ k + 1) (l : k < length f.steps.items) (w : IsAskedBelow f codes old n asked v) where
   abbrev ss : List steps.Step
   ss = steps_of f.steps.items
 
@@ -192,7 +192,7 @@ module _ {A : Type 0} (f : Fulfilment A) (codes old asked : List ℕ) (n k : ℕ
         ],
       )
 
-  pub back_open : (s : Step) (new : List ℕ) (leaves more : Asked) → s ≡ slice_index_or f.steps.items k s → new ≡ ask_operands codes asked (step_of s) → leaves ≡ slice_index_or f.leaves.items k ask_nothing
+  pub back_open : (s : Step) (new : List ℕ) (leaves more : Support) → s ≡ slice_index_or f.steps.items k s → new ≡ ask_operands codes asked (step_of s) → leaves ≡ slice_index_or f.leaves.items k no_support
       → IsWithLeaf v leaves (step_of s) more → IsAskedBelow f codes old k new more
   back_open s new leaves more is made told added roots small sound first = subst (λ xs. IsAskedBack codes ss roots k xs × AreLeavesFrom k ss xs more) (sym (made ∙ ap (ask_operands codes asked) (sym here))) (
     operands_asked codes small ss roots k asked inside earlier (before roots small sound first).0,
@@ -211,13 +211,13 @@ module _ {A : Type 0} (f : Fulfilment A) (codes old asked : List ℕ) (n k : ℕ
 
       tells : TellsOf leaves (step_test (tests_of (take k ss)) (step_of s))
       tells = subst (λ x. TellsOf x (step_test (tests_of (take k ss)) (step_of s))) (sym told)
-          (subst (λ x. TellsOf (slice_index_or f.leaves.items k ask_nothing) (step_test (tests_of (take k ss)) x)) here
-          (subst (TellsOf (slice_index_or f.leaves.items k ask_nothing)) (test_of_step ss k inside) (sound.leaves.tell k)))
+          (subst (λ x. TellsOf (slice_index_or f.leaves.items k no_support) (step_test (tests_of (take k ss)) x)) here
+          (subst (TellsOf (slice_index_or f.leaves.items k no_support)) (test_of_step ss k inside) (sound.leaves.tell k)))
 
 -- ---- what a pair lacks
 
 -- nothing is lacked where nothing is open
-pub lack_none : {A : Type 0} (f : Fulfilment A) (roots : List ℕ) (p : Pair) (v : Asked) → roots ≡ [] → IsLack f roots p v
+pub lack_none : {A : Type 0} (f : Fulfilment A) (roots : List ℕ) (p : Pair) (v : Support) → roots ≡ [] → IsLack f roots p v
 lack_none f roots p v e sound = record {
   asked = [];
   codes = record { codes = λ i l. inl refl; below = λ i l d. absurd (omega arith) };
@@ -225,7 +225,7 @@ lack_none f roots p v e sound = record {
   leaves = λ k g l d. absurd (omega arith);
 }
 
-pub lack_asked : {A : Type 0} (f : Fulfilment A) (roots : List ℕ) (p : Pair) (codes old new : List ℕ) (v : Asked) → codes ≡ map (code (coming_to anything p) p) (tests_of (steps_of f.steps.items))
+pub lack_asked : {A : Type 0} (f : Fulfilment A) (roots : List ℕ) (p : Pair) (codes old new : List ℕ) (v : Support) → codes ≡ map (code (coming_to anything p) p) (tests_of (steps_of f.steps.items))
     → IsAskedBack codes (steps_of f.steps.items) roots (length (steps_of f.steps.items)) old → IsAskedBelow f codes old 0 new v → IsLack f roots p v
 lack_asked f roots p codes old new v e first w sound =
     let ss = steps_of f.steps.items in

@@ -81,8 +81,8 @@ place_number p (x ∷ xs) n m (suc k) r l e = at (p x) (place_number p xs (n + 1
     y : Normal
     y = slice_index_or xs k Bottom
 
-    apart : (n == m) ≡ false
-    apart = told_other n m (λ d. omega arith)
+    independent : (n == m) ≡ false
+    independent = told_other n m (λ d. omega arith)
 
     other : same y x ≡ false
     other = let i : k < length xs = omega arith in decided_false (same y x) (same_Decides y x) (λ d. r.0 (subst (Has xs) d (Has-at xs k Bottom i)))
@@ -90,7 +90,7 @@ place_number p (x ∷ xs) n m (suc k) r l e = at (p x) (place_number p xs (n + 1
     at : (b : Bool) → position_or_len (λ j. j == m) (places_from p (n + 1) xs) ≡ place_of same y (filter p xs)
         → position_or_len (λ j. j == m) (cond b (n ∷ places_from p (n + 1) xs) (places_from p (n + 1) xs)) ≡ place_of same y (cond b (x ∷ filter p xs) (filter p xs))
     at true h =
-        ap (λ c. cond (not c) (1 + position_or_len (λ j. j == m) (places_from p (n + 1) xs)) 0) apart
+        ap (λ c. cond (not c) (1 + position_or_len (λ j. j == m) (places_from p (n + 1) xs)) 0) independent
         ∙ ap (λ i. 1 + i) h
         ∙ sym (ap (λ c. cond (not c) (1 + place_of same y (filter p xs)) 0) other)
     at false h = h

@@ -1,4 +1,4 @@
--- Transitions at once, and those of a set of rows by its groups.
+-- Transitions at once, and those of a set of rows by its components.
 use Rattle.std.proofs.Common.{◌≡◌, ℕ, zero, suc, ◌+◌, ◌-◌, ◌*◌, ◌<◌, ◌≤◌, Bool, true, false, cond, inl, inr, List, [], ◌∷◌, ◌++◌, length, map, drop, refl, sym, ◌∙◌, ap, subst, arith, Some, None}
 use Rattle.std.specs.Prelude.{slice_get, slice_index_or, filter, filter_map, option_map, nat_eq, not}
 use Rattle.std.specs.List.Sorted.{IsSorted, IsPermutation}
@@ -15,33 +15,33 @@ use Rattle.ltl_spec.proofs.Collections.SetLaws.{has_Decides, Has-set_of, append_
 use Rattle.ltl_spec.proofs.Collections.ListLaws.{places_cases, Contains-from_has, Has-from_contains, Has-places, IsRising-places}
 use Rattle.ltl_spec.proofs.Collections.Orders.{nat_linear}
 use Rattle.ltl_spec.proofs.Collections.ProductLists.{products, rising_once}
-use Rattle.ltl_spec.specs.Transitions.Pruning.{IsEnough, own_pairs}
-use Rattle.ltl_spec.proofs.Transitions.ApartMarks.{common, at_once}
-use Rattle.ltl_spec.proofs.Transitions.ApartPairs.{apart_sym}
-use Rattle.ltl_spec.proofs.Transitions.ApartTests.{apart_by_test}
-use Rattle.ltl_spec.proofs.Transitions.FactorLaws.{AreTakenOut, all_products, product_size, group_transitions, factors_law}
+use Rattle.ltl_spec.specs.Transitions.Pruning.{IsEnough, fulfilling_pairs}
+use Rattle.ltl_spec.proofs.Transitions.IndependentMarks.{common, at_once}
+use Rattle.ltl_spec.proofs.Transitions.IndependentPairs.{independent_sym}
+use Rattle.ltl_spec.proofs.Transitions.IndependenceTests.{independent_by_test}
+use Rattle.ltl_spec.proofs.Transitions.FactorLaws.{AreTakenOut, all_products, product_size, component_transitions, factors_law}
 use Rattle.ltl_spec.proofs.Transitions.FactoredTransitions.{AreListedFor, sorted_by_factors, count_by_factors, transitions_by_factors}
 use Rattle.ltl_spec.proofs.Transitions.LinkLaws.{LinksTell, without, taken_closed}
 use Rattle.ltl_spec.proofs.Transitions.JoinLaws.{join_parts, within_refl}
 use Rattle.ltl_spec.proofs.Transitions.LeastPairs.{enough_from}
-use Rattle.ltl_spec.proofs.Transitions.PartJoins.{join_of, sound_join_of, transitions_by_rows}
-use Rattle.ltl_spec.proofs.Transitions.PartSets.{ArePartsOf}
+use Rattle.ltl_spec.proofs.Transitions.ConjunctJoins.{join_of, sound_join_of, transitions_by_rows}
+use Rattle.ltl_spec.proofs.Transitions.ConjunctSets.{AreConjunctsOf}
 use Rattle.ltl_spec.proofs.Transitions.ProductTransitions.{transitions_of, product, transitions_of_cases, in_order, alike_transitions}
 use Rattle.ltl_spec.proofs.Transitions.SameJoins.{AreSound}
 use Rattle.ltl_spec.proofs.Transitions.UnimpliedLaws.{marks_too_linear}
-use Rattle.ltl_alt.specs.declared.asked.Demand.{Demand}
+use Rattle.ltl_alt.specs.declared.support.Dependencies.{Dependencies}
 use Rattle.ltl_alt.specs.BasisView.{IsBasisOf}
 use Rattle.ltl_alt.specs.declared.fulfilment.Fulfilment.{Fulfilment}
 use Rattle.ltl_alt.specs.FinalView.{AreLists}
-use Rattle.ltl_alt.specs.PartView.{part_of, demand_of, links_of, numbers_of, numbers_in, AreLinked, HasEach, HasNoPart, IsGroup}
+use Rattle.ltl_alt.specs.ConjunctTableView.{conjunct_of, dependency_of, links_of, numbers_of, numbers_in, AreLinked, HasEach, HasNoConjunct, IsComponent}
 use Rattle.ltl_alt.specs.TransitionView.{table_at}
 use Rattle.ltl_alt.specs.declared.rule.Rule.{Rule}
 use Rattle.ltl_formula.specs.TableView.{TableView, IsTable}
 use Rattle.ltl_alt.specs.ProductView.{AreConsistent, join_transitions, joined_products}
 use Rattle.ltl_alt.specs.StandIns.{IsKeptBy, StandsFor, rule_of}
-use Rattle.ltl_alt.proofs.KeyLaws.{AllListsProper, groups_proper}
-use Rattle.ltl_alt.proofs.PartLaws.{map_behind, numbers_below}
-use Rattle.ltl_alt.proofs.PieceLaws.{no_piece_at}
+use Rattle.ltl_alt.proofs.KeyLaws.{AllListsProper, components_proper}
+use Rattle.ltl_alt.proofs.ConjunctTableLaws.{map_behind, numbers_below}
+use Rattle.ltl_alt.proofs.ConjunctLaws.{no_conjunct_at}
 
 -- ---- products
 
@@ -96,60 +96,60 @@ products_step T tss left ts us vs l f p d g =
     let same : vs ≡ product ts us = g ∙ product_joins ts us also in
     subst (λ xs. IsPermutation xs vs) (sym whole) (subst (IsPermutation (product ts all)) (sym same) moved)
 
--- ---- groups that were taken out
+-- ---- components that were taken out
 
 -- those that are left were taken out of what was left
-taken_drop : (T : Table) (chosen : Normal → List Pair) (part : ℕ → List Pair) (gs : List (List ℕ)) (k : ℕ) (all : List ℕ) → AreTakenOut T chosen part all gs [] → (some : List ℕ) × AreTakenOut T chosen part some (drop k gs) []
-taken_drop T chosen part gs zero all t = (all, t)
-taken_drop T chosen part [] (suc k) all t = ([], refl)
-taken_drop T chosen part (g ∷ gs) (suc k) all t = taken_drop T chosen part gs k (filter (λ i. not (t.0 i)) all) t.3
+taken_drop : (T : Table) (chosen : Normal → List Pair) (conjunct : ℕ → List Pair) (gs : List (List ℕ)) (k : ℕ) (all : List ℕ) → AreTakenOut T chosen conjunct all gs [] → (some : List ℕ) × AreTakenOut T chosen conjunct some (drop k gs) []
+taken_drop T chosen conjunct gs zero all t = (all, t)
+taken_drop T chosen conjunct [] (suc k) all t = ([], refl)
+taken_drop T chosen conjunct (g ∷ gs) (suc k) all t = taken_drop T chosen conjunct gs k (filter (λ i. not (t.0 i)) all) t.3
 
 -- the pairs that fulfil an until row are enough of them
-own_enough : (T : Table) (f : Normal) → Has T.untils f → IsEnough (own_pairs T f) (own_pairs T f)
-own_enough T f h = enough_from (own_pairs T f) (own_pairs T f) (λ q k. k) (λ q k. (q, k, within_refl q))
+fulfilling_enough : (T : Table) (f : Normal) → Has T.untils f → IsEnough (fulfilling_pairs T f) (fulfilling_pairs T f)
+fulfilling_enough T f h = enough_from (fulfilling_pairs T f) (fulfilling_pairs T f) (λ q k. k) (λ q k. (q, k, within_refl q))
 
-module _ (T : Table) (part : ℕ → List Pair) (sound : (i : ℕ) → AreSound (part i)) (keep : Bool) where
-  products_consistent : (all : List ℕ) (gs : List (List ℕ)) → AreTakenOut T (own_pairs T) part all gs [] → AreConsistent (all_products T (group_transitions T part keep gs))
+module _ (T : Table) (conjunct : ℕ → List Pair) (sound : (i : ℕ) → AreSound (conjunct i)) (keep : Bool) where
+  products_consistent : (all : List ℕ) (gs : List (List ℕ)) → AreTakenOut T (fulfilling_pairs T) conjunct all gs [] → AreConsistent (all_products T (component_transitions T conjunct keep gs))
   products_consistent all gs t u h =
-      let there = subst (λ us. Has us u) (sym (factors_law T (own_pairs T) (own_enough T) part sound keep all gs t)) (Has-set_of marks_too_linear (all_products T (group_transitions T part keep gs)) u h) in
-      let (p, k, e, f) = transitions_of_cases T keep (join_of part all) u there in
-      ap (λ (x : Transition). is_contradictory x.cube) e ∙ (sound_join_of part sound all).consistent p k
+      let there = subst (λ us. Has us u) (sym (factors_law T (fulfilling_pairs T) (fulfilling_enough T) conjunct sound keep all gs t)) (Has-set_of marks_too_linear (all_products T (component_transitions T conjunct keep gs)) u h) in
+      let (p, k, e, f) = transitions_of_cases T keep (join_of conjunct all) u there in
+      ap (λ (x : Transition). is_contradictory x.cube) e ∙ (sound_join_of conjunct sound all).consistent p k
 
-  pub suffix_consistent : (all : List ℕ) (gs : List (List ℕ)) (k : ℕ) → AreTakenOut T (own_pairs T) part all gs [] → AreConsistent (all_products T (drop k (group_transitions T part keep gs)))
+  pub suffix_consistent : (all : List ℕ) (gs : List (List ℕ)) (k : ℕ) → AreTakenOut T (fulfilling_pairs T) conjunct all gs [] → AreConsistent (all_products T (drop k (component_transitions T conjunct keep gs)))
   suffix_consistent all gs k t =
-      let (some, s) = taken_drop T (own_pairs T) part gs k all t in
-      subst (λ x. AreConsistent (all_products T x)) (sym (dropped_map (λ g. transitions_of T keep (join_of part g)) gs k)) (products_consistent some (drop k gs) s)
+      let (some, s) = taken_drop T (fulfilling_pairs T) conjunct gs k all t in
+      subst (λ x. AreConsistent (all_products T x)) (sym (dropped_map (λ g. transitions_of T keep (join_of conjunct g)) gs k)) (products_consistent some (drop k gs) s)
     where
       dropped_map : {X Y : Type 0} (h : X → Y) (xs : List X) (k : ℕ) → drop k (map h xs) ≡ map h (drop k xs)
       dropped_map h xs zero = refl
       dropped_map h [] (suc k) = refl
       dropped_map h (x ∷ xs) (suc k) = dropped_map h xs k
 
--- the links of parts tell which have nothing to do with each other
-links_tell : (T : Table) (lists : List (List Pair)) (demands : List Demand) (links : List RowSet) (all : List ℕ) → AreLinked T lists demands links → ((k : ℕ) → Has all k → k < length lists)
-    → LinksTell T (own_pairs T) (part_of lists) (links_of links) all
-links_tell T lists demands links all w f i j h k e =
+-- the links of conjuncts tell which have nothing to do with each other
+links_tell : (T : Table) (lists : List (List Pair)) (dependencies : List Dependencies) (links : List RowSet) (all : List ℕ) → AreLinked T lists dependencies links → ((k : ℕ) → Has all k → k < length lists)
+    → LinksTell T (fulfilling_pairs T) (conjunct_of lists) (links_of links) all
+links_tell T lists dependencies links all w f i j h k e =
     let di = w.demanded i (f i h) in
     let dj = w.demanded j (f j k) in
     elim (w.linked i j (f i h) (f j k) e) [
-      | inl t ↦ apart_by_test T (own_pairs T) (demand_of demands i).asked (demand_of demands i).awaited (demand_of demands j).asked (demand_of demands j).awaited (part_of lists i) (part_of lists j) di.asked di.awaited dj.asked dj.awaited t
-      | inr t ↦ apart_sym T (own_pairs T) (part_of lists j) (part_of lists i)
-          (apart_by_test T (own_pairs T) (demand_of demands j).asked (demand_of demands j).awaited (demand_of demands i).asked (demand_of demands i).awaited (part_of lists j) (part_of lists i) dj.asked dj.awaited di.asked di.awaited t)
+      | inl t ↦ independent_by_test T (fulfilling_pairs T) (dependency_of dependencies i).support (dependency_of dependencies i).fulfilling (dependency_of dependencies j).support (dependency_of dependencies j).fulfilling (conjunct_of lists i) (conjunct_of lists j) di.asked di.fulfilling dj.asked dj.fulfilling t
+      | inr t ↦ independent_sym T (fulfilling_pairs T) (conjunct_of lists j) (conjunct_of lists i)
+          (independent_by_test T (fulfilling_pairs T) (dependency_of dependencies j).support (dependency_of dependencies j).fulfilling (dependency_of dependencies i).support (dependency_of dependencies i).fulfilling (conjunct_of lists j) (conjunct_of lists i) dj.asked dj.fulfilling di.asked di.fulfilling t)
     ]
 
--- one group more is taken out, and its transitions stand behind those of the others
-pub lists_more : (T : Table) (keep : Bool) (parts : List (List Pair)) (demands : List Demand) (links : List RowSet) (all : List ℕ) (tss more : List (List Transition)) (ts : List Transition) (rest inside left : RowSet) (first : ℕ)
-    → AreLinked T parts demands links → ((k : ℕ) → Has rest k → k < length parts) → AreLists T keep parts all tss rest → IsRising nat_cmp rest → IsRising nat_cmp inside
-    → IsGroup links first rest inside → ts ≡ transitions_of T keep (join_of (part_of parts) inside) → more ≡ tss ++ ts ∷ [] → left ≡ without rest inside → AreLists T keep parts all more left
-lists_more T keep parts demands links all tss more ts rest inside left first w f a r s group d e g = record {
-  groups = a.groups ++ inside ∷ [];
-  taken = subst (AreTakenOut T (own_pairs T) (part_of parts) all (a.groups ++ inside ∷ [])) (sym g)
-      (taken_closed T (own_pairs T) (part_of parts) (links_of links) all a.groups rest inside a.taken r s group.some (links_tell T parts demands links rest w f) group.closed);
-  lists = e ∙ (λ i. a.lists i ++ d i ∷ []) ∙ sym (map_behind (λ g. transitions_of T keep (join_of (part_of parts) g)) a.groups inside);
+-- one component more is taken out, and its transitions stand behind those of the others
+pub lists_more : (T : Table) (keep : Bool) (conjuncts : List (List Pair)) (dependencies : List Dependencies) (links : List RowSet) (all : List ℕ) (tss more : List (List Transition)) (ts : List Transition) (rest inside left : RowSet) (first : ℕ)
+    → AreLinked T conjuncts dependencies links → ((k : ℕ) → Has rest k → k < length conjuncts) → AreLists T keep conjuncts all tss rest → IsRising nat_cmp rest → IsRising nat_cmp inside
+    → IsComponent links first rest inside → ts ≡ transitions_of T keep (join_of (conjunct_of conjuncts) inside) → more ≡ tss ++ ts ∷ [] → left ≡ without rest inside → AreLists T keep conjuncts all more left
+lists_more T keep conjuncts dependencies links all tss more ts rest inside left first w f a r s component d e g = record {
+  components = a.components ++ inside ∷ [];
+  taken = subst (AreTakenOut T (fulfilling_pairs T) (conjunct_of conjuncts) all (a.components ++ inside ∷ [])) (sym g)
+      (taken_closed T (fulfilling_pairs T) (conjunct_of conjuncts) (links_of links) all a.components rest inside a.taken r s component.some (links_tell T conjuncts dependencies links rest w f) component.closed);
+  lists = e ∙ (λ i. a.lists i ++ d i ∷ []) ∙ sym (map_behind (λ g. transitions_of T keep (join_of (conjunct_of conjuncts) g)) a.components inside);
 }
 
-pub lists_none : (T : Table) (keep : Bool) (parts : List (List Pair)) (all : RowSet) → AreLists T keep parts all [] all
-lists_none T keep parts all = record { groups = []; taken = refl; lists = refl }
+pub lists_none : (T : Table) (keep : Bool) (conjuncts : List (List Pair)) (all : RowSet) → AreLists T keep conjuncts all [] all
+lists_none T keep conjuncts all = record { components = []; taken = refl; lists = refl }
 
 -- ---- the transitions of a set of rows
 
@@ -159,8 +159,8 @@ told_same i j e = grind (arith, nat_tests)
 same_told : (i j : ℕ) → i ≡ j → nat_eq i j ≡ true
 same_told i j e = grind (arith, nat_tests)
 
--- the parts of the rows of a set
-parts_of_state : (owners state : List ℕ) → IsRising nat_cmp state → ArePartsOf (numbers_of owners) state (numbers_in owners state)
+-- the conjuncts of the rows of a set
+parts_of_state : (owners state : List ℕ) → IsRising nat_cmp state → AreConjunctsOf (numbers_of owners) state (numbers_in owners state)
 parts_of_state owners state r = record {
   rows = r;
   rising = IsRising-places (λ o. has nat_cmp o state) 0 owners;
@@ -195,50 +195,50 @@ listed_for : (T : Table) (keep : Bool) (ps qs : List Pair) → IsKeptBy (StandsF
 listed_for T true ps qs k = record { there = λ p h. let (q, m, e) = k.covers p h in subst (Has qs) (sym e) m; back = k.from }
 listed_for T false ps qs k = record { from = k.from; covers = k.covers }
 
--- ---- a set of rows, its parts, and the transitions of their groups
+-- ---- a set of rows, its conjuncts, and the transitions of their components
 
-module _ {A : Type 0} (t : TableView) (keep : Bool) (r : Rule) (f : Fulfilment A) (made owners : List ℕ) (parts : List (List Pair)) (demands : List Demand) (links : List RowSet)
-    (b : IsBasisOf t keep r f made owners parts demands links) (state all : RowSet) (rising : IsRising nat_cmp state) (there : HasEach made state) (e : all ≡ numbers_in owners state) (tss : List (List Transition))
-    (a : AreLists (table_at t) keep parts all tss []) where
-  listed : (i : ℕ) → Has state i → AreListedFor (table_at t) keep (pairs_at (table_at t) i) (join_of (part_of parts) (numbers_of owners i))
-  listed i h = listed_for (table_at t) keep (pairs_at (table_at t) i) (join_of (part_of parts) (numbers_of owners i))
-      (subst (λ q. IsKeptBy (StandsFor (table_at t) q) (pairs_at (table_at t) i) (join_of (part_of parts) (numbers_of owners i))) b.rule (b.parts.rows.listed i (there i h)))
+module _ {A : Type 0} (t : TableView) (keep : Bool) (r : Rule) (f : Fulfilment A) (made owners : List ℕ) (conjuncts : List (List Pair)) (dependencies : List Dependencies) (links : List RowSet)
+    (b : IsBasisOf t keep r f made owners conjuncts dependencies links) (state all : RowSet) (rising : IsRising nat_cmp state) (there : HasEach made state) (e : all ≡ numbers_in owners state) (tss : List (List Transition))
+    (a : AreLists (table_at t) keep conjuncts all tss []) where
+  listed : (i : ℕ) → Has state i → AreListedFor (table_at t) keep (pairs_at (table_at t) i) (join_of (conjunct_of conjuncts) (numbers_of owners i))
+  listed i h = listed_for (table_at t) keep (pairs_at (table_at t) i) (join_of (conjunct_of conjuncts) (numbers_of owners i))
+      (subst (λ q. IsKeptBy (StandsFor (table_at t) q) (pairs_at (table_at t) i) (join_of (conjunct_of conjuncts) (numbers_of owners i))) b.rule (b.conjuncts.rows.listed i (there i h)))
 
-  taken : AreTakenOut (table_at t) (own_pairs (table_at t)) (part_of parts) (numbers_in owners state) a.groups []
-  taken = subst (λ x. AreTakenOut (table_at t) (own_pairs (table_at t)) (part_of parts) x a.groups []) e a.taken
+  taken : AreTakenOut (table_at t) (fulfilling_pairs (table_at t)) (conjunct_of conjuncts) (numbers_in owners state) a.components []
+  taken = subst (λ x. AreTakenOut (table_at t) (fulfilling_pairs (table_at t)) (conjunct_of conjuncts) x a.components []) e a.taken
 
   pub set_shape : transitions (table_at t) keep state ≡ in_order (all_products (table_at t) tss)
   set_shape =
-      transitions_by_factors (table_at t) (own_pairs (table_at t)) (own_enough (table_at t)) (part_of parts) b.parts.linked.sound keep (numbers_of owners) state (numbers_in owners state) (parts_of_state owners state rising) listed a.groups taken
+      transitions_by_factors (table_at t) (fulfilling_pairs (table_at t)) (fulfilling_enough (table_at t)) (conjunct_of conjuncts) b.conjuncts.linked.sound keep (numbers_of owners) state (numbers_in owners state) (parts_of_state owners state rising) listed a.components taken
       ∙ ap (λ x. in_order (all_products (table_at t) x)) (sym a.lists)
 
   pub set_count : length (transitions (table_at t) keep state) ≡ product_size tss
   set_count =
-      count_by_factors (table_at t) (own_pairs (table_at t)) (own_enough (table_at t)) (part_of parts) b.parts.linked.sound keep (numbers_of owners) state (numbers_in owners state) (parts_of_state owners state rising) listed a.groups taken
+      count_by_factors (table_at t) (fulfilling_pairs (table_at t)) (fulfilling_enough (table_at t)) (conjunct_of conjuncts) b.conjuncts.linked.sound keep (numbers_of owners) state (numbers_in owners state) (parts_of_state owners state rising) listed a.components taken
       ∙ ap product_size (sym a.lists)
 
   pub set_sorted : (products sorted : List Transition) → IsPermutation (all_products (table_at t) tss) products → IsPermutation products sorted → IsSorted transition_cmp sorted → sorted ≡ transitions (table_at t) keep state
   set_sorted products sorted moved permuted order =
-      sorted_by_factors (table_at t) (own_pairs (table_at t)) (own_enough (table_at t)) (part_of parts) b.parts.linked.sound keep (numbers_of owners) state (numbers_in owners state) (parts_of_state owners state rising) listed a.groups taken sorted
+      sorted_by_factors (table_at t) (fulfilling_pairs (table_at t)) (fulfilling_enough (table_at t)) (conjunct_of conjuncts) b.conjuncts.linked.sound keep (numbers_of owners) state (numbers_in owners state) (parts_of_state owners state rising) listed a.components taken sorted
       (subst (λ x. IsPermutation (all_products (table_at t) x) sorted) a.lists (IsPermutation-trans (all_products (table_at t) tss) products sorted moved permuted)) order
 
   pub set_consistent : (k : ℕ) → AreConsistent (all_products (table_at t) (drop k tss))
-  set_consistent k = subst (λ x. AreConsistent (all_products (table_at t) (drop k x))) (sym a.lists) (suffix_consistent (table_at t) (part_of parts) b.parts.linked.sound keep all a.groups k a.taken)
+  set_consistent k = subst (λ x. AreConsistent (all_products (table_at t) (drop k x))) (sym a.lists) (suffix_consistent (table_at t) (conjunct_of conjuncts) b.conjuncts.linked.sound keep all a.components k a.taken)
 
   pub set_proper : AllListsProper tss
-  set_proper = subst AllListsProper (sym a.lists) (groups_proper (table_at t) (part_of parts) b.parts.linked.sound keep a.groups)
+  set_proper = subst AllListsProper (sym a.lists) (components_proper (table_at t) (conjunct_of conjuncts) b.conjuncts.linked.sound keep a.components)
 
 -- where a place has no row there are none
-no_member : (part : ℕ → List Pair) (e : List ℕ) (i : ℕ) → Has e i → part i ≡ [] → (r : Pair) → Has (join_of part e) r → ⊥
-no_member part [] i h d r k = absurd h
-no_member part (j ∷ e) i (inl q) d r k =
-    let (x, y, m, n, f) = join_parts (part j) (join_of part e) r k in
-    subst (λ xs. Has xs x) (ap part (sym q) ∙ d) m
-no_member part (j ∷ e) i (inr h) d r k =
-    let (x, y, m, n, f) = join_parts (part j) (join_of part e) r k in
-    no_member part e i h d y n
+no_member : (conjunct : ℕ → List Pair) (e : List ℕ) (i : ℕ) → Has e i → conjunct i ≡ [] → (r : Pair) → Has (join_of conjunct e) r → ⊥
+no_member conjunct [] i h d r k = absurd h
+no_member conjunct (j ∷ e) i (inl q) d r k =
+    let (x, y, m, n, f) = join_parts (conjunct j) (join_of conjunct e) r k in
+    subst (λ xs. Has xs x) (ap conjunct (sym q) ∙ d) m
+no_member conjunct (j ∷ e) i (inr h) d r k =
+    let (x, y, m, n, f) = join_parts (conjunct j) (join_of conjunct e) r k in
+    no_member conjunct e i h d y n
 
-pub no_transitions : (t : TableView) (keep : Bool) (made state : RowSet) → IsTable t → ((i : ℕ) → i < length t.elementary → Has made i) → HasNoPart made state → transitions (table_at t) keep state ≡ []
+pub no_transitions : (t : TableView) (keep : Bool) (made state : RowSet) → IsTable t → ((i : ℕ) → i < length t.elementary → Has made i) → HasNoConjunct made state → transitions (table_at t) keep state ≡ []
 no_transitions t keep made state w all (i, h, n) =
     let T = table_at t in
     transitions_by_rows T keep state
@@ -251,7 +251,7 @@ no_transitions t keep made state w all (i, h, n) =
     past (x ∷ xs) (suc k) f = past xs k (λ l. f (omega (arith, l)))
 
     nothing : pairs_at (table_at t) i ≡ []
-    nothing = no_piece_at t i w (past t.elementary i (λ l. n (all i l)))
+    nothing = no_conjunct_at t i w (past t.elementary i (λ l. n (all i l)))
 
     none : (k : Bool) → transitions_of (table_at t) k [] ≡ []
     none true = refl
@@ -282,7 +282,7 @@ fewer_left rest inside left first h k e = subst (λ xs. length xs < length rest)
         at true l = omega arith
         at false l = omega arith
 
--- the numbers of the parts of rows are numbers of parts
+-- the numbers of the conjuncts of rows are numbers of conjuncts
 pub numbers_inside : (owners : List ℕ) (lists : List (List Pair)) (state all : RowSet) → length owners ≡ length lists → all ≡ numbers_in owners state → (k : ℕ) → Has all k → k < length lists
 numbers_inside owners lists state all e d k h = let l = numbers_below (λ o. has nat_cmp o state) owners k (subst (λ xs. Has xs k) d h) in omega arith
 

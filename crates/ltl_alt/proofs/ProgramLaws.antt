@@ -23,7 +23,7 @@ use Rattle.ltl_spec.proofs.Transitions.FulfilmentLaws.{until_row_parts}
 use Rattle.ltl_spec.proofs.Transitions.Steps as spec
 use Rattle.ltl_spec.proofs.Transitions.Steps.{test_at, step_test, tests_of, IsOperand}
 use Rattle.ltl_spec.proofs.Transitions.StepLaws.{tests_next, tests_length, test_earlier, test_of_step}
-use Rattle.ltl_formula.specs.GraphView.{IsBelow, node_of}
+use Rattle.ltl_formula.specs.SharedNodesView.{IsBelow, node_of}
 use Rattle.ltl_formula.specs.TableView.{TableView, IsTable, core_of, is_elementary_row, row_tree}
 use Rattle.ltl_formula.specs.declared.row.Row.{Row}
 use Rattle.ltl_formula.specs.declared.row.Row.TheVariants as row
@@ -93,8 +93,8 @@ both_true true true e = (refl, refl)
 both_true true false e = cc
 both_true false b e = cc
 
-same_parts : (l m : Literal) → l.proposition ≡ m.proposition → l.positive ≡ m.positive → l ≡ m
-same_parts l m p q = λ i. record { proposition = p i; positive = q i }
+same_conjuncts : (l m : Literal) → l.proposition ≡ m.proposition → l.positive ≡ m.positive → l ≡ m
+same_conjuncts l m p q = λ i. record { proposition = p i; positive = q i }
 
 -- steps that compare as equal are equal
 step_same : (u v : Step) → ghosts.eq u v ≡ true → u ≡ v
@@ -102,7 +102,7 @@ step_same step.Always step.Always e = refl
 step_same step.Never step.Never e = refl
 step_same (step.Reads l) (step.Reads m) e =
     let w = both_true (eqb l.proposition m.proposition) (beq l.positive m.positive) e in
-    ap step.Reads (same_parts l m (eqb-true l.proposition m.proposition w.0) (beq_true l.positive m.positive w.1))
+    ap step.Reads (same_conjuncts l m (eqb-true l.proposition m.proposition w.0) (beq_true l.positive m.positive w.1))
 step_same (step.Leads i) (step.Leads j) e = ap step.Leads (eqb-true i j e)
 step_same (step.Both i j) (step.Both k l) e = let w = both_true (eqb i k) (eqb j l) e in let p = eqb-true i k w.0 in let q = eqb-true j l w.1 in cc
 step_same (step.Either i j) (step.Either k l) e = let w = both_true (eqb i k) (eqb j l) e in let p = eqb-true i k w.0 in let q = eqb-true j l w.1 in cc
@@ -386,7 +386,7 @@ until_steps_are t ns ss rs w long program seconds = record {
       let tree = until_tree t i k w e in
       let inside : i < length (table_at t).untils = let c = untils_count t w in let d = slice_get_within t.untils i k e in omega arith in
       let there : Has (until_rows (core_of t)) (row_tree t k) = subst (Has (until_rows (core_of t))) tree (Has-at (table_at t).untils i Bottom inside) in
-      let (a, b, is, parts) = until_row_parts (core_of t) (row_tree t k) there in
+      let (a, b, is, conjuncts) = until_row_parts (core_of t) (row_tree t k) there in
       until_row_step t ns ss rs long program w k l a b is r f o (seconds i k r e f) (row_tree_is t k r f o);
 }
 

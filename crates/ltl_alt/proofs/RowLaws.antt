@@ -10,7 +10,7 @@ use Rattle.ltl_spec.proofs.Collections.MemberLaws.{map_length}
 use Rattle.ltl_spec.proofs.Collections.ListLaws.{slice_get_has}
 use Rattle.ltl_spec.proofs.NormalForms.SharedNodes.{trees_length}
 use Rattle.ltl_spec.specs.Tools.Limits.{stated_limits}
-use Rattle.ltl_formula.specs.GraphView.{node_of}
+use Rattle.ltl_formula.specs.SharedNodesView.{node_of}
 use Rattle.ltl_formula.specs.TableView.{TableView, IsTable, core_of}
 
 -- there is one row for each row of the normal form

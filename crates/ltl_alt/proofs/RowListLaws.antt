@@ -7,7 +7,7 @@ use Rattle.ltl_spec.specs.NormalForms.Normal.{Until, Release}
 use Rattle.ltl_spec.specs.Transitions.Pairs as spec
 use Rattle.ltl_spec.specs.Transitions.RowTransitions.{table_of}
 use Rattle.ltl_spec.proofs.NormalForms.SharedNodes.{AllBefore, tree_of}
-use Rattle.ltl_formula.specs.GraphView.{node_of, IsBelow}
+use Rattle.ltl_formula.specs.SharedNodesView.{node_of, IsBelow}
 use Rattle.ltl_formula.specs.TableView.{TableView, row_tree, core_of}
 use Rattle.ltl_formula.specs.declared.row.Row.{Row}
 use Rattle.ltl_formula.specs.declared.row.Row.TheVariants as row

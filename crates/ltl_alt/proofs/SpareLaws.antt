@@ -15,7 +15,7 @@ use Rattle.ltl_alt.specs.ListHash.{pair_Decides}
 use Rattle.ltl_spec.specs.Collections.Sets.{Has, has}
 use Rattle.ltl_spec.specs.Transitions.Pairs.{Pair, Within, pair_cmp}
 use Rattle.ltl_spec.proofs.Collections.SetLaws.{append_cases, append_left, append_right, filter_cases}
-use Rattle.ltl_spec.proofs.Transitions.ApartTests.{Asked, Covers, ask_nothing, shares_some}
+use Rattle.ltl_spec.proofs.Transitions.IndependenceTests.{Support, Covers, no_support, shares_some}
 use Rattle.ltl_alt.specs.CodeView.{AreLacks, AreMoreLacks, AreOpenSteps, AreSpares, HasLack, IsLack, IsSpareOf, IsUntouched}
 use Rattle.ltl_alt.specs.declared.fulfilment.Fulfilment.{Fulfilment}
 use Rattle.ltl_alt.specs.declared.fulfilment.UntilTest.{UntilTest}
@@ -27,29 +27,29 @@ use Rattle.ltl_alt.proofs.NeedsLaws.{same_or_other}
 -- ---- until rows
 
 -- the first until rows are among these, or have nothing to do with the pairs
-abbrev pub AreOpenBelow : List UntilTest → List Asked → List Pair → ℕ → List ℕ → Type 0
+abbrev pub AreOpenBelow : List UntilTest → List Support → List Pair → ℕ → List ℕ → Type 0
 AreOpenBelow us ls ps n roots = (i : ℕ) (u : UntilTest) → i < n → slice_get us i ≡ Some u → Has roots u.step ⊎ IsUntouched ls ps u.step
 
 some_same : {X : Type 0} (x y : X) → Some x ≡ Some y → x ≡ y
 some_same x y e = cc
 
-open_next : (us : List UntilTest) (ls : List Asked) (ps : List Pair) (n : ℕ) (u : UntilTest) (old new : List ℕ) → slice_get us n ≡ Some u → ((k : ℕ) → Has old k → Has new k) → (Has new u.step ⊎ IsUntouched ls ps u.step)
+open_next : (us : List UntilTest) (ls : List Support) (ps : List Pair) (n : ℕ) (u : UntilTest) (old new : List ℕ) → slice_get us n ≡ Some u → ((k : ℕ) → Has old k → Has new k) → (Has new u.step ⊎ IsUntouched ls ps u.step)
     → AreOpenBelow us ls ps n old → AreOpenBelow us ls ps (n + 1) new
 open_next us ls ps n u old new found more here w i v l f = elim (same_or_other i n) [
   | inl e ↦ subst (λ (x : UntilTest). Has new x.step ⊎ IsUntouched ls ps x.step) (some_same u v (sym found ∙ ap (slice_get us) (sym e) ∙ f)) here
   | inr d ↦ elim (w i v (omega arith) f) [ inl h ↦ inl (more v.step h) | inr h ↦ inr h ]
 ]
 
-pub open_in : (us : List UntilTest) (ls : List Asked) (ps : List Pair) (n : ℕ) (u : UntilTest) (old new : List ℕ) (k : ℕ) → slice_get us n ≡ Some u → k ≡ u.step → new ≡ old ++ k ∷ [] → AreOpenBelow us ls ps n old → AreOpenBelow us ls ps (n + 1) new
+pub open_in : (us : List UntilTest) (ls : List Support) (ps : List Pair) (n : ℕ) (u : UntilTest) (old new : List ℕ) (k : ℕ) → slice_get us n ≡ Some u → k ≡ u.step → new ≡ old ++ k ∷ [] → AreOpenBelow us ls ps n old → AreOpenBelow us ls ps (n + 1) new
 open_in us ls ps n u old new k found e f w =
     open_next us ls ps n u old new found (λ j h. subst (λ xs. Has xs j) (sym f) (append_left old (k ∷ []) j h)) (inl (subst (λ xs. Has xs u.step) (sym f) (append_right old (k ∷ []) u.step (inl (sym e))))) w
 
-pub open_out : (us : List UntilTest) (ls : List Asked) (ps : List Pair) (n : ℕ) (u : UntilTest) (old new : List ℕ) (k : ℕ) (v a : Asked) → slice_get us n ≡ Some u → k ≡ u.step → v ≡ slice_index_or ls k ask_nothing → Covers a ps
+pub open_out : (us : List UntilTest) (ls : List Support) (ps : List Pair) (n : ℕ) (u : UntilTest) (old new : List ℕ) (k : ℕ) (v a : Support) → slice_get us n ≡ Some u → k ≡ u.step → v ≡ slice_index_or ls k no_support → Covers a ps
     → shares_some v a ≡ false → new ≡ old → AreOpenBelow us ls ps n old → AreOpenBelow us ls ps (n + 1) new
 open_out us ls ps n u old new k v a found e f c d g w =
-    open_next us ls ps n u old new found (λ j h. subst (λ xs. Has xs j) (sym g) h) (inr (a, c, subst (λ j. shares_some (slice_index_or ls j ask_nothing) a ≡ false) e (subst (λ x. shares_some x a ≡ false) f d))) w
+    open_next us ls ps n u old new found (λ j h. subst (λ xs. Has xs j) (sym g) h) (inr (a, c, subst (λ j. shares_some (slice_index_or ls j no_support) a ≡ false) e (subst (λ x. shares_some x a ≡ false) f d))) w
 
-pub open_end : (us : List UntilTest) (ls : List Asked) (ps : List Pair) (n : ℕ) (roots : List ℕ) → n ≡ length us → AreOpenBelow us ls ps n roots → AreOpenSteps us ls ps roots
+pub open_end : (us : List UntilTest) (ls : List Support) (ps : List Pair) (n : ℕ) (roots : List ℕ) → n ≡ length us → AreOpenBelow us ls ps n roots → AreOpenSteps us ls ps roots
 open_end us ls ps n roots e w i u f = let l = slice_get_within us i u f in w i u (omega arith) f
 
 -- ---- what pairs lack
@@ -81,29 +81,29 @@ core_within p rows targets e = record { cube = λ l h. h; targets = λ k h. (fil
 
 module _ {A : Type 0} (f : Fulfilment A) (roots : List ℕ) where
   -- what stands under a number still does where more is known
-  lack_stays : (old new : List Asked) → AreMoreLacks old new → (p : Pair) (k : ℕ) → HasLack f roots old p k → HasLack f roots new p k
+  lack_stays : (old new : List Support) → AreMoreLacks old new → (p : Pair) (k : ℕ) → HasLack f roots old p k → HasLack f roots new p k
   lack_stays old new (more, e) p k (l, w) =
       let long = ap length e ∙ length-append old more in
-      (omega (arith, l, long), subst (IsLack f roots p) (sym (ap (λ xs. slice_index_or xs k ask_nothing) e ∙ at_before old more ask_nothing k l)) w)
+      (omega (arith, l, long), subst (IsLack f roots p) (sym (ap (λ xs. slice_index_or xs k no_support) e ∙ at_before old more no_support k l)) w)
 
   -- what is known of a pair
-  pub lack_known : (cores : List Pair) (lacks : List Asked) (p q : Pair) (k : ℕ) → slice_get cores k ≡ Some q → p ≡ q → AreLacks f roots cores lacks → HasLack f roots lacks p k
+  pub lack_known : (cores : List Pair) (lacks : List Support) (p q : Pair) (k : ℕ) → slice_get cores k ≡ Some q → p ≡ q → AreLacks f roots cores lacks → HasLack f roots lacks p k
   lack_known cores lacks p q k found e w =
       let l = slice_get_within cores k q found in
       let c = w.count in
-      (omega arith, subst (λ x. IsLack f roots x (slice_index_or lacks k ask_nothing)) (sym e) (w.each k q found))
+      (omega arith, subst (λ x. IsLack f roots x (slice_index_or lacks k no_support)) (sym e) (w.each k q found))
 
   -- and of one more
-  pub lacks_next : (cores more_cores : List Pair) (lacks more : List Asked) (p : Pair) (v : Asked) → more_cores ≡ cores ++ p ∷ [] → more ≡ lacks ++ v ∷ [] → IsLack f roots p v → AreLacks f roots cores lacks → AreLacks f roots more_cores more
+  pub lacks_next : (cores more_cores : List Pair) (lacks more : List Support) (p : Pair) (v : Support) → more_cores ≡ cores ++ p ∷ [] → more ≡ lacks ++ v ∷ [] → IsLack f roots p v → AreLacks f roots cores lacks → AreLacks f roots more_cores more
   lacks_next cores more_cores lacks more p v e g new w = record {
     count = let a = ap length e in let b = length-append cores (p ∷ []) in let c = ap length g in let d = length-append lacks (v ∷ []) in let n = w.count in omega arith;
     each = λ k q found. elim (at_end cores p q k (ap (λ xs. slice_get xs k) (sym e) ∙ found)) [
       | inl (old, l) ↦
           let n = w.count in
-          subst (IsLack f roots q) (sym (ap (λ xs. slice_index_or xs k ask_nothing) g ∙ at_before lacks (v ∷ []) ask_nothing k (omega arith))) (w.each k q old)
+          subst (IsLack f roots q) (sym (ap (λ xs. slice_index_or xs k no_support) g ∙ at_before lacks (v ∷ []) no_support k (omega arith))) (w.each k q old)
       | inr (last, same) ↦
           let n = w.count in
-          subst (λ x. IsLack f roots x (slice_index_or more k ask_nothing)) (sym same) (subst (IsLack f roots p) (sym (ap (λ xs. slice_index_or xs k ask_nothing) g ∙ at_last lacks v ask_nothing k (last ∙ n))) new)
+          subst (λ x. IsLack f roots x (slice_index_or more k no_support)) (sym same) (subst (IsLack f roots p) (sym (ap (λ xs. slice_index_or xs k no_support) g ∙ at_last lacks v no_support k (last ∙ n))) new)
     ];
   }
     where
@@ -116,10 +116,10 @@ module _ {A : Type 0} (f : Fulfilment A) (roots : List ℕ) where
   -- ---- pairs
 
   module _ (ms : List made.Measured) where
-    spare_stays : (old new : List Asked) → AreMoreLacks old new → (m : made.Measured) → IsSpareOf f roots ms old m → IsSpareOf f roots ms new m
+    spare_stays : (old new : List Support) → AreMoreLacks old new → (m : made.Measured) → IsSpareOf f roots ms old m → IsSpareOf f roots ms new m
     spare_stays old new more m w = record { origin = w.origin; there = w.there; pair = w.pair; size = w.size; core = w.core; smaller = w.smaller; lack = lack_stays old new more w.core m.number w.lack }
 
-    pub spare_added : (all new : List made.Measured) (old lacks : List Asked) (m n : made.Measured) (core : Pair) → new ≡ all ++ n ∷ [] → AreMoreLacks old lacks → Has ms m → n.pair ≡ m.pair → n.size ≡ m.size
+    pub spare_added : (all new : List made.Measured) (old lacks : List Support) (m n : made.Measured) (core : Pair) → new ≡ all ++ n ∷ [] → AreMoreLacks old lacks → Has ms m → n.pair ≡ m.pair → n.size ≡ m.size
         → Within core m.pair → HasLack f roots lacks core n.number → AreSpares f roots ms all old → AreSpares f roots ms new lacks
     spare_added all new old lacks m n core e more there pair size smaller lack w x h = elim (append_cases all (n ∷ []) x (subst (λ xs. Has xs x) e h)) [
       | inl k ↦ spare_stays old lacks more x (w x k)

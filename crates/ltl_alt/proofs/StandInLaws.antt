@@ -34,8 +34,8 @@ safe_stands : (T : Table) → IsStandIn (IsSafeToDrop T)
 safe_stands T = record { itself = safe_refl T; on = safe_trans T; joined = safe_join T }
 
 pub stands_in : (T : Table) (r : Rule) → IsStandIn (StandsFor T r)
-stands_in T rule.Equal = equal_stands
-stands_in T rule.Safe = safe_stands T
+stands_in T rule.Duplicate = equal_stands
+stands_in T rule.SafelySubsumed = safe_stands T
 
 -- ---- what was kept
 
@@ -87,13 +87,13 @@ module _ {S : Pair → Pair → Type 0} (o : IsStandIn S) where
   kept_rest f (i ∷ e) ps qs k = kept_rest f e (join ps (f i)) (join qs (f i)) (kept_join ps qs (f i) (f i) k (kept_all (f i)))
 
 -- what the rule that drops repeated ones alone lists is the set
-pub listed_equal : (T : Table) (ps qs : List Pair) → IsListed (StandsFor T rule.Equal) ps qs → qs ≡ set_of pair_cmp ps
+pub listed_equal : (T : Table) (ps qs : List Pair) → IsListed (StandsFor T rule.Duplicate) ps qs → qs ≡ set_of pair_cmp ps
 listed_equal T ps qs w =
     sym (set_of_same pair_linear qs w.rising)
     ∙ set_of_alike pair_linear qs ps w.kept.from (λ p h. let (q, k, e) = w.kept.covers p h in subst (Has qs) (sym e) k)
 
 -- what the safe rule lists was kept
-pub listed_safe : (T : Table) (ps qs : List Pair) → IsListed (StandsFor T rule.Safe) ps qs → IsKept T ps qs
+pub listed_safe : (T : Table) (ps qs : List Pair) → IsListed (StandsFor T rule.SafelySubsumed) ps qs → IsKept T ps qs
 listed_safe T ps qs w = record { from = w.kept.from; covers = w.kept.covers }
 
 -- ---- what was pruned
@@ -106,5 +106,5 @@ pruned_of T r f ps qs rs fit k w =
 
 -- the tests of a table are what its rules take
 pub tests_fit : {A : Type 0} (T : Table) (r : Rule) (f : Fulfilment A) → AreTests T f → IsFit T r f
-tests_fit T rule.Equal f w = tt
-tests_fit T rule.Safe f w = w
+tests_fit T rule.Duplicate f w = tt
+tests_fit T rule.SafelySubsumed f w = w

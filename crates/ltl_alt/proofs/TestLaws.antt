@@ -4,7 +4,7 @@ use Rattle.std.specs.Prelude.{slice_get, slice_index_or}
 use Rattle.std.proofs.lemmas.List.{length-append}
 use Rattle.ltl_spec.specs.NormalForms.Normal.{Bottom}
 use Rattle.ltl_spec.specs.Transitions.RowTransitions.{Table}
-use Rattle.ltl_spec.proofs.Transitions.ApartTests.{Asked}
+use Rattle.ltl_spec.proofs.Transitions.IndependenceTests.{Support}
 use Rattle.ltl_formula.specs.TableView.{TableView, IsTable, core_of}
 use Rattle.ltl_alt.specs.Steps.{AreUntilSteps}
 use Rattle.ltl_alt.specs.Tests.{AreLeaves, AreTestsOf, IsUntilTest}
@@ -37,7 +37,7 @@ tests_push T ss n us more u e t w = subst (AreTestsSoFar T ss (n + 1)) (sym e) (
     at_end (x ∷ xs) y v zero f = inl (f, omega arith)
     at_end (x ∷ xs) y v (suc i) f = elim (at_end xs y v i f) [ inl (g, l) ↦ inl (g, omega arith) | inr (d, s) ↦ inr (ap suc d, s) ]
 
-pub tests_end : (t : TableView) (ss : List Step) (ls : List Asked) (rs : List RowSteps) (n : ℕ) (us : List UntilTest) → IsTable t → AreUntilSteps t ss rs → AreLeaves ss ls → n ≡ length t.untils → AreTestsSoFar (table_at t) ss n us → AreTestsOf (table_at t) ss ls us
+pub tests_end : (t : TableView) (ss : List Step) (ls : List Support) (rs : List RowSteps) (n : ℕ) (us : List UntilTest) → IsTable t → AreUntilSteps t ss rs → AreLeaves ss ls → n ≡ length t.untils → AreTestsSoFar (table_at t) ss n us → AreTestsOf (table_at t) ss ls us
 tests_end t ss ls rs n us w steps leaves e so_far = record {
   core = core_of t;
   is_table = refl;

@@ -34,8 +34,8 @@ tree_is nodes k v e before =
     let here : k < length (s.front ++ v ∷ []) = omega arith in
     let first : tree_at nodes k ≡ tree_at (s.front ++ v ∷ []) k = ap (λ ns. tree_at ns k) s.is ∙ tree_behind s.back (s.front ++ v ∷ []) k here in
     let made : tree_at (s.front ++ v ∷ []) k ≡ tree_of (tree_at s.front) v = ap (tree_at (s.front ++ v ∷ [])) (sym l) ∙ tree_new s.front v in
-    let parts : tree_of (tree_at s.front) v ≡ tree_of (tree_at nodes) v = tree_of_alike (tree_at s.front) (tree_at nodes) v (λ j h.
+    let conjuncts : tree_of (tree_at s.front) v ≡ tree_of (tree_at nodes) v = tree_of_alike (tree_at s.front) (tree_at nodes) v (λ j h.
     let b : j < k = before j h in
     let inside : j < length s.front = omega arith in
     sym (ap (λ ns. tree_at ns j) (s.is ∙ append_assoc s.front (v ∷ []) s.back) ∙ tree_behind ((v ∷ []) ++ s.back) s.front j inside)) in
-    first ∙ made ∙ parts
+    first ∙ made ∙ conjuncts

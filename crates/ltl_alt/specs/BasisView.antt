@@ -3,22 +3,22 @@ use Rattle.std.specs.Prelude.{◌≡◌, ℕ, ◌<◌, Bool, List, length}
 use Rattle.ltl_spec.specs.Collections.Sets.{Has}
 use Rattle.ltl_spec.specs.Transitions.Pairs.{RowSet, Pair}
 use Rattle.ltl_formula.specs.TableView.{TableView, IsTable}
-use Rattle.ltl_alt.specs.declared.asked.Demand.{Demand}
+use Rattle.ltl_alt.specs.declared.support.Dependencies.{Dependencies}
 use Rattle.ltl_alt.specs.declared.basis.Basis.{Basis}
 use Rattle.ltl_alt.specs.declared.fulfilment.Fulfilment.{Fulfilment}
 use Rattle.ltl_alt.specs.declared.rule.Rule.{Rule}
-use Rattle.ltl_alt.specs.PartView.{AreParts}
+use Rattle.ltl_alt.specs.ConjunctTableView.{IsConjunctTable}
 use Rattle.ltl_alt.specs.StandIns.{rule_of}
 use Rattle.ltl_alt.specs.Tests.{AreTests}
 use Rattle.ltl_alt.specs.TransitionView.{table_at}
 
 -- the rule is that of the sets of rows, and all elementary rows of the table were taken apart by it
-pub record IsBasisOf {A : Type 0} (t : TableView) (keep : Bool) (r : Rule) (f : Fulfilment A) (made owners : List ℕ) (lists : List (List Pair)) (demands : List Demand) (links : List RowSet) : Type 0 where
+pub record IsBasisOf {A : Type 0} (t : TableView) (keep : Bool) (r : Rule) (f : Fulfilment A) (made owners : List ℕ) (lists : List (List Pair)) (dependencies : List Dependencies) (links : List RowSet) : Type 0 where
   pub table : IsTable t
   pub rule : r ≡ rule_of keep
   pub tests : AreTests (table_at t) f
-  pub parts : AreParts (table_at t) r made owners lists demands links
+  pub conjuncts : IsConjunctTable (table_at t) r made owners lists dependencies links
   pub all : (i : ℕ) → i < length t.elementary → Has made i
 
 abbrev pub IsBasis : {A : Type 0} → Basis A → Type 0
-IsBasis b = IsBasisOf b.table.now b.keep_implied b.pruning.rule b.pruning.fulfilment.now b.parts.made b.parts.owners.items b.parts.lists.items b.parts.demands.items b.parts.links.items
+IsBasis b = IsBasisOf b.table.now b.keep_implied b.pruning.rule b.pruning.fulfilment.now b.conjuncts.made b.conjuncts.owners.items b.conjuncts.lists.items b.conjuncts.dependencies.items b.conjuncts.links.items

@@ -1,18 +1,18 @@
--- The transitions of groups of parts, by number, and those of a set's groups.
+-- The transitions of components of conjuncts, by number, and those of a set's components.
 use Rattle.std.specs.Prelude.{◌≡◌, ℕ, ◌<◌, Bool, List, [], ◌++◌, length, map, Option, IfSome, slice_index_or}
 use Rattle.ltl_spec.specs.Collections.Sets.{Has}
 use Rattle.ltl_spec.specs.Transitions.Pairs.{RowSet, Pair}
 use Rattle.ltl_spec.specs.Transitions.RowTransitions.{Table, Transition}
-use Rattle.ltl_spec.specs.Transitions.Pruning.{own_pairs}
-use Rattle.ltl_spec.proofs.Transitions.FactorLaws.{AreTakenOut, group_transitions}
-use Rattle.ltl_spec.proofs.Transitions.PartJoins.{join_of}
+use Rattle.ltl_spec.specs.Transitions.Pruning.{fulfilling_pairs}
+use Rattle.ltl_spec.proofs.Transitions.FactorLaws.{AreTakenOut, component_transitions}
+use Rattle.ltl_spec.proofs.Transitions.ConjunctJoins.{join_of}
 use Rattle.ltl_spec.proofs.Transitions.ProductTransitions.{transitions_of}
 use Rattle.ltl_alt.specs.declared.basis.Basis.{Basis}
 use Rattle.ltl_alt.specs.declared.finals.Factor.{Factor}
 use Rattle.ltl_alt.specs.declared.finals.Factor.TheVariants as factor
 use Rattle.ltl_alt.specs.declared.finals.Finals.{Finals}
-use Rattle.ltl_alt.specs.GroupView.{HasGroups}
-use Rattle.ltl_alt.specs.PartView.{part_of}
+use Rattle.ltl_alt.specs.ComponentView.{HasComponents}
+use Rattle.ltl_alt.specs.ConjunctTableView.{conjunct_of}
 use Rattle.ltl_alt.specs.TransitionView.{table_at}
 
 -- the transitions with that number, and those that a factor stands for
@@ -34,33 +34,33 @@ AreWithin {A} lists factors = (f : Factor A) → Has factors f → IsWithin list
 abbrev pub IsLonger : List (List Transition) → List (List Transition) → Type 0
 IsLonger old new = (more : List (List Transition)) × (new ≡ old ++ more)
 
--- the transitions of a list of pairs, and those of a group, stand under the number
+-- the transitions of a list of pairs, and those of a component, stand under the number
 pub record IsListOf (T : Table) (keep : Bool) (pairs : List (List Pair)) (lists : List (List Transition)) (k n : ℕ) : Type 0 where
   pub list : k < length pairs
   pub number : n < length lists
-  pub made : made_of lists n ≡ transitions_of T keep (part_of pairs k)
+  pub made : made_of lists n ≡ transitions_of T keep (conjunct_of pairs k)
 
 abbrev pub IsFinal : Table → Bool → List (List Pair) → List (List Transition) → RowSet → ℕ → Type 0
-IsFinal T keep parts lists group n = (n < length lists) × (made_of lists n ≡ transitions_of T keep (join_of (part_of parts) group))
+IsFinal T keep conjuncts lists component n = (n < length lists) × (made_of lists n ≡ transitions_of T keep (join_of (conjunct_of conjuncts) component))
 
--- a factor is the transitions of a group
+-- a factor is the transitions of a component
 abbrev pub IsFactorOf : {A : Type 0} → Table → Bool → List (List Pair) → List (List Transition) → RowSet → Factor A → Type 0
-IsFactorOf T keep parts lists group f = IsWithin lists f × (list_of lists f ≡ transitions_of T keep (join_of (part_of parts) group))
+IsFactorOf T keep conjuncts lists component f = IsWithin lists f × (list_of lists f ≡ transitions_of T keep (join_of (conjunct_of conjuncts) component))
 
 -- so it is with what is remembered
-pub record AreFinals (T : Table) (keep : Bool) (parts pairs : List (List Pair)) (lists : List (List Transition)) (ns : List (ℕ × ℕ)) (os : List (RowSet × Option ℕ)) : Type 0 where
+pub record AreFinals (T : Table) (keep : Bool) (conjuncts pairs : List (List Pair)) (lists : List (List Transition)) (ns : List (ℕ × ℕ)) (os : List (RowSet × Option ℕ)) : Type 0 where
   pub of_lists : (k n : ℕ) → Has ns (k, n) → IsListOf T keep pairs lists k n
-  pub of_groups : (group : RowSet) (o : Option ℕ) → Has os (group, o) → IfSome o (IsFinal T keep parts lists group)
+  pub of_components : (component : RowSet) (o : Option ℕ) → Has os (component, o) → IfSome o (IsFinal T keep conjuncts lists component)
 
 abbrev pub HasFinals : {A : Type 0} → Basis A → Finals A → Type 0
-HasFinals b f = HasGroups b f.groups × AreFinals (table_at b.table.now) b.keep_implied b.parts.lists.items f.groups.memo.lists.keys f.lists.keys f.of_lists.entries f.of_groups.entries
+HasFinals b f = HasComponents b f.components × AreFinals (table_at b.table.now) b.keep_implied b.conjuncts.lists.items f.components.memo.lists.keys f.lists.keys f.of_lists.entries f.of_components.entries
 
--- groups were taken out of all parts one after another, each apart from what was then left, these are the transitions of each, and the rest is left
-pub record AreLists (T : Table) (keep : Bool) (parts : List (List Pair)) (all : RowSet) (tss : List (List Transition)) (rest : RowSet) : Type 0 where
-  pub groups : List RowSet
-  pub taken : AreTakenOut T (own_pairs T) (part_of parts) all groups rest
-  pub lists : tss ≡ group_transitions T (part_of parts) keep groups
+-- components were taken out of all conjuncts one after another, each independent of what was then left, these are the transitions of each, and the rest is left
+pub record AreLists (T : Table) (keep : Bool) (conjuncts : List (List Pair)) (all : RowSet) (tss : List (List Transition)) (rest : RowSet) : Type 0 where
+  pub components : List RowSet
+  pub taken : AreTakenOut T (fulfilling_pairs T) (conjunct_of conjuncts) all components rest
+  pub lists : tss ≡ component_transitions T (conjunct_of conjuncts) keep components
 
 abbrev pub AreFactorsOf : {A : Type 0} → Basis A → List (List Transition) → RowSet → List (Factor A) → RowSet → Type 0
 AreFactorsOf b lists all factors rest =
-    AreWithin lists factors × AreLists (table_at b.table.now) b.keep_implied b.parts.lists.items all (map (list_of lists) factors) rest
+    AreWithin lists factors × AreLists (table_at b.table.now) b.keep_implied b.conjuncts.lists.items all (map (list_of lists) factors) rest

@@ -1,4 +1,4 @@
--- Sets of rows by the numbers of the transitions of their groups.
+-- Sets of rows by the numbers of the transitions of their components.
 use Rattle.std.specs.Prelude.{◌≡◌, ℕ, ◌<◌, ◌≤◌, Bool, List, [], ◌∷◌, insert, length, map}
 use Rattle.std.specs.declared.vec.Vec.{Vec}
 use Rattle.ltl_spec.specs.Collections.Sets.{Has}
@@ -29,5 +29,5 @@ abbrev pub AreKeys : {A : Type 0} → Table → Bool → List (List Transition) 
 AreKeys {A} T keep lists states = (key : Vec ℕ A) (state : RowSet) → Has states (key, state) → IsKeyOf T keep lists key.items state
 
 -- both sets of rows have the same transitions
-abbrev pub IsTwin : Table → Bool → RowSet → RowSet → Type 0
-IsTwin T keep state twin = transitions T keep twin ≡ transitions T keep state
+abbrev pub HasSameTransitions : Table → Bool → RowSet → RowSet → Type 0
+HasSameTransitions T keep state same_successors_as = transitions T keep same_successors_as ≡ transitions T keep state

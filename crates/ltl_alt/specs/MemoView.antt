@@ -5,19 +5,19 @@ use Rattle.ltl_spec.specs.Transitions.Pairs.{Pair, join}
 use Rattle.ltl_spec.specs.Transitions.RowTransitions.{Table}
 use Rattle.ltl_alt.specs.declared.memo.JoinKey.{JoinKey}
 use Rattle.ltl_alt.specs.declared.rule.Rule.{Rule}
-use Rattle.ltl_alt.specs.PartView.{part_of}
+use Rattle.ltl_alt.specs.ConjunctTableView.{conjunct_of}
 use Rattle.ltl_alt.specs.StandIns.{IsListed, StandsFor}
 
 -- these pairs stand under the number
 abbrev pub IsListAt : List (List Pair) → List Pair → ℕ → Type 0
-IsListAt lists pairs k = (k < length lists) × (part_of lists k ≡ pairs)
+IsListAt lists pairs k = (k < length lists) × (conjunct_of lists k ≡ pairs)
 
 -- what is kept of two lists at once stands under a number too
 pub record IsJoin (T : Table) (r : Rule) (lists : List (List Pair)) (key : JoinKey) (joined : ℕ) : Type 0 where
   pub left : key.left < length lists
   pub right : key.right < length lists
   pub both : joined < length lists
-  pub listed : IsListed (StandsFor T r) (join (part_of lists key.left) (part_of lists key.right)) (part_of lists joined)
+  pub listed : IsListed (StandsFor T r) (join (conjunct_of lists key.left) (conjunct_of lists key.right)) (conjunct_of lists joined)
 
 -- each remembered join is one
 abbrev pub AreJoins : Table → Rule → List (List Pair) → List (JoinKey × ℕ) → Type 0

@@ -4,7 +4,7 @@ use Rattle.std.specs.Ordering.{nat_cmp}
 use Rattle.ltl_spec.specs.Collections.Sets.{Has, union}
 use Rattle.ltl_spec.specs.Transitions.Cubes.{Cube, join_cubes, is_contradictory}
 use Rattle.ltl_spec.specs.Transitions.RowTransitions.{Transition}
-use Rattle.ltl_spec.proofs.Transitions.ApartMarks.{common}
+use Rattle.ltl_spec.proofs.Transitions.IndependentMarks.{common}
 
 -- both transitions at once, unless their literals contradict each other
 abbrev pub join_transitions : Transition → Transition → Option Transition

@@ -4,12 +4,12 @@ use Rattle.ltl_spec.specs.NormalForms.Normal.{Normal}
 use Rattle.ltl_spec.specs.Transitions.Pairs.{RowSet}
 use Rattle.ltl_spec.specs.Transitions.RowTransitions.{table_of, Transition, transitions}
 use Rattle.ltl_automaton.specs.Net.{Net}
-use Rattle.ltl_automaton.specs.declared.arc.Arc.{Arc}
+use Rattle.ltl_automaton.specs.declared.successor.Successor.{Successor}
 
 -- a transition as an edge to its set of rows
-abbrev pub arc_of : Transition → Arc RowSet
-arc_of t = record { cube = t.cube; key = t.targets; marks = t.marks }
+abbrev pub successor_of : Transition → Successor RowSet
+successor_of t = record { cube = t.cube; key = t.targets; marks = t.marks }
 
 -- each set of rows with its transitions; all are accepting
 abbrev pub net_of : Normal → Bool → Net RowSet
-net_of F keep = record { arcs = λ e. map arc_of (transitions (table_of F) keep e); accepts = λ e. true }
+net_of F keep = record { successors = λ e. map successor_of (transitions (table_of F) keep e); accepts = λ e. true }

@@ -7,7 +7,7 @@ use Rattle.ltl_spec.specs.Transitions.Cubes.{literal_cmp}
 use Rattle.ltl_spec.specs.Transitions.Pairs.{Pair, pair_cmp, join_pair}
 use Rattle.ltl_spec.specs.Transitions.RowTransitions.{Table}
 use Rattle.ltl_spec.specs.Transitions.Pruning.{is_within, IsSafeToDrop}
-use Rattle.ltl_spec.proofs.Transitions.ApartTests.{Asked, ask_nothing, asked_by, shares_some}
+use Rattle.ltl_spec.proofs.Transitions.IndependenceTests.{Support, no_support, support_of, shares_some}
 use Rattle.ltl_alt.specs.declared.fulfilment.Fulfilment.{Fulfilment}
 use Rattle.ltl_alt.specs.declared.prune.Measured as made
 use Rattle.ltl_alt.specs.declared.rule.Rule.{Rule}
@@ -26,13 +26,13 @@ pub record IsListed (S : Pair → Pair → Type 0) (ps qs : List Pair) : Type 0 
 
 -- by a rule u may be listed in place of t
 abbrev pub StandsFor : Table → Rule → Pair → Pair → Type 0
-StandsFor T rule.Equal t u = t ≡ u
-StandsFor T rule.Safe t u = IsSafeToDrop T t u
+StandsFor T rule.Duplicate t u = t ≡ u
+StandsFor T rule.SafelySubsumed t u = IsSafeToDrop T t u
 
 -- what a rule takes
 abbrev pub IsFit : {A : Type 0} → Table → Rule → Fulfilment A → Type 0
-IsFit T rule.Equal f = Unit {0}
-IsFit T rule.Safe f = AreTests T f
+IsFit T rule.Duplicate f = Unit {0}
+IsFit T rule.SafelySubsumed f = AreTests T f
 
 -- some pairs of a set were dropped that are safe to drop
 abbrev pub IsPrunedSafely : {A : Type 0} → Fulfilment A → List Pair → List Pair → Type 0
@@ -44,8 +44,8 @@ IsPruned r f ps qs = (T : Table) → IsFit T r f → IsListed (StandsFor T r) ps
 
 -- which rule keeps the transitions that others imply
 abbrev pub rule_of : Bool → Rule
-rule_of true = rule.Equal
-rule_of false = rule.Safe
+rule_of true = rule.Duplicate
+rule_of false = rule.SafelySubsumed
 
 -- a pair with its size as it was listed
 abbrev pub pair_of : made.Measured → Pair
@@ -64,17 +64,17 @@ abbrev pub asks_less : made.Measured → made.Measured → Bool
 asks_less m n = is_within m.pair n.pair
 
 -- m is smaller, and lacks nothing that n asks for
-abbrev pub is_spare : List Asked → made.Measured → made.Measured → Bool
-is_spare lacks m n = nat_lt m.size n.size && not (shares_some (slice_index_or lacks m.number ask_nothing) (asked_by n.pair))
+abbrev pub is_spare : List Support → made.Measured → made.Measured → Bool
+is_spare lacks m n = nat_lt m.size n.size && not (shares_some (slice_index_or lacks m.number no_support) (support_of n.pair))
 
 -- it is new, and not of the least size
 abbrev pub is_asked : ℕ → made.Measured → Bool
 is_asked least n = not n.is_old && nat_lt least n.size
 
 -- it is, and a smaller one among all may be listed in its place
-abbrev pub has_spare : List Asked → ℕ → List made.Measured → made.Measured → Bool
+abbrev pub has_spare : List Support → ℕ → List made.Measured → made.Measured → Bool
 has_spare lacks least all n = is_asked least n && list_any (λ m. is_spare lacks m n && asks_less m n) all
 
 -- those of the pairs that have none
-abbrev pub least_of : List Asked → ℕ → List made.Measured → List made.Measured → List made.Measured
+abbrev pub least_of : List Support → ℕ → List made.Measured → List made.Measured → List made.Measured
 least_of lacks least all ms = filter (λ n. not (has_spare lacks least all n)) ms

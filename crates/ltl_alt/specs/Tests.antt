@@ -3,8 +3,8 @@ use Rattle.std.specs.Prelude.{◌≡◌, ℕ, ◌<◌, ◌≤◌, List, length, 
 use Rattle.ltl_sets.specs.Literals.{literal_of}
 use Rattle.ltl_spec.specs.NormalForms.Normal.{Bottom, Normal}
 use Rattle.ltl_spec.specs.Transitions.RowTransitions.{Table, table_of, place}
-use Rattle.ltl_spec.proofs.Transitions.ApartTests.{Asked}
-use Rattle.ltl_spec.proofs.Transitions.AskedTests.{AllTell}
+use Rattle.ltl_spec.proofs.Transitions.IndependenceTests.{Support}
+use Rattle.ltl_spec.proofs.Transitions.SupportTests.{AllTell}
 use Rattle.ltl_spec.proofs.Transitions.Fulfilment as spec
 use Rattle.ltl_spec.proofs.Transitions.Fulfilment.{until_test}
 use Rattle.ltl_spec.proofs.Transitions.Steps as steps
@@ -57,12 +57,12 @@ pub record IsUntilTest (T : Table) (ss : List Step) (u : UntilTest) (f : Normal)
   pub test : test_of ss u.step ≡ until_test (place T) f
 
 -- these are the literals and the rows that the steps speak of
-pub record AreLeaves (ss : List Step) (ls : List Asked) : Type 0 where
+pub record AreLeaves (ss : List Step) (ls : List Support) : Type 0 where
   pub count : length ls ≡ length ss
   pub tell : AllTell ls (tests_of (steps_of ss))
 
 -- there is a test for each until row
-pub record AreTestsOf (T : Table) (ss : List Step) (ls : List Asked) (us : List UntilTest) : Type 0 where
+pub record AreTestsOf (T : Table) (ss : List Step) (ls : List Support) (us : List UntilTest) : Type 0 where
   pub core : Normal
   pub is_table : T ≡ table_of core
   pub earlier : AreEarlier (steps_of ss)

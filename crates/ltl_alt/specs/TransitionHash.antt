@@ -1,4 +1,4 @@
--- Transitions are equal when their parts are, and what one feeds a hasher.
+-- Transitions are equal when their conjuncts are, and what one feeds a hasher.
 use Rattle.std.specs.Prelude.{◌≡◌, ◌&&◌, ◌++◌, Bool, true, nat_eq, List, ℕ, IsTrue, refl}
 use Rattle.std.proofs.Common.{ap, sym, ◌∙◌}
 use Rattle.std.specs.Bool.{Decides}

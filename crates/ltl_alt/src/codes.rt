@@ -7,10 +7,10 @@ ghost use Rattle.ltl_spec.proofs.Transitions.Steps.{step_code, tests_of};
 ghost use Rattle.ltl_alt.specs.CodeView.{IsAskedBelow, IsLack, IsWithLeaf, coming_to};
 ghost use Rattle.ltl_alt.specs.Tests.{step_of, steps_of};
 
-use crate::asked::Asked;
 use crate::fulfilment::Fulfilment;
 use crate::pair::Pair;
 use crate::program::Step;
+use crate::support::Support;
 use std::alloc::{AllocError, Allocator};
 
 /// The pair passes.
@@ -109,7 +109,7 @@ fn ask_operands<A: Allocator>(asked: &mut Vec<u8, &A>, codes: &[u8], step: Step)
 
 /// With what a step speaks of that looks for a literal or a row.
 #[inline(always)]
-fn with_leaf(lack: Asked, leaves: &Asked, step: Step) -> Asked
+fn with_leaf(lack: Support, leaves: &Support, step: Step) -> Support
     ensures { IsWithLeaf lack leaves.now (step_of step) result }
 {
     match step {
@@ -123,11 +123,11 @@ fn ask_below<A: Allocator>(
     fulfilment: &Fulfilment<'_, A>,
     asked: &mut Vec<u8, &A>,
     codes: &[u8],
-) -> Asked
+) -> Support
     requires { length asked.old.items ≡ length fulfilment.now.steps.items }
     ensures { IsAskedBelow fulfilment.now codes.now asked.old.items 0 asked.new.items result }
 {
-    let mut lack = Asked::nothing();
+    let mut lack = Support::nothing();
     let mut left = fulfilment.steps.len();
     'steps: while left > 0 {
         left -= 1;
@@ -147,11 +147,11 @@ pub(crate) fn lack<A: Allocator>(
     pair: &Pair,
     codes: &mut Vec<u8, &A>,
     asked: &mut Vec<u8, &A>,
-) -> Result<Asked, AllocError>
+) -> Result<Support, AllocError>
     ensures { IfOk result (IsLack fulfilment.now roots.now pair.now) }
 {
     if roots.is_empty() {
-        return Ok(Asked::nothing());
+        return Ok(Support::nothing());
     }
     put_codes(fulfilment, pair, codes)?;
     asked.clear();

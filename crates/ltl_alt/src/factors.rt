@@ -1,4 +1,4 @@
-//! The transitions of sets of rows, by groups of parts that have nothing to do with each other.
+//! The transitions of sets of rows, by components of conjuncts that have nothing to do with each other.
 
 ghost use Rattle.std.specs.Prelude.{◌≡◌, ℕ, ◌<◌, ◌≤◌, [], true, length, IsSome, OnOk, IfOk, IfSome, IsErrOf};
 ghost use Rattle.ltl_spec.specs.Collections.Sets.{Has};
@@ -17,7 +17,7 @@ use ltl_sets::RowSet;
 use std::alloc::{AllocError, Allocator};
 
 impl<'a, A: Allocator> Finals<'a, A> {
-    /// The transitions of each of the groups of these parts. If this isn't asked, none are made that aren't remembered.
+    /// The transitions of each of the components of these conjuncts. If this isn't asked, none are made that aren't remembered.
     pub(crate) fn factors(
         &mut self,
         basis: &Basis<'_, '_, '_, 'a, A>,
@@ -26,7 +26,7 @@ impl<'a, A: Allocator> Finals<'a, A> {
     ) -> Result<Option<Vec<Factor<'a, A>, &'a A>>, AllocError>
         requires basis { IsBasis basis.now }
         requires finals { HasFinals basis.now self.old }
-        requires inside { (k : ℕ) → Has all.now k → k < length basis.now.parts.lists.items }
+        requires inside { (k : ℕ) → Has all.now k → k < length basis.now.conjuncts.lists.items }
         ensures finals { OnOk result (HasFinals basis.now self.new) }
         ensures factors { IfOk result (λ o. IfSome o (λ v. AreFactorsOf basis.now self.new.lists.keys all.now v.items [])) }
         ensures asked { is_asked ≡ true → IfOk result (λ o. IsSome o) }
@@ -34,20 +34,20 @@ impl<'a, A: Allocator> Finals<'a, A> {
     {
         let mut factors = Vec::new(basis.alloc);
         let mut rest = *all;
-        'groups: while let Some(part) = first(&rest) {
+        'components: while let Some(conjunct) = first(&rest) {
             rest.invariant();
-            let group = basis.parts.group(part, &rest);
-            group.invariant();
-            let Some(factor) = self.factor(basis, &group, is_asked)? else {
+            let component = basis.conjuncts.component(conjunct, &rest);
+            component.invariant();
+            let Some(factor) = self.factor(basis, &component, is_asked)? else {
                 return Ok(None);
             };
             factors.push(factor)?;
-            rest = rest.without(&group);
+            rest = rest.without(&component);
         }
         Ok(Some(factors))
     }
 
-    /// So many transitions a set of rows has at least: how many it has, unless one of its groups is too large to be remembered, else 0.
+    /// So many transitions a set of rows has at least: how many it has, unless one of its components is too large to be remembered, else 0.
     pub(crate) fn transitions_at_least(
         &mut self,
         basis: &Basis<'_, '_, '_, 'a, A>,
@@ -59,7 +59,7 @@ impl<'a, A: Allocator> Finals<'a, A> {
         ensures least { IfOk result (λ n. n ≤ length (spec.transitions (table_at basis.now.table.now) basis.now.keep_implied state.now)) }
         ensures longer { OnOk result (IsLonger self.old.lists.keys self.new.lists.keys) }
     {
-        let Some(all) = basis.parts.numbers(state) else {
+        let Some(all) = basis.conjuncts.numbers(state) else {
             return Ok(0);
         };
         state.invariant();
@@ -84,7 +84,7 @@ impl<'a, A: Allocator> Finals<'a, A> {
         ensures large { IsErrOf result AltFault.TooLarge → most < length (spec.transitions (table_at basis.now.table.now) basis.now.keep_implied state.now) }
         ensures longer { OnOk result (IsLonger self.old.lists.keys self.new.lists.keys) }
     {
-        let Some(all) = basis.parts.numbers(state) else {
+        let Some(all) = basis.conjuncts.numbers(state) else {
             return Ok(Vec::new(basis.alloc));
         };
         state.invariant();

@@ -1,42 +1,47 @@
-//! The transitions of groups of parts, by number.
+//! The transitions of components of conjuncts, by number.
 
 ghost use Rattle.std.specs.Prelude.{◌≡◌, ℕ, ◌<◌, [], true, Bool, map, length, IsSome, IfOk, IfSome, OnOk};
 ghost use Rattle.ltl_spec.specs.Collections.Sets.{Has, IsRising};
 ghost use Rattle.ltl_spec.specs.Transitions.Pairs as spec_pairs;
 ghost use Rattle.ltl_spec.specs.Transitions.RowTransitions as spec;
-ghost use Rattle.ltl_spec.proofs.Transitions.PartJoins.{join_of};
+ghost use Rattle.ltl_spec.proofs.Transitions.ConjunctJoins.{join_of};
 ghost use Rattle.ltl_spec.proofs.Transitions.ProductTransitions.{transitions_of};
 ghost use Rattle.ltl_alt.specs.BasisView.{IsBasis};
 ghost use Rattle.ltl_alt.specs.FinalView.{HasFinals, IsFactorOf, IsFinal, IsListOf, IsLonger, IsWithin, list_of, made_of};
-ghost use Rattle.ltl_alt.specs.GroupView.{HasGroups};
-ghost use Rattle.ltl_alt.specs.PartView.{part_of};
+ghost use Rattle.ltl_alt.specs.ComponentView.{HasComponents};
+ghost use Rattle.ltl_alt.specs.ConjunctTableView.{conjunct_of};
 ghost use Rattle.ltl_alt.specs.TransitionView.{AllSets, table_at};
 
 use crate::basis::Basis;
-use crate::groups::{Groups, group_pairs};
+use crate::components::{Components, component_pairs};
 use crate::implied::unimplied;
 use crate::marks::marked;
 use crate::pair::Pair;
 use crate::transition::Transition;
 use crate::transition_list::TransitionList;
 use indexmap::IndexMap;
-use ltl_automaton::Distinct;
+use ltl_automaton::Interner;
 use ltl_sets::RowSet;
 use std::alloc::{AllocError, Allocator};
 use std::hash::{BuildHasherDefault, FoldHasher};
 
-/// The transitions of groups, each list of which stands once.
+/// The transitions of components, each list of which stands once.
 #[derive(Drop)]
 pub(crate) struct Finals<'a, A: Allocator> {
-    pub(crate) groups: Groups<'a, A>,
-    pub(crate) lists: Distinct<'a, TransitionList<'a, A>, A>,
+    pub(crate) components: Components<'a, A>,
+    pub(crate) lists: Interner<'a, TransitionList<'a, A>, A>,
     /// For lists of pairs the numbers of their transitions.
     pub(crate) of_lists: IndexMap<usize, usize, BuildHasherDefault<FoldHasher>, &'a A>,
-    /// For the groups that were met the numbers of their transitions, unless there was no room.
-    pub(crate) of_groups: IndexMap<RowSet, Option<usize>, BuildHasherDefault<FoldHasher>, &'a A>,
+    /// For the components that were met the numbers of their transitions, unless there was no room.
+    pub(crate) of_components: IndexMap<
+        RowSet,
+        Option<usize>,
+        BuildHasherDefault<FoldHasher>,
+        &'a A,
+    >,
 }
 
-/// The transitions of a group: those with a number, or others.
+/// The transitions of a component: those with a number, or others.
 #[derive(Drop)]
 pub(crate) enum Factor<'a, A: Allocator> {
     Known(usize),
@@ -61,31 +66,32 @@ fn pair_transitions<'a, A: Allocator>(
     Ok(TransitionList { transitions })
 }
 
-/// The transitions of a group, which are not remembered.
+/// The transitions of a component, which are not remembered.
 fn made_transitions<'a, A: Allocator>(
     basis: &Basis<'_, '_, '_, 'a, A>,
-    group: &RowSet,
+    component: &RowSet,
 ) -> Result<TransitionList<'a, A>, AllocError>
     requires basis { IsBasis basis.now }
-    requires inside { (k : ℕ) → Has group.now k → k < length basis.now.parts.lists.items }
-    ensures { IfOk result (λ l. l ≡ transitions_of (table_at basis.now.table.now) basis.now.keep_implied (join_of (part_of basis.now.parts.lists.items) group.now)) }
+    requires inside { (k : ℕ) → Has component.now k → k < length basis.now.conjuncts.lists.items }
+    ensures { IfOk result (λ l. l ≡ transitions_of (table_at basis.now.table.now) basis.now.keep_implied (join_of
+        (conjunct_of basis.now.conjuncts.lists.items) component.now)) }
 {
-    let pairs = group_pairs(basis, group)?;
+    let pairs = component_pairs(basis, component)?;
     pair_transitions(basis, pairs.as_slice())
 }
 
 impl<'a, A: Allocator> Finals<'a, A> {
-    /// No group was met yet.
-    pub(crate) fn new(alloc: &'a A, groups: Groups<'a, A>) -> Self
-        ensures groups { result.groups ≡ groups.entry }
+    /// No component was met yet.
+    pub(crate) fn new(alloc: &'a A, components: Components<'a, A>) -> Self
+        ensures components { result.components ≡ components.entry }
         ensures lists { result.of_lists.entries ≡ [] }
-        ensures met { result.of_groups.entries ≡ [] }
+        ensures met { result.of_components.entries ≡ [] }
     {
         Finals {
-            groups,
-            lists: Distinct::new(alloc),
+            components,
+            lists: Interner::new(alloc),
             of_lists: IndexMap::new(alloc),
-            of_groups: IndexMap::new(alloc),
+            of_components: IndexMap::new(alloc),
         }
     }
 
@@ -116,85 +122,89 @@ impl<'a, A: Allocator> Finals<'a, A> {
     ) -> Result<usize, AllocError>
         requires basis { IsBasis basis.now }
         requires finals { HasFinals basis.now self.old }
-        requires within { list < length self.old.groups.memo.lists.keys }
-        requires sets { AllSets (map (spec.with_marks (table_at basis.now.table.now)) (part_of self.old.groups.memo.lists.keys list)) }
-        requires rising { IsRising spec_pairs.pair_cmp (part_of self.old.groups.memo.lists.keys list) }
+        requires within { list < length self.old.components.memo.lists.keys }
+        requires sets { AllSets (map (spec.with_marks (table_at basis.now.table.now)) (conjunct_of self.old.components.memo.lists.keys list)) }
+        requires rising { IsRising spec_pairs.pair_cmp (conjunct_of self.old.components.memo.lists.keys list) }
         ensures finals { OnOk result (HasFinals basis.now self.new) }
-        ensures number { IfOk result (λ n. IsListOf (table_at basis.now.table.now) basis.now.keep_implied self.old.groups.memo.lists.keys self.new.lists.keys list n) }
+        ensures number { IfOk result (λ n. IsListOf
+            (table_at basis.now.table.now) basis.now.keep_implied self.old.components.memo.lists.keys self.new.lists.keys list n) }
         ensures longer { OnOk result (IsLonger self.old.lists.keys self.new.lists.keys) }
     {
         if let Some(number) = self.of_lists.get(&list).copied() {
             return Ok(number);
         }
-        let transitions = pair_transitions(basis, self.groups.memo.pairs(list))?;
+        let transitions = pair_transitions(basis, self.components.memo.pairs(list))?;
         let number = self.lists.number(transitions)?;
         self.of_lists.insert(list, number)?;
         Ok(number)
     }
 
-    /// The number of the transitions of a group that wasn't met before, unless there is no room for its list.
+    /// The number of the transitions of a component that wasn't met before, unless there is no room for its list.
     fn new_number(
         &mut self,
         basis: &Basis<'_, '_, '_, 'a, A>,
-        group: &RowSet,
+        component: &RowSet,
     ) -> Result<Option<usize>, AllocError>
         requires basis { IsBasis basis.now }
         requires finals { HasFinals basis.now self.old }
-        requires inside { (k : ℕ) → Has group.now k → k < length basis.now.parts.lists.items }
+        requires inside { (k : ℕ) → Has component.now k → k < length basis.now.conjuncts.lists.items }
         ensures finals { OnOk result (HasFinals basis.now self.new) }
-        ensures number { IfOk result (λ o. IfSome o (IsFinal (table_at basis.now.table.now) basis.now.keep_implied basis.now.parts.lists.items self.new.lists.keys group.now)) }
+        ensures number { IfOk result (λ o. IfSome o (IsFinal
+            (table_at basis.now.table.now) basis.now.keep_implied basis.now.conjuncts.lists.items self.new.lists.keys component.now)) }
         ensures longer { OnOk result (IsLonger self.old.lists.keys self.new.lists.keys) }
     {
-        let Some(list) = self.groups.list(basis, group)? else {
+        let Some(list) = self.components.list(basis, component)? else {
             return Ok(None);
         };
         let number = self.of_list(basis, list)?;
         Ok(Some(number))
     }
 
-    /// The number of the transitions of a group, unless there is no room for its list.
+    /// The number of the transitions of a component, unless there is no room for its list.
     fn number(
         &mut self,
         basis: &Basis<'_, '_, '_, 'a, A>,
-        group: &RowSet,
+        component: &RowSet,
     ) -> Result<Option<usize>, AllocError>
         requires basis { IsBasis basis.now }
         requires finals { HasFinals basis.now self.old }
-        requires inside { (k : ℕ) → Has group.now k → k < length basis.now.parts.lists.items }
+        requires inside { (k : ℕ) → Has component.now k → k < length basis.now.conjuncts.lists.items }
         ensures finals { OnOk result (HasFinals basis.now self.new) }
-        ensures number { IfOk result (λ o. IfSome o (IsFinal (table_at basis.now.table.now) basis.now.keep_implied basis.now.parts.lists.items self.new.lists.keys group.now)) }
+        ensures number { IfOk result (λ o. IfSome o (IsFinal
+            (table_at basis.now.table.now) basis.now.keep_implied basis.now.conjuncts.lists.items self.new.lists.keys component.now)) }
         ensures longer { OnOk result (IsLonger self.old.lists.keys self.new.lists.keys) }
     {
-        if let Some(number) = self.of_groups.get(group).copied() {
+        if let Some(number) = self.of_components.get(component).copied() {
             return Ok(number);
         }
-        let number = self.new_number(basis, group)?;
-        self.of_groups.insert(*group, number)?;
+        let number = self.new_number(basis, component)?;
+        self.of_components.insert(*component, number)?;
         Ok(number)
     }
 
-    /// The transitions of a group. If this isn't asked, none are made that aren't remembered.
+    /// The transitions of a component. If this isn't asked, none are made that aren't remembered.
     pub(crate) fn factor(
         &mut self,
         basis: &Basis<'_, '_, '_, 'a, A>,
-        group: &RowSet,
+        component: &RowSet,
         is_asked: bool,
     ) -> Result<Option<Factor<'a, A>>, AllocError>
         requires basis { IsBasis basis.now }
         requires finals { HasFinals basis.now self.old }
-        requires inside { (k : ℕ) → Has group.now k → k < length basis.now.parts.lists.items }
+        requires inside { (k : ℕ) → Has component.now k → k < length basis.now.conjuncts.lists.items }
         ensures finals { OnOk result (HasFinals basis.now self.new) }
-        ensures factor { IfOk result (λ o. IfSome o (IsFactorOf (table_at basis.now.table.now) basis.now.keep_implied basis.now.parts.lists.items self.new.lists.keys group.now)) }
+        ensures factor { IfOk result (λ o. IfSome o (IsFactorOf
+            (table_at basis.now.table.now) basis.now.keep_implied basis.now.conjuncts.lists.items self.new.lists.keys component.now)) }
         ensures asked { is_asked ≡ true → IfOk result (λ o. IsSome o) }
         ensures longer { OnOk result (IsLonger self.old.lists.keys self.new.lists.keys) }
     {
-        if let Some(number) = self.number(basis, group)? {
+        if let Some(number) = self.number(basis, component)? {
             return Ok(Some(Factor::Known(number)));
         }
         if !is_asked {
             return Ok(None);
         }
-        let transitions = made_transitions(basis, group)?;
+        let transitions = made_transitions(basis, component)?;
         Ok(Some(Factor::Made(transitions)))
     }
 }

@@ -1,20 +1,20 @@
 //! Which until rows pairs fulfil, by evaluation of the formula.
 
 ghost use Rattle.std.specs.Prelude.{◌≡◌, ◌<◌, length, map, slice_get, slice_index_or, Some, IfOk, OnOk, false};
-ghost use Rattle.ltl_formula.specs.GraphView.{IsBelow};
+ghost use Rattle.ltl_formula.specs.SharedNodesView.{IsBelow};
 ghost use Rattle.ltl_spec.specs.NormalForms.Normal.{Bottom};
-ghost use Rattle.ltl_spec.proofs.Transitions.ApartTests.{ask_nothing};
+ghost use Rattle.ltl_spec.proofs.Transitions.IndependenceTests.{no_support};
 ghost use Rattle.ltl_spec.proofs.Transitions.Fulfilment.{passes};
 ghost use Rattle.ltl_spec.proofs.Transitions.Steps.{step_passes, tests_of};
 ghost use Rattle.ltl_alt.specs.Steps.{AreUntilSteps, until_step};
 ghost use Rattle.ltl_alt.specs.Tests.{AreTests, IsUntilTest, step_of, steps_of};
 ghost use Rattle.ltl_alt.specs.TransitionView.{table_at};
 
-use crate::asked::Asked;
 use crate::leaves::{leaves, leaves_at};
 use crate::pair::Pair;
 use crate::place::{place, until_count, until_row};
 use crate::program::{Program, Step, until_steps};
+use crate::support::Support;
 use ltl_formula::{Row, Table};
 use std::alloc::{AllocError, Allocator};
 
@@ -30,7 +30,7 @@ pub(crate) struct UntilTest {
 pub(crate) struct Fulfilment<'a, A: Allocator> {
     pub(crate) steps: Vec<Step, &'a A>,
     /// The literals and the rows that each step speaks of.
-    pub(crate) leaves: Vec<Asked, &'a A>,
+    pub(crate) leaves: Vec<Support, &'a A>,
     pub(crate) untils: Vec<UntilTest, &'a A>,
 }
 
@@ -143,8 +143,8 @@ impl<'a, A: Allocator> Fulfilment<'a, A> {
     }
 
     /// The literals and the rows that the step of that number speaks of.
-    pub(crate) fn leaves(&self, number: usize) -> Asked
-        ensures { result ≡ slice_index_or self.now.leaves.items number ask_nothing }
+    pub(crate) fn leaves(&self, number: usize) -> Support
+        ensures { result ≡ slice_index_or self.now.leaves.items number no_support }
     {
         leaves_at(self.leaves.as_slice(), number)
     }

@@ -4,7 +4,7 @@ ghost use Rattle.std.specs.Prelude.{◌≡◌, ◌≤◌, List, [], Bool, length
 ghost use Rattle.ltl_spec.specs.Transitions.RowTransitions as spec;
 ghost use Rattle.ltl_alt.specs.BasisView.{IsBasis};
 ghost use Rattle.ltl_alt.specs.FinalView.{AreWithin, HasFinals};
-ghost use Rattle.ltl_alt.specs.KeyView.{AreKeys, AreNumbersOf, IsKeyOf, IsTwin};
+ghost use Rattle.ltl_alt.specs.KeyView.{AreKeys, AreNumbersOf, IsKeyOf, HasSameTransitions};
 ghost use Rattle.ltl_alt.specs.TransitionView.{table_at};
 
 use crate::basis::Basis;
@@ -14,7 +14,7 @@ use ltl_sets::RowSet;
 use std::alloc::{AllocError, Allocator};
 use std::hash::{BuildHasherDefault, FoldHasher};
 
-/// The sorted numbers of the transitions of the groups of a set of rows.
+/// The sorted numbers of the transitions of the components of a set of rows.
 type Key<'a, A> = Vec<usize, &'a A>;
 
 /// For each key that was met the first set of rows that has it.
@@ -79,9 +79,9 @@ impl<'a, A: Allocator> Keys<'a, A> {
         Ok(None)
     }
 
-    /// A set of rows that was asked for before and has the transitions of this one, if one is remembered. Else this one is, unless one of its groups is
+    /// A set of rows that was asked for before and has the transitions of this one, if one is remembered. Else this one is, unless one of its components is
     /// too large.
-    pub(crate) fn twin(
+    pub(crate) fn same_successors_as(
         &mut self,
         basis: &Basis<'_, '_, '_, 'a, A>,
         finals: &mut Finals<'a, A>,
@@ -92,9 +92,9 @@ impl<'a, A: Allocator> Keys<'a, A> {
         requires keys { AreKeys (table_at basis.now.table.now) basis.now.keep_implied finals.old.lists.keys self.old.states.entries }
         ensures finals { OnOk result (HasFinals basis.now finals.new) }
         ensures keys { OnOk result (AreKeys (table_at basis.now.table.now) basis.now.keep_implied finals.new.lists.keys self.new.states.entries) }
-        ensures twin { IfOk result (λ o. IfSome o (IsTwin (table_at basis.now.table.now) basis.now.keep_implied state.now)) }
+        ensures same_successors_as { IfOk result (λ o. IfSome o (HasSameTransitions (table_at basis.now.table.now) basis.now.keep_implied state.now)) }
     {
-        let Some(all) = basis.parts.numbers(state) else {
+        let Some(all) = basis.conjuncts.numbers(state) else {
             return Ok(None);
         };
         state.invariant();

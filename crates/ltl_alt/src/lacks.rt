@@ -4,19 +4,19 @@ ghost use Rattle.std.specs.Prelude.{◌≡◌, ℕ, [], List, IfOk, OnOk};
 ghost use Rattle.ltl_spec.specs.Transitions.Pairs.{Within};
 ghost use Rattle.ltl_alt.specs.CodeView.{AreLacks, AreMoreLacks, HasLack};
 
-use crate::asked::Asked;
 use crate::codes::lack;
 use crate::fulfilment::Fulfilment;
 use crate::pair::Pair;
-use ltl_automaton::Distinct;
+use crate::support::Support;
+use ltl_automaton::Interner;
 use ltl_sets::RowSet;
 use std::alloc::{AllocError, Allocator};
 
 /// Pairs that were looked at, and for each of them what it lacks.
 #[derive(Drop)]
 pub(crate) struct Lacks<'a, A: Allocator> {
-    pub(crate) cores: Distinct<'a, Pair, A>,
-    pub(crate) lacks: Vec<Asked, &'a A>,
+    pub(crate) cores: Interner<'a, Pair, A>,
+    pub(crate) lacks: Vec<Support, &'a A>,
     codes: Vec<u8, &'a A>,
     asked: Vec<u8, &'a A>,
 }
@@ -47,7 +47,7 @@ impl<'a, A: Allocator> Lacks<'a, A> {
         ensures lacks { result.lacks.items ≡ [] }
     {
         Lacks {
-            cores: Distinct::new(alloc),
+            cores: Interner::new(alloc),
             lacks: Vec::new(alloc),
             codes: Vec::new(alloc),
             asked: Vec::new(alloc),

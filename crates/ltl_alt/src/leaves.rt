@@ -1,36 +1,36 @@
 //! The literals and the rows that steps of tests speak of.
 
 ghost use Rattle.std.specs.Prelude.{◌≡◌, ℕ, slice_get, slice_index_or, Some, IfOk};
-ghost use Rattle.ltl_spec.proofs.Transitions.ApartTests.{ask_nothing};
-ghost use Rattle.ltl_spec.proofs.Transitions.AskedTests.{step_leaves};
+ghost use Rattle.ltl_spec.proofs.Transitions.IndependenceTests.{no_support};
+ghost use Rattle.ltl_spec.proofs.Transitions.SupportTests.{step_leaves};
 ghost use Rattle.ltl_alt.specs.Tests.{AreLeaves, AreSmall, IsSmall, step_of};
 
-use crate::asked::Asked;
 use crate::pair::Pair;
 use crate::program::Step;
+use crate::support::Support;
 use ltl_sets::RowSet;
 use std::alloc::{AllocError, Allocator};
 
 /// What the step of that number speaks of, if there is one.
-pub(crate) fn leaves_at(leaves: &[Asked], number: usize) -> Asked
-    ensures { result ≡ slice_index_or leaves.now number ask_nothing }
+pub(crate) fn leaves_at(leaves: &[Support], number: usize) -> Support
+    ensures { result ≡ slice_index_or leaves.now number no_support }
 {
     if number < leaves.len() {
         leaves[number]
     } else {
-        Asked::nothing()
+        Support::nothing()
     }
 }
 
 /// What a step speaks of, by what those before it do.
-fn step_leaves(before: &[Asked], step: Step) -> Asked
+fn step_leaves(before: &[Support], step: Step) -> Support
     requires { IsSmall step }
     ensures { result ≡ step_leaves before.now (step_of step) }
 {
     match step {
-        Step::Always | Step::Never => Asked::nothing(),
-        Step::Reads(literal) => Asked::by(&Pair::now(literal)),
-        Step::Leads(place) => Asked::by(&Pair::later(RowSet::single(place))),
+        Step::Always | Step::Never => Support::nothing(),
+        Step::Reads(literal) => Support::by(&Pair::now(literal)),
+        Step::Leads(place) => Support::by(&Pair::later(RowSet::single(place))),
         Step::Both(i, j) | Step::Either(i, j) => {
             leaves_at(before, i).together(&leaves_at(before, j))
         }
@@ -41,7 +41,7 @@ fn step_leaves(before: &[Asked], step: Step) -> Asked
 pub(crate) fn leaves<'a, A: Allocator>(
     alloc: &'a A,
     steps: &[Step],
-) -> Result<Vec<Asked, &'a A>, AllocError>
+) -> Result<Vec<Support, &'a A>, AllocError>
     requires { AreSmall steps.now }
     ensures { IfOk result (λ v. AreLeaves steps.now v.items) }
 {

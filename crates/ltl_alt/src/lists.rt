@@ -73,7 +73,7 @@ pub(crate) fn both<'a, A: Allocator>(
 }
 
 /// Sorts the pairs, and keeps each once. Lists that are joined or put one behind the other have long runs in order, and a stable sort keeps these.
-pub(crate) fn make_distinct<A: Allocator>(pairs: &mut Vec<Pair, &A>) -> Result<(), AllocError>
+pub(crate) fn sort_dedup<A: Allocator>(pairs: &mut Vec<Pair, &A>) -> Result<(), AllocError>
     ensures { OnOk result (pairs.new.items ≡ spec_sets.set_of spec_pairs.pair_cmp pairs.old.items) }
 {
     pairs.sort_by(|p, q| p.cmp_list(q))?;

@@ -5,7 +5,7 @@ ghost use Rattle.ltl_spec.specs.Transitions.Pairs.{join};
 ghost use Rattle.ltl_spec.specs.Transitions.RowTransitions as spec;
 ghost use Rattle.ltl_alt.specs.declared.rule.Rule as made_rule;
 ghost use Rattle.ltl_alt.specs.MemoView.{AreJoins, IsJoin, IsListAt};
-ghost use Rattle.ltl_alt.specs.PartView.{IsLonger, part_of};
+ghost use Rattle.ltl_alt.specs.ConjunctTableView.{IsLonger, conjunct_of};
 ghost use Rattle.ltl_alt.specs.StandIns.{IsFit, IsListed, StandsFor};
 
 use crate::lists::join;
@@ -14,7 +14,7 @@ use crate::pair_set::PairSet;
 use crate::prune::prune;
 use crate::rule::Pruning;
 use indexmap::IndexMap;
-use ltl_automaton::Distinct;
+use ltl_automaton::Interner;
 use std::alloc::{AllocError, Allocator};
 use std::hash::{BuildHasherDefault, FoldHasher};
 
@@ -31,7 +31,7 @@ pub(crate) struct JoinKey {
 /// Lists of pairs, each of which stands once, and joins of them.
 #[derive(Drop)]
 pub(crate) struct Memo<'a, A: Allocator> {
-    pub(crate) lists: Distinct<'a, PairSet<'a, A>, A>,
+    pub(crate) lists: Interner<'a, PairSet<'a, A>, A>,
     /// For what was joined the number of the list that was kept.
     pub(crate) joins: IndexMap<JoinKey, usize, BuildHasherDefault<FoldHasher>, &'a A>,
     /// For so many pairs and joins more there is room.
@@ -45,7 +45,7 @@ impl<'a, A: Allocator> Memo<'a, A> {
         ensures joins { result.joins.entries ≡ [] }
     {
         Memo {
-            lists: Distinct::new(alloc),
+            lists: Interner::new(alloc),
             joins: IndexMap::new(alloc),
             room: ROOM,
         }
@@ -54,7 +54,7 @@ impl<'a, A: Allocator> Memo<'a, A> {
     /// The list with that number.
     pub(crate) fn pairs(&self, list: usize) -> &[Pair]
         requires { list < length self.now.lists.keys }
-        ensures { result.now ≡ part_of self.now.lists.keys list }
+        ensures { result.now ≡ conjunct_of self.now.lists.keys list }
     {
         self.lists.get(list).as_slice()
     }
@@ -76,7 +76,8 @@ impl<'a, A: Allocator> Memo<'a, A> {
 
     /// The number of a remembered join.
     fn known(&self, key: &JoinKey) -> Option<usize>
-        ensures { (T : spec.Table) → (r : made_rule.Rule) → AreJoins T r self.now.lists.keys self.now.joins.entries → IfSome result (IsJoin T r self.now.lists.keys key.now) }
+        ensures { (T : spec.Table) → (r : made_rule.Rule) → AreJoins T r self.now.lists.keys self.now.joins.entries
+            → IfSome result (IsJoin T r self.now.lists.keys key.now) }
     {
         self.joins.get(key).copied()
     }
@@ -90,7 +91,7 @@ impl<'a, A: Allocator> Memo<'a, A> {
     ) -> Result<PairSet<'a, A>, AllocError>
         requires within { key.now.left < length self.now.lists.keys × key.now.right < length self.now.lists.keys }
         ensures { (T : spec.Table) → IsFit T pruning.now.rule pruning.now.fulfilment.now
-            → IfOk result (IsListed (StandsFor T pruning.now.rule) (join (part_of self.now.lists.keys key.now.left) (part_of self.now.lists.keys key.now.right))) }
+            → IfOk result (IsListed (StandsFor T pruning.now.rule) (join (conjunct_of self.now.lists.keys key.now.left) (conjunct_of self.now.lists.keys key.now.right))) }
     {
         let left = self.pairs(key.left);
         let right = self.pairs(key.right);
@@ -108,9 +109,11 @@ impl<'a, A: Allocator> Memo<'a, A> {
         right: usize,
     ) -> Result<Option<usize>, AllocError>
         requires within { left < length self.old.lists.keys × right < length self.old.lists.keys }
-        ensures joins { (T : spec.Table) → IsFit T pruning.now.rule pruning.now.fulfilment.now → AreJoins T pruning.now.rule self.old.lists.keys self.old.joins.entries
+        ensures joins { (T : spec.Table) → IsFit T pruning.now.rule pruning.now.fulfilment.now
+            → AreJoins T pruning.now.rule self.old.lists.keys self.old.joins.entries
             → OnOk result (AreJoins T pruning.now.rule self.new.lists.keys self.new.joins.entries) }
-        ensures joined { (T : spec.Table) → IsFit T pruning.now.rule pruning.now.fulfilment.now → AreJoins T pruning.now.rule self.old.lists.keys self.old.joins.entries
+        ensures joined { (T : spec.Table) → IsFit T pruning.now.rule pruning.now.fulfilment.now
+            → AreJoins T pruning.now.rule self.old.lists.keys self.old.joins.entries
             → IfOk result (λ o. IfSome o (IsJoin T pruning.now.rule self.new.lists.keys (record { left = left; right = right }))) }
         ensures longer { OnOk result (IsLonger self.old.lists.keys self.new.lists.keys) }
     {

@@ -1,7 +1,7 @@
 //! Which lists of rows are needed to list the pairs of a row.
 
 ghost use Rattle.std.specs.Prelude.{◌≡◌, ℕ, ◌<◌, ◌≤◌, ◌+◌, length, slice_get, Some, IfOk, vec_len, true};
-ghost use Rattle.ltl_formula.specs.GraphView.{IsBelow};
+ghost use Rattle.ltl_formula.specs.SharedNodesView.{IsBelow};
 ghost use Rattle.ltl_formula.specs.declared.row.Row as made;
 ghost use Rattle.ltl_alt.specs.NeedsView.{join_needs, need_at, asked_one, asked_of, asked_second, AllAsked, IsSecondNeeded, IsWithin};
 

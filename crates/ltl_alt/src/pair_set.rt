@@ -82,7 +82,7 @@ pub fn pairs<'a, A: Allocator>(
 {
     let none = Fulfilment::nothing(alloc);
     let pruning = Pruning {
-        rule: Rule::Equal,
+        rule: Rule::Duplicate,
         fulfilment: &none,
     };
     let mut lists = RowLists::new(alloc, table)?;

@@ -1,4 +1,4 @@
-//! One transition of each of some groups at once, in every way.
+//! One transition of each of some components at once, in every way.
 
 ghost use Rattle.std.specs.Prelude.{◌≡◌, ℕ, ◌≤◌, ◌++◌, filter_map, map, drop, IfOk, OnOk};
 ghost use Rattle.std.specs.List.Sorted.{IsPermutation, IsSorted};

@@ -4,7 +4,7 @@
 //! step is made of earlier ones, so that one pass tells all of them, and equal ones are one step.
 
 ghost use Rattle.std.specs.Prelude.{◌≡◌, ℕ, ◌+◌, ◌<◌, ◌≤◌, length, slice_get, Some, IfOk, OnOk, true};
-ghost use Rattle.ltl_formula.specs.GraphView.{IsBelow};
+ghost use Rattle.ltl_formula.specs.SharedNodesView.{IsBelow};
 ghost use Rattle.ltl_formula.specs.TableView.{IsNamedBelow, is_elementary_row};
 ghost use Rattle.ltl_spec.proofs.Transitions.Fulfilment as test;
 ghost use Rattle.ltl_alt.specs.NeedsView.{AllAsked};
@@ -13,7 +13,7 @@ ghost use Rattle.ltl_alt.specs.Tests.{HasOperands, IsSmall, step_of};
 
 use crate::needs::{Need, need_of, until_needs};
 use crate::place::place;
-use ltl_automaton::Distinct;
+use ltl_automaton::Interner;
 use ltl_formula::{Row, Table};
 use ltl_sets::{Literal, RowSet};
 use std::alloc::{AllocError, Allocator};
@@ -45,12 +45,12 @@ pub(crate) struct RowSteps {
 /// Steps of the rows of a table.
 #[derive(Drop)]
 pub(crate) struct Program<'a, A: Allocator> {
-    pub(crate) steps: Distinct<'a, Step, A>,
+    pub(crate) steps: Interner<'a, Step, A>,
     pub(crate) rows: Vec<RowSteps, &'a A>,
 }
 
 /// The number of a step.
-fn number<A: Allocator>(steps: &mut Distinct<'_, Step, A>, step: Step) -> Result<usize, AllocError>
+fn number<A: Allocator>(steps: &mut Interner<'_, Step, A>, step: Step) -> Result<usize, AllocError>
     ensures { IfOk result (λ k. AreOrdered steps.old.keys → IsSmall step → HasOperands (length steps.old.keys) (step_of step)
         → IsNumbered steps.old.keys steps.new.keys k (test_by steps.old.keys step)) }
 {
@@ -228,7 +228,7 @@ pub(crate) fn until_steps<'a, A: Allocator>(
     table.invariant();
     let needs = until_needs(alloc, table)?;
     let mut program = Program {
-        steps: Distinct::new(alloc),
+        steps: Interner::new(alloc),
         rows: Vec::new(alloc),
     };
     'rows: for k in 0..table.len() {

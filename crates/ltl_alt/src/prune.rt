@@ -6,14 +6,14 @@ ghost use Rattle.ltl_spec.specs.Transitions.Pairs.{pair_cmp};
 ghost use Rattle.ltl_alt.specs.CodeView.{AreLacks, AreSpares};
 ghost use Rattle.ltl_alt.specs.StandIns.{IsPruned, IsPrunedSafely, has_spare, is_asked, least_of, pair_of};
 
-use crate::asked::Asked;
 use crate::fulfilment::Fulfilment;
 use crate::lacks::{Lacks, core_of, rows_of};
 use crate::leaves::leaves_at;
-use crate::lists::make_distinct;
+use crate::lists::sort_dedup;
 use crate::pair::Pair;
 use crate::roots::open_steps;
 use crate::rule::{Pruning, Rule};
+use crate::support::Support;
 use least::{Below, Counting, Lookup};
 use ltl_models::elements::{has_literal, has_row, tally_literals, tally_rows};
 use smallvec::SmallVec;
@@ -26,7 +26,7 @@ const MANY: usize = 1024;
 const SAMPLE: usize = 64;
 
 /// So far apart, where the list is thought of as a ring: a prime, so that no order of the list is met.
-const APART: usize = 2_654_435_761;
+const STRIDE: usize = 2_654_435_761;
 
 /// A pair, how many literals and rows it asks for, its number if it may stand in for others, and whether it stood on the left side of a join already.
 #[derive(Clone, Copy)]
@@ -88,7 +88,7 @@ impl Below for Measured {
 /// What pairs lack to fulfil until rows, by their numbers.
 #[derive(Drop)]
 struct Lacking<'b> {
-    lacks: &'b [Asked],
+    lacks: &'b [Support],
 }
 
 /// A smaller pair counts that lacks nothing that the other one asks for.
@@ -100,7 +100,7 @@ impl<'b> Counting<Measured> for Lacking<'b> {
     #[inline(always)]
     fn counts(&self, other: &Measured, item: &Measured) -> bool {
         other.size < item.size
-            && !leaves_at(self.lacks, other.number).shares_some(&Asked::by(&item.pair))
+            && !leaves_at(self.lacks, other.number).shares_some(&Support::by(&item.pair))
     }
 }
 
@@ -224,7 +224,7 @@ fn seem_least<A: Allocator>(
         return false;
     }
     for k in 0..SAMPLE {
-        if let Some(m) = measured.get(k.wrapping_mul(APART) % measured.len()) {
+        if let Some(m) = measured.get(k.wrapping_mul(STRIDE) % measured.len()) {
             if has_spare(lookup, lacks, least, m) {
                 return false;
             }
@@ -300,13 +300,13 @@ pub(crate) fn prune<'a, A: Allocator>(
 ) -> Result<Vec<Pair, &'a A>, AllocError>
     ensures { IfOk result (λ v. IsPruned pruning.now.rule pruning.now.fulfilment.now pairs.entry.items v.items) }
 {
-    make_distinct(&mut pairs)?;
+    sort_dedup(&mut pairs)?;
     if pairs.len() < 2 {
         return Ok(pairs);
     }
     match pruning.rule {
-        Rule::Equal => Ok(pairs),
-        Rule::Safe => {
+        Rule::Duplicate => Ok(pairs),
+        Rule::SafelySubsumed => {
             prune_safely(alloc, pruning.fulfilment, left, right, &mut pairs)?;
             Ok(pairs)
         }

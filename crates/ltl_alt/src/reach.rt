@@ -7,40 +7,40 @@ ghost use Rattle.ltl_formula.specs.TableView.{core_of};
 ghost use Rattle.ltl_alt.specs.BasisView.{IsBasis};
 ghost use Rattle.ltl_alt.specs.FinalView.{HasFinals};
 ghost use Rattle.ltl_alt.specs.KeyView.{AreKeys};
-ghost use Rattle.ltl_alt.specs.ReachView.{arc_of, net_of};
+ghost use Rattle.ltl_alt.specs.ReachView.{successor_of, net_of};
 ghost use Rattle.ltl_alt.specs.TransitionView.{table_at};
 
 use crate::basis::Basis;
+use crate::components::Components;
+use crate::conjunct_table::ConjunctTable;
 use crate::finals::Finals;
 use crate::fulfilment::Fulfilment;
-use crate::groups::Groups;
 use crate::keys::Keys;
-use crate::parts::Parts;
 use crate::place::{place, until_count};
 use crate::rule::{Pruning, Rule};
 use crate::transition::Transition;
-use ltl_automaton::{Arc, AutomatonFault as AltFault, Limits, Successors, explore_from};
+use ltl_automaton::{AutomatonFault as AltFault, Limits, Successor, Successors, explore_from};
 use ltl_formula::Table;
 use ltl_models::{Gba, MOST_EDGES, MOST_STATES};
 use ltl_sets::RowSet;
 use std::alloc::{AllocError, Allocator};
 
 /// The transitions as edges to their sets of rows.
-fn arcs_of<'c, B: Allocator>(
+fn successors_of<'c, B: Allocator>(
     alloc: &'c B,
     transitions: &[Transition],
-) -> Result<Vec<Arc<RowSet>, &'c B>, AllocError>
-    ensures { IfOk result (λ v. v.items ≡ map arc_of transitions.now) }
+) -> Result<Vec<Successor<RowSet>, &'c B>, AllocError>
+    ensures { IfOk result (λ v. v.items ≡ map successor_of transitions.now) }
 {
-    let mut arcs = Vec::with_capacity(alloc, transitions.len())?;
+    let mut successors = Vec::with_capacity(alloc, transitions.len())?;
     for transition in transitions {
-        arcs.push(Arc {
+        successors.push(Successor {
             cube: transition.cube,
             key: transition.targets,
             marks: transition.marks,
         })?;
     }
-    Ok(arcs)
+    Ok(successors)
 }
 
 /// Sets of rows as the states of the automaton of a table's formula, with what is remembered of them.
@@ -61,22 +61,23 @@ impl<'b, 't, 's, 'a, A: Allocator> Successors<RowSet> for RowSets<'b, 't, 's, 'a
         true
     }
 
-    fn twin(&mut self, key: &RowSet) -> Result<Option<RowSet>, AllocError> {
-        self.keys.twin(&self.basis, &mut self.finals, key)
+    fn same_successors_as(&mut self, key: &RowSet) -> Result<Option<RowSet>, AllocError> {
+        self.keys
+            .same_successors_as(&self.basis, &mut self.finals, key)
     }
 
     fn edges_at_least(&mut self, key: &RowSet) -> Result<usize, AllocError> {
         self.finals.transitions_at_least(&self.basis, key)
     }
 
-    fn arcs<'c, B: Allocator>(
+    fn successors<'c, B: Allocator>(
         &mut self,
         alloc: &'c B,
         key: &RowSet,
         most: usize,
-    ) -> Result<Vec<Arc<RowSet>, &'c B>, AltFault> {
+    ) -> Result<Vec<Successor<RowSet>, &'c B>, AltFault> {
         let kept = self.finals.set_transitions(&self.basis, key, most)?;
-        Ok(arcs_of(alloc, kept.as_slice())?)
+        Ok(successors_of(alloc, kept.as_slice())?)
     }
 }
 
@@ -96,17 +97,17 @@ pub(crate) fn reach<'a, A: Allocator>(
         rule: Rule::of(keep_implied),
         fulfilment: &fulfilment,
     };
-    let parts = Parts::of(alloc, table, &pruning)?;
-    let groups = Groups::new(alloc, &parts)?;
+    let conjuncts = ConjunctTable::of(alloc, table, &pruning)?;
+    let components = Components::new(alloc, &conjuncts)?;
     let mut row_sets = RowSets {
         basis: Basis {
             alloc,
             table,
             pruning,
-            parts,
+            conjuncts,
             keep_implied,
         },
-        finals: Finals::new(alloc, groups),
+        finals: Finals::new(alloc, components),
         keys: Keys::new(alloc),
     };
     let root = RowSet::single(place(table, table.root()));

@@ -11,12 +11,12 @@ ghost use Rattle.ltl_spec.specs.Transitions.Pairs as spec_pairs;
 ghost use Rattle.ltl_alt.specs.StandIns.{joins_by_right};
 
 use crate::pair::Pair;
-use ltl_automaton::Distinct;
+use ltl_automaton::Interner;
 use std::alloc::{AllocError, Allocator};
 
 /// Adds what each of a list and a pair are at once, where it isn't there.
 fn note_joins<A: Allocator>(
-    once: &mut Distinct<'_, Pair, A>,
+    once: &mut Interner<'_, Pair, A>,
     left: &[Pair],
     right: &Pair,
 ) -> Result<(), AllocError>
@@ -36,10 +36,10 @@ fn noted<'a, A: Allocator>(
     alloc: &'a A,
     left: &[Pair],
     right: &[Pair],
-) -> Result<Distinct<'a, Pair, A>, AllocError>
+) -> Result<Interner<'a, Pair, A>, AllocError>
     ensures { IfOk result (λ d. d.keys ≡ first_occurrences (eq_by_cmp spec_pairs.pair_cmp) (joins_by_right left.now right.now)) }
 {
-    let mut once = Distinct::new(alloc);
+    let mut once = Interner::new(alloc);
     'right: for q in right {
         note_joins(&mut once, left, q)?;
     }
@@ -49,7 +49,7 @@ fn noted<'a, A: Allocator>(
 /// The things as a list.
 fn listed<'a, A: Allocator>(
     alloc: &'a A,
-    once: &Distinct<'a, Pair, A>,
+    once: &Interner<'a, Pair, A>,
 ) -> Result<Vec<Pair, &'a A>, AllocError>
     ensures { IfOk result (λ v. v.items ≡ once.now.keys) }
 {

@@ -3,9 +3,9 @@
 ghost use Rattle.std.specs.Prelude.{IfOk};
 ghost use Rattle.ltl_alt.specs.CodeView.{AreOpenSteps};
 
-use crate::asked::Asked;
 use crate::fulfilment::Fulfilment;
 use crate::pair::Pair;
+use crate::support::Support;
 use std::alloc::{AllocError, Allocator};
 
 /// The steps of the until rows whose tests speak of what these pairs ask for.
@@ -16,11 +16,11 @@ pub(crate) fn open_steps<'a, A: Allocator>(
 ) -> Result<Vec<usize, &'a A>, AllocError>
     ensures { IfOk result (λ v. AreOpenSteps fulfilment.now.untils.items fulfilment.now.leaves.items pairs.now v.items) }
 {
-    let asked = Asked::of(pairs);
+    let support = Support::of(pairs);
     let mut roots = Vec::new(alloc);
     'untils: for number in 0..fulfilment.untils.len() {
         let step = fulfilment.until(number).step;
-        if fulfilment.leaves(step).shares_some(&asked) {
+        if fulfilment.leaves(step).shares_some(&support) {
             roots.push(step)?;
         }
     }

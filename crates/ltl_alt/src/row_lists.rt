@@ -1,7 +1,7 @@
 //! The pairs of rows and the sets of rows that stand for them, each listed when it is first asked for.
 
 ghost use Rattle.std.specs.Prelude.{◌≡◌, ◌<◌, ◌≤◌, length, IfOk, OnOk, slice_get, slice_set, Some, true};
-ghost use Rattle.ltl_formula.specs.GraphView.{IsBelow};
+ghost use Rattle.ltl_formula.specs.SharedNodesView.{IsBelow};
 ghost use Rattle.ltl_formula.specs.TableView.{IsNamedBelow, is_elementary_row};
 ghost use Rattle.ltl_formula.specs.declared.row.Row as made;
 ghost use Rattle.ltl_spec.specs.Collections.Sets.{set_of};

@@ -10,9 +10,9 @@ use std::alloc::Allocator;
 #[derive(Clone, Copy, PartialEq, Eq)]
 pub(crate) enum Rule {
     /// None but repeated ones.
-    Equal,
+    Duplicate,
     /// Those that ask for all that another one asks for, if both get the same marks, whatever they are joined with.
-    Safe,
+    SafelySubsumed,
 }
 
 impl Rule {
@@ -21,9 +21,9 @@ impl Rule {
         ensures { result ≡ rule_of keep_implied }
     {
         if keep_implied {
-            Rule::Equal
+            Rule::Duplicate
         } else {
-            Rule::Safe
+            Rule::SafelySubsumed
         }
     }
 }

@@ -1,6 +1,6 @@
 pub mod Bounds
 pub mod Codes
 pub mod EdgeView
-pub mod Listed
+pub mod WorklistView
 pub mod Net
 pub mod SharedView

@@ -5,40 +5,40 @@ ghost use Rattle.std.specs.Prelude.{slice_get, slice_index_or, Some, length, is_
 ghost use Rattle.ltl_spec.specs.Collections.Lists.{with_new};
 ghost use Rattle.ltl_spec.specs.Automata.Listing.{PassesLimits};
 ghost use Rattle.ltl_automaton.specs.Net.{edge_in, edges_in, key_of, targets_of, with_made};
-ghost use Rattle.ltl_automaton.specs.Net.{edges_behind, AreListed, AreTooMany, HasArcsOf, HasBegun, IsReachable};
+ghost use Rattle.ltl_automaton.specs.Net.{edges_behind, AreListed, AreTooMany, HasSuccessorsOf, HasBegun, IsReachable};
 ghost use Rattle.ltl_automaton.specs.Bounds.{IsBounded};
 ghost use Rattle.ltl_automaton.specs.EdgeView.{edge_of};
 ghost use Rattle.ltl_spec.specs.Automata.Automaton.{state_at};
 ghost use Rattle.ltl_automaton.specs.SharedView.{automaton_of, with_state};
 
 use crate::ahead::are_too_many_ahead;
-use crate::arc::Arc;
 use crate::edge::Edge;
 use crate::fault::AutomatonFault;
-use crate::listing::{Key, Listing};
 use crate::shared::SharedStates;
-use crate::sorting::sort_edges;
+use crate::sorting::sort_dedup;
+use crate::successor::Successor;
 use crate::successors::Successors;
+use crate::worklist::{Key, Worklist};
 use std::alloc::{AllocError, Allocator};
 
 /// The edges by the numbers of their targets. A target that isn't listed gets the next number.
 fn numbered<'a, K: Key, A: Allocator>(
     alloc: &'a A,
-    listing: &mut Listing<'a, K, A>,
-    arcs: &[Arc<K>],
+    listing: &mut Worklist<'a, K, A>,
+    successors: &[Successor<K>],
 ) -> Result<Vec<Edge, &'a A>, AllocError>
-    ensures keys { OnOk result (listing.new.keys ≡ fold (with_new K.eq) listing.old.keys (map key_of arcs.now)) }
-    ensures taken { listing.new.taken ≡ listing.old.taken }
-    ensures edges { IfOk result (λ es. map edge_of es.items ≡ map (edge_in K.eq listing.new.keys) arcs.now) }
+    ensures keys { OnOk result (listing.new.keys ≡ fold (with_new K.eq) listing.old.keys (map key_of successors.now)) }
+    ensures explored { listing.new.explored ≡ listing.old.explored }
+    ensures edges { IfOk result (λ es. map edge_of es.items ≡ map (edge_in K.eq listing.new.keys) successors.now) }
 {
     let mut edges = Vec::new(alloc);
-    edges.reserve(arcs.len())?;
-    for arc in arcs {
-        let target = listing.number(arc.key)?;
+    edges.reserve(successors.len())?;
+    for successor in successors {
+        let target = listing.number(successor.key)?;
         edges.push(Edge {
-            cube: arc.cube,
+            cube: successor.cube,
             target,
-            marks: arc.marks,
+            marks: successor.marks,
         })?;
     }
     Ok(edges)
@@ -47,23 +47,23 @@ fn numbered<'a, K: Key, A: Allocator>(
 /// The edges by the numbers of their targets, sorted and distinct if this is asked, unless more things are listed then than may be.
 fn numbered_by<'a, K: Key, A: Allocator>(
     alloc: &'a A,
-    listing: &mut Listing<'a, K, A>,
-    arcs: &[Arc<K>],
+    listing: &mut Worklist<'a, K, A>,
+    successors: &[Successor<K>],
     sorted: bool,
     most: usize,
 ) -> Result<Vec<Edge, &'a A>, AutomatonFault>
-    ensures keys { OnOk result (listing.new.keys ≡ fold (with_new K.eq) listing.old.keys (map key_of arcs.now)) }
-    ensures taken { listing.new.taken ≡ listing.old.taken }
-    ensures edges { IfOk result (λ es. map edge_of es.items ≡ edges_in K.eq sorted listing.new.keys arcs.now) }
+    ensures keys { OnOk result (listing.new.keys ≡ fold (with_new K.eq) listing.old.keys (map key_of successors.now)) }
+    ensures explored { listing.new.explored ≡ listing.old.explored }
+    ensures edges { IfOk result (λ es. map edge_of es.items ≡ edges_in K.eq sorted listing.new.keys successors.now) }
     ensures fits { OnOk result (length listing.new.keys ≤ most) }
-    ensures large { IsErrOf result AutomatonFault.TooLarge → most < length (fold (with_new K.eq) listing.old.keys (map key_of arcs.now)) }
+    ensures large { IsErrOf result AutomatonFault.TooLarge → most < length (fold (with_new K.eq) listing.old.keys (map key_of successors.now)) }
 {
-    let mut edges = numbered(alloc, listing, arcs)?;
+    let mut edges = numbered(alloc, listing, successors)?;
     if listing.len() > most {
         return Err(AutomatonFault::TooLarge);
     }
     if sorted {
-        sort_edges(&mut edges);
+        sort_dedup(&mut edges);
     }
     Ok(edges)
 }
@@ -91,19 +91,19 @@ pub struct Limits {
 /// The number of a thing among the first `states` whose edges are those of this one, if one is known.
 fn known_place<'a, K: Key, S: Successors<K>, A: Allocator>(
     net: &mut S,
-    listing: &Listing<'a, K, A>,
+    listing: &Worklist<'a, K, A>,
     key: &K,
     states: usize,
 ) -> Result<Option<usize>, AllocError>
     requires ready { S.ready net.old }
-    ensures place { IfOk result (λ p. IfSome p (λ i. i < states × HasArcsOf (S.net net.old) listing.now.keys i key.now)) }
+    ensures place { IfOk result (λ p. IfSome p (λ i. i < states × HasSuccessorsOf (S.net net.old) listing.now.keys i key.now)) }
     ensures same { OnOk result (S.net net.new ≡ S.net net.old) }
     ensures ready { OnOk result (S.ready net.new) }
 {
-    let Some(twin) = net.twin(key)? else {
+    let Some(same_successors_as) = net.same_successors_as(key)? else {
         return Ok(None);
     };
-    match listing.place(twin) {
+    match listing.place(same_successors_as) {
         Some(place) if place < states => Ok(Some(place)),
         _ => Ok(None),
     }
@@ -137,7 +137,7 @@ fn put_like<'a, A: Allocator>(
 fn put_new<'a, K: Key, S: Successors<K>, A: Allocator>(
     alloc: &'a A,
     net: &mut S,
-    listing: &mut Listing<'a, K, A>,
+    listing: &mut Worklist<'a, K, A>,
     made: &mut SharedStates<'a, A>,
     lengths: &mut Vec<usize, &'a A>,
     key: &K,
@@ -150,14 +150,14 @@ fn put_new<'a, K: Key, S: Successors<K>, A: Allocator>(
     ensures net { OnOk result ((S.net net.new ≡ S.net net.old) × S.ready net.new) }
     ensures listed { OnOk result (AreListed K.eq (S.net net.old) key.now listing.old listing.new × length listing.new.keys ≤ limits.states) }
     ensures made { IfOk result (λ _. automaton_of made.new ≡ with_made K.eq sorted (S.net net.old) key.now listing.new.keys (automaton_of made.old)) }
-    ensures lengths { IfOk result (λ _. lengths.new.items ≡ lengths.old.items ++ length ((S.net net.old).arcs key.now) ∷ []) }
-    ensures sum { IfOk result (λ n. n ≡ count + length ((S.net net.old).arcs key.now) × n ≤ limits.edges) }
+    ensures lengths { IfOk result (λ _. lengths.new.items ≡ lengths.old.items ++ length ((S.net net.old).successors key.now) ∷ []) }
+    ensures sum { IfOk result (λ n. n ≡ count + length ((S.net net.old).successors key.now) × n ≤ limits.edges) }
     ensures large { IsErrOf result AutomatonFault.TooLarge → AreTooMany K.eq (S.net net.old) key.now listing.old count limits.states limits.edges }
 {
-    let arcs = net.arcs(alloc, key, limits.edges - count)?;
-    let count = counted(count, arcs.len(), limits.edges)?;
-    lengths.push(arcs.len())?;
-    let edges = numbered_by(alloc, listing, arcs.as_slice(), sorted, limits.states)?;
+    let successors = net.successors(alloc, key, limits.edges - count)?;
+    let count = counted(count, successors.len(), limits.edges)?;
+    lengths.push(successors.len())?;
+    let edges = numbered_by(alloc, listing, successors.as_slice(), sorted, limits.states)?;
     made.push(net.accepting(key), edges)?;
     Ok(count)
 }
@@ -165,23 +165,23 @@ fn put_new<'a, K: Key, S: Successors<K>, A: Allocator>(
 /// The thing that comes next, which is then taken, unless it is seen that more edges than `most` are to come.
 fn take_next<'a, K: Key, S: Successors<K>, A: Allocator>(
     net: &mut S,
-    listing: &mut Listing<'a, K, A>,
+    listing: &mut Worklist<'a, K, A>,
     looked: &mut usize,
     count: usize,
     most: usize,
 ) -> Result<Option<K>, AutomatonFault>
     requires ready { S.ready net.old }
     requires few { count ≤ most }
-    ensures next { IfOk result (λ k. k ≡ slice_get listing.old.keys listing.old.taken) }
-    ensures taken { IfOk result (λ k. listing.new.taken ≡ (if is_some k then listing.old.taken + 1 else listing.old.taken)) }
+    ensures next { IfOk result (λ k. k ≡ slice_get listing.old.keys listing.old.explored) }
+    ensures explored { IfOk result (λ k. listing.new.explored ≡ (if is_some k then listing.old.explored + 1 else listing.old.explored)) }
     ensures keys { listing.new.keys ≡ listing.old.keys }
     ensures net { OnOk result ((S.net net.new ≡ S.net net.old) × S.ready net.new) }
-    ensures large { IsErrOf result AutomatonFault.TooLarge → most < count + edges_behind (S.net net.old) listing.old.keys listing.old.taken }
+    ensures large { IsErrOf result AutomatonFault.TooLarge → most < count + edges_behind (S.net net.old) listing.old.keys listing.old.explored }
 {
     if are_too_many_ahead(net, listing, looked, count, most)? {
         return Err(AutomatonFault::TooLarge);
     }
-    Ok(listing.take())
+    Ok(listing.next())
 }
 
 /// Lists the things that are reached from the start, and makes their states.
@@ -189,7 +189,7 @@ fn explore<'a, K: Key, S: Successors<K>, A: Allocator>(
     alloc: &'a A,
     start: K,
     net: &mut S,
-    listing: &mut Listing<'a, K, A>,
+    listing: &mut Worklist<'a, K, A>,
     made: &mut SharedStates<'a, A>,
     lengths: &mut Vec<usize, &'a A>,
     sorted: bool,
@@ -244,7 +244,7 @@ pub fn explore_from<'a, K: Key, S: Successors<K>, A: Allocator>(
     ensures fits { OnOk result (¬ (PassesLimits K.eq (targets_of (S.net net.old)) start limits.states limits.edges)) }
     ensures large { IsErrOf result AutomatonFault.TooLarge → PassesLimits K.eq (targets_of (S.net net.old)) start limits.states limits.edges }
 {
-    let mut listing = Listing::new(alloc);
+    let mut listing = Worklist::new(alloc);
     let mut made = SharedStates::new(alloc, sets);
     let mut lengths = Vec::new(alloc);
     explore(

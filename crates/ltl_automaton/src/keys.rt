@@ -1,6 +1,6 @@
 //! Numbers and sets of rows as things that are listed.
 
-use crate::listing::Key;
+use crate::worklist::Key;
 use ltl_sets::RowSet;
 
 impl Key for usize {

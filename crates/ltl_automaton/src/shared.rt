@@ -5,14 +5,14 @@ ghost use Rattle.ltl_spec.specs.Automata.Automaton.{state_at};
 ghost use Rattle.ltl_automaton.specs.EdgeView.{edge_of};
 ghost use Rattle.ltl_automaton.specs.SharedView.{automaton_of, with_state, IsShared};
 
-use crate::distinct::Distinct;
 use crate::edge::Edge;
 use crate::edge_list::EdgeList;
+use crate::interner::Interner;
 use std::alloc::{AllocError, Allocator};
 use std::marker::Model;
 
 /// The different lists, by number.
-type Lists<'a, A> = Distinct<'a, EdgeList<'a, A>, A>;
+type Lists<'a, A> = Interner<'a, EdgeList<'a, A>, A>;
 
 /// A state: the number of its list of edges, and whether it is accepting.
 #[derive(Clone, Copy, Debug, PartialEq, Eq, Hash)]
@@ -46,7 +46,7 @@ impl<'a, A: Allocator> SharedStates<'a, A> {
     {
         SharedStates {
             sets,
-            lists: Distinct::new(alloc),
+            lists: Interner::new(alloc),
             states: Vec::new(alloc),
         }
     }

@@ -9,7 +9,7 @@ use crate::edge::Edge;
 use std::alloc::Allocator;
 
 /// Sorts the edges, and keeps each once.
-pub fn sort_edges<'a, A: Allocator>(edges: &mut Vec<Edge, &'a A>)
+pub fn sort_dedup<'a, A: Allocator>(edges: &mut Vec<Edge, &'a A>)
     ensures { map edge_of edges.new.items ≡ set_of edge_cmp (map edge_of edges.old.items) }
 {
     edges.sort_unstable_by(|e, f| e.cmp_list(f));

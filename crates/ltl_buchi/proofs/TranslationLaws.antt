@@ -8,7 +8,7 @@ use Rattle.ltl_spec.specs.Automata.Automaton.{Automaton, State}
 use Rattle.ltl_spec.specs.Automata.Generalized.{IsGeneralized, IsTooLarge}
 use Rattle.ltl_spec.specs.Automata.GeneralizedText.{IsGeneralizedTranslation}
 use Rattle.ltl_spec.specs.Construction.Merging.{merged_automaton, unimplied_edges}
-use Rattle.ltl_spec.specs.Construction.Levels.{level_automaton, HasTooManyCopies}
+use Rattle.ltl_spec.specs.Construction.Levels.{level_automaton, HasTooManyLevelStates}
 use Rattle.ltl_spec.specs.Construction.Renumbered.{renumbered_automaton}
 use Rattle.ltl_spec.specs.Construction.Translation.{Options, IsTranslation, IsTranslationTooLarge}
 use Rattle.ltl_spec.specs.Semantics.Language.{HasLanguageOf, AcceptsModels, AcceptsViolations}
@@ -18,9 +18,9 @@ use Rattle.ltl_spec.proofs.Semantics.LanguageLaws.{translation_language, transla
 use Rattle.ltl_spec.proofs.Construction.MergingRuns.{merged_closed}
 use Rattle.ltl_spec.proofs.Semantics.GeneralizedLaws.{generalized_closed}
 use Rattle.ltl_spec.proofs.Semantics.Runs.{IsClosed}
-use Rattle.ltl_passes.specs.Agreeing.{AreAgreed}
+use Rattle.ltl_passes.specs.MarksFollowTarget.{DoMarksFollowTargets}
 use Rattle.ltl_models.specs.Named.{HasNamesOf}
-use Rattle.ltl_passes.proofs.ThinLaws.{generalized_thin, levels_thin, merged_thin}
+use Rattle.ltl_passes.proofs.IrredundantLaws.{generalized_irredundant, levels_irredundant, merged_irredundant}
 
 -- A is the generalized automaton, S its merging
 module _ (F : Normal) (o : Options) (keep : Bool) (same : keep ≡ o.keep_implied) (A S : Automaton) (generalized : IsGeneralized F keep A) (small : S ≡ merged_automaton o.keep_implied o.keep_equal A) where
@@ -28,12 +28,12 @@ module _ (F : Normal) (o : Options) (keep : Bool) (same : keep ≡ o.keep_implie
   found = subst (λ k. IsGeneralized F k A) same generalized
 
   -- where edges with one target are in the same sets, the levels have no implied edges, if these are to go
-  pub copies_thin : (b : Bool) → (b ≡ true → All (λ s. AreAgreed s.edges) S.states) → (b ≡ true → keep ≡ false) → b ≡ true → (L : Automaton) → L ≡ level_automaton S → All (λ s. unimplied_edges s.edges ≡ s.edges) L.states
-  copies_thin b agreed goes found_so L levels =
+  pub copies_irredundant : (b : Bool) → (b ≡ true → All (λ s. DoMarksFollowTargets s.edges) S.states) → (b ≡ true → keep ≡ false) → b ≡ true → (L : Automaton) → L ≡ level_automaton S → All (λ s. unimplied_edges s.edges ≡ s.edges) L.states
+  copies_irredundant b agreed goes found_so L levels =
       let P : State → Type 0 = λ s. unimplied_edges s.edges ≡ s.edges in
       let closed = subst IsClosed (sym small) (merged_closed A o.keep_implied o.keep_equal (generalized_closed F o.keep_implied A found)) in
-      let merged = subst (λ k. All P (merged_automaton k o.keep_equal A).states) (sym (sym same ∙ goes found_so)) (merged_thin o.keep_equal A) in
-      subst (λ (B : Automaton). All P B.states) (sym levels) (levels_thin S closed (subst (λ (B : Automaton). All P B.states) (sym small) merged) (agreed found_so))
+      let merged = subst (λ k. All P (merged_automaton k o.keep_equal A).states) (sym (sym same ∙ goes found_so)) (merged_irredundant o.keep_equal A) in
+      subst (λ (B : Automaton). All P B.states) (sym levels) (levels_irredundant S closed (subst (λ (B : Automaton). All P B.states) (sym small) merged) (agreed found_so))
 
   -- L are the levels, M their merging; what is answered is that numbered
   pub translated : {E : Type 0} (L M : Automaton) (r : Result Automaton E) → L ≡ level_automaton S → M ≡ merged_automaton o.keep_implied o.keep_equal L → IfOk r (λ B. B ≡ renumbered_automaton M) → IfOk r (IsTranslation F o)
@@ -48,19 +48,19 @@ module _ (F : Normal) (o : Options) (keep : Bool) (same : keep ≡ o.keep_implie
   numbered (Ok B) e = (A, found, e ∙ ap renumbered_automaton small)
 
   -- where neither the generalized automaton nor the copies pass the limits, the translation doesn't
-  both_fit : (states edges : ℕ) → ¬ (IsTooLarge F keep states edges) → ¬ (HasTooManyCopies S states edges) → ¬ (IsTranslationTooLarge F o states edges)
+  both_fit : (states edges : ℕ) → ¬ (IsTooLarge F keep states edges) → ¬ (HasTooManyLevelStates S states edges) → ¬ (IsTranslationTooLarge F o states edges)
   both_fit states edges first second (inl t) = first (subst (λ k. IsTooLarge F k states edges) (sym same) t)
   both_fit states edges first second (inr (C, g, t)) =
       let e = one_generalized F o.keep_implied C A g found in
-      second (subst (λ D. HasTooManyCopies D states edges) (ap (merged_automaton o.keep_implied o.keep_equal) e ∙ sym small) t)
+      second (subst (λ D. HasTooManyLevelStates D states edges) (ap (merged_automaton o.keep_implied o.keep_equal) e ∙ sym small) t)
 
-  pub fitting : {E : Type 0} (states edges : ℕ) (r : Result Automaton E) → ¬ (IsTooLarge F keep states edges) → ¬ (HasTooManyCopies S states edges) → IfOk r (λ _. ¬ (IsTranslationTooLarge F o states edges))
+  pub fitting : {E : Type 0} (states edges : ℕ) (r : Result Automaton E) → ¬ (IsTooLarge F keep states edges) → ¬ (HasTooManyLevelStates S states edges) → IfOk r (λ _. ¬ (IsTranslationTooLarge F o states edges))
   fitting states edges (Err f) first second = tt
   fitting states edges (Ok B) first second = both_fit states edges first second
 
   -- where the copies pass them, it does
-  pub copies_too_large : (states edges : ℕ) → HasTooManyCopies S states edges → IsTranslationTooLarge F o states edges
-  copies_too_large states edges t = inr (A, found, subst (λ D. HasTooManyCopies D states edges) small t)
+  pub copies_too_large : (states edges : ℕ) → HasTooManyLevelStates S states edges → IsTranslationTooLarge F o states edges
+  copies_too_large states edges t = inr (A, found, subst (λ D. HasTooManyLevelStates D states edges) small t)
 
 -- what is answered has the language of the normal form
 module _ (N : Normal) (o : Options) where
@@ -88,5 +88,5 @@ module _ (N : Normal) (o : Options) where
   generalized_named (Ok A) translation = λ n F negate rewrite h e. translation_below N o A translation n (subst (HasLeavesBelow n) (sym e) (core_below n F negate rewrite h))
 
 -- what merging is handed has no implied edges, if these are to go
-pub reached_thin : (N : Normal) (keep o : Bool) (A : Automaton) → keep ≡ o → IsGeneralized N keep A → o ≡ false → All (λ s. unimplied_edges s.edges ≡ s.edges) A.states
-reached_thin N keep o A same generalized goes = generalized_thin N A (subst (λ k. IsGeneralized N k A) (same ∙ goes) generalized)
+pub reached_irredundant : (N : Normal) (keep o : Bool) (A : Automaton) → keep ≡ o → IsGeneralized N keep A → o ≡ false → All (λ s. unimplied_edges s.edges ≡ s.edges) A.states
+reached_irredundant N keep o A same generalized goes = generalized_irredundant N A (subst (λ k. IsGeneralized N k A) (same ∙ goes) generalized)

@@ -16,7 +16,7 @@ use ltl_alt::Reach;
 use ltl_formula::Table;
 use ltl_models::{Ba, BaFault, Gba, Gen, Options};
 use ltl_passes::{
-    are_copies_thin, level_states, numbered_states, renumber_generalized, smaller_gba,
+    are_copies_irredundant, level_states, numbered_states, renumber_generalized, smaller_gba,
     smaller_states,
 };
 use std::alloc::Allocator;
@@ -45,10 +45,10 @@ pub fn translate<'a, A: Allocator>(
 {
     let generalized = Gba::reach(alloc, table, options.keep_implied)?;
     let small = smaller_gba(alloc, generalized, options)?;
-    let thin = are_copies_thin(alloc, &small, options.keep_implied)?;
+    let irredundant = are_copies_irredundant(alloc, &small, options.keep_implied)?;
     let copies = level_states(alloc, &small)?;
     drop(small);
-    let smaller = smaller_states(alloc, copies, options, thin)?;
+    let smaller = smaller_states(alloc, copies, options, irredundant)?;
     let numbered = numbered_states(alloc, smaller)?;
     Ok(Ba::new(alloc, numbered)?)
 }

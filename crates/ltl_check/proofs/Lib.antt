@@ -1,4 +1,4 @@
-pub mod WayLaws
+pub mod StepPathLaws
 pub mod FirstPass
 pub mod SecondPass
 pub mod Costs

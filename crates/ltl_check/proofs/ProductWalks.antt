@@ -24,13 +24,13 @@ use Rattle.ltl_sets.specs.Words as words
 use Rattle.ltl_check.specs.declared.graph.Step.{Step}
 use Rattle.ltl_check.specs.declared.walk.Taken.{Taken}
 use Rattle.ltl_check.specs.Marks.{in_set}
-use Rattle.ltl_check.specs.Nets.{Net, IsArc, IsWay}
-use Rattle.ltl_spec.specs.Construction.Levels.{climb, next_level, Copy}
+use Rattle.ltl_check.specs.Nets.{Net, IsSuccessor, IsStepPath}
+use Rattle.ltl_spec.specs.Construction.Levels.{climb, next_level, LevelState}
 use Rattle.ltl_spec.specs.Checking.Search.{IsLevelPath}
 use Rattle.ltl_spec.proofs.Construction.ClimbLaws.{first_level, next_level_most}
 use Rattle.ltl_check.specs.Explored.{Reached}
 use Rattle.ltl_check.specs.Levels.{numbered, on_level, levels_net, Takes, IsFullWalk}
-use Rattle.ltl_check.specs.VerdictView.{IsReachedCopy}
+use Rattle.ltl_check.specs.VerdictView.{IsReachedLevelState}
 use Rattle.ltl_word.specs.LassoView.{letter_with}
 use Rattle.ltl_check.specs.LevelLaws.{mapped}
 use Rattle.ltl_check.specs.ProductView.{no_edge, number_in, pair_marks, step_with, joined_step, first_edges, second_edges, edge_pairs, pair_at, pair_place, pair_step, product_net}
@@ -166,7 +166,7 @@ module _ (A : MarkedAutomaton) (names : List Name) (B : Automaton) (numbers : Li
             (marks_there (state_at B (n % rows)).accepting (one n k).marks j (subst (λ (x : Step ℕ). in_set x.marks j ≡ true) (sym is) m));
       }
 
-  told : (n k : ℕ) (a : Step ℕ) → IsArc net n k a → Told n a
+  told : (n k : ℕ) (a : Step ℕ) → IsSuccessor net n k a → Told n a
   told n k a i =
       let v = mapped (numbered (pair_place A B)) (pair_step A B numbers (pair_at A B n) k) a i.found in
       let w = step_is A B numbers (pair_at A B n) k v.0 v.1 in
@@ -176,7 +176,7 @@ module _ (A : MarkedAutomaton) (names : List Name) (B : Automaton) (numbers : Li
   record Looked (n : ℕ) (g : Edge) : Type 0 where
     pick : ℕ
     step : Step ℕ
-    arc : IsArc net n pick step
+    successor : IsSuccessor net n pick step
     leads : step.target ≡ g.target
     marks : (j : ℕ) → Has g.marks j → in_set step.marks j ≡ true
     back : (j : ℕ) → in_set step.marks j ≡ true → Has g.marks j
@@ -198,7 +198,7 @@ module _ (A : MarkedAutomaton) (names : List Name) (B : Automaton) (numbers : Li
       record {
         pick = i * length (second_edges A B (n % rows)) + j;
         step = numbered (pair_place A B) (step_with A.sets b e f c);
-        arc = record { within = place_in_rows (length (first_edges A B (n / rows))) (length (second_edges A B (n % rows))) i j li lj; found = ap (option_map (numbered (pair_place A B))) found };
+        successor = record { within = place_in_rows (length (first_edges A B (n / rows))) (length (second_edges A B (n % rows))) i j li lj; found = ap (option_map (numbered (pair_place A B))) found };
         leads = sym (same_number e.target f.target) ∙ ap (λ (x : Edge). x.target) (sym is);
         marks = λ q o. marks_here b e.marks q (subst (λ (x : Edge). Has x.marks q) is o);
         back = λ q o. subst (λ (x : Edge). Has x.marks q) (sym is) (marks_there b e.marks q o);
@@ -219,11 +219,11 @@ module _ (A : MarkedAutomaton) (names : List Name) (B : Automaton) (numbers : Li
       let (j, lj, ej) = place_in (second_edges A B (n % rows)) f no_edge hf1 in
       looked_at n g e f (subst (λ (x : Edge). is_contradictory (union literal_cmp e.cube x.cube) ≡ false) same plain) is' hf1 i j li ei lj ej
 
-  same_arc : (n k : ℕ) (a b : Step ℕ) → IsArc net n k a → IsArc net n k b → a ≡ b
-  same_arc n k a b i j = let p = i.found in let q = j.found in cc
+  same_successor : (n k : ℕ) (a b : Step ℕ) → IsSuccessor net n k a → IsSuccessor net n k b → a ≡ b
+  same_successor n k a b i j = let p = i.found in let q = j.found in cc
 
   -- from a walk to a path
-  record ToldWay (s : ℕ) (ts : List Taken) (e : ℕ) : Type 0 where
+  record ToldPath (s : ℕ) (ts : List Taken) (e : ℕ) : Type 0 where
     edges : List Edge
     path : IsPath graph s edges e
     letters : map (λ (x : Edge). letter_of all_names x.cube) edges ≡ map (λ (t : Taken). letter_with all_names t.letter) ts
@@ -231,11 +231,11 @@ module _ (A : MarkedAutomaton) (names : List Name) (B : Automaton) (numbers : Li
     takes : (j : ℕ) → Takes net ts j → (x : Edge) × Has edges x × Has x.marks j
     moves : edges ≡ [] → ts ≡ []
 
-  told_way : (s : ℕ) (ts : List Taken) (e : ℕ) → IsWay net s ts e → ToldWay s ts e
-  told_way s [] e w = record { edges = []; path = w; letters = refl; cubes = λ t h. absurd h; takes = λ j h. absurd h; moves = λ z. refl }
-  told_way s (t ∷ ts) e w = more (told t.state t.pick w.1.0 w.1.1) (told_way w.1.0.target ts e w.1.3)
+  told_path : (s : ℕ) (ts : List Taken) (e : ℕ) → IsStepPath net s ts e → ToldPath s ts e
+  told_path s [] e w = record { edges = []; path = w; letters = refl; cubes = λ t h. absurd h; takes = λ j h. absurd h; moves = λ z. refl }
+  told_path s (t ∷ ts) e w = more (told t.state t.pick w.1.0 w.1.1) (told_path w.1.0.target ts e w.1.3)
     where
-      more : Told t.state w.1.0 → ToldWay w.1.0.target ts e → ToldWay s (t ∷ ts) e
+      more : Told t.state w.1.0 → ToldPath w.1.0.target ts e → ToldPath s (t ∷ ts) e
       more o r = record {
         edges = o.edge ∷ r.edges;
         path = (subst (λ m. Has (state_at graph m).edges o.edge) w.0 o.stands, subst (λ m. IsPath graph m r.edges e) (sym o.leads) r.path);
@@ -245,7 +245,7 @@ module _ (A : MarkedAutomaton) (names : List Name) (B : Automaton) (numbers : Li
           | inr k ↦ r.cubes u k
         ];
         takes = λ j h. elim h [
-          | inl k ↦ (o.edge, inl refl, o.marks j (subst (λ (x : Step ℕ). in_set x.marks j ≡ true) (same_arc t.state t.pick k.0 w.1.0 k.1 w.1.1) k.2))
+          | inl k ↦ (o.edge, inl refl, o.marks j (subst (λ (x : Step ℕ). in_set x.marks j ≡ true) (same_successor t.state t.pick k.0 w.1.0 k.1 w.1.1) k.2))
           | inr k ↦ let x = r.takes j k in (x.0, inr x.1, x.2)
         ];
         moves = λ z. absurd (cc);
@@ -254,20 +254,20 @@ module _ (A : MarkedAutomaton) (names : List Name) (B : Automaton) (numbers : Li
   -- from a path to a walk
   record Walked (s : ℕ) (es : List Edge) (e : ℕ) : Type 0 where
     steps : List Taken
-    way : IsWay net s steps e
+    stem : IsStepPath net s steps e
     takes : (j : ℕ) (x : Edge) → Has es x → Has x.marks j → Takes net steps j
     moves : steps ≡ [] → es ≡ []
 
   walked : (s : ℕ) (es : List Edge) (e : ℕ) → IsPath graph s es e → Walked s es e
-  walked s [] e p = record { steps = []; way = p; takes = λ j x h. absurd h; moves = λ z. refl }
+  walked s [] e p = record { steps = []; stem = p; takes = λ j x h. absurd h; moves = λ z. refl }
   walked s (x ∷ es) e p = more (looked s x p.0) (walked x.target es e p.1)
     where
       more : Looked s x → Walked x.target es e → Walked s (x ∷ es) e
       more o r = record {
         steps = record { state = s; pick = o.pick; letter = o.step.letter } ∷ r.steps;
-        way = (refl, (o.step, o.arc, refl, subst (λ m. IsWay net m r.steps e) (sym o.leads) r.way));
+        stem = (refl, (o.step, o.successor, refl, subst (λ m. IsStepPath net m r.steps e) (sym o.leads) r.stem));
         takes = λ j y h m. elim h [
-          | inl q ↦ inl (o.step, o.arc, o.marks j (subst (λ (z : Edge). Has z.marks j) q m))
+          | inl q ↦ inl (o.step, o.successor, o.marks j (subst (λ (z : Edge). Has z.marks j) q m))
           | inr k ↦ inr (r.takes j y k m)
         ];
         moves = λ z. absurd (cc);
@@ -277,44 +277,44 @@ module _ (A : MarkedAutomaton) (names : List Name) (B : Automaton) (numbers : Li
   starts = sym (same_number A.start 0)
 
   -- the letter of a step is that of an edge
-  pub found_cubes : (way turn : List Taken) → IsFullWalk net (A.sets + 1) way turn → (t : Taken) → Has (way ++ turn) t → (k : ℕ) × (x : Edge) × Has (state_at graph k).edges x × (words.letter_of x.cube ≡ t.letter)
-  found_cubes way turn w t h = elim (append_cases way turn t h) [
-    | inl k ↦ (told_way net.start way w.end w.arrives).cubes t k
-    | inr k ↦ (told_way w.end turn w.end w.turns).cubes t k
+  pub found_cubes : (stem cycle : List Taken) → IsFullWalk net (A.sets + 1) stem cycle → (t : Taken) → Has (stem ++ cycle) t → (k : ℕ) × (x : Edge) × Has (state_at graph k).edges x × (words.letter_of x.cube ≡ t.letter)
+  found_cubes stem cycle w t h = elim (append_cases stem cycle t h) [
+    | inl k ↦ (told_path net.start stem w.end w.arrives).cubes t k
+    | inr k ↦ (told_path w.end cycle w.end w.cycles).cubes t k
   ]
 
   -- what was found is a common walk, with these letters
-  pub found_walk : (way turn : List Taken) → IsFullWalk net (A.sets + 1) way turn
-      → (h : HasCommonWalk A names B) × (lasso_along all_names h.way h.turn ≡ record { stem = map (λ (t : Taken). letter_with all_names t.letter) way; cycle = map (λ (t : Taken). letter_with all_names t.letter) turn })
-  found_walk way turn w = both (told_way net.start way w.end w.arrives) (told_way w.end turn w.end w.turns)
+  pub found_walk : (stem cycle : List Taken) → IsFullWalk net (A.sets + 1) stem cycle
+      → (h : HasCommonWalk A names B) × (lasso_along all_names h.stem h.cycle ≡ record { stem = map (λ (t : Taken). letter_with all_names t.letter) stem; cycle = map (λ (t : Taken). letter_with all_names t.letter) cycle })
+  found_walk stem cycle w = both (told_path net.start stem w.end w.arrives) (told_path w.end cycle w.end w.cycles)
     where
-      both : ToldWay net.start way w.end → ToldWay w.end turn w.end
-          → (h : HasCommonWalk A names B) × (lasso_along all_names h.way h.turn ≡ record { stem = map (λ (t : Taken). letter_with all_names t.letter) way; cycle = map (λ (t : Taken). letter_with all_names t.letter) turn })
+      both : ToldPath net.start stem w.end → ToldPath w.end cycle w.end
+          → (h : HasCommonWalk A names B) × (lasso_along all_names h.stem h.cycle ≡ record { stem = map (λ (t : Taken). letter_with all_names t.letter) stem; cycle = map (λ (t : Taken). letter_with all_names t.letter) cycle })
       both f t = (
         record {
           state = w.end;
-          way = f.edges;
-          turn = t.edges;
+          stem = f.edges;
+          cycle = t.edges;
           arrives = subst (λ s. IsPath graph s f.edges w.end) starts f.path;
-          turns = record { closes = t.path; moves = λ z. w.moves (t.moves z); marks = λ k l. t.takes k (w.takes k l) };
+          cycles = record { closes = t.path; moves = λ z. w.moves (t.moves z); marks = λ k l. t.takes k (w.takes k l) };
         },
         λ i. record { stem = f.letters i; cycle = t.letters i },
       )
 
   -- and where there is a common walk, one is found
-  pub walk_found : HasCommonWalk A names B → (way : List Taken) × (turn : List Taken) × IsFullWalk net (A.sets + 1) way turn
-  walk_found h = both (walked (searched_start A names B) h.way h.state h.arrives) (walked h.state h.turn h.state h.turns.closes)
+  pub walk_found : HasCommonWalk A names B → (stem : List Taken) × (cycle : List Taken) × IsFullWalk net (A.sets + 1) stem cycle
+  walk_found h = both (walked (searched_start A names B) h.stem h.state h.arrives) (walked h.state h.cycle h.state h.cycles.closes)
     where
-      both : Walked (searched_start A names B) h.way h.state → Walked h.state h.turn h.state → (way : List Taken) × (turn : List Taken) × IsFullWalk net (A.sets + 1) way turn
+      both : Walked (searched_start A names B) h.stem h.state → Walked h.state h.cycle h.state → (stem : List Taken) × (cycle : List Taken) × IsFullWalk net (A.sets + 1) stem cycle
       both f t = (
         f.steps,
         t.steps,
         record {
           end = h.state;
-          arrives = subst (λ s. IsWay net s f.steps h.state) (sym starts) f.way;
-          turns = t.way;
-          moves = λ z. h.turns.moves (t.moves z);
-          takes = λ k l. let x = h.turns.marks k l in t.takes k x.0 x.1 x.2;
+          arrives = subst (λ s. IsStepPath net s f.steps h.state) (sym starts) f.stem;
+          cycles = t.stem;
+          moves = λ z. h.cycles.moves (t.moves z);
+          takes = λ k l. let x = h.cycles.marks k l in t.takes k x.0 x.1 x.2;
         },
       )
 
@@ -346,10 +346,10 @@ module _ (A : MarkedAutomaton) (names : List Name) (B : Automaton) (numbers : Li
 
   -- from a path on levels to a walk
   level_walked : (es : List Edge) (s level e last : ℕ) → level ≤ height → IsLevelPath graph (record { state = s; level = level }) es (record { state = e; level = last })
-      → (ts : List Taken) × IsWay (levels_net height net) (s * (height + 1) + level) ts (e * (height + 1) + last)
+      → (ts : List Taken) × IsStepPath (levels_net height net) (s * (height + 1) + level) ts (e * (height + 1) + last)
   level_walked [] s level e last l p =
-      let a : s ≡ e = ap (λ (c : Copy). c.state) p in
-      let b : level ≡ last = ap (λ (c : Copy). c.level) p in
+      let a : s ≡ e = ap (λ (c : LevelState). c.state) p in
+      let b : level ≡ last = ap (λ (c : LevelState). c.level) p in
       ([], ap (λ n. n * (height + 1) + level) a ∙ ap (λ n. e * (height + 1) + n) b)
   level_walked (x ∷ es) s level e last l p =
       let o = looked s x p.0 in
@@ -358,33 +358,33 @@ module _ (A : MarkedAutomaton) (names : List Name) (B : Automaton) (numbers : Li
       let up : next_level height o.step.marks level ≡ next_level height x.marks level = level_alike o.step.marks x.marks level (λ j. same_has o.step.marks x.marks j (o.marks j) (o.back j)) in
       let leads : o.step.target * (height + 1) + next_level height o.step.marks level ≡ x.target * (height + 1) + next_level height x.marks level =
       ap (λ n. n * (height + 1) + next_level height o.step.marks level) o.leads ∙ ap (λ n. x.target * (height + 1) + n) up in
-      let (ts, way) = level_walked es x.target (next_level height x.marks level) e last (next_level_most height level x.marks l) p.1 in (
+      let (ts, stem) = level_walked es x.target (next_level height x.marks level) e last (next_level_most height level x.marks l) p.1 in (
         record { state = s * (height + 1) + level; pick = o.pick; letter = o.step.letter } ∷ ts,
         (
           refl,
           (
             on_level height level o.step,
             record {
-              within = subst (λ n. o.pick < net.pairs n) (sym d) o.arc.within;
+              within = subst (λ n. o.pick < net.pairs n) (sym d) o.successor.within;
               found =
-                  ap (λ n. option_map (on_level height n) (net.arc ((s * (height + 1) + level) / (height + 1)) o.pick)) m
-                  ∙ ap (λ n. option_map (on_level height level) (net.arc n o.pick)) d
-                  ∙ ap (option_map (on_level height level)) o.arc.found;
+                  ap (λ n. option_map (on_level height n) (net.successor ((s * (height + 1) + level) / (height + 1)) o.pick)) m
+                  ∙ ap (λ n. option_map (on_level height level) (net.successor n o.pick)) d
+                  ∙ ap (option_map (on_level height level)) o.successor.found;
             },
             refl,
-            subst (λ n. IsWay (levels_net height net) n ts (e * (height + 1) + last)) (sym leads) way,
+            subst (λ n. IsStepPath (levels_net height net) n ts (e * (height + 1) + last)) (sym leads) stem,
           ),
         ),
       )
 
   -- what is reached on levels is reached by looks
-  pub reached_by_looks : (n : ℕ) → IsReachedCopy A names B n → Reached (levels_net height net) n
+  pub reached_by_looks : (n : ℕ) → IsReachedLevelState A names B n → Reached (levels_net height net) n
   reached_by_looks n (es, p) =
-      let (ts, way) = level_walked es (searched_start A names B) 0 (n / (A.sets + 2)) (n % (A.sets + 2)) (omega arith) p in
+      let (ts, stem) = level_walked es (searched_start A names B) 0 (n / (A.sets + 2)) (n % (A.sets + 2)) (omega arith) p in
       let two : A.sets + 2 ≡ height + 1 = omega arith in
       let end : (n / (A.sets + 2)) * (height + 1) + n % (A.sets + 2) ≡ n = ap (λ k. (n / k) * (height + 1) + n % k) two ∙ again_of n in
       let begin : searched_start A names B * (height + 1) + 0 ≡ net.start * (height + 1) = plain (searched_start A names B * (height + 1)) ∙ ap (λ k. k * (height + 1)) (sym starts) in
-      (ts, subst (λ k. IsWay (levels_net height net) k ts n) begin (subst (IsWay (levels_net height net) (searched_start A names B * (height + 1) + 0) ts) end way))
+      (ts, subst (λ k. IsStepPath (levels_net height net) k ts n) begin (subst (IsStepPath (levels_net height net) (searched_start A names B * (height + 1) + 0) ts) end stem))
     where
       again_of : (n : ℕ) → (n / (height + 1)) * (height + 1) + n % (height + 1) ≡ n
       again_of n = omega arith

@@ -26,7 +26,7 @@ use Rattle.ltl_models.specs.BaView.{IsBa}
 use Rattle.ltl_check.specs.declared.walk.Taken.{Taken}
 use Rattle.ltl_check.specs.Levels.{IsFullWalk, levels_net}
 use Rattle.ltl_check.specs.ProductView.{number_in, product_net, edge_pairs, pair_at, pair_count}
-use Rattle.ltl_check.specs.VerdictView.{letters_of, IsReachedCopy, chosen_pairs}
+use Rattle.ltl_check.specs.VerdictView.{letters_of, IsReachedLevelState, chosen_pairs}
 use Rattle.ltl_word.specs.LassoView.{letter_with, word_with}
 use Rattle.ltl_check.specs.Explored.{sum_below, Reached}
 use Rattle.ltl_check.proofs.ProductWalks.{map_twice, found_walk, found_cubes, walk_found, reached_by_looks}
@@ -63,48 +63,48 @@ module _ (A : MarkedAutomaton) (names : List Name) (B : Automaton) (numbers : Li
   buchi = buchi_of (length names) B ba named
 
   -- without a walk
-  pub none_verdict : ((way turn : List Taken) → IsFullWalk (product_net A B numbers) (A.sets + 1) way turn → ⊥) → IsVerdict A names B (IsCommon A names B) Contained
+  pub none_verdict : ((stem cycle : List Taken) → IsFullWalk (product_net A B numbers) (A.sets + 1) stem cycle → ⊥) → IsVerdict A names B (IsCommon A names B) Contained
   none_verdict none = contained_verdict A proper names B buchi (λ h. let w = walk_found A names B numbers ba.some marked.counted named maps h in none w.0 w.1 w.2)
 
-  module _ (way turn : List Taken) (w : IsFullWalk (product_net A B numbers) (A.sets + 1) way turn) where
+  module _ (stem cycle : List Taken) (w : IsFullWalk (product_net A B numbers) (A.sets + 1) stem cycle) where
     -- the letters hold propositions that have names
-    within_of : (t : Taken) → Has (way ++ turn) t → (i : ℕ) → Has t.letter i → i < length all_names
+    within_of : (t : Taken) → Has (stem ++ cycle) t → (i : ℕ) → Has t.letter i → i < length all_names
     within_of t h i m =
-        let (k, x, stands, e) = found_cubes A names B numbers ba.some marked.counted named maps way turn w t h in
+        let (k, x, stands, e) = found_cubes A names B numbers ba.some marked.counted named maps stem cycle w t h in
         let (l, o, q) = map_cases (λ (l : Literal). l.proposition) (filter (λ (l : Literal). l.positive) x.cube) i (subst (λ is. Has is i) (sym e) m) in
         subst (λ n. n < length all_names) (sym q) (both_below (graph_of A) B A.names names marked.differ (graph_is_graph A proper) buchi A.start k x stands l (filter_cases (λ (l : Literal). l.positive) x.cube l o).0)
 
-    letters_at : (ts : List Taken) → ((t : Taken) → Has ts t → Has (way ++ turn) t) → (is : List ℕ) → Has (letters_of ts) is → All (λ i. i < length all_names) is
+    letters_at : (ts : List Taken) → ((t : Taken) → Has ts t → Has (stem ++ cycle) t) → (is : List ℕ) → Has (letters_of ts) is → All (λ i. i < length all_names) is
     letters_at ts among is h =
         let (t, k, e) = map_cases (λ (t : Taken). t.letter) ts is h in
         All-from_has (λ i. i < length all_names) is (λ i m. within_of t (among t k) i (subst (λ js. Has js i) e m))
 
-    pub letters_within : (count : ℕ) → count ≡ length all_names → All (All (λ i. i < count)) (letters_of way ++ letters_of turn)
+    pub letters_within : (count : ℕ) → count ≡ length all_names → All (All (λ i. i < count)) (letters_of stem ++ letters_of cycle)
     letters_within count e =
-        subst (λ n. All (All (λ i. i < n)) (letters_of way ++ letters_of turn)) (sym e)
-        (All-from_has (All (λ i. i < length all_names)) (letters_of way ++ letters_of turn) (λ is h. elim (append_cases (letters_of way) (letters_of turn) is h) [
-          | inl k ↦ letters_at way (λ t m. append_left way turn t m) is k
-          | inr k ↦ letters_at turn (λ t m. append_right way turn t m) is k
+        subst (λ n. All (All (λ i. i < n)) (letters_of stem ++ letters_of cycle)) (sym e)
+        (All-from_has (All (λ i. i < length all_names)) (letters_of stem ++ letters_of cycle) (λ is h. elim (append_cases (letters_of stem) (letters_of cycle) is h) [
+          | inl k ↦ letters_at stem (λ t m. append_left stem cycle t m) is k
+          | inr k ↦ letters_at cycle (λ t m. append_right stem cycle t m) is k
         ]))
 
     -- the word along a walk, in least form
-    pub walk_verdict : (all : List Name) → all ≡ all_names → (v : Lasso) → IsLeastForm (word_with all (letters_of way) (letters_of turn)) v → IsVerdict A names B (IsCommon A names B) (Violated v)
-    walk_verdict all e v least = of_walk (found_walk A names B numbers ba.some marked.counted named maps way turn w)
+    pub walk_verdict : (all : List Name) → all ≡ all_names → (v : Lasso) → IsLeastForm (word_with all (letters_of stem) (letters_of cycle)) v → IsVerdict A names B (IsCommon A names B) (Violated v)
+    walk_verdict all e v least = of_walk (found_walk A names B numbers ba.some marked.counted named maps stem cycle w)
       where
-        of_walk : (h : HasCommonWalk A names B) × (lasso_along all_names h.way h.turn ≡ record { stem = map (λ (t : Taken). letter_with all_names t.letter) way; cycle = map (λ (t : Taken). letter_with all_names t.letter) turn }) → IsVerdict A names B (IsCommon A names B) (Violated v)
+        of_walk : (h : HasCommonWalk A names B) × (lasso_along all_names h.stem h.cycle ≡ record { stem = map (λ (t : Taken). letter_with all_names t.letter) stem; cycle = map (λ (t : Taken). letter_with all_names t.letter) cycle }) → IsVerdict A names B (IsCommon A names B) (Violated v)
         of_walk (h, along) =
-            let letters : word_with all_names (letters_of way) (letters_of turn) ≡ lasso_along all_names h.way h.turn =
-            (λ i. record { stem = map_twice (λ (t : Taken). t.letter) (letter_with all_names) way i; cycle = map_twice (λ (t : Taken). t.letter) (letter_with all_names) turn i }) ∙ sym along in
-            let here : IsLeastForm (lasso_along all_names h.way h.turn) v = subst (λ u. IsLeastForm u v) letters (subst (λ ns. IsLeastForm (word_with ns (letters_of way) (letters_of turn)) v) e least) in
+            let letters : word_with all_names (letters_of stem) (letters_of cycle) ≡ lasso_along all_names h.stem h.cycle =
+            (λ i. record { stem = map_twice (λ (t : Taken). t.letter) (letter_with all_names) stem i; cycle = map_twice (λ (t : Taken). t.letter) (letter_with all_names) cycle i }) ∙ sym along in
+            let here : IsLeastForm (lasso_along all_names h.stem h.cycle) v = subst (λ u. IsLeastForm u v) letters (subst (λ ns. IsLeastForm (word_with ns (letters_of stem) (letters_of cycle)) v) e least) in
             let lasso = common_lasso (graph_of A) B A.names names marked.differ (graph_is_graph A proper) buchi A.start h in
-            let p = least_form_is (lasso_along all_names h.way h.turn) lasso in
-            let same : v ≡ printed_word A names h.way h.turn = least_unique v (printed_word A names h.way h.turn) here.lasso.cycles p.lasso.cycles (λ k. sym (here.same k) ∙ p.same k) here.least p.least in
+            let p = least_form_is (lasso_along all_names h.stem h.cycle) lasso in
+            let same : v ≡ printed_word A names h.stem h.cycle = least_unique v (printed_word A names h.stem h.cycle) here.lasso.cycles p.lasso.cycles (λ k. sym (here.same k) ∙ p.same k) here.least p.least in
             subst (λ u. IsVerdict A names B (IsCommon A names B) (Violated u)) (sym same) (violated_verdict A proper names B buchi h)
 
   -- what is reached costs no more than what the search paid for
   pub paid_copies : (c : ℕ) → ((p : ℕ → Bool) → ((n : ℕ) → p n ≡ true → Reached (levels_net (A.sets + 1) (product_net A B numbers)) n)
       → sum_below (λ n. cond (p n) (edge_pairs A B (pair_at A B (n / (A.sets + 1 + 1)))) 0) (pair_count A B * (A.sets + 1 + 1)) ≤ c)
-      → (p : ℕ → Bool) → ((n : ℕ) → p n ≡ true → IsReachedCopy A names B n) → chosen_pairs A B p (product_size A names B) ≤ c
+      → (p : ℕ → Bool) → ((n : ℕ) → p n ≡ true → IsReachedLevelState A names B n) → chosen_pairs A B p (product_size A names B) ≤ c
   paid_copies c paid p reached =
       let two : A.sets + 1 + 1 ≡ A.sets + 2 = omega arith in
       subst (λ k. sum_below (λ n. cond (p n) (edge_pairs A B (pair_at A B (n / k))) 0) (pair_count A B * k) ≤ c) two

@@ -5,7 +5,7 @@ use Rattle.ltl_check.specs.declared.levels.LevelState.{LevelState}
 use Rattle.ltl_check.specs.declared.walk.Taken.{Taken}
 use Rattle.ltl_spec.specs.Construction.Levels.{next_level}
 use Rattle.ltl_check.specs.Marks.{in_set}
-use Rattle.ltl_check.specs.Nets.{Net, IsArc, IsWay}
+use Rattle.ltl_check.specs.Nets.{Net, IsSuccessor, IsStepPath}
 
 -- an edge on a level; one number stands for a state and a level
 abbrev pub on_level : ℕ → ℕ → Step ℕ → Step ℕ
@@ -20,7 +20,7 @@ levels_net sets N = record {
   count = N.count * (sets + 1);
   start = N.start * (sets + 1);
   pairs = λ n. N.pairs (n / (sets + 1));
-  arc = λ n k. option_map (on_level sets (n % (sets + 1))) (N.arc (n / (sets + 1)) k);
+  successor = λ n k. option_map (on_level sets (n % (sets + 1))) (N.successor (n / (sets + 1)) k);
   accepts = λ n. n % (sets + 1) == sets;
 }
 
@@ -33,7 +33,7 @@ net_of count start number state pairs step = record {
   count = count;
   start = number start;
   pairs = λ n. pairs (state n);
-  arc = λ n k. option_map (numbered number) (step (state n) k);
+  successor = λ n k. option_map (numbered number) (step (state n) k);
   accepts = λ n. false;
 }
 
@@ -45,15 +45,15 @@ module _ (N : Net) where
   -- one of the steps takes an edge of the set
   abbrev pub Takes : List Taken → ℕ → Type 0
   Takes [] j = ⊥
-  Takes (t ∷ ts) j = ((a : Step ℕ) × IsArc N t.state t.pick a × (in_set a.marks j ≡ true)) ⊎ Takes ts j
+  Takes (t ∷ ts) j = ((a : Step ℕ) × IsSuccessor N t.state t.pick a × (in_set a.marks j ≡ true)) ⊎ Takes ts j
 
-  -- a way from the start, and a closed walk from its end that isn't empty and takes an edge of every set
-  pub record IsFullWalk (sets : ℕ) (way turn : List Taken) : Type 0 where
+  -- a stem from the start, and a closed walk from its end that isn't empty and takes an edge of every set
+  pub record IsFullWalk (sets : ℕ) (stem cycle : List Taken) : Type 0 where
     pub end : ℕ
-    pub arrives : IsWay N N.start way end
-    pub turns : IsWay N end turn end
-    pub moves : turn ≢ []
-    pub takes : (j : ℕ) → j < sets → Takes turn j
+    pub arrives : IsStepPath N N.start stem end
+    pub cycles : IsStepPath N end cycle end
+    pub moves : cycle ≢ []
+    pub takes : (j : ℕ) → j < sets → Takes cycle j
 
 -- a step of the graph, on a level
 abbrev pub placed_step : {S : Type 0} → ℕ → ℕ → Step S → Step (LevelState S)

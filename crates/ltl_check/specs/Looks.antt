@@ -8,7 +8,7 @@ use Rattle.ltl_check.specs.declared.graph.Graph.{Ghosts}
 use Rattle.ltl_check.specs.Nets.{Net}
 use Rattle.ltl_check.specs.Levels.{net_of}
 use Rattle.ltl_check.specs.Explored.{IsGrown, Reached, sum_below}
-use Rattle.ltl_check.specs.VerdictView.{IsReachedCopy, chosen_pairs}
+use Rattle.ltl_check.specs.VerdictView.{IsReachedLevelState, chosen_pairs}
 
 -- the graph by the numbers of its states
 abbrev pub graph_net : {T S L : Type 0} → Ghosts T S L → T → Net
@@ -27,9 +27,9 @@ LooksAtReached N old new =
 module _ (A : MarkedAutomaton) (names : List Name) (B : Automaton) where
   abbrev pub LooksAtCopies : ℕ → ℕ → Type 0
   LooksAtCopies old new =
-      (c : ℕ) × IsGrown old new c × ((p : ℕ → Bool) → ((n : ℕ) → p n ≡ true → IsReachedCopy A names B n) → chosen_pairs A B p (product_size A names B) ≤ c)
+      (c : ℕ) × IsGrown old new c × ((p : ℕ → Bool) → ((n : ℕ) → p n ≡ true → IsReachedLevelState A names B n) → chosen_pairs A B p (product_size A names B) ≤ c)
 
   -- so many steps are at least the pairs of edges that leave any choice of reached states, as far as they can be counted
   abbrev pub CoversReached : ℕ → Type 0
   CoversReached steps =
-      (chosen : ℕ → Bool) → ((n : ℕ) → chosen n ≡ true → IsReachedCopy A names B n) → min (chosen_pairs A B chosen (product_size A names B)) (2 ^ 128 - 1) ≤ steps
+      (chosen : ℕ → Bool) → ((n : ℕ) → chosen n ≡ true → IsReachedLevelState A names B n) → min (chosen_pairs A B chosen (product_size A names B)) (2 ^ 128 - 1) ≤ steps

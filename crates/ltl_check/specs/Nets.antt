@@ -8,32 +8,32 @@ pub record Net : Type 0 where
   pub count : ℕ
   pub start : ℕ
   pub pairs : ℕ → ℕ
-  pub arc : ℕ → ℕ → Option (Step ℕ)
+  pub successor : ℕ → ℕ → Option (Step ℕ)
   pub accepts : ℕ → Bool
 
 module _ (N : Net) where
   -- the look finds the edge
-  pub record IsArc (n k : ℕ) (t : Step ℕ) : Type 0 where
+  pub record IsSuccessor (n k : ℕ) (t : Step ℕ) : Type 0 where
     pub within : k < N.pairs n
-    pub found : N.arc n k ≡ Some t
+    pub found : N.successor n k ≡ Some t
 
   -- the steps lead from one state to the other
-  abbrev pub IsWay : ℕ → List Taken → ℕ → Type 0
-  IsWay s [] e = s ≡ e
-  IsWay s (t ∷ ts) e = (t.state ≡ s) × ((a : Step ℕ) × IsArc t.state t.pick a × (a.letter ≡ t.letter) × IsWay a.target ts e)
+  abbrev pub IsStepPath : ℕ → List Taken → ℕ → Type 0
+  IsStepPath s [] e = s ≡ e
+  IsStepPath s (t ∷ ts) e = (t.state ≡ s) × ((a : Step ℕ) × IsSuccessor t.state t.pick a × (a.letter ≡ t.letter) × IsStepPath a.target ts e)
 
   -- one of the states that the steps leave is accepting
   abbrev pub Passes : List Taken → Type 0
   Passes [] = ⊥
   Passes (t ∷ ts) = (N.accepts t.state ≡ true) ⊎ Passes ts
 
-  -- a way from the start, and a closed walk from its end that passes an accepting state
-  pub record IsFound (way turn : List Taken) : Type 0 where
+  -- a stem from the start, and a closed walk from its end that passes an accepting state
+  pub record IsFound (stem cycle : List Taken) : Type 0 where
     pub end : ℕ
-    pub arrives : IsWay N.start way end
-    pub turns : IsWay end turn end
-    pub passes : Passes turn
+    pub arrives : IsStepPath N.start stem end
+    pub cycles : IsStepPath end cycle end
+    pub passes : Passes cycle
 
   -- the state lies on a closed walk
-  abbrev pub Turns : ℕ → Type 0
-  Turns n = (t : Taken) × (ts : List Taken) × IsWay n (t ∷ ts) n
+  abbrev pub Cycles : ℕ → Type 0
+  Cycles n = (t : Taken) × (ts : List Taken) × IsStepPath n (t ∷ ts) n

@@ -24,9 +24,9 @@ abbrev pub letters_of : List Taken → List (List ℕ)
 letters_of steps = map (λ t. t.letter) steps
 
 -- The states of a product on levels are numbered by the state, and then by the level. Some path leads to the one with this number
-abbrev pub IsReachedCopy : MarkedAutomaton → List Name → Automaton → ℕ → Type 0
-IsReachedCopy A names B n =
-    (way : List Edge) × IsLevelPath (searched_graph A names B) (record { state = searched_start A names B; level = 0 }) way (record { state = n / (A.sets + 2); level = n % (A.sets + 2) })
+abbrev pub IsReachedLevelState : MarkedAutomaton → List Name → Automaton → ℕ → Type 0
+IsReachedLevelState A names B n =
+    (stem : List Edge) × IsLevelPath (searched_graph A names B) (record { state = searched_start A names B; level = 0 }) stem (record { state = n / (A.sets + 2); level = n % (A.sets + 2) })
 
 -- the pairs of edges, one of each side, on all levels
 abbrev pub level_pairs : MarkedAutomaton → Automaton → ℕ

@@ -60,12 +60,12 @@ fn word<'a, A: Allocator>(
     requires distinct { HasNoRepeats (map (λ n. n.now) names.now) }
     requires propositions { IsTrue (list_all is_proposition (map (λ n. n.now) names.now)) }
     requires few { length names.now ≤ stated_limits.propositions }
-    requires within { All (All (λ i. i < length names.now)) (letters_of walk.way.items ++ letters_of walk.turn.items) }
-    requires cycles { 0 < length (letters_of walk.turn.items) }
-    ensures { IfOk result (IsLeastForm (word_with (map (λ n. n.now) names.now) (letters_of walk.entry.way.items) (letters_of walk.entry.turn.items))) }
+    requires within { All (All (λ i. i < length names.now)) (letters_of walk.stem.items ++ letters_of walk.cycle.items) }
+    requires cycles { 0 < length (letters_of walk.cycle.items) }
+    ensures { IfOk result (IsLeastForm (word_with (map (λ n. n.now) names.now) (letters_of walk.entry.stem.items) (letters_of walk.entry.cycle.items))) }
 {
-    let stem = letters(alloc, walk.way)?;
-    let cycle = letters(alloc, walk.turn)?;
+    let stem = letters(alloc, walk.stem)?;
+    let cycle = letters(alloc, walk.cycle)?;
     let word = Lasso::new(alloc, names, stem.as_slice(), cycle.as_slice())?;
     word.least(alloc)
 }

@@ -38,7 +38,7 @@ fn strip<'a, A: Allocator>(
     Ok(stripped)
 }
 
-/// A way from the start and a closed walk from its end that takes an edge of every set, where there is one.
+/// A stem from the start and a closed walk from its end that takes an edge of every set, where there is one.
 ///
 /// # Errors
 ///
@@ -49,8 +49,8 @@ pub fn find<'a, G: Graph, A: Allocator>(
     looks: &mut G::Looks,
 ) -> Result<Option<Walk<'a, A>>, CheckFault>
     requires { G.count_of graph.now * (G.sets_of graph.now + 1) ≤ stated_limits.product }
-    ensures found { IfOk result (λ r. IfSome r (λ w. IsFullWalk (graph_net G.Graph graph.now) (G.sets_of graph.now) w.way.items w.turn.items)) }
-    ensures none { result ≡ Ok None → (way turn : List Taken) → IsFullWalk (graph_net G.Graph graph.now) (G.sets_of graph.now) way turn → ⊥ }
+    ensures found { IfOk result (λ r. IfSome r (λ w. IsFullWalk (graph_net G.Graph graph.now) (G.sets_of graph.now) w.stem.items w.cycle.items)) }
+    ensures none { result ≡ Ok None → (stem cycle : List Taken) → IsFullWalk (graph_net G.Graph graph.now) (G.sets_of graph.now) stem cycle → ⊥ }
 
     // Each edge is looked at on each level at most twice, and where there is no such walk each one that is reached at least once.
     ensures most { LooksAtMost (G.looked_of looks.old) (G.looked_of looks.new)
@@ -63,9 +63,9 @@ pub fn find<'a, G: Graph, A: Allocator>(
     match search_net(alloc, &levels, looks)? {
         Some(walk) => {
             let sets = graph.sets();
-            let way = strip(alloc, walk.way, sets)?;
-            let turn = strip(alloc, walk.turn, sets)?;
-            Ok(Some(Walk { way, turn }))
+            let stem = strip(alloc, walk.stem, sets)?;
+            let cycle = strip(alloc, walk.cycle, sets)?;
+            Ok(Some(Walk { stem, cycle }))
         }
         None => Ok(None),
     }

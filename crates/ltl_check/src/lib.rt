@@ -6,7 +6,7 @@
 //!
 //! What flows: a `Marked` and a `Ba`, whose names are unified; their `Product`, of which no state and no edge is stored: a look at a pair of edges
 //! answers the step that both take together, if their labels join; its copies on `Levels`, so that the acceptance sets become accepting states;
-//! a `Search`, with a stack for each of its two passes and a mark for each state on a level; a `Walk`, which is a way and a turn; the word along it,
+//! a `Search`, with a stack for each of its two passes and a mark for each state on a level; a `Walk`, which is a stem and a cycle; the word along it,
 //! with the positive literals of each step true, in least form: the `Verdict`.
 //!
 //! `find` searches any type with the trait `Graph`, whose laws say what a graph is. `check` is the whole way:

@@ -31,7 +31,7 @@ pub trait Numbered {
     fn look(&self, n: usize, k: usize, looks: &mut Self::Looks) -> Option<Step<usize>>
         requires own { n < (net self.now).count }
         requires inside { k < (net self.now).pairs n }
-        ensures found { result ≡ (net self.now).arc n k }
+        ensures found { result ≡ (net self.now).successor n k }
         ensures below { IfSome result (λ t. t.target < (net self.now).count) }
         ensures counted { looked_of looks.new ≡ min (looked_of looks.old + 1) (2 ^ 128 - 1) };
 }

@@ -22,20 +22,20 @@ pub enum Colour {
 
 /// Where a pass stands: the steps that led there, the state, and the next look.
 #[derive(Drop)]
-pub struct Front<'a, A: Allocator> {
-    pub way: Vec<Taken, &'a A>,
+pub struct DfsPath<'a, A: Allocator> {
+    pub stem: Vec<Taken, &'a A>,
     pub here: usize,
     pub next: usize,
 }
 
-impl<'a, A: Allocator> Front<'a, A> {
+impl<'a, A: Allocator> DfsPath<'a, A> {
     /// Back to the step before, if there is one.
     fn step_back(&mut self) -> bool
         requires { HasRooms self.old }
         ensures back { result ≡ true → IsPopped self.old self.new }
-        ensures stays { result ≡ false → self.old.way.items ≡ [] }
+        ensures stays { result ≡ false → self.old.stem.items ≡ [] }
     {
-        match self.way.pop() {
+        match self.stem.pop() {
             Some(t) => {
                 self.here = t.state;
                 self.next = t.pick + 1;
@@ -46,22 +46,22 @@ impl<'a, A: Allocator> Front<'a, A> {
     }
 }
 
-/// An open state that the second pass has met: the step to it, and its place on the way.
+/// An open state that the second pass has met: the step to it, and its place on the stem.
 #[derive(Clone, Copy)]
 pub struct Met {
     pub taken: Taken,
     pub place: usize,
 }
 
-/// Where the way leaves the state, or its length.
-fn place_of(way: &[Taken], n: usize) -> usize
-    ensures within { result ≤ length way.now }
-    ensures there { result < length way.now → (t : Taken) × (slice_index_or way.now result t ≡ t) × (t.state ≡ n) }
-    ensures absent { result ≡ length way.now → OneOf (λ t. t.state ≡ n) way.now → ⊥ }
+/// Where the stem leaves the state, or its length.
+fn place_of(stem: &[Taken], n: usize) -> usize
+    ensures within { result ≤ length stem.now }
+    ensures there { result < length stem.now → (t : Taken) × (slice_index_or stem.now result t ≡ t) × (t.state ≡ n) }
+    ensures absent { result ≡ length stem.now → OneOf (λ t. t.state ≡ n) stem.now → ⊥ }
 {
     let mut i = 0usize;
-    'places: while i < way.len() {
-        if way[i].state == n {
+    'places: while i < stem.len() {
+        if stem[i].state == n {
             return i;
         }
         i += 1;
@@ -72,9 +72,9 @@ fn place_of(way: &[Taken], n: usize) -> usize
 /// One look of the second pass.
 fn second_look<'a, N: Numbered, A: Allocator>(
     net: &N,
-    first: &Front<'a, A>,
+    first: &DfsPath<'a, A>,
     colours: &mut Vec<Colour, &'a A>,
-    path: &mut Front<'a, A>,
+    path: &mut DfsPath<'a, A>,
     looks: &mut N::Looks,
 ) -> Result<Option<Met>, AllocError>
     requires probing { IsProbing (N.net net.now) colours.old.items first.now path.old }
@@ -92,11 +92,11 @@ fn second_look<'a, N: Numbered, A: Allocator>(
             };
             match colours[step.target] {
                 Colour::Open => {
-                    let place = place_of(&first.way, step.target);
+                    let place = place_of(&first.stem, step.target);
                     Ok(Some(Met { taken, place }))
                 }
                 Colour::Left => {
-                    path.way.push(taken)?;
+                    path.stem.push(taken)?;
                     colours[step.target] = Colour::Probed;
                     path.here = step.target;
                     path.next = 0;
@@ -118,41 +118,41 @@ fn second_look<'a, N: Numbered, A: Allocator>(
 /// The walk that the second pass has found.
 fn close<'a, A: Allocator>(
     alloc: &'a A,
-    first: &Front<'a, A>,
-    path: &Front<'a, A>,
+    first: &DfsPath<'a, A>,
+    path: &DfsPath<'a, A>,
     met: Met,
 ) -> Result<Walk<'a, A>, AllocError>
-    requires { met.place ≤ length first.now.way.items }
-    ensures way { IfOk result (λ w. w.way.items ≡ take met.place first.now.way.items) }
-    ensures turn { IfOk result (λ w. w.turn.items ≡ drop met.place first.now.way.items ++ (path.now.way.items ++ met.taken ∷ [])) }
+    requires { met.place ≤ length first.now.stem.items }
+    ensures stem { IfOk result (λ w. w.stem.items ≡ take met.place first.now.stem.items) }
+    ensures cycle { IfOk result (λ w. w.cycle.items ≡ drop met.place first.now.stem.items ++ (path.now.stem.items ++ met.taken ∷ [])) }
 {
-    let mut way = Vec::new(alloc);
-    let mut turn = Vec::new(alloc);
-    way.extend_from_slice(&first.way[..met.place])?;
-    turn.extend_from_slice(&first.way[met.place..])?;
-    turn.extend_from_slice(&path.way)?;
-    turn.push(met.taken)?;
-    Ok(Walk { way, turn })
+    let mut stem = Vec::new(alloc);
+    let mut cycle = Vec::new(alloc);
+    stem.extend_from_slice(&first.stem[..met.place])?;
+    cycle.extend_from_slice(&first.stem[met.place..])?;
+    cycle.extend_from_slice(&path.stem)?;
+    cycle.push(met.taken)?;
+    Ok(Walk { stem, cycle })
 }
 
 /// The second pass, from a state that the first pass is about to leave.
-fn probe<'a, N: Numbered, A: Allocator>(
+fn inner_search<'a, N: Numbered, A: Allocator>(
     alloc: &'a A,
     net: &N,
-    first: &Front<'a, A>,
+    first: &DfsPath<'a, A>,
     colours: &mut Vec<Colour, &'a A>,
     looks: &mut N::Looks,
 ) -> Result<Option<Walk<'a, A>>, AllocError>
     requires stands { StandsAt (N.net net.now) colours.old.items first.now }
     requires done { IsDone (N.net net.now) first.now }
     ensures probed { result ≡ Ok None → HasProbed (N.net net.now) colours.old.items colours.new.items first.now }
-    ensures found { IfOk result (λ r. IfSome r (λ w. (N.net net.now).accepts first.now.here ≡ true → IsFound (N.net net.now) w.way.items w.turn.items)) }
+    ensures found { IfOk result (λ r. IfSome r (λ w. (N.net net.now).accepts first.now.here ≡ true → IsFound (N.net net.now) w.stem.items w.cycle.items)) }
     ensures most { LooksAtMost (N.looked_of looks.old) (N.looked_of looks.new) (looks_left (N.net net.now) colours.old.items) }
     ensures paid { result ≡ Ok None → HasPaid (N.net net.now) (N.looked_of looks.old) (N.looked_of looks.new)
         colours.old.items colours.new.items ((N.net net.now).pairs first.now.here) }
 {
-    let mut path = Front {
-        way: Vec::new(alloc),
+    let mut path = DfsPath {
+        stem: Vec::new(alloc),
         here: first.here,
         next: 0,
     };
@@ -172,49 +172,49 @@ fn probe<'a, N: Numbered, A: Allocator>(
 #[derive(Drop)]
 pub struct Search<'a, A: Allocator> {
     pub colours: Vec<Colour, &'a A>,
-    pub front: Front<'a, A>,
+    pub dfs_path: DfsPath<'a, A>,
 }
 
 impl<'a, A: Allocator> Search<'a, A> {
     /// Before the first look.
     fn new<N: Numbered>(alloc: &'a A, net: &N) -> Result<Self, AllocError>
         ensures searching { IfOk result (λ s. IsSearching (N.net net.now) s) }
-        ensures unpaid { IfOk result (λ s. rest_of (N.net net.now) s.front ≡ spent (N.net net.now) s.colours.items) }
+        ensures unpaid { IfOk result (λ s. rest_of (N.net net.now) s.dfs_path ≡ spent (N.net net.now) s.colours.items) }
     {
         let mut colours = vec![in alloc; Colour::New; net.count()]?;
         let here = net.start();
         colours[here] = Colour::Open;
-        let front = Front {
-            way: Vec::new(alloc),
+        let dfs_path = DfsPath {
+            stem: Vec::new(alloc),
             here,
             next: 0,
         };
-        Ok(Search { colours, front })
+        Ok(Search { colours, dfs_path })
     }
 
     /// One look of the first pass.
     fn look<N: Numbered>(&mut self, net: &N, looks: &mut N::Looks) -> Result<(), AllocError>
         requires searching { IsSearching (N.net net.now) self.old }
-        requires more { HasMore (N.net net.now) self.old.front }
+        requires more { HasMore (N.net net.now) self.old.dfs_path }
         ensures on { OnOk result (IsLookOn (N.net net.now) self.old self.new) }
         ensures looked { N.looked_of looks.new ≡ counted (N.looked_of looks.old) 1 }
     {
-        match net.look(self.front.here, self.front.next, looks) {
+        match net.look(self.dfs_path.here, self.dfs_path.next, looks) {
             Some(step) => match self.colours[step.target] {
                 Colour::New => {
                     let taken = Taken {
-                        state: self.front.here,
-                        pick: self.front.next,
+                        state: self.dfs_path.here,
+                        pick: self.dfs_path.next,
                         letter: step.letter,
                     };
-                    self.front.way.push(taken)?;
+                    self.dfs_path.stem.push(taken)?;
                     self.colours[step.target] = Colour::Open;
-                    self.front.here = step.target;
-                    self.front.next = 0;
+                    self.dfs_path.here = step.target;
+                    self.dfs_path.next = 0;
                 }
-                _ => self.front.next += 1,
+                _ => self.dfs_path.next += 1,
             },
-            None => self.front.next += 1,
+            None => self.dfs_path.next += 1,
         }
         Ok(())
     }
@@ -227,48 +227,48 @@ impl<'a, A: Allocator> Search<'a, A> {
         looks: &mut N::Looks,
     ) -> Result<Option<Walk<'a, A>>, AllocError>
         requires searching { IsSearching (N.net net.now) self.old }
-        requires done { IsDone (N.net net.now) self.old.front }
+        requires done { IsDone (N.net net.now) self.old.dfs_path }
         ensures left { result ≡ Ok None → HasLeft (N.net net.now) self.old self.new }
-        ensures found { IfOk result (λ r. IfSome r (λ w. IsFound (N.net net.now) w.way.items w.turn.items)) }
+        ensures found { IfOk result (λ r. IfSome r (λ w. IsFound (N.net net.now) w.stem.items w.cycle.items)) }
         ensures most { LooksAtMost (N.looked_of looks.old) (N.looked_of looks.new) (looks_left (N.net net.now) self.old.colours.items) }
         ensures paid { result ≡ Ok None → HasPaid (N.net net.now) (N.looked_of looks.old) (N.looked_of looks.new)
             self.old.colours.items self.new.colours.items 0 }
     {
-        if !net.accepts(self.front.here) {
-            self.colours[self.front.here] = Colour::Left;
+        if !net.accepts(self.dfs_path.here) {
+            self.colours[self.dfs_path.here] = Colour::Left;
             return Ok(None);
         }
-        match probe(alloc, net, &self.front, &mut self.colours, looks)? {
+        match inner_search(alloc, net, &self.dfs_path, &mut self.colours, looks)? {
             Some(walk) => Ok(Some(walk)),
             None => {
-                self.colours[self.front.here] = Colour::Probed;
+                self.colours[self.dfs_path.here] = Colour::Probed;
                 Ok(None)
             }
         }
     }
 }
 
-/// A way from the start and a closed walk from its end that passes an accepting state, where there is one.
+/// A stem from the start and a closed walk from its end that passes an accepting state, where there is one.
 pub fn search_net<'a, N: Numbered, A: Allocator>(
     alloc: &'a A,
     net: &N,
     looks: &mut N::Looks,
 ) -> Result<Option<Walk<'a, A>>, AllocError>
-    ensures found { IfOk result (λ r. IfSome r (λ w. IsFound (N.net net.now) w.way.items w.turn.items)) }
-    ensures none { result ≡ Ok None → (way turn : List Taken) → IsFound (N.net net.now) way turn → ⊥ }
+    ensures found { IfOk result (λ r. IfSome r (λ w. IsFound (N.net net.now) w.stem.items w.cycle.items)) }
+    ensures none { result ≡ Ok None → (stem cycle : List Taken) → IsFound (N.net net.now) stem cycle → ⊥ }
     ensures most { LooksAtMost (N.looked_of looks.old) (N.looked_of looks.new) (2 * sum_below (N.net net.now).pairs (N.net net.now).count) }
     ensures least { result ≡ Ok None → LooksAtReached (N.net net.now) (N.looked_of looks.old) (N.looked_of looks.new) }
 {
     let mut search = Search::new(alloc, net)?;
     'entering: loop {
-        if search.front.next < net.pairs_at(search.front.here) {
+        if search.dfs_path.next < net.pairs_at(search.dfs_path.here) {
             search.look(net, looks)?;
         } else {
             match search.leave(alloc, net, looks)? {
                 Some(walk) => return Ok(Some(walk)),
                 None => {}
             }
-            if !search.front.step_back() {
+            if !search.dfs_path.step_back() {
                 return Ok(None);
             }
         }

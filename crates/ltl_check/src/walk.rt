@@ -11,9 +11,9 @@ pub struct Taken {
     pub letter: RowSet,
 }
 
-/// A way from the start, and a closed walk from its end.
+/// A stem from the start, and a closed walk from its end.
 #[derive(Drop)]
 pub struct Walk<'a, A: Allocator> {
-    pub way: Vec<Taken, &'a A>,
-    pub turn: Vec<Taken, &'a A>,
+    pub stem: Vec<Taken, &'a A>,
+    pub cycle: Vec<Taken, &'a A>,
 }

@@ -21,7 +21,7 @@ use Rattle.ltl_spec.specs.Tools.Outcome.{Then}
 use Rattle.ltl_spec.specs.Tools.Programs.{Layout, Claim, Hoa, Generalized, KeepsRows, Translates, TranslatesGeneralized}
 use Rattle.ltl_spec.proofs.Collections.MemberLaws.{map_length}
 use Rattle.ltl_spec.proofs.NormalForms.SharedNodes.{trees_length}
-use Rattle.ltl_formula.specs.GraphView.{node_of}
+use Rattle.ltl_formula.specs.SharedNodesView.{node_of}
 use Rattle.ltl_spec.proofs.Checking.BelowLaws.{parsed_below}
 use Rattle.ltl_spec.proofs.Semantics.LanguageLaws.{generalized_models, translation_models}
 use Rattle.ltl_formula.specs.TableView.{TableView, IsTable, core_of, row_trees}

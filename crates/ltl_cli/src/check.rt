@@ -26,7 +26,7 @@ use crate::source::Source;
 use ltl_buchi::{Ba, Options};
 use ltl_check::{Outcome, Verdict, check};
 use ltl_hoa::{Marked, hoa_read_from};
-use ltl_streams::{ByteSink, ByteSource, Piece, WriteFault, write_whole};
+use ltl_streams::{ByteSink, ByteSource, OutputBuffer, WriteFault, write_whole};
 use ltl_syntax::Formula;
 use ltl_word::Lasso;
 use ltl_words::{Plan, PlanFault, Status, Tool};
@@ -139,11 +139,11 @@ fn put_word<A: Allocator, S: ByteSink>(
     ensures ok { OnOk result (Takes (S.state output.old) (S.state output.new) (line (codes "violated") ++ line (lasso_text word.now))) }
     ensures err { OnErr result (Breaks (S.state output.old) (S.state output.new) (line (codes "violated") ++ line (lasso_text word.now))) }
 {
-    let mut piece = Piece::new();
-    piece.put(b"violated\n", output)?;
-    word.put(&mut piece, output)?;
-    piece.put(b"\n", output)?;
-    piece.send(output)
+    let mut buffer = OutputBuffer::new();
+    buffer.put(b"violated\n", output)?;
+    word.put(&mut buffer, output)?;
+    buffer.put(b"\n", output)?;
+    buffer.send(output)
 }
 
 /// Writes what was found.

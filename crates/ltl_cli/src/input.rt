@@ -16,7 +16,7 @@ use std::alloc::{AllocError, AllocFailed, Allocator};
 /// How many bytes of a formula's file are taken at most: one more than its text may have.
 const MOST: usize = TEXT_LIMIT + 1;
 
-const PIECE: usize = 4096;
+const CHUNK: usize = 4096;
 
 /// The bytes of a formula's file to their end, or `MOST` of them, and no read is made behind those.
 #[tactic(auto, using(crate::proofs::StreamLaws::given_open, crate::proofs::StreamLaws::went_wrong, crate::proofs::StreamLaws::went_so_far))]
@@ -30,12 +30,12 @@ fn read_text<'a, A: Allocator, R: ByteSource>(
     ensures same { (R.state reader.new).through ≡ (R.state reader.old).through }
 {
     let mut text = Vec::new(alloc);
-    let mut piece = [0u8; PIECE];
+    let mut chunk = [0u8; CHUNK];
     'pieces: while text.len() < MOST {
-        let room = PIECE.min(MOST - text.len());
-        match reader.read(&mut piece[..room]) {
+        let room = CHUNK.min(MOST - text.len());
+        match reader.read(&mut chunk[..room]) {
             Ok(0) => return Ok(text),
-            Ok(n) => match text.extend_from_slice(&piece[..n]) {
+            Ok(n) => match text.extend_from_slice(&chunk[..n]) {
                 Ok(()) => {}
                 Err(_) => return Err(Refusal::OutOfMemory),
             },

@@ -13,7 +13,7 @@ ghost use Rattle.ltl_dot.specs.Pieces.{front_text, lines_text};
 
 use crate::label::{put_edge, put_number};
 use ltl_hoa::MarkedEdge;
-use ltl_streams::{ByteSink, Piece, WriteFault};
+use ltl_streams::{ByteSink, OutputBuffer, WriteFault};
 use std::alloc::Allocator;
 
 /// How many places at the beginning have edges to this target.
@@ -33,16 +33,16 @@ fn group_len(edges: &[MarkedEdge], places: &[usize], target: usize) -> usize
 fn put_front<S: ByteSink>(
     from: usize,
     to: usize,
-    piece: &mut Piece,
+    buffer: &mut OutputBuffer,
     sink: &mut S,
 ) -> Result<(), WriteFault>
-    ensures { Puts result (S.state sink.old) piece.old (S.state sink.new) piece.new (front_text from to) }
+    ensures { Puts result (S.state sink.old) buffer.old (S.state sink.new) buffer.new (front_text from to) }
 {
-    piece.put(b"  ", sink)?;
-    put_number(from, piece, sink)?;
-    piece.put(b" -> ", sink)?;
-    put_number(to, piece, sink)?;
-    piece.put(b" [label=\"", sink)
+    buffer.put(b"  ", sink)?;
+    put_number(from, buffer, sink)?;
+    buffer.put(b" -> ", sink)?;
+    put_number(to, buffer, sink)?;
+    buffer.put(b" [label=\"", sink)
 }
 
 /// Puts the edges at these places, each in a line of its own.
@@ -51,21 +51,21 @@ fn put_lines<A: Allocator, S: ByteSink>(
     shown: bool,
     edges: &[MarkedEdge],
     places: &[usize],
-    piece: &mut Piece,
+    buffer: &mut OutputBuffer,
     sink: &mut S,
 ) -> Result<(), WriteFault>
     requires within { All (λ p. p < length edges.now) places.now }
     requires named { AreNamed (length names.now) (map edge_of edges.now) }
-    ensures { Puts result (S.state sink.old) piece.old (S.state sink.new) piece.new
+    ensures { Puts result (S.state sink.old) buffer.old (S.state sink.new) buffer.new
         (lines_text (map string_bytes names.now) shown (map edge_of edges.now) places.now) }
 {
     let Some((first, others)) = places.split_first() else {
         return Ok(());
     };
-    put_edge(names, shown, &edges[*first], piece, sink)?;
+    put_edge(names, shown, &edges[*first], buffer, sink)?;
     for place in others {
-        piece.put(b"\\n", sink)?;
-        put_edge(names, shown, &edges[*place], piece, sink)?;
+        buffer.put(b"\\n", sink)?;
+        put_edge(names, shown, &edges[*place], buffer, sink)?;
     }
     Ok(())
 }
@@ -83,12 +83,12 @@ pub(crate) fn put_arrows<A: Allocator, S: ByteSink>(
     shown: bool,
     ordered: Ordered<'_>,
     k: usize,
-    piece: &mut Piece,
+    buffer: &mut OutputBuffer,
     sink: &mut S,
 ) -> Result<(), WriteFault>
     requires order { IsTargetOrder (map edge_of ordered.edges.now) ordered.places.now }
     requires named { AreNamed (length names.now) (map edge_of ordered.edges.now) }
-    ensures { Puts result (S.state sink.old) piece.old (S.state sink.new) piece.new
+    ensures { Puts result (S.state sink.old) buffer.old (S.state sink.new) buffer.new
         (flat_map (arrow_text (map string_bytes names.now) shown) (arrows k (map edge_of ordered.entry.edges.now))) }
 {
     let edges = ordered.edges;
@@ -96,9 +96,9 @@ pub(crate) fn put_arrows<A: Allocator, S: ByteSink>(
     'arrows: while let Some((place, _)) = rest.split_first() {
         let target = edges[*place].target;
         let (group, others) = rest.split_at(group_len(edges, rest, target));
-        put_front(k, target, piece, sink)?;
-        put_lines(names, shown, edges, group, piece, sink)?;
-        piece.put(b"\"]\n", sink)?;
+        put_front(k, target, buffer, sink)?;
+        put_lines(names, shown, edges, group, buffer, sink)?;
+        buffer.put(b"\"]\n", sink)?;
         rest = others;
     }
     Ok(())

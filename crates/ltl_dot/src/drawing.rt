@@ -9,7 +9,7 @@ use crate::acceptance::is_state_based;
 use crate::order::{Places, orders};
 use crate::picture::{put_head, put_states};
 use ltl_hoa::Marked;
-use ltl_streams::{ByteSink, Piece, WriteFault, WriterSink};
+use ltl_streams::{ByteSink, OutputBuffer, WriteFault, WriterSink};
 use std::alloc::{AllocError, Allocator};
 use std::io::Write;
 use std::marker::Model;
@@ -56,17 +56,17 @@ impl<'a, A: Allocator> Drawing<'a, A> {
         ensures ok { OnOk result (Takes (S.state sink.old) (S.state sink.new) (dot_text self.now)) }
         ensures err { OnErr result (Breaks (S.state sink.old) (S.state sink.new) (dot_text self.now)) }
     {
-        let mut piece = Piece::new();
-        put_head(&self.automaton, &mut piece, sink)?;
+        let mut buffer = OutputBuffer::new();
+        put_head(&self.automaton, &mut buffer, sink)?;
         put_states(
             &self.automaton,
             self.orders.as_slice(),
             self.by_states,
-            &mut piece,
+            &mut buffer,
             sink,
         )?;
-        piece.put(b"}\n", sink)?;
-        piece.send(sink)
+        buffer.put(b"}\n", sink)?;
+        buffer.send(sink)
     }
 
     /// The same to a standard writer, which isn't flushed.

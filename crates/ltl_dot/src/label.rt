@@ -10,82 +10,90 @@ ghost use Rattle.ltl_dot.specs.DotText.{disc, edge_text, formula_text, literal_t
 use crate::escape::put_escaped;
 use ltl_hoa::MarkedEdge;
 use ltl_sets::{Cube, Literal, RowSet};
-use ltl_streams::{ByteSink, Piece, WriteFault};
+use ltl_streams::{ByteSink, OutputBuffer, WriteFault};
 use ltl_text::Digits;
 use std::alloc::Allocator;
 
 pub(crate) fn put_number<S: ByteSink>(
     number: usize,
-    piece: &mut Piece,
+    buffer: &mut OutputBuffer,
     sink: &mut S,
 ) -> Result<(), WriteFault>
-    ensures { Puts result (S.state sink.old) piece.old (S.state sink.new) piece.new (decimal number) }
+    ensures { Puts result (S.state sink.old) buffer.old (S.state sink.new) buffer.new (decimal number) }
 {
-    piece.put(Digits::of(number as u64).as_slice(), sink)
+    buffer.put(Digits::of(number as u64).as_slice(), sink)
 }
 
 fn put_literal<A: Allocator, S: ByteSink>(
     names: &[String<&A>],
     literal: Literal,
-    piece: &mut Piece,
+    buffer: &mut OutputBuffer,
     sink: &mut S,
 ) -> Result<(), WriteFault>
     requires { literal.proposition < length names.now }
-    ensures { Puts result (S.state sink.old) piece.old (S.state sink.new) piece.new (literal_text (map string_bytes names.now) (literal_of literal)) }
+    ensures { Puts result (S.state sink.old) buffer.old (S.state sink.new) buffer.new (literal_text (map string_bytes names.now) (literal_of literal)) }
 {
     let name = names[literal.proposition].as_bytes();
     if literal.positive {
-        return put_escaped(name, piece, sink);
+        return put_escaped(name, buffer, sink);
     }
-    piece.put(b"!", sink)?;
-    put_escaped(name, piece, sink)
+    buffer.put(b"!", sink)?;
+    put_escaped(name, buffer, sink)
 }
 
 /// Puts the literals with `&&` between them, and `1` where there is none.
 fn put_formula<A: Allocator, S: ByteSink>(
     names: &[String<&A>],
     cube: &Cube,
-    piece: &mut Piece,
+    buffer: &mut OutputBuffer,
     sink: &mut S,
 ) -> Result<(), WriteFault>
     requires { HasPropositionsBelow (length names.now) cube.now }
-    ensures { Puts result (S.state sink.old) piece.old (S.state sink.new) piece.new (formula_text (map string_bytes names.now) cube.now) }
+    ensures { Puts result (S.state sink.old) buffer.old (S.state sink.new) buffer.new (formula_text (map string_bytes names.now) cube.now) }
 {
     let mut literals = cube.iter();
     let Some(first) = literals.next() else {
-        return piece.put(b"1", sink);
+        return buffer.put(b"1", sink);
     };
-    put_literal(names, first, piece, sink)?;
+    put_literal(names, first, buffer, sink)?;
     for literal in literals {
-        piece.put(b" && ", sink)?;
-        put_literal(names, literal, piece, sink)?;
+        buffer.put(b" && ", sink)?;
+        put_literal(names, literal, buffer, sink)?;
     }
     Ok(())
 }
 
 /// Puts the number of a set as a disc behind a blank.
-fn put_disc<S: ByteSink>(k: usize, piece: &mut Piece, sink: &mut S) -> Result<(), WriteFault>
-    ensures { Puts result (S.state sink.old) piece.old (S.state sink.new) piece.new (disc k) }
+fn put_disc<S: ByteSink>(
+    k: usize,
+    buffer: &mut OutputBuffer,
+    sink: &mut S,
+) -> Result<(), WriteFault>
+    ensures { Puts result (S.state sink.old) buffer.old (S.state sink.new) buffer.new (disc k) }
 {
     if k == 0 {
-        return piece.put(&[b' ', 226, 147, 191], sink);
+        return buffer.put(&[b' ', 226, 147, 191], sink);
     }
     if k <= 10 {
-        return piece.put(&[b' ', 226, 157, 181 + k as u8], sink);
+        return buffer.put(&[b' ', 226, 157, 181 + k as u8], sink);
     }
     if k <= 20 {
-        return piece.put(&[b' ', 226, 147, 160 + k as u8], sink);
+        return buffer.put(&[b' ', 226, 147, 160 + k as u8], sink);
     }
-    piece.put(b" (", sink)?;
-    put_number(k, piece, sink)?;
-    piece.put(b")", sink)
+    buffer.put(b" (", sink)?;
+    put_number(k, buffer, sink)?;
+    buffer.put(b")", sink)
 }
 
-fn put_discs<S: ByteSink>(sets: &RowSet, piece: &mut Piece, sink: &mut S) -> Result<(), WriteFault>
-    ensures { Puts result (S.state sink.old) piece.old (S.state sink.new) piece.new (flat_map disc sets.now) }
+fn put_discs<S: ByteSink>(
+    sets: &RowSet,
+    buffer: &mut OutputBuffer,
+    sink: &mut S,
+) -> Result<(), WriteFault>
+    ensures { Puts result (S.state sink.old) buffer.old (S.state sink.new) buffer.new (flat_map disc sets.now) }
 {
     for k in sets.iter() {
-        put_disc(k, piece, sink)?;
+        put_disc(k, buffer, sink)?;
     }
     Ok(())
 }
@@ -95,15 +103,15 @@ pub(crate) fn put_edge<A: Allocator, S: ByteSink>(
     names: &[String<&A>],
     shown: bool,
     edge: &MarkedEdge,
-    piece: &mut Piece,
+    buffer: &mut OutputBuffer,
     sink: &mut S,
 ) -> Result<(), WriteFault>
     requires { HasPropositionsBelow (length names.now) edge.now.cube }
-    ensures { Puts result (S.state sink.old) piece.old (S.state sink.new) piece.new (edge_text (map string_bytes names.now) shown (edge_of edge.now)) }
+    ensures { Puts result (S.state sink.old) buffer.old (S.state sink.new) buffer.new (edge_text (map string_bytes names.now) shown (edge_of edge.now)) }
 {
-    put_formula(names, &edge.cube, piece, sink)?;
+    put_formula(names, &edge.cube, buffer, sink)?;
     if !shown {
         return Ok(());
     }
-    put_discs(&edge.sets.to_row_set(), piece, sink)
+    put_discs(&edge.sets.to_row_set(), buffer, sink)
 }

@@ -13,46 +13,46 @@ use crate::arrows::{Ordered, put_arrows};
 use crate::label::put_number;
 use crate::order::Places;
 use ltl_hoa::{Marked, MarkedEdge};
-use ltl_streams::{ByteSink, Piece, WriteFault};
+use ltl_streams::{ByteSink, OutputBuffer, WriteFault};
 use std::alloc::Allocator;
 
 /// Puts what the condition of so many sets is called.
 fn put_acceptance_name<S: ByteSink>(
     sets: usize,
-    piece: &mut Piece,
+    buffer: &mut OutputBuffer,
     sink: &mut S,
 ) -> Result<(), WriteFault>
-    ensures { Puts result (S.state sink.old) piece.old (S.state sink.new) piece.new (text.acceptance_name sets) }
+    ensures { Puts result (S.state sink.old) buffer.old (S.state sink.new) buffer.new (text.acceptance_name sets) }
 {
     if sets == 0 {
-        return piece.put(b"all", sink);
+        return buffer.put(b"all", sink);
     }
     if sets == 1 {
-        return piece.put(b"Buchi", sink);
+        return buffer.put(b"Buchi", sink);
     }
-    piece.put(b"generalized-Buchi ", sink)?;
-    put_number(sets, piece, sink)
+    buffer.put(b"generalized-Buchi ", sink)?;
+    put_number(sets, buffer, sink)
 }
 
 /// Puts the condition above the picture, and an arrow from nowhere to the start.
 pub(crate) fn put_head<A: Allocator, S: ByteSink>(
     automaton: &Marked<'_, A>,
-    piece: &mut Piece,
+    buffer: &mut OutputBuffer,
     sink: &mut S,
 ) -> Result<(), WriteFault>
-    ensures { Puts result (S.state sink.old) piece.old (S.state sink.new) piece.new (text.head_text automaton.now) }
+    ensures { Puts result (S.state sink.old) buffer.old (S.state sink.new) buffer.new (text.head_text automaton.now) }
 {
-    piece.put(
+    buffer.put(
         b"digraph automaton {\n  rankdir=LR\n  labelloc=t\n  label=\"",
         sink,
     )?;
-    put_acceptance_name(automaton.sets(), piece, sink)?;
-    piece.put(
+    put_acceptance_name(automaton.sets(), buffer, sink)?;
+    buffer.put(
         b"\"\n  node [shape=circle]\n  I [label=\"\", style=invis, width=0]\n  I -> ",
         sink,
     )?;
-    put_number(automaton.start(), piece, sink)?;
-    piece.put(b"\n", sink)
+    put_number(automaton.start(), buffer, sink)?;
+    buffer.put(b"\n", sink)
 }
 
 /// Whether a state has a double line.
@@ -77,14 +77,14 @@ fn node_end(accepting: bool) -> &'static [u8]
 fn put_node<S: ByteSink>(
     accepting: bool,
     k: usize,
-    piece: &mut Piece,
+    buffer: &mut OutputBuffer,
     sink: &mut S,
 ) -> Result<(), WriteFault>
-    ensures { Puts result (S.state sink.old) piece.old (S.state sink.new) piece.new (text.node_text accepting k) }
+    ensures { Puts result (S.state sink.old) buffer.old (S.state sink.new) buffer.new (text.node_text accepting k) }
 {
-    piece.put(b"  ", sink)?;
-    put_number(k, piece, sink)?;
-    piece.put(node_end(accepting), sink)
+    buffer.put(b"  ", sink)?;
+    put_number(k, buffer, sink)?;
+    buffer.put(node_end(accepting), sink)
 }
 
 /// Puts a state and the arrows from it.
@@ -93,21 +93,21 @@ fn put_state<A: Allocator, S: ByteSink>(
     orders: &[Places<'_, A>],
     by_states: bool,
     k: usize,
-    piece: &mut Piece,
+    buffer: &mut OutputBuffer,
     sink: &mut S,
 ) -> Result<(), WriteFault>
     requires drawing { IsDrawing automaton.now (map (λ p. p.items) orders.now) by_states }
     requires within { k < automaton.now.states }
-    ensures { Puts result (S.state sink.old) piece.old (S.state sink.new) piece.new (text.state_text automaton.now k) }
+    ensures { Puts result (S.state sink.old) buffer.old (S.state sink.new) buffer.new (text.state_text automaton.now k) }
 {
     automaton.invariant();
     let edges = automaton.edges(k);
-    put_node(is_double(by_states, edges), k, piece, sink)?;
+    put_node(is_double(by_states, edges), k, buffer, sink)?;
     let ordered = Ordered {
         edges,
         places: orders[k].as_slice(),
     };
-    put_arrows(automaton.names(), !by_states, ordered, k, piece, sink)
+    put_arrows(automaton.names(), !by_states, ordered, k, buffer, sink)
 }
 
 /// Puts all states.
@@ -115,14 +115,14 @@ pub(crate) fn put_states<A: Allocator, S: ByteSink>(
     automaton: &Marked<'_, A>,
     orders: &[Places<'_, A>],
     by_states: bool,
-    piece: &mut Piece,
+    buffer: &mut OutputBuffer,
     sink: &mut S,
 ) -> Result<(), WriteFault>
     requires { IsDrawing automaton.now (map (λ p. p.items) orders.now) by_states }
-    ensures { Puts result (S.state sink.old) piece.old (S.state sink.new) piece.new (states_text automaton.now) }
+    ensures { Puts result (S.state sink.old) buffer.old (S.state sink.new) buffer.new (states_text automaton.now) }
 {
     for k in 0..automaton.len() {
-        put_state(automaton, orders, by_states, k, piece, sink)?;
+        put_state(automaton, orders, by_states, k, buffer, sink)?;
     }
     Ok(())
 }

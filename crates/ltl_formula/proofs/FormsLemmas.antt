@@ -14,7 +14,7 @@ use Rattle.ltl_syntax.specs.declared.operators.Node.TheVariants as code
 use Rattle.ltl_formula.specs.declared.polarity.Forms.{Forms}
 use Rattle.ltl_formula.specs.FormsView.{numbers_of, forms_in, flat_of, AreInside, MakesBoth}
 use Rattle.ltl_syntax.specs.FormulaView.{StandsAt, trees, tree_of, tree_in, with_tree, whole_tree, unary_of, binary_of}
-use Rattle.ltl_formula.specs.GraphView.{GraphView, Makes}
+use Rattle.ltl_formula.specs.SharedNodesView.{SharedNodesView, Makes}
 
 pub map_push : {X Y : Type 0} (f : X → Y) (xs : List X) (x : X) → map f (xs ++ x ∷ []) ≡ map f xs ++ f x ∷ []
 map_push f [] x = refl
@@ -28,7 +28,7 @@ take_more (y ∷ xs) (suc i) x e = ap (λ l. y ∷ l) (take_more xs i x e)
 
 -- ---- a step of the loop
 
-module _ (g : GraphView) (done : List Forms) (nodes : List Node) (i : ℕ) (b : IsBuilt g.rewrite g.nodes (map numbers_of done) (map flat_of (take i nodes))) where
+module _ (g : SharedNodesView) (done : List Forms) (nodes : List Node) (i : ℕ) (b : IsBuilt g.rewrite g.nodes (map numbers_of done) (map flat_of (take i nodes))) where
   abbrev flat : List FlatNode
   flat = map flat_of (take i nodes)
 
@@ -70,7 +70,7 @@ module _ (g : GraphView) (done : List Forms) (nodes : List Node) (i : ℕ) (b : 
   node_same count (code.Unary op k) s = ap (both_unary g.rewrite (unary_of op)) (forms_same k s)
   node_same count (code.Binary op k l) s = let p = forms_same k s.0 in let q = forms_same l s.1 in λ t. both_binary g.rewrite (binary_of op) (p t) (q t)
 
-  pub step_built : (count : ℕ) (v : Node) (new : GraphView) (p : Forms) (more now : List Forms) → now ≡ done → i < length nodes → StandsAt count i v → slice_get nodes i ≡ Some v → MakesBoth g new p (both_of g.rewrite (forms_in g now) (flat_of v)) → more ≡ done ++ p ∷ []
+  pub step_built : (count : ℕ) (v : Node) (new : SharedNodesView) (p : Forms) (more now : List Forms) → now ≡ done → i < length nodes → StandsAt count i v → slice_get nodes i ≡ Some v → MakesBoth g new p (both_of g.rewrite (forms_in g now) (flat_of v)) → more ≡ done ++ p ∷ []
       → IsBuilt new.rewrite new.nodes (map numbers_of more) (map flat_of (take (i + 1) nodes))
   step_built count v new p more now here l s at made_now e =
       let m = subst (λ (ds : List Forms). MakesBoth g new p (both_of g.rewrite (forms_in g ds) (flat_of v))) here made_now in
@@ -101,7 +101,7 @@ pub formulas_same : (nodes : List Node) → formulas (map flat_of nodes) ≡ tre
 formulas_same nodes = trees_from nodes []
 
 -- one of the two numbers of the last node stands for the core
-module _ (g : GraphView) (done : List Forms) (nodes : List Node) (n : ℕ) (e : n ≡ length nodes) (some : 0 < n) (b : IsBuilt g.rewrite g.nodes (map numbers_of done) (map flat_of (take n nodes))) where
+module _ (g : SharedNodesView) (done : List Forms) (nodes : List Node) (n : ℕ) (e : n ≡ length nodes) (some : 0 < n) (b : IsBuilt g.rewrite g.nodes (map numbers_of done) (map flat_of (take n nodes))) where
   pub last_inside : n - 1 < length done
   last_inside =
       let l = done_length g done nodes n b in
@@ -136,7 +136,7 @@ index_any (x ∷ xs) zero c d l = refl
 index_any (x ∷ xs) (suc k) c d l = index_any xs k c d (omega arith)
 
 -- so the graph has a node for the core
-pub core_made : (old g : GraphView) (done : List Forms) (nodes : List Node) (n m : ℕ) → n ≡ length nodes → m ≡ length nodes → 0 < n → IsBuilt g.rewrite g.nodes (map numbers_of done) (map flat_of (take n nodes)) → g.rewrite ≡ old.rewrite → IsMore old.nodes g.nodes
+pub core_made : (old g : SharedNodesView) (done : List Forms) (nodes : List Node) (n m : ℕ) → n ≡ length nodes → m ≡ length nodes → 0 < n → IsBuilt g.rewrite g.nodes (map numbers_of done) (map flat_of (take n nodes)) → g.rewrite ≡ old.rewrite → IsMore old.nodes g.nodes
     → (negate : Bool) (d : Forms) (there : List Forms) → there ≡ done → (k : ℕ) → k ≡ cond negate (slice_index_or there (m - 1) d).negative (slice_index_or there (m - 1) d).positive
     → Makes old g k (core (whole_tree nodes) negate old.rewrite)
 core_made old g done nodes n m e f some b r keeps negate d there same k is = record {

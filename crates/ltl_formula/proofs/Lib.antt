@@ -1,5 +1,5 @@
 pub mod FormsLemmas
-pub mod GraphLemmas
+pub mod SharedNodesLemmas
 pub mod MadeLemmas
 pub mod OrderLemmas
 pub mod PlacesLemmas

@@ -9,9 +9,9 @@ use Rattle.ltl_spec.proofs.NormalForms.SharedRewriting.{HasConstants, choice_tre
 use Rattle.ltl_formula.specs.declared.rewriting.Choice.{Choice}
 use Rattle.ltl_formula.specs.declared.row.Row.{Row}
 use Rattle.ltl_formula.specs.ChoiceView.{choice_of}
-use Rattle.ltl_formula.specs.GraphView.{GraphView, Makes, node_of}
+use Rattle.ltl_formula.specs.SharedNodesView.{SharedNodesView, Makes, node_of}
 
-module _ {E : Type 0} (r : Result ℕ E) (old new : GraphView) (c : HasConstants old.nodes 0 1) (choice : Choice) (made : IfOk r (λ k. Makes old new k (choice_tree old.nodes (choice_of choice)))) where
+module _ {E : Type 0} (r : Result ℕ E) (old new : SharedNodesView) (c : HasConstants old.nodes 0 1) (choice : Choice) (made : IfOk r (λ k. Makes old new k (choice_tree old.nodes (choice_of choice)))) where
   -- the tree by another name
   renamed : (F : Normal) → choice_tree old.nodes (choice_of choice) ≡ F → IfOk r (λ k. Makes old new k F)
   renamed F e = subst (λ (G : Normal). IfOk r (λ k. Makes old new k G)) e made

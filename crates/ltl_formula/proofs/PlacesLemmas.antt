@@ -12,11 +12,11 @@ use Rattle.ltl_spec.proofs.Collections.MemberLaws.{at_map}
 use Rattle.ltl_spec.proofs.NormalForms.SharedNodes.{Node, TopNode, BottomNode, LeafNode, NextNode, AndNode, OrNode, UntilNode, ReleaseNode, parts_of, tree_of, tree_in, trees, trees_push, tree_at, node_at, tree_of_alike, index_last, IsShared, AllBefore}
 use Rattle.ltl_spec.proofs.Collections.CaseLaws.{below_or_last}
 use Rattle.ltl_formula.specs.declared.row.Row.{Row}
-use Rattle.ltl_formula.specs.GraphView.{IsBelow, node_of}
+use Rattle.ltl_formula.specs.SharedNodesView.{IsBelow, node_of}
 use Rattle.ltl_formula.specs.PlacesView.{renumbered}
 use Rattle.ltl_formula.specs.TableView.{AreOrdered, row_trees, places_by}
 use Rattle.ltl_formula.specs.WalkView.{AreInOrder}
-use Rattle.ltl_formula.proofs.GraphLemmas.{below_of}
+use Rattle.ltl_formula.proofs.SharedNodesLemmas.{below_of}
 use Rattle.ltl_formula.proofs.FormsLemmas.{map_push}
 
 -- one element more of a list

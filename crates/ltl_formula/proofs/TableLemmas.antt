@@ -23,7 +23,7 @@ use Rattle.ltl_syntax.specs.declared.operators.Node as code
 use Rattle.ltl_formula.specs.declared.row.Row.{Row}
 use Rattle.ltl_formula.specs.declared.row.Row.TheVariants as row
 use Rattle.ltl_syntax.specs.FormulaView as formula
-use Rattle.ltl_formula.specs.GraphView.{IsBelow, node_of}
+use Rattle.ltl_formula.specs.SharedNodesView.{IsBelow, node_of}
 use Rattle.ltl_formula.specs.TableView.{TableView, AreOrdered, IsTable, IsTableOf, IsNamedBelow, row_trees, core_of, places_by, is_until_row, is_elementary_row, is_elementary_of}
 use Rattle.ltl_formula.proofs.OrderLemmas.{rows_last}
 

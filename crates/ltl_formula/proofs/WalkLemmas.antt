@@ -13,7 +13,7 @@ use Rattle.ltl_spec.specs.Collections.Sets.{Has}
 use Rattle.ltl_spec.specs.NormalForms.Normal.{Normal, same}
 use Rattle.ltl_spec.specs.NormalForms.NormalForm.{rows}
 use Rattle.ltl_sets.specs.declared.literal.Literal.{Literal}
-use Rattle.ltl_formula.specs.GraphView.{node_of}
+use Rattle.ltl_formula.specs.SharedNodesView.{node_of}
 use Rattle.ltl_formula.specs.WalkView.{task_of}
 use Rattle.ltl_formula.specs.declared.row.Row.{Row}
 use Rattle.ltl_formula.specs.declared.row.Row.TheVariants as row

@@ -2,7 +2,7 @@
 use Rattle.std.specs.Prelude.{ℕ, ◌<◌}
 use Rattle.ltl_spec.specs.NormalForms.SharedNodes.{AllBefore}
 use Rattle.ltl_spec.specs.NormalForms.SharedRewriting as law
-use Rattle.ltl_formula.specs.GraphView.{node_of}
+use Rattle.ltl_formula.specs.SharedNodesView.{node_of}
 use Rattle.ltl_formula.specs.declared.rewriting.Choice.{Choice}
 use Rattle.ltl_formula.specs.declared.rewriting.Choice.TheVariants.{Old, New}
 

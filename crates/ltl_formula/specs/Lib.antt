@@ -1,6 +1,6 @@
 pub mod ChoiceView
 pub mod FormsView
-pub mod GraphView
+pub mod SharedNodesView
 pub mod PlacesView
 pub mod TableView
 pub mod WalkView

@@ -5,7 +5,7 @@ use Rattle.ltl_spec.specs.NormalForms.Normal.{Normal, same}
 use Rattle.ltl_spec.specs.NormalForms.NormalForm as normal
 use Rattle.ltl_spec.specs.NormalForms.SharedNodes.{trees, tree_at}
 use Rattle.ltl_spec.specs.Tools.Limits.{stated_limits}
-use Rattle.ltl_formula.specs.GraphView.{IsBelow, node_of}
+use Rattle.ltl_formula.specs.SharedNodesView.{IsBelow, node_of}
 use Rattle.ltl_formula.specs.declared.row.Row.{Row}
 use Rattle.ltl_formula.specs.declared.row.Row.TheVariants as row
 

@@ -20,21 +20,21 @@
 #![tactic(auto)]
 
 pub mod build_fault;
-mod graph;
 pub mod limits;
 mod places;
 mod polarity;
 mod rewriting;
 pub mod row;
+mod shared_nodes;
 pub mod table;
 mod walk;
 
 pub use build_fault::BuildFault;
 pub use limits::{ELEMENTARY_ROW_LIMIT, ROW_LIMIT};
 pub use ltl_syntax::{
-    BinaryOperator, FaultKind, Formula, Node, PROPOSITION_LIMIT, Piece, ReadFault, TEXT_LIMIT,
-    Token, TokenKind, Tokens, UnaryOperator, WriteFault, fault, formula, laws, lex, lexer,
-    operators, output, put_text, read, reader, text_to, token,
+    BinaryOperator, FaultKind, Formula, Node, OutputBuffer, PROPOSITION_LIMIT, ReadFault,
+    TEXT_LIMIT, Token, TokenKind, Tokens, UnaryOperator, WriteFault, fault, formula, laws, lex,
+    lexer, operators, output, put_text, read, reader, text_to, token,
 };
 pub use row::Row;
 pub use table::Table;

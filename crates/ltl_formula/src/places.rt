@@ -2,13 +2,13 @@
 
 ghost use Rattle.std.specs.Prelude.{◌≡◌, ◌<◌, length, map, slice_index, IfOk};
 ghost use Rattle.ltl_spec.specs.NormalForms.SharedNodes.{tree_at};
-ghost use Rattle.ltl_formula.specs.GraphView.{IsBelow, node_of};
+ghost use Rattle.ltl_formula.specs.SharedNodesView.{IsBelow, node_of};
 ghost use Rattle.ltl_formula.specs.PlacesView.{renumbered};
 ghost use Rattle.ltl_formula.specs.TableView as table;
 ghost use Rattle.ltl_formula.specs.WalkView.{AreInOrder};
 
-use crate::graph::Graph;
 use crate::row::Row;
+use crate::shared_nodes::SharedNodes;
 use smallvec::SmallVec;
 use std::alloc::{AllocError, Allocator};
 
@@ -38,7 +38,7 @@ pub type ElementaryPlaces<'a, A> = SmallVec<usize, 32, &'a A>;
 /// The nodes of these numbers, with operands by their places among them.
 pub fn numbered_rows<'a, A: Allocator>(
     alloc: &'a A,
-    graph: &Graph<'_, A>,
+    graph: &SharedNodes<'_, A>,
     numbers: &[usize],
 ) -> Result<Vec<Row, &'a A>, AllocError>
     requires { AreInOrder graph.now.nodes numbers.now }

@@ -5,11 +5,11 @@ ghost use Rattle.ltl_spec.specs.NormalForms.NormalForm.{core};
 ghost use Rattle.ltl_spec.specs.Checking.Bounds.{HasLeavesBelow};
 ghost use Rattle.ltl_spec.specs.Tools.Limits.{stated_limits};
 ghost use Rattle.ltl_syntax.specs.FormulaView.{reading_of};
-ghost use Rattle.ltl_formula.specs.GraphView.{Makes};
+ghost use Rattle.ltl_formula.specs.SharedNodesView.{Makes};
 
-use crate::graph::Graph;
 use crate::rewriting::{Choice, choose_and, choose_next, choose_or, choose_release, choose_until};
 use crate::row::Row;
+use crate::shared_nodes::SharedNodes;
 use ltl_sets::Literal;
 use ltl_syntax::{BinaryOperator, Formula, Node, UnaryOperator};
 use smallvec::SmallVec;
@@ -45,7 +45,7 @@ impl Forms {
     }
 }
 
-impl<'a, A: Allocator> Graph<'a, A> {
+impl<'a, A: Allocator> SharedNodes<'a, A> {
     ghost use Rattle.ltl_spec.specs.Formulas.Formula as spec;
     ghost use Rattle.ltl_spec.specs.NormalForms.NormalForm.{constant};
     ghost use Rattle.ltl_spec.specs.NormalForms.SharedNodes.{tree_at};
@@ -54,7 +54,7 @@ impl<'a, A: Allocator> Graph<'a, A> {
     ghost use Rattle.ltl_formula.specs.ChoiceView.{choice_of, IsInside};
     ghost use Rattle.ltl_formula.specs.FormsView.{MakesBoth, AreInside, forms_at, forms_in, flat_of};
     ghost use Rattle.ltl_syntax.specs.FormulaView.{unary_of, binary_of, StandsAt};
-    ghost use Rattle.ltl_formula.specs.GraphView.{Makes};
+    ghost use Rattle.ltl_formula.specs.SharedNodesView.{Makes};
 
     /// The number of what was chosen.
     fn take(&mut self, choice: Choice) -> Result<usize, AllocError>
@@ -261,7 +261,7 @@ impl<'a, A: Allocator> Graph<'a, A> {
 /// The number of the node that stands for the core of the formula: for its normal form, or that of its negation.
 pub fn core_number<A: Allocator, B: Allocator>(
     alloc: &A,
-    graph: &mut Graph<'_, A>,
+    graph: &mut SharedNodes<'_, A>,
     formula: &Formula<'_, B>,
     negate: bool,
 ) -> Result<usize, AllocError>

@@ -3,11 +3,11 @@
 ghost use Rattle.std.specs.Prelude.{◌≡◌, ◌<◌, ◌==◌, ◌&&◌, ℕ, length, IfOk, if◌then◌else◌};
 ghost use Rattle.ltl_spec.specs.NormalForms.SharedNodes as nodes;
 ghost use Rattle.ltl_spec.specs.NormalForms.SharedRewriting as law;
-ghost use Rattle.ltl_formula.specs.GraphView.{node_of};
+ghost use Rattle.ltl_formula.specs.SharedNodesView.{node_of};
 ghost use Rattle.ltl_formula.specs.ChoiceView.{choice_of, IsInside};
 
-use crate::graph::{BOTTOM, TOP};
 use crate::row::Row;
+use crate::shared_nodes::{BOTTOM, TOP};
 
 /// A number that is there, or a node that may be there or not.
 #[derive(Clone, Copy)]

@@ -5,13 +5,13 @@ ghost use Rattle.std.specs.Prelude.{◌≡◌, ◌<◌, ◌≤◌, ◌-◌, All,
 ghost use Rattle.ltl_formula.specs.declared.limits.TheConstants.{ROW_LIMIT};
 
 use crate::build_fault::BuildFault;
-use crate::graph::Graph;
 use crate::limits::ELEMENTARY_ROW_LIMIT;
 use crate::places::{
     ElementaryPlaces, UntilPlaces, elementary_places, numbered_rows, until_places,
 };
 use crate::polarity::core_number;
 use crate::row::Row;
+use crate::shared_nodes::SharedNodes;
 use crate::walk::row_numbers;
 use ltl_syntax::Formula;
 use std::alloc::Allocator;
@@ -40,7 +40,7 @@ impl<'a, A: Allocator> Table<'a, A> {
     ghost use Rattle.ltl_spec.specs.Checking.Bounds.{HasLeavesBelow};
     ghost use Rattle.ltl_spec.specs.NormalForms.SharedNodes.{tree_at};
     ghost use Rattle.ltl_syntax.specs.FormulaView.{reading_of};
-    ghost use Rattle.ltl_formula.specs.GraphView.{IsBelow};
+    ghost use Rattle.ltl_formula.specs.SharedNodesView.{IsBelow};
     ghost use Rattle.ltl_formula.specs.TableView.{IsNamedBelow, IsTable, core_of};
 
     /// The table of a formula or, with `negate`, of its negation, rewritten with `rewrite`.
@@ -61,13 +61,17 @@ impl<'a, A: Allocator> Table<'a, A> {
         ensures elementary { IsErrOf result BuildFault.TooManyElementaryRows
             → stated_limits.elementary_rows < length (elementary_rows (core (reading_of formula.now).formula negate rewrite)) }
     {
-        let mut graph = Graph::new(alloc, formula.len(), rewrite)?;
+        let mut graph = SharedNodes::new(alloc, formula.len(), rewrite)?;
         let root = core_number(alloc, &mut graph, formula, negate)?;
         Table::of_node(alloc, &graph, root)
     }
 
     /// The table of a node of a graph.
-    fn of_node(alloc: &'a A, graph: &Graph<'_, A>, root: usize) -> Result<Table<'a, A>, BuildFault>
+    fn of_node(
+        alloc: &'a A,
+        graph: &SharedNodes<'_, A>,
+        root: usize,
+    ) -> Result<Table<'a, A>, BuildFault>
         requires inside { root < length graph.now.nodes }
         requires literals { HasLeavesBelow stated_limits.propositions (tree_at graph.now.nodes root) }
         ensures table { IfOk result IsTable }

@@ -7,9 +7,9 @@ ghost use Rattle.ltl_spec.specs.NormalForms.RowsCollected.{IsTaskDone, AreFlags}
 ghost use Rattle.ltl_formula.specs.WalkView.{AreInOrder, AreOnNodes, task_of};
 
 use crate::build_fault::BuildFault;
-use crate::graph::Graph;
 use crate::limits::ROW_LIMIT;
 use crate::row::Row;
+use crate::shared_nodes::SharedNodes;
 use smallvec::SmallVec;
 use std::alloc::{AllocError, Allocator};
 
@@ -54,7 +54,7 @@ fn list<A: Allocator>(
 
 /// Does one task.
 fn step<A: Allocator>(
-    graph: &Graph<'_, A>,
+    graph: &SharedNodes<'_, A>,
     task: Task,
     flags: &mut Flags<'_, A>,
     listed: &mut Numbers<'_, A>,
@@ -90,7 +90,7 @@ fn step<A: Allocator>(
 /// The numbers of the rows of node `root`, by first occurrence in postorder.
 pub fn row_numbers<'a, A: Allocator>(
     alloc: &'a A,
-    graph: &Graph<'_, A>,
+    graph: &SharedNodes<'_, A>,
     root: usize,
 ) -> Result<Numbers<'a, A>, BuildFault>
     requires { root < length graph.now.nodes }

@@ -1,4 +1,4 @@
--- What the machine answers at the end of the text.
+-- What the stream reader answers at the end of the text.
 use Rattle.std.specs.declared.alloc.AllocError.{AllocError}
 use Rattle.std.specs.Prelude.{OnOk, is_some, Result}
 use Rattle.std.proofs.Common.{◌≡◌, ℕ, ◌≤◌, true, false, ◌⊎◌, inl, inr, List, [], ◌∷◌, ◌++◌, length, Option, Some, None, refl, sym, ◌∙◌, ap, subst}
@@ -15,7 +15,7 @@ use Rattle.ltl_spec.specs.Hoa.HoaStep as table
 use Rattle.ltl_spec.specs.Hoa.HoaFault as fault
 use Rattle.ltl_spec.specs.Hoa.HoaPlace.{Before, before_all}
 use Rattle.ltl_spec.specs.Hoa.HoaFault.{take_item, with_line, fault_after, end_fault, fault_at, hoa_fault}
-use Rattle.ltl_hoa.specs.declared.machine.Found.{Found}
+use Rattle.ltl_hoa.specs.declared.stream_reader.Found.{Found}
 use Rattle.ltl_hoa.specs.declared.place.Place.{Place}
 use Rattle.ltl_hoa.specs.declared.place.Place.TheVariants as place
 use Rattle.ltl_hoa.specs.declared.token.TokenKind.{TokenKind}
@@ -25,10 +25,10 @@ use Rattle.ltl_hoa.specs.LexerView.{last_kind}
 use Rattle.ltl_hoa.specs.Resuming.{item_of, with_item}
 use Rattle.ltl_hoa.specs.ParserView.{ParserView, ShowsPlace}
 use Rattle.ltl_hoa.specs.Shown.{Came, came_none, came_at}
-use Rattle.ltl_hoa.specs.MachineView.{MachineView, TakesToken, fault_line}
+use Rattle.ltl_hoa.specs.StreamReaderView.{StreamReaderView, TakesToken, fault_line}
 use Rattle.ltl_hoa.specs.Reading.{Reached, reach, reached, fault_of, IsSound, IsFaulty, IsIn, IsAfter, IsTold, IsToldIn, IsEnded}
 use Rattle.ltl_hoa.proofs.LexLaws.{lexer_last}
-use Rattle.ltl_hoa.proofs.MachineLaws.{TokenShown, token_shown, reached_more, first_reached}
+use Rattle.ltl_hoa.proofs.StreamReaderLaws.{TokenShown, token_shown, reached_more, first_reached}
 
 after_fault : (whole : List ℕ) (f : fault.HoaFault) (items : List HoaItem) → fold (take_item stated_limits stated_form whole) (Err f) items ≡ Err f
 after_fault whole f [] = refl
@@ -85,7 +85,7 @@ end_line (place.Body p) pl last v b g s = absurd s
 end_line q pl last v b g s = subst (λ x. end_fault x last ≡ at_line (end_kind q) last) s.1 refl
 
 -- at the end without a token that is open
-pub ended_between : (v : MachineView) (text : List ℕ) → IsSound v text → last_kind v.lexer.phase ≡ None → IsTold v text
+pub ended_between : (v : StreamReaderView) (text : List ℕ) → IsSound v text → last_kind v.lexer.phase ≡ None → IsTold v text
 ended_between v text s e = record {
   before = s.before;
   came = s.came;
@@ -94,7 +94,7 @@ ended_between v text s e = record {
 }
 
 -- at the end of the last token
-pub ended_in : (v w : MachineView) (k : TokenKind) (text : List ℕ) → v.fault ≡ None → v.line ≡ last_line text → IsSound v text → last_kind v.lexer.phase ≡ Some k → TakesToken v k w
+pub ended_in : (v w : StreamReaderView) (k : TokenKind) (text : List ℕ) → v.fault ≡ None → v.line ≡ last_line text → IsSound v text → last_kind v.lexer.phase ≡ Some k → TakesToken v k w
     → (w.fault ≡ None) × IsTold w text ⊎ ((f : Found) × (w.fault ≡ Some f) × (fold (take_item stated_limits stated_form text) (Ok before_all) (hoa_items text) ≡ Err (fault_of f)))
 ended_in v w k text n line s e t = go (table.step stated_limits stated_form s.before.place s.before (token_of k v.lexer.text)) refl (token_shown v w k s.before s.came n s.shows t)
   where
@@ -127,7 +127,7 @@ ended_in v w k text n line s e t = go (table.step stated_limits stated_form s.be
     )
 
 -- the fault at the end, if there is one
-pub told_fault : (w : MachineView) (text : List ℕ) → length text ≤ stated_limits.hoa_bytes → IsTold w text → hoa_fault stated_limits stated_form text ≡ at_line (end_kind w.parser.place) (last_line text)
+pub told_fault : (w : StreamReaderView) (text : List ℕ) → length text ≤ stated_limits.hoa_bytes → IsTold w text → hoa_fault stated_limits stated_form text ≡ at_line (end_kind w.parser.place) (last_line text)
 told_fault w text l s =
     within_limit text l
     ∙ ap (fault_after stated_limits stated_form text) (sym (first_reached text (hoa_items text) (Ok before_all, came_none)) ∙ ap (λ (x : Reached). x.0) s.reached)
@@ -136,13 +136,13 @@ told_fault w text l s =
 pub last_fault : (f : Found) (text : List ℕ) → length text ≤ stated_limits.hoa_bytes → fold (take_item stated_limits stated_form text) (Ok before_all) (hoa_items text) ≡ Err (fault_of f) → hoa_fault stated_limits stated_form text ≡ Some (fault_of f)
 last_fault f text l e = within_limit text l ∙ ap (fault_after stated_limits stated_form text) e
 
--- ---- the machine behind the end
+-- ---- the stream reader behind the end
 
-few_bytes : (v : MachineView) (text : List ℕ) → v.given ≤ stated_limits.hoa_bytes → v.given ≡ length text → length text ≤ stated_limits.hoa_bytes
+few_bytes : (v : StreamReaderView) (text : List ℕ) → v.given ≤ stated_limits.hoa_bytes → v.given ≡ length text → length text ≤ stated_limits.hoa_bytes
 few_bytes v text l e = subst (λ n. n ≤ stated_limits.hoa_bytes) e l
 
 -- a fault was met before
-pub ended_met : (v : MachineView) (f : Found) (text : List ℕ) → v.given ≤ stated_limits.hoa_bytes → v.fault ≡ Some f → IsAfter v text → IsEnded v text
+pub ended_met : (v : StreamReaderView) (f : Found) (text : List ℕ) → v.given ≤ stated_limits.hoa_bytes → v.fault ≡ Some f → IsAfter v text → IsEnded v text
 ended_met v f text l e a = record {
   few = few_bytes v text l a.given;
   line = a.line;
@@ -150,7 +150,7 @@ ended_met v f text l e a = record {
 }
 
 -- no token is open
-pub ended_free : (v : MachineView) (text : List ℕ) → v.given ≤ stated_limits.hoa_bytes → v.fault ≡ None → last_kind v.lexer.phase ≡ None → IsAfter v text → IsEnded v text
+pub ended_free : (v : StreamReaderView) (text : List ℕ) → v.given ≤ stated_limits.hoa_bytes → v.fault ≡ None → last_kind v.lexer.phase ≡ None → IsAfter v text → IsEnded v text
 ended_free v text l e n a = record {
   few = few_bytes v text l a.given;
   line = a.line;
@@ -158,7 +158,7 @@ ended_free v text l e n a = record {
 }
 
 -- the last token was taken
-pub ended_token : (v w : MachineView) (k : TokenKind) (text : List ℕ) → v.given ≤ stated_limits.hoa_bytes → v.fault ≡ None → last_kind v.lexer.phase ≡ Some k → TakesToken v k w → IsAfter v text → IsEnded w text
+pub ended_token : (v w : StreamReaderView) (k : TokenKind) (text : List ℕ) → v.given ≤ stated_limits.hoa_bytes → v.fault ≡ None → last_kind v.lexer.phase ≡ Some k → TakesToken v k w → IsAfter v text → IsEnded w text
 ended_token v w k text l e n t a = record {
   few = few_bytes v text l a.given;
   line = t.line ∙ a.line;
@@ -176,7 +176,7 @@ pub no_fault : (o : Option Found) → is_some o ≡ false → o ≡ None
 no_fault None e = refl
 no_fault (Some f) e = cc
 
-pub ended_kept : (v w : MachineView) (k : TokenKind) (text : List ℕ) (r : Result (Unit {0}) AllocError) → v.given ≤ stated_limits.hoa_bytes → v.fault ≡ None → last_kind v.lexer.phase ≡ Some k → OnOk r (TakesToken v k w) → IsAfter v text
+pub ended_kept : (v w : StreamReaderView) (k : TokenKind) (text : List ℕ) (r : Result (Unit {0}) AllocError) → v.given ≤ stated_limits.hoa_bytes → v.fault ≡ None → last_kind v.lexer.phase ≡ Some k → OnOk r (TakesToken v k w) → IsAfter v text
     → OnOk r (IsEnded w text)
 ended_kept v w k text (Ok u) l e n t a = ended_token v w k text l e n t a
 ended_kept v w k text (Err z) l e n t a = tt

@@ -17,7 +17,7 @@ use Rattle.ltl_hoa.specs.declared.lexer.Phase.{Phase}
 use Rattle.ltl_hoa.specs.declared.lexer.Phase.TheVariants.{Between, Slash, Word, Zero, Digits, Mark, Text, Escape, Comment, CommentSlash, CommentStar, Ended}
 use Rattle.ltl_hoa.specs.TokenView.{sign_kind, mark_kind, begins_mark}
 use Rattle.ltl_hoa.specs.LexerView.{LexerView, beginning, sign_beginning, is_spelled, ended_kind, rested, inside, commented, marked_by, taken, last_kind}
-use Rattle.ltl_hoa.specs.MachineView.{line_behind}
+use Rattle.ltl_hoa.specs.StreamReaderView.{line_behind}
 use Rattle.ltl_hoa.specs.Resuming.{item_of, with_item, comment_items, has_mark, resume, IsLexing}
 use Rattle.ltl_hoa.proofs.ItemLaws.{blank_first, word_ends, word_named, comment_first, comment_plain, slash_plain, slash_opens, star_plain, star_closes, star_closes_one, slash_alone, slash_last, string_first, string_keeps, string_goes_on, string_kept, one_longer, longer, body_first, end_first, abort_first, dash_alone, no_line}
 use Rattle.ltl_spec.proofs.Hoa.SpelledLaws.{number_ends, no_line_digit}

@@ -6,7 +6,7 @@ pub mod EndLaws
 pub mod ItemLaws
 pub mod LabelLaws
 pub mod LexLaws
-pub mod MachineLaws
+pub mod StreamReaderLaws
 pub mod MarkedLaws
 pub mod MarksLaws
 pub mod NameLaws

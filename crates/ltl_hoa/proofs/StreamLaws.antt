@@ -15,7 +15,7 @@ use Rattle.ltl_spec.specs.Hoa.HoaFault.{take_item, fault_after, fault_at, hoa_fa
 use Rattle.ltl_hoa.specs.declared.fault.HoaFault.{HoaFault}
 use Rattle.ltl_hoa.specs.declared.fault.HoaFault.TheVariants.{AtLine, CannotRead, OutOfMemory}
 use Rattle.ltl_hoa.specs.declared.fault.HoaFaultKind.TheVariants as made
-use Rattle.ltl_hoa.specs.MachineView.{MachineView, new_machine}
+use Rattle.ltl_hoa.specs.StreamReaderView.{StreamReaderView, new_stream_reader}
 use Rattle.ltl_hoa.specs.Shown.{came_none}
 use Rattle.ltl_hoa.specs.Reading.{Answers, AnswersHeld, IsAfter, IsOfText, LeavesStage, TakesText, TakesUpTo}
 
@@ -53,12 +53,12 @@ past_limit bytes rest b l =
 
 -- ---- the loop
 
--- what was read of the stream so far, and that the machine has taken it
-abbrev pub HasRead : Option (List ℕ) → Option (List ℕ) → MachineView → ℕ → Type 0
+-- what was read of the stream so far, and that the stream reader has taken it
+abbrev pub HasRead : Option (List ℕ) → Option (List ℕ) → StreamReaderView → ℕ → Type 0
 HasRead o m v given = (text : List ℕ) × Consumes o m text × IsAfter v text × (length text ≡ given)
 
 -- nothing was read
-new_after : IsAfter new_machine []
+new_after : IsAfter new_stream_reader []
 new_after = record {
   given = refl;
   line = refl;
@@ -80,11 +80,11 @@ takes_none : (o : Option (List ℕ)) → Consumes o o []
 takes_none None = tt
 takes_none (Some x) = refl
 
-pub read_none : (o : Option (List ℕ)) (v : MachineView) → v ≡ new_machine → HasRead o o v 0
+pub read_none : (o : Option (List ℕ)) (v : StreamReaderView) → v ≡ new_stream_reader → HasRead o o v 0
 read_none o v e = ([], takes_none o, subst (λ w. IsAfter w []) (sym e) new_after, refl)
 
--- a piece more, which stands at the front of the buffer
-pub read_more : (o m n : Option (List ℕ)) (v w : MachineView) (given count : ℕ) (buf behind : List ℕ) → HasRead o m v given → Consumes m n (take count buf) → count ≤ length buf
+-- a chunk more, which stands at the front of the buffer
+pub read_more : (o m n : Option (List ℕ)) (v w : StreamReaderView) (given count : ℕ) (buf behind : List ℕ) → HasRead o m v given → Consumes m n (take count buf) → count ≤ length buf
     → ((text : List ℕ) → IsAfter v text → IsAfter w (text ++ take count (buf ++ behind))) → HasRead o n w (given + count)
 read_more o m n v w given count buf behind (text, c, a, l) d k f =
     (text ++ take count buf, consumes_trans o m n text (take count buf) c d, subst (λ t. IsAfter w (text ++ t)) (take-append-le count buf behind k) (f text a), length-append text (take count buf) ∙ counted (length text) (length (take count buf)) l (length-take count buf))
@@ -99,7 +99,7 @@ at_end_before (Some x) (Some y) k buf z p e = subst (λ j. x ≡ take j buf ++ y
 at_end_before (Some x) None k buf z p e = absurd p
 
 -- the answer at the end is one of the whole text
-pub end_answered : (o m n : Option (List ℕ)) (v : MachineView) (given k : ℕ) (buf : List ℕ) (r : Result MarkedAutomaton HoaFault) → HasRead o m v given → k ≡ 0 → 0 < length buf
+pub end_answered : (o m n : Option (List ℕ)) (v : StreamReaderView) (given k : ℕ) (buf : List ℕ) (r : Result MarkedAutomaton HoaFault) → HasRead o m v given → k ≡ 0 → 0 < length buf
     → Consumes m n (take k buf) × (k ≡ 0 → 0 < length buf → IsAtEnd n) → ((text : List ℕ) → IsAfter v text → Answers text r) → AnswersHeld o r
 end_answered o m n v given k buf r (text, c, a, l) z s (d, e) f = whole_answered o m text r c (at_end_before m n k buf z d (e z s)) (f text a)
 
@@ -126,7 +126,7 @@ pub whatever : {P : Type 0} (r : Result MarkedAutomaton HoaFault) → P → Matc
 whatever (Ok A) p = p
 whatever (Err f) p = λ _. p
 
-pub end_taken : (o m n : Option (List ℕ)) (v : MachineView) (given k : ℕ) (buf : List ℕ) → HasRead o m v given → given ≤ stated_limits.hoa_bytes → k ≡ 0 → 0 < length buf
+pub end_taken : (o m n : Option (List ℕ)) (v : StreamReaderView) (given k : ℕ) (buf : List ℕ) → HasRead o m v given → given ≤ stated_limits.hoa_bytes → k ≡ 0 → 0 < length buf
     → Consumes m n (take k buf) × (k ≡ 0 → 0 < length buf → IsAtEnd n) → TakesText o n
 end_taken o m n v given k buf (text, c, a, l) g z s (d, e) =
     takes_all o n text (few (length text) l) (subst (λ t. Consumes o n t) (append-nil text) (consumes_trans o m n text [] c (subst (λ j. Consumes m n (take j buf)) z d))) (e z s)
@@ -158,7 +158,7 @@ refused_past (Some x) (Some y) text b line l e c = (
 )
 refused_past (Some x) None text b line l e c = absurd c
 
-pub past_answered : (o m n : Option (List ℕ)) (v : MachineView) (given k line : ℕ) (buf : List ℕ) → HasRead o m v given → given ≡ stated_limits.hoa_bytes → 0 < k → k ≤ length buf → length buf ≡ 1 → line ≡ v.line
+pub past_answered : (o m n : Option (List ℕ)) (v : StreamReaderView) (given k line : ℕ) (buf : List ℕ) → HasRead o m v given → given ≡ stated_limits.hoa_bytes → 0 < k → k ≤ length buf → length buf ≡ 1 → line ≡ v.line
     → Consumes m n (take k buf) → AnswersHeld o (Err (AtLine line made.LimitPassed))
 past_answered o m n v given k line buf (text, c, a, l) g p s e q d =
     let one = one_byte k buf p s e in
@@ -170,7 +170,7 @@ takes_past (Some x) (Some y) text l c =
     c ∙ ap (λ t. t ++ y) (sym (take-append_seam text y) ∙ ap (λ j. take j (text ++ y)) l ∙ ap (take (stated_limits.hoa_bytes + 1)) (sym c))
 takes_past (Some x) None text l c = absurd c
 
-pub past_taken : (o m n : Option (List ℕ)) (v : MachineView) (given k : ℕ) (buf : List ℕ) → HasRead o m v given → given ≡ stated_limits.hoa_bytes → 0 < k → k ≤ length buf → length buf ≡ 1
+pub past_taken : (o m n : Option (List ℕ)) (v : StreamReaderView) (given k : ℕ) (buf : List ℕ) → HasRead o m v given → given ≡ stated_limits.hoa_bytes → 0 < k → k ≤ length buf → length buf ≡ 1
     → Consumes m n (take k buf) → TakesText o n
 past_taken o m n v given k buf (text, c, a, l) g p s e d =
     let one = one_byte k buf p s e in
@@ -182,7 +182,7 @@ past_taken o m n v given k buf (text, c, a, l) g p s e d =
 -- ---- how many bytes were taken, whatever the answer
 
 -- behind a read of so many bytes, the last one maybe
-pub taken_up_to : (o m n : Option (List ℕ)) (v : MachineView) (given k : ℕ) (buf : List ℕ) → HasRead o m v given → Consumes m n (take k buf) → given + k ≤ stated_limits.hoa_bytes + 1 → TakesUpTo o n
+pub taken_up_to : (o m n : Option (List ℕ)) (v : StreamReaderView) (given k : ℕ) (buf : List ℕ) → HasRead o m v given → Consumes m n (take k buf) → given + k ≤ stated_limits.hoa_bytes + 1 → TakesUpTo o n
 taken_up_to o m n v given k buf (text, c, a, l) d few =
     (text ++ take k buf, consumes_trans o m n text (take k buf) c d, counted (length (text ++ take k buf)) (length text) (length (take k buf)) (length-append text (take k buf)) l (length-take k buf))
   where
@@ -190,7 +190,7 @@ taken_up_to o m n v given k buf (text, c, a, l) d few =
     counted z x y e f g = omega (arith, e, f, g, few)
 
 -- behind a failed read
-pub kept_up_to : (o m n : Option (List ℕ)) (v : MachineView) (given : ℕ) → HasRead o m v given → Keeps m n → given ≤ stated_limits.hoa_bytes → TakesUpTo o n
+pub kept_up_to : (o m n : Option (List ℕ)) (v : StreamReaderView) (given : ℕ) → HasRead o m v given → Keeps m n → given ≤ stated_limits.hoa_bytes → TakesUpTo o n
 kept_up_to o m n v given r d few = taken_up_to o m n v given 0 [] r (consumes_none m n d) (omega (arith, few))
   where
     consumes_none : (a b : Option (List ℕ)) → Keeps a b → Consumes a b []

@@ -20,7 +20,7 @@ use Rattle.ltl_spec.specs.Hoa.HoaFault.{hoa_fault}
 use Rattle.ltl_spec.specs.Hoa.HoaToken.{last_line}
 use Rattle.ltl_spec.proofs.Hoa.HoaBackLaws.{no_fault_reads}
 use Rattle.ltl_hoa.specs.TokenView.{kind_of}
-use Rattle.ltl_hoa.specs.MachineView.{MachineView}
+use Rattle.ltl_hoa.specs.StreamReaderView.{StreamReaderView}
 use Rattle.ltl_hoa.specs.Reading.{reached, IsTold, IsToldIn, IsEnded}
 use Rattle.ltl_hoa.proofs.EndLaws.{end_kind, at_line, told_fault}
 use Rattle.ltl_hoa.proofs.StepLaws.{capped_small}
@@ -116,24 +116,24 @@ whole_same v A B a b = go v.body a b
 
 -- ---- what the text is
 
-told : (w : MachineView) (text : List ℕ) → IsEnded w text → w.fault ≡ None → IsTold w text
+told : (w : StreamReaderView) (text : List ℕ) → IsEnded w text → w.fault ≡ None → IsTold w text
 told w text e n = subst (λ o. IsToldIn o w text) n e.inside
 
 -- without a fault, where the automaton has ended
-pub end_reads : (w : MachineView) (text : List ℕ) → IsEnded w text → w.fault ≡ None → w.parser.place ≡ place.End → (A : MarkedAutomaton) × HoaReadsWithin stated_limits stated_form text A × IsAutomaton w.parser A
+pub end_reads : (w : StreamReaderView) (text : List ℕ) → IsEnded w text → w.fault ≡ None → w.parser.place ≡ place.End → (A : MarkedAutomaton) × HoaReadsWithin stated_limits stated_form text A × IsAutomaton w.parser A
 end_reads w text e n p =
     let s = told w text e n in
     let r = no_fault_reads stated_limits stated_form text (told_fault w text e.few s ∙ ap (λ q. at_line (end_kind q) (last_line text)) p) in
     (r.0, r.1, whole_automaton w.parser text s.before s.came r.0 r.1 p s.shows s.reached)
 
-pub end_whole : (w : MachineView) (text : List ℕ) → IsEnded w text → w.fault ≡ None → w.parser.place ≡ place.End → IsWhole w.parser
+pub end_whole : (w : StreamReaderView) (text : List ℕ) → IsEnded w text → w.fault ≡ None → w.parser.place ≡ place.End → IsWhole w.parser
 end_whole w text e n p = let r = end_reads w text e n p in whole_holds w.parser text r.0 r.1 r.2
 
-pub end_answers : (w : MachineView) (text : List ℕ) (A : MarkedAutomaton) → IsEnded w text → w.fault ≡ None → w.parser.place ≡ place.End → IsAutomaton w.parser A → HoaReadsWithin stated_limits stated_form text A
+pub end_answers : (w : StreamReaderView) (text : List ℕ) (A : MarkedAutomaton) → IsEnded w text → w.fault ≡ None → w.parser.place ≡ place.End → IsAutomaton w.parser A → HoaReadsWithin stated_limits stated_form text A
 end_answers w text A e n p a = let r = end_reads w text e n p in subst (HoaReadsWithin stated_limits stated_form text) (whole_same w.parser r.0 A r.2 a) r.1
 
 -- where it has not
-pub end_refused : (w : MachineView) (text : List ℕ) (kind : made.HoaFaultKind) → IsEnded w text → w.fault ≡ None → end_kind w.parser.place ≡ Some (kind_of kind)
+pub end_refused : (w : StreamReaderView) (text : List ℕ) (kind : made.HoaFaultKind) → IsEnded w text → w.fault ≡ None → end_kind w.parser.place ≡ Some (kind_of kind)
     → hoa_fault stated_limits stated_form text ≡ Some (record { kind = kind_of kind; line = w.line })
 end_refused w text kind e n p =
     told_fault w text e.few (told w text e n) ∙ ap (λ k. at_line k (last_line text)) p ∙ ap (λ m. Some (record { kind = kind_of kind; line = m })) (sym e.line)

@@ -1,7 +1,7 @@
 pub mod BodyView
 pub mod HeaderView
 pub mod LexerView
-pub mod MachineView
+pub mod StreamReaderView
 pub mod MarkedView
 pub mod MarksAgain
 pub mod MarksView

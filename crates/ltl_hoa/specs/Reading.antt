@@ -1,4 +1,4 @@
--- How the machine's state is that of a text so far, and what a call answers.
+-- How the stream reader's state is that of a text so far, and what a call answers.
 use Rattle.std.specs.Prelude.{◌≡◌, ℕ, ◌<◌, take, IfSome, ◌≤◌, ◌+◌, List, ◌++◌, length, fold, ◌⊎◌, Option, Some, None, Result, Ok, Err, MatchResult, ⊤}
 use Rattle.std.specs.Io.KnownBytes.{Consumes}
 use Rattle.ltl_spec.specs.Tools.Limits.{stated_limits}
@@ -11,12 +11,12 @@ use Rattle.ltl_spec.specs.Tools.Stage.{Stage, Open, Closed, Broken}
 use Rattle.ltl_hoa.specs.declared.fault.HoaFault.{HoaFault}
 use Rattle.ltl_hoa.specs.declared.fault.HoaFault.TheVariants.{AtLine, CannotRead, OutOfMemory}
 use Rattle.ltl_hoa.specs.declared.fault.HoaFaultKind.TheVariants.{LimitPassed}
-use Rattle.ltl_hoa.specs.declared.machine.Found.{Found}
+use Rattle.ltl_hoa.specs.declared.stream_reader.Found.{Found}
 use Rattle.ltl_hoa.specs.TokenView.{kind_of}
 use Rattle.ltl_hoa.specs.Resuming.{resume, IsLexing}
 use Rattle.ltl_hoa.specs.Shown.{Came, came_none, came_at}
 use Rattle.ltl_hoa.specs.ParserView.{Shows}
-use Rattle.ltl_hoa.specs.MachineView.{MachineView}
+use Rattle.ltl_hoa.specs.StreamReaderView.{StreamReaderView}
 
 -- what the definition's state and what came are behind one more item
 abbrev pub came_by : Result Before spec.HoaFault → HoaItem → Came → Came
@@ -36,7 +36,7 @@ abbrev pub fault_of : Found → spec.HoaFault
 fault_of f = record { kind = kind_of f.kind; line = f.line }
 
 -- without a fault the items so far were taken, and the lexer holds the rest
-pub record IsSound (m : MachineView) (text : List ℕ) : Type 0 where
+pub record IsSound (m : StreamReaderView) (text : List ℕ) : Type 0 where
   pub items : List HoaItem
   pub lexing : IsLexing m.lexer m.line
   pub rest : (more : List ℕ) → hoa_items (text ++ more) ≡ items ++ resume m.lexer m.line more
@@ -51,30 +51,30 @@ pub record IsFaulty (f : Found) (text : List ℕ) : Type 0 where
   pub rest : (more : List ℕ) → (later : List HoaItem) × (hoa_items (text ++ more) ≡ items ++ later)
   pub faulty : (whole : List ℕ) → fold (take_item stated_limits stated_form whole) (Ok before_all) items ≡ Err (fault_of f)
 
-abbrev pub IsIn : Option Found → MachineView → List ℕ → Type 0
+abbrev pub IsIn : Option Found → StreamReaderView → List ℕ → Type 0
 IsIn None m text = IsSound m text
 IsIn (Some f) m text = IsFaulty f text
 
--- the machine has taken the text
-pub record IsAfter (m : MachineView) (text : List ℕ) : Type 0 where
+-- the stream reader has taken the text
+pub record IsAfter (m : StreamReaderView) (text : List ℕ) : Type 0 where
   pub given : m.given ≡ length text
   pub line : m.line ≡ last_line text
   pub inside : IsIn m.fault m text
 
 -- all items of the text were taken
-pub record IsTold (m : MachineView) (text : List ℕ) : Type 0 where
+pub record IsTold (m : StreamReaderView) (text : List ℕ) : Type 0 where
   pub before : Before
   pub came : Came
   pub reached : reached text (hoa_items text) ≡ (Ok before, came)
   pub shows : Shows m.parser before came
 
 -- without a fault, or the leftmost one was met
-abbrev pub IsToldIn : Option Found → MachineView → List ℕ → Type 0
+abbrev pub IsToldIn : Option Found → StreamReaderView → List ℕ → Type 0
 IsToldIn None m text = IsTold m text
 IsToldIn (Some f) m text = hoa_fault stated_limits stated_form text ≡ Some (fault_of f)
 
--- the machine has taken the text and the token that ends with it
-pub record IsEnded (m : MachineView) (text : List ℕ) : Type 0 where
+-- the stream reader has taken the text and the token that ends with it
+pub record IsEnded (m : StreamReaderView) (text : List ℕ) : Type 0 where
   pub few : length text ≤ stated_limits.hoa_bytes
   pub line : m.line ≡ last_line text
   pub inside : IsToldIn m.fault m text

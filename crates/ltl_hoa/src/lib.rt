@@ -27,7 +27,6 @@ pub mod fault;
 mod header;
 pub mod laws;
 mod lexer;
-mod machine;
 pub mod marked;
 pub mod marks;
 mod names;
@@ -35,6 +34,7 @@ mod number;
 mod parser;
 mod place;
 mod read;
+mod stream_reader;
 mod token;
 
 pub use fault::{HoaFault, HoaFaultKind};

@@ -1,19 +1,19 @@
-//! Reading an automaton from a source, piece by piece.
+//! Reading an automaton from a source, chunk by chunk.
 
 ghost use Rattle.std.specs.Prelude.{◌≡◌, MatchResult, IsErrOf, ⊤};
 ghost use Rattle.ltl_spec.specs.Tools.Stage.{Open};
-ghost use Rattle.ltl_hoa.specs.MachineView.{new_machine};
+ghost use Rattle.ltl_hoa.specs.StreamReaderView.{new_stream_reader};
 ghost use Rattle.ltl_hoa.specs.Reading.{AnswersHeld, IsOfText, LeavesStage, TakesFewer, TakesText, TakesUpTo};
 
 use crate::fault::{HoaFault, HoaFaultKind};
-use crate::machine::{MOST_BYTES, Machine};
 use crate::marked::Marked;
+use crate::stream_reader::{MOST_BYTES, StreamReader};
 use ltl_streams::{ByteSource, LentReader};
 use std::alloc::Allocator;
 use std::io::Read;
 
 /// How many bytes are read at a time.
-const PIECE: usize = 4_096;
+const CHUNK: usize = 4_096;
 
 /// Reads an automaton from a standard reader. The text is taken to its end, or up to one byte past its limit, whatever the answer is but for a
 /// failed read and want of memory, where less of it may have been taken; beside the automaton only the current token, what is open of a label and
@@ -44,16 +44,16 @@ pub fn hoa_read_from<'a, A: Allocator, R: ByteSource>(
     ensures same { (R.state source.new).through ≡ (R.state source.old).through }
     ensures stage { (R.state source.old).stage ≡ Open → LeavesStage result (R.state source.new).stage }
 {
-    let mut machine = Machine::new(alloc);
-    read_by(&mut machine, source)
+    let mut stream_reader = StreamReader::new(alloc);
+    read_by(&mut stream_reader, source)
 }
 
-/// The same by a machine that has read nothing.
+/// The same by a stream reader that has read nothing.
 fn read_by<'a, A: Allocator, R: ByteSource>(
-    machine: &mut Machine<'a, A>,
+    stream_reader: &mut StreamReader<'a, A>,
     source: &mut R,
 ) -> Result<Marked<'a, A>, HoaFault>
-    requires { machine.old ≡ new_machine }
+    requires { stream_reader.old ≡ new_stream_reader }
     ensures read { AnswersHeld (R.state source.old).rest result }
     ensures taken { MatchResult result (λ _. TakesText (R.state source.old).rest (R.state source.new).rest)
         (λ fault. IsOfText fault → TakesText (R.state source.old).rest (R.state source.new).rest) }
@@ -62,22 +62,22 @@ fn read_by<'a, A: Allocator, R: ByteSource>(
     ensures same { (R.state source.new).through ≡ (R.state source.old).through }
     ensures stage { (R.state source.old).stage ≡ Open → LeavesStage result (R.state source.new).stage }
 {
-    let mut piece = [0u8; PIECE];
+    let mut chunk = [0u8; CHUNK];
     let mut given = 0usize;
     'pieces: while given < MOST_BYTES {
-        let room = PIECE.min(MOST_BYTES - given);
-        match source.read(&mut piece[..room]) {
-            Ok(0) => return machine.finish(),
+        let room = CHUNK.min(MOST_BYTES - given);
+        match source.read(&mut chunk[..room]) {
+            Ok(0) => return stream_reader.finish(),
             Ok(count) => {
-                machine.take_piece(&piece[..count])?;
+                stream_reader.take_chunk(&chunk[..count])?;
                 given += count;
             }
             Err(_) => return Err(HoaFault::CannotRead),
         }
     }
-    match source.read(&mut piece[..1]) {
-        Ok(0) => machine.finish(),
-        Ok(_) => Err(HoaFault::AtLine(machine.line(), HoaFaultKind::LimitPassed)),
+    match source.read(&mut chunk[..1]) {
+        Ok(0) => stream_reader.finish(),
+        Ok(_) => Err(HoaFault::AtLine(stream_reader.line(), HoaFaultKind::LimitPassed)),
         Err(_) => Err(HoaFault::CannotRead),
     }
 }

@@ -24,7 +24,7 @@ pub type Cubes<'a, A> = Option<CubeList<'a, A>>;
 const MOST_INSERTED: usize = 8;
 
 /// Sorts the cubes, and keeps each once.
-pub(crate) fn make_distinct<A: Allocator>(cubes: &mut CubeList<'_, A>)
+pub(crate) fn sort_dedup<A: Allocator>(cubes: &mut CubeList<'_, A>)
     ensures { cubes.new.items ≡ spec_sets.set_of spec_cubes.cube_cmp cubes.old.items }
 {
     cubes.sort_unstable_by(Cube::cmp_list);
@@ -125,7 +125,7 @@ fn unite<'a, A: Allocator>(
     } else {
         left.extend_from_slice(right)?;
     }
-    make_distinct(&mut left);
+    sort_dedup(&mut left);
     Ok(few(left))
 }
 

@@ -8,7 +8,7 @@ ghost use Rattle.ltl_spec.specs.Collections.Sets as spec_sets;
 ghost use Rattle.ltl_spec.specs.Transitions.Cubes as spec_cubes;
 ghost use Rattle.ltl_label.specs.CubesView.{HasFew, SameCubes, few, joined_cubes, joins};
 
-use crate::cubes::{CubeList, Cubes, MOST_CUBES, few, make_distinct, place_near};
+use crate::cubes::{CubeList, Cubes, MOST_CUBES, few, place_near, sort_dedup};
 use crate::parting::parting_literals;
 use ltl_sets::Cube;
 use smallvec::SmallVec;
@@ -55,7 +55,7 @@ fn join_each<A: Allocator>(
     'left: for cube in left {
         join_one(joined, cube, right)?;
         if joined.len() > MOST_CUBES {
-            make_distinct(joined);
+            sort_dedup(joined);
             if joined.len() > MOST_CUBES {
                 return Ok(false);
             }
@@ -70,7 +70,7 @@ fn put_behind<A: Allocator>(joined: &mut CubeList<'_, A>, made: &[Cube]) -> Resu
 {
     joined.extend_from_slice(made)?;
     if joined.len() > 2 * MOST_CUBES {
-        make_distinct(joined);
+        sort_dedup(joined);
         if joined.len() > MOST_CUBES {
             return Ok(false);
         }
@@ -94,7 +94,7 @@ fn join_sides<'a, A: Allocator>(
     if !join_each(&mut made, sides.left.as_slice(), sides.right.as_slice())? {
         return Ok(false);
     }
-    make_distinct(&mut made);
+    sort_dedup(&mut made);
     put_behind(joined, made.as_slice())
 }
 
@@ -186,7 +186,7 @@ fn all_with<'a, A: Allocator>(
 {
     let mut all = SmallVec::from_slice(alloc, side.with.as_slice())?;
     all.extend_from_slice(side.made.as_slice())?;
-    make_distinct(&mut all);
+    sort_dedup(&mut all);
     Ok(all)
 }
 
@@ -243,7 +243,7 @@ fn part<'a, A: Allocator>(
     cubes_rise(sides.right.as_slice());
     let mut left = side_by(alloc, sides.left.as_slice(), literals)?;
     let right = side_by(alloc, sides.right.as_slice(), literals)?;
-    make_distinct(&mut left.made);
+    sort_dedup(&mut left.made);
     let right_all = all_with(alloc, &right)?;
     put_waiting(waiting, left, right, right_all)
 }
@@ -273,6 +273,6 @@ pub(crate) fn join<'a, A: Allocator>(
             }
         }
     }
-    make_distinct(&mut joined);
+    sort_dedup(&mut joined);
     Ok(few(joined))
 }

@@ -23,7 +23,7 @@ use Rattle.ltl_automaton.specs.EdgeView.{edge_of}
 use Rattle.ltl_automaton.specs.declared.edge.Edge as edges
 use Rattle.ltl_automaton.proofs.EdgeLaws.{same_code, edge_Decides, edge_exact, map_pushed}
 use Rattle.ltl_passes.specs.declared.implied.IndexedEdge as made
-use Rattle.ltl_passes.specs.IndexedEdge.{IsAsked, AreAsked, asked_edge, is_below, is_other, parts_below}
+use Rattle.ltl_passes.specs.IndexedEdge.{IsAsked, AreAsked, indexed_edge, is_below, is_other, parts_below}
 
 -- ---- digits
 
@@ -64,29 +64,29 @@ same_target_test : (k l : made.IndexedEdge) → IsAsked k → IsAsked l → (is_
 same_target_test k l v w = same_from_decides _ _ (same_targets k l v w) (Decides-eqb k.edge.target l.edge.target)
 
 -- to be below is to imply
-above_test : (k l : made.IndexedEdge) → IsAsked k → IsAsked l → (is_other k l && is_below k l) ≡ implies_other (asked_edge k) (asked_edge l)
+above_test : (k l : made.IndexedEdge) → IsAsked k → IsAsked l → (is_other k l && is_below k l) ≡ implies_other (indexed_edge k) (indexed_edge l)
 above_test k l v w =
     ap (λ b. is_other k l && (b && is_subset literal_cmp k.edge.cube l.edge.cube && is_subset nat_cmp l.edge.marks k.edge.marks)) (same_target_test k l v w)
 
 rest_all : (k : made.IndexedEdge) (ks : List made.IndexedEdge) → All IsAsked (k ∷ ks) → All IsAsked ks
 rest_all k ks f i d l = f (suc i) d (omega arith)
 
-any_above : (ks : List made.IndexedEdge) (l : made.IndexedEdge) → All IsAsked ks → IsAsked l → list_any (λ k. is_other k l && is_below k l) ks ≡ list_any (λ f. implies_other f (asked_edge l)) (map asked_edge ks)
+any_above : (ks : List made.IndexedEdge) (l : made.IndexedEdge) → All IsAsked ks → IsAsked l → list_any (λ k. is_other k l && is_below k l) ks ≡ list_any (λ f. implies_other f (indexed_edge l)) (map indexed_edge ks)
 any_above [] l all w = refl
 any_above (k ∷ ks) l all w =
     ap (λ b. b || list_any (λ k. is_other k l && is_below k l) ks) (above_test k l (all 0 k (omega arith)) w)
-    ∙ ap (λ b. implies_other (asked_edge k) (asked_edge l) || b) (any_above ks l (rest_all k ks all) w)
+    ∙ ap (λ b. implies_other (indexed_edge k) (indexed_edge l) || b) (any_above ks l (rest_all k ks all) w)
 
 -- whether an edge is implied by one of a list
 pub implied_test : (es : List Edge) (ks : List made.IndexedEdge) (l : made.IndexedEdge) (e : edges.Edge) → AreAsked es ks → IsAsked l → l.edge ≡ e → list_any (λ k. is_other k l && is_below k l) ks ≡ list_any (λ f. implies_other f (edge_of e)) es
 implied_test es ks l e are w d =
-    any_above ks l are.all w ∙ ap (list_any (λ f. implies_other f (asked_edge l))) are.same ∙ ap (λ g. list_any (λ f. implies_other f (edge_of g)) es) d
+    any_above ks l are.all w ∙ ap (list_any (λ f. implies_other f (indexed_edge l))) are.same ∙ ap (λ g. list_any (λ f. implies_other f (edge_of g)) es) d
 
 -- one more edge
 pub asked_more : (xs ys : List edges.Edge) (x : edges.Edge) (ks js : List made.IndexedEdge) (k : made.IndexedEdge) → AreAsked (map edge_of xs) ks → ys ≡ xs ++ x ∷ [] → js ≡ ks ++ k ∷ [] → IsAsked k → k.edge ≡ x → AreAsked (map edge_of ys) js
 asked_more xs ys x ks js k are e d w i = record {
   all = subst (All IsAsked) (sym d) (All-push IsAsked ks k are.all w);
-  same = map_pushed asked_edge ks js k d ∙ ap (λ es. es ++ asked_edge k ∷ []) are.same ∙ ap (λ f. map edge_of xs ++ edge_of f ∷ []) i ∙ sym (map_pushed edge_of xs ys x e);
+  same = map_pushed indexed_edge ks js k d ∙ ap (λ es. es ++ indexed_edge k ∷ []) are.same ∙ ap (λ f. map edge_of xs ++ edge_of f ∷ []) i ∙ sym (map_pushed edge_of xs ys x e);
 }
 
 -- ---- the calls

@@ -13,11 +13,11 @@ use Rattle.std.proofs.lemmas.Bool.Decides.{Decides-eqb}
 use Rattle.std.proofs.lemmas.Option.{get_or_from_slice_get, slice_get_within}
 use Rattle.ltl_spec.specs.Automata.Automaton.{Edge}
 use Rattle.ltl_automaton.specs.EdgeView.{edge_of}
-use Rattle.ltl_automaton.specs.declared.edge.Edge as code
+use Rattle.ltl_automaton.specs.declared.edge.Edge as signature
 use Rattle.ltl_automaton.specs.declared.shared.SharedState.{SharedState}
 use Rattle.ltl_models.proofs.Within.{All_from_map}
 use Rattle.ltl_passes.proofs.TargetLaws.{pushed_longer}
-use Rattle.ltl_passes.specs.Classes.{AreListsWithin, IsCoded, IsFirstPlaces, IsLeastAlike, IsLeastPlaces, coded_place, list_view, retargeted_list}
+use Rattle.ltl_passes.specs.Partition.{AreListsWithin, AreSignatures, IsFirstPlaces, IsLeastAlike, IsLeastPlaces, place_signature, list_view, retargeted_list}
 
 -- one more number
 range_more : (a n : ℕ) → range_with_len a (suc n) ≡ range_with_len a n ++ (a + n) ∷ []
@@ -43,35 +43,35 @@ get_more (y ∷ ys) more (suc i) x e = get_more ys more i x e
 
 -- first places
 
-pub least_from : (codes firsts names : List ℕ) (count : ℕ) → IsFirstPlaces codes count 0 firsts → names ≡ map (slice_index firsts) codes → IsLeastPlaces codes names
-least_from codes firsts names count w e = record {
-  long = ap length e ∙ length-map codes (slice_index firsts);
+pub least_from : (signatures firsts names : List ℕ) (count : ℕ) → IsFirstPlaces signatures count 0 firsts → names ≡ map (slice_index firsts) signatures → IsLeastPlaces signatures names
+least_from signatures firsts names count w e = record {
+  long = ap length e ∙ length-map signatures (slice_index firsts);
   low = λ s l. let a = at s l in let b = w.low s (omega arith) l in omega arith;
-  same = λ s l. ap (slice_index codes) (at s l) ∙ w.same s (omega arith) l;
+  same = λ s l. ap (slice_index signatures) (at s l) ∙ w.same s (omega arith) l;
   once = λ s t l m c. at s l ∙ ap (slice_index firsts) c ∙ sym (at t m);
 }
   where
-    at : (s : ℕ) → s < length codes → slice_index names s ≡ slice_index firsts (slice_index codes s)
-    at s l = ap (λ xs. slice_index xs s) e ∙ get_or-map (slice_index firsts) codes s 0 0 l
+    at : (s : ℕ) → s < length signatures → slice_index names s ≡ slice_index firsts (slice_index signatures s)
+    at s l = ap (λ xs. slice_index xs s) e ∙ get_or-map (slice_index firsts) signatures s 0 0 l
 
--- codes
+-- signatures
 
 module _ {K : Type 0} (count : ℕ) (view : ℕ → K) where
-  -- one more code
-  pub coded_push : (keys more_keys : List K) (codes more_codes : List ℕ) (i : ℕ) → IsCoded count view keys codes → HasNoRepeats more_keys
-      → ((more : List K) × (more_keys ≡ keys ++ more)) → more_codes ≡ codes ++ i ∷ [] → slice_get more_keys i ≡ Some (view count) → IsCoded (count + 1) view more_keys more_codes
-  coded_push keys more_keys codes more_codes i w d grown e g = record {
+  -- one more signature
+  pub coded_push : (keys more_keys : List K) (signatures more_signatures : List ℕ) (i : ℕ) → AreSignatures count view keys signatures → HasNoRepeats more_keys
+      → ((more : List K) × (more_keys ≡ keys ++ more)) → more_signatures ≡ signatures ++ i ∷ [] → slice_get more_keys i ≡ Some (view count) → AreSignatures (count + 1) view more_keys more_signatures
+  coded_push keys more_keys signatures more_signatures i w d grown e g = record {
     distinct = d;
-    long = pushed_longer codes more_codes i e ∙ ap (λ n. n + 1) w.long;
+    long = pushed_longer signatures more_signatures i e ∙ ap (λ n. n + 1) w.long;
     seen = λ s l. at s (below_equal_above s count) l;
   }
     where
-      at : (s : ℕ) → (s < count) ⊎ ((s ≡ count) ⊎ (count < s)) → s < count + 1 → slice_get more_keys (slice_index more_codes s) ≡ Some (view s)
+      at : (s : ℕ) → (s < count) ⊎ ((s ≡ count) ⊎ (count < s)) → s < count + 1 → slice_get more_keys (slice_index more_signatures s) ≡ Some (view s)
       at s (inl l) m =
           let n = w.long in
-          ap (slice_get more_keys) (ap (λ xs. slice_index xs s) e ∙ index_append codes (i ∷ []) s 0 (omega arith)) ∙ ap (λ ks. slice_get ks (slice_index codes s)) grown.1 ∙ get_more keys grown.0 (slice_index codes s) (view s) (w.seen s l)
+          ap (slice_get more_keys) (ap (λ xs. slice_index xs s) e ∙ index_append signatures (i ∷ []) s 0 (omega arith)) ∙ ap (λ ks. slice_get ks (slice_index signatures s)) grown.1 ∙ get_more keys grown.0 (slice_index signatures s) (view s) (w.seen s l)
       at s (inr (inl q)) m =
-          ap (λ t. slice_get more_keys (slice_index more_codes t)) (q ∙ sym w.long) ∙ ap (slice_get more_keys) (ap (λ xs. slice_index xs (length codes)) e ∙ index_done codes [] i 0) ∙ g ∙ ap (λ t. Some (view t)) (sym q)
+          ap (λ t. slice_get more_keys (slice_index more_signatures t)) (q ∙ sym w.long) ∙ ap (slice_get more_keys) (ap (λ xs. slice_index xs (length signatures)) e ∙ index_done signatures [] i 0) ∙ g ∙ ap (λ t. Some (view t)) (sym q)
       at s (inr (inr q)) m = absurd (omega arith)
 
   index_at : (xs : List ℕ) (k d : ℕ) → k < length xs → slice_index_or xs k d ≡ slice_index xs k
@@ -79,26 +79,26 @@ module _ {K : Type 0} (count : ℕ) (view : ℕ → K) where
   index_at (x ∷ xs) zero d l = refl
   index_at (x ∷ xs) (suc k) d l = index_at xs k d (omega arith)
 
-  -- every code is the place of a key
-  pub codes_within : (keys : List K) (codes : List ℕ) → IsCoded count view keys codes → All (λ c. c < length keys) codes
-  codes_within keys codes c = λ k d l.
+  -- every signature is the place of a key
+  pub signatures_within : (keys : List K) (signatures : List ℕ) → AreSignatures count view keys signatures → All (λ c. c < length keys) signatures
+  signatures_within keys signatures c = λ k d l.
       let n = c.long in
-      let m = slice_get_within keys (slice_index codes k) (view k) (c.seen k (omega arith)) in
-      let q = index_at codes k d l in
+      let m = slice_get_within keys (slice_index signatures k) (view k) (c.seen k (omega arith)) in
+      let q = index_at signatures k d l in
       omega arith
 
-  -- the least places of the codes are the least things that are seen as equal
-  pub least_alike : (keys : List K) (codes names : List ℕ) → IsCoded count view keys codes → IsLeastPlaces codes names → IsLeastAlike count view names
-  least_alike keys codes names c l = record {
+  -- the least places of the signatures are the least things that are seen as equal
+  pub least_alike : (keys : List K) (signatures names : List ℕ) → AreSignatures count view keys signatures → IsLeastPlaces signatures names → IsLeastAlike count view names
+  least_alike keys signatures names c l = record {
     long = l.long ∙ c.long;
     low = λ s m. l.low s (here s m);
     same = λ s m.
         let p : slice_index names s ≤ s = l.low s (here s m) in
         Some_injective _ _ (sym (c.seen (slice_index names s) (omega arith)) ∙ ap (slice_get keys) (l.same s (here s m)) ∙ c.seen s m);
-    once = λ s t m k e. l.once s t (here s m) (here t k) (got_once keys (slice_index codes s) (slice_index codes t) (view s) c.distinct (c.seen s m) (c.seen t k ∙ ap (λ x. Some x) (sym e)));
+    once = λ s t m k e. l.once s t (here s m) (here t k) (got_once keys (slice_index signatures s) (slice_index signatures t) (view s) c.distinct (c.seen s m) (c.seen t k ∙ ap (λ x. Some x) (sym e)));
   }
     where
-      here : (s : ℕ) → s < count → s < length codes
+      here : (s : ℕ) → s < count → s < length signatures
       here s m = let n = c.long in omega arith
 
       Some_injective : (x y : K) → Some x ≡ Some y → x ≡ y
@@ -117,16 +117,16 @@ place_Decides p q = (
   (λ h. ap (λ b. b && beq p.accepting q.accepting) ((Decides-eqb p.list q.list).1 (ap (λ (r : SharedState). r.list) h)) ∙ ap (λ a. beq p.accepting a) (sym (ap (λ (r : SharedState). r.accepting) h)) ∙ beq_refl p.accepting),
 )
 
--- the place that was read, by the code of its list
-pub place_coded : (places : List SharedState) (codes : List ℕ) (s : ℕ) (p : SharedState) → slice_get places s ≡ Some p → (let q : SharedState = record { list = slice_index codes p.list; accepting = p.accepting } in q) ≡ coded_place places codes s
-place_coded places codes s p e = ap (λ (r : SharedState). let q : SharedState = record { list = slice_index codes r.list; accepting = r.accepting } in q) (sym (get_or_from_slice_get places s p (record { list = 0; accepting = true }) e))
+-- the place that was read, by the signature of its list
+pub place_with_signature : (places : List SharedState) (signatures : List ℕ) (s : ℕ) (p : SharedState) → slice_get places s ≡ Some p → (let q : SharedState = record { list = slice_index signatures p.list; accepting = p.accepting } in q) ≡ place_signature places signatures s
+place_with_signature places signatures s p e = ap (λ (r : SharedState). let q : SharedState = record { list = slice_index signatures r.list; accepting = r.accepting } in q) (sym (get_or_from_slice_get places s p (record { list = 0; accepting = true }) e))
 
 -- the list that was read
 pub list_seen : (lists : List (List Edge)) (f : ℕ → ℕ) (k : ℕ) (es : List Edge) → slice_get lists k ≡ Some es → retargeted_list f es ≡ list_view lists f k
 list_seen lists f k es e = ap (retargeted_list f) (sym (get_or_from_slice_get lists k es [] e))
 
 -- the edges of a list lead where those of all lists do
-pub list_within : (lists : List (List Edge)) (n k : ℕ) (edges : List code.Edge) → AreListsWithin lists n → slice_get lists k ≡ Some (map edge_of edges) → All (λ e. e.target < n) edges
+pub list_within : (lists : List (List Edge)) (n k : ℕ) (edges : List signature.Edge) → AreListsWithin lists n → slice_get lists k ≡ Some (map edge_of edges) → All (λ e. e.target < n) edges
 list_within lists n k edges w e =
     let P : Edge → Type 0 = λ f. f.target < n in
     All_from_map P edge_of edges (subst (All P) (get_or_from_slice_get lists k (map edge_of edges) [] e) (w k [] (slice_get_within lists k (map edge_of edges) e)))

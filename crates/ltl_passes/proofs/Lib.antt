@@ -1,11 +1,11 @@
-pub mod AgreeLaws
-pub mod ApartLaws
+pub mod MarksFollowTargetLaws
+pub mod InjectiveLaws
 pub mod AskedLaws
 pub mod ChainLaws
 pub mod ClassLaws
-pub mod CodeLaws
-pub mod CopyLaws
-pub mod LightLaws
+pub mod SignatureLaws
+pub mod LevelStateLaws
+pub mod LightestLaws
 pub mod ListedLaws
 pub mod MergeLaws
 pub mod MergedLaws
@@ -14,8 +14,8 @@ pub mod QuotientLaws
 pub mod ReachedLaws
 pub mod RenumberLaws
 pub mod RiseLaws
-pub mod StandingLaws
+pub mod OwnQuotientLaws
 pub mod Sums
 pub mod TargetLaws
-pub mod ThinLaws
+pub mod IrredundantLaws
 pub mod WeightLaws

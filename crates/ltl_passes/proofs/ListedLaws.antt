@@ -27,9 +27,9 @@ use Rattle.ltl_automaton.proofs.NetLaws.{fold_within}
 use Rattle.ltl_passes.specs.Listed.{IsListed, IsListedTo}
 use Rattle.ltl_passes.specs.Numbered.{IsNumberable}
 use Rattle.ltl_passes.proofs.ClassLaws.{range_next}
-use Rattle.ltl_passes.proofs.CodeLaws.{seen_again}
+use Rattle.ltl_passes.proofs.SignatureLaws.{seen_again}
 use Rattle.ltl_passes.proofs.MergedLaws.{of_all}
-use Rattle.ltl_passes.proofs.StandingLaws.{range_map, range_rises, retargeted_own}
+use Rattle.ltl_passes.proofs.OwnQuotientLaws.{range_map, range_rises, retargeted_own}
 use Rattle.ltl_passes.proofs.TargetLaws.{states_at}
 
 -- the numbers of a range

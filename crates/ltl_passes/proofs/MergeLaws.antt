@@ -15,8 +15,8 @@ use Rattle.ltl_spec.specs.Collections.Sets.{Has, set_of}
 use Rattle.ltl_spec.specs.Automata.Automaton.{Automaton, State, Edge}
 use Rattle.ltl_spec.specs.Construction.Merging.{retargeted_state, without_implied, class_names}
 use Rattle.ltl_spec.proofs.Construction.RoundLaws.{names_length, name_low, name_twice}
-use Rattle.ltl_passes.specs.Classes.{number_in, IsNumbering, AreNames, IsCoded, IsLeastAlike, coded_place, list_view, retargeted_list, thinned}
-use Rattle.ltl_passes.proofs.CodeLaws.{seen_again, next_round, ends_early}
+use Rattle.ltl_passes.specs.Partition.{number_in, IsNumbering, AreNames, AreSignatures, IsLeastAlike, place_signature, list_view, retargeted_list, thinned}
+use Rattle.ltl_passes.proofs.SignatureLaws.{seen_again, next_round, ends_early}
 
 pub index_own : (xs : List ℕ) (i d : ℕ) → i < length xs → slice_index_or xs i d ≡ slice_index_or xs i (slice_index_or xs i d)
 index_own xs i d l = any xs i d (slice_index_or xs i d) l
@@ -42,11 +42,11 @@ pub class_same : (names classes numbers : List ℕ) (keep_implied : Bool) (s : S
 class_same names classes numbers keep_implied s w within =
     ap (λ es. let t : State = record { accepting = s.accepting; edges = thinned keep_implied es } in t) (seen_again (slice_index numbers) (λ t. number_in (set_of nat_cmp names) (slice_index names t)) s.edges (λ e h.
     ap (λ xs. slice_index xs e.target) w.numbered ∙ get_or-map (number_in classes) names e.target 0 0 (within e h) ∙ ap (λ cs. number_in cs (slice_index names e.target)) w.listed))
-    ∙ thin keep_implied (retargeted_list (λ t. number_in (set_of nat_cmp names) (slice_index names t)) s.edges)
+    ∙ irredundant keep_implied (retargeted_list (λ t. number_in (set_of nat_cmp names) (slice_index names t)) s.edges)
   where
-    thin : (b : Bool) (es : List Edge) → (let t : State = record { accepting = s.accepting; edges = thinned b es } in t) ≡ without_implied b (record { accepting = s.accepting; edges = es })
-    thin true es = refl
-    thin false es = refl
+    irredundant : (b : Bool) (es : List Edge) → (let t : State = record { accepting = s.accepting; edges = thinned b es } in t) ≡ without_implied b (record { accepting = s.accepting; edges = es })
+    irredundant true es = refl
+    irredundant false es = refl
 
 -- one more state of a class
 pub class_pushed : (B C : Automaton) (sets : ℕ) (h : ℕ → State) (taken more_taken : List ℕ) (class : ℕ) (accepting : Bool) (es : List Edge) → B ≡ record { sets = sets; states = map h taken } → C ≡ with_state B accepting es
@@ -78,16 +78,16 @@ dropped_next q kept taken more_taken x w t e =
 
 -- rounds
 module _ (S : Shared) (shared : IsShared S.lists S.states) where
-  pub round_on : (n : ℕ) (names codes next : List ℕ) (keys : List (List Edge)) → names ≡ class_names (automaton_of S) n → IsCoded (length S.lists) (list_view S.lists (slice_index names)) keys codes
-      → IsLeastAlike (length S.states) (coded_place S.states codes) next → next ≡ class_names (automaton_of S) (n + 1)
+  pub round_on : (n : ℕ) (names codes next : List ℕ) (keys : List (List Edge)) → names ≡ class_names (automaton_of S) n → AreSignatures (length S.lists) (list_view S.lists (slice_index names)) keys codes
+      → IsLeastAlike (length S.states) (place_signature S.states codes) next → next ≡ class_names (automaton_of S) (n + 1)
   round_on n names codes next keys e c l =
       let z : suc n ≡ n + 1 = omega arith in
-      next_round S shared n keys codes next (subst (λ ns. IsCoded (length S.lists) (list_view S.lists (slice_index ns)) keys codes) e c) l ∙ ap (class_names (automaton_of S)) z
+      next_round S shared n keys codes next (subst (λ ns. AreSignatures (length S.lists) (list_view S.lists (slice_index ns)) keys codes) e c) l ∙ ap (class_names (automaton_of S)) z
 
-  pub round_done : (n : ℕ) (names codes next : List ℕ) (keys : List (List Edge)) → n < length (automaton_of S).states → names ≡ class_names (automaton_of S) n → IsCoded (length S.lists) (list_view S.lists (slice_index names)) keys codes
-      → IsLeastAlike (length S.states) (coded_place S.states codes) next → next ≡ names → names ≡ class_names (automaton_of S) (length (automaton_of S).states)
+  pub round_done : (n : ℕ) (names codes next : List ℕ) (keys : List (List Edge)) → n < length (automaton_of S).states → names ≡ class_names (automaton_of S) n → AreSignatures (length S.lists) (list_view S.lists (slice_index names)) keys codes
+      → IsLeastAlike (length S.states) (place_signature S.states codes) next → next ≡ names → names ≡ class_names (automaton_of S) (length (automaton_of S).states)
   round_done n names codes next keys m e c l s =
-      e ∙ ends_early (automaton_of S) n (omega arith) (sym (next_round S shared n keys codes next (subst (λ ns. IsCoded (length S.lists) (list_view S.lists (slice_index ns)) keys codes) e c) l) ∙ s ∙ e)
+      e ∙ ends_early (automaton_of S) n (omega arith) (sym (next_round S shared n keys codes next (subst (λ ns. AreSignatures (length S.lists) (list_view S.lists (slice_index ns)) keys codes) e c) l) ∙ s ∙ e)
 
 pub same_list : (xs ys : List ℕ) → pointwise nat_eq xs ys ≡ true → xs ≡ ys
 same_list xs ys t = (pointwise_decides Decides-eqb xs ys).0 t

@@ -16,7 +16,7 @@ use Rattle.ltl_spec.proofs.Collections.MemberLaws.{map_cases}
 use Rattle.ltl_spec.proofs.Collections.SumLaws.{set_of_length}
 use Rattle.ltl_automaton.proofs.NetLaws.{map_agree, place_kept, took}
 use Rattle.ltl_automaton.proofs.WayLaws.{Has_taken_at}
-use Rattle.ltl_passes.specs.Classes.{number_in, IsNumbering, AreNames}
+use Rattle.ltl_passes.specs.Partition.{number_in, IsNumbering, AreNames}
 
 -- what is new comes to the end
 place_behind : (x : ℕ) (xs : List ℕ) → ¬ (Has xs x) → place_of ◌==◌ x (xs ++ x ∷ []) ≡ length xs

@@ -30,7 +30,7 @@ use Rattle.ltl_automaton.proofs.NetLaws.{map_agree}
 use Rattle.ltl_automaton.proofs.WayLaws.{Has_taken_at, take_whole}
 use Rattle.ltl_models.specs.GbaView as gba
 use Rattle.ltl_models.specs.BaView.{IsBa, IsPlain}
-use Rattle.ltl_passes.specs.Numbered.{IsNumberable, arc_of, net_of}
+use Rattle.ltl_passes.specs.Numbered.{IsNumberable, successor_of, net_of}
 use Rattle.ltl_passes.proofs.MergedLaws.{of_all, gba_within}
 use Rattle.ltl_passes.proofs.ReachedLaws.{listed_reached}
 use Rattle.ltl_passes.proofs.Sums.{HasNoRepeats_take}
@@ -41,22 +41,22 @@ use Rattle.ltl_passes.proofs.TargetLaws.{states_at, closed_within}
 pub accepts_past : (A : Automaton) (s : ℕ) → length A.states ≤ s → true ≡ (state_at A s).accepting
 accepts_past A s l = ap (λ (t : State). t.accepting) (sym (get_or_past A.states s (record { accepting = true; edges = [] }) l))
 
-pub no_arcs_past : (A : Automaton) (s : ℕ) → length A.states ≤ s → [] ≡ map arc_of (state_at A s).edges
-no_arcs_past A s l = ap (λ (t : State). map arc_of t.edges) (sym (get_or_past A.states s (record { accepting = true; edges = [] }) l))
+pub no_successors_past : (A : Automaton) (s : ℕ) → length A.states ≤ s → [] ≡ map successor_of (state_at A s).edges
+no_successors_past A s l = ap (λ (t : State). map successor_of t.edges) (sym (get_or_past A.states s (record { accepting = true; edges = [] }) l))
 
 -- states with one list have the same edges
-pub same_arcs : (s : Shared) (p q l m : ℕ) → slice_get s.lists l ≡ Some (state_at (automaton_of s) p).edges → slice_get s.lists m ≡ Some (state_at (automaton_of s) q).edges → m ≡ l
-    → (net_of (automaton_of s)).arcs q ≡ (net_of (automaton_of s)).arcs p
-same_arcs s p q l m v w e = ap (map arc_of) (one_thing _ _ (sym w ∙ ap (slice_get s.lists) e ∙ v))
+pub same_successors : (s : Shared) (p q l m : ℕ) → slice_get s.lists l ≡ Some (state_at (automaton_of s) p).edges → slice_get s.lists m ≡ Some (state_at (automaton_of s) q).edges → m ≡ l
+    → (net_of (automaton_of s)).successors q ≡ (net_of (automaton_of s)).successors p
+same_successors s p q l m v w e = ap (map successor_of) (one_thing _ _ (sym w ∙ ap (slice_get s.lists) e ∙ v))
   where
     one_thing : (x y : List Edge) → Some x ≡ Some y → x ≡ y
     one_thing x y h = cc
 
-targets_plain : (es : List Edge) → map key_of (map arc_of es) ≡ map (λ (e : Edge). e.target) es
+targets_plain : (es : List Edge) → map key_of (map successor_of es) ≡ map (λ (e : Edge). e.target) es
 targets_plain [] = refl
 targets_plain (e ∷ es) = ap (λ l. e.target ∷ l) (targets_plain es)
 
-edges_plain : (keys : List ℕ) (es : List Edge) → map (edge_in ◌==◌ keys) (map arc_of es) ≡ map (retargeted_edge (λ t. place_of ◌==◌ t keys)) es
+edges_plain : (keys : List ℕ) (es : List Edge) → map (edge_in ◌==◌ keys) (map successor_of es) ≡ map (retargeted_edge (λ t. place_of ◌==◌ t keys)) es
 edges_plain keys [] = refl
 edges_plain keys (e ∷ es) = ap (λ l. retargeted_edge (λ t. place_of ◌==◌ t keys) e ∷ l) (edges_plain keys es)
 

@@ -14,7 +14,7 @@ use Rattle.ltl_spec.proofs.Semantics.Runs.{IsClosed}
 use Rattle.ltl_automaton.specs.EdgeView.{edge_of}
 use Rattle.ltl_automaton.specs.declared.edge.Edge as code
 use Rattle.ltl_models.proofs.Within.{All_from_map, edges_within}
-use Rattle.ltl_passes.specs.Classes.{IsWithinStates, retargeted_list}
+use Rattle.ltl_passes.specs.Partition.{IsWithinStates, retargeted_list}
 
 -- an automaton whose edges lead to states is closed
 pub closed_within : (A : Automaton) → 0 < length A.states → IsWithinStates A.states → IsClosed A

@@ -18,8 +18,8 @@ use Rattle.ltl_spec.specs.Construction.ImpliedEdges.{IsSetEdge}
 use Rattle.ltl_passes.specs.Chains.{edge_at}
 use Rattle.ltl_passes.specs.declared.implied.IndexedEdge as made
 
-abbrev pub asked_edge : made.IndexedEdge → Edge
-asked_edge k = edge_of k.edge
+abbrev pub indexed_edge : made.IndexedEdge → Edge
+indexed_edge k = edge_of k.edge
 
 -- these are the digits of the edge's target
 pub record IsAsked (k : made.IndexedEdge) : Type 0 where
@@ -30,7 +30,7 @@ pub record IsAsked (k : made.IndexedEdge) : Type 0 where
 -- these are the edges, with the digits of their targets
 pub record AreAsked (es : List Edge) (ks : List made.IndexedEdge) : Type 0 where
   pub all : All IsAsked ks
-  pub same : map asked_edge ks ≡ es
+  pub same : map indexed_edge ks ≡ es
 
 -- the edge has as many literals and lacks as many sets, and its literals and marks are sets
 pub record IsOfWeight (w : ℕ) (e : Edge) : Type 0 where
@@ -47,7 +47,7 @@ abbrev pub is_below : made.IndexedEdge → made.IndexedEdge → Bool
 is_below k l = is_within k.ones l.ones && is_within k.zeros l.zeros && is_subset literal_cmp k.edge.cube l.edge.cube && is_subset nat_cmp l.edge.marks k.edge.marks
 
 abbrev pub is_other : made.IndexedEdge → made.IndexedEdge → Bool
-is_other k l = not (same_edge (asked_edge k) (asked_edge l))
+is_other k l = not (same_edge (indexed_edge k) (indexed_edge l))
 
 all_four : (a b c d : Bool) → a ≡ true → b ≡ true → c ≡ true → d ≡ true → (a && b && c && d) ≡ true
 all_four a b c d e f g h = ap (λ x. x && b && c && d) e ∙ ap (λ x. x && c && d) f ∙ ap (λ x. x && d) g ∙ h

@@ -1,10 +1,10 @@
-pub mod Agreeing
-pub mod Apart
+pub mod MarksFollowTarget
+pub mod Injective
 pub mod Chains
-pub mod Classes
-pub mod Copies
-pub mod CopyCodes
+pub mod Partition
+pub mod Degeneralize
+pub mod LevelCodes
 pub mod IndexedEdge
-pub mod Light
+pub mod Lightest
 pub mod Listed
 pub mod Numbered

@@ -5,13 +5,13 @@ use Rattle.ltl_spec.specs.Automata.Automaton.{Automaton, Edge, edge_cmp, state_a
 use Rattle.ltl_spec.specs.Tools.Limits.{stated_limits}
 use Rattle.ltl_automaton.specs.Bounds.{IsBounded}
 use Rattle.ltl_automaton.specs.Net.{Net}
-use Rattle.ltl_automaton.specs.declared.arc.Arc.{Arc}
+use Rattle.ltl_automaton.specs.declared.successor.Successor.{Successor}
 
-abbrev pub arc_of : Edge → Arc ℕ
-arc_of e = record { cube = e.cube; key = e.target; marks = e.marks }
+abbrev pub successor_of : Edge → Successor ℕ
+successor_of e = record { cube = e.cube; key = e.target; marks = e.marks }
 
 abbrev pub net_of : Automaton → Net ℕ
-net_of A = record { arcs = λ s. map arc_of (state_at A s).edges; accepts = λ s. (state_at A s).accepting }
+net_of A = record { successors = λ s. map successor_of (state_at A s).edges; accepts = λ s. (state_at A s).accepting }
 
 -- it is within the limits, and the edges of a state rise
 pub record IsNumberable (A : Automaton) : Type 0 where

@@ -7,7 +7,7 @@ ghost use Rattle.ltl_passes.specs.IndexedEdge.{AreAsked, IsAsked, IsOfWeight, Is
 ghost use Rattle.ltl_passes.specs.Chains.{AreLinks};
 
 use crate::chains::{linked, unimplied_of_few};
-use crate::light::without_light;
+use crate::lightest::without_lightest;
 use least::{Below, Counting, Lookup};
 use ltl_automaton::Edge;
 use ltl_models::elements::{LITERALS, count, has_literal, tally_literals};
@@ -28,7 +28,7 @@ struct IndexedEdge {
 }
 
 /// Edges with the digits of their targets. Most lists are short.
-type AskedEdges<'a, A> = SmallVec<IndexedEdge, 4, &'a A>;
+type IndexedEdges<'a, A> = SmallVec<IndexedEdge, 4, &'a A>;
 
 impl Default for IndexedEdge {
     fn default() -> IndexedEdge {
@@ -123,10 +123,13 @@ impl Counting<IndexedEdge> for Differing {
 }
 
 /// The edges with the digits of their targets.
-fn ask_all<'a, A: Allocator>(alloc: &'a A, edges: &[Edge]) -> Result<AskedEdges<'a, A>, AllocError>
+fn ask_all<'a, A: Allocator>(
+    alloc: &'a A,
+    edges: &[Edge],
+) -> Result<IndexedEdges<'a, A>, AllocError>
     ensures { IfOk result (λ v. AreAsked (map edge_of edges.now) v.items) }
 {
-    let mut all: AskedEdges<'a, A> = SmallVec::with_capacity(alloc, edges.len())?;
+    let mut all: IndexedEdges<'a, A> = SmallVec::with_capacity(alloc, edges.len())?;
     'edges: for edge in edges {
         all.push(IndexedEdge::of(edge))?;
     }
@@ -224,6 +227,6 @@ pub(crate) fn unimplied<'a, A: Allocator>(
     if let Some(kept) = unimplied_of_few(alloc, edges.as_slice(), heads, links.as_slice(), FEW)? {
         return Ok(kept);
     }
-    let left = without_light(alloc, edges.as_slice(), heads)?;
+    let left = without_lightest(alloc, edges.as_slice(), heads)?;
     unimplied_of_many(alloc, left.as_slice())
 }

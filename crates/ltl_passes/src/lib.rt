@@ -7,10 +7,10 @@
 //! What flows: a `Gba`, merged; its copies on levels, whose accepting states are those of the last level; merged again and numbered: a `Ba`. A `Gba`
 //! that is numbered without levels is a `Gen`. Behind `merge`, `levels` and `renumber` stand the same passes over states that no `Ba` holds yet
 //! (`smaller_states`, `level_states`, `numbered_states`), and those that hand on what they leave as it is.
-//! An automaton that merging leaves as it is (`standing`) is handed on without a copy (`smaller`), and so is one that is numbered as it
-//! stands (`listed`). Where names tell all targets apart (`apart`), merging is done. Implied edges are sought where edges with one target
+//! An automaton that merging leaves as it is (`own_quotient`) is handed on without a copy (`smaller`), and so is one that is numbered as it
+//! stands (`listed`). Where names tell all targets apart (`injective`), merging is done. Implied edges are sought where edges with one target
 //! differ in weight, along chains of these (`chains`), and by an index where chains are long (`implied`); where it is sure that there are none
-//! (`agreeing`, `thin`), they are not sought.
+//! (`marks_follow_target`, `irredundant`), they are not sought.
 //!
 //! The generalized automaton of `[]<>p` has, merged, one state, with `[t]` in no set and `[p]` in set 0. On levels it has two copies with one list:
 //!
@@ -20,25 +20,25 @@
 //! ```
 #![tactic(auto)]
 
-mod agreeing;
-mod apart;
 mod chains;
-mod classes;
-mod copies;
+mod degeneralize;
 mod implied;
-mod light;
+mod injective;
+mod irredundant;
+mod lightest;
 mod listed;
+mod marks_follow_target;
 pub mod merging;
 pub mod numbering;
+mod own_quotient;
+mod partition;
 mod quotient;
 mod retargeting;
 mod rises;
 mod smaller;
-mod standing;
-mod thin;
 
-pub use agreeing::are_copies_thin;
-pub use copies::{level_states, levels};
+pub use degeneralize::{level_states, levels};
+pub use marks_follow_target::are_copies_irredundant;
 pub use merging::{merge, merge_ba};
 pub use numbering::{numbered_states, renumber, renumber_generalized};
 pub use smaller::{smaller_gba, smaller_states};

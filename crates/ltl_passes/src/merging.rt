@@ -9,11 +9,11 @@ ghost use Rattle.ltl_spec.specs.Construction.ImpliedEdges.{IsSetEdge};
 ghost use Rattle.ltl_automaton.specs.EdgeView.{edge_of};
 ghost use Rattle.ltl_automaton.specs.SharedView.{automaton_of};
 ghost use Rattle.ltl_models.specs.BaView.{IsBa};
-ghost use Rattle.ltl_passes.specs.Classes.{IsWithinStates};
+ghost use Rattle.ltl_passes.specs.Partition.{IsWithinStates};
 
-use crate::classes::{class_names, own_names};
+use crate::own_quotient::all_rise;
+use crate::partition::{class_names, own_names};
 use crate::quotient::quotient;
-use crate::standing::all_rise;
 use ltl_automaton::{Edge, SharedStates};
 use ltl_models::{Ba, BaFault, Gba, Options};
 use std::alloc::{AllocError, Allocator};

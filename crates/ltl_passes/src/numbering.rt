@@ -7,10 +7,12 @@ ghost use Rattle.ltl_spec.specs.Construction.Renumbered.{renumbered_automaton};
 ghost use Rattle.ltl_automaton.specs.EdgeView.{edge_of};
 ghost use Rattle.ltl_automaton.specs.SharedView.{automaton_of};
 ghost use Rattle.ltl_models.specs.BaView.{IsBa};
-ghost use Rattle.ltl_passes.specs.Numbered.{IsNumberable, arc_of, net_of};
+ghost use Rattle.ltl_passes.specs.Numbered.{IsNumberable, successor_of, net_of};
 
 use crate::listed::are_listed;
-use ltl_automaton::{Arc, AutomatonFault, Edge, Limits, SharedStates, Successors, explore_from};
+use ltl_automaton::{
+    AutomatonFault, Edge, Limits, SharedStates, Successor, Successors, explore_from,
+};
 use ltl_models::{Ba, BaFault, Gba, Gen, MOST_EDGES, MOST_STATES};
 use std::alloc::{AllocError, Allocator};
 
@@ -22,21 +24,21 @@ struct Numbers<'b, 's, 'a, A: Allocator> {
 }
 
 /// The edges by the numbers of their targets.
-fn arcs_of<'c, B: Allocator>(
+fn successors_of<'c, B: Allocator>(
     alloc: &'c B,
     edges: &[Edge],
-) -> Result<Vec<Arc<usize>, &'c B>, AllocError>
-    ensures { IfOk result (λ v. v.items ≡ map arc_of (map edge_of edges.now)) }
+) -> Result<Vec<Successor<usize>, &'c B>, AllocError>
+    ensures { IfOk result (λ v. v.items ≡ map successor_of (map edge_of edges.now)) }
 {
-    let mut arcs = Vec::with_capacity(alloc, edges.len())?;
+    let mut successors = Vec::with_capacity(alloc, edges.len())?;
     for edge in edges {
-        arcs.push(Arc {
+        successors.push(Successor {
             cube: edge.cube,
             key: edge.target,
             marks: edge.marks,
         })?;
     }
-    Ok(arcs)
+    Ok(successors)
 }
 
 impl<'b, 's, 'a, A: Allocator> Successors<usize> for Numbers<'b, 's, 'a, A> {
@@ -54,8 +56,8 @@ impl<'b, 's, 'a, A: Allocator> Successors<usize> for Numbers<'b, 's, 'a, A> {
     }
 
     /// The state that was first asked for with this list. That it has the list is tested, since 0 stands where none was asked for.
-    #[tactic(auto, using(crate::proofs::RenumberLaws::same_arcs))]
-    fn twin(&mut self, key: &usize) -> Result<Option<usize>, AllocError> {
+    #[tactic(auto, using(crate::proofs::RenumberLaws::same_successors))]
+    fn same_successors_as(&mut self, key: &usize) -> Result<Option<usize>, AllocError> {
         let states = self.states;
         if *key >= states.len() {
             return Ok(None);
@@ -73,15 +75,15 @@ impl<'b, 's, 'a, A: Allocator> Successors<usize> for Numbers<'b, 's, 'a, A> {
         Ok(0)
     }
 
-    #[tactic(auto, using(crate::proofs::RenumberLaws::no_arcs_past))]
-    fn arcs<'c, B: Allocator>(
+    #[tactic(auto, using(crate::proofs::RenumberLaws::no_successors_past))]
+    fn successors<'c, B: Allocator>(
         &mut self,
         alloc: &'c B,
         key: &usize,
         _most: usize,
-    ) -> Result<Vec<Arc<usize>, &'c B>, AutomatonFault> {
+    ) -> Result<Vec<Successor<usize>, &'c B>, AutomatonFault> {
         if *key < self.states.len() {
-            Ok(arcs_of(alloc, self.states.edges(*key))?)
+            Ok(successors_of(alloc, self.states.edges(*key))?)
         } else {
             Ok(Vec::new(alloc))
         }

@@ -4,9 +4,9 @@ ghost use Rattle.std.specs.Prelude.{◌≡◌, ◌≤◌, [], length, map, IfOk}
 ghost use Rattle.ltl_spec.specs.Construction.Levels as levels_of;
 ghost use Rattle.ltl_automaton.specs.SharedView.{automaton_of};
 ghost use Rattle.ltl_models.specs.GbaView as gba;
-ghost use Rattle.ltl_passes.specs.Copies.{HasAtLeast, HaveAtLeast};
+ghost use Rattle.ltl_passes.specs.Degeneralize.{HasAtLeast, HaveAtLeast};
 
-use crate::copies::{Copied, copy_edge};
+use crate::degeneralize::{LevelState, level_edge};
 use ltl_automaton::SharedStates;
 use ltl_models::GbaEdge;
 use std::alloc::{AllocError, Allocator};
@@ -19,10 +19,10 @@ fn rises(edges: &[GbaEdge]) -> usize
     let Some(first) = edges.first() else {
         return 0;
     };
-    let mut last = copy_edge(0, first, 0);
+    let mut last = level_edge(0, first, 0);
     let mut count = 1usize;
     for edge in edges {
-        let next = copy_edge(0, edge, 0);
+        let next = level_edge(0, edge, 0);
         if let Ordering::Less = last.cmp_list(&next) {
             last = next;
             count += 1;
@@ -53,10 +53,10 @@ pub(crate) fn count_rises<'a, A: Allocator>(
 pub(crate) fn counted<A: Allocator>(
     states: &SharedStates<'_, A>,
     counts: &[usize],
-    copy: &Copied,
+    copy: &LevelState,
 ) -> usize
     requires { HaveAtLeast states.now.lists counts.now }
-    ensures { result ≤ length (levels_of.copy_edges (automaton_of states.now) copy.now) }
+    ensures { result ≤ length (levels_of.level_edges (automaton_of states.now) copy.now) }
 {
     if copy.state >= states.len() {
         return 0;

@@ -6,12 +6,12 @@ ghost use Rattle.ltl_spec.specs.Automata.Automaton.{edge_cmp};
 ghost use Rattle.ltl_spec.specs.Construction.Merging.{merged_automaton, unimplied_edges};
 ghost use Rattle.ltl_automaton.specs.SharedView.{automaton_of};
 ghost use Rattle.ltl_models.specs.BaView.{IsBa};
-ghost use Rattle.ltl_passes.specs.Classes.{IsWithinStates};
+ghost use Rattle.ltl_passes.specs.Partition.{IsWithinStates};
 
+use crate::irredundant::may_keep;
 use crate::merging::names;
+use crate::own_quotient::{all_rise, is_own_quotient};
 use crate::quotient::quotient;
-use crate::standing::{all_rise, stands};
-use crate::thin::may_keep;
 use ltl_automaton::SharedStates;
 use ltl_models::{BaFault, Gba, Options};
 use std::alloc::{AllocError, Allocator};
@@ -23,20 +23,27 @@ fn changed<'a, A: Allocator>(
     states: &SharedStates<'_, A>,
     options: &Options,
     rise: bool,
-    thin: bool,
+    irredundant: bool,
 ) -> Result<Option<SharedStates<'a, A>>, AllocError>
     requires within { IsWithinStates (automaton_of states.now).states }
     requires rise { rise ≡ true → All (λ es. IsRising edge_cmp es) states.now.lists }
-    requires thin { thin ≡ true → All (λ es. unimplied_edges es ≡ es) states.now.lists }
+    requires irredundant { irredundant ≡ true → All (λ es. unimplied_edges es ≡ es) states.now.lists }
     ensures { IfOk result (λ o. let merged = merged_automaton options.now.keep_implied options.now.keep_equal (automaton_of states.now) in
         MatchOption o (automaton_of states.now ≡ merged) (λ m. automaton_of m ≡ merged)) }
 {
     let names = names(alloc, states, options.keep_equal, rise)?;
     let keep_implied = options.keep_implied;
-    if stands(alloc, states, names.as_slice(), keep_implied, rise, thin)? {
+    if is_own_quotient(
+        alloc,
+        states,
+        names.as_slice(),
+        keep_implied,
+        rise,
+        irredundant,
+    )? {
         return Ok(None);
     }
-    let keep = may_keep(alloc, states, names.as_slice(), keep_implied, thin)?;
+    let keep = may_keep(alloc, states, names.as_slice(), keep_implied, irredundant)?;
     let small = quotient(alloc, states, names.as_slice(), keep)?;
     Ok(Some(small))
 }
@@ -48,7 +55,7 @@ pub fn smaller_gba<'a, A: Allocator>(
     gba: Gba<'a, A>,
     options: &Options,
 ) -> Result<Gba<'a, A>, BaFault>
-    requires thin { options.now.keep_implied ≡ false → All (λ s. unimplied_edges s.edges ≡ s.edges) gba.states }
+    requires irredundant { options.now.keep_implied ≡ false → All (λ s. unimplied_edges s.edges ≡ s.edges) gba.states }
     ensures merged { IfOk result (λ m. m ≡ merged_automaton options.now.keep_implied options.now.keep_equal gba.entry) }
     ensures fault { IfErr result (λ f. f ≡ BaFault.OutOfMemory) }
 {
@@ -68,16 +75,16 @@ pub fn smaller_states<'a, A: Allocator>(
     alloc: &'a A,
     states: SharedStates<'a, A>,
     options: &Options,
-    thin: bool,
+    irredundant: bool,
 ) -> Result<SharedStates<'a, A>, BaFault>
     requires inside { IsBa (automaton_of states) }
-    requires thin { thin ≡ true → All (λ s. unimplied_edges s.edges ≡ s.edges) (automaton_of states).states }
+    requires irredundant { irredundant ≡ true → All (λ s. unimplied_edges s.edges ≡ s.edges) (automaton_of states).states }
     ensures merged { IfOk result (λ m. automaton_of m ≡ merged_automaton options.now.keep_implied options.now.keep_equal (automaton_of states.entry)) }
     ensures inside { IfOk result (λ m. IsBa (automaton_of m)) }
     ensures fault { IfErr result (λ f. f ≡ BaFault.OutOfMemory) }
 {
     states.invariant();
-    match changed(alloc, &states, options, true, thin)? {
+    match changed(alloc, &states, options, true, irredundant)? {
         Some(small) => Ok(small),
         None => Ok(states),
     }

@@ -13,7 +13,7 @@ use Rattle.ltl_spec.proofs.Collections.SetLaws.{filter_cases, Has-filter}
 use Rattle.ltl_spec.proofs.Collections.MemberLaws.{all_Decides, any_cases, any_true}
 use Rattle.ltl_spec.proofs.Collections.Orders.{literal_linear}
 use Rattle.ltl_spec.proofs.Collections.CaseLaws.{nat_eq_is, nat_eq_same}
-use Rattle.ltl_sets.specs.Words.{IsWords, bit_in, HasNone, IsApart, places, members, literals_from, signed_places, literal_in, literals, letter_of, forbidden_of}
+use Rattle.ltl_sets.specs.Words.{IsWords, bit_in, HasNone, AreDisjoint, places, members, literals_from, signed_places, literal_in, literals, letter_of, forbidden_of}
 use Rattle.ltl_sets.specs.CubeEq.{same_cube, cube_Decides}
 use Rattle.ltl_sets.specs.SubsetLaws.{filter_none, union_tests, common_tests, put_test, subset_tests}
 use Rattle.ltl_sets.specs.WordLaws.{IsWords-or, IsWords-and, IsWords-xor, IsWords-without, bit_in-or, bit_in-and, bit_in-xor, bit_in-without, bit_in-empty, same_words}
@@ -82,16 +82,16 @@ module _ (ps ns qs ms : List ℕ) (p1 : IsWords ps) (n1 : IsWords ns) (p2 : IsWo
       common_tests literal_linear signed_places signed_rise (literal_in ps ns) (literal_in qs ms) (literal_in (zip2 bit_and ps qs) (zip2 bit_and ns ms))
       (λ l h. and_signs l.positive _ _ _ _ _ _ (bit_in-and ps qs p1 p2 l.proposition (signed_below l h)) (bit_in-and ns ms n1 n2 l.proposition (signed_below l h)))
 
-  both_apart : (a b c d x y : Bool) → x ≡ (a && c) → y ≡ (b && d) → (a && b) ≡ false → (x && y) ≡ false
-  both_apart true b c d x y e f g = ap (λ z. x && z) (f ∙ ap (λ z. z && d) g) ∙ ends x
+  both_disjoint : (a b c d x y : Bool) → x ≡ (a && c) → y ≡ (b && d) → (a && b) ≡ false → (x && y) ≡ false
+  both_disjoint true b c d x y e f g = ap (λ z. x && z) (f ∙ ap (λ z. z && d) g) ∙ ends x
     where
       ends : (z : Bool) → (z && false) ≡ false
       ends true = refl
       ends false = refl
-  both_apart false b c d x y e f g = ap (λ z. z && y) e
+  both_disjoint false b c d x y e f g = ap (λ z. z && y) e
 
-  pub IsApart-common : IsApart ps ns → IsApart (zip2 bit_and ps qs) (zip2 bit_and ns ms)
-  IsApart-common apart i h = both_apart (bit_in ps i) (bit_in ns i) (bit_in qs i) (bit_in ms i) _ _ (bit_in-and ps qs p1 p2 i h) (bit_in-and ns ms n1 n2 i h) (apart i h)
+  pub AreDisjoint-common : AreDisjoint ps ns → AreDisjoint (zip2 bit_and ps qs) (zip2 bit_and ns ms)
+  AreDisjoint-common disjoint i h = both_disjoint (bit_in ps i) (bit_in ns i) (bit_in qs i) (bit_in ms i) _ _ (bit_in-and ps qs p1 p2 i h) (bit_in-and ns ms n1 n2 i h) (disjoint i h)
 
   pub IsWords-lacking : IsWords (zip2 bit_or (zip2 bit_and ps (map (bit_not w64) qs)) (zip2 bit_and ns (map (bit_not w64) ms)))
   IsWords-lacking = IsWords-or _ _ (IsWords-without ps qs p1 p2) (IsWords-without ns ms n1 n2)
@@ -201,17 +201,17 @@ module _ (ps ns : List ℕ) (p1 : IsWords ps) (n1 : IsWords ns) where
       (Has-filter (literal_in ps ns) signed_places (literal i true) (Has-signed (literal i true) h) (first_so _ _ e))
       (has_literals ps ns (literal i false) h ∙ second_so _ _ e)
 
-  pub no_clash : IsApart ps ns → is_contradictory (literals ps ns) ≡ false
+  pub no_clash : AreDisjoint ps ns → is_contradictory (literals ps ns) ≡ false
   no_clash f = false_if (is_contradictory (literals ps ns)) (λ e. let (i, h, t) = clash e in never (sym t ∙ f i h))
 
-  apart_if : HasNone (zip2 bit_and ps ns) → IsApart ps ns
-  apart_if f i h = sym (bit_in-and ps ns p1 n1 i h) ∙ f i h
+  disjoint_if : HasNone (zip2 bit_and ps ns) → AreDisjoint ps ns
+  disjoint_if f i h = sym (bit_in-and ps ns p1 n1 i h) ∙ f i h
 
-  pub IsApart-and : (r : Bool) → Decides r (HasNone (zip2 bit_and ps ns)) → r ≡ true → IsApart ps ns
-  IsApart-and r d e = apart_if (d.0 e)
+  pub AreDisjoint-and : (r : Bool) → Decides r (HasNone (zip2 bit_and ps ns)) → r ≡ true → AreDisjoint ps ns
+  AreDisjoint-and r d e = disjoint_if (d.0 e)
 
   pub joined : (r : Bool) → Decides r (HasNone (zip2 bit_and ps ns)) → r ≡ true → (if is_contradictory (literals ps ns) then None else Some (literals ps ns)) ≡ Some (literals ps ns)
-  joined r d e = ap (λ b. cond b None (Some (literals ps ns))) (no_clash (IsApart-and r d e))
+  joined r d e = ap (λ b. cond b None (Some (literals ps ns))) (no_clash (AreDisjoint-and r d e))
 
   pub not_joined : (r : Bool) → Decides r (HasNone (zip2 bit_and ps ns)) → r ≡ false → (if is_contradictory (literals ps ns) then None else Some (literals ps ns)) ≡ None
   not_joined r d e = ap (λ b. cond b None (Some (literals ps ns))) (contradictory (is_contradictory (literals ps ns)) refl)

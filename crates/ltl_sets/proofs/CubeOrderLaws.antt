@@ -11,7 +11,7 @@ use Rattle.std.proofs.lemmas.Cmp.{tied_itself}
 use Rattle.ltl_spec.specs.Transitions.Cubes.{Literal, literal_cmp, cube_cmp}
 use Rattle.ltl_spec.proofs.Collections.Orders.{literal_linear, cube_linear}
 use Rattle.ltl_spec.proofs.Collections.CaseLaws.{below_equal_above}
-use Rattle.ltl_sets.specs.Words.{IsWords, bit_in, HasNone, Reaches, IsLowest, IsApart, IsCubeWords, signed_places, literal_in, literals}
+use Rattle.ltl_sets.specs.Words.{IsWords, bit_in, HasNone, Reaches, IsLowest, AreDisjoint, IsCubeWords, signed_places, literal_in, literals}
 use Rattle.ltl_sets.specs.SubsetLaws.{cmp_goes_on, cmp_ends}
 use Rattle.ltl_sets.specs.WordLaws.{IsWords-xor, bit_in-or, bit_in-xor}
 use Rattle.ltl_sets.specs.PlaceLaws.{literal, signed_rise, Has-signed, signed_below, signed_less, positive_first}
@@ -88,7 +88,7 @@ other_sign false false a b e f = never (sym e ∙ f)
 same_or_above : (p j : ℕ) → p ≤ j → (j ≡ p) ⊎ (p < j)
 same_or_above p j h = grind arith
 
-module _ (ps ns qs ms : List ℕ) (apart : IsApart ps ns) (q1 : IsWords qs) (m1 : IsWords ms) (p : ℕ) (h : p < 256) (s : Bool)
+module _ (ps ns qs ms : List ℕ) (disjoint : AreDisjoint ps ns) (q1 : IsWords qs) (m1 : IsWords ms) (p : ℕ) (h : p < 256) (s : Bool)
     (mine : literal_in ps ns (literal p s) ≡ true) (lacks : literal_in qs ms (literal p s) ≡ false) (below : AgreeBelow ps ns qs ms p s) where
   -- at p the other cube has at most the negative literal, where the first one has the positive one
   above_here : (t : Bool) → t ≡ not s → literal_in qs ms (literal p t) ≡ true → literal_cmp (literal p s) (literal p t) ≡ Less
@@ -103,7 +103,7 @@ module _ (ps ns qs ms : List ℕ) (apart : IsApart ps ns) (q1 : IsWords qs) (m1 
           → literal_cmp (literal p u) (literal p v) ≡ Less
       by true true d a b k = never d
       by true false d a b k = positive_first p
-      by false true d a b k = absurd (both (bit_in ps p) (bit_in ns p) (apart p h) (k refl ∙ b) a)
+      by false true d a b k = absurd (both (bit_in ps p) (bit_in ns p) (disjoint p h) (k refl ∙ b) a)
       by false false d a b k = never (sym d)
 
   cmp_first : (g : Bool) → Decides g (Reaches (zip2 bit_or qs ms) p) → slice_cmp literal_cmp (literals ps ns) (literals qs ms) ≡ cond g Less Greater
@@ -194,7 +194,7 @@ module _ (ps ns qs ms : List ℕ) (one : IsCubeWords ps ns) (two : IsCubeWords q
     pub cmp_differing : (s b g : Bool) → bit_in (zip2 bit_xor ps qs) p ≡ s → b ≡ literal_in ps ns (literal p s)
         → Decides g (Reaches (cond b (zip2 bit_or qs ms) (zip2 bit_or ps ns)) p) → cube_cmp (literals ps ns) (literals qs ms) ≡ cond (beq b g) Less Greater
     cmp_differing s true g e mine d =
-        cmp_first ps ns qs ms one.apart two.positive_words two.negative_words p low.below s (sym mine) (sign_differs s e ∙ ap not (sym mine)) (agreeing s e) g d
+        cmp_first ps ns qs ms one.disjoint two.positive_words two.negative_words p low.below s (sym mine) (sign_differs s e ∙ ap not (sym mine)) (agreeing s e) g d
         ∙ whole g
       where
         whole : (g : Bool) → cond g Less Greater ≡ cond (beq true g) Less Greater
@@ -202,7 +202,7 @@ module _ (ps ns qs ms : List ℕ) (one : IsCubeWords ps ns) (two : IsCubeWords q
         whole false = refl
     cmp_differing s false g e mine d =
         turned (literals ps ns) (literals qs ms) g
-        (cmp_first qs ms ps ns two.apart one.positive_words one.negative_words p low.below s (sign_differs s e ∙ ap not (sym mine)) (sym mine) (turn_below s (agreeing s e)) g d)
+        (cmp_first qs ms ps ns two.disjoint one.positive_words one.negative_words p low.below s (sign_differs s e ∙ ap not (sym mine)) (sym mine) (turn_below s (agreeing s e)) g d)
 
 -- the test of the words of one sign is the test of the literal
 pub own_sign : (ps ns us : List ℕ) (p : ℕ) (s : Bool) → us ≡ cond s ps ns → bit_in us p ≡ literal_in ps ns (literal p s)

@@ -7,7 +7,7 @@ use Rattle.std.specs.List.{filter, range_with_len}
 use Rattle.ltl_spec.specs.Collections.Sets.{has}
 use Rattle.ltl_spec.specs.Transitions.Cubes.{Literal}
 use Rattle.ltl_sets.specs.Literals.{literal_of, cube_of, signed_by}
-use Rattle.ltl_sets.specs.Words.{IsWords, bit_in, IsApart, places, members, literals_from, signed_places, literal_in, literals}
+use Rattle.ltl_sets.specs.Words.{IsWords, bit_in, AreDisjoint, places, members, literals_from, signed_places, literal_in, literals}
 use Rattle.ltl_sets.specs.WordLaws.{bit_in-or}
 use Rattle.ltl_sets.specs.PlaceLaws.{literal, has_members}
 use Rattle.ltl_sets.proofs.RowSetLaws.{never, members_few}
@@ -27,7 +27,7 @@ members_are : (ws : List ℕ) → members ws ≡ filter (bit_in ws) (range_with_
 unfolding members places
 members_are ws = refl
 
-module _ (ps ns : List ℕ) (p1 : IsWords ps) (n1 : IsWords ns) (apart : IsApart ps ns) where
+module _ (ps ns : List ℕ) (p1 : IsWords ps) (n1 : IsWords ns) (disjoint : AreDisjoint ps ns) where
   from : (a n : ℕ) → a + n ≤ 256 → cube_of (map (signed_by (members ps)) (filter (bit_in (zip2 bit_or ps ns)) (range_with_len a n))) ≡ filter (literal_in ps ns) (literals_from a n)
   from a zero h = refl
   from a (suc n) h =
@@ -36,7 +36,7 @@ module _ (ps ns : List ℕ) (p1 : IsWords ps) (n1 : IsWords ns) (apart : IsApart
       ∙ ap (λ ls. cond (bit_in (zip2 bit_or ps ns) a) (literal a (has nat_cmp a (members ps)) ∷ ls) ls) (from (a + 1) n (omega arith))
       ∙ ap (λ b. cond b (literal a (has nat_cmp a (members ps)) ∷ filter (literal_in ps ns) (literals_from (a + 1) n)) (filter (literal_in ps ns) (literals_from (a + 1) n)))
       (bit_in-or ps ns p1 n1 a below)
-      ∙ step (bit_in ps a) (bit_in ns a) (has nat_cmp a (members ps)) a (filter (literal_in ps ns) (literals_from (a + 1) n)) (apart a below) (has_members ps a below)
+      ∙ step (bit_in ps a) (bit_in ns a) (has nat_cmp a (members ps)) a (filter (literal_in ps ns) (literals_from (a + 1) n)) (disjoint a below) (has_members ps a below)
 
   pub signed_members : cube_of (map (signed_by (members ps)) (members (zip2 bit_or ps ns))) ≡ literals ps ns
   unfolding literals signed_places
@@ -45,7 +45,7 @@ module _ (ps ns : List ℕ) (p1 : IsWords ps) (n1 : IsWords ns) (apart : IsApart
 pub signed_few : (is js : List ℕ) → length js ≤ 256 → length (map (signed_by is) js) ≤ 256
 signed_few is js h = omega (arith, length-map js (signed_by is))
 
-pub literals_few : (ps ns : List ℕ) → IsWords ps → IsWords ns → IsApart ps ns → length (literals ps ns) ≤ 256
-literals_few ps ns p1 n1 apart =
+pub literals_few : (ps ns : List ℕ) → IsWords ps → IsWords ns → AreDisjoint ps ns → length (literals ps ns) ≤ 256
+literals_few ps ns p1 n1 disjoint =
     let js = map (signed_by (members ps)) (members (zip2 bit_or ps ns)) in
-    omega (arith, ap length (signed_members ps ns p1 n1 apart), length-map js literal_of, signed_few (members ps) (members (zip2 bit_or ps ns)) (members_few (zip2 bit_or ps ns)))
+    omega (arith, ap length (signed_members ps ns p1 n1 disjoint), length-map js literal_of, signed_few (members ps) (members (zip2 bit_or ps ns)) (members_few (zip2 bit_or ps ns)))

@@ -87,14 +87,14 @@ abbrev pub words_with_literals : Bool → List Literal → List ℕ
 words_with_literals s ls = words_of (λ i. has literal_cmp (record { proposition = i; positive = s }) ls)
 
 -- no place is a one in both
-abbrev pub IsApart : List ℕ → List ℕ → Type 0
-IsApart positive negative = (i : ℕ) → i < 256 → (bit_in positive i && bit_in negative i) ≡ false
+abbrev pub AreDisjoint : List ℕ → List ℕ → Type 0
+AreDisjoint positive negative = (i : ℕ) → i < 256 → (bit_in positive i && bit_in negative i) ≡ false
 
 -- the positive and the negative words of a cube
 pub record IsCubeWords (positive negative : List ℕ) : Type 0 where
   pub positive_words : IsWords positive
   pub negative_words : IsWords negative
-  pub apart : IsApart positive negative
+  pub disjoint : AreDisjoint positive negative
 
 -- the propositions of the positive literals
 abbrev pub letter_of : Cube → List ℕ

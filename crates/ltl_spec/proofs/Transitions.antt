@@ -9,15 +9,15 @@ pub mod SafeLaws
 pub mod SafeTests
 pub mod PruningLaws
 pub mod SameJoins
-pub mod ApartPairs
-pub mod ApartMarks
+pub mod IndependentPairs
+pub mod IndependentMarks
 pub mod ProductTransitions
-pub mod PartJoins
+pub mod ConjunctJoins
 pub mod FactorLaws
 pub mod JoinedLists
-pub mod RowPartLaws
-pub mod PartSets
-pub mod ApartTests
+pub mod RowConjunctLaws
+pub mod ConjunctSets
+pub mod IndependenceTests
 pub mod LinkLaws
 pub mod FactoredTransitions
 pub mod Fulfilment
@@ -29,4 +29,4 @@ pub mod KeptAmongLaws
 pub mod StepLaws
 pub mod AskedSteps
 pub mod SpokenLaws
-pub mod AskedTests
+pub mod SupportTests

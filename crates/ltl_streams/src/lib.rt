@@ -4,7 +4,7 @@
 //! them say that a fault has a cause, that nothing is tried again, and that an output is flushed once, behind its last byte.
 #![tactic(auto)]
 
-pub mod piece;
+pub mod output_buffer;
 pub mod reader_source;
 pub mod sink;
 pub mod source;
@@ -12,7 +12,7 @@ pub mod stage;
 pub mod writer_sink;
 pub mod writing;
 
-pub use piece::Piece;
+pub use output_buffer::OutputBuffer;
 pub use reader_source::{LentReader, ReaderSource};
 pub use sink::{ByteSink, WriteFault};
 pub use source::{ByteSource, SourceFault};

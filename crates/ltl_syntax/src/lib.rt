@@ -31,7 +31,7 @@ pub use fault::{FaultKind, ReadFault};
 pub use formula::Formula;
 pub use lexer::{Tokens, lex};
 pub use limits::{PROPOSITION_LIMIT, TEXT_LIMIT};
-pub use ltl_streams::{Piece, WriteFault};
+pub use ltl_streams::{OutputBuffer, WriteFault};
 pub use operators::{BinaryOperator, Node, UnaryOperator};
 pub use output::{put_text, text_to};
 pub use reader::read;

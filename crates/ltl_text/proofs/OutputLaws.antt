@@ -11,13 +11,13 @@ module _ {S : Type 0} (state : S → SinkState) where
   -- of the whole, the rest is still to be put
   pub record Remains (old new : Output S) (rest whole : List ℕ) : Type 0 where
     pub same : new.sink.ghost_name ≡ old.sink.ghost_name
-    pub leaves : Leaves (state old.sink.now) old.piece (state new.sink.now) new.piece rest whole
+    pub leaves : Leaves (state old.sink.now) old.buffer (state new.sink.now) new.buffer rest whole
 
   -- the same, where the first part was written before the output was made
   pub record Awaits (before : SinkState) (new : Output S) (rest whole : List ℕ) : Type 0 where
-    pub leaves : Leaves before [] (state new.sink.now) new.piece rest whole
+    pub leaves : Leaves before [] (state new.sink.now) new.buffer rest whole
 
-  pub awaits_all : {b : SinkState} {v : S} {m : Output S} {t w : List ℕ} → m.sink.now ≡ v → m.piece ≡ [] → Leaves b [] (state v) [] t w → Awaits b m t w
+  pub awaits_all : {b : SinkState} {v : S} {m : Output S} {t w : List ℕ} → m.sink.now ≡ v → m.buffer ≡ [] → Leaves b [] (state v) [] t w → Awaits b m t w
   awaits_all {b} {v} {m} {t} {w} e f l = record { leaves = leaves_held (subst (λ x. Leaves b [] (state x) [] t w) (sym e) l) (sym f) }
 
 module _ {S : Type 0} {state : S → SinkState} where
@@ -55,8 +55,8 @@ module _ {S : Type 0} {state : S → SinkState} where
       pub ends_early : {v : S} {n : Output S} {a : List ℕ} (r : List ℕ) → t ≡ a ++ r → Halts state m n a → n.sink.now ≡ v → OnErr x (Breaks b (state v) w)
       ends_early r e p f = subst (λ u. OnErr x (Breaks b (state u) w)) f (begun x r l.leaves e p.stops)
 
-      pub ends_whole : {u v : S} → t ≡ [] → OnOk x (Takes (state m.sink.now) (state u) m.piece) → u ≡ v → OnOk x (Takes b (state v) w)
+      pub ends_whole : {u v : S} → t ≡ [] → OnOk x (Takes (state m.sink.now) (state u) m.buffer) → u ≡ v → OnOk x (Takes b (state v) w)
       ends_whole e p f = subst (λ u. OnOk x (Takes b (state u) w)) f (whole_sent x _ l.leaves e p)
 
-      pub ends_stopped : {u v : S} → t ≡ [] → OnErr x (Breaks (state m.sink.now) (state u) m.piece) → u ≡ v → OnErr x (Breaks b (state v) w)
+      pub ends_stopped : {u v : S} → t ≡ [] → OnErr x (Breaks (state m.sink.now) (state u) m.buffer) → u ≡ v → OnErr x (Breaks b (state v) w)
       ends_stopped e p f = subst (λ u. OnErr x (Breaks b (state u) w)) f (some_sent x _ l.leaves e p)

@@ -6,7 +6,7 @@ ghost use Rattle.ltl_timeline.specs.Timeline as spec;
 ghost use Rattle.ltl_word.specs.LassoView.{size};
 ghost use Rattle.ltl_word.specs.Rows.{bit_of};
 
-use ltl_streams::{ByteSink, Piece, WriteFault};
+use ltl_streams::{ByteSink, OutputBuffer, WriteFault};
 use ltl_word::{Bits, Lasso};
 use std::alloc::Allocator;
 
@@ -26,13 +26,13 @@ fn digit(i: usize) -> u8
 fn put_bar<S: ByteSink>(
     stem: usize,
     i: usize,
-    piece: &mut Piece,
+    buffer: &mut OutputBuffer,
     sink: &mut S,
 ) -> Result<(), WriteFault>
-    ensures { Puts result (S.state sink.old) piece.old (S.state sink.new) piece.new (if i == stem then codes " |" else []) }
+    ensures { Puts result (S.state sink.old) buffer.old (S.state sink.new) buffer.new (if i == stem then codes " |" else []) }
 {
     if i == stem {
-        return piece.put(b" |", sink);
+        return buffer.put(b" |", sink);
     }
     Ok(())
 }
@@ -42,26 +42,26 @@ fn put_column<S: ByteSink>(
     stem: usize,
     i: usize,
     byte: u8,
-    piece: &mut Piece,
+    buffer: &mut OutputBuffer,
     sink: &mut S,
 ) -> Result<(), WriteFault>
-    ensures { Puts result (S.state sink.old) piece.old (S.state sink.new) piece.new (spec.column stem i byte) }
+    ensures { Puts result (S.state sink.old) buffer.old (S.state sink.new) buffer.new (spec.column stem i byte) }
 {
-    put_bar(stem, i, piece, sink)?;
-    piece.put(&[b' ', byte], sink)
+    put_bar(stem, i, buffer, sink)?;
+    buffer.put(&[b' ', byte], sink)
 }
 
 /// Puts the last digits of the numbers of the positions.
 pub(crate) fn put_numbers<C: Allocator, S: ByteSink>(
     word: &Lasso<'_, C>,
-    piece: &mut Piece,
+    buffer: &mut OutputBuffer,
     sink: &mut S,
 ) -> Result<(), WriteFault>
-    ensures { Puts result (S.state sink.old) piece.old (S.state sink.new) piece.new
+    ensures { Puts result (S.state sink.old) buffer.old (S.state sink.new) buffer.new
         (spec.texts_from (λ i. spec.column (length word.now.stem) i (spec.digit i)) 0 (size word.now)) }
 {
     for i in 0..word.len() {
-        put_column(word.stem_len(), i, digit(i), piece, sink)?;
+        put_column(word.stem_len(), i, digit(i), buffer, sink)?;
     }
     Ok(())
 }
@@ -70,15 +70,15 @@ pub(crate) fn put_numbers<C: Allocator, S: ByteSink>(
 pub(crate) fn put_marks<A: Allocator, C: Allocator, S: ByteSink>(
     word: &Lasso<'_, C>,
     row: &Bits<'_, A>,
-    piece: &mut Piece,
+    buffer: &mut OutputBuffer,
     sink: &mut S,
 ) -> Result<(), WriteFault>
     requires { length row.now ≡ size word.now / 64 + 1 }
-    ensures { Puts result (S.state sink.old) piece.old (S.state sink.new) piece.new
+    ensures { Puts result (S.state sink.old) buffer.old (S.state sink.new) buffer.new
         (spec.texts_from (λ i. spec.column (length word.now.stem) i (spec.mark (bit_of row.now i))) 0 (size word.now)) }
 {
     for i in 0..word.len() {
-        put_column(word.stem_len(), i, mark(row.get(i)), piece, sink)?;
+        put_column(word.stem_len(), i, mark(row.get(i)), buffer, sink)?;
     }
     Ok(())
 }

@@ -7,7 +7,7 @@ ghost use Rattle.ltl_word.specs.LassoView.{size};
 ghost use Rattle.ltl_word.specs.Rows.{bit_of};
 
 use crate::columns::{put_marks, put_numbers};
-use ltl_streams::{ByteSink, Piece, WriteFault};
+use ltl_streams::{ByteSink, OutputBuffer, WriteFault};
 use ltl_word::{Bits, Lasso};
 use std::alloc::Allocator;
 
@@ -15,14 +15,14 @@ use std::alloc::Allocator;
 fn put_blanks<S: ByteSink>(
     from: usize,
     to: usize,
-    piece: &mut Piece,
+    buffer: &mut OutputBuffer,
     sink: &mut S,
 ) -> Result<(), WriteFault>
-    ensures { Puts result (S.state sink.old) piece.old (S.state sink.new) piece.new (replicate (to - from) 32) }
+    ensures { Puts result (S.state sink.old) buffer.old (S.state sink.new) buffer.new (replicate (to - from) 32) }
 {
     let mut at = from;
     'blanks: while at < to {
-        piece.put(b" ", sink)?;
+        buffer.put(b" ", sink)?;
         at += 1;
     }
     Ok(())
@@ -32,27 +32,27 @@ fn put_blanks<S: ByteSink>(
 fn put_label<S: ByteSink>(
     width: usize,
     label: &[u8],
-    piece: &mut Piece,
+    buffer: &mut OutputBuffer,
     sink: &mut S,
 ) -> Result<(), WriteFault>
-    ensures { Puts result (S.state sink.old) piece.old (S.state sink.new) piece.new (spec.padded width label.now) }
+    ensures { Puts result (S.state sink.old) buffer.old (S.state sink.new) buffer.new (spec.padded width label.now) }
 {
-    piece.put(label, sink)?;
-    put_blanks(label.len(), width, piece, sink)
+    buffer.put(label, sink)?;
+    put_blanks(label.len(), width, buffer, sink)
 }
 
 /// Puts the line of the numbers of the positions.
 pub(crate) fn put_head<C: Allocator, S: ByteSink>(
     width: usize,
     word: &Lasso<'_, C>,
-    piece: &mut Piece,
+    buffer: &mut OutputBuffer,
     sink: &mut S,
 ) -> Result<(), WriteFault>
-    ensures { Puts result (S.state sink.old) piece.old (S.state sink.new) piece.new (spec.line width word.now [] spec.digit) }
+    ensures { Puts result (S.state sink.old) buffer.old (S.state sink.new) buffer.new (spec.line width word.now [] spec.digit) }
 {
-    put_label(width, b"", piece, sink)?;
-    put_numbers(word, piece, sink)?;
-    piece.put(b"\n", sink)
+    put_label(width, b"", buffer, sink)?;
+    put_numbers(word, buffer, sink)?;
+    buffer.put(b"\n", sink)
 }
 
 /// Puts the line of a row.
@@ -61,14 +61,14 @@ pub(crate) fn put_line<A: Allocator, C: Allocator, S: ByteSink>(
     word: &Lasso<'_, C>,
     label: &[u8],
     row: &Bits<'_, A>,
-    piece: &mut Piece,
+    buffer: &mut OutputBuffer,
     sink: &mut S,
 ) -> Result<(), WriteFault>
     requires { length row.now ≡ size word.now / 64 + 1 }
-    ensures { Puts result (S.state sink.old) piece.old (S.state sink.new) piece.new
+    ensures { Puts result (S.state sink.old) buffer.old (S.state sink.new) buffer.new
         (spec.line width word.now label.now (λ i. spec.mark (bit_of row.now i))) }
 {
-    put_label(width, label, piece, sink)?;
-    put_marks(word, row, piece, sink)?;
-    piece.put(b"\n", sink)
+    put_label(width, label, buffer, sink)?;
+    put_marks(word, row, buffer, sink)?;
+    buffer.put(b"\n", sink)
 }

@@ -9,7 +9,7 @@ ghost use Rattle.ltl_timeline.specs.Timeline.{name_width, proposition_lines, wit
 ghost use Rattle.ltl_timeline.specs.TimelineView.{AreNameRows};
 
 use crate::lines::{put_head, put_line};
-use ltl_streams::{ByteSink, Piece, WriteFault};
+use ltl_streams::{ByteSink, OutputBuffer, WriteFault};
 use ltl_syntax::Formula;
 use ltl_word::{Bits, Lasso};
 use std::alloc::{AllocError, Allocator};
@@ -153,16 +153,16 @@ impl<'w, 'a, A: Allocator> Propositions<'w, 'a, A> {
         &self,
         width: usize,
         word: &Lasso<'_, C>,
-        piece: &mut Piece,
+        buffer: &mut OutputBuffer,
         sink: &mut S,
     ) -> Result<(), WriteFault>
         requires { AreNameRows word.now (map (λ n. n.now) self.now.names.items) self.now.rows.items }
-        ensures { Puts result (S.state sink.old) piece.old (S.state sink.new) piece.new
+        ensures { Puts result (S.state sink.old) buffer.old (S.state sink.new) buffer.new
             (proposition_lines width word.now (map (λ n. n.now) self.now.names.items)) }
     {
-        put_head(width, word, piece, sink)?;
+        put_head(width, word, buffer, sink)?;
         for p in 0..self.names.len() {
-            put_line(width, word, self.names[p], &self.rows[p], piece, sink)?;
+            put_line(width, word, self.names[p], &self.rows[p], buffer, sink)?;
         }
         Ok(())
     }

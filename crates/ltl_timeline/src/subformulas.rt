@@ -10,7 +10,7 @@ ghost use Rattle.ltl_word.specs.Rows.{bit_of};
 ghost use Rattle.ltl_word.specs.SubformulaRows.{AreSubformulaRows};
 
 use crate::lines::put_line;
-use ltl_streams::{ByteSink, Piece, WriteFault};
+use ltl_streams::{ByteSink, OutputBuffer, WriteFault};
 use ltl_syntax::{BinaryOperator, Formula, Node, UnaryOperator};
 use ltl_word::{Bits, Lasso, subformula_rows};
 use std::alloc::{AllocError, Allocator};
@@ -171,13 +171,13 @@ impl<'a, A: Allocator> Subformulas<'a, A> {
         width: usize,
         formula: &Formula<'_, B>,
         word: &Lasso<'_, C>,
-        piece: &mut Piece,
+        buffer: &mut OutputBuffer,
         sink: &mut S,
     ) -> Result<(), WriteFault>
         requires count { length self.now.texts.items ≡ length formula.now.nodes }
         requires texts { AreTexts formula.now (map (λ t. t.items) self.now.texts.items) }
         requires rows { AreSubformulaRows formula.now word.now self.now.rows.items }
-        ensures { Puts result (S.state sink.old) piece.old (S.state sink.new) piece.new
+        ensures { Puts result (S.state sink.old) buffer.old (S.state sink.new) buffer.new
             (texts_from (subformula_line formula.now word.now (λ k i. bit_of (slice_index_or self.now.rows.items k []) i) width) 0 (length formula.now.nodes)) }
     {
         for k in 0..formula.len() {
@@ -189,7 +189,7 @@ impl<'a, A: Allocator> Subformulas<'a, A> {
                 word,
                 self.texts[k].as_slice(),
                 &self.rows[k],
-                piece,
+                buffer,
                 sink,
             )?;
         }

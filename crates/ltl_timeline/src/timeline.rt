@@ -9,7 +9,7 @@ ghost use Rattle.ltl_word.specs.SubformulaRows.{AreSubformulaRows};
 use crate::fault::TimelineFault;
 use crate::propositions::Propositions;
 use crate::subformulas::Subformulas;
-use ltl_streams::{ByteSink, Piece, WriteFault};
+use ltl_streams::{ByteSink, OutputBuffer, WriteFault};
 use ltl_syntax::Formula;
 use ltl_word::Lasso;
 use std::alloc::Allocator;
@@ -25,9 +25,9 @@ fn write_word<A: Allocator, C: Allocator, S: ByteSink>(
     ensures ok { OnOk result (Takes (S.state sink.old) (S.state sink.new) (word_timeline word.now)) }
     ensures err { OnErr result (Breaks (S.state sink.old) (S.state sink.new) (word_timeline word.now)) }
 {
-    let mut piece = Piece::new();
-    propositions.put(propositions.width(), word, &mut piece, sink)?;
-    piece.send(sink)
+    let mut buffer = OutputBuffer::new();
+    propositions.put(propositions.width(), word, &mut buffer, sink)?;
+    buffer.send(sink)
 }
 
 /// Writes the lines of the propositions and of the subformulas.
@@ -47,10 +47,10 @@ fn write_both<A: Allocator, B: Allocator, C: Allocator, S: ByteSink>(
     ensures err { OnErr result (HasTrueMarks formula.now word.now (Breaks (S.state sink.old) (S.state sink.new))) }
 {
     let width = propositions.width().max(subformulas.width());
-    let mut piece = Piece::new();
-    propositions.put(width, word, &mut piece, sink)?;
-    subformulas.put(width, formula, word, &mut piece, sink)?;
-    piece.send(sink)
+    let mut buffer = OutputBuffer::new();
+    propositions.put(width, word, &mut buffer, sink)?;
+    subformulas.put(width, formula, word, &mut buffer, sink)?;
+    buffer.send(sink)
 }
 
 /// Writes the word as a table: the last digits of the numbers of its positions, and a line for each proposition, `*` where it is true and `.` where it

@@ -12,35 +12,35 @@ ghost use Rattle.ltl_word.specs.LassoView.{letter_of};
 use crate::lasso::Lasso;
 use crate::name::OwnedName;
 use ltl_sets::{Members, RowSet};
-use ltl_streams::{ByteSink, Piece, WriteFault, WriterSink};
+use ltl_streams::{ByteSink, OutputBuffer, WriteFault, WriterSink};
 use std::alloc::Allocator;
 use std::io::Write;
 
 /// Puts a name that follows another one.
 fn put_next_name<S: ByteSink>(
     name: &[u8],
-    piece: &mut Piece,
+    buffer: &mut OutputBuffer,
     sink: &mut S,
 ) -> Result<(), WriteFault>
-    ensures { Puts result (S.state sink.old) piece.old (S.state sink.new) piece.new (codes "," ++ name.now) }
+    ensures { Puts result (S.state sink.old) buffer.old (S.state sink.new) buffer.new (codes "," ++ name.now) }
 {
-    piece.put(b",", sink)?;
-    piece.put(name, sink)
+    buffer.put(b",", sink)?;
+    buffer.put(name, sink)
 }
 
 /// Puts the names that follow the first one.
 fn put_other_names<A: Allocator, S: ByteSink>(
     names: &[OwnedName<'_, A>],
     places: Members,
-    piece: &mut Piece,
+    buffer: &mut OutputBuffer,
     sink: &mut S,
 ) -> Result<(), WriteFault>
     requires { AllByRecursion (λ i. i < length names.now) places }
-    ensures { Puts result (S.state sink.old) piece.old (S.state sink.new) piece.new
+    ensures { Puts result (S.state sink.old) buffer.old (S.state sink.new) buffer.new
         (flat_map (λ n. codes "," ++ n) (letter_of (map (λ n. n.items) names.now) places)) }
 {
     for place in places {
-        put_next_name(names[place].as_slice(), piece, sink)?;
+        put_next_name(names[place].as_slice(), buffer, sink)?;
     }
     Ok(())
 }
@@ -49,51 +49,51 @@ fn put_other_names<A: Allocator, S: ByteSink>(
 fn put_names<A: Allocator, S: ByteSink>(
     names: &[OwnedName<'_, A>],
     letter: &RowSet,
-    piece: &mut Piece,
+    buffer: &mut OutputBuffer,
     sink: &mut S,
 ) -> Result<(), WriteFault>
     requires { AllByRecursion (λ i. i < length names.now) letter.now }
-    ensures { Puts result (S.state sink.old) piece.old (S.state sink.new) piece.new
+    ensures { Puts result (S.state sink.old) buffer.old (S.state sink.new) buffer.new
         (joined_by (codes ",") (letter_of (map (λ n. n.items) names.now) letter.now)) }
 {
     let mut places = letter.iter();
     let Some(first) = places.next() else {
         return Ok(());
     };
-    piece.put(names[first].as_slice(), sink)?;
-    put_other_names(names, places, piece, sink)
+    buffer.put(names[first].as_slice(), sink)?;
+    put_other_names(names, places, buffer, sink)
 }
 
 /// Puts a letter.
 fn put_letter<A: Allocator, S: ByteSink>(
     names: &[OwnedName<'_, A>],
     letter: &RowSet,
-    piece: &mut Piece,
+    buffer: &mut OutputBuffer,
     sink: &mut S,
 ) -> Result<(), WriteFault>
     requires { AllByRecursion (λ i. i < length names.now) letter.now }
-    ensures { Puts result (S.state sink.old) piece.old (S.state sink.new) piece.new
+    ensures { Puts result (S.state sink.old) buffer.old (S.state sink.new) buffer.new
         (letter_text (letter_of (map (λ n. n.items) names.now) letter.now)) }
 {
-    piece.put(b"{", sink)?;
-    put_names(names, letter, piece, sink)?;
-    piece.put(b"}", sink)
+    buffer.put(b"{", sink)?;
+    put_names(names, letter, buffer, sink)?;
+    buffer.put(b"}", sink)
 }
 
 /// Puts the letters of a stem.
 fn put_stem<A: Allocator, S: ByteSink>(
     names: &[OwnedName<'_, A>],
     letters: &[RowSet],
-    piece: &mut Piece,
+    buffer: &mut OutputBuffer,
     sink: &mut S,
 ) -> Result<(), WriteFault>
     requires { AllByRecursion (AllByRecursion (λ i. i < length names.now)) letters.now }
-    ensures { Puts result (S.state sink.old) piece.old (S.state sink.new) piece.new
+    ensures { Puts result (S.state sink.old) buffer.old (S.state sink.new) buffer.new
         (flat_map (λ a. letter_text a ++ codes "; ") (map (letter_of (map (λ n. n.items) names.now)) letters.now)) }
 {
     for i in 0..letters.len() {
-        put_letter(names, &letters[i], piece, sink)?;
-        piece.put(b"; ", sink)?;
+        put_letter(names, &letters[i], buffer, sink)?;
+        buffer.put(b"; ", sink)?;
     }
     Ok(())
 }
@@ -102,16 +102,16 @@ fn put_stem<A: Allocator, S: ByteSink>(
 fn put_other_letters<A: Allocator, S: ByteSink>(
     names: &[OwnedName<'_, A>],
     letters: &[RowSet],
-    piece: &mut Piece,
+    buffer: &mut OutputBuffer,
     sink: &mut S,
 ) -> Result<(), WriteFault>
     requires { AllByRecursion (AllByRecursion (λ i. i < length names.now)) letters.now }
-    ensures { Puts result (S.state sink.old) piece.old (S.state sink.new) piece.new
+    ensures { Puts result (S.state sink.old) buffer.old (S.state sink.new) buffer.new
         (flat_map (λ a. codes "; " ++ letter_text a) (map (letter_of (map (λ n. n.items) names.now)) letters.now)) }
 {
     for i in 0..letters.len() {
-        piece.put(b"; ", sink)?;
-        put_letter(names, &letters[i], piece, sink)?;
+        buffer.put(b"; ", sink)?;
+        put_letter(names, &letters[i], buffer, sink)?;
     }
     Ok(())
 }
@@ -120,30 +120,34 @@ fn put_other_letters<A: Allocator, S: ByteSink>(
 fn put_cycle<A: Allocator, S: ByteSink>(
     names: &[OwnedName<'_, A>],
     letters: &[RowSet],
-    piece: &mut Piece,
+    buffer: &mut OutputBuffer,
     sink: &mut S,
 ) -> Result<(), WriteFault>
     requires { AllByRecursion (AllByRecursion (λ i. i < length names.now)) letters.now }
-    ensures { Puts result (S.state sink.old) piece.old (S.state sink.new) piece.new
+    ensures { Puts result (S.state sink.old) buffer.old (S.state sink.new) buffer.new
         (joined_by (codes "; ") (map letter_text (map (letter_of (map (λ n. n.items) names.now)) letters.now))) }
 {
     let Some((first, others)) = letters.split_first() else {
         return Ok(());
     };
-    put_letter(names, first, piece, sink)?;
-    put_other_letters(names, others, piece, sink)
+    put_letter(names, first, buffer, sink)?;
+    put_other_letters(names, others, buffer, sink)
 }
 
 impl<'a, A: Allocator> Lasso<'a, A> {
     /// Puts the text of the word, the names of each letter sorted by their bytes, each once. No memory is taken.
-    pub fn put<S: ByteSink>(&self, piece: &mut Piece, sink: &mut S) -> Result<(), WriteFault>
-        ensures { Puts result (S.state sink.old) piece.old (S.state sink.new) piece.new (lasso_text self.now) }
+    pub fn put<S: ByteSink>(
+        &self,
+        buffer: &mut OutputBuffer,
+        sink: &mut S,
+    ) -> Result<(), WriteFault>
+        ensures { Puts result (S.state sink.old) buffer.old (S.state sink.new) buffer.new (lasso_text self.now) }
     {
         let names = self.names.as_slice();
         let (stem, cycle) = self.letters.split_at(self.stem);
-        put_stem(names, stem, piece, sink)?;
-        piece.put(b"cycle ", sink)?;
-        put_cycle(names, cycle, piece, sink)
+        put_stem(names, stem, buffer, sink)?;
+        buffer.put(b"cycle ", sink)?;
+        put_cycle(names, cycle, buffer, sink)
     }
 
     /// Writes the same text, in pieces of up to 16 KiB, and a longer name by itself. No memory is taken.
@@ -151,9 +155,9 @@ impl<'a, A: Allocator> Lasso<'a, A> {
         ensures ok { OnOk result (Takes (S.state sink.old) (S.state sink.new) (lasso_text self.now)) }
         ensures err { OnErr result (Breaks (S.state sink.old) (S.state sink.new) (lasso_text self.now)) }
     {
-        let mut piece = Piece::new();
-        self.put(&mut piece, sink)?;
-        piece.send(sink)
+        let mut buffer = OutputBuffer::new();
+        self.put(&mut buffer, sink)?;
+        buffer.send(sink)
     }
 
     /// The same to a standard writer, which isn't flushed.

@@ -1,6 +1,8 @@
 //! Sinks and sources over standard writers and readers: how often these are called.
 
-use ltl_streams::{ByteSink, ByteSource, LentReader, Piece, ReaderSource, WriterSink, write_whole};
+use ltl_streams::{
+    ByteSink, ByteSource, LentReader, OutputBuffer, ReaderSource, WriterSink, write_whole,
+};
 use std::io;
 use std::io::{Read, Write};
 
@@ -73,10 +75,10 @@ fn flushes_are_the_last_calls(rt: HostRuntime) {
     for way in [Failing::Never, Failing::Fails(3)] {
         let mut writer = Counting::new(way);
         let mut sink = WriterSink::new(&mut writer);
-        let mut piece = Piece::new();
-        assert!(rt; piece.put(b"ab", &mut sink).is_ok());
-        assert!(rt; piece.put(b"cd", &mut sink).is_ok());
-        assert!(rt; piece.send(&mut sink).is_ok());
+        let mut buffer = OutputBuffer::new();
+        assert!(rt; buffer.put(b"ab", &mut sink).is_ok());
+        assert!(rt; buffer.put(b"cd", &mut sink).is_ok());
+        assert!(rt; buffer.send(&mut sink).is_ok());
         assert_eq!(rt; sink.flush().is_ok(), way == Failing::Never);
         assert!(rt; sink.flush().is_err());
         assert!(rt; sink.write(b"e").is_err());

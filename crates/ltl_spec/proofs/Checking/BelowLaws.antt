@@ -19,7 +19,7 @@ use Rattle.ltl_spec.specs.Transitions.RowTransitions.{Table, table_of, place, pa
 use Rattle.ltl_spec.specs.Automata.Automaton.{Automaton, State, Edge, state_at}
 use Rattle.ltl_spec.specs.Automata.Generalized.{same_row_set, target_sets, root_set, edge_to, state_of, automaton_over, IsGeneralized}
 use Rattle.ltl_spec.specs.Construction.Merging.{retargeted_state, without_implied, class_names, quotient, merged_automaton}
-use Rattle.ltl_spec.specs.Construction.Levels.{Copy, CopyEdge, copy_edge, copy_edges, copies, edge_to_copy, copy_state, level_automaton}
+use Rattle.ltl_spec.specs.Construction.Levels.{LevelState, LevelEdge, level_edge, level_edges, copies, edge_to_level_state, copy_state, level_automaton}
 use Rattle.ltl_spec.specs.Construction.Renumbered.{reached_states, renumbered_automaton}
 use Rattle.ltl_spec.specs.Formulas.Grammar.{Parses, Reads, of_constant, of_name, of_brackets, of_unary, of_tighter, of_left, of_right}
 use Rattle.ltl_spec.specs.Formulas.Tokens.{Token}
@@ -30,7 +30,7 @@ use Rattle.ltl_spec.proofs.Collections.ListLaws.{Has-at, first_occurrences_cases
 use Rattle.ltl_spec.proofs.NormalForms.NormalLaws.{same_Decides}
 use Rattle.ltl_spec.proofs.Collections.MemberLaws.{map_cases, map_length}
 use Rattle.ltl_spec.proofs.Transitions.JoinLaws.{join_cases}
-use Rattle.ltl_spec.proofs.Collections.Orders.{literal_linear, pair_linear, copy_edge_linear, edge_linear}
+use Rattle.ltl_spec.proofs.Collections.Orders.{literal_linear, pair_linear, level_edge_linear, edge_linear}
 use Rattle.ltl_spec.proofs.Transitions.TransitionLaws.{transition_cases}
 use Rattle.ltl_spec.proofs.Construction.ImpliedEdges.{thin_cases}
 use Rattle.ltl_spec.proofs.Construction.QuotientRuns.{retarget_cases}
@@ -214,11 +214,11 @@ module _ (n : ℕ) where
     pub levels_below : HasNamesBelow n (level_automaton A)
     levels_below s x h = made_below (copy_state A (copies A)) (copies A) (record { state = 0; level = 0 }) each s x h
       where
-        each : (c : Copy) (y : Edge) → Has (copy_state A (copies A) c).edges y → IsBelow y.cube
+        each : (c : LevelState) (y : Edge) → Has (copy_state A (copies A) c).edges y → IsBelow y.cube
         each c y m =
-            let (e, k, d) = map_cases (edge_to_copy A (copies A)) (copy_edges A c) y (set_of_cases edge_linear (map (edge_to_copy A (copies A)) (copy_edges A c)) y m) in
-            let (z, o, q) = map_cases (copy_edge A c.level) (state_at A c.state).edges e (set_of_cases copy_edge_linear (map (copy_edge A c.level) (state_at A c.state).edges) e k) in
-            subst (λ (v : Edge). IsBelow v.cube) (sym d) (subst (λ (v : CopyEdge). IsBelow v.cube) (sym q) (low c.state z o))
+            let (e, k, d) = map_cases (edge_to_level_state A (copies A)) (level_edges A c) y (set_of_cases edge_linear (map (edge_to_level_state A (copies A)) (level_edges A c)) y m) in
+            let (z, o, q) = map_cases (level_edge A c.level) (state_at A c.state).edges e (set_of_cases level_edge_linear (map (level_edge A c.level) (state_at A c.state).edges) e k) in
+            subst (λ (v : Edge). IsBelow v.cube) (sym d) (subst (λ (v : LevelEdge). IsBelow v.cube) (sym q) (low c.state z o))
 
     pub renumbered_below : HasNamesBelow n (renumbered_automaton A)
     renumbered_below s x h =

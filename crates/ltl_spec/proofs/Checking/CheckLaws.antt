@@ -39,25 +39,25 @@ Has-cubes_of A s e h =
     (Has-map (λ (x : Edge). x.cube) (state_at A s).edges e h)
 
 -- the letters along a walk are sets
-pub along_sets : (names : List Name) (way turn : List Edge) → All (IsRising name_cmp) ((lasso_along names way turn).stem ++ (lasso_along names way turn).cycle)
-along_sets names way turn = All-from_has (IsRising name_cmp) (map (λ (e : Edge). letter_of names e.cube) way ++ map (λ (e : Edge). letter_of names e.cube) turn) rises
+pub along_sets : (names : List Name) (stem cycle : List Edge) → All (IsRising name_cmp) ((lasso_along names stem cycle).stem ++ (lasso_along names stem cycle).cycle)
+along_sets names stem cycle = All-from_has (IsRising name_cmp) (map (λ (e : Edge). letter_of names e.cube) stem ++ map (λ (e : Edge). letter_of names e.cube) cycle) rises
   where
     one : (es : List Edge) (a : Letter) → Has (map (λ (e : Edge). letter_of names e.cube) es) a → IsRising name_cmp a
     one es a h =
         let w = map_cases (λ (e : Edge). letter_of names e.cube) es a h in
         subst (IsRising name_cmp) (sym w.2) (IsRising-set_of name_linear (map (λ (l : Literal). slice_index_or names l.proposition []) (filter (λ l. l.positive) w.0.cube)))
 
-    rises : (a : Letter) → Has (map (λ (e : Edge). letter_of names e.cube) way ++ map (λ (e : Edge). letter_of names e.cube) turn) a → IsRising name_cmp a
-    rises a h = elim (append_cases (map (λ (e : Edge). letter_of names e.cube) way) (map (λ (e : Edge). letter_of names e.cube) turn) a h) [ inl k ↦ one way a k | inr k ↦ one turn a k ]
+    rises : (a : Letter) → Has (map (λ (e : Edge). letter_of names e.cube) stem ++ map (λ (e : Edge). letter_of names e.cube) cycle) a → IsRising name_cmp a
+    rises a h = elim (append_cases (map (λ (e : Edge). letter_of names e.cube) stem) (map (λ (e : Edge). letter_of names e.cube) cycle) a h) [ inl k ↦ one stem a k | inr k ↦ one cycle a k ]
 
 -- a name in the letters is that of a positive literal of an edge
-pub along_cases : (P : Automaton) (names : List Name) (start : ℕ) (h : HasAcceptingWalk P start) (n : Name) → Has (names_in (lasso_along names h.way h.turn)) n
+pub along_cases : (P : Automaton) (names : List Name) (start : ℕ) (h : HasAcceptingWalk P start) (n : Name) → Has (names_in (lasso_along names h.stem h.cycle)) n
     → (k : ℕ) × (e : Edge) × (l : Literal) × Has (state_at P k).edges e × Has e.cube l × (l.positive ≡ true) × (n ≡ slice_index_or names l.proposition [])
 along_cases P names start h n m =
-    let (a, k, q) = flat_map_cases (λ (x : Letter). x) (map (λ (e : Edge). letter_of names e.cube) h.way ++ map (λ (e : Edge). letter_of names e.cube) h.turn) n m in
-    elim (append_cases (map (λ (e : Edge). letter_of names e.cube) h.way) (map (λ (e : Edge). letter_of names e.cube) h.turn) a k) [
-      | inl p ↦ one h.way start h.state h.arrives a p q
-      | inr p ↦ one h.turn h.state h.state h.turns.closes a p q
+    let (a, k, q) = flat_map_cases (λ (x : Letter). x) (map (λ (e : Edge). letter_of names e.cube) h.stem ++ map (λ (e : Edge). letter_of names e.cube) h.cycle) n m in
+    elim (append_cases (map (λ (e : Edge). letter_of names e.cube) h.stem) (map (λ (e : Edge). letter_of names e.cube) h.cycle) a k) [
+      | inl p ↦ one h.stem start h.state h.arrives a p q
+      | inr p ↦ one h.cycle h.state h.state h.cycles.closes a p q
     ]
   where
     one : (es : List Edge) (s t : ℕ) → IsPath P s es t → (a : Letter) → Has (map (λ (e : Edge). letter_of names e.cube) es) a → Has a n
@@ -74,8 +74,8 @@ pub some_word : (P : Automaton) (names : List Name) → HasNoRepeats names → H
 some_word P names differ below plain all start = (
   λ h. walk_of_accepted P (is_true_at names h.0) (next h.0) start h.2,
   λ h. (
-    lasso_along names h.way h.turn,
-    record { sets = along_sets names h.way h.turn; cycles = word_cycles P names differ below plain all start h },
+    lasso_along names h.stem h.cycle,
+    record { sets = along_sets names h.stem h.cycle; cycles = word_cycles P names differ below plain all start h },
     word_accepted P names differ below plain all start h,
   ),
 )
@@ -133,12 +133,12 @@ module _ (A B : Automaton) (own other : List Name) (differ : HasNoRepeats own) (
   module _ (h : HasAcceptingWalk both both_start) where
     -- the word along a walk
     abbrev pub common_word : Lasso
-    common_word = lasso_along both_names h.way h.turn
+    common_word = lasso_along both_names h.stem h.cycle
 
     -- is a word, and both accept it
     pub common_lasso : IsLasso common_word
     common_lasso = record {
-      sets = along_sets both_names h.way h.turn;
+      sets = along_sets both_names h.stem h.cycle;
       cycles = word_cycles both both_names (HasNoRepeats-unified own other) both_below both_plain both_accepting both_start h;
     }
 

@@ -63,13 +63,13 @@ module _ (P : Automaton) (holds : ℕ → ℕ → Bool) (step : ℕ → ℕ) whe
   pub walk_of_accepted : (start : ℕ) → AcceptedFrom start P holds step → HasAcceptingWalk P start
   walk_of_accepted start a = record {
     state = a.state;
-    way = a.way;
-    turn = a.turn;
-    arrives = path_of_walk a.way start 0 a.state a.position a.arrives;
-    turns = record {
-      closes = path_of_walk a.turn a.state a.position a.state a.position a.turns.closes;
-      moves = a.turns.moves;
-      marks = a.turns.marks;
+    stem = a.stem;
+    cycle = a.cycle;
+    arrives = path_of_walk a.stem start 0 a.state a.position a.arrives;
+    cycles = record {
+      closes = path_of_walk a.cycle a.state a.position a.state a.position a.cycles.closes;
+      moves = a.cycles.moves;
+      marks = a.cycles.marks;
     };
   }
 
@@ -127,30 +127,30 @@ not_short (e ∷ es) n = omega arith
 module _ (P : Automaton) (names : List Name) (differ : HasNoRepeats names) (below : HasNamesBelow (length names) P) (plain : HasNoContradictions P) (all : AcceptsEverywhere P) (start : ℕ) (h : HasAcceptingWalk P start) where
   -- the word along the walk
   abbrev pub word : Lasso
-  word = lasso_along names h.way h.turn
+  word = lasso_along names h.stem h.cycle
 
   pub word_cycles : 0 < length word.cycle
-  word_cycles = let e = map_length (λ (x : Edge). letter_of names x.cube) h.turn in let l = not_short h.turn h.turns.moves in omega (arith, e, l)
+  word_cycles = let e = map_length (λ (x : Edge). letter_of names x.cube) h.cycle in let l = not_short h.cycle h.cycles.moves in omega (arith, e, l)
 
   -- is accepted
   pub word_accepted : AcceptsFrom start names P word
   word_accepted = record {
     state = h.state;
     position = length word.stem;
-    way = h.way;
-    turn = h.turn;
+    stem = h.stem;
+    cycle = h.cycle;
     arrives =
-        subst (λ j. IsWalk P (is_true_at names word) (next word) start 0 h.way h.state j) way_ends
-        (subst (λ i. IsWalk P (is_true_at names word) (next word) start i h.way h.state (wrap (0 + length h.way))) begins
-        (walks P names differ below plain word h.way [] word.cycle start h.state refl h.arrives));
-    turns = record {
+        subst (λ j. IsWalk P (is_true_at names word) (next word) start 0 h.stem h.state j) stem_arrives
+        (subst (λ i. IsWalk P (is_true_at names word) (next word) start i h.stem h.state (wrap (0 + length h.stem))) begins
+        (walks P names differ below plain word h.stem [] word.cycle start h.state refl h.arrives));
+    cycles = record {
       closes =
-          subst (λ j. IsWalk P (is_true_at names word) (next word) h.state (length word.stem) h.turn h.state j) turn_ends
-          (subst (λ i. IsWalk P (is_true_at names word) (next word) h.state i h.turn h.state (wrap (length word.stem + length h.turn))) stem_ends
-          (walks P names differ below plain word h.turn word.stem [] h.state h.state (ap (λ l. word.stem ++ l) (sym (append-nil word.cycle))) h.turns.closes));
-      moves = h.turns.moves;
-      accepts = let w = some_edge h.turn h.turns.moves in (w.0, w.1, all w.0.target);
-      marks = h.turns.marks;
+          subst (λ j. IsWalk P (is_true_at names word) (next word) h.state (length word.stem) h.cycle h.state j) cycle_ends
+          (subst (λ i. IsWalk P (is_true_at names word) (next word) h.state i h.cycle h.state (wrap (length word.stem + length h.cycle))) stem_ends
+          (walks P names differ below plain word h.cycle word.stem [] h.state h.state (ap (λ l. word.stem ++ l) (sym (append-nil word.cycle))) h.cycles.closes));
+      moves = h.cycles.moves;
+      accepts = let w = some_edge h.cycle h.cycles.moves in (w.0, w.1, all w.0.target);
+      marks = h.cycles.marks;
     };
   }
     where
@@ -172,14 +172,14 @@ module _ (P : Automaton) (names : List Name) (differ : HasNoRepeats names) (belo
       stem_ends : wrap (length word.stem) ≡ length word.stem
       stem_ends = let c = word_cycles in within (length word.stem) (omega (arith, long, c))
 
-      way_ends : wrap (0 + length h.way) ≡ length word.stem
-      way_ends =
-          let e = map_length (λ (x : Edge). letter_of names x.cube) h.way in
-          let same : 0 + length h.way ≡ length word.stem = omega (arith, e) in
+      stem_arrives : wrap (0 + length h.stem) ≡ length word.stem
+      stem_arrives =
+          let e = map_length (λ (x : Edge). letter_of names x.cube) h.stem in
+          let same : 0 + length h.stem ≡ length word.stem = omega (arith, e) in
           ap wrap same ∙ stem_ends
 
-      turn_ends : wrap (length word.stem + length h.turn) ≡ length word.stem
-      turn_ends =
-          let e = map_length (λ (x : Edge). letter_of names x.cube) h.turn in
-          let over : total ≤ length word.stem + length h.turn = omega (arith, long, e) in
-          ap (λ t. cond t (length word.stem + length h.turn) (length word.stem)) (le-ltb (length word.stem + length h.turn) total over)
+      cycle_ends : wrap (length word.stem + length h.cycle) ≡ length word.stem
+      cycle_ends =
+          let e = map_length (λ (x : Edge). letter_of names x.cube) h.cycle in
+          let over : total ≤ length word.stem + length h.cycle = omega (arith, long, e) in
+          ap (λ t. cond t (length word.stem + length h.cycle) (length word.stem)) (le-ltb (length word.stem + length h.cycle) total over)

@@ -68,10 +68,10 @@ module _ (A : MarkedAutomaton) (proper : IsProper A) (names : List Name) (B : Au
   module _ (h : HasCommonWalk A names B) where
     -- the word along a walk, and its least form
     abbrev found : Lasso
-    found = lasso_along (unified A.names names) h.way h.turn
+    found = lasso_along (unified A.names names) h.stem h.cycle
 
     abbrev printed : Lasso
-    printed = printed_word A names h.way h.turn
+    printed = printed_word A names h.stem h.cycle
 
     found_lasso : IsLasso found
     found_lasso = common_lasso (graph_of A) B A.names names proper.differ (graph_is_graph A proper) buchi A.start h
@@ -96,7 +96,7 @@ module _ (A : MarkedAutomaton) (proper : IsProper A) (names : List Name) (B : Au
         )
 
     -- so it is a verdict
-    pub violated_verdict : IsVerdict A names B (IsCommon A names B) (Violated (printed_word A names h.way h.turn))
+    pub violated_verdict : IsVerdict A names B (IsCommon A names B) (Violated (printed_word A names h.stem h.cycle))
     violated_verdict = (
       (least_form_is found found_lasso).lasso,
       printed_common,
@@ -114,11 +114,11 @@ module _ (A : MarkedAutomaton) (proper : IsProper A) (R : Reading) (B : Automato
   pub contained_of_none : ¬ (HasCommonWalk A R.names B) → IsVerdict A R.names B (IsViolation A R) Contained
   contained_of_none none w lasso h = contained_verdict A proper R.names B buchi none w lasso ((common_violation w lasso).1 h)
 
-  pub violated_of_walk : (h : HasCommonWalk A R.names B) → IsVerdict A R.names B (IsViolation A R) (Violated (printed_word A R.names h.way h.turn))
+  pub violated_of_walk : (h : HasCommonWalk A R.names B) → IsVerdict A R.names B (IsViolation A R) (Violated (printed_word A R.names h.stem h.cycle))
   violated_of_walk h =
       let v = violated_verdict A proper R.names B buchi h in
-      (v.0, (common_violation (printed_word A R.names h.way h.turn) v.0).0 v.1, v.2, v.3)
+      (v.0, (common_violation (printed_word A R.names h.stem h.cycle) v.0).0 v.1, v.2, v.3)
 
   -- no word that is accepted violates the formula exactly when there is no accepting walk
   pub contained_exactly : IsContained A R ↔ (¬ (HasCommonWalk A R.names B))
-  contained_exactly = ((λ c h. let v = violated_of_walk h in c (printed_word A R.names h.way h.turn) v.0 v.1), contained_of_none)
+  contained_exactly = ((λ c h. let v = violated_of_walk h in c (printed_word A R.names h.stem h.cycle) v.0 v.1), contained_of_none)

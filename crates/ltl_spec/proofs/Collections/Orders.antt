@@ -12,7 +12,7 @@ use Rattle.ltl_spec.specs.Semantics.Word.{name_cmp}
 use Rattle.ltl_spec.specs.Transitions.Cubes.{Literal, literal_cmp, cube_cmp}
 use Rattle.ltl_spec.specs.Transitions.Pairs.{Pair, row_set_cmp, pair_cmp}
 use Rattle.ltl_spec.specs.Automata.Automaton.{Edge, edge_cmp}
-use Rattle.ltl_spec.specs.Construction.Levels.{CopyEdge, copy_edge_cmp}
+use Rattle.ltl_spec.specs.Construction.Levels.{LevelEdge, level_edge_cmp}
 
 -- of two answers in a row that come out equal, both are
 pub first_equal : (a b : Ordering) → ordering_then a b ≡ Equal → a ≡ Equal
@@ -74,9 +74,9 @@ edge_linear = record {
       λ i. record { cube = c i; target = t i; marks = m i };
 }
 
-pub copy_edge_linear : IsLinearOrder copy_edge_cmp
-copy_edge_linear = record {
-  total = then_total (on_total (λ (e : CopyEdge). e.cube) cube_linear.total) (then_total (on_total (λ (e : CopyEdge). e.copy.state) nat_cmp_total) (on_total (λ (e : CopyEdge). e.copy.level) nat_cmp_total));
+pub level_edge_linear : IsLinearOrder level_edge_cmp
+level_edge_linear = record {
+  total = then_total (on_total (λ (e : LevelEdge). e.cube) cube_linear.total) (then_total (on_total (λ (e : LevelEdge). e.copy.state) nat_cmp_total) (on_total (λ (e : LevelEdge). e.copy.level) nat_cmp_total));
   exact = λ e f h.
       let c = cube_linear.exact e.cube f.cube (first_equal _ _ h) in
       let s = nat_linear.exact e.copy.state f.copy.state (first_equal _ _ (second_equal _ _ h)) in

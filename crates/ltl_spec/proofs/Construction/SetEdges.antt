@@ -12,10 +12,10 @@ use Rattle.ltl_spec.specs.Transitions.Pairs.{RowSet, Pair, join_pair, join, empt
 use Rattle.ltl_spec.specs.Transitions.RowTransitions.{Table, table_of, place, pairs_at, successors, is_marked, with_marks, Transition, transition_cmp, implies, transitions}
 use Rattle.ltl_spec.specs.Automata.Automaton.{Automaton, State, Edge, state_at}
 use Rattle.ltl_spec.specs.Automata.Generalized.{same_row_set, target_sets, root_set, edge_to, state_of, automaton_over, IsGeneralized}
-use Rattle.ltl_spec.specs.Construction.Levels.{Copy, CopyEdge, copy_edge, copy_edges, copies, edge_to_copy, copy_state, level_automaton}
+use Rattle.ltl_spec.specs.Construction.Levels.{LevelState, LevelEdge, level_edge, level_edges, copies, edge_to_level_state, copy_state, level_automaton}
 use Rattle.ltl_spec.proofs.Collections.SetLaws.{append_cases, IsRising-union, set_of_cases, filter_cases}
 use Rattle.ltl_spec.proofs.Collections.ListLaws.{IsRising-places}
-use Rattle.ltl_spec.proofs.Collections.Orders.{literal_linear, pair_linear, copy_edge_linear, edge_linear}
+use Rattle.ltl_spec.proofs.Collections.Orders.{literal_linear, pair_linear, level_edge_linear, edge_linear}
 use Rattle.ltl_spec.proofs.Construction.ImpliedEdges.{IsSetEdge}
 use Rattle.ltl_spec.proofs.Construction.QuotientRuns.{HasSetEdges}
 use Rattle.ltl_spec.proofs.Collections.MemberLaws.{map_cases, flat_map_cases, filter_map_cases, map_length}
@@ -122,16 +122,16 @@ module _ (core : Normal) (keep_implied : Bool) where
 
 module _ (A : Automaton) (sets : HasSetEdges A) where
   -- an edge of a copy has the literals of an edge of the automaton
-  copy_edge_cube : (c : Copy) (e : CopyEdge) → Has (copy_edges A c) e → IsRising literal_cmp e.cube
-  copy_edge_cube c e h =
-      let (y, m, j) = map_cases (copy_edge A c.level) (state_at A c.state).edges e (set_of_cases copy_edge_linear (map (copy_edge A c.level) (state_at A c.state).edges) e h) in
-      subst (λ (f : CopyEdge). IsRising literal_cmp f.cube) (sym j) (sets c.state y m).cube
+  level_edge_cube : (c : LevelState) (e : LevelEdge) → Has (level_edges A c) e → IsRising literal_cmp e.cube
+  level_edge_cube c e h =
+      let (y, m, j) = map_cases (level_edge A c.level) (state_at A c.state).edges e (set_of_cases level_edge_linear (map (level_edge A c.level) (state_at A c.state).edges) e h) in
+      subst (λ (f : LevelEdge). IsRising literal_cmp f.cube) (sym j) (sets c.state y m).cube
 
   -- and no marks
-  copy_state_sets : (list : List Copy) (c : Copy) (x : Edge) → Has (copy_state A list c).edges x → IsSetEdge x
+  copy_state_sets : (list : List LevelState) (c : LevelState) (x : Edge) → Has (copy_state A list c).edges x → IsSetEdge x
   copy_state_sets list c x h =
-      let (e, k, d) = map_cases (edge_to_copy A list) (copy_edges A c) x (set_of_cases edge_linear (map (edge_to_copy A list) (copy_edges A c)) x h) in
-      subst IsSetEdge (sym d) (record { cube = copy_edge_cube c e k; marks = tt })
+      let (e, k, d) = map_cases (edge_to_level_state A list) (level_edges A c) x (set_of_cases edge_linear (map (edge_to_level_state A list) (level_edges A c)) x h) in
+      subst IsSetEdge (sym d) (record { cube = level_edge_cube c e k; marks = tt })
 
   -- so it is for the edges of the copies
   pub levels_sets : HasSetEdges (level_automaton A)

@@ -75,10 +75,10 @@ back = record { cube = []; target = 1; marks = 0 ∷ 1 ∷ [] }
 example_walk : HasAcceptingWalk (common_graph (codes "p" ∷ []) (codes "q" ∷ codes "p" ∷ []) given wanted) (common_start (codes "p" ∷ []) (codes "q" ∷ codes "p" ∷ []) given wanted 0)
 example_walk = record {
   state = 1;
-  way = to_second ∷ to_found ∷ [];
-  turn = out ∷ back ∷ [];
+  stem = to_second ∷ to_found ∷ [];
+  cycle = out ∷ back ∷ [];
   arrives = (inl refl, (inr (inl refl), refl));
-  turns = record {
+  cycles = record {
     closes = (inl refl, (inl refl, refl));
     moves = λ e. cc;
     marks = λ k l. elim (cases_eq k 0) [
@@ -89,6 +89,6 @@ example_walk = record {
 }
 
 -- the word along it is printed as it is
-example_word : least_form (lasso_along (unified (codes "p" ∷ []) (codes "q" ∷ codes "p" ∷ [])) example_walk.way example_walk.turn) ≡ record { stem = p ∷ q ∷ []; cycle = p ∷ [] ∷ [] }
+example_word : least_form (lasso_along (unified (codes "p" ∷ []) (codes "q" ∷ codes "p" ∷ [])) example_walk.stem example_walk.cycle) ≡ record { stem = p ∷ q ∷ []; cycle = p ∷ [] ∷ [] }
 unfolding example_walk
 example_word = refl

@@ -76,10 +76,10 @@ empty_accepted : MarkedAccepts automaton_e empty_word
 empty_accepted = record {
   state = 0;
   position = 0;
-  way = [];
-  turn = loop ∷ [];
+  stem = [];
+  cycle = loop ∷ [];
   arrives = (refl, refl);
-  turns = record { closes = (inl refl, refl, (refl, refl)); moves = λ e. not_nil e; accepts = (loop, inl refl, refl); marks = λ k l. (loop, inl refl, inl (only k l)) };
+  cycles = record { closes = (inl refl, refl, (refl, refl)); moves = λ e. not_nil e; accepts = (loop, inl refl, refl); marks = λ k l. (loop, inl refl, inl (only k l)) };
 }
   where
     not_nil : loop ∷ [] ≡ [] → ⊥

@@ -178,7 +178,7 @@ eventually = record { formula = Unary Eventually (Proposition 0); names = codes 
 
 -- no edge is in the second set, so nothing is accepted: `<>p` holds of all of it
 two_contained : IsContained (looping 2 (0 ∷ [])) eventually
-two_contained w s (a, v) = let (e, h, m) = a.turns.marks 1 (omega arith) in never a.state a.position a.turn a.state a.position a.turns.closes e h m
+two_contained w s (a, v) = let (e, h, m) = a.cycles.marks 1 (omega arith) in never a.state a.position a.cycle a.state a.position a.cycles.closes e h m
   where
     unmarked : (s : ℕ) (e : Edge) → Has (state_at (graph_of (looping 2 (0 ∷ []))) s).edges e → e.marks ≡ 0 ∷ []
     unmarked zero e (inl q) = ap (λ (x : Edge). x.marks) q
@@ -206,10 +206,10 @@ none_violated = (
   record {
     state = 0;
     position = 0;
-    way = [];
-    turn = loop ∷ [];
+    stem = [];
+    cycle = loop ∷ [];
     arrives = (refl, refl);
-    turns = record { closes = (inl refl, refl, (refl, refl)); moves = λ e. not_nil e; accepts = (loop, inl refl, refl); marks = λ k l. absurd (omega (arith, l)) };
+    cycles = record { closes = (inl refl, refl, (refl, refl)); moves = λ e. not_nil e; accepts = (loop, inl refl, refl); marks = λ k l. absurd (omega (arith, l)) };
   },
   λ h. never h.0 (stays h.0) h.1,
 )
@@ -227,8 +227,8 @@ none_violated = (
 -- ---- two sets in turn
 
 -- p and q by turns, with these sets on the second edge
-abbrev by_turns : List ℕ → MarkedAutomaton
-by_turns marks = record {
+abbrev by_cycles : List ℕ → MarkedAutomaton
+by_cycles marks = record {
   states = 2;
   start = 0;
   sets = 2;
@@ -238,11 +238,11 @@ by_turns marks = record {
       ∷ (record { cube = record { proposition = 0; positive = false } ∷ record { proposition = 1; positive = true } ∷ []; target = 0; marks = marks } ∷ []) ∷ [];
 }
 
-abbrev turns_text : List ℕ → List ℕ
-turns_text marks = codes "HOA: v1\nStates: 2\nStart: 0\nAP: 2 \"p\" \"q\"\nAcceptance: 2 Inf(0)&Inf(1)\n--BODY--\nState: 0\n[0&!1] 1 {0}\nState: 1\n[!0&1] 0" ++ marks ++ codes "\n--END--\n"
+abbrev cycles_text : List ℕ → List ℕ
+cycles_text marks = codes "HOA: v1\nStates: 2\nStart: 0\nAP: 2 \"p\" \"q\"\nAcceptance: 2 Inf(0)&Inf(1)\n--BODY--\nState: 0\n[0&!1] 1 {0}\nState: 1\n[!0&1] 0" ++ marks ++ codes "\n--END--\n"
 
-reads_by_turns : HoaReadsWithin stated_limits (SetsUpTo 32) (turns_text (codes " {1}")) (by_turns (1 ∷ []))
-reads_by_turns = (
+reads_by_cycles : HoaReadsWithin stated_limits (SetsUpTo 32) (cycles_text (codes " {1}")) (by_cycles (1 ∷ []))
+reads_by_cycles = (
   record {
     document = record {
       items = StatesItem 2 ∷ StartItem 0 ∷ NamesItem (codes "p" ∷ codes "q" ∷ []) ∷ SetsItem 2 ∷ [];
@@ -278,8 +278,8 @@ abbrev always : Reading
 always = record { formula = Unary Always (Proposition 0); names = codes "p" ∷ [] }
 
 -- the word `cycle {p}; {q}`
-abbrev turn_word : Lasso
-turn_word = record { stem = []; cycle = (codes "p" ∷ []) ∷ (codes "q" ∷ []) ∷ [] }
+abbrev cycle_word : Lasso
+cycle_word = record { stem = []; cycle = (codes "p" ∷ []) ∷ (codes "q" ∷ []) ∷ [] }
 
 abbrev first_edge : Edge
 first_edge = record { cube = record { proposition = 0; positive = true } ∷ record { proposition = 1; positive = false } ∷ []; target = 1; marks = 0 ∷ [] }
@@ -288,15 +288,15 @@ abbrev second_edge : Edge
 second_edge = record { cube = record { proposition = 0; positive = false } ∷ record { proposition = 1; positive = true } ∷ []; target = 0; marks = 1 ∷ [] }
 
 -- each set on one of the two edges is enough, and the word violates `[]p`
-turns_violated : IsViolation (by_turns (1 ∷ [])) always turn_word
-turns_violated = (
+cycles_violated : IsViolation (by_cycles (1 ∷ [])) always cycle_word
+cycles_violated = (
   record {
     state = 0;
     position = 0;
-    way = [];
-    turn = first_edge ∷ second_edge ∷ [];
+    stem = [];
+    cycle = first_edge ∷ second_edge ∷ [];
     arrives = (refl, refl);
-    turns = record {
+    cycles = record {
       closes = (inl refl, refl, (inl refl, refl, (refl, refl)));
       moves = λ e. not_nil e;
       accepts = (first_edge, inl refl, refl);
@@ -313,10 +313,10 @@ turns_violated = (
     not_nil e = cc
 
 -- without the second set nothing is accepted
-turns_contained : IsContained (by_turns []) always
-turns_contained w s (a, v) = let (e, h, m) = a.turns.marks 1 (omega arith) in never a.state a.position a.turn a.state a.position a.turns.closes e h m
+cycles_contained : IsContained (by_cycles []) always
+cycles_contained w s (a, v) = let (e, h, m) = a.cycles.marks 1 (omega arith) in never a.state a.position a.cycle a.state a.position a.cycles.closes e h m
   where
-    unmarked : (s : ℕ) (e : Edge) → Has (state_at (graph_of (by_turns [])) s).edges e → Has e.marks 1 → ⊥
+    unmarked : (s : ℕ) (e : Edge) → Has (state_at (graph_of (by_cycles [])) s).edges e → Has e.marks 1 → ⊥
     unmarked zero e (inl q) m = elim (subst (λ (x : Edge). Has x.marks 1) q m) [ inl z ↦ other z | inr z ↦ z ]
       where
         other : ◌≡◌ {A = ℕ} 1 0 → ⊥
@@ -326,7 +326,7 @@ turns_contained w s (a, v) = let (e, h, m) = a.turns.marks 1 (omega arith) in ne
     unmarked (suc zero) e (inr z) m = z
     unmarked (suc (suc s)) e h m = h
 
-    never : (s i : ℕ) (es : List Edge) (t j : ℕ) → IsWalk (graph_of (by_turns [])) (is_true_at (codes "p" ∷ codes "q" ∷ []) w) (next w) s i es t j → (e : Edge) → Has es e → Has e.marks 1 → ⊥
+    never : (s i : ℕ) (es : List Edge) (t j : ℕ) → IsWalk (graph_of (by_cycles [])) (is_true_at (codes "p" ∷ codes "q" ∷ []) w) (next w) s i es t j → (e : Edge) → Has es e → Has e.marks 1 → ⊥
     never s i [] t j k e h m = h
     never s i (x ∷ es) t j k e (inl q) m = unmarked s x k.0 (subst (λ (y : Edge). Has y.marks 1) q m)
     never s i (x ∷ es) t j k e (inr h) m = never x.target (next w i) es t j k.2 e h m

@@ -36,8 +36,8 @@ module _ (truth : ℕ → ℕ → Bool) (step : ℕ → ℕ) where
 
 accepts_nothing : (names : List Name) (w : Lasso) → Accepts names unmarked w → ⊥
 accepts_nothing names w a =
-    let found = a.turns.accepts in
-    let same = walks_again (is_true_at names w) (next w) a.state a.position a.state a.position a.turn found.0 a.turns.closes found.1 in
+    let found = a.cycles.accepts in
+    let same = walks_again (is_true_at names w) (next w) a.state a.position a.state a.position a.cycle found.0 a.cycles.closes found.1 in
     false_is_true (subst (λ (e : Edge). IsTrue (state_at unmarked e.target).accepting) same found.2)
 
 -- the word `{}; cycle {p}`

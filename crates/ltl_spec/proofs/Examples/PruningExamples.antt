@@ -7,14 +7,14 @@ use Rattle.ltl_spec.specs.NormalForms.Normal.{Normal, Top, Bottom, Leaf, And, Or
 use Rattle.ltl_spec.specs.Transitions.Pairs.{RowSet, Pair, empty_pair}
 use Rattle.ltl_spec.specs.Transitions.RowTransitions.{Table, table_of, place, is_marked}
 use Rattle.ltl_spec.proofs.Transitions.TransitionLaws.{joined}
-use Rattle.ltl_spec.specs.Transitions.Pruning.{is_within, own_pairs, asks_beyond}
+use Rattle.ltl_spec.specs.Transitions.Pruning.{is_within, fulfilling_pairs, asks_beyond}
 
--- the rule, computed: u asks for no more than t, and for each own pair of an until row that t doesn't contradict there is one that asks for no more
+-- the rule, computed: u asks for no more than t, and for each fulfilling pair of an until row that t doesn't contradict there is one that asks for no more
 -- beyond u
 abbrev is_safe : Table → Pair → Pair → Bool
 is_safe table t u =
     is_within u t
-    && list_all (λ f. list_all (λ m. is_contradictory (union literal_cmp t.cube m.cube) || list_any (λ n. asks_beyond n u m t) (own_pairs table f)) (own_pairs table f)) table.untils
+    && list_all (λ f. list_all (λ m. is_contradictory (union literal_cmp t.cube m.cube) || list_any (λ n. asks_beyond n u m t) (fulfilling_pairs table f)) (fulfilling_pairs table f)) table.untils
 
 -- the literal of a proposition
 abbrev is : ℕ → Literal
@@ -44,9 +44,9 @@ either = eventually (Or (Leaf (is 0)) (Leaf (is 1)))
 either_place : place (table_of either) either ≡ 2
 either_place = refl
 
--- it has two own pairs
-either_own : own_pairs (table_of either) either ≡ pair (is 0 ∷ []) [] ∷ pair (is 1 ∷ []) [] ∷ []
-either_own = refl
+-- it has two fulfilling pairs
+either_fulfilling : fulfilling_pairs (table_of either) either ≡ pair (is 0 ∷ []) [] ∷ pair (is 1 ∷ []) [] ∷ []
+either_fulfilling = refl
 
 -- to ask for less isn't enough: without p the row is put off
 put_off : is_within (pair [] (2 ∷ [])) (pair (is 0 ∷ []) (2 ∷ [])) ≡ true

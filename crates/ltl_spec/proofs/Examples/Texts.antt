@@ -88,10 +88,10 @@ unfolding loop
 accepted = record {
   state = 1;
   position = 1;
-  way = record { cube = record { proposition = 0; positive = true } ∷ []; target = 1; marks = [] } ∷ [];
-  turn = loop ∷ [];
+  stem = record { cube = record { proposition = 0; positive = true } ∷ []; target = 1; marks = [] } ∷ [];
+  cycle = loop ∷ [];
   arrives = (inr (inl refl), refl, (refl, refl));
-  turns = record { closes = (inl refl, refl, (refl, refl)); moves = λ e. not_nil e; accepts = (loop, inl refl, refl); marks = λ k l. absurd (omega arith) };
+  cycles = record { closes = (inl refl, refl, (refl, refl)); moves = λ e. not_nil e; accepts = (loop, inl refl, refl); marks = λ k l. absurd (omega arith) };
 }
   where
     not_nil : loop ∷ [] ≡ [] → ⊥

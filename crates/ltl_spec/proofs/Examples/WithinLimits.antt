@@ -6,7 +6,7 @@ use Rattle.ltl_spec.specs.Transitions.Pairs.{RowSet}
 use Rattle.ltl_spec.specs.Automata.Automaton.{Automaton}
 use Rattle.ltl_spec.specs.Automata.Generalized.{same_row_set, target_sets, root_set, generalized_within}
 use Rattle.ltl_spec.specs.Construction.Merging.{merged_automaton}
-use Rattle.ltl_spec.specs.Construction.Levels.{same_copy, copy_targets, HasTooManyCopies, start_copy}
+use Rattle.ltl_spec.specs.Construction.Levels.{same_level_state, level_targets, HasTooManyLevelStates, start_copy}
 use Rattle.ltl_spec.specs.Construction.Translation.{Options, IsTranslationTooLarge}
 use Rattle.ltl_spec.proofs.Automata.CountsLaws.{never_passed}
 use Rattle.ltl_spec.proofs.Construction.GeneralizedBounds.{one_generalized}
@@ -23,9 +23,9 @@ module _ (N : Normal) (o : Options) (n m states edges : ℕ) where
   found = merged_automaton o.keep_implied o.keep_equal (generalized_within N o.keep_implied n)
 
   pub translation_fits : IsComplete same_row_set targets root n → length (listing same_row_set targets root n) ≤ states → edges_after same_row_set targets root n ≤ edges
-      → IsComplete same_copy (copy_targets found) start_copy m → length (listing same_copy (copy_targets found) start_copy m) ≤ states → edges_after same_copy (copy_targets found) start_copy m ≤ edges
+      → IsComplete same_level_state (level_targets found) start_copy m → length (listing same_level_state (level_targets found) start_copy m) ≤ states → edges_after same_level_state (level_targets found) start_copy m ≤ edges
       → ¬ (IsTranslationTooLarge N o states edges)
   translation_fits c s e d t f (inl p) = never_passed same_row_set targets root states edges n c s e p
   translation_fits c s e d t f (inr (A, g, p)) =
       let same = one_generalized N o.keep_implied A (generalized_within N o.keep_implied n) g (n, c, refl) in
-      never_passed same_copy (copy_targets found) start_copy states edges m d t f (subst (λ B. HasTooManyCopies (merged_automaton o.keep_implied o.keep_equal B) states edges) same p)
+      never_passed same_level_state (level_targets found) start_copy states edges m d t f (subst (λ B. HasTooManyLevelStates (merged_automaton o.keep_implied o.keep_equal B) states edges) same p)

@@ -40,11 +40,11 @@ module _ (l : Limits) (form : AcceptanceForm) where
 
   -- where the tokens are taken to the end, so are the items
   items_taken : (text : List ℕ) (items : List HoaItem) (b c : Before) → run l form (Ok b) (map (λ i. i.token) items) ≡ Ok c → fold (take_item l form text) (Ok b) items ≡ Ok c
-  items_taken text [] b c e = ap copy_edge e
+  items_taken text [] b c e = ap level_edge e
     where
-      copy_edge : Step → Result Before HoaFault
-      copy_edge (Ok d) = Ok d
-      copy_edge (Err kind) = Err (record { kind = kind; line = 0 })
+      level_edge : Step → Result Before HoaFault
+      level_edge (Ok d) = Ok d
+      level_edge (Err kind) = Err (record { kind = kind; line = 0 })
   items_taken text (i ∷ items) b c e =
       elim (step l form b.place b i.token) as (λ o. run l form o (map (λ j. j.token) items) ≡ Ok c → fold (take_item l form text) (with_line l form text b.place i o) items ≡ Ok c) [
         | Ok d ↦ λ h. items_taken text items d c h

@@ -3,7 +3,7 @@ use Rattle.std.proofs.Common.{◌≡◌, ◌≢◌, ℕ, Bool, true, false, cond
 use Rattle.std.specs.Prelude.{IsTrue}
 use Rattle.ltl_spec.specs.Collections.Sets.{Has}
 use Rattle.ltl_spec.specs.Transitions.Cubes.{allows}
-use Rattle.ltl_spec.specs.Automata.Automaton.{Automaton, State, Edge, state_at, IsWalk, IsAcceptingTurn, AcceptedFrom}
+use Rattle.ltl_spec.specs.Automata.Automaton.{Automaton, State, Edge, state_at, IsWalk, IsAcceptingCycle, AcceptedFrom}
 use Rattle.ltl_spec.proofs.Automata.ListedStates.{mapped_at}
 use Rattle.ltl_spec.proofs.Collections.MemberLaws.{Has-map, map_cases}
 
@@ -111,20 +111,20 @@ module _ (B : Automaton) (truth : ℕ → ℕ → Bool) (step : ℕ → ℕ) whe
   one_edge [] some = absurd (some refl)
   one_edge (e ∷ es) some = (e, inl refl)
 
-  turn_along : B.sets ≡ 0 → (s i : ℕ) (turn : List Edge) → IsAcceptingTurn B truth step s i turn → IsAcceptingTurn (leaving B) truth step s i (along s turn)
-  turn_along none s i turn h =
-      let (e, m) = one_edge (along s turn) (some_along turn s h.moves) in
-      let leaves : Leaves (along s turn) = elim (entered turn s i s i h.closes h.accepts) [ inl a ↦ first_leaves turn s h.moves a | inr b ↦ b ] in
+  cycle_along : B.sets ≡ 0 → (s i : ℕ) (cycle : List Edge) → IsAcceptingCycle B truth step s i cycle → IsAcceptingCycle (leaving B) truth step s i (along s cycle)
+  cycle_along none s i cycle h =
+      let (e, m) = one_edge (along s cycle) (some_along cycle s h.moves) in
+      let leaves : Leaves (along s cycle) = elim (entered cycle s i s i h.closes h.accepts) [ inl a ↦ first_leaves cycle s h.moves a | inr b ↦ b ] in
       record {
-        closes = walk_along turn s i s i h.closes;
-        moves = some_along turn s h.moves;
+        closes = walk_along cycle s i s i h.closes;
+        moves = some_along cycle s h.moves;
         accepts = (e, m, ap (λ (v : State). v.accepting) (at e.target));
-        marks = λ k l. let z : 0 ≡ k = omega arith in subst (λ n. (x : Edge) × Has (along s turn) x × Has x.marks n) z leaves;
+        marks = λ k l. let z : 0 ≡ k = omega arith in subst (λ n. (x : Edge) × Has (along s cycle) x × Has x.marks n) z leaves;
       }
 
-  turn_back : B.sets ≡ 0 → (s i : ℕ) (turn : List Edge) → IsAcceptingTurn (leaving B) truth step s i turn → (fs : List Edge) × IsAcceptingTurn B truth step s i fs
-  turn_back none s i turn h =
-      let (fs, v, p) = walk_back turn s i s i h.closes in
+  cycle_back : B.sets ≡ 0 → (s i : ℕ) (cycle : List Edge) → IsAcceptingCycle (leaving B) truth step s i cycle → (fs : List Edge) × IsAcceptingCycle B truth step s i fs
+  cycle_back none s i cycle h =
+      let (fs, v, p) = walk_back cycle s i s i h.closes in
       let some : fs ≢ [] = λ z. h.moves (sym p ∙ ap (along s) z) in
       let leaves : Leaves (along s fs) = subst Leaves (sym p) (h.marks 0 (omega arith)) in (
         fs,
@@ -140,15 +140,15 @@ module _ (B : Automaton) (truth : ℕ → ℕ → Bool) (step : ℕ → ℕ) whe
   pub leaving_accepts : B.sets ≡ 0 → (start : ℕ) → AcceptedFrom start (leaving B) truth step ↔ AcceptedFrom start B truth step
   leaving_accepts none start = (
     (λ h.
-        let (way, arrives, p) = walk_back h.way start 0 h.state h.position h.arrives in
-        let (turn, turns) = turn_back none h.state h.position h.turn h.turns in
-        record { state = h.state; position = h.position; way = way; turn = turn; arrives = arrives; turns = turns }),
+        let (stem, arrives, p) = walk_back h.stem start 0 h.state h.position h.arrives in
+        let (cycle, cycles) = cycle_back none h.state h.position h.cycle h.cycles in
+        record { state = h.state; position = h.position; stem = stem; cycle = cycle; arrives = arrives; cycles = cycles }),
     λ h. record {
       state = h.state;
       position = h.position;
-      way = along start h.way;
-      turn = along h.state h.turn;
-      arrives = walk_along h.way start 0 h.state h.position h.arrives;
-      turns = turn_along none h.state h.position h.turn h.turns;
+      stem = along start h.stem;
+      cycle = along h.state h.cycle;
+      arrives = walk_along h.stem start 0 h.state h.position h.arrives;
+      cycles = cycle_along none h.state h.position h.cycle h.cycles;
     },
   )

@@ -5,7 +5,7 @@ use Rattle.std.proofs.lemmas.Bool.{cases_eq}
 use Rattle.std.proofs.lemmas.Nat.{mul-add-lt, same_from_place}
 use Rattle.ltl_spec.specs.Collections.Sets.{Has}
 use Rattle.ltl_spec.specs.Semantics.Word.{Name, Lasso, after_steps, next, is_true_at}
-use Rattle.ltl_spec.specs.Automata.Automaton.{Automaton, Edge, state_at, IsWalk, IsAcceptingTurn, AcceptedFrom, AcceptsFrom, Accepts}
+use Rattle.ltl_spec.specs.Automata.Automaton.{Automaton, Edge, state_at, IsWalk, IsAcceptingCycle, AcceptedFrom, AcceptsFrom, Accepts}
 use Rattle.ltl_spec.specs.Transitions.Cubes.{allows}
 use Rattle.ltl_spec.proofs.Semantics.Runs.{Run, RunFrom, IsBounded}
 use Rattle.ltl_spec.proofs.Semantics.Pigeonhole.{pigeonhole}
@@ -14,7 +14,7 @@ use Rattle.ltl_spec.proofs.Collections.CaseLaws.{last_or_below}
 use Rattle.ltl_spec.proofs.Automata.ListedStates.{has_edge_below}
 
 -- a way, and then a turn again and again: the turn is t and then ts
-module _ (way : List Edge) (t : Edge) (ts : List Edge) where
+module _ (stem : List Edge) (t : Edge) (ts : List Edge) where
   -- the edge to take now and those to take after it, where the turn begins anew when nothing is left
   abbrev begun : List Edge → Edge × List Edge
   begun [] = (t, ts)
@@ -22,7 +22,7 @@ module _ (way : List Edge) (t : Edge) (ts : List Edge) where
 
   -- the edge taken at time k, and those to take after it
   abbrev taken : ℕ → Edge × List Edge
-  taken zero = begun way
+  taken zero = begun stem
   taken (suc k) = begun (taken k).1
 
   -- the state at time k, from this one on
@@ -57,42 +57,42 @@ module _ (way : List Edge) (t : Edge) (ts : List Edge) where
       (w.0, omega arith, w.2)
 
 module _ (start : ℕ) (A : Automaton) (holds : ℕ → ℕ → Bool) (step : ℕ → ℕ) where
-  module _ (s i : ℕ) (way : List Edge) (t : Edge) (ts : List Edge) (arrives : IsWalk A holds step start 0 way s i) (turns : IsAcceptingTurn A holds step s i (t ∷ ts)) where
+  module _ (s i : ℕ) (stem : List Edge) (t : Edge) (ts : List Edge) (arrives : IsWalk A holds step start 0 stem s i) (cycles : IsAcceptingCycle A holds step s i (t ∷ ts)) where
     -- the edge to take now and those after it, begun or begun anew, lead to the turn's state
-    begun_walks : (q p : ℕ) (es : List Edge) → IsWalk A holds step q p es s i → IsWalk A holds step q p ((begun way t ts es).0 ∷ (begun way t ts es).1) s i
+    begun_walks : (q p : ℕ) (es : List Edge) → IsWalk A holds step q p es s i → IsWalk A holds step q p ((begun stem t ts es).0 ∷ (begun stem t ts es).1) s i
     begun_walks q p [] h =
-        let at_state = subst (λ x. IsWalk A holds step x i (t ∷ ts) s i) (sym h.0) turns.closes in
+        let at_state = subst (λ x. IsWalk A holds step x i (t ∷ ts) s i) (sym h.0) cycles.closes in
         subst (λ x. IsWalk A holds step q x (t ∷ ts) s i) (sym h.1) at_state
     begun_walks q p (e ∷ es) h = h
 
     -- what is left at time k walks on from there
-    taken_walks : (k : ℕ) → IsWalk A holds step (passed way t ts start k) (after_steps step k 0) ((taken way t ts k).0 ∷ (taken way t ts k).1) s i
-    taken_walks zero = begun_walks start 0 way arrives
+    taken_walks : (k : ℕ) → IsWalk A holds step (passed stem t ts start k) (after_steps step k 0) ((taken stem t ts k).0 ∷ (taken stem t ts k).1) s i
+    taken_walks zero = begun_walks start 0 stem arrives
     taken_walks (suc k) =
         let here = taken_walks k in
-        let on = subst (λ x. IsWalk A holds step (taken way t ts k).0.target x (taken way t ts k).1 s i) (sym (after_last step k 0)) here.2 in
-        begun_walks (taken way t ts k).0.target (after_steps step (suc k) 0) (taken way t ts k).1 on
+        let on = subst (λ x. IsWalk A holds step (taken stem t ts k).0.target x (taken stem t ts k).1 s i) (sym (after_last step k 0)) here.2 in
+        begun_walks (taken stem t ts k).0.target (after_steps step (suc k) 0) (taken stem t ts k).1 on
 
     -- an accepting state comes again and again
-    accepts_again : (k : ℕ) → (j : ℕ) × (k ≤ j) × IsTrue (state_at A (passed way t ts start j)).accepting
+    accepts_again : (k : ℕ) → (j : ℕ) × (k ≤ j) × IsTrue (state_at A (passed stem t ts start j)).accepting
     accepts_again k =
-        let a = turns.accepts in
-        let w = again way t ts a.0 a.1 k in
+        let a = cycles.accepts in
+        let w = again stem t ts a.0 a.1 k in
         let l = w.1 in
         (suc w.0, omega arith, subst (λ e. IsTrue (state_at A e.target).accepting) (sym w.2) a.2)
 
     -- so does an edge of each set
-    marks_again : (f k : ℕ) → f < A.sets → (j : ℕ) × (k ≤ j) × Has (taken way t ts j).0.marks f
+    marks_again : (f k : ℕ) → f < A.sets → (j : ℕ) × (k ≤ j) × Has (taken stem t ts j).0.marks f
     marks_again f k l =
-        let a = turns.marks f l in
-        let w = again way t ts a.0 a.1 k in
+        let a = cycles.marks f l in
+        let w = again stem t ts a.0 a.1 k in
         (w.0, w.1, subst (λ e. Has e.marks f) (sym w.2) a.2)
 
     -- the way, and then the turn again and again, are an accepting run
-    run_of_turns : RunFrom start A holds step
-    run_of_turns = record {
-      state = passed way t ts start;
-      edge = λ k. (taken way t ts k).0;
+    run_of_cycles : RunFrom start A holds step
+    run_of_cycles = record {
+      state = passed stem t ts start;
+      edge = λ k. (taken stem t ts k).0;
       starts = refl;
       edges = λ k. (taken_walks k).0;
       leads = λ k. refl;
@@ -102,13 +102,13 @@ module _ (start : ℕ) (A : Automaton) (holds : ℕ → ℕ → Bool) (step : �
     }
 
   -- the turn isn't empty, so it has a first edge
-  run_of_walks : (s i : ℕ) (way turn : List Edge) → IsWalk A holds step start 0 way s i → IsAcceptingTurn A holds step s i turn → RunFrom start A holds step
-  run_of_walks s i way [] arrives turns = absurd (turns.moves refl)
-  run_of_walks s i way (t ∷ ts) arrives turns = run_of_turns s i way t ts arrives turns
+  run_of_walks : (s i : ℕ) (stem cycle : List Edge) → IsWalk A holds step start 0 stem s i → IsAcceptingCycle A holds step s i cycle → RunFrom start A holds step
+  run_of_walks s i stem [] arrives cycles = absurd (cycles.moves refl)
+  run_of_walks s i stem (t ∷ ts) arrives cycles = run_of_cycles s i stem t ts arrives cycles
 
 -- a closed walk gives a run
 pub run_of_accepted : {start : ℕ} {A : Automaton} {holds : ℕ → ℕ → Bool} {step : ℕ → ℕ} → AcceptedFrom start A holds step → RunFrom start A holds step
-run_of_accepted {start} {A} {holds} {step} a = run_of_walks start A holds step a.state a.position a.way a.turn a.arrives a.turns
+run_of_accepted {start} {A} {holds} {step} a = run_of_walks start A holds step a.state a.position a.stem a.cycle a.arrives a.cycles
 
 module _ (start : ℕ) (A : Automaton) (holds : ℕ → ℕ → Bool) (step : ℕ → ℕ) (r : RunFrom start A holds step) where
   -- the edges of so many times, from time a on
@@ -224,8 +224,8 @@ module _ (start : ℕ) (A : Automaton) (holds : ℕ → ℕ → Bool) (step : �
       ]
 
   -- a round that ends where it begins is an accepting turn
-  turn_of_round : (a b : ℕ) → IsRound a b → r.state a ≡ r.state b → after_steps step a 0 ≡ after_steps step b 0 → IsAcceptingTurn A holds step (r.state a) (after_steps step a 0) (stretch a (b - a))
-  turn_of_round a b h same_state same_place =
+  cycle_of_round : (a b : ℕ) → IsRound a b → r.state a ≡ r.state b → after_steps step a 0 ≡ after_steps step b 0 → IsAcceptingCycle A holds step (r.state a) (after_steps step a 0) (stretch a (b - a))
+  cycle_of_round a b h same_state same_place =
       let l = h.rises in
       let k : (b - a) + a ≡ b = omega arith in
       let ends_in_place = subst (λ p. IsWalk A holds step (r.state a) (after_steps step a 0) (stretch a (b - a)) (r.state b) p) (sym same_place) (stretch_walks (b - a) a b k) in
@@ -245,10 +245,10 @@ module _ (start : ℕ) (A : Automaton) (holds : ℕ → ℕ → Bool) (step : �
   accepted_by_round a b h same_state same_place = record {
     state = r.state a;
     position = after_steps step a 0;
-    way = stretch 0 a;
-    turn = stretch a (b - a);
+    stem = stretch 0 a;
+    cycle = stretch a (b - a);
     arrives = subst (λ s. IsWalk A holds step s 0 (stretch 0 a) (r.state a) (after_steps step a 0)) r.starts (stretch_walks a 0 a (omega arith));
-    turns = turn_of_round a b h same_state same_place;
+    cycles = cycle_of_round a b h same_state same_place;
   }
 
   -- the state and the position at a time, as one number

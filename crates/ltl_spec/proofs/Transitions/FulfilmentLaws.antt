@@ -11,7 +11,7 @@ use Rattle.ltl_spec.specs.NormalForms.Normal.{Normal, Top, Bottom, Leaf, Next, A
 use Rattle.ltl_spec.specs.NormalForms.NormalForm.{is_until, rows, until_rows, postorder}
 use Rattle.ltl_spec.specs.Transitions.Pairs.{RowSet, Pair, Within, join, later_pair, conj, pairs}
 use Rattle.ltl_spec.specs.Transitions.RowTransitions.{Table, table_of, place, is_marked}
-use Rattle.ltl_spec.specs.Transitions.Pruning.{is_within, own_pairs, IsEnough}
+use Rattle.ltl_spec.specs.Transitions.Pruning.{is_within, fulfilling_pairs, IsEnough}
 use Rattle.ltl_spec.proofs.Collections.SetLaws.{has_Decides, is_subset_Decides, append_cases, append_left, append_right, union_cases, union_left, union_right, filter_cases}
 use Rattle.ltl_spec.proofs.Collections.MemberLaws.{Has-map, map_cases, Has-flat_map, flat_map_cases, any_cases, any_true}
 use Rattle.ltl_spec.proofs.Collections.ListLaws.{first_occurrences_cases}
@@ -22,7 +22,7 @@ use Rattle.ltl_spec.proofs.Transitions.UnimpliedLaws.{not_cases}
 use Rattle.ltl_spec.proofs.Transitions.JoinLaws.{SomeWithin, within_refl, IsConsistent, united, united_least, join_within, append_within, later_within}
 use Rattle.ltl_spec.proofs.Transitions.SafeLaws.{consistent_within}
 use Rattle.ltl_spec.proofs.Transitions.SameJoins.{Has-united}
-use Rattle.ltl_spec.proofs.Transitions.LeastPairs.{is_within_Decides, enough_from, own_cases, Has-own, marked_by_enough}
+use Rattle.ltl_spec.proofs.Transitions.LeastPairs.{is_within_Decides, enough_from, fulfilling_cases, Has-fulfilling, marked_by_enough}
 use Rattle.ltl_spec.proofs.Transitions.PartLaws.{AllParts, IsRow, all_rows, part_parts}
 use Rattle.ltl_spec.proofs.Semantics.TargetLaws.{second_not_later}
 use Rattle.ltl_spec.proofs.Transitions.Fulfilment.{Test, Always, Never, Reads, Leads, Both, Either, passes, literals_of, targets_of, set_test, pair_test, until_test}
@@ -214,25 +214,25 @@ module _ (core : Normal) where
       (a, b, e, subst (AllParts (IsRow core)) e w)
 
   -- the pairs that fulfil an until row without putting it off are those of its second operand
-  pub own_second : (a b : Normal) → (q : Pair) → Has (own_pairs (table_of core) (Until a b)) q → Has (pairs (place (table_of core)) b) q
-  own_second a b q h =
+  pub fulfilling_second : (a b : Normal) → (q : Pair) → Has (fulfilling_pairs (table_of core) (Until a b)) q → Has (pairs (place (table_of core)) b) q
+  fulfilling_second a b q h =
       let at = place (table_of core) in
       let later = later_pair (at (Until a b)) ∷ [] in
-      let c = own_cases (table_of core) (Until a b) q h in
+      let c = fulfilling_cases (table_of core) (Until a b) q h in
       elim (append_cases (pairs at b) (join (pairs at a) later) q c.0) [
         | inl k ↦ k
         | inr k ↦ absurd (c.1 (later_within (at (Until a b)) q (join_within (pairs at a) later q (q, k, within_refl q)).1))
       ]
 
   -- and those are enough
-  pub second_enough : (a b : Normal) → AllParts (IsRow core) (Until a b) → IsEnough (own_pairs (table_of core) (Until a b)) (pairs (place (table_of core)) b)
-  second_enough a b w = enough_from (own_pairs (table_of core) (Until a b)) (pairs at b) from (λ q h. (q, own_second a b q h, within_refl q))
+  pub second_enough : (a b : Normal) → AllParts (IsRow core) (Until a b) → IsEnough (fulfilling_pairs (table_of core) (Until a b)) (pairs (place (table_of core)) b)
+  second_enough a b w = enough_from (fulfilling_pairs (table_of core) (Until a b)) (pairs at b) from (λ q h. (q, fulfilling_second a b q h, within_refl q))
     where
       at : Normal → ℕ
       at = place (table_of core)
 
-      from : (q : Pair) → Has (pairs at b) q → Has (own_pairs (table_of core) (Until a b)) q
-      from q h = Has-own (table_of core) (Until a b) q (append_left (pairs at b) (join (pairs at a) (later_pair (at (Until a b)) ∷ [])) q h) (second_not_later core a b w q h)
+      from : (q : Pair) → Has (pairs at b) q → Has (fulfilling_pairs (table_of core) (Until a b)) q
+      from q h = Has-fulfilling (table_of core) (Until a b) q (append_left (pairs at b) (join (pairs at a) (later_pair (at (Until a b)) ∷ [])) q h) (second_not_later core a b w q h)
 
   module _ (f : Normal) (h : Has (until_rows core) f) (p : Pair) (c : IsConsistent p) where
     -- a pair that doesn't contradict itself is marked for an until row where the row is no target, or the pair passes the row's test

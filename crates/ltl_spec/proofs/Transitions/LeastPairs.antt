@@ -12,7 +12,7 @@ use Rattle.ltl_spec.specs.Transitions.RowTransitions.{Table, place, fulfils, is_
 use Rattle.ltl_spec.proofs.Collections.SetLaws.{is_subset_Decides, has_Decides, same_members, filter_cases, Has-filter, common_first, common_second}
 use Rattle.ltl_spec.proofs.Collections.Orders.{nat_linear, literal_linear}
 use Rattle.ltl_spec.proofs.Transitions.JoinLaws.{Within, within_trans, IsProper}
-use Rattle.ltl_spec.specs.Transitions.Pruning.{is_within, IsEnough, own_pairs}
+use Rattle.ltl_spec.specs.Transitions.Pruning.{is_within, IsEnough, fulfilling_pairs}
 use Rattle.ltl_spec.proofs.Transitions.UnimpliedLaws.{not_from, not_cases}
 use Rattle.ltl_spec.proofs.Collections.CaseLaws.{left_true, right_true}
 use Rattle.ltl_spec.proofs.Collections.MemberLaws.{any_cases, any_true}
@@ -72,28 +72,28 @@ enough_from ps qs f g = record { from = f; covers = λ p h. let (q, k, w) = g p 
 
 module _ (t : Table) where
   -- the pairs that fulfil the row without putting it off
-  pub own_cases : (f : Normal) (m : Pair) → Has (own_pairs t f) m → Has (pairs (place t) f) m × (Has m.targets (place t f) → ⊥)
-  own_cases f m h =
+  pub fulfilling_cases : (f : Normal) (m : Pair) → Has (fulfilling_pairs t f) m → Has (pairs (place t) f) m × (Has m.targets (place t f) → ⊥)
+  fulfilling_cases f m h =
       let c = filter_cases (λ x. not (has nat_cmp (place t f) x.targets)) (pairs (place t) f) m h in
       (c.0, λ k. not_cases _ c.1 ((has_Decides nat_linear (place t f) m.targets).1 k))
 
   -- and the other way round
-  pub Has-own : (f : Normal) (m : Pair) → Has (pairs (place t) f) m → (Has m.targets (place t f) → ⊥) → Has (own_pairs t f) m
-  Has-own f m h n =
+  pub Has-fulfilling : (f : Normal) (m : Pair) → Has (pairs (place t) f) m → (Has m.targets (place t f) → ⊥) → Has (fulfilling_pairs t f) m
+  Has-fulfilling f m h n =
       Has-filter (λ x. not (has nat_cmp (place t f) x.targets)) (pairs (place t) f) m h
       (not_from (has nat_cmp (place t f) m.targets) (λ e. n ((has_Decides nat_linear (place t f) m.targets).0 e)))
 
-  -- of pairs of the row that are enough the own ones are enough of its own ones
-  pub own_enough : (f : Normal) (qs : List Pair) → IsEnough (pairs (place t) f) qs → IsEnough (own_pairs t f) (filter (λ m. not (has nat_cmp (place t f) m.targets)) qs)
-  own_enough f qs e =
-      enough_from (own_pairs t f) (filter own qs) (λ q h. let c = filter_cases own qs q h in Has-filter own (pairs (place t) f) q (e.from q c.0) c.1)
+  -- of pairs of the row that are enough the fulfilling ones are enough of its fulfilling ones
+  pub fulfilling_enough : (f : Normal) (qs : List Pair) → IsEnough (pairs (place t) f) qs → IsEnough (fulfilling_pairs t f) (filter (λ m. not (has nat_cmp (place t f) m.targets)) qs)
+  fulfilling_enough f qs e =
+      enough_from (fulfilling_pairs t f) (filter fulfilling qs) (λ q h. let c = filter_cases fulfilling qs q h in Has-filter fulfilling (pairs (place t) f) q (e.from q c.0) c.1)
       (λ p h.
-      let c = own_cases f p h in
+      let c = fulfilling_cases f p h in
       let (q, k, w) = enough_below e p c.0 in
-      (q, Has-filter own qs q k (not_from (has nat_cmp (place t f) q.targets) (λ d. c.1 (w.targets (place t f) ((has_Decides nat_linear (place t f) q.targets).0 d)))), w))
+      (q, Has-filter fulfilling qs q k (not_from (has nat_cmp (place t f) q.targets) (λ d. c.1 (w.targets (place t f) ((has_Decides nat_linear (place t f) q.targets).0 d)))), w))
     where
-      own : Pair → Bool
-      own m = not (has nat_cmp (place t f) m.targets)
+      fulfilling : Pair → Bool
+      fulfilling m = not (has nat_cmp (place t f) m.targets)
 
   -- to fulfil the row is to have the pair within, without the row among its targets
   pub fulfils_cases : (f : Normal) (p q : Pair) → fulfils t f p q ≡ true → (Has q.targets (place t f) → ⊥) × Within q p
@@ -114,9 +114,9 @@ module _ (t : Table) where
       (not_from (has nat_cmp (place t f) q.targets) (λ e. n ((has_Decides nat_linear (place t f) q.targets).0 e))))
       ((is_subset_Decides nat_linear q.targets p.targets).1 w.targets)
 
-  -- the row isn't a target, or one of its own pairs is within p
+  -- the row isn't a target, or one of its fulfilling pairs is within p
   abbrev pub Marked : Pair → Normal → Type 0
-  Marked p f = (Has p.targets (place t f) → ⊥) ⊎ ((m : Pair) × Has (own_pairs t f) m × Within m p)
+  Marked p f = (Has p.targets (place t f) → ⊥) ⊎ ((m : Pair) × Has (fulfilling_pairs t f) m × Within m p)
 
   -- that is what the mark says
   pub marked_cases : (p : Pair) (f : Normal) → is_marked t p f ≡ true → Marked p f
@@ -125,7 +125,7 @@ module _ (t : Table) where
     | inr a ↦
         let (m, h, g) = any_cases (fulfils t f p) (pairs (place t) f) a in
         let c = fulfils_cases f p m g in
-        inr (m, Has-own f m h c.0, c.1)
+        inr (m, Has-fulfilling f m h c.0, c.1)
   ]
 
   -- the row isn't a target
@@ -137,11 +137,11 @@ module _ (t : Table) where
   marked_from p f (inl n) = or_left (not (has nat_cmp (place t f) p.targets)) (list_any (fulfils t f p) (pairs (place t) f)) (absent_from p f n)
   marked_from p f (inr w) =
       let (m, h, v) = w in
-      let c = own_cases f m h in
+      let c = fulfilling_cases f m h in
       or_right (not (has nat_cmp (place t f) p.targets)) (list_any (fulfils t f p) (pairs (place t) f)) (any_true (fulfils t f p) (pairs (place t) f) m c.0 (fulfils_from f p m c.1 v))
 
-  -- the mark by some of the own pairs that are enough
-  pub marked_by_enough : (f : Normal) (ms : List Pair) → IsEnough (own_pairs t f) ms → (p : Pair)
+  -- the mark by some of the fulfilling pairs that are enough
+  pub marked_by_enough : (f : Normal) (ms : List Pair) → IsEnough (fulfilling_pairs t f) ms → (p : Pair)
       → is_marked t p f ≡ (not (has nat_cmp (place t f) p.targets) || list_any (λ m. is_within m p) ms)
   marked_by_enough f ms enough p = same_truth (is_marked t p f) (not (has nat_cmp (place t f) p.targets) || list_any (λ m. is_within m p) ms) to back
     where

@@ -9,7 +9,7 @@ use Rattle.ltl_spec.specs.Transitions.RowTransitions.{Table, place, is_marked}
 use Rattle.ltl_spec.proofs.Collections.SetLaws.{has_Decides}
 use Rattle.ltl_spec.proofs.Collections.Orders.{nat_linear, literal_linear}
 use Rattle.ltl_spec.proofs.Transitions.JoinLaws.{Within, within_refl, within_trans, united, within_left, within_right, IsConsistent, join_pair_is, joined_from, united_least}
-use Rattle.ltl_spec.specs.Transitions.Pruning.{own_pairs, IsSafeToDrop}
+use Rattle.ltl_spec.specs.Transitions.Pruning.{fulfilling_pairs, IsSafeToDrop}
 use Rattle.ltl_spec.proofs.Transitions.LeastPairs.{is_within_Decides, marked_cases, marked_from, marked_alike}
 use Rattle.ltl_spec.proofs.Collections.CaseLaws.{false_is_true}
 use Rattle.ltl_spec.proofs.Collections.MemberLaws.{any_cases, any_true}
@@ -129,10 +129,10 @@ module _ (table : Table) where
         subst (λ p. IsSafeToDrop table p (united u v)) (sym i.0) (safe_trans (united t s) (united u s) (united u v) (safe_united t u s tu) (safe_united_right s v u sv)),
       )
 
-  -- by the own pairs of each until row that is put off: where one is within a completion of t, one is within that of u
+  -- by the fulfilling pairs of each until row that is put off: where one is within a completion of t, one is within that of u
   pub safe_by_pairs : (t u : Pair) → Within u t
       → ((x : Pair) → IsConsistent (united t x) → (f : Normal) → Has table.untils f → Has (united u x).targets (place table f)
-      → (m : Pair) → Has (own_pairs table f) m → Within m (united t x) → (n : Pair) × Has (own_pairs table f) n × Within n (united u x))
+      → (m : Pair) → Has (fulfilling_pairs table f) m → Within m (united t x) → (n : Pair) × Has (fulfilling_pairs table f) n × Within n (united u x))
       → IsSafeToDrop table t u
   safe_by_pairs t u w given = safe_from t u w keeps
     where

@@ -13,7 +13,7 @@ use Rattle.ltl_spec.specs.Transitions.RowTransitions.{Table}
 use Rattle.ltl_spec.proofs.Collections.SetLaws.{has_Decides, union_cases, union_left, union_right}
 use Rattle.ltl_spec.proofs.Collections.Orders.{nat_linear, literal_linear}
 use Rattle.ltl_spec.proofs.Transitions.JoinLaws.{Within, united, within_left, IsConsistent, united_least}
-use Rattle.ltl_spec.specs.Transitions.Pruning.{asks_beyond, own_pairs, IsSafeToDrop}
+use Rattle.ltl_spec.specs.Transitions.Pruning.{asks_beyond, fulfilling_pairs, IsSafeToDrop}
 use Rattle.ltl_spec.proofs.Transitions.UnimpliedLaws.{not_from, not_cases}
 use Rattle.ltl_spec.proofs.Transitions.SafeLaws.{consistent_within, safe_by_pairs}
 use Rattle.ltl_spec.proofs.Collections.CaseLaws.{left_true, right_true}
@@ -78,9 +78,9 @@ beyond_reached m u n t x a w = record {
 }
 
 module _ (table : Table) where
-  -- for each own pair of an until row that t doesn't contradict there is one that asks for no more beyond u
+  -- for each fulfilling pair of an until row that t doesn't contradict there is one that asks for no more beyond u
   pub safe_if_beyond : (t u : Pair) → Within u t
-      → ((f : Normal) → Has table.untils f → (m : Pair) → Has (own_pairs table f) m → IsConsistent (united t m) → (n : Pair) × Has (own_pairs table f) n × AsksBeyond n u m t) → IsSafeToDrop table t u
+      → ((f : Normal) → Has table.untils f → (m : Pair) → Has (fulfilling_pairs table f) m → IsConsistent (united t m) → (n : Pair) × Has (fulfilling_pairs table f) n × AsksBeyond n u m t) → IsSafeToDrop table t u
   safe_if_beyond t u w given = safe_by_pairs table t u w (λ x n f h later m k v.
       let reached = united_least t m (united t x) (within_left t x) v in
       let (q, i, a) = given f h m k (consistent_within (united t m) (united t x) reached n) in

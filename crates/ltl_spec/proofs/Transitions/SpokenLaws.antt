@@ -7,13 +7,13 @@ use Rattle.ltl_spec.specs.NormalForms.Normal.{Normal, Top, Bottom, Leaf, Next, A
 use Rattle.ltl_spec.specs.NormalForms.NormalForm.{until_rows}
 use Rattle.ltl_spec.specs.Transitions.Pairs.{RowSet, Pair, join, later_pair, conj, pairs}
 use Rattle.ltl_spec.specs.Transitions.RowTransitions.{table_of, place}
-use Rattle.ltl_spec.specs.Transitions.Pruning.{own_pairs}
+use Rattle.ltl_spec.specs.Transitions.Pruning.{fulfilling_pairs}
 use Rattle.ltl_spec.proofs.Collections.SetLaws.{append_cases, append_left, append_right, union_cases}
 use Rattle.ltl_spec.proofs.Collections.MemberLaws.{map_cases, flat_map_cases}
 use Rattle.ltl_spec.proofs.Collections.Orders.{nat_linear}
-use Rattle.ltl_spec.proofs.Transitions.ApartPairs.{Asks, Leads as LeadTo, asks_join, leads_join, asks_nothing, leads_nothing}
+use Rattle.ltl_spec.proofs.Transitions.IndependentPairs.{Asks, Leads as LeadTo, asks_join, leads_join, asks_nothing, leads_nothing}
 use Rattle.ltl_spec.proofs.Transitions.Fulfilment.{Test, Leads, Both, Either, literals_of, targets_of, set_test, pair_test, until_test}
-use Rattle.ltl_spec.proofs.Transitions.FulfilmentLaws.{until_row_parts, own_second}
+use Rattle.ltl_spec.proofs.Transitions.FulfilmentLaws.{until_row_parts, fulfilling_second}
 
 -- the test speaks of all that the pairs of the list ask for
 pub record Speaks (a : Test) (ps : List Pair) : Type 0 where
@@ -118,10 +118,10 @@ module _ (place : Normal → ℕ) where
       (speaks_append (pair_test place a) (Leads later) (pairs place a) (later_pair later ∷ []) (pairs_spoken a) (speaks_later later))
 
 -- all that the pairs ask for which fulfil an until row without putting it off
-pub own_spoken : (core f : Normal) → Has (until_rows core) f → Speaks (until_test (place (table_of core)) f) (own_pairs (table_of core) f)
-own_spoken core f h =
+pub fulfilling_spoken : (core f : Normal) → Has (until_rows core) f → Speaks (until_test (place (table_of core)) f) (fulfilling_pairs (table_of core) f)
+fulfilling_spoken core f h =
     let (a, b, e, w) = until_row_parts core f h in
-    subst (λ g. Speaks (until_test (place (table_of core)) g) (own_pairs (table_of core) g)) (sym e) (record {
-      literals = λ l (p, k, m). (pairs_spoken (place (table_of core)) b).literals l (p, own_second core a b p k, m);
-      rows = λ i (p, k, m). (pairs_spoken (place (table_of core)) b).rows i (p, own_second core a b p k, m);
+    subst (λ g. Speaks (until_test (place (table_of core)) g) (fulfilling_pairs (table_of core) g)) (sym e) (record {
+      literals = λ l (p, k, m). (pairs_spoken (place (table_of core)) b).literals l (p, fulfilling_second core a b p k, m);
+      rows = λ i (p, k, m). (pairs_spoken (place (table_of core)) b).rows i (p, fulfilling_second core a b p k, m);
     })

@@ -38,20 +38,20 @@ module _ (A : Automaton) (truth : ℕ → ℕ → Bool) (step : ℕ → ℕ) whe
   IsWalk s i (e ∷ es) t j = Has (state_at A s).edges e × IsTrue (allows (truth i) e.cube) × IsWalk e.target (step i) es t j
 
   -- a closed walk that isn't empty, passes an accepting state and has an edge of every set
-  pub record IsAcceptingTurn (s i : ℕ) (turn : List Edge) : Type 0 where
-    pub closes : IsWalk s i turn s i
-    pub moves : turn ≢ []
-    pub accepts : (e : Edge) × Has turn e × IsTrue (state_at A e.target).accepting
-    pub marks : (k : ℕ) → k < A.sets → (e : Edge) × Has turn e × Has e.marks k
+  pub record IsAcceptingCycle (s i : ℕ) (cycle : List Edge) : Type 0 where
+    pub closes : IsWalk s i cycle s i
+    pub moves : cycle ≢ []
+    pub accepts : (e : Edge) × Has cycle e × IsTrue (state_at A e.target).accepting
+    pub marks : (k : ℕ) → k < A.sets → (e : Edge) × Has cycle e × Has e.marks k
 
--- a walk from this state at position 0 leads to an accepting turn
+-- a walk from this state at position 0 leads to an accepting cycle
 pub record AcceptedFrom (start : ℕ) (A : Automaton) (truth : ℕ → ℕ → Bool) (step : ℕ → ℕ) : Type 0 where
   pub state : ℕ
   pub position : ℕ
-  pub way : List Edge
-  pub turn : List Edge
-  pub arrives : IsWalk A truth step start 0 way state position
-  pub turns : IsAcceptingTurn A truth step state position turn
+  pub stem : List Edge
+  pub cycle : List Edge
+  pub arrives : IsWalk A truth step start 0 stem state position
+  pub cycles : IsAcceptingCycle A truth step state position cycle
 
 -- the automaton, started in this state, accepts the word
 abbrev pub AcceptsFrom : ℕ → List Name → Automaton → Lasso → Type 0

@@ -4,7 +4,7 @@ use Rattle.ltl_spec.specs.Collections.Sets.{Has, set_of}
 use Rattle.ltl_spec.specs.Transitions.Cubes.{Cube}
 use Rattle.ltl_spec.specs.Semantics.Word.{Name, name_cmp, Letter, Lasso}
 use Rattle.ltl_spec.specs.Automata.Automaton.{Automaton, Edge, state_at}
-use Rattle.ltl_spec.specs.Construction.Levels.{next_level, Copy}
+use Rattle.ltl_spec.specs.Construction.Levels.{next_level, LevelState}
 
 module _ (P : Automaton) where
   -- the edges lead from one state to the other, whatever the word
@@ -13,25 +13,25 @@ module _ (P : Automaton) where
   IsPath s (e ∷ es) t = Has (state_at P s).edges e × IsPath e.target es t
 
   -- a closed path that isn't empty and has an edge of every set
-  pub record IsFullTurn (s : ℕ) (turn : List Edge) : Type 0 where
-    pub closes : IsPath s turn s
-    pub moves : turn ≢ []
-    pub marks : (k : ℕ) → k < P.sets → (e : Edge) × Has turn e × Has e.marks k
+  pub record IsFullCycle (s : ℕ) (cycle : List Edge) : Type 0 where
+    pub closes : IsPath s cycle s
+    pub moves : cycle ≢ []
+    pub marks : (k : ℕ) → k < P.sets → (e : Edge) × Has cycle e × Has e.marks k
 
-  -- a path from the start leads to such a turn
+  -- a path from the start leads to such a cycle
   pub record HasAcceptingWalk (start : ℕ) : Type 0 where
     pub state : ℕ
-    pub way : List Edge
-    pub turn : List Edge
-    pub arrives : IsPath start way state
-    pub turns : IsFullTurn state turn
+    pub stem : List Edge
+    pub cycle : List Edge
+    pub arrives : IsPath start stem state
+    pub cycles : IsFullCycle state cycle
 
   -- the copy to which an edge leads
-  abbrev pub copy_after : Copy → Edge → Copy
+  abbrev pub copy_after : LevelState → Edge → LevelState
   copy_after p e = record { state = e.target; level = next_level P.sets e.marks p.level }
 
   -- the edges lead from one copy to the other
-  abbrev pub IsLevelPath : Copy → List Edge → Copy → Type 0
+  abbrev pub IsLevelPath : LevelState → List Edge → LevelState → Type 0
   IsLevelPath p [] q = p ≡ q
   IsLevelPath p (e ∷ es) q = Has (state_at P p.state).edges e × IsLevelPath (copy_after p e) es q
 
@@ -39,6 +39,6 @@ module _ (P : Automaton) where
 abbrev pub letter_of : List Name → Cube → Letter
 letter_of names c = set_of name_cmp (map (λ l. slice_index_or names l.proposition []) (filter (λ l. l.positive) c))
 
--- the letters along a way and a turn
+-- the letters along a stem and a cycle
 abbrev pub lasso_along : List Name → List Edge → List Edge → Lasso
-lasso_along names way turn = record { stem = map (λ e. letter_of names e.cube) way; cycle = map (λ e. letter_of names e.cube) turn }
+lasso_along names stem cycle = record { stem = map (λ e. letter_of names e.cube) stem; cycle = map (λ e. letter_of names e.cube) cycle }

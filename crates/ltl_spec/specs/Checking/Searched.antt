@@ -18,10 +18,10 @@ module _ (A : MarkedAutomaton) (names : List Name) where
   abbrev pub searched_start : Automaton → ℕ
   searched_start B = common_start A.names names (graph_of A) B A.start
 
-  -- there is a way and a turn to print
+  -- there is a stem and a cycle to print
   abbrev pub HasCommonWalk : Automaton → Type 0
   HasCommonWalk B = HasAcceptingWalk (searched_graph B) (searched_start B)
 
-  -- the word along a way and a turn, in least form
+  -- the word along a stem and a cycle, in least form
   abbrev pub printed_word : List Edge → List Edge → Lasso
-  printed_word way turn = least_form (lasso_along (unified A.names names) way turn)
+  printed_word stem cycle = least_form (lasso_along (unified A.names names) stem cycle)

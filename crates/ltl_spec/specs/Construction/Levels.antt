@@ -18,54 +18,54 @@ abbrev pub next_level : ℕ → List ℕ → ℕ → ℕ
 next_level sets marks level = let from = if level == sets then 0 else level in climb (sets - from) marks from
 
 -- a state on a level
-pub record Copy : Type 0 where
+pub record LevelState : Type 0 where
   pub state : ℕ
   pub level : ℕ
 
 -- where the copies begin
-abbrev pub start_copy : Copy
+abbrev pub start_copy : LevelState
 start_copy = record { state = 0; level = 0 }
 
-abbrev pub same_copy : Copy → Copy → Bool
-same_copy p q = p.state == q.state && p.level == q.level
+abbrev pub same_level_state : LevelState → LevelState → Bool
+same_level_state p q = p.state == q.state && p.level == q.level
 
 -- an edge to a copy
-pub record CopyEdge : Type 0 where
+pub record LevelEdge : Type 0 where
   pub cube : Cube
-  pub copy : Copy
+  pub copy : LevelState
 
 -- by the literals, then by the state, then by the level
-abbrev pub copy_edge_cmp : CopyEdge → CopyEdge → Ordering
-copy_edge_cmp = then_cmp (on (λ e. e.cube) cube_cmp) (then_cmp (on (λ e. e.copy.state) nat_cmp) (on (λ e. e.copy.level) nat_cmp))
+abbrev pub level_edge_cmp : LevelEdge → LevelEdge → Ordering
+level_edge_cmp = then_cmp (on (λ e. e.cube) cube_cmp) (then_cmp (on (λ e. e.copy.state) nat_cmp) (on (λ e. e.copy.level) nat_cmp))
 
 module _ (A : Automaton) where
   -- the edge of a copy on this level
-  abbrev pub copy_edge : ℕ → Edge → CopyEdge
-  copy_edge level e = record { cube = e.cube; copy = record { state = e.target; level = next_level A.sets e.marks level } }
+  abbrev pub level_edge : ℕ → Edge → LevelEdge
+  level_edge level e = record { cube = e.cube; copy = record { state = e.target; level = next_level A.sets e.marks level } }
 
   -- the edges of a copy, as a set
-  abbrev pub copy_edges : Copy → List CopyEdge
-  copy_edges p = set_of copy_edge_cmp (map (copy_edge p.level) (state_at A p.state).edges)
+  abbrev pub level_edges : LevelState → List LevelEdge
+  level_edges p = set_of level_edge_cmp (map (level_edge p.level) (state_at A p.state).edges)
 
-  abbrev pub copy_targets : Copy → List Copy
-  copy_targets p = map (λ e. e.copy) (copy_edges p)
+  abbrev pub level_targets : LevelState → List LevelState
+  level_targets p = map (λ e. e.copy) (level_edges p)
 
   -- the copies that are reached
-  abbrev pub copies : List Copy
-  copies = listing same_copy copy_targets start_copy (length A.states * (A.sets + 1))
+  abbrev pub copies : List LevelState
+  copies = listing same_level_state level_targets start_copy (length A.states * (A.sets + 1))
 
   -- the edge to the place of a copy in this list
-  abbrev pub edge_to_copy : List Copy → CopyEdge → Edge
-  edge_to_copy list e = record { cube = e.cube; target = place_of same_copy e.copy list; marks = [] }
+  abbrev pub edge_to_level_state : List LevelState → LevelEdge → Edge
+  edge_to_level_state list e = record { cube = e.cube; target = place_of same_level_state e.copy list; marks = [] }
 
   -- the state of a copy, where the copies stand in this list; its edges are a set
-  abbrev pub copy_state : List Copy → Copy → State
-  copy_state list p = record { accepting = p.level == A.sets; edges = set_of edge_cmp (map (edge_to_copy list) (copy_edges p)) }
+  abbrev pub copy_state : List LevelState → LevelState → State
+  copy_state list p = record { accepting = p.level == A.sets; edges = set_of edge_cmp (map (edge_to_level_state list) (level_edges p)) }
 
   -- the Büchi automaton of the copies; those on the last level are accepting
   abbrev pub level_automaton : Automaton
   level_automaton = let list = copies in record { sets = 0; states = map (copy_state list) list }
 
   -- it has too many states or edges
-  abbrev pub HasTooManyCopies : ℕ → ℕ → Type 0
-  HasTooManyCopies = PassesLimits same_copy copy_targets start_copy
+  abbrev pub HasTooManyLevelStates : ℕ → ℕ → Type 0
+  HasTooManyLevelStates = PassesLimits same_level_state level_targets start_copy

@@ -4,7 +4,7 @@ use Rattle.ltl_spec.specs.NormalForms.Normal.{Normal}
 use Rattle.ltl_spec.specs.Automata.Automaton.{Automaton}
 use Rattle.ltl_spec.specs.Automata.Generalized.{IsGeneralized, IsTooLarge}
 use Rattle.ltl_spec.specs.Construction.Merging.{merged_automaton}
-use Rattle.ltl_spec.specs.Construction.Levels.{level_automaton, HasTooManyCopies}
+use Rattle.ltl_spec.specs.Construction.Levels.{level_automaton, HasTooManyLevelStates}
 use Rattle.ltl_spec.specs.Construction.Renumbered.{renumbered_automaton}
 
 -- implied transitions stay; equal states stay
@@ -24,4 +24,4 @@ IsTranslation F o B = (A : Automaton) × IsGeneralized F o.keep_implied A × (B 
 abbrev pub IsTranslationTooLarge : Normal → Options → ℕ → ℕ → Type 0
 IsTranslationTooLarge F o most_states most_edges =
     IsTooLarge F o.keep_implied most_states most_edges
-    ⊎ ((A : Automaton) × IsGeneralized F o.keep_implied A × HasTooManyCopies (merged_automaton o.keep_implied o.keep_equal A) most_states most_edges)
+    ⊎ ((A : Automaton) × IsGeneralized F o.keep_implied A × HasTooManyLevelStates (merged_automaton o.keep_implied o.keep_equal A) most_states most_edges)

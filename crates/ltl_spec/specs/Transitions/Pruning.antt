@@ -29,8 +29,8 @@ module _ (table : Table) where
   unimplied_of ps = unimplied_transitions (map (with_marks table) (set_of pair_cmp ps))
 
   -- the pairs that fulfil an until row without putting it off
-  abbrev pub own_pairs : Normal → List Pair
-  own_pairs f = filter (λ m. not (has nat_cmp (place table f) m.targets)) (pairs (place table) f)
+  abbrev pub fulfilling_pairs : Normal → List Pair
+  fulfilling_pairs f = filter (λ m. not (has nat_cmp (place table f) m.targets)) (pairs (place table) f)
 
   -- u asks for no more than t, and whatever is joined to both: each until row that it is marked for with t, it is marked for with u
   pub record IsSafeToDrop (t u : Pair) : Type 0 where

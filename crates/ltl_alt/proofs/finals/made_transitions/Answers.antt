@@ -1,10 +1,10 @@
 use Rattle.std.proofs.Common.{◌≡◌, List, ◌∷◌, [], sym, subst, refl}
 use Rattle.std.specs.Prelude.{IfOk}
 use Rattle.ltl_spec.specs.Transitions.Pairs.{Pair, empty_pair}
-use Rattle.ltl_alt.specs.PartView.{part_of}
+use Rattle.ltl_alt.specs.ConjunctTableView.{conjunct_of}
 use Rattle.ltl_alt.specs.StandIns.{IsListed, StandsFor, rule_of}
 use Rattle.ltl_alt.specs.TransitionView.{table_at}
-use Rattle.ltl_alt.proofs.GroupLaws.{joined_on, joined_sound}
+use Rattle.ltl_alt.proofs.ComponentLaws.{joined_on, joined_sound}
 use Rattle.ltl_alt.proofs.ImpliedLaws.{listed_sets}
 use Rattle.ltl_alt.proofs.JoinLaws.{kept_transitions_of}
 use Rattle.ltl_alt.proofs.finals.made_transitions.Goals as goal
@@ -13,16 +13,16 @@ pub pair_transitions-requires-clause-sets : goal.pair_transitions-requires-claus
 pair_transitions-requires-clause-sets g c =
     let b = c.args.basis.now in
     let T = table_at b.table.now in
-    let part = part_of b.parts.lists.items in
-    let all = joined_on part (empty_pair ∷ []) c.args.group.now in
+    let conjunct = conjunct_of b.conjuncts.lists.items in
+    let all = joined_on conjunct (empty_pair ∷ []) c.args.component.now in
     let listed : IsListed (StandsFor T b.pruning.rule) all c.as_slice.result.now = subst (IsListed (StandsFor T b.pruning.rule) all) (sym c.as_slice.ensures.value) c.in_ok-pairs.ensures in
-    listed_sets T b.pruning.rule all c.as_slice.result.now _ (joined_sound part c.requires.basis.parts.linked.sound c.args.group.now) listed refl
+    listed_sets T b.pruning.rule all c.as_slice.result.now _ (joined_sound conjunct c.requires.basis.conjuncts.linked.sound c.args.component.now) listed refl
 
 pub pair_transitions-requires-clause-rising : goal.pair_transitions-requires-clause-rising
 pair_transitions-requires-clause-rising g c =
     let b = c.args.basis.now in
     let T = table_at b.table.now in
-    let all = joined_on (part_of b.parts.lists.items) (empty_pair ∷ []) c.args.group.now in
+    let all = joined_on (conjunct_of b.conjuncts.lists.items) (empty_pair ∷ []) c.args.component.now in
     let listed : IsListed (StandsFor T b.pruning.rule) all c.as_slice.result.now = subst (IsListed (StandsFor T b.pruning.rule) all) (sym c.as_slice.ensures.value) c.in_ok-pairs.ensures in
     listed.rising
 
@@ -30,9 +30,9 @@ pub returns : goal.returns
 returns g c =
     let b = c.args.basis.now in
     let T = table_at b.table.now in
-    let part = part_of b.parts.lists.items in
-    let all = joined_on part (empty_pair ∷ []) c.args.group.now in
+    let conjunct = conjunct_of b.conjuncts.lists.items in
+    let all = joined_on conjunct (empty_pair ∷ []) c.args.component.now in
     let ps : List Pair = c.as_slice.result.now in
     let listed : IsListed (StandsFor T (rule_of b.keep_implied)) all ps =
     subst (λ r. IsListed (StandsFor T r) all ps) c.requires.basis.rule (subst (IsListed (StandsFor T b.pruning.rule) all) (sym c.as_slice.ensures.value) c.in_ok-pairs.ensures) in
-    subst (λ ts. IfOk c.pair_transitions.result (λ l. l ≡ ts)) (kept_transitions_of T part c.requires.basis.parts.linked.sound b.keep_implied c.args.group.now ps listed) c.pair_transitions.ensures
+    subst (λ ts. IfOk c.pair_transitions.result (λ l. l ≡ ts)) (kept_transitions_of T conjunct c.requires.basis.conjuncts.linked.sound b.keep_implied c.args.component.now ps listed) c.pair_transitions.ensures

@@ -2,7 +2,7 @@ use Rattle.std.proofs.Common.{◌<◌, ◌∙◌, [], ap, arith, length, subst, 
 use Rattle.std.specs.Prelude.{slice_index_or}
 use Rattle.std.proofs.lemmas.List.{take_all}
 use Rattle.std.proofs.lemmas.Option.{slice_get-get_or}
-use Rattle.ltl_spec.proofs.Transitions.AskedTests.{AllTell, none_tell, step_leaves}
+use Rattle.ltl_spec.proofs.Transitions.SupportTests.{AllTell, none_tell, step_leaves}
 use Rattle.ltl_alt.specs.Tests.{AreLeaves, step_of}
 use Rattle.ltl_alt.specs.declared.program.Step.{Step}
 use Rattle.ltl_alt.specs.declared.program.Step.TheVariants as step

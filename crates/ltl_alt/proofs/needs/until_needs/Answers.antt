@@ -1,6 +1,6 @@
 use Rattle.std.proofs.Common.{◌+◌, ◌∙◌, ap, sym, subst, arith, length, List}
 use Rattle.std.proofs.lemmas.Option.{slice_get_within}
-use Rattle.ltl_formula.specs.GraphView.{IsBelow}
+use Rattle.ltl_formula.specs.SharedNodesView.{IsBelow}
 use Rattle.ltl_alt.specs.declared.needs.Need.{Need}
 use Rattle.ltl_alt.proofs.NeedsLaws.{AreSecondsBelow, below_more, second_length, second_step, second_still}
 use Rattle.ltl_alt.proofs.needs.until_needs.Goals as goal

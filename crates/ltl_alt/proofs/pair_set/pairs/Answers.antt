@@ -3,12 +3,12 @@ use Rattle.ltl_spec.specs.Transitions.Pairs.{pairs}
 use Rattle.ltl_formula.specs.TableView.{row_tree}
 use Rattle.ltl_alt.specs.RowLists.{row_place, list_at}
 use Rattle.ltl_alt.specs.TransitionView.{table_at}
-use Rattle.ltl_alt.specs.declared.rule.Rule.TheVariants.{Equal}
+use Rattle.ltl_alt.specs.declared.rule.Rule.TheVariants.{Duplicate}
 use Rattle.ltl_alt.proofs.StandInLaws.{listed_equal}
 use Rattle.ltl_alt.proofs.pair_set.pairs.Goals as goal
 
 pub prepare-requires-clause-lists : goal.prepare-requires-clause-lists
-prepare-requires-clause-lists g c = c.in_ok-lists.ensures Equal
+prepare-requires-clause-lists g c = c.in_ok-lists.ensures Duplicate
 
 pub returns : goal.returns
 returns g c =

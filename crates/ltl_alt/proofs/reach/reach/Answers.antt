@@ -11,10 +11,10 @@ use Rattle.ltl_automaton.specs.Net.{IsReachable, targets_of}
 use Rattle.ltl_automaton.specs.SharedView.{automaton_of}
 use Rattle.ltl_automaton.specs.declared.fault.AutomatonFault.{AutomatonFault}
 use Rattle.ltl_automaton.specs.declared.fault.AutomatonFault.TheVariants.{TooLarge}
-use Rattle.ltl_alt.specs.declared.groups.Groups.{Groups}
+use Rattle.ltl_alt.specs.declared.components.Components.{Components}
 use Rattle.ltl_alt.specs.declared.rule.Rule.{Rule}
 use Rattle.ltl_alt.specs.ReachView.{net_of}
-use Rattle.ltl_alt.specs.GroupView.{AreGroups}
+use Rattle.ltl_alt.specs.ComponentView.{AreComponents}
 use Rattle.ltl_alt.specs.RowLists.{row_place}
 use Rattle.ltl_alt.specs.TransitionView.{table_at}
 use Rattle.ltl_alt.proofs.ElementaryLaws.{root_stands}
@@ -25,8 +25,8 @@ use Rattle.ltl_alt.proofs.reach.reach.Goals as goal
 passed_on : {T : Type 0} (r : Result T AutomatonFault) (P : AutomatonFault → Type 0) → IsErrAnd r P → IsErrOf r TooLarge → P TooLarge
 passed_on r P a e = subst (λ q. IsErrAnd q P) e a
 
-groups_in : {A : Type 0} (T : Table) (r : Rule) (parts : List (List Pair)) (x y : Groups A) → x ≡ y → AreGroups T r parts y.memo.lists.keys y.memo.joins.entries y.nothing y.starts.items → AreGroups T r parts x.memo.lists.keys x.memo.joins.entries x.nothing x.starts.items
-groups_in {A} T r parts x y e w = subst (λ (z : Groups A). AreGroups T r parts z.memo.lists.keys z.memo.joins.entries z.nothing z.starts.items) (sym e) w
+components_in : {A : Type 0} (T : Table) (r : Rule) (conjuncts : List (List Pair)) (x y : Components A) → x ≡ y → AreComponents T r conjuncts y.memo.lists.keys y.memo.joins.entries y.nothing y.starts.items → AreComponents T r conjuncts x.memo.lists.keys x.memo.joins.entries x.nothing x.starts.items
+components_in {A} T r conjuncts x y e w = subst (λ (z : Components A). AreComponents T r conjuncts z.memo.lists.keys z.memo.joins.entries z.nothing z.starts.items) (sym e) w
 
 pub single-root-requires : goal.single-root-requires
 single-root-requires g c = c.place.ensures.small (root_stands c.args.table.now c.root.result c.invariant.ensures c.root.ensures.last)
@@ -34,19 +34,19 @@ single-root-requires g c = c.place.ensures.small (root_stands c.args.table.now c
 pub explore_from-requires-clause-ready : goal.explore_from-requires-clause-ready
 explore_from-requires-clause-ready g c =
     let T = table_at c.args.table.now in
-    let parts = c.in_ok-parts.parts.lists.items in (
+    let conjuncts = c.in_ok-conjuncts.conjuncts.lists.items in (
       record {
         table = c.invariant.ensures;
         rule = c.of-2.ensures;
         tests = c.in_ok-fulfilment.ensures;
-        parts = c.in_ok-parts.ensures.parts.0;
-        all = c.in_ok-parts.ensures.parts.1;
+        conjuncts = c.in_ok-conjuncts.ensures.conjuncts.0;
+        all = c.in_ok-conjuncts.ensures.conjuncts.1;
       },
       (
-        groups_in T c.of-2.result parts c.new-2.result.groups c.in_ok-groups.groups c.new-2.ensures.groups (c.in_ok-groups.ensures T c.of-2.result),
+        components_in T c.of-2.result conjuncts c.new-2.result.components c.in_ok-components.components c.new-2.ensures.components (c.in_ok-components.ensures T c.of-2.result),
         record {
           of_lists = λ k n h. absurd (subst (λ es. Has es (k, n)) c.new-2.ensures.lists h);
-          of_groups = λ k o h. absurd (subst (λ es. Has es (k, o)) c.new-2.ensures.met h);
+          of_components = λ k o h. absurd (subst (λ es. Has es (k, o)) c.new-2.ensures.met h);
         },
       ),
       λ key state h. absurd (subst (λ es. Has es (key, state)) c.new-3.ensures h),

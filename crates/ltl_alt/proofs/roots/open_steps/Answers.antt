@@ -16,7 +16,7 @@ untils-preserved g c =
     let u = c.until-step.result in
     elim c.if-shares_some.branch [
       | then-shares_some+in_ok-push w ↦ open_in us ls ps n u c.untils.roots.items c.if-shares_some.roots.items u.step c.until-step.ensures refl (ap (λ v. v.items) w.roots-is ∙ w.in_ok-push.ensures.items) c.untils.invariant
-      | else-shares_some w ↦ open_out us ls ps n u c.untils.roots.items c.if-shares_some.roots.items u.step c.leaves.result c.of-asked.result c.until-step.ensures refl c.leaves.ensures c.of-asked.ensures
+      | else-shares_some w ↦ open_out us ls ps n u c.untils.roots.items c.if-shares_some.roots.items u.step c.leaves.result c.of-support.result c.until-step.ensures refl c.leaves.ensures c.of-support.ensures
           (sym c.shares_some.ensures ∙ w.if-shares_some.false) (ap (λ v. v.items) w.roots-is) c.untils.invariant
     ]
 

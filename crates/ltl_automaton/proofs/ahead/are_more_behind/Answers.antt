@@ -7,7 +7,7 @@ pub returns-then-more-most-clause-more : goal.returns-then-more-most-clause-more
 returns-then-more-most-clause-more g c = λ _.
     let N = g.S.Successors.net c.args.net.now in
     let step = behind_next N c.args.listing.now.keys c.things.place c.key.result.now c.key.ensures in
-    let least = subst (λ (n : Net g.row.K.Denot). c.in_ok-more.more ≤ length (n.arcs c.key.result.now)) c.things.invariant.net c.in_ok-more.ensures.least in
+    let least = subst (λ (n : Net g.row.K.Denot). c.in_ok-more.more ≤ length (n.successors c.key.result.now)) c.things.invariant.net c.in_ok-more.ensures.least in
     let old = c.things.invariant.behind in
     let few = c.things.invariant.few in
     omega (arith, step, least, old, few, c.if-more-most.true)
@@ -16,7 +16,7 @@ pub things-preserved : goal.things-preserved
 things-preserved g c =
     let N = g.S.Successors.net c.args.net.now in
     let step = behind_next N c.args.listing.now.keys c.things.place c.key.result.now c.key.ensures in
-    let least = subst (λ (n : Net g.row.K.Denot). c.in_ok-more.more ≤ length (n.arcs c.key.result.now)) c.things.invariant.net c.in_ok-more.ensures.least in
+    let least = subst (λ (n : Net g.row.K.Denot). c.in_ok-more.more ≤ length (n.successors c.key.result.now)) c.things.invariant.net c.in_ok-more.ensures.least in
     let old = c.things.invariant.behind in
     let few = c.things.invariant.few in
     record {

@@ -7,7 +7,7 @@ invariant-things g l = record {
   net : g.S.Successors.net l.net ≡ g.S.Successors.net l.fn.net;
   ready : g.S.Successors.ready l.net;
   few : l.sum ≤ l.most;
-  behind : l.sum + edges_behind (g.S.Successors.net l.fn.net) l.fn.listing.keys l.place ≤ l.fn.count + edges_behind (g.S.Successors.net l.fn.net) l.fn.listing.keys l.fn.listing.taken;
+  behind : l.sum + edges_behind (g.S.Successors.net l.fn.net) l.fn.listing.keys l.place ≤ l.fn.count + edges_behind (g.S.Successors.net l.fn.net) l.fn.listing.keys l.fn.listing.explored;
 }
 
 abbrev pub decreases-things : goal.decreases-things

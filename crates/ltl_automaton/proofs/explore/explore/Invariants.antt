@@ -14,4 +14,4 @@ invariant-things g l = record {
 }
 
 abbrev pub decreases-things : goal.decreases-things
-decreases-things g l = l.limits.states - l.listing.taken
+decreases-things g l = l.limits.states - l.listing.explored

@@ -5,9 +5,9 @@ use Rattle.ltl_automaton.specs.EdgeView.{edge_of}
 use Rattle.ltl_automaton.specs.Net.{edge_in, key_of}
 use Rattle.ltl_automaton.proofs.explore.numbered.Given as goal
 
-abbrev pub invariant-loop-arc : goal.invariant-loop-arc
-invariant-loop-arc g l = record {
-  keys : l.listing.keys ≡ fold (with_new g.K.PartialEq.eq) l.fn.listing.keys (map key_of (take l.arc-index l.arcs));
-  taken : l.listing.taken ≡ l.fn.listing.taken;
-  edges : map edge_of l.edges.items ≡ map (edge_in g.K.PartialEq.eq l.listing.keys) (take l.arc-index l.arcs);
+abbrev pub invariant-loop-successor : goal.invariant-loop-successor
+invariant-loop-successor g l = record {
+  keys : l.listing.keys ≡ fold (with_new g.K.PartialEq.eq) l.fn.listing.keys (map key_of (take l.successor-index l.successors));
+  explored : l.listing.explored ≡ l.fn.listing.explored;
+  edges : map edge_of l.edges.items ≡ map (edge_in g.K.PartialEq.eq l.listing.keys) (take l.successor-index l.successors);
 }

@@ -24,13 +24,13 @@ pub word-requires-clause-within : goal.word-requires-clause-within
 word-requires-clause-within g c =
     let w = rw c.in-Some.is at c.in_ok-walk.ensures.found in
     letters_within c.args.product.now.first.now c.args.formula.now.names c.args.product.now.second.now c.args.product.now.numbers.now c.invariant.ensures c.invariant-2.ensures c.requires.named c.requires.numbers
-    c.in-Some.walk.way.items c.in-Some.walk.turn.items w (length c.args.names.now) (sym (map_length _ c.args.names.now) ∙ ap length c.requires.names.all)
+    c.in-Some.walk.stem.items c.in-Some.walk.cycle.items w (length c.args.names.now) (sym (map_length _ c.args.names.now) ∙ ap length c.requires.names.all)
 
 pub returns-in_ok-word-in-Some-clause-verdict : goal.returns-in_ok-word-in-Some-clause-verdict
 returns-in_ok-word-in-Some-clause-verdict g c =
     let w = rw c.in-Some.is at c.in_ok-walk.ensures.found in
     walk_verdict c.args.product.now.first.now c.args.formula.now.names c.args.product.now.second.now c.args.product.now.numbers.now c.invariant.ensures c.invariant-2.ensures c.requires.named c.requires.numbers
-    c.in-Some.walk.way.items c.in-Some.walk.turn.items w _ c.requires.names.all c.in_ok-word-in-Some.field-0 c.in_ok-word-in-Some.ensures
+    c.in-Some.walk.stem.items c.in-Some.walk.cycle.items w _ c.requires.names.all c.in_ok-word-in-Some.field-0 c.in_ok-word-in-Some.ensures
 
 pub returns-in-None-clause-verdict : goal.returns-in-None-clause-verdict
 returns-in-None-clause-verdict g c =

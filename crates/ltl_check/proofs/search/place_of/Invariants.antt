@@ -4,9 +4,9 @@ use Rattle.ltl_check.proofs.search.place_of.Given as goal
 
 abbrev pub invariant-places : goal.invariant-places
 invariant-places l = record {
-  within : l.i ≤ length l.way;
-  absent : OneOf (λ t. t.state ≡ l.n) (take l.i l.way) → ⊥;
+  within : l.i ≤ length l.stem;
+  absent : OneOf (λ t. t.state ≡ l.n) (take l.i l.stem) → ⊥;
 }
 
 abbrev pub decreases-places : goal.decreases-places
-decreases-places l = length l.way - l.i
+decreases-places l = length l.stem - l.i

@@ -45,8 +45,8 @@ returns-then-not-step_back-clause-least g c _ =
     let q = l.2 in
     let m = c.leave.ensures.paid e in
     let r = m.2 in
-    let d : IsDone (g.N.Numbered.net c.args.net.now) c.entering.search.front = (let d = c.if-search-pairs_at.false in let p = c.pairs_at.ensures in omega arith) in
-    let z = no_rest (g.N.Numbered.net c.args.net.now) _ c.entering.search.front.here c.entering.search.front.next (subst (λ f. f.way.items ≡ []) h.0 empty) d in (
+    let d : IsDone (g.N.Numbered.net c.args.net.now) c.entering.search.dfs_path = (let d = c.if-search-pairs_at.false in let p = c.pairs_at.ensures in omega arith) in
+    let z = no_rest (g.N.Numbered.net c.args.net.now) _ c.entering.search.dfs_path.here c.entering.search.dfs_path.next (subst (λ f. f.stem.items ≡ []) h.0 empty) d in (
       l.0 + m.0,
       grown_then _ _ _ _ _ l.1 m.1,
       λ p reached.
@@ -61,7 +61,7 @@ step_back-requires g c = (c.leave.ensures.left (let w = c.in_ok-walk.was in let 
 pub entering-smaller : goal.entering-smaller
 entering-smaller g c =
     let h = c.leave.ensures.left (let w = c.in_ok-walk.was in let i = c.in-None.is in cc) in
-    let d : IsDone (g.N.Numbered.net c.args.net.now) c.entering.search.front = (let d = c.if-search-pairs_at.false in let p = c.pairs_at.ensures in omega arith) in
+    let d : IsDone (g.N.Numbered.net c.args.net.now) c.entering.search.dfs_path = (let d = c.if-search-pairs_at.false in let p = c.pairs_at.ensures in omega arith) in
     left_falls (g.N.Numbered.net c.args.net.now) c.entering.search c.leave.new.self c.step_back.new.self h d (c.step_back.ensures.back c.if-not-step_back.false)
 
 pub entering-preserved : goal.entering-preserved
@@ -73,7 +73,7 @@ entering-preserved g c =
     let q = l.2 in
     let m = c.leave.ensures.paid e in
     let s = m.2 in
-    let d : IsDone (g.N.Numbered.net c.args.net.now) c.entering.search.front = (let d = c.if-search-pairs_at.false in let p = c.pairs_at.ensures in omega arith) in
+    let d : IsDone (g.N.Numbered.net c.args.net.now) c.entering.search.dfs_path = (let d = c.if-search-pairs_at.false in let p = c.pairs_at.ensures in omega arith) in
     let r = left_rest (g.N.Numbered.net c.args.net.now) c.entering.search c.leave.new.self c.step_back.new.self h d b in
     record {
       searching = left_back (g.N.Numbered.net c.args.net.now) c.entering.search c.leave.new.self c.step_back.new.self h b;

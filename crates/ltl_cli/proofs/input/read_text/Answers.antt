@@ -6,7 +6,7 @@ use Rattle.ltl_cli.proofs.input.read_text.Goals as goal
 pub returns-in-Ok-eq0-clause-text : goal.returns-in-Ok-eq0-clause-text
 returns-in-Ok-eq0-clause-text g c =
     read_to_end most_taken (g.R.ByteSource.state c.args.reader.now) _ c.pieces.text.items c.pieces.invariant.taken _ _ _ c.in-Ok-eq0.ensures c.in-Ok-eq0.field-0-test
-    (omega (arith, length-take c.min-room.result c.pieces.piece)) (omega arith)
+    (omega (arith, length-take c.min-room.result c.pieces.chunk)) (omega arith)
 
 pub returns-in-Err-extend_from_slice-clause-ways : goal.returns-in-Err-extend_from_slice-clause-ways
 returns-in-Err-extend_from_slice-clause-ways g c =
@@ -14,7 +14,7 @@ returns-in-Err-extend_from_slice-clause-ways g c =
     inr (
       refl,
       went_on most_taken (g.R.ByteSource.state c.args.reader.now) _ c.pieces.text.items c.pieces.invariant.taken _ _ _ read
-          (omega (arith, read.bound, c.read.auto.room, length-take c.min-room.result c.pieces.piece)),
+          (omega (arith, read.bound, c.read.auto.room, length-take c.min-room.result c.pieces.chunk)),
     )
 
 pub returns-clause-text : goal.returns-clause-text

@@ -14,7 +14,7 @@ abbrev pub invariant-arrows : goal.invariant-arrows
 invariant-arrows g l = record {
   within : All (λ p. p < length l.edges) l.rest;
   rising : IsRising (place_cmp (target_at (map edge_of l.edges))) l.rest;
-  text : Leaves (g.S.ByteSink.state l.fn.sink) l.fn.piece (g.S.ByteSink.state l.sink) l.piece
+  text : Leaves (g.S.ByteSink.state l.fn.sink) l.fn.buffer (g.S.ByteSink.state l.sink) l.buffer
       (entries (target_at (map edge_of l.edges)) (placed_text (map string_bytes l.names) l.shown l.k (map edge_of l.edges)) l.rest)
       (flat_map (arrow_text (map string_bytes l.names) l.shown) (arrows l.k (map edge_of l.edges)));
 }

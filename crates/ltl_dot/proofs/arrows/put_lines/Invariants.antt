@@ -10,6 +10,6 @@ use Rattle.ltl_dot.proofs.arrows.put_lines.Given as goal
 abbrev pub invariant-loop-place : goal.invariant-loop-place
 invariant-loop-place g l = record {
   within : All (λ p. p < length l.edges) l.others;
-  text : Leaves (g.S.ByteSink.state l.fn.sink) l.fn.piece (g.S.ByteSink.state l.sink) l.piece
+  text : Leaves (g.S.ByteSink.state l.fn.sink) l.fn.buffer (g.S.ByteSink.state l.sink) l.buffer
       (led (codes "\\n") (lines_of (map string_bytes l.names) l.shown (map edge_of l.edges) (drop l.place-index l.others))) (lines_text (map string_bytes l.names) l.shown (map edge_of l.edges) l.places);
 }

@@ -11,6 +11,6 @@ use Rattle.ltl_dot.proofs.label.put_formula.Given as goal
 abbrev pub invariant-loop-literal : goal.invariant-loop-literal
 invariant-loop-literal g l = record {
   named : HasNames (length l.names) (cube_of l.literal-iterator);
-  text : Leaves (g.S.ByteSink.state l.fn.sink) l.fn.piece (g.S.ByteSink.state l.sink) l.piece
+  text : Leaves (g.S.ByteSink.state l.fn.sink) l.fn.buffer (g.S.ByteSink.state l.sink) l.buffer
       (led (codes " && ") (literals_of (map string_bytes l.names) l.literal-iterator)) (formula_text (map string_bytes l.names) l.cube);
 }

@@ -1,6 +1,6 @@
 use Rattle.std.proofs.Common.{◌≡◌, ℕ, List, ap, length, subst, length-set, ◌∙◌}
 use Rattle.std.specs.Prelude.{slice_index}
-use Rattle.ltl_formula.specs.GraphView.{node_of}
+use Rattle.ltl_formula.specs.SharedNodesView.{node_of}
 use Rattle.ltl_formula.specs.PlacesView.{renumbered}
 use Rattle.ltl_formula.proofs.PlacesLemmas.{one_more, trees_next, ordered_next, placed_next}
 use Rattle.ltl_formula.proofs.SmallLemmas.{set_there}

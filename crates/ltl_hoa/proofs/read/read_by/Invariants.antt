@@ -7,7 +7,7 @@ use Rattle.ltl_hoa.proofs.read.read_by.Given as goal
 abbrev pub invariant-pieces : goal.invariant-pieces
 invariant-pieces g l = record {
   in_range : l.given ≤ stated_limits.hoa_bytes;
-  read : HasRead (g.R.ByteSource.state l.fn.source).rest (g.R.ByteSource.state l.source).rest l.machine l.given;
+  read : HasRead (g.R.ByteSource.state l.fn.source).rest (g.R.ByteSource.state l.source).rest l.stream_reader l.given;
   same : (g.R.ByteSource.state l.source).through ≡ (g.R.ByteSource.state l.fn.source).through;
   stays : (g.R.ByteSource.state l.fn.source).stage ≡ Open → (g.R.ByteSource.state l.source).stage ≡ Open;
 }

@@ -12,7 +12,7 @@ returns-clause-joins g c =
     let right = c.args.sides.now.right.items in
     let left-with = c.in_ok-left.left.with.items in
     let left-without = c.in_ok-left.left.without.items in
-    let made = c.make_distinct.new.cubes.items in
+    let made = c.sort_dedup.new.cubes.items in
     let right-with = c.in_ok-right.right.with.items in
     let right-without = c.in_ok-right.right.without.items in
     let all = c.in_ok-right_all.right_all.items in
@@ -27,6 +27,6 @@ returns-clause-joins g c =
     (c.in_ok-right.ensures.without ∙ ap (with_all q false) c.as_slice-3.ensures)
     c.in_ok-left.ensures.made
     c.in_ok-right.ensures.made
-    c.make_distinct.ensures
+    c.sort_dedup.ensures
     c.in_ok-right_all.ensures)
     c.put_waiting.ensures.joins

@@ -5,4 +5,4 @@ use Rattle.ltl_label.proofs.CubeLists.{set_again}
 use Rattle.ltl_label.proofs.joins.put_behind.Goals as goal
 
 pub returns-else-len-gt-MOST_CUBES : goal.returns-else-len-gt-MOST_CUBES
-returns-else-len-gt-MOST_CUBES g c = ap (set_of cube_cmp) c.make_distinct.ensures ∙ set_again c.extend_from_slice.new.self.items ∙ ap (set_of cube_cmp) c.in_ok-extend_from_slice.ensures.ok
+returns-else-len-gt-MOST_CUBES g c = ap (set_of cube_cmp) c.sort_dedup.ensures ∙ set_again c.extend_from_slice.new.self.items ∙ ap (set_of cube_cmp) c.in_ok-extend_from_slice.ensures.ok

@@ -3,7 +3,7 @@ use Rattle.std.specs.Prelude.{All}
 use Rattle.ltl_automaton.specs.SharedView.{automaton_of}
 use Rattle.ltl_automaton.specs.declared.edge.Edge as made
 use Rattle.ltl_passes.proofs.ClassLaws.{list_within}
-use Rattle.ltl_passes.proofs.CodeLaws.{lists_within}
+use Rattle.ltl_passes.proofs.SignatureLaws.{lists_within}
 use Rattle.ltl_passes.proofs.ListedLaws.{listed_again, listed_on}
 use Rattle.ltl_passes.proofs.listed.listed_by.Goals as goal
 

@@ -2,7 +2,7 @@ use Rattle.std.proofs.Common.{◌∙◌, ap, sym, subst}
 use Rattle.ltl_spec.specs.Automata.Automaton.{Automaton}
 use Rattle.ltl_spec.specs.Construction.Merging.{merged_automaton}
 use Rattle.ltl_models.specs.GbaView.{IsAcceptingGba}
-use Rattle.ltl_passes.specs.Classes.{IsWithinStates}
+use Rattle.ltl_passes.specs.Partition.{IsWithinStates}
 use Rattle.ltl_passes.proofs.MergedLaws.{merged_accepting_gba, gba_within}
 use Rattle.ltl_passes.proofs.merging.merge.Goals as goal
 

@@ -1,6 +1,6 @@
 use Rattle.std.proofs.Common.{◌∙◌, ap, sym, subst, length, cond}
 use Rattle.ltl_automaton.specs.SharedView.{automaton_of}
-use Rattle.ltl_passes.specs.Classes.{AreNames}
+use Rattle.ltl_passes.specs.Partition.{AreNames}
 use Rattle.ltl_passes.proofs.MergeLaws.{long_of_round, names_of_round}
 use Rattle.ltl_passes.proofs.merging.merged.Goals as goal
 

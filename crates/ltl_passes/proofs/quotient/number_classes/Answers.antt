@@ -1,7 +1,7 @@
 use Rattle.std.proofs.Common.{◌≡◌, ◌+◌, ◌<◌, ◌≤◌, ◌∙◌, ap, arith, sym, refl, subst, length, ◌++◌, ◌∷◌, []}
 use Rattle.std.specs.Prelude.{slice_index, take}
 use Rattle.std.proofs.lemmas.Grind.{common_steps}
-use Rattle.ltl_passes.specs.Classes.{IsNumbering}
+use Rattle.ltl_passes.specs.Partition.{IsNumbering}
 use Rattle.ltl_passes.proofs.NumberLaws.{step_new, step_old, index_same}
 use Rattle.ltl_passes.proofs.TargetLaws.{pushed_longer}
 use Rattle.ltl_passes.proofs.quotient.number_classes.Goals as goal

@@ -1,6 +1,6 @@
 use Rattle.std.proofs.Common.{◌≡◌, length}
 use Rattle.std.specs.Prelude.{take}
-use Rattle.ltl_passes.specs.Classes.{IsNumbering}
+use Rattle.ltl_passes.specs.Partition.{IsNumbering}
 use Rattle.ltl_passes.proofs.quotient.number_classes.Given as goal
 
 abbrev pub invariant-loop-s : goal.invariant-loop-s

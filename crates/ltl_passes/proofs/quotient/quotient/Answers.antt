@@ -10,7 +10,7 @@ use Rattle.ltl_automaton.specs.EdgeView.{edge_of}
 use Rattle.ltl_automaton.specs.SharedView.{automaton_of}
 use Rattle.ltl_automaton.specs.declared.edge.Edge as code
 use Rattle.ltl_automaton.proofs.NetLaws.{took}
-use Rattle.ltl_passes.specs.Classes.{number_in, retargeted_list, thinned}
+use Rattle.ltl_passes.specs.Partition.{number_in, retargeted_list, thinned}
 use Rattle.ltl_passes.proofs.NumberLaws.{class_below, numbers_within}
 use Rattle.ltl_passes.proofs.MergeLaws.{index_own, class_same, class_pushed}
 use Rattle.ltl_passes.proofs.MergedLaws.{of_all}

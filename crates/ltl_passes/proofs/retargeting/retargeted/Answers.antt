@@ -4,4 +4,4 @@ use Rattle.ltl_spec.specs.Automata.Automaton.{edge_cmp}
 use Rattle.ltl_passes.proofs.retargeting.retargeted.Goals as goal
 
 pub returns : goal.returns
-returns g c = c.sort_edges.ensures ∙ ap (set_of edge_cmp) c.in_ok-made.ensures
+returns g c = c.sort_dedup.ensures ∙ ap (set_of edge_cmp) c.in_ok-made.ensures

@@ -4,7 +4,7 @@ use Rattle.ltl_spec.specs.Construction.Merging.{retargeted_edge}
 use Rattle.ltl_automaton.specs.EdgeView.{edge_of}
 use Rattle.ltl_automaton.proofs.NetLaws.{took}
 use Rattle.ltl_automaton.proofs.WayLaws.{take_whole}
-use Rattle.ltl_passes.proofs.CodeLaws.{retargeted_next}
+use Rattle.ltl_passes.proofs.SignatureLaws.{retargeted_next}
 use Rattle.ltl_passes.proofs.retargeting.retargeted_edges.Goals as goal
 
 pub loop-edge-preserved : goal.loop-edge-preserved

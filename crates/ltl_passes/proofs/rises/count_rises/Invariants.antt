@@ -1,5 +1,5 @@
 use Rattle.std.proofs.Common.{◌≡◌, ◌-◌, length}
-use Rattle.ltl_passes.specs.Copies.{HaveAtLeast}
+use Rattle.ltl_passes.specs.Degeneralize.{HaveAtLeast}
 use Rattle.ltl_passes.proofs.rises.count_rises.Given as goal
 
 abbrev pub invariant-lists : goal.invariant-lists

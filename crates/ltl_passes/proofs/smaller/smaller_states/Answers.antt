@@ -5,15 +5,15 @@ use Rattle.ltl_spec.specs.Automata.Automaton.{edge_cmp}
 use Rattle.ltl_spec.specs.Construction.Merging.{merged_automaton, unimplied_edges}
 use Rattle.ltl_automaton.specs.SharedView.{automaton_of}
 use Rattle.ltl_models.specs.BaView.{IsBa}
-use Rattle.ltl_passes.proofs.CodeLaws.{all_lists}
+use Rattle.ltl_passes.proofs.SignatureLaws.{all_lists}
 use Rattle.ltl_passes.proofs.MergedLaws.{merged_ba}
 use Rattle.ltl_passes.proofs.smaller.smaller_states.Goals as goal
 
 pub changed-requires-clause-rise : goal.changed-requires-clause-rise
 changed-requires-clause-rise g c = λ _. all_lists c.args.states c.invariant.ensures (λ es. IsRising edge_cmp es) c.requires.inside.rising
 
-pub changed-requires-clause-thin : goal.changed-requires-clause-thin
-changed-requires-clause-thin g c = λ t. all_lists c.args.states c.invariant.ensures (λ es. unimplied_edges es ≡ es) (c.requires.thin t)
+pub changed-requires-clause-irredundant : goal.changed-requires-clause-irredundant
+changed-requires-clause-irredundant g c = λ t. all_lists c.args.states c.invariant.ensures (λ es. unimplied_edges es ≡ es) (c.requires.irredundant t)
 
 pub returns-in-Some-clause-inside : goal.returns-in-Some-clause-inside
 returns-in-Some-clause-inside g c =

@@ -7,5 +7,5 @@ use Rattle.ltl_timeline.proofs.columns.put_marks.Given as goal
 
 abbrev pub invariant-loop-i : goal.invariant-loop-i
 invariant-loop-i g l =
-    LeavesFrom (λ i. column (length l.word.stem) i (mark (bit_of l.row i))) (size l.word) l.i (g.S.ByteSink.state l.fn.sink) l.fn.piece (g.S.ByteSink.state l.sink) l.piece
+    LeavesFrom (λ i. column (length l.word.stem) i (mark (bit_of l.row i))) (size l.word) l.i (g.S.ByteSink.state l.fn.sink) l.fn.buffer (g.S.ByteSink.state l.sink) l.buffer
     (texts_from (λ i. column (length l.word.stem) i (mark (bit_of l.row i))) 0 (size l.word))

@@ -18,7 +18,7 @@ returns-in_err-put-clause-err g c =
     let count = map_length (λ t. t.items) s.texts.items ∙ c.requires.count in
     let wide = c.width-2.ensures ∙ ap (greatest (λ k. length (slice_index_or texts k []))) (sym (map_length (λ t. t.items) s.texts.items)) ∙ texts_width f texts count c.requires.texts in
     let e = whole_is f w (λ k i. bit_of (slice_index_or s.rows.items k []) i) names c.max-width.result c.width.result c.width-2.result c.requires.names c.width.ensures wide c.max-width.ensures in
-    let start = leaves_held (leaves_all _ _ _) (sym c.new-piece.ensures) in
+    let start = leaves_held (leaves_all _ _ _) (sym c.new-buffer.ensures) in
     shown_err f w s.rows.items c.requires.truth (Breaks (g.S.ByteSink.state c.args.sink.now) (g.S.ByteSink.state c.put.new.sink)) _ (begun _ _ start e c.in_err-put.ensures)
 
 pub returns-in_err-put-2-clause-err : goal.returns-in_err-put-2-clause-err
@@ -31,7 +31,7 @@ returns-in_err-put-2-clause-err g c =
     let count = map_length (λ t. t.items) s.texts.items ∙ c.requires.count in
     let wide = c.width-2.ensures ∙ ap (greatest (λ k. length (slice_index_or texts k []))) (sym (map_length (λ t. t.items) s.texts.items)) ∙ texts_width f texts count c.requires.texts in
     let e = whole_is f w (λ k i. bit_of (slice_index_or s.rows.items k []) i) names c.max-width.result c.width.result c.width-2.result c.requires.names c.width.ensures wide c.max-width.ensures in
-    let start = leaves_held (leaves_all _ _ _) (sym c.new-piece.ensures) in
+    let start = leaves_held (leaves_all _ _ _) (sym c.new-buffer.ensures) in
     let first = leaves_step start _ e c.in_ok-put.ensures in
     shown_err f w s.rows.items c.requires.truth (Breaks (g.S.ByteSink.state c.args.sink.now) (g.S.ByteSink.state c.put-2.new.sink)) _ (begun _ [] first (sym (append-nil _)) c.in_err-put-2.ensures)
 
@@ -45,7 +45,7 @@ returns-clause-ok g c =
     let count = map_length (λ t. t.items) s.texts.items ∙ c.requires.count in
     let wide = c.width-2.ensures ∙ ap (greatest (λ k. length (slice_index_or texts k []))) (sym (map_length (λ t. t.items) s.texts.items)) ∙ texts_width f texts count c.requires.texts in
     let e = whole_is f w (λ k i. bit_of (slice_index_or s.rows.items k []) i) names c.max-width.result c.width.result c.width-2.result c.requires.names c.width.ensures wide c.max-width.ensures in
-    let start = leaves_held (leaves_all _ _ _) (sym c.new-piece.ensures) in
+    let start = leaves_held (leaves_all _ _ _) (sym c.new-buffer.ensures) in
     let first = leaves_step start _ e c.in_ok-put.ensures in
     let second = leaves_step first [] (sym (append-nil _)) c.in_ok-put-2.ensures in
     shown_ok f w s.rows.items c.requires.truth (Takes (g.S.ByteSink.state c.args.sink.now) (g.S.ByteSink.state c.send.new.sink)) _ (whole_sent _ _ second refl c.send.ensures.sent)
@@ -60,7 +60,7 @@ returns-clause-err g c =
     let count = map_length (λ t. t.items) s.texts.items ∙ c.requires.count in
     let wide = c.width-2.ensures ∙ ap (greatest (λ k. length (slice_index_or texts k []))) (sym (map_length (λ t. t.items) s.texts.items)) ∙ texts_width f texts count c.requires.texts in
     let e = whole_is f w (λ k i. bit_of (slice_index_or s.rows.items k []) i) names c.max-width.result c.width.result c.width-2.result c.requires.names c.width.ensures wide c.max-width.ensures in
-    let start = leaves_held (leaves_all _ _ _) (sym c.new-piece.ensures) in
+    let start = leaves_held (leaves_all _ _ _) (sym c.new-buffer.ensures) in
     let first = leaves_step start _ e c.in_ok-put.ensures in
     let second = leaves_step first [] (sym (append-nil _)) c.in_ok-put-2.ensures in
     shown_err f w s.rows.items c.requires.truth (Breaks (g.S.ByteSink.state c.args.sink.now) (g.S.ByteSink.state c.send.new.sink)) _ (some_sent _ _ second refl c.send.ensures.failed)

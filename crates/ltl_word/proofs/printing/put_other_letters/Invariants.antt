@@ -7,5 +7,5 @@ use Rattle.ltl_word.proofs.printing.put_other_letters.Given as goal
 
 abbrev pub invariant-loop-i : goal.invariant-loop-i
 invariant-loop-i g l =
-    Leaves (g.S.ByteSink.state l.fn.sink) l.fn.piece (g.S.ByteSink.state l.sink) l.piece
+    Leaves (g.S.ByteSink.state l.fn.sink) l.fn.buffer (g.S.ByteSink.state l.sink) l.buffer
     (flat_map (λ r. codes "; " ++ letter_text (letter_of (map (λ n. n.items) l.names) r)) (drop l.i l.letters)) (flat_map (λ a. codes "; " ++ letter_text a) (map (letter_of (map (λ n. n.items) l.names)) l.letters))

@@ -8,6 +8,6 @@ use Rattle.ltl_word.proofs.printing.put_other_names.Given as goal
 abbrev pub invariant-loop-place : goal.invariant-loop-place
 invariant-loop-place g l = record {
   within : AllByRecursion (λ i. i < length l.names) l.place-iterator;
-  text : Leaves (g.S.ByteSink.state l.fn.sink) l.fn.piece (g.S.ByteSink.state l.sink) l.piece
+  text : Leaves (g.S.ByteSink.state l.fn.sink) l.fn.buffer (g.S.ByteSink.state l.sink) l.buffer
       (flat_map (λ n. codes "," ++ n) (letter_of (map (λ n. n.items) l.names) l.place-iterator)) (flat_map (λ n. codes "," ++ n) (letter_of (map (λ n. n.items) l.names) l.fn.places));
 }

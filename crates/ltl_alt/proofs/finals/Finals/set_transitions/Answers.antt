@@ -11,12 +11,12 @@ use Rattle.ltl_alt.proofs.finals.Finals.set_transitions.Goals as goal
 pub returns-in_default-clause-transitions : goal.returns-in_default-clause-transitions
 returns-in_default-clause-transitions g c =
     let b = c.args.basis.now in
-    c.new.ensures.items ∙ sym (no_transitions b.table.now b.keep_implied b.parts.made c.args.state.now c.requires.basis.table c.requires.basis.all c.in_default.ensures)
+    c.new.ensures.items ∙ sym (no_transitions b.table.now b.keep_implied b.conjuncts.made c.args.state.now c.requires.basis.table c.requires.basis.all c.in_default.ensures)
 
 pub factors-requires-clause-inside : goal.factors-requires-clause-inside
 factors-requires-clause-inside g c =
     let b = c.args.basis.now in
-    numbers_inside b.parts.owners.items b.parts.lists.items c.args.state.now c.in-Some.all c.requires.basis.parts.rows.owner_count c.in-Some.ensures.0
+    numbers_inside b.conjuncts.owners.items b.conjuncts.lists.items c.args.state.now c.in-Some.all c.requires.basis.conjuncts.rows.owner_count c.in-Some.ensures.0
 
 pub combinations-requires : goal.combinations-requires
 combinations-requires g c = record { within = subst (AreWithin c.factors.new.self.lists.keys) (sym c.as_slice.ensures.value) (some_is _ _ _ c.in_ok-factors.ensures.factors c.in-Some-2.is).0 }
@@ -25,7 +25,7 @@ pub returns-then-combinations-most-clause-large : goal.returns-then-combinations
 returns-then-combinations-most-clause-large g c = λ _.
     let b = c.args.basis.now in
     let new = c.factors.new.self.lists.keys in
-    let count = set_count b.table.now b.keep_implied b.pruning.rule b.pruning.fulfilment.now b.parts.made b.parts.owners.items b.parts.lists.items b.parts.demands.items b.parts.links.items c.requires.basis c.args.state.now c.in-Some.all
+    let count = set_count b.table.now b.keep_implied b.pruning.rule b.pruning.fulfilment.now b.conjuncts.made b.conjuncts.owners.items b.conjuncts.lists.items b.conjuncts.dependencies.items b.conjuncts.links.items c.requires.basis c.args.state.now c.in-Some.all
     c.invariant.ensures.rising c.in-Some.ensures.1 c.in-Some.ensures.0 (map (list_of new) c.in-Some-2.factors.items) (some_is _ _ _ c.in_ok-factors.ensures.factors c.in-Some-2.is).1 in
     let least = subst (λ fs. c.combinations.result ≤ product_size (map (list_of new) fs)) c.as_slice.ensures.value c.combinations.ensures in
     omega (arith, count, least, c.if-combinations-most.true)
@@ -38,13 +38,13 @@ all_products-requires-clause-consistent g c = λ k.
     let b = c.args.basis.now in
     let new = c.factors.new.self.lists.keys in
     subst (λ fs. AreConsistent (all_products (table_at b.table.now) (drop k (map (list_of new) fs)))) (sym c.as_slice-2.ensures.value)
-    (set_consistent b.table.now b.keep_implied b.pruning.rule b.pruning.fulfilment.now b.parts.made b.parts.owners.items b.parts.lists.items b.parts.demands.items b.parts.links.items c.requires.basis c.args.state.now c.in-Some.all
+    (set_consistent b.table.now b.keep_implied b.pruning.rule b.pruning.fulfilment.now b.conjuncts.made b.conjuncts.owners.items b.conjuncts.lists.items b.conjuncts.dependencies.items b.conjuncts.links.items c.requires.basis c.args.state.now c.in-Some.all
     c.invariant.ensures.rising c.in-Some.ensures.1 c.in-Some.ensures.0 (map (list_of new) c.in-Some-2.factors.items) (some_is _ _ _ c.in_ok-factors.ensures.factors c.in-Some-2.is).1 k)
 
 pub returns-clause-transitions : goal.returns-clause-transitions
 returns-clause-transitions g c =
     let b = c.args.basis.now in
     let new = c.factors.new.self.lists.keys in
-    set_sorted b.table.now b.keep_implied b.pruning.rule b.pruning.fulfilment.now b.parts.made b.parts.owners.items b.parts.lists.items b.parts.demands.items b.parts.links.items c.requires.basis c.args.state.now c.in-Some.all
+    set_sorted b.table.now b.keep_implied b.pruning.rule b.pruning.fulfilment.now b.conjuncts.made b.conjuncts.owners.items b.conjuncts.lists.items b.conjuncts.dependencies.items b.conjuncts.links.items c.requires.basis c.args.state.now c.in-Some.all
     c.invariant.ensures.rising c.in-Some.ensures.1 c.in-Some.ensures.0 (map (list_of new) c.in-Some-2.factors.items) (some_is _ _ _ c.in_ok-factors.ensures.factors c.in-Some-2.is).1 c.in_ok-products.products.items c.sort.new.transitions.items
     (subst (λ fs. IsPermutation (all_products (table_at b.table.now) (map (list_of new) fs)) c.in_ok-products.products.items) c.as_slice-2.ensures.value c.in_ok-products.ensures) c.in_ok-sort.ensures.permutation c.in_ok-sort.ensures.sorted

@@ -8,7 +8,7 @@ use Rattle.ltl_alt.proofs.finals.Finals.transitions_at_least.Goals as goal
 pub factors-requires-clause-inside : goal.factors-requires-clause-inside
 factors-requires-clause-inside g c =
     let b = c.args.basis.now in
-    numbers_inside b.parts.owners.items b.parts.lists.items c.args.state.now c.in-Some.all c.requires.basis.parts.rows.owner_count c.in-Some.ensures.0
+    numbers_inside b.conjuncts.owners.items b.conjuncts.lists.items c.args.state.now c.in-Some.all c.requires.basis.conjuncts.rows.owner_count c.in-Some.ensures.0
 
 pub combinations-requires : goal.combinations-requires
 combinations-requires g c = record { within = subst (AreWithin c.factors.new.self.lists.keys) (sym c.as_slice.ensures.value) (some_is _ _ _ c.in_ok-factors.ensures.factors c.in-Some-2.is).0 }
@@ -17,7 +17,7 @@ pub returns-in-Some-2-clause-least : goal.returns-in-Some-2-clause-least
 returns-in-Some-2-clause-least g c =
     let b = c.args.basis.now in
     let new = c.factors.new.self.lists.keys in
-    let count = set_count b.table.now b.keep_implied b.pruning.rule b.pruning.fulfilment.now b.parts.made b.parts.owners.items b.parts.lists.items b.parts.demands.items b.parts.links.items c.requires.basis c.args.state.now c.in-Some.all
+    let count = set_count b.table.now b.keep_implied b.pruning.rule b.pruning.fulfilment.now b.conjuncts.made b.conjuncts.owners.items b.conjuncts.lists.items b.conjuncts.dependencies.items b.conjuncts.links.items c.requires.basis c.args.state.now c.in-Some.all
     c.invariant.ensures.rising c.in-Some.ensures.1 c.in-Some.ensures.0 (map (list_of new) c.in-Some-2.factors.items) (some_is _ _ _ c.in_ok-factors.ensures.factors c.in-Some-2.is).1 in
     let least = subst (λ fs. c.combinations.result ≤ product_size (map (list_of new) fs)) c.as_slice.ensures.value c.combinations.ensures in
     omega (arith, count, least)

@@ -2,7 +2,7 @@ use Rattle.std.proofs.Common.{◌∙◌, ap, sym}
 use Rattle.std.specs.Ordering.{nat_cmp}
 use Rattle.ltl_spec.specs.Collections.Sets.{has}
 use Rattle.ltl_spec.specs.Transitions.Cubes.{literal_cmp}
-use Rattle.ltl_alt.proofs.AskedLaws.{reads_negative, reads_positive}
+use Rattle.ltl_alt.proofs.SupportLaws.{reads_negative, reads_positive}
 use Rattle.ltl_alt.proofs.pair.Pair.reads.Goals as goal
 
 pub returns-then-literal : goal.returns-then-literal

@@ -12,7 +12,7 @@ use Rattle.ltl_alt.specs.PairHash.{exact}
 use Rattle.ltl_alt.proofs.JoinLaws.{same_pair}
 use Rattle.ltl_alt.proofs.pair.PairPartialEq.eq.Goals as goal
 
--- whether both parts are the same
+-- whether both conjuncts are the same
 abbrev both_same : Pair → Pair → Bool
 both_same p q = pointwise nat_eq p.targets q.targets && same_cube p.cube q.cube
 

@@ -15,12 +15,12 @@ returns-then-not-accepts-clause-paid g c _ =
 
 pub returns-in-None-clause-left : goal.returns-in-None-clause-left
 returns-in-None-clause-left g c _ =
-    (refl, left_marked (g.N.Numbered.net c.args.net.now) _ _ _ _ _ c.requires.done (c.probe.ensures.probed (let w = c.in_ok-walk.was in let i = c.in-None.is in cc)))
+    (refl, left_marked (g.N.Numbered.net c.args.net.now) _ _ _ _ _ c.requires.done (c.inner_search.ensures.probed (let w = c.in_ok-walk.was in let i = c.in-None.is in cc)))
 
 pub returns-in-None-clause-paid : goal.returns-in-None-clause-paid
 returns-in-None-clause-paid g c _ =
-    let e : c.probe.result ≡ Ok None = (let w = c.in_ok-walk.was in let i = c.in-None.is in cc) in
-    let l = c.probe.ensures.paid e in
+    let e : c.inner_search.result ≡ Ok None = (let w = c.in_ok-walk.was in let i = c.in-None.is in cc) in
+    let l = c.inner_search.ensures.paid e in
     let q = l.2 in
-    let m = marked_cost (g.N.Numbered.net c.args.net.now) _ _ _ _ (c.probe.ensures.probed e).stands.explored (c.probe.ensures.probed e).stands.sized in
+    let m = marked_cost (g.N.Numbered.net c.args.net.now) _ _ _ _ (c.inner_search.ensures.probed e).stands.explored (c.inner_search.ensures.probed e).stands.sized in
     (l.0, l.1, omega arith)

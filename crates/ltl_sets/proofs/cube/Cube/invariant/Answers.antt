@@ -12,9 +12,9 @@ returns-clause-below c = rw (← c.self.view_is) (literals_below c.self.inside.p
 pub returns-clause-consistent : goal.returns-clause-consistent
 returns-clause-consistent c =
     let own = c.self.invariant in
-    rw (← c.self.view_is) (no_clash c.self.inside.positive c.self.inside.negative own.positive_words own.negative_words own.apart)
+    rw (← c.self.view_is) (no_clash c.self.inside.positive c.self.inside.negative own.positive_words own.negative_words own.disjoint)
 
 pub returns-clause-few : goal.returns-clause-few
 returns-clause-few c =
     let own = c.self.invariant in
-    rw (← c.self.view_is) (literals_few c.self.inside.positive c.self.inside.negative own.positive_words own.negative_words own.apart)
+    rw (← c.self.view_is) (literals_few c.self.inside.positive c.self.inside.negative own.positive_words own.negative_words own.disjoint)

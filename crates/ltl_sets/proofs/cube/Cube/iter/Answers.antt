@@ -24,7 +24,7 @@ returns-clause-literals c =
     let truths : c.letter.result ≡ members c.self.inside.positive =
     c.letter.ensures ∙ ap letter_of (sym c.self.view_is) ∙ sym (letter_literals c.self.inside.positive c.self.inside.negative) in
     ap₂ (λ (is js : List ℕ). cube_of (map (signed_by is) js)) truths c.iter.ensures.members
-    ∙ signed_members c.self.inside.positive c.self.inside.negative own.positive_words own.negative_words own.apart
+    ∙ signed_members c.self.inside.positive c.self.inside.negative own.positive_words own.negative_words own.disjoint
     ∙ c.self.view_is
 
 pub returns-clause-few : goal.returns-clause-few

@@ -2,7 +2,7 @@ use Rattle.std.proofs.Common.{◌∙◌, sym, ap, None, Some}
 use Rattle.std.specs.Prelude.{if◌then◌else◌}
 use Rattle.ltl_spec.specs.Transitions.Cubes.{Cube, is_contradictory}
 use Rattle.ltl_sets.specs.WordLaws.{IsWords-or, IsWords-and}
-use Rattle.ltl_sets.proofs.CubeLaws.{literals_union, IsApart-and, joined, not_joined}
+use Rattle.ltl_sets.proofs.CubeLaws.{literals_union, AreDisjoint-and, joined, not_joined}
 use Rattle.ltl_sets.proofs.cube.Cube.join.Goals as goal
 
 pub is_zero-requires : goal.is_zero-requires
@@ -18,7 +18,7 @@ invariant_of-result c =
     let their = c.other.invariant in
     let positive = IsWords-or c.self.inside.positive c.other.inside.positive own.positive_words their.positive_words in
     let negative = IsWords-or c.self.inside.negative c.other.inside.negative own.negative_words their.negative_words in
-    record { positive_words = positive; negative_words = negative; apart = IsApart-and _ _ positive negative c.is_zero.result c.is_zero.ensures c.if-is_zero.true }
+    record { positive_words = positive; negative_words = negative; disjoint = AreDisjoint-and _ _ positive negative c.is_zero.result c.is_zero.ensures c.if-is_zero.true }
 
 pub returns-then-is_zero : goal.returns-then-is_zero
 returns-then-is_zero c =

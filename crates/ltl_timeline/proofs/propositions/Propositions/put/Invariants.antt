@@ -6,4 +6,4 @@ use Rattle.ltl_timeline.proofs.propositions.Propositions.put.Given as goal
 abbrev pub invariant-loop-p : goal.invariant-loop-p
 invariant-loop-p g l =
     LeavesFrom (λ p. proposition_line l.width l.word (name_at (map (λ n. n.now) l.self.names.items) p)) (length (map (λ n. n.now) l.self.names.items)) l.p
-    (g.S.ByteSink.state l.fn.sink) l.fn.piece (g.S.ByteSink.state l.sink) l.piece (proposition_lines l.width l.word (map (λ n. n.now) l.self.names.items))
+    (g.S.ByteSink.state l.fn.sink) l.fn.buffer (g.S.ByteSink.state l.sink) l.buffer (proposition_lines l.width l.word (map (λ n. n.now) l.self.names.items))

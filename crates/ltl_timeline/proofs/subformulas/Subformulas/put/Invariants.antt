@@ -8,5 +8,5 @@ use Rattle.ltl_timeline.proofs.subformulas.Subformulas.put.Given as goal
 abbrev pub invariant-loop-k : goal.invariant-loop-k
 invariant-loop-k g l =
     LeavesFrom (subformula_line l.formula l.word (λ k i. bit_of (slice_index_or l.self.rows.items k []) i) l.width) (length l.formula.nodes) l.k
-    (g.S.ByteSink.state l.fn.sink) l.fn.piece (g.S.ByteSink.state l.sink) l.piece
+    (g.S.ByteSink.state l.fn.sink) l.fn.buffer (g.S.ByteSink.state l.sink) l.buffer
     (texts_from (subformula_line l.formula l.word (λ k i. bit_of (slice_index_or l.self.rows.items k []) i) l.width) 0 (length l.formula.nodes))

@@ -1,0 +1,34 @@
+-- Components of conjuncts, and the lists of pairs that are made of them.
+use Rattle.std.specs.Prelude.{◌≡◌, ℕ, ◌<◌, List, [], ◌∷◌, length, fold, slice_index_or}
+use Rattle.ltl_spec.specs.Transitions.Pairs.{RowSet, Pair, join, empty_pair}
+use Rattle.ltl_spec.specs.Transitions.RowTransitions.{Table}
+use Rattle.ltl_alt.specs.declared.basis.Basis.{Basis}
+use Rattle.ltl_alt.specs.declared.components.Components.{Components}
+use Rattle.ltl_alt.specs.declared.memo.JoinKey.{JoinKey}
+use Rattle.ltl_alt.specs.declared.rule.Rule.{Rule}
+use Rattle.ltl_alt.specs.MemoView.{AreJoins, IsListAt}
+use Rattle.ltl_alt.specs.ConjunctTableView.{conjunct_of}
+use Rattle.ltl_alt.specs.StandIns.{IsListed, StandsFor}
+use Rattle.ltl_alt.specs.TransitionView.{table_at}
+
+-- the number of a conjunct's list
+abbrev pub start_of : List ℕ → ℕ → ℕ
+start_of starts k = slice_index_or starts k 0
+
+-- the list of each conjunct stands under its number
+pub record AreStarts (conjuncts lists : List (List Pair)) (starts : List ℕ) : Type 0 where
+  pub count : length starts ≡ length conjuncts
+  pub each : (k : ℕ) → k < length conjuncts → IsListAt lists (conjunct_of conjuncts k) (start_of starts k)
+
+-- so does that of the pair that asks for nothing, and joins are remembered
+pub record AreComponents (T : Table) (r : Rule) (conjuncts lists : List (List Pair)) (made : List (JoinKey × ℕ)) (none : ℕ) (firsts : List ℕ) : Type 0 where
+  pub joins : AreJoins T r lists made
+  pub nothing : IsListAt lists (empty_pair ∷ []) none
+  pub starts : AreStarts conjuncts lists firsts
+
+abbrev pub HasComponents : {A : Type 0} → Basis A → Components A → Type 0
+HasComponents b g = AreComponents (table_at b.table.now) b.pruning.rule b.conjuncts.lists.items g.memo.lists.keys g.memo.joins.entries g.nothing g.starts.items
+
+-- what is kept of all these conjuncts at once stands under the number
+abbrev pub IsJoinOf : Table → Rule → List (List Pair) → List (List Pair) → RowSet → ℕ → Type 0
+IsJoinOf T r conjuncts lists component k = (k < length lists) × IsListed (StandsFor T r) (fold (λ ps i. join ps (conjunct_of conjuncts i)) (empty_pair ∷ []) component) (conjunct_of lists k)

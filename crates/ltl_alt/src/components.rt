@@ -1,0 +1,130 @@
+//! Components of conjuncts, and what is kept of each at once.
+
+ghost use Rattle.std.specs.Prelude.{◌≡◌, ℕ, ◌<◌, ◌∷◌, [], fold, length, IfOk, IfSome, OnOk};
+ghost use Rattle.ltl_spec.specs.Collections.Sets.{Has};
+ghost use Rattle.ltl_spec.specs.Transitions.Pairs as spec_pairs;
+ghost use Rattle.ltl_spec.specs.Transitions.RowTransitions as spec;
+ghost use Rattle.ltl_alt.specs.declared.rule.Rule as made_rule;
+ghost use Rattle.ltl_alt.specs.BasisView.{IsBasis};
+ghost use Rattle.ltl_alt.specs.ComponentView.{AreComponents, AreStarts, HasComponents, IsJoinOf};
+ghost use Rattle.ltl_alt.specs.ConjunctTableView.{IsLonger, conjunct_of};
+ghost use Rattle.ltl_alt.specs.StandIns.{IsListed, StandsFor};
+ghost use Rattle.ltl_alt.specs.TransitionView.{table_at};
+
+use crate::basis::Basis;
+use crate::conjunct_table::ConjunctTable;
+use crate::lists::join;
+use crate::memo::Memo;
+use crate::pair::Pair;
+use crate::pair_set::PairSet;
+use crate::prune::prune;
+use ltl_sets::RowSet;
+use std::alloc::{AllocError, Allocator};
+
+/// Lists of pairs, those of the conjuncts among them.
+#[derive(Drop)]
+pub(crate) struct Components<'a, A: Allocator> {
+    pub(crate) memo: Memo<'a, A>,
+    /// The number of the list that has the pair that asks for nothing.
+    pub(crate) nothing: usize,
+    /// For each conjunct the number of its list.
+    pub(crate) starts: Vec<usize, &'a A>,
+}
+
+/// For each conjunct the number of its list, which is remembered.
+fn starts<'a, A: Allocator>(
+    alloc: &'a A,
+    conjuncts: &ConjunctTable<'a, A>,
+    memo: &mut Memo<'a, A>,
+) -> Result<Vec<usize, &'a A>, AllocError>
+    ensures starts { IfOk result (λ v. AreStarts conjuncts.now.lists.items memo.new.lists.keys v.items) }
+    ensures longer { OnOk result (IsLonger memo.old.lists.keys memo.new.lists.keys) }
+    ensures joins { OnOk result (memo.new.joins.entries ≡ memo.old.joins.entries) }
+{
+    let mut starts = Vec::with_capacity(alloc, conjuncts.len())?;
+    'conjuncts: for k in 0..conjuncts.len() {
+        let pairs = Vec::from_slice(alloc, conjuncts.pairs(k))?;
+        let number = memo.number(PairSet { pairs })?;
+        starts.push(number)?;
+    }
+    Ok(starts)
+}
+
+/// The pairs with those of one conjunct more at once.
+fn with_conjunct<'a, A: Allocator>(
+    basis: &Basis<'_, '_, '_, 'a, A>,
+    pairs: &[Pair],
+    conjunct: usize,
+) -> Result<Vec<Pair, &'a A>, AllocError>
+    requires basis { IsBasis basis.now }
+    requires within { conjunct < length basis.now.conjuncts.lists.items }
+    ensures { IfOk result (λ v. IsListed (StandsFor (table_at basis.now.table.now) basis.now.pruning.rule)
+        (spec_pairs.join pairs.now (conjunct_of basis.now.conjuncts.lists.items conjunct)) v.items) }
+{
+    let right = basis.conjuncts.pairs(conjunct);
+    let joined = join(basis.alloc, pairs, right)?;
+    let pruned = prune(basis.alloc, &basis.pruning, pairs, right, joined)?;
+    Ok(pruned)
+}
+
+/// What is kept of a component's conjuncts at once.
+pub(crate) fn component_pairs<'a, A: Allocator>(
+    basis: &Basis<'_, '_, '_, 'a, A>,
+    component: &RowSet,
+) -> Result<Vec<Pair, &'a A>, AllocError>
+    requires basis { IsBasis basis.now }
+    requires inside { (k : ℕ) → Has component.now k → k < length basis.now.conjuncts.lists.items }
+    ensures { IfOk result (λ v. IsListed (StandsFor (table_at basis.now.table.now) basis.now.pruning.rule)
+        (fold (λ ps k. spec_pairs.join ps (conjunct_of basis.now.conjuncts.lists.items k)) (spec_pairs.empty_pair ∷ []) component.now) v.items) }
+{
+    let mut pairs = Vec::from_slice(basis.alloc, &[Pair::empty()])?;
+    let mut rest = component.iter();
+    'members: while let Some(conjunct) = rest.next() {
+        pairs = with_conjunct(basis, pairs.as_slice(), conjunct)?;
+    }
+    Ok(pairs)
+}
+
+impl<'a, A: Allocator> Components<'a, A> {
+    /// The lists of the conjuncts alone.
+    pub(crate) fn new(alloc: &'a A, conjuncts: &ConjunctTable<'a, A>) -> Result<Self, AllocError>
+        ensures { IfOk result (λ g. (T : spec.Table) → (r : made_rule.Rule)
+            → AreComponents T r conjuncts.now.lists.items g.memo.lists.keys g.memo.joins.entries g.nothing g.starts.items) }
+    {
+        let mut memo = Memo::new(alloc);
+        let pairs = Vec::from_slice(alloc, &[Pair::empty()])?;
+        let nothing = memo.number(PairSet { pairs })?;
+        let starts = starts(alloc, conjuncts, &mut memo)?;
+        Ok(Components {
+            memo,
+            nothing,
+            starts,
+        })
+    }
+
+    /// The number of the list of what is kept of a component's conjuncts at once, unless there is no room for it.
+    pub(crate) fn list(
+        &mut self,
+        basis: &Basis<'_, '_, '_, 'a, A>,
+        component: &RowSet,
+    ) -> Result<Option<usize>, AllocError>
+        requires basis { IsBasis basis.now }
+        requires components { HasComponents basis.now self.old }
+        requires inside { (k : ℕ) → Has component.now k → k < length basis.now.conjuncts.lists.items }
+        ensures components { OnOk result (HasComponents basis.now self.new) }
+        ensures list { IfOk result (λ o. IfSome o (IsJoinOf
+            (table_at basis.now.table.now) basis.now.pruning.rule basis.now.conjuncts.lists.items self.new.memo.lists.keys component.now)) }
+        ensures longer { OnOk result (IsLonger self.old.memo.lists.keys self.new.memo.lists.keys) }
+    {
+        let mut list = self.nothing;
+        let mut rest = component.iter();
+        'members: while let Some(conjunct) = rest.next() {
+            let start = self.starts[conjunct];
+            let Some(joined) = self.memo.join(basis.alloc, &basis.pruning, list, start)? else {
+                return Ok(None);
+            };
+            list = joined;
+        }
+        Ok(Some(list))
+    }
+}

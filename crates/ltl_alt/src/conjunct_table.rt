@@ -1,0 +1,356 @@
+//! The rows of a table taken apart into conjuncts, and which conjuncts have to do with each other.
+
+ghost use Rattle.std.specs.Prelude.{◌≡◌, slice_get, ℕ, ◌+◌, ◌<◌, ◌≤◌, ◌++◌, ◌∷◌, [], List, length, map, MatchOption, OnOk, IfOk};
+ghost use Rattle.std.specs.Ordering.{nat_cmp};
+ghost use Rattle.ltl_spec.specs.Collections.Sets.{Has, put};
+ghost use Rattle.ltl_spec.specs.Transitions.Pairs as spec_pairs;
+ghost use Rattle.ltl_spec.specs.Transitions.RowTransitions as spec;
+ghost use Rattle.ltl_spec.proofs.Transitions.SameJoins.{AreSound};
+ghost use Rattle.ltl_alt.specs.declared.conjuncts.Conjunct.TheVariants as made_conjunct;
+ghost use Rattle.ltl_alt.specs.declared.rule.Rule as made_rule;
+ghost use Rattle.ltl_alt.specs.ConjunctTableView.{AreAdded, AreLinked, AreMade, HasAllParts, HasConjuncts, IsComponent};
+ghost use Rattle.ltl_alt.specs.ConjunctTableView.{HasEach, HasNoConjunct, IsLinked, IsRoom, links_of, numbers_in, conjunct_of};
+ghost use Rattle.ltl_alt.specs.ConjunctView.{AreFew, IsConjunct, conjunct_pairs};
+ghost use Rattle.ltl_alt.specs.RowLists.{AreLists, IsListedRow};
+ghost use Rattle.ltl_alt.specs.StandIns.{IsListed, StandsFor};
+ghost use Rattle.ltl_alt.specs.Tests.{AreTests};
+ghost use Rattle.ltl_alt.specs.TransitionView.{table_at};
+
+use crate::conjuncts::{Conjunct, conjunct_at, conjuncts};
+use crate::fulfilment::Fulfilment;
+use crate::lists::both;
+use crate::pair::Pair;
+use crate::pair_set::PairSet;
+use crate::place::{elementary_places, elementary_row, first, place, put_if};
+use crate::prune::prune;
+use crate::row_lists::RowLists;
+use crate::rule::Pruning;
+use crate::support::Dependencies;
+use ltl_formula::{Row, Table};
+use ltl_sets::RowSet;
+use std::alloc::{AllocError, Allocator};
+
+/// Conjuncts of rows by number. The pairs of a row are those of its conjuncts at once.
+#[derive(Drop)]
+pub(crate) struct ConjunctTable<'a, A: Allocator> {
+    /// The place of the row that a conjunct belongs to.
+    pub(crate) owners: Vec<usize, &'a A>,
+    pub(crate) lists: Vec<PairSet<'a, A>, &'a A>,
+    pub(crate) dependencies: Vec<Dependencies, &'a A>,
+    /// The conjuncts that may have to do with a conjunct.
+    pub(crate) links: Vec<RowSet, &'a A>,
+    /// The places of the rows that were taken apart.
+    pub(crate) made: RowSet,
+}
+
+/// Links a new conjunct with those that may have to do with it. Answers its own links.
+fn link<A: Allocator>(
+    links: &mut Vec<RowSet, &A>,
+    dependencies: &[Dependencies],
+    dependency: &Dependencies,
+) -> RowSet
+    requires few { length links.old.items < RowSet.LIMIT }
+    requires count { length dependencies.now ≡ length links.old.items }
+    ensures { IsLinked dependencies.now dependency.now (length links.old.items) (length links.old.items) links.old.items links.new.items result }
+{
+    let number = links.len();
+    let mut own = RowSet::single(number);
+    'conjuncts: for k in 0..number {
+        let is_linked = !dependency.is_independent(&dependencies[k]);
+        put_if(&mut links[k], number, is_linked);
+        put_if(&mut own, k, is_linked);
+    }
+    own
+}
+
+impl<'a, A: Allocator> ConjunctTable<'a, A> {
+    /// No row was taken apart yet.
+    pub(crate) fn new(alloc: &'a A) -> Self
+        ensures linked { (T : spec.Table) → AreLinked T result.lists.items result.dependencies.items result.links.items }
+        ensures rows { (T : spec.Table) → (r : made_rule.Rule) → AreMade T r result.made result.owners.items result.lists.items }
+        ensures lists { result.lists.items ≡ [] }
+        ensures made { result.made ≡ [] }
+    {
+        ConjunctTable {
+            owners: Vec::new(alloc),
+            lists: Vec::new(alloc),
+            dependencies: Vec::new(alloc),
+            links: Vec::new(alloc),
+            made: RowSet::empty(),
+        }
+    }
+
+    /// How many conjuncts there are.
+    pub(crate) fn len(&self) -> usize
+        ensures { result ≡ length self.now.lists.items }
+    {
+        self.lists.len()
+    }
+
+    /// One conjunct more, of the row at a place.
+    fn push(
+        &mut self,
+        table: &Table<'_, A>,
+        fulfilment: &Fulfilment<'a, A>,
+        place: usize,
+        pairs: PairSet<'a, A>,
+    ) -> Result<(), AllocError>
+        requires tests { AreTests (table_at table.now) fulfilment.now }
+        requires linked { AreLinked (table_at table.now) self.old.lists.items self.old.dependencies.items self.old.links.items }
+        requires few { length self.old.lists.items < RowSet.LIMIT }
+        requires sound { AreSound pairs }
+        ensures linked { OnOk result (AreLinked (table_at table.now) self.new.lists.items self.new.dependencies.items self.new.links.items) }
+        ensures owners { OnOk result (self.new.owners.items ≡ self.old.owners.items ++ place ∷ []) }
+        ensures lists { OnOk result (self.new.lists.items ≡ self.old.lists.items ++ pairs.entry ∷ []) }
+        ensures made { self.new.made ≡ self.old.made }
+    {
+        let dependency = Dependencies::of(table, fulfilment, pairs.as_slice());
+        let links = link(&mut self.links, self.dependencies.as_slice(), &dependency);
+        self.links.push(links)?;
+        self.dependencies.push(dependency)?;
+        self.owners.push(place)?;
+        self.lists.push(pairs)?;
+        Ok(())
+    }
+
+    /// Puts the conjuncts of the row at a place behind the others.
+    fn push_conjuncts(
+        &mut self,
+        alloc: &'a A,
+        table: &Table<'_, A>,
+        rows: &mut RowLists<'a, A>,
+        pruning: &Pruning<'_, 'a, A>,
+        place: usize,
+        conjuncts: &[Conjunct],
+    ) -> Result<(), AllocError>
+        requires lists { AreLists table.now pruning.now.rule rows.old.pairs.items rows.old.sets.items }
+        requires tests { AreTests (table_at table.now) pruning.now.fulfilment.now }
+        requires linked { AreLinked (table_at table.now) self.old.lists.items self.old.dependencies.items self.old.links.items }
+        requires conjuncts { AreFew table.now conjuncts.now (length self.old.lists.items) }
+        ensures lists { OnOk result (AreLists table.now pruning.now.rule rows.new.pairs.items rows.new.sets.items) }
+        ensures linked { OnOk result (AreLinked (table_at table.now) self.new.lists.items self.new.dependencies.items self.new.links.items) }
+        ensures added { OnOk result (AreAdded (table_at table.now) pruning.now.rule place
+            (map (conjunct_pairs table.now) conjuncts.now) self.old.owners.items self.new.owners.items self.old.lists.items self.new.lists.items) }
+        ensures made { OnOk result (self.new.made ≡ self.old.made) }
+    {
+        'conjuncts: for conjunct in conjuncts {
+            let pairs = conjunct_pairs(alloc, table, rows, pruning, *conjunct)?;
+            self.push(table, pruning.fulfilment, place, pairs)?;
+        }
+        Ok(())
+    }
+
+    /// Takes the row at a place apart, into no more than `most` conjuncts.
+    fn add(
+        &mut self,
+        alloc: &'a A,
+        table: &Table<'_, A>,
+        rows: &mut RowLists<'a, A>,
+        pruning: &Pruning<'_, 'a, A>,
+        place: usize,
+        most: usize,
+    ) -> Result<(), AllocError>
+        requires lists { AreLists table.now pruning.now.rule rows.old.pairs.items rows.old.sets.items }
+        requires tests { AreTests (table_at table.now) pruning.now.fulfilment.now }
+        requires conjuncts { HasConjuncts (table_at table.now) pruning.now.rule self.old }
+        requires new { Has self.old.made place → ⊥ }
+        requires room { IsRoom place most self.old.lists.items }
+        ensures lists { OnOk result (AreLists table.now pruning.now.rule rows.new.pairs.items rows.new.sets.items) }
+        ensures conjuncts { OnOk result (HasConjuncts (table_at table.now) pruning.now.rule self.new) }
+        ensures made { OnOk result (self.new.made ≡ put nat_cmp place self.old.made) }
+        ensures few { OnOk result (length self.new.lists.items ≤ length self.old.lists.items + most) }
+    {
+        let conjuncts = conjuncts(alloc, table, conjunct_at(table, place), most)?;
+        self.push_conjuncts(alloc, table, rows, pruning, place, conjuncts.as_slice())?;
+        self.made.insert(place);
+        Ok(())
+    }
+
+    /// All elementary rows of a table taken apart. Each has a number, and those that are left go to the first rows that are made of more conjuncts.
+    pub(crate) fn of(
+        alloc: &'a A,
+        table: &Table<'_, A>,
+        pruning: &Pruning<'_, 'a, A>,
+    ) -> Result<ConjunctTable<'a, A>, AllocError>
+        requires tests { AreTests (table_at table.now) pruning.now.fulfilment.now }
+        ensures conjuncts { IfOk result (HasAllParts table.now pruning.now.rule) }
+    {
+        table.invariant();
+        let mut lists = RowLists::new(alloc, table)?;
+        let mut conjuncts = ConjunctTable::new(alloc);
+        let mut rest = elementary_places(table);
+        'rows: while let Some(place) = next_row(table, &rest) {
+            rest.invariant();
+            rest = rest.without(&RowSet::single(place));
+            let most = RowSet::LIMIT - conjuncts.len() - count(&rest);
+            conjuncts.add(alloc, table, &mut lists, pruning, place, most)?;
+        }
+        Ok(conjuncts)
+    }
+
+    /// The pairs of the conjunct with that number.
+    pub(crate) fn pairs(&self, number: usize) -> &[Pair]
+        requires { number < length self.now.lists.items }
+        ensures { result.now ≡ conjunct_of self.now.lists.items number }
+    {
+        self.lists[number].as_slice()
+    }
+
+    /// The numbers of the conjuncts of the rows of a set, unless there is no row at one of its places.
+    pub(crate) fn numbers(&self, state: &RowSet) -> Option<RowSet>
+        requires owned { (o : ℕ) → Has self.now.owners.items o → Has self.now.made o }
+        requires few { length self.now.owners.items ≤ RowSet.LIMIT }
+        ensures { MatchOption result (HasNoConjunct self.now.made state.now) (λ all. all ≡ numbers_in self.now.owners.items state.now
+            × HasEach self.now.made state.now) }
+    {
+        if !state.is_subset(&self.made) {
+            return None;
+        }
+        self.made.invariant();
+        let mut numbers = RowSet::empty();
+        'conjuncts: for k in 0..self.owners.len() {
+            put_if(&mut numbers, k, state.contains(self.owners[k]));
+        }
+        Some(numbers)
+    }
+
+    /// The conjuncts that may have to do with the one of that number.
+    fn links(&self, number: usize) -> Option<RowSet>
+        ensures { result ≡ slice_get self.now.links.items number }
+    {
+        self.links.get(number).copied()
+    }
+
+    /// The conjuncts that may have to do with one of these.
+    fn linked_with(&self, inside: &RowSet) -> RowSet
+        ensures { (i j : ℕ) → Has inside.now i → Has (links_of self.now.links.items i) j → Has result j }
+    {
+        let mut linked = RowSet::empty();
+        let mut rest = inside.iter();
+        'members: while let Some(number) = rest.next() {
+            if let Some(links) = self.links(number) {
+                linked = linked.union(&links);
+            }
+        }
+        linked
+    }
+
+    /// Of the rest, the conjuncts that may have to do with the first one, with those that may have to do with them, and so on.
+    pub(crate) fn component(&self, first: usize, rest: &RowSet) -> RowSet
+        requires first { first < RowSet.LIMIT }
+        requires there { Has rest.now first }
+        ensures { IsComponent self.now.links.items first rest.now result }
+    {
+        let mut inside = RowSet::single(first);
+        'rounds: for _round in 0..RowSet::LIMIT {
+            let linked = self.linked_with(&inside);
+            let more = inside.union(&rest.common(&linked));
+            if more == inside {
+                return inside;
+            }
+            inside = more;
+        }
+        *rest
+    }
+}
+
+/// How many members a set has.
+fn count(rows: &RowSet) -> usize
+    ensures { result ≡ length rows.now }
+{
+    let mut count = 0usize;
+    let mut rest = rows.iter();
+    'members: while let Some(_) = rest.next() {
+        count += 1;
+    }
+    count
+}
+
+/// Whether a release row stands at a place among the elementary rows.
+fn is_release<A: Allocator>(table: &Table<'_, A>, place: usize) -> bool {
+    match elementary_row(table, place) {
+        Some(row) => {
+            table.invariant();
+            matches!(table.row(row), Row::Release(_, _))
+        }
+        None => false,
+    }
+}
+
+/// Of these places the next whose row is taken apart. Conjuncts are joined in the order of their numbers. Release rows come first: they stay in the sets of
+/// rows that follow, so that their joins are made once.
+fn next_row<A: Allocator>(table: &Table<'_, A>, rest: &RowSet) -> Option<usize>
+    ensures { MatchOption result (rest.now ≡ []) (λ i. Has rest.now i) }
+{
+    let mut members = rest.iter();
+    'members: while let Some(place) = members.next() {
+        if is_release(table, place) {
+            return Some(place);
+        }
+    }
+    first(rest)
+}
+
+/// The pairs of a row, as far as they are needed.
+fn row_pairs<'a, A: Allocator>(
+    alloc: &'a A,
+    table: &Table<'_, A>,
+    rows: &mut RowLists<'a, A>,
+    pruning: &Pruning<'_, 'a, A>,
+    row: usize,
+) -> Result<PairSet<'a, A>, AllocError>
+    requires lists { AreLists table.now pruning.now.rule rows.old.pairs.items rows.old.sets.items }
+    requires tests { AreTests (table_at table.now) pruning.now.fulfilment.now }
+    requires within { row < length table.now.rows }
+    ensures lists { OnOk result (AreLists table.now pruning.now.rule rows.new.pairs.items rows.new.sets.items) }
+    ensures pairs { IfOk result (IsListedRow table.now pruning.now.rule row) }
+{
+    rows.prepare(alloc, table, pruning, row)?;
+    let pairs = Vec::from_slice(alloc, rows.pairs(row))?;
+    Ok(PairSet { pairs })
+}
+
+/// The pairs of a row, with the one that asks for another row later, as far as they are needed.
+fn released_pairs<'a, A: Allocator>(
+    alloc: &'a A,
+    table: &Table<'_, A>,
+    rows: &mut RowLists<'a, A>,
+    pruning: &Pruning<'_, 'a, A>,
+    left: usize,
+    row: usize,
+) -> Result<PairSet<'a, A>, AllocError>
+    requires lists { AreLists table.now pruning.now.rule rows.old.pairs.items rows.old.sets.items }
+    requires tests { AreTests (table_at table.now) pruning.now.fulfilment.now }
+    requires conjunct { IsConjunct table.now (made_conjunct.Released left row) }
+    ensures lists { OnOk result (AreLists table.now pruning.now.rule rows.new.pairs.items rows.new.sets.items) }
+    ensures pairs { IfOk result (IsListed (StandsFor (table_at table.now) pruning.now.rule) (conjunct_pairs table.now (made_conjunct.Released left row))) }
+{
+    rows.prepare(alloc, table, pruning, left)?;
+    let later = [Pair::later(RowSet::single(place(table, row)))];
+    let all = both(alloc, rows.pairs(left), &later)?;
+    let pairs = prune(alloc, pruning, &[], &[], all)?;
+    Ok(PairSet { pairs })
+}
+
+/// The pairs of a conjunct, as far as they are needed.
+fn conjunct_pairs<'a, A: Allocator>(
+    alloc: &'a A,
+    table: &Table<'_, A>,
+    rows: &mut RowLists<'a, A>,
+    pruning: &Pruning<'_, 'a, A>,
+    conjunct: Conjunct,
+) -> Result<PairSet<'a, A>, AllocError>
+    requires lists { AreLists table.now pruning.now.rule rows.old.pairs.items rows.old.sets.items }
+    requires tests { AreTests (table_at table.now) pruning.now.fulfilment.now }
+    requires conjunct { IsConjunct table.now conjunct }
+    ensures lists { OnOk result (AreLists table.now pruning.now.rule rows.new.pairs.items rows.new.sets.items) }
+    ensures pairs { IfOk result (IsListed (StandsFor (table_at table.now) pruning.now.rule) (conjunct_pairs table.now conjunct)) }
+{
+    match conjunct {
+        Conjunct::Never => Ok(PairSet {
+            pairs: Vec::new(alloc),
+        }),
+        Conjunct::Whole(row) => row_pairs(alloc, table, rows, pruning, row),
+        Conjunct::Released(left, row) => released_pairs(alloc, table, rows, pruning, left, row),
+    }
+}

@@ -1,0 +1,178 @@
+//! What lists of pairs ask for, and a test that two lists have nothing to do with each other.
+
+ghost use Rattle.std.specs.Prelude.{◌≡◌, length};
+ghost use Rattle.ltl_spec.specs.Transitions.Pairs as spec_pairs;
+ghost use Rattle.ltl_spec.proofs.Transitions.IndependenceTests as independence;
+ghost use Rattle.ltl_alt.specs.SupportView.{IsAdded, CoversAllFulfilling, AreDependencies};
+ghost use Rattle.ltl_alt.specs.Tests.{AreTests};
+ghost use Rattle.ltl_alt.specs.TransitionView.{table_at};
+
+use crate::fulfilment::Fulfilment;
+use crate::pair::Pair;
+use ltl_formula::Table;
+use ltl_sets::RowSet;
+use std::alloc::{AllocError, Allocator};
+use std::marker::Model;
+
+/// The propositions of positive and of negative literals, and the places of rows, that pairs ask for.
+pub(crate) struct Support {
+    positive: RowSet,
+    negative: RowSet,
+    targets: RowSet,
+}
+
+impl Model for Support {
+    ghost use Rattle.ltl_spec.proofs.Transitions.IndependenceTests as independence;
+
+    ghost Value = { independence.Support };
+
+    ghost view = { λ a. record { positive = a.positive; negative = a.negative; targets = a.targets } };
+
+    ghost inverse = { λ a. record { positive = a.positive; negative = a.negative; targets = a.targets } };
+}
+
+impl Support {
+    /// Nothing is asked for.
+    pub(crate) fn nothing() -> Support
+        ensures { result ≡ independence.no_support }
+    {
+        Support {
+            positive: RowSet::empty(),
+            negative: RowSet::empty(),
+            targets: RowSet::empty(),
+        }
+    }
+
+    /// What one pair asks for.
+    pub(crate) fn by(pair: &Pair) -> Support
+        ensures { result ≡ independence.support_of pair.now }
+    {
+        Support {
+            positive: pair.cube.letter(),
+            negative: pair.cube.forbidden(),
+            targets: pair.targets,
+        }
+    }
+
+    /// What both ask for.
+    pub(crate) fn together(&self, other: &Support) -> Support
+        ensures { result ≡ independence.together self.now other.now }
+    {
+        Support {
+            positive: self.positive.union(&other.positive),
+            negative: self.negative.union(&other.negative),
+            targets: self.targets.union(&other.targets),
+        }
+    }
+
+    /// What the pairs of a list ask for.
+    pub(crate) fn of(pairs: &[Pair]) -> Support
+        ensures { independence.Covers result pairs.now }
+    {
+        let mut support = Support::nothing();
+        'pairs: for pair in pairs {
+            support = support.together(&Support::by(pair));
+        }
+        support
+    }
+
+    /// The rows.
+    pub(crate) fn targets(&self) -> RowSet {
+        self.targets
+    }
+
+    /// Whether a literal or a row is in both.
+    pub(crate) fn shares_some(&self, other: &Support) -> bool
+        ensures { result ≡ independence.shares_some self.now other.now }
+    {
+        self.positive.meets(&other.positive)
+            || self.negative.meets(&other.negative)
+            || self.targets.meets(&other.targets)
+    }
+
+    /// Whether a proposition is in both, of whichever sign, or a row.
+    fn speaks_of_same(&self, other: &Support) -> bool
+        ensures { result ≡ independence.speaks_of_same self.now other.now }
+    {
+        self.shares_some(other)
+            || self.positive.meets(&other.negative)
+            || self.negative.meets(&other.positive)
+    }
+}
+
+impl Clone for Support {
+    ghost use Rattle.std.specs.Prelude.{◌≡◌, ⊤};
+
+    ghost is_clone = { λ s r. r ≡ s };
+
+    ghost is_infallible = { λ _. ⊤ };
+
+    fn clone(&self) -> Result<Support, AllocError> {
+        Ok(*self)
+    }
+}
+
+impl Copy for Support {}
+
+/// With what the test of a row speaks of, if the row is put off.
+fn with_leaves(fulfilling: Support, leaves: &Support, is_put_off: bool) -> Support
+    ensures { IsAdded fulfilling leaves.now is_put_off result }
+{
+    if is_put_off {
+        fulfilling.together(leaves)
+    } else {
+        fulfilling
+    }
+}
+
+/// What fulfils the until rows among these.
+fn fulfilling_of<A: Allocator>(
+    table: &Table<'_, A>,
+    fulfilment: &Fulfilment<'_, A>,
+    targets: &RowSet,
+) -> Support
+    requires tests { AreTests (table_at table.now) fulfilment.now }
+    ensures { CoversAllFulfilling (table_at table.now) targets.now (length (table_at table.now).untils) result }
+{
+    let mut fulfilling = Support::nothing();
+    'untils: for number in 0..fulfilment.untils.len() {
+        let until = fulfilment.until(number);
+        let is_put_off = targets.holds(until.place);
+        fulfilling = with_leaves(fulfilling, &fulfilment.leaves(until.step), is_put_off);
+    }
+    fulfilling
+}
+
+/// What the pairs of a list ask for, and what fulfils the until rows that they put off.
+#[derive(Clone, Copy)]
+pub(crate) struct Dependencies {
+    support: Support,
+    fulfilling: Support,
+}
+
+impl Dependencies {
+    /// That of a list of pairs.
+    pub(crate) fn of<A: Allocator>(
+        table: &Table<'_, A>,
+        fulfilment: &Fulfilment<'_, A>,
+        pairs: &[Pair],
+    ) -> Dependencies
+        requires tests { AreTests (table_at table.now) fulfilment.now }
+        ensures { AreDependencies (table_at table.now) pairs.now result }
+    {
+        let support = Support::of(pairs);
+        Dependencies {
+            support,
+            fulfilling: fulfilling_of(table, fulfilment, &support.targets),
+        }
+    }
+
+    /// Whether the lists of two demands have nothing to do with each other, as far as this test tells.
+    pub(crate) fn is_independent(&self, other: &Dependencies) -> bool
+        ensures { result ≡ independence.is_independent self.now.support self.now.fulfilling other.now.support other.now.fulfilling }
+    {
+        !self.support.speaks_of_same(&other.support)
+            && !self.fulfilling.shares_some(&other.support)
+            && !other.fulfilling.shares_some(&self.support)
+    }
+}

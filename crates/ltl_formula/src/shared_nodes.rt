@@ -1,0 +1,103 @@
+//! A graph of nodes in normal form, in which equal nodes are one.
+
+ghost use Rattle.std.specs.Prelude.{◌≡◌, ◌<◌, length, IfOk};
+
+use crate::row::Row;
+use indexmap::IndexSet;
+use std::alloc::{AllocError, Allocator};
+use std::hash::{BuildHasherDefault, FoldHasher};
+use std::marker::Model;
+
+/// The number of the node that is true.
+pub const TOP: usize = 0;
+
+/// The number of the node that is false.
+pub const BOTTOM: usize = 1;
+
+/// Nodes, each once and behind its operands. They are numbered by first occurrence.
+#[derive(Drop)]
+pub struct SharedNodes<'a, A: Allocator> {
+    rows: IndexSet<Row, BuildHasherDefault<FoldHasher>, &'a A>,
+    rewrite: bool,
+}
+
+impl<'a, A: Allocator> Model for SharedNodes<'a, A> {
+    ghost use Rattle.std.specs.Prelude.{map};
+    ghost use Rattle.ltl_spec.specs.NormalForms.SharedRewriting.{HasConstants};
+    ghost use Rattle.ltl_formula.specs.SharedNodesView.{SharedNodesView, shared_nodes_of, node_of};
+
+    ghost Value = { SharedNodesView };
+
+    ghost view = { λ g. shared_nodes_of g.rows.keys g.rewrite };
+
+    ghost invariant = { λ g. HasConstants (map node_of g.rows.keys) 0 1 };
+}
+
+impl<'a, A: Allocator> SharedNodes<'a, A> {
+    ghost use Rattle.ltl_spec.specs.NormalForms.SharedNodes.{AllBefore, node_at, tree_at, tree_of};
+    ghost use Rattle.ltl_spec.specs.NormalForms.SharedRewriting.{HasConstants, StandsFor};
+    ghost use Rattle.ltl_spec.specs.NormalForms.Normal.{Top, Bottom};
+    ghost use Rattle.ltl_formula.specs.SharedNodesView.{IsBelow, Makes, node_of};
+
+    /// The graph of the two constants, for a formula of that many nodes: most have two forms. With `rewrite` set, nodes that are built later are
+    /// rewritten.
+    pub fn new(alloc: &'a A, count: usize, rewrite: bool) -> Result<Self, AllocError>
+        ensures { IfOk result (λ g. g.rewrite ≡ rewrite) }
+    {
+        let room = count.saturating_mul(2).saturating_add(8);
+        let mut rows = IndexSet::with_capacity(alloc, room)?;
+        rows.insert_full(Row::True)?;
+        rows.insert_full(Row::False)?;
+        Ok(SharedNodes { rows, rewrite })
+    }
+
+    /// How many nodes there are.
+    pub fn len(&self) -> usize
+        ensures count { result ≡ length self.now.nodes }
+        ensures constants { HasConstants self.now.nodes 0 1 }
+    {
+        self.rows.len()
+    }
+
+    /// The number of the node that is true.
+    pub fn top(&self) -> usize
+        ensures { StandsFor self.now.nodes result Top }
+    {
+        let _ = &self.rows;
+        TOP
+    }
+
+    /// The number of the node that is false.
+    pub fn bottom(&self) -> usize
+        ensures { StandsFor self.now.nodes result Bottom }
+    {
+        let _ = &self.rows;
+        BOTTOM
+    }
+
+    /// Whether nodes are rewritten when they are built.
+    pub fn rewrites(&self) -> bool
+        ensures rewrite { result ≡ self.now.rewrite }
+        ensures constants { HasConstants self.now.nodes 0 1 }
+    {
+        self.rewrite
+    }
+
+    /// A node by its number.
+    pub fn node(&self, k: usize) -> Row
+        requires { k < length self.now.nodes }
+        ensures found { node_of result ≡ node_at self.now.nodes k }
+        ensures operands { IsBelow k result }
+    {
+        self.rows[k]
+    }
+
+    /// The number of a node, which is put behind the others unless it is there.
+    pub fn intern(&mut self, node: Row) -> Result<usize, AllocError>
+        requires { AllBefore (length self.old.nodes) (node_of node) }
+        ensures { IfOk result (λ k. Makes self.old self.new k (tree_of (tree_at self.old.nodes) (node_of node))) }
+    {
+        let (number, _) = self.rows.insert_full(node)?;
+        Ok(number)
+    }
+}

@@ -1,0 +1,178 @@
+-- The copies that were listed are those of the definitions.
+use Rattle.std.proofs.Common.{◌≡◌, ℕ, ◌<◌, ◌≤◌, Bool, true, false, ◌&&◌, List, [], ◌∷◌, ◌++◌, length, map, refl, sym, ◌∙◌, ap, subst, arith, Some}
+use Rattle.std.specs.Prelude.{◌-◌, slice_get, slice_index_or, ◌==◌, All}
+use Rattle.std.specs.Bool.{Decides}
+use Rattle.std.specs.Ordering.{nat_cmp}
+use Rattle.std.specs.Cmp.{first_so, second_so}
+use Rattle.std.proofs.lemmas.List.{get_or_past}
+use Rattle.std.proofs.lemmas.List.Elements.{All-map}
+use Rattle.ltl_spec.specs.Collections.Sets.{Has, IsRising, set_of}
+use Rattle.ltl_spec.specs.Collections.Lists.{place_of}
+use Rattle.ltl_spec.specs.Automata.Automaton.{Automaton, State, Edge, edge_cmp, state_at}
+use Rattle.ltl_spec.specs.Automata.Listing.{listing, IsComplete, PassesLimits}
+use Rattle.ltl_spec.specs.Construction.Levels.{LevelState, LevelEdge, same_level_state, start_copy, climb, level_edge, level_edge_cmp, level_edges, level_targets, edge_to_level_state, copy_state, level_automaton, HasTooManyLevelStates}
+use Rattle.ltl_spec.specs.Construction.ImpliedEdges.{IsSetEdge}
+use Rattle.ltl_spec.specs.Transitions.Cubes.{Cube, literal_cmp, is_contradictory}
+use Rattle.ltl_spec.specs.Tools.Limits.{stated_limits}
+use Rattle.ltl_spec.proofs.Collections.Orders.{edge_linear, level_edge_linear}
+use Rattle.ltl_spec.proofs.Collections.SetLaws.{IsRising-set_of, Has-set_of, set_of_cases}
+use Rattle.ltl_spec.proofs.Collections.MemberLaws.{Has-map, map_cases}
+use Rattle.ltl_spec.proofs.Collections.ListLaws.{All-from_has}
+use Rattle.ltl_spec.proofs.Construction.LevelRuns.{same_level_state_Decides, complete_copies}
+use Rattle.ltl_spec.proofs.Semantics.Runs.{IsClosed}
+use Rattle.ltl_sets.specs.CubeEq.{same_cube, cube_Decides}
+use Rattle.ltl_automaton.specs.Bounds.{IsBounded}
+use Rattle.ltl_automaton.specs.Net.{key_of, targets_of, edge_in, state_of, IsReachable}
+use Rattle.ltl_automaton.specs.SharedView.{Shared, automaton_of}
+use Rattle.ltl_automaton.specs.declared.successor.Successor.{Successor}
+use Rattle.ltl_automaton.specs.declared.edge.Edge as plain
+use Rattle.ltl_automaton.proofs.EdgeLaws.{map_pushed}
+use Rattle.ltl_models.specs.GbaView as gba
+use Rattle.ltl_models.specs.BaView.{IsBa, IsPlain, IsReached}
+use Rattle.ltl_passes.specs.Degeneralize.{IsListOf, successor_of, level_edge_of, from_level, level_net, lifted_edge}
+use Rattle.ltl_passes.specs.declared.degeneralize.LevelEdge as code
+use Rattle.ltl_passes.proofs.MergedLaws.{gba_within, of_all}
+use Rattle.ltl_passes.proofs.ReachedLaws.{listed_reached}
+use Rattle.ltl_passes.proofs.TargetLaws.{closed_within}
+
+-- edges with the same parts are the same
+pub level_edge_exact : (e f : code.LevelEdge) → level_edge_of e ≡ level_edge_of f → e ≡ f
+level_edge_exact e f h =
+    let c = ap (λ (g : LevelEdge). g.cube) h in
+    let p = ap (λ (g : LevelEdge). g.copy) h in
+    λ i. let g : code.LevelEdge = record { cube = c i; copy = p i } in g
+
+pub level_edge_Decides : (e f : code.LevelEdge) → Decides (same_cube e.cube f.cube && same_level_state e.copy f.copy) (e ≡ f)
+level_edge_Decides e f = (
+  (λ t.
+      let c = (cube_Decides e.cube f.cube).0 (first_so _ _ t) in
+      let p = (same_level_state_Decides e.copy f.copy).0 (second_so _ _ t) in
+      λ i. let g : code.LevelEdge = record { cube = c i; copy = p i } in g),
+  (λ h. both _ _ ((cube_Decides e.cube f.cube).1 (ap (λ (g : code.LevelEdge). g.cube) h)) ((same_level_state_Decides e.copy f.copy).1 (ap (λ (g : code.LevelEdge). g.copy) h))),
+)
+  where
+    both : (a b : Bool) → a ≡ true → b ≡ true → (a && b) ≡ true
+    both a b p q = ap (λ x. x && b) p ∙ q
+
+-- one more edge of a copy
+pub lifted_next : (sets level : ℕ) (made more_made : List code.LevelEdge) (x : code.LevelEdge) (taken more_taken : List plain.Edge) (e : plain.Edge) → map level_edge_of made ≡ map (lifted_edge sets level) (map gba.edge_of taken)
+    → level_edge_of x ≡ lifted_edge sets level (gba.edge_of e) → more_made ≡ made ++ x ∷ [] → more_taken ≡ taken ++ e ∷ [] → map level_edge_of more_made ≡ map (lifted_edge sets level) (map gba.edge_of more_taken)
+lifted_next sets level made more_made x taken more_taken e w p q t =
+    map_pushed level_edge_of made more_made x q ∙ ap (λ l. l ++ level_edge_of x ∷ []) w ∙ ap (λ y. map (lifted_edge sets level) (map gba.edge_of taken) ++ y ∷ []) p
+    ∙ sym (map_pushed (lifted_edge sets level) (map gba.edge_of taken) (map gba.edge_of more_taken) (gba.edge_of e) (map_pushed gba.edge_of taken more_taken e t))
+
+-- a state past the end has no copies
+pub no_successors_past : (A : Automaton) (p : LevelState) → length A.states ≤ p.state → [] ≡ map successor_of (level_edges A p)
+no_successors_past A p l = ap (λ (t : State). map successor_of (set_of level_edge_cmp (map (level_edge A p.level) t.edges))) (sym (get_or_past A.states p.state (record { accepting = true; edges = [] }) l))
+
+-- the edges of a copy, as the code makes them
+pub made_successors : (A : Automaton) (sets : ℕ) (p : LevelState) (edges : List plain.Edge) (xs : List (Successor LevelState)) → sets ≡ A.sets → map gba.edge_of edges ≡ (state_at A p.state).edges
+    → xs ≡ map successor_of (set_of level_edge_cmp (map (lifted_edge sets p.level) (map gba.edge_of edges))) → xs ≡ map successor_of (level_edges A p)
+made_successors A sets p edges xs n e h =
+    h ∙ ap (map successor_of) (ap (λ m. set_of level_edge_cmp (map (lifted_edge m p.level) (map gba.edge_of edges))) n ∙ ap (λ es. set_of level_edge_cmp (map (lifted_edge A.sets p.level) es)) e)
+
+-- copies with the same list on the same level have the same edges
+pub same_successors : (A : Automaton) (s : Shared) (p q l m : LevelState) → automaton_of s ≡ A → IsListOf s p l → IsListOf s q m → m ≡ l → map successor_of (level_edges A q) ≡ map successor_of (level_edges A p)
+same_successors A s p q l m a v w e =
+    let B = automaton_of s in
+    let edges : (state_at B q.state).edges ≡ (state_at B p.state).edges = one_thing _ _ (sym w.list ∙ ap (λ (c : LevelState). slice_get s.lists c.state) e ∙ v.list) in
+    let levels : from_level s.sets q.level ≡ from_level s.sets p.level = sym w.level ∙ ap (λ (c : LevelState). c.level) e ∙ v.level in
+    let here : map successor_of (level_edges B q) ≡ map successor_of (level_edges B p) = λ i. map successor_of (set_of level_edge_cmp (map (climbing s.sets (levels i)) (edges i))) in
+    ap (λ X. map successor_of (level_edges X q)) (sym a) ∙ here ∙ ap (λ X. map successor_of (level_edges X p)) a
+  where
+    climbing : ℕ → ℕ → Edge → LevelEdge
+    climbing sets from e = record { cube = e.cube; copy = record { state = e.target; level = climb (sets - from) e.marks from } }
+
+    one_thing : (x y : List Edge) → Some x ≡ Some y → x ≡ y
+    one_thing x y h = cc
+
+module _ (A : Automaton) where
+  all_targets : targets_of (level_net A) ≡ level_targets A
+  all_targets = λ i p. over (level_edges A p) i
+    where
+      over : (xs : List LevelEdge) → map key_of (map successor_of xs) ≡ map (λ (e : LevelEdge). e.copy) xs
+      over [] = refl
+      over (x ∷ xs) = ap (λ l. x.copy ∷ l) (over xs)
+
+  all_states : (keys : List LevelState) → state_of same_level_state true (level_net A) keys ≡ copy_state A keys
+  all_states keys = λ i p. let s : State = record { accepting = p.level == A.sets; edges = set_of edge_cmp (over (level_edges A p) i) } in s
+    where
+      over : (xs : List LevelEdge) → map (edge_in same_level_state keys) (map successor_of xs) ≡ map (edge_to_level_state A keys) xs
+      over [] = refl
+      over (x ∷ xs) = ap (λ l. edge_to_level_state A keys x ∷ l) (over xs)
+
+  -- the limits are the same
+  pub is_too_large : PassesLimits same_level_state (targets_of (level_net A)) start_copy stated_limits.states stated_limits.edges → HasTooManyLevelStates A stated_limits.states stated_limits.edges
+  is_too_large = subst (λ T. PassesLimits same_level_state T start_copy stated_limits.states stated_limits.edges) all_targets
+
+  pub is_not_too_large : ¬ (PassesLimits same_level_state (targets_of (level_net A)) start_copy stated_limits.states stated_limits.edges) → ¬ (HasTooManyLevelStates A stated_limits.states stated_limits.edges)
+  is_not_too_large = subst (λ T. ¬ (PassesLimits same_level_state T start_copy stated_limits.states stated_limits.edges)) all_targets
+
+  module _ (inside : gba.IsGba A) (B : Automaton) (w : IsReachable same_level_state true (level_net A) start_copy 0 B) where
+    closed : IsClosed A
+    closed = closed_within A inside.some (gba_within A inside)
+
+    abbrev n : ℕ
+    n = w.0
+
+    abbrev listed : List LevelState
+    listed = listing same_level_state (level_targets A) start_copy n
+
+    complete : IsComplete same_level_state (level_targets A) start_copy n
+    complete = subst (λ T. IsComplete same_level_state T start_copy n) all_targets w.1
+
+    abbrev whole : Automaton
+    whole = record { sets = 0; states = map (copy_state A listed) listed }
+
+    is_whole : B ≡ whole
+    is_whole =
+        let keys : listing same_level_state (targets_of (level_net A)) start_copy n ≡ listed = ap (λ T. listing same_level_state T start_copy n) all_targets in
+        w.2 ∙ (λ i. let X : Automaton = record { sets = 0; states = map (all_states (keys i) i) (keys i) } in X)
+
+    pub is_leveled : B ≡ level_automaton A
+    is_leveled = is_whole ∙ ap (λ ks. let X : Automaton = record { sets = 0; states = map (copy_state A ks) ks } in X) (complete_copies A closed n complete)
+
+    -- what holds of each state
+    each : (P : State → Type 0) → ((p : LevelState) → P (copy_state A listed p)) → All P B.states
+    each P h = subst (λ (X : Automaton). All P X.states) (sym is_whole) (All-map P (copy_state A listed) listed (λ k d m. h (slice_index_or listed k d)))
+
+    has_edge : (ks : List LevelState) (p q : LevelState) → Has (level_targets A p) q → (e : Edge) × Has (copy_state A ks p).edges e × (e.target ≡ place_of same_level_state q ks)
+    has_edge ks p q h =
+        let v = map_cases (λ (e : LevelEdge). e.copy) (level_edges A p) q h in
+        let f = edge_to_level_state A ks in
+        (f v.0, Has-set_of edge_linear (map f (level_edges A p)) (f v.0) (Has-map f (level_edges A p) v.0 v.1), ap (λ c. place_of same_level_state c ks) (sym v.2))
+
+    -- an edge of a copy has no mark, and the literals of an edge of the automaton
+    unmarked : (p : LevelState) (e : Edge) → Has (copy_state A listed p).edges e → e.marks ≡ []
+    unmarked p e h =
+        let v = map_cases (edge_to_level_state A listed) (level_edges A p) e (set_of_cases edge_linear (map (edge_to_level_state A listed) (level_edges A p)) e h) in
+        ap (λ (f : Edge). f.marks) v.2
+
+    copied : (P : Cube → Type 0) → ((s : ℕ) (e : Edge) → Has (state_at A s).edges e → P e.cube) → (p : LevelState) (e : Edge) → Has (copy_state A listed p).edges e → P e.cube
+    copied P all p e h =
+        let (f, m, d) = map_cases (edge_to_level_state A listed) (level_edges A p) e (set_of_cases edge_linear (map (edge_to_level_state A listed) (level_edges A p)) e h) in
+        let (x, k, q) = map_cases (level_edge A p.level) (state_at A p.state).edges f (set_of_cases level_edge_linear (map (level_edge A p.level) (state_at A p.state).edges) f m) in
+        subst P (sym (ap (λ (y : Edge). y.cube) d ∙ ap (λ (y : LevelEdge). y.cube) q)) (all p.state x k)
+
+    edge : (s : ℕ) (e : Edge) → Has (state_at A s).edges e → gba.IsEdgeWithin (length A.states) A.sets e
+    edge = of_all A (gba.IsEdgeWithin (length A.states) A.sets) inside.within
+
+    is_plain : IsPlain B
+    is_plain = each (λ s. All (λ e. e.marks ≡ []) s.edges) (λ p. All-from_has (λ (e : Edge). e.marks ≡ []) (copy_state A listed p).edges (unmarked p))
+
+    pub is_ba : IsBounded stated_limits.states stated_limits.edges B → IsBa B
+    is_ba b = record {
+      no_sets = ap (λ (X : Automaton). X.sets) is_whole;
+      some = b.some;
+      few_states = b.few_states;
+      few_edges = b.few_edges;
+      within = b.within;
+      plain = is_plain;
+      sets = each (λ s. All IsSetEdge s.edges) (λ p. All-from_has IsSetEdge (copy_state A listed p).edges (λ x h.
+          record { cube = copied (IsRising literal_cmp) (λ s e m. (edge s e m).rising.cube) p x h; marks = subst (IsRising nat_cmp) (sym (unmarked p x h)) tt }));
+      consistent = each (λ s. All (λ e. is_contradictory e.cube ≡ false) s.edges) (λ p.
+          All-from_has (λ (e : Edge). is_contradictory e.cube ≡ false) (copy_state A listed p).edges (copied (λ c. is_contradictory c ≡ false) (λ s e m. (edge s e m).consistent) p));
+      rising = each (λ s. IsRising edge_cmp s.edges) (λ p. IsRising-set_of edge_linear (map (edge_to_level_state A listed) (level_edges A p)));
+      reached = subst (λ (X : Automaton). (s : ℕ) → s < length X.states → IsReached X s) (sym is_whole)
+          (listed_reached same_level_state same_level_state_Decides (level_targets A) start_copy (copy_state A) 0 n (let e = complete in omega arith) has_edge);
+    }

@@ -1,8 +1,0 @@
-use Rattle.std.proofs.Common.{◌≡◌}
-use Rattle.std.specs.Prelude.{map, take}
-use Rattle.ltl_models.specs.GbaView as gba
-use Rattle.ltl_passes.specs.Copies.{copy_edge_of, lifted_edge}
-use Rattle.ltl_passes.proofs.copies.copy_edges.Given as goal
-
-abbrev pub invariant-loop-edge : goal.invariant-loop-edge
-invariant-loop-edge g l = map copy_edge_of l.copied.items ≡ map (lifted_edge l.sets l.level) (map gba.edge_of (take l.edge-index l.edges))

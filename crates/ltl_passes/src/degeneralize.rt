@@ -1,0 +1,364 @@
+//! Levels: from acceptance sets on edges to accepting states. Each state has a copy for each number of sets met in turn.
+
+ghost use Rattle.std.specs.Prelude.{◌≡◌, map, true, IfOk, IfSome, OnOk, IsErrOf};
+ghost use Rattle.ltl_spec.specs.Collections.Sets.{set_of};
+ghost use Rattle.ltl_spec.specs.Construction.Levels as levels_of;
+ghost use Rattle.ltl_spec.specs.Tools.Limits.{stated_limits};
+ghost use Rattle.ltl_automaton.specs.SharedView.{automaton_of};
+ghost use Rattle.ltl_models.specs.GbaView as gba;
+ghost use Rattle.ltl_models.specs.BaView.{IsBa};
+ghost use Rattle.ltl_passes.specs.Degeneralize.{HaveAtLeast, IsBelowLifted, IsListOf, RiseLifted, successor_of, level_edge_of, level_net, lifted_edge};
+
+use crate::rises::{count_rises, counted};
+use ltl_automaton::{
+    AutomatonFault, Interner, Key, Limits, SharedStates, Successor, Successors, explore_from,
+    next_level,
+};
+use ltl_models::{Ba, BaFault, Gba, GbaEdge, MOST_EDGES, MOST_STATES};
+use ltl_sets::{Cube, RowSet};
+use std::alloc::{AllocError, Allocator};
+use std::cmp::Ordering;
+use std::hash::{Hash, Hasher};
+use std::marker::Model;
+
+/// A state on a level.
+pub struct LevelState {
+    pub state: usize,
+    pub level: usize,
+}
+
+impl Model for LevelState {
+    ghost use Rattle.ltl_spec.specs.Construction.Levels as spec;
+    ghost use Rattle.ltl_passes.specs.LevelCodes.{level_state_code};
+
+    ghost Value = { spec.LevelState };
+
+    ghost coded = { level_state_code };
+
+    ghost view = { λ p. record { state = p.state; level = p.level } };
+
+    ghost inverse = { λ p. record { state = p.state; level = p.level } };
+}
+
+impl Clone for LevelState {
+    ghost use Rattle.std.specs.Prelude.{◌≡◌, ⊤};
+
+    ghost is_clone = { λ s r. r ≡ s };
+
+    ghost is_infallible = { λ _. ⊤ };
+
+    fn clone(&self) -> Result<LevelState, AllocError> {
+        Ok(*self)
+    }
+}
+
+impl Copy for LevelState {}
+
+impl PartialEq for LevelState {
+    ghost use Rattle.std.specs.Cmp.{partial_equiv_from_equiv};
+    ghost use Rattle.ltl_spec.specs.Construction.Levels.{same_level_state};
+    ghost use Rattle.ltl_passes.specs.LevelCodes.{same_equiv};
+
+    ghost eq = { same_level_state };
+
+    ghost laws = { partial_equiv_from_equiv same_equiv };
+
+    fn eq(&self, other: &LevelState) -> bool {
+        self.state == other.state && self.level == other.level
+    }
+}
+
+impl Eq for LevelState {
+    ghost use Rattle.ltl_passes.specs.LevelCodes.{same_equiv};
+
+    ghost laws = { same_equiv };
+}
+
+impl Hash for LevelState {
+    ghost use Rattle.ltl_passes.specs.LevelCodes.{hash_of_level_state, hash_of_same};
+
+    ghost hash_input = { hash_of_level_state };
+
+    ghost respects_eq = { hash_of_same };
+
+    fn hash<H: Hasher>(&self, state: &mut H) {
+        self.state
+            .wrapping_mul(256)
+            .wrapping_add(self.level)
+            .hash(state);
+    }
+}
+
+impl Key for LevelState {
+    ghost use Rattle.ltl_spec.proofs.Construction.LevelRuns.{same_level_state_Decides};
+
+    ghost exact = { λ p q. (same_level_state_Decides p q).0 };
+}
+
+/// An edge to a copy.
+#[derive(Clone, Copy, PartialEq, Eq)]
+pub(crate) struct LevelEdge {
+    pub cube: Cube,
+    pub copy: LevelState,
+}
+
+impl LevelEdge {
+    /// By the literals, then by the state, then by the level.
+    #[inline(always)]
+    pub(crate) fn cmp_list(&self, other: &LevelEdge) -> Ordering
+        ensures { result ≡ levels_of.level_edge_cmp (level_edge_of self.now) (level_edge_of other.now) }
+    {
+        match self.cube.cmp_list(&other.cube) {
+            Ordering::Equal => match self.copy.state.cmp(&other.copy.state) {
+                Ordering::Equal => self.copy.level.cmp(&other.copy.level),
+                unequal => unequal,
+            },
+            unequal => unequal,
+        }
+    }
+}
+
+/// An edge of a copy on a level.
+#[inline(always)]
+pub(crate) fn level_edge(sets: usize, edge: &GbaEdge, level: usize) -> LevelEdge
+    ensures lifted { level_edge_of result ≡ lifted_edge sets level (gba.edge_of edge.now) }
+{
+    LevelEdge {
+        cube: edge.cube,
+        copy: LevelState {
+            state: edge.target,
+            level: next_level(sets, &edge.marks, level),
+        },
+    }
+}
+
+/// The edges of a copy, sorted and distinct.
+fn level_edges<'a, A: Allocator>(
+    alloc: &'a A,
+    sets: usize,
+    edges: &[GbaEdge],
+    level: usize,
+) -> Result<Vec<LevelEdge, &'a A>, AllocError>
+    ensures set { IfOk result (λ es. map level_edge_of es.items ≡ set_of levels_of.level_edge_cmp (map (lifted_edge sets level) (map gba.edge_of edges.now))) }
+{
+    let mut copied = Vec::with_capacity(alloc, edges.len())?;
+    for edge in edges {
+        copied.push(level_edge(sets, edge, level))?;
+    }
+    sort_dedup(&mut copied);
+    Ok(copied)
+}
+
+/// Sorts the edges, and keeps each once.
+fn sort_dedup<'a, A: Allocator>(edges: &mut Vec<LevelEdge, &'a A>)
+    ensures set { map level_edge_of edges.new.items ≡ set_of levels_of.level_edge_cmp (map level_edge_of edges.old.items) }
+{
+    edges.sort_unstable_by(|e, f| e.cmp_list(f));
+    edges.dedup();
+}
+
+/// Whether an edge is below the other one by its literals and its target, so that it is on each level.
+#[inline(always)]
+fn is_below(edge: &GbaEdge, other: &GbaEdge) -> bool
+    ensures { result ≡ true → IsBelowLifted (gba.edge_of edge.now) (gba.edge_of other.now) }
+{
+    match edge.cube.cmp_list(&other.cube) {
+        Ordering::Less => true,
+        Ordering::Equal => edge.target < other.target,
+        Ordering::Greater => false,
+    }
+}
+
+/// Whether each edge is below the next one by its literals and its target. Then on each level the edges are sorted and distinct.
+fn rise_lifted(edges: &[GbaEdge]) -> bool
+    ensures { result ≡ true → RiseLifted (map gba.edge_of edges.now) }
+{
+    for place in 1..edges.len() {
+        if !is_below(&edges[place - 1], &edges[place]) {
+            return false;
+        }
+    }
+    true
+}
+
+/// The edges of a copy without marks, in the order of the automaton's.
+fn lifted_successors<'c, B: Allocator>(
+    alloc: &'c B,
+    sets: usize,
+    edges: &[GbaEdge],
+    level: usize,
+) -> Result<Vec<Successor<LevelState>, &'c B>, AllocError>
+    ensures { IfOk result (λ v. v.items ≡ map successor_of (map (lifted_edge sets level) (map gba.edge_of edges.now))) }
+{
+    let mut successors = Vec::with_capacity(alloc, edges.len())?;
+    for edge in edges {
+        successors.push(Successor {
+            cube: edge.cube,
+            key: LevelState {
+                state: edge.target,
+                level: next_level(sets, &edge.marks, level),
+            },
+            marks: RowSet::empty(),
+        })?;
+    }
+    Ok(successors)
+}
+
+/// The edges without marks.
+fn successors_of<'c, B: Allocator>(
+    alloc: &'c B,
+    edges: &[LevelEdge],
+) -> Result<Vec<Successor<LevelState>, &'c B>, AllocError>
+    ensures { IfOk result (λ v. v.items ≡ map successor_of (map level_edge_of edges.now)) }
+{
+    let mut successors = Vec::with_capacity(alloc, edges.len())?;
+    for edge in edges {
+        successors.push(Successor {
+            cube: edge.cube,
+            key: edge.copy,
+            marks: RowSet::empty(),
+        })?;
+    }
+    Ok(successors)
+}
+
+/// The edges of a copy without marks, sorted and distinct. Mostly they stand so.
+fn level_successors<'c, B: Allocator>(
+    alloc: &'c B,
+    sets: usize,
+    edges: &[GbaEdge],
+    level: usize,
+) -> Result<Vec<Successor<LevelState>, &'c B>, AllocError>
+    ensures { IfOk result (λ v. v.items ≡ map successor_of (set_of levels_of.level_edge_cmp (map (lifted_edge sets level) (map gba.edge_of edges.now)))) }
+{
+    if rise_lifted(edges) {
+        return lifted_successors(alloc, sets, edges, level);
+    }
+    let copied = level_edges(alloc, sets, edges, level)?;
+    successors_of(alloc, copied.as_slice())
+}
+
+/// Lists on levels, by number.
+type Lists<'a, A> = Interner<'a, LevelState, A>;
+
+/// The number of a copy's list of edges in place of its state, and the level from which these climb. Copies that agree on this have the same
+/// edges.
+fn list_of<A: Allocator>(states: &SharedStates<'_, A>, copy: &LevelState) -> Option<LevelState>
+    ensures { IfSome result (IsListOf states.now copy.now) }
+{
+    if copy.state >= states.len() {
+        return None;
+    }
+    let last = copy.level == states.sets();
+    Some(LevelState {
+        state: states.list(copy.state),
+        level: if last { 0 } else { copy.level },
+    })
+}
+
+/// The copies of an automaton's states as things that are listed, for each list on a level the copy that was first asked for with it, and for each
+/// list how many edges it gives at least, once this was asked.
+#[derive(Drop)]
+struct LevelStates<'b, 'g, 'a, A: Allocator> {
+    automaton: &'b Gba<'g, A>,
+    states: &'b SharedStates<'g, A>,
+    lists: Lists<'a, A>,
+    firsts: Vec<LevelState, &'a A>,
+    counts: Vec<usize, &'a A>,
+}
+
+impl<'b, 'g, 'a, A: Allocator> Successors<LevelState> for LevelStates<'b, 'g, 'a, A> {
+    ghost net = { λ n. level_net n.automaton.now };
+
+    ghost ready = { λ n. (automaton_of n.states.now ≡ n.automaton.now) × HaveAtLeast n.states.now.lists n.counts.items };
+
+    fn accepting(&self, key: &LevelState) -> bool {
+        key.level == self.automaton.sets()
+    }
+
+    /// The copy that was first asked for with this list. That it has the list is tested, so nothing has to hold of what is noted.
+    #[tactic(auto, using(crate::proofs::LevelStateLaws::same_successors))]
+    fn same_successors_as(&mut self, key: &LevelState) -> Result<Option<LevelState>, AllocError> {
+        let states = self.states;
+        let Some(list) = list_of(states, key) else {
+            return Ok(None);
+        };
+        let place = self.lists.number(list)?;
+        if place >= self.firsts.len() {
+            self.firsts.push(*key)?;
+            return Ok(None);
+        }
+        let first = self.firsts[place];
+        match list_of(states, &first) {
+            Some(other) if other == list => Ok(Some(first)),
+            _ => Ok(None),
+        }
+    }
+
+    /// The lists are counted at the first call.
+    #[tactic(auto, using(crate::proofs::RiseLaws::at_least))]
+    fn edges_at_least(&mut self, key: &LevelState) -> Result<usize, AllocError> {
+        if self.counts.is_empty() {
+            count_rises(self.states, &mut self.counts)?;
+        }
+        Ok(counted(self.states, self.counts.as_slice(), key))
+    }
+
+    #[tactic(auto, using(crate::proofs::LevelStateLaws::no_successors_past, crate::proofs::LevelStateLaws::made_successors))]
+    fn successors<'c, B: Allocator>(
+        &mut self,
+        alloc: &'c B,
+        key: &LevelState,
+        _most: usize,
+    ) -> Result<Vec<Successor<LevelState>, &'c B>, AutomatonFault> {
+        let automaton = self.automaton;
+        automaton.invariant();
+        if key.state < automaton.len() {
+            let edges = automaton.edges(key.state);
+            Ok(level_successors(alloc, automaton.sets(), edges, key.level)?)
+        } else {
+            Ok(Vec::new(alloc))
+        }
+    }
+}
+
+/// The states of the Büchi automaton of the copies that are reached from the start on level 0; those on the last level are accepting.
+pub fn level_states<'a, A: Allocator>(
+    alloc: &'a A,
+    automaton: &Gba<'_, A>,
+) -> Result<SharedStates<'a, A>, BaFault>
+    ensures copies { IfOk result (λ s. automaton_of s ≡ levels_of.level_automaton automaton.now) }
+    ensures inside { IfOk result (λ s. IsBa (automaton_of s)) }
+
+    // The fault comes exactly where a limit is passed. Memory may be refused at any time.
+    ensures few { OnOk result (¬ levels_of.HasTooManyLevelStates automaton.now stated_limits.states stated_limits.edges) }
+    ensures many { IsErrOf result BaFault.TooLarge → levels_of.HasTooManyLevelStates automaton.now stated_limits.states stated_limits.edges }
+{
+    automaton.invariant();
+    let start = LevelState { state: 0, level: 0 };
+    let limits = Limits {
+        states: MOST_STATES,
+        edges: MOST_EDGES,
+    };
+    let mut copies = LevelStates {
+        automaton,
+        states: automaton.states(),
+        lists: Interner::new(alloc),
+        firsts: Vec::new(alloc),
+        counts: Vec::new(alloc),
+    };
+    let states = explore_from(alloc, start, 0, &mut copies, true, limits)?;
+    Ok(states)
+}
+
+/// The Büchi automaton of the copies that are reached from the start on level 0; those on the last level are accepting.
+pub fn levels<'a, A: Allocator>(alloc: &'a A, automaton: &Gba<'_, A>) -> Result<Ba<'a, A>, BaFault>
+    ensures copies { IfOk result (λ b. b ≡ levels_of.level_automaton automaton.now) }
+
+    // The fault comes exactly where a limit is passed. Memory may be refused at any time.
+    ensures few { OnOk result (¬ levels_of.HasTooManyLevelStates automaton.now stated_limits.states stated_limits.edges) }
+    ensures many { IsErrOf result BaFault.TooLarge → levels_of.HasTooManyLevelStates automaton.now stated_limits.states stated_limits.edges }
+{
+    let states = level_states(alloc, automaton)?;
+    Ok(Ba::new(alloc, states)?)
+}

@@ -1,0 +1,209 @@
+//! The classes of states that are merged.
+
+ghost use Rattle.std.specs.Prelude.{◌≡◌, ◌<◌, true, List, ◌++◌, length, map, slice_get, slice_index, Some, All, IfOk, OnOk};
+ghost use Rattle.std.specs.List.{range_with_len};
+ghost use Rattle.ltl_spec.specs.Collections.Lists.{HasNoRepeats};
+ghost use Rattle.ltl_spec.specs.Collections.Sets.{IsRising};
+ghost use Rattle.ltl_spec.specs.Automata.Automaton as spec;
+ghost use Rattle.ltl_spec.specs.Automata.Automaton.{edge_cmp};
+ghost use Rattle.ltl_spec.specs.Construction.Merging as merging;
+ghost use Rattle.ltl_automaton.specs.EdgeView.{edge_of};
+ghost use Rattle.ltl_automaton.specs.SharedView.{automaton_of};
+ghost use Rattle.ltl_passes.specs.Partition.{AreListsWithin, AreSignatures, IsFirstPlaces, IsLeastAlike, IsLeastPlaces, IsWithinStates, place_signature, list_view};
+
+use crate::injective::are_injective;
+use crate::retargeting::retargeted;
+use ltl_automaton::{Edge, EdgeList, Interner, SharedState, SharedStates};
+use std::alloc::{AllocError, Allocator};
+
+/// How lists of edges were seen, each once.
+type ListInterner<'a, A> = Interner<'a, EdgeList<'a, A>, A>;
+
+/// States by the signatures of their lists, each once.
+type StateInterner<'a, A> = Interner<'a, SharedState, A>;
+
+/// Each state as its own name.
+pub(crate) fn own_names<'a, A: Allocator>(
+    alloc: &'a A,
+    count: usize,
+) -> Result<Vec<usize, &'a A>, AllocError>
+    ensures { IfOk result (λ v. v.items ≡ range_with_len 0 count) }
+{
+    let mut names = Vec::new(alloc);
+    for s in 0..count {
+        names.push(s)?;
+    }
+    Ok(names)
+}
+
+/// The signature of a list as it is seen: its place, the next one where it has none.
+fn signature<'a, A: Allocator>(
+    seen: &mut ListInterner<'a, A>,
+    edges: Vec<Edge, &'a A>,
+) -> Result<usize, AllocError>
+    ensures place { IfOk result (λ i. slice_get seen.new.keys i ≡ Some (map edge_of edges.entry.items)) }
+    ensures distinct { OnOk result (HasNoRepeats seen.old.keys → HasNoRepeats seen.new.keys) }
+    ensures extends { OnOk result ((more : List (List spec.Edge)) × (seen.new.keys ≡ seen.old.keys ++ more)) }
+{
+    let place = seen.number(EdgeList::new(edges))?;
+    Ok(place)
+}
+
+/// The signatures of all lists, as they are seen under these names of their targets.
+fn list_signatures_under<'a, A: Allocator>(
+    alloc: &'a A,
+    seen: &mut ListInterner<'a, A>,
+    states: &SharedStates<'_, A>,
+    names: &[usize],
+) -> Result<Vec<usize, &'a A>, AllocError>
+    requires within { AreListsWithin states.now.lists (length names.now) }
+    requires distinct { HasNoRepeats seen.old.keys }
+    ensures { IfOk result (λ v. AreSignatures (length states.now.lists) (list_view states.now.lists (slice_index names.now)) seen.new.keys v.items) }
+{
+    let mut signatures = Vec::new(alloc);
+    for list in 0..states.list_count() {
+        let view = retargeted(alloc, states.list_edges(list), names)?;
+        signatures.push(signature(seen, view)?)?;
+    }
+    Ok(signatures)
+}
+
+/// For each signature that occurs the first place where it stands.
+fn first_places<'a, A: Allocator>(
+    alloc: &'a A,
+    signatures: &[usize],
+    count: usize,
+) -> Result<Vec<usize, &'a A>, AllocError>
+    requires within { All (λ c. c < count) signatures.now }
+    ensures { IfOk result (λ v. IsFirstPlaces signatures.now count 0 v.items) }
+{
+    let mut firsts = Vec::new(alloc);
+    firsts.resize(count, 0)?;
+    let mut s = signatures.len();
+    'states: while s > 0 {
+        s -= 1;
+        firsts[signatures[s]] = s;
+    }
+    Ok(firsts)
+}
+
+/// For each state the least state with its signature.
+fn least_places<'a, A: Allocator>(
+    alloc: &'a A,
+    signatures: &[usize],
+    count: usize,
+) -> Result<Vec<usize, &'a A>, AllocError>
+    requires within { All (λ c. c < count) signatures.now }
+    ensures { IfOk result (λ v. IsLeastPlaces signatures.now v.items) }
+{
+    let firsts = first_places(alloc, signatures, count)?;
+    let mut names = Vec::new(alloc);
+    for signature in signatures {
+        names.push(firsts[*signature])?;
+    }
+    Ok(names)
+}
+
+/// The signature of a state: the place of what is seen of it, the next one where it has none.
+fn state_signature<A: Allocator>(
+    places: &mut StateInterner<'_, A>,
+    state: SharedState,
+) -> Result<usize, AllocError>
+    ensures place { IfOk result (λ i. slice_get places.new.keys i ≡ Some state) }
+    ensures distinct { OnOk result (HasNoRepeats places.old.keys → HasNoRepeats places.new.keys) }
+    ensures extends { OnOk result ((more : List SharedState) × (places.new.keys ≡ places.old.keys ++ more)) }
+{
+    let signature = places.number(state)?;
+    Ok(signature)
+}
+
+/// The signatures of the states by those of their lists.
+fn state_signatures<'a, A: Allocator>(
+    alloc: &'a A,
+    places: &mut StateInterner<'a, A>,
+    states: &SharedStates<'_, A>,
+    list_signatures: &[usize],
+) -> Result<Vec<usize, &'a A>, AllocError>
+    requires long { length list_signatures.now ≡ length states.now.lists }
+    requires distinct { HasNoRepeats places.old.keys }
+    ensures { IfOk result (λ v. AreSignatures (length states.now.states) (place_signature states.now.states list_signatures.now) places.new.keys v.items) }
+{
+    let mut signatures = Vec::new(alloc);
+    for s in 0..states.len() {
+        let state = states.state(s);
+        let coded = SharedState {
+            list: list_signatures[state.list],
+            accepting: state.accepting,
+        };
+        signatures.push(state_signature(places, coded)?)?;
+    }
+    Ok(signatures)
+}
+
+/// For each state the least one that is accepting where it is, and whose list has the same signature.
+fn least_alike<'a, A: Allocator>(
+    alloc: &'a A,
+    states: &SharedStates<'_, A>,
+    list_signatures: &[usize],
+) -> Result<Vec<usize, &'a A>, AllocError>
+    requires long { length list_signatures.now ≡ length states.now.lists }
+    ensures { IfOk result (λ v. IsLeastAlike (length states.now.states) (place_signature states.now.states list_signatures.now) v.items) }
+{
+    let mut places: StateInterner<'a, A> = Interner::new(alloc);
+    let signatures = state_signatures(alloc, &mut places, states, list_signatures)?;
+    least_places(alloc, signatures.as_slice(), places.len())
+}
+
+/// The names of the classes, refined from those of a round on.
+fn refined<'a, A: Allocator>(
+    alloc: &'a A,
+    states: &SharedStates<'_, A>,
+    coarse: Vec<usize, &'a A>,
+    from: usize,
+) -> Result<Vec<usize, &'a A>, AllocError>
+    requires within { IsWithinStates (automaton_of states.now).states }
+    requires round { coarse.items ≡ merging.class_names (automaton_of states.now) from }
+    ensures { IfOk result (λ v. v.items ≡ merging.class_names (automaton_of states.now) (length (automaton_of states.now).states)) }
+{
+    states.invariant();
+    let mut names = coarse;
+    let mut seen: ListInterner<'a, A> = Interner::new(alloc);
+    for round in from..states.len() {
+        let signatures = list_signatures_under(alloc, &mut seen, states, names.as_slice())?;
+        let next = least_alike(alloc, states, signatures.as_slice())?;
+        if next.as_slice() == names.as_slice() {
+            return Ok(names);
+        }
+        names = next;
+    }
+    Ok(names)
+}
+
+/// The name of each state's class, its least state. Two states are of one class where both or neither is accepting and their edges are equal
+/// up to the classes of the targets. Where the edges rise, other lists are other sets of edges, and the first round needs no look at them; and it
+/// is the last one where its names tell all targets apart.
+pub(crate) fn class_names<'a, A: Allocator>(
+    alloc: &'a A,
+    states: &SharedStates<'_, A>,
+    rise: bool,
+) -> Result<Vec<usize, &'a A>, AllocError>
+    requires within { IsWithinStates (automaton_of states.now).states }
+    requires rise { rise ≡ true → All (λ es. IsRising edge_cmp es) states.now.lists }
+    ensures { IfOk result (λ v. v.items ≡ merging.class_names (automaton_of states.now) (length (automaton_of states.now).states)) }
+{
+    states.invariant();
+    let names = own_names(alloc, states.len())?;
+    if !rise {
+        return refined(alloc, states, names, 0);
+    }
+    let signatures = own_names(alloc, states.list_count())?;
+    let next = least_alike(alloc, states, signatures.as_slice())?;
+    if next.as_slice() == names.as_slice() {
+        return Ok(names);
+    }
+    let injective = are_injective(alloc, states, next.as_slice())?;
+    if injective {
+        return Ok(next);
+    }
+    refined(alloc, states, next, 1)
+}
