@@ -1,11 +1,11 @@
 #!/usr/bin/env python3
-"""Times ltl2ba on families of formulas, beside `spin -f` where that is installed.
+"""Times ltl2ba on families of formulas, beside `spin -f` if that is installed.
 
 Usage: bench/families.py [-s SECONDS] [FAMILY..]
 
-For each formula: how long each program took as a whole, with the output thrown away, and how much it printed. A program that takes longer
-than SECONDS (10, if not given) is stopped. The last line has the geometric mean of the quotients of both times, over the formulas that both
-translate. Nothing checks the numbers: they depend on the machine."""
+It prints for each formula how long each program took as a whole, with the output thrown away, and how much it printed. A program that takes longer than
+SECONDS (10, if not given) is stopped. The last line has the geometric mean of the ratios of both times, over the formulas that both translate. Nothing
+checks the numbers: they depend on the machine."""
 import math
 import shutil
 import subprocess
@@ -36,7 +36,7 @@ FAMILIES = {
 
 
 def timed(words, most):
-    """What to say of how long the program took and how many bytes it printed, and the seconds, or none where it was stopped or refused."""
+    """A text with the time of the program and the number of bytes that it printed; and the seconds, or None if it was stopped or refused."""
     began = time.monotonic()
     try:
         run = subprocess.run(words, stdout=subprocess.PIPE, stderr=subprocess.DEVNULL, timeout=most)

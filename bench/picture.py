@@ -1,11 +1,11 @@
 #!/usr/bin/env python3
-"""Draws how long ltl2ba takes on four families of growing formulas, and `spin -f` where that is installed.
+"""Draws how long ltl2ba takes on four families of growing formulas, and `spin -f` if that is installed.
 
 Usage: bench/picture.py [-s SECONDS] [FILE]
 
-FILE is bench/times.svg, if none is given. Each family has a panel: across, how many parts its formula has; upwards, the seconds of the whole process, with
-the output thrown away, the best of three; both axes are logarithmic. A line ends where a formula is too large, or takes longer than SECONDS (10, if not
-given). Nothing checks the times: they depend on the machine."""
+FILE is bench/times.svg, if none is given. Each family has a panel. Its horizontal axis is the number of parts of the formula, and its vertical axis the
+seconds of the whole process, with the output thrown away, the best of three; both axes are logarithmic. A line ends where a formula is too large, or takes
+longer than SECONDS (10, if not given). Nothing checks the times: they depend on the machine."""
 import math
 import shutil
 import subprocess
@@ -35,12 +35,12 @@ FAMILIES = {
 
 
 def seconds(words, most):
-    """The best of three runs, or none where the program refuses or takes too long."""
+    """The best of three runs, or None if the program refuses the formula or takes too long."""
     best = math.inf
     for _ in range(3):
         began = time.monotonic()
         run = subprocess.Popen(words, stdout=subprocess.DEVNULL, stderr=subprocess.DEVNULL)
-        # A wait with a limit looks only now and then whether the program has ended.
+        # A wait with a time limit looks only now and then whether the program has ended.
         clock = threading.Timer(most, run.kill)
         clock.start()
         status = run.wait()

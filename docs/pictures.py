@@ -1,6 +1,6 @@
 #!/usr/bin/env python3
-"""Draws docs/pictures: of each automaton that a page shows, NAME.dot is what ltldraw prints, and NAME.svg what Graphviz' `dot` makes of it, with a last line that
-has the version of dot and the font by which it measured texts. Without dot no NAME.svg is written.
+"""Draws docs/pictures. For each automaton that a page shows, NAME.dot is what ltldraw prints, and NAME.svg is what Graphviz' `dot` makes of it. The last
+line of NAME.svg has the version of dot and the font by which it measured texts. Without dot no NAME.svg is written.
 
 Usage: docs/pictures.py [-p FOLDER] [TO]; the programs are those of the folder, or those that ./build made, and the pictures go to TO, or to docs/pictures."""
 
@@ -12,19 +12,19 @@ import sys
 from pathlib import Path
 
 TOP = Path(__file__).resolve().parent.parent
-# Each picture: its name, its automaton, which is a formula or a file, and what is asked of dot beside the options of all.
+# Each picture: its name, its automaton, which is a formula or a file, and options of dot beside those of all pictures.
 TABLE = [
     ("response", "[](p -> <>q)", []),
     ("starvation", "!([](wants -> <>has))", []),
     ("anyone", Path("docs/tutorial/anyone.hoa"), ["-Gnodesep=1", "-Granksep=0.8"]),
     ("turns", Path("docs/tutorial/turns.hoa"), ["-Gnodesep=1", "-Granksep=0.8"]),
 ]
-# A white ground of its own has a picture seen on a dark page, too.
+# A white ground, so that a picture can be seen on a dark page, too.
 OPTIONS = ["-Tsvg", "-Gbgcolor=white", "-Gpad=0.15", "-Gfontname=Helvetica", "-Nfontname=Helvetica", "-Efontname=Helvetica"]
 
 
 def graph(automaton, program):
-    """What ltldraw prints of an automaton; `program` says where a program is."""
+    """What ltldraw prints for an automaton. `program` maps a name to the path of the program."""
     if isinstance(automaton, Path):
         text = (TOP / automaton).read_bytes()
     else:
@@ -33,7 +33,7 @@ def graph(automaton, program):
 
 
 def image(text, options):
-    """What dot makes of it, and by which version and font."""
+    """What dot makes of a picture, with the version and the font that it used."""
     made = subprocess.run(["dot", "-v", *OPTIONS, *options], input=text, capture_output=True, env={**os.environ, "LC_ALL": "C.UTF-8"}, check=True)
     said = made.stderr.decode("utf-8", "replace")
     fonts = sorted(set(re.findall(r'^fontname: .*?"([^"]*)" */\S*$', said, re.M)))

@@ -1,9 +1,10 @@
 #!/usr/bin/env python3
-"""Builds what stands in tests/c and examples/c against the C library, and compares what its calls answer with the programs: on the stored runs of tests/*.json, on 500
-random formulas, with every length of a buffer up to the needed one, with each growth of memory refused, under valgrind and with the sanitizers of the compiler.
+"""Builds the sources in tests/c and examples/c against the C library, and compares the answers of its calls with the programs: on the stored runs of
+tests/*.json, on 500 random formulas, with every length of a buffer up to the needed one, with each allocation refused, under valgrind, and with the
+compiler's sanitizers.
 
-Usage: tests/c_library.py [FOLDER]; the programs are those of the folder, or those that the gate built. What is not installed is named as skipped, and counts for
-nothing. The last line is 'N passed, M failed'."""
+Usage: tests/c_library.py [FOLDER]; the programs are those of the folder, or those that the gate built. What is not installed is reported as skipped, and
+isn't counted. The last line is 'N passed, M failed'."""
 
 import getopt
 import json
@@ -42,7 +43,7 @@ def request(kind, formula, layout=0, flags=0, room=-1, second=b""):
 
 
 def answers(words, requests):
-    """For each request the status, the text, the message and three counts."""
+    """The status, the text, the message and three counts for each request."""
     ran = subprocess.run(words, input=b"".join(requests), capture_output=True, timeout=SECONDS, check=False)
     found, left = [], ran.stdout
     while left:
@@ -54,7 +55,7 @@ def answers(words, requests):
 
 
 def asked(tool, run):
-    """The request that stands for a stored run, where there is one, and its layout."""
+    """The request that stands for a stored run, if there is one, and its layout."""
     if run["status"] in (2, 5) or "output" in run or "message" in run or "stdout_begins" in run:
         return None
     words, rest = getopt.getopt([it if isinstance(it, str) else text(it).decode() for it in run["args"]], "lopHGf:F:w:A:")
@@ -72,7 +73,7 @@ def asked(tool, run):
 
 
 def output_of(tool, found):
-    """What the program prints where the call answers that."""
+    """The output of the program whose call gave this answer."""
     status, handed, _, _ = found
     if tool == "ltleval":
         return {0: b"true\n", 1: b"false\n"}.get(status, b"")
@@ -147,7 +148,7 @@ def compiled(words):
 
 
 def driver_in(folder, name, archive, *more):
-    """The driver, and what the compiler has against it."""
+    """Builds the driver. Returns it, and the compiler's complaints."""
     where = f"{folder}/{name}"
     words = [*shlex.split(COMPILER), "-std=gnu11", "-Wall", "-Wextra", "-Werror", "-g", *more, "-Wl,--wrap=malloc,--wrap=realloc", f"-I{TOP}/include", "-o", where, str(TOP / "tests/c/driver.c"), str(archive)]
     return where, compiled(words)

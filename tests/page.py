@@ -1,8 +1,8 @@
 #!/usr/bin/env python3
-"""Tries ./page: plain answers over HTTP, on the programs that the gate built, and what it does with programs, requests and texts that mean ill.
+"""Tests ./page: plain answers over HTTP, on the programs that the gate built, and how it handles malicious programs, requests and texts.
 
-Usage: tests/page.py [-p FOLDER]; the programs are those of the folder, or those that the gate built. What isn't installed here is told in a line that begins
-with 'skipped: '. The last line is 'N passed, M failed'."""
+Usage: tests/page.py [-p FOLDER]; the programs are those of the folder, or those that the gate built. What isn't installed here is reported in a line that
+begins with 'skipped: '. The last line is 'N passed, M failed'."""
 
 import contextlib
 import html
@@ -23,7 +23,7 @@ TOP = Path(__file__).resolve().parent.parent
 PROGRAMS = "ltl2ba", "ltlcheck", "ltleval"
 SECONDS = 120
 
-# Programs that answer otherwise than the built ones: each formula asks for a way.
+# Programs that misbehave, in place of the built ones. The formula says how.
 MEAN = r"""import os, signal, sys, time
 tool, words = os.path.basename(sys.argv[0]), sys.argv[1:]
 def given(option):
@@ -67,7 +67,7 @@ else:
 
 
 class Count:
-    """What was tried so far."""
+    """The numbers of tests that passed and failed."""
 
     passed = failed = 0
 
@@ -78,7 +78,7 @@ class Count:
 
 
 class Page:
-    """A page that runs, and requests to it."""
+    """A page that is running, and requests to it."""
 
     def __init__(self, *words, **variables):
         self.process = subprocess.Popen([sys.executable, TOP / "page", *words], stdout=subprocess.PIPE, text=True, env={**os.environ, **variables})
@@ -94,7 +94,7 @@ class Page:
         self.process.wait(SECONDS)
 
     def request(self, path="/", method="GET", **headers):
-        """Status, headers and text of an answer."""
+        """The status, the headers and the text of an answer."""
         connection = http.client.HTTPConnection("127.0.0.1", self.port, timeout=SECONDS)
         connection.putrequest(method, path, skip_host=True)
         for name, value in {"Host": f"127.0.0.1:{self.port}", **headers}.items():
@@ -108,7 +108,7 @@ class Page:
         return self.request(path, method, **headers)[0]
 
     def ask(self, formula, second="", word=""):
-        """What stands between the form and the help."""
+        """The part of the answer between the form and the help."""
         status, _, text = self.request(path_of(formula, second, word))
         return text.partition("</form>")[2].partition("<summary>What can be asked")[0] if status == 200 else f"status {status}"
 
@@ -118,7 +118,7 @@ def path_of(formula, second="", word=""):
 
 
 def seen(text):
-    """What a reader sees of a text, without its marks."""
+    """The text that a reader sees, without markup."""
     return html.unescape(re.sub(r"<[^>]*>", "", text))
 
 
@@ -249,7 +249,7 @@ def try_times(page, count, formula, about):
 
 
 def try_mean(count):
-    """Programs that mean ill are stopped, and what they write is escaped."""
+    """Malicious programs are stopped, and what they write is escaped."""
     with tempfile.TemporaryDirectory() as folder:
         for name in (*PROGRAMS, "ltldraw", "dot"):
             (Path(folder) / name).write_text(f"#!{sys.executable}\n{MEAN}", encoding="utf-8")

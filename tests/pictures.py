@@ -1,10 +1,10 @@
 #!/usr/bin/env python3
-"""Draws the automata of 200 random formulas with the built programs, and has `dot` of Graphviz read each picture. Of the image it counts the states, the arrows and
-their lines, and compares them with what stands in the text of the automaton. And it draws the pictures of docs/pictures anew, as docs/pictures.py does: each has to
-be there byte by byte, and a page has to show it. An image is compared where this dot, with its font, is the one that made it.
+"""Draws the automata of 200 random formulas with the built programs, and has `dot` of Graphviz read each picture. It counts the states, the arrows and
+their lines in the image, and compares them with the text of the automaton. It also draws the pictures of docs/pictures anew, as docs/pictures.py does: each
+has to be there byte by byte, and a page has to show it. An image is compared if this `dot`, with its font, is the one that made it.
 
-Usage: tests/pictures.py [-p FOLDER]; the programs are those of the folder, or those that the gate built. What isn't compared, or drawn for want of `dot`, is told in
-a line that begins with 'skipped: '. The last line is 'N passed, M failed'."""
+Usage: tests/pictures.py [-p FOLDER]; the programs are those of the folder, or those that the gate built. What isn't compared, or isn't drawn without `dot`,
+is reported in a line that begins with 'skipped: '. The last line is 'N passed, M failed'."""
 
 import html
 import os
@@ -39,7 +39,7 @@ def label_of(label, names):
 
 
 def edges_of(text):
-    """The number of states of an automaton that ltl2ba printed, that of its sets, and its edges: state, target, label and sets."""
+    """The numbers of states and of sets of an automaton that ltl2ba printed, and its edges: state, target, label and sets."""
     names = re.findall(r'"([^"]*)"', re.search(r"^AP:.*$", text, re.M)[0])
     count, sets, edges = int(re.search(r"^States: (\d+)$", text, re.M)[1]), int(re.search(r"^Acceptance: (\d+)", text, re.M)[1]), []
     for line in text.partition("--BODY--\n")[2].split("\n"):
@@ -53,7 +53,7 @@ def edges_of(text):
 
 
 def drawn(picture):
-    """The same of an image that dot made: what stands in its groups."""
+    """The same for an image that dot made, from its groups."""
     groups = re.findall(r'<g id="\w+" class="(\w+)">\s*<title>([^<]*)</title>(.*?)</g>', picture, re.S)
     states = {html.unescape(name): body for kind, name, body in groups if kind == "node" and name != "I"}
     edges = []
@@ -72,7 +72,7 @@ def with_sets(line):
 
 
 def fault_of(words, programs):
-    """What is wrong with the picture of the automaton that ltl2ba prints for these words."""
+    """The fault of the picture of the automaton that ltl2ba prints for these words."""
     text = subprocess.run([programs("ltl2ba"), *words], capture_output=True, text=True, timeout=SECONDS, check=True).stdout
     picture = subprocess.run([programs("ltldraw")], input=text, capture_output=True, text=True, timeout=SECONDS, check=True).stdout
     image = subprocess.run(["dot", "-Tsvg"], input=picture, capture_output=True, text=True, timeout=SECONDS, check=False)
@@ -96,12 +96,12 @@ def fault_of(words, programs):
 
 
 def last_line(image):
-    """The dot and the font that an image names as those that made it."""
+    """The version of dot and the font that an image names."""
     return image.read_text(encoding="utf-8").rstrip("\n").rpartition("\n")[2].removeprefix("<!-- ").removesuffix(" -->")
 
 
 def compared(programs):
-    """Of each picture of the pages: its name, what is wrong with it, and why it isn't compared where it isn't."""
+    """For each picture of the pages: its name, its fault, and why it isn't compared."""
     drawing = runpy.run_path(str(TOP / "docs/pictures.py"))
     pages = {link for page in (TOP / "README.md", *TOP.glob("docs/**/*.md")) for link in re.findall(r"pictures/(\w+\.svg)\)", page.read_text(encoding="utf-8"))}
     wanted = {f"{name}.{kind}" for name, _, _ in drawing["TABLE"] for kind in ("dot", "svg")}

@@ -1,17 +1,17 @@
 #!/usr/bin/env python3
-"""Runs the built programs on the runs that stand in tests/*.json, and compares every byte of the output, the message and the status.
+"""Runs the built programs on the runs in tests/*.json, and compares every byte of the output, the message and the status.
 
 Usage: tests/run.py [-p FOLDER] [NAME..]; the programs are those of the folder, or those that the gate built. A NAME is that of a file (ltl2ba), or a part
-of what runs say that they are about; without one, all run. The last line is 'N passed, M failed'.
+of the `about` of runs; without one, all run. The last line is 'N passed, M failed'.
 
-A run is an object: what it is `about`, `args` (the words after the program's name), `stdin`, `files` (name to text; null is a folder, which opens and cannot be
-read), `stdout`, `stderr` and `status`, which are what the run has to give. Where more than one output is right, `stdout_begins` says how it has to begin.
-An automaton that ltl2ba prints in a run that is to be `checked` is given to ltlcheck: it keeps the run's formula, and the automaton of the negated formula, printed
-with the same words, doesn't, unless the formula is `valid` (`checked` is then that word, and else `models`).
-A word that ltlcheck prints is given to ltleval: the formula of the run has to fail on it, and each formula of `word_keeps` has to hold.
-With `output` or `message` the program writes its output, or its message, to that file, as /dev/full, which takes no byte; "closed" is a stream that isn't open.
-A text is a list of strings, pairs [string, how often], objects {"each": string, "from": n, "to": m}, the string for each of these numbers, which stands for # in it,
-and {"chain": n}, the states of an automaton: n of them, each with one edge to the next, and the last with one to itself."""
+A run is an object. It has an `about`, `args` (the words after the program's name), `stdin`, `files` (name to text; null is a folder, which can be opened
+but not read), and `stdout`, `stderr` and `status`, which are the wanted results. If more than one output is right, `stdout_begins` is its wanted beginning.
+If a run is to be `checked`, the automaton that ltl2ba prints in it is given to ltlcheck: every word has to satisfy the run's formula. The automaton of the
+negated formula, printed with the same words, has to violate it, unless the formula is `valid` (`checked` is then that word, and else `models`). If ltlcheck
+prints a word, it is given to ltleval: the formula of the run has to fail on it, and each formula of `word_keeps` has to hold. With `output` or `message`
+the program writes its output, or its message, to that file, as /dev/full, which takes no byte; "closed" is a stream that isn't open. A text is a list of
+strings; of pairs [string, how often]; of objects {"each": string, "from": n, "to": m}, which are the string for each of these numbers, put in place of # in
+it; and of {"chain": n}, which is n states of an automaton, each with one edge to the next, and the last with one to itself."""
 
 import json
 import os
@@ -43,7 +43,7 @@ def word(form):
 
 
 class Stream:
-    """Where the program writes its output or its message: to us, to a file, or nowhere since the stream is closed."""
+    """The place where the program writes its output or its message: a pipe to this script, a file, or nothing if the stream is closed."""
 
     def __init__(self, number, place):
         self.number, self.place, self.file = number, place, None
@@ -104,7 +104,7 @@ def differences(run, program):
 
 
 def beside(program, tool):
-    """Another of the programs."""
+    """The path of another program, in the same place."""
     own = os.path.basename(program)
     return os.path.join(os.path.dirname(program).replace(f"{own}/out", f"{tool}/out"), tool)
 
@@ -114,7 +114,7 @@ def output_of(words, given=b""):
 
 
 def unkept(run, automaton, program):
-    """Whether the automaton doesn't keep its formula, or that of the negated formula keeps it."""
+    """Whether the automaton has a word that violates its formula, or whether that of the negated formula has none."""
     place = run["args"].index("-f") + 1
     formula = word(run["args"][place])
     negated = output_of([program, *map(word, run["args"][:place]), f"!({formula})"])
@@ -127,7 +127,7 @@ def unkept(run, automaton, program):
 
 
 def misjudged(run, lasso, program):
-    """Which formulas don't hold or fail on a word as they should."""
+    """The formulas that should hold on the word and don't, or should fail on it and don't."""
     evaluator = beside(program, "ltleval")
     formula = word(run["args"][run["args"].index("-f") + 1])
     for asked, wanted in [(formula, b"false\n"), *((it, b"true\n") for it in run.get("word_keeps", []))]:

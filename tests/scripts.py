@@ -1,6 +1,6 @@
 #!/usr/bin/env python3
-"""Tries ./run, ./build, ./install, ./package and tools/wrong_bodies on a copy of the tree that has no code but the heads of its programs, with a stand-in for
-the prover: it writes down what it was asked, and proves nothing. Tries tools/believe on a small tree made up for it. The last line is 'N passed, M failed'."""
+"""Tests ./run, ./build, ./install, ./package and tools/wrong_bodies on a copy of the tree that has no code but the heads of its programs, with a stand-in
+for the prover: it records what it was asked, and proves nothing. Tests tools/believe on a small tree made up for it. The last line is 'N passed, M failed'."""
 
 import hashlib
 import os
@@ -72,7 +72,7 @@ DESCRIPTION = "prefix=/{}\nlibdir=${{prefix}}/lib\nincludedir=${{prefix}}/includ
 NOTICE = "run: {} is not built from these sources; this run is not proved (./build proves and builds), and takes about a minute\n"
 
 
-# Two crates for tools/believe: of the definitions `odd`, `idle` and the law rest on nothing that the call names.
+# Two crates for tools/believe. The definitions `odd`, `idle` and the law rest on nothing that the call names.
 SMALL = {
     "crates/low/specs/Numbers.antt": """-- Numbers.
 use Rattle.std.specs.Prelude.{◌≡◌, ◌+◌, ℕ, List, length}
@@ -369,7 +369,7 @@ def try_build(tree):
 
 
 def try_kept(tree):
-    """What ./test passed on is not proved again, and only that."""
+    """What ./test passed on is not proved again; everything else is."""
 
     def built(**variables):
         shown, told, status = tree.run("./build", "ltl2ba", CI="true", **variables)
@@ -431,7 +431,7 @@ def git(tree, *words):
 
 
 def packaged(tree):
-    """What ./package leaves, by name."""
+    """The files that ./package leaves, by name."""
     shutil.rmtree(tree.top / "out", ignore_errors=True)
     shown, told, status = tree.run("./package")
     tree.expect("packaged", (told, status, sorted(shown.split())), ("", 0, sorted(f"out/{it.name}" for it in (tree.top / "out").iterdir())))

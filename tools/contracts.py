@@ -1,4 +1,4 @@
-"""Reads the code: its types, traits, and functions with their contracts, and what each file calls the modules and things of others."""
+"""Reads the code: its types, its traits, and its functions with their contracts, and the names that each file has for modules and things of others."""
 
 import re
 from bisect import bisect_right
@@ -13,7 +13,7 @@ GHOST_USE = re.compile(r"ghost use Rattle\.([\w.]+?)(?:\.\{([^}]*)\}| as (\w+))?
 
 
 def behind(text, at):
-    """The place behind the bracket that closes the one here."""
+    """The position behind the bracket that closes the one at this position."""
     depth, quoted = 0, False
     while at < len(text):
         letter = text[at]
@@ -28,7 +28,7 @@ def behind(text, at):
 
 
 class Function:
-    """A function: whose it is, where it stands, its signature and its clauses."""
+    """A function: its owner, its place, its signature and its clauses."""
 
     def __init__(self, source, owner, match):
         text = source.text
@@ -55,7 +55,7 @@ class Function:
 
 
 class Item:
-    """A type, a constant, a trait or an impl, with what stands in it."""
+    """A type, a constant, a trait or an impl, with its content."""
 
     def __init__(self, source, kind, head, start, end):
         self.source, self.kind, self.head, self.text = source, kind, head, source.text[start:end]
@@ -72,7 +72,7 @@ class Item:
                 self.members[it[1]] = source.line_of(it.start()), source.line_of(last - 1), source.text[it.end() : last]
 
     def fields(self):
-        """The name of each field, or of each variant, and what stands behind it."""
+        """The name of each field, or of each variant, and what follows it."""
         return re.findall(r"^    (?:pub(?:\([^)]*\))? )?(?!ghost\b)(\w+)\b:? ?(.*?),?$", self.text, re.M)
 
 
@@ -133,7 +133,7 @@ class Code:
         return self.sources.get(f"crates/{crate}/src/{module}.rt")
 
     def item(self, source, name, seen=()):
-        """The type, constant or trait that a file calls so, or nothing where it is no one of this repository."""
+        """The type, constant or trait that has this name in the file, or nothing if it isn't one of this repository."""
         if name in source.named:
             return source.named[name]
         path = source.uses.get(name)
@@ -150,7 +150,7 @@ class Code:
         return None
 
     def impl(self, item, trait):
-        """The impl of the trait for the type, which stands in its crate."""
+        """The impl of the trait for the type, in the type's crate."""
         for source in self.sources.values():
             if source.crate == item.source.crate:
                 for it in source.items:

@@ -1,4 +1,5 @@
-"""Reads the modules of definitions and proofs: what is declared in which file, where it stands there, and what each file sees. Also what the code names of them."""
+"""Reads the modules of definitions and proofs: what is declared in which file and where, and what each file sees. It also reads what the code names of
+them."""
 
 import os
 import re
@@ -18,20 +19,20 @@ def text(place):
 
 
 def files():
-    """Proof files and code, but for what is built."""
+    """Proof files and code, without what is built."""
     for place, folders, names in os.walk(TOP / "crates"):
         folders[:] = sorted(it for it in folders if it != "out")
         yield from (str((Path(place) / it).relative_to(TOP)) for it in sorted(names) if it.endswith((".antt", ".rt")))
 
 
 def module_of(place):
-    """As crates/ltl_spec/specs/Hoa/Tokens.antt is ltl_spec.specs.Hoa.Tokens."""
+    """The module of a file: crates/ltl_spec/specs/Hoa/Tokens.antt is ltl_spec.specs.Hoa.Tokens."""
     return place[len("crates/"):-len(".antt")].replace("/", ".")
 
 
 class Declaration:
-    """A definition, a law or a type, with its constructors; the words around it are those of the modules in which it stands, whose heads are these lines. It
-    stands in the lines from `first` to `last`, with what stands under its `where`."""
+    """A definition, a law or a type, with its constructors. `first` and `last` are its lines, with what stands under its `where`. The words around it are
+    those of the modules that it stands in, whose heads are these lines."""
 
     def __init__(self, place, number, names, is_data, scope):
         self.place, self.number, self.names, self.is_data = place, number, names, is_data
@@ -49,7 +50,7 @@ class Declaration:
         self.names += constructors[1].split() if constructors else []
 
     def is_seen_by(self, other):
-        """What stands under a `where` is seen in the declaration that owns it."""
+        """Whether the other declaration sees this one. What stands under a `where` is seen in the declaration that owns it."""
         while other not in (None, self.owner):
             other = other.owner
         return other is self.owner
@@ -73,7 +74,7 @@ class Scopes:
             self.current = self.scopes.pop()[2] or self.current
 
     def heads(self, number, column, code):
-        """A line of a module's header, which may have several."""
+        """A line of a module's head, which may have several."""
         first, before, lines = self.header or (column, "", ())
         self.header = first, f"{before} {code}", (*lines, number)
         if code.endswith("where"):
@@ -135,7 +136,7 @@ class Theory:
         return scopes.found
 
     def imports(self, place, public):
-        """Each name that an import of the file brings, with the declarations that it may be; a whole module brings all of its names."""
+        """Each name that an import of the file brings, with the declarations that it may mean. The import of a whole module brings all of its names."""
         for is_public, module, names, _ in USE.findall(self.texts[place]):
             source = self.modules.get(module)
             if source is None or public and not is_public:
@@ -158,7 +159,7 @@ class Theory:
         return known
 
     def named_by_code(self, place):
-        """What a file of code names of the modules that it has as paths, with dots or with colons."""
+        """The modules, and the names in them, that a file of code names by paths with dots or with colons."""
         words = set(re.findall(NAME, self.texts[place]))
         paths = re.findall(r"\bRattle\.([\w.]+)", self.texts[place])
         for path in re.findall(r"\b\w+(?:::\w+)+", self.texts[place]):
@@ -176,7 +177,7 @@ class Theory:
                 yield from (it for it in self.declared[place] if it.owner is None)
 
     def reached(self, roots):
-        """These and what they name, and what that names."""
+        """These declarations, and all that they name, directly or not."""
         found, waiting = set(), list(roots)
         while waiting:
             declaration = waiting.pop()

@@ -1,4 +1,4 @@
-//! Lists of edges: equal ones stand once, and those that a known state has are not made again, which no clause tells of.
+//! Tests of shared edge lists: equal lists are stored once, and a twin's edges aren't made again. No contract says so.
 
 ghost use Rattle.std.specs.Prelude.{◌∷◌, [], true, ⊤};
 
@@ -33,7 +33,7 @@ fn equal_lists_stand_once(rt: HostRuntime) -> Result<(), Fail> {
     Ok(())
 }
 
-/// Two things with the same edges, and whether these were made, and made again.
+/// Two states with the same edges. It records whether the edges were made, and whether they were made again.
 #[derive(Drop)]
 struct Two {
     made: bool,

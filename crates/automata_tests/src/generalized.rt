@@ -1,4 +1,4 @@
-//! Generalized automata of formulas, and their texts.
+//! Tests of generalized automata of formulas, and of their texts.
 
 use ltl_buchi::{BaFault, Options, generalized};
 use ltl_formula::Table;
@@ -9,7 +9,7 @@ use std::alloc::Global;
 use std::io::{self, Write};
 use std::process::Abort;
 
-/// Takes a byte in a call, and fails once there is no room.
+/// A writer that takes one byte in each call, and fails when `room` is used up.
 #[derive(Drop)]
 struct Narrow {
     held: Vec<u8>,
@@ -32,7 +32,7 @@ impl Write for Narrow {
     }
 }
 
-/// Formulas and the texts of their automata, merged.
+/// Formulas, and the texts of their automata after the quotient.
 const MERGED: [(&str, &str); 5] = [
     (
         "[]<>p",
@@ -56,7 +56,7 @@ const MERGED: [(&str, &str); 5] = [
     ),
 ];
 
-/// The automaton of `[]<>p` where equal states are kept, and where implied edges are kept.
+/// The automaton of `[]<>p` if equivalent states are kept, and if subsumed edges are kept.
 const KEPT: [(bool, bool, &str); 2] = [
     (
         false,
@@ -75,7 +75,7 @@ const NOTHING_KEPT: Options = Options {
     keep_equal: false,
 };
 
-/// What a writer with so much room takes of the automaton's text, and whether that was all.
+/// What a writer with this room takes of the automaton's text, and whether that was all.
 fn printed(
     rt: &impl Abort,
     alloc: &Global,
@@ -122,7 +122,7 @@ fn automata_by_options(rt: HostRuntime) {
     }
 }
 
-/// Wherever the writer fails, what it took is a beginning of the text.
+/// If the writer fails, what it took is a prefix of the text.
 #[test]
 fn each_byte_refused(rt: HostRuntime) {
     let alloc = rt.alloc();

@@ -1,6 +1,6 @@
-//! Tests of how automata are made: lists of edges that stand once, edges of a state with the same ones, pairs of rows, generalized automata and their texts.
+//! Tests of how automata are made: shared edge lists, the edges of a state with the same ones, pairs of rows, generalized automata and their texts.
 //!
-//! `ltl_tests` says why tests stand in crates of their own, by what they call, and where the other ones are.
+//! `ltl_tests` says why tests are crates of their own, divided by what they call, and where the others are.
 //!
 //! `rt try --test` in this folder runs them without a proof, `rt test` with one.
 #![tactic(auto)]

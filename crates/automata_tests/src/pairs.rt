@@ -1,4 +1,4 @@
-//! Pairs of rows.
+//! Tests of the pairs of rows.
 
 use ltl_alt::{Pair, pairs};
 use ltl_formula::Table;
@@ -7,7 +7,7 @@ use ltl_syntax::read;
 use std::alloc::Global;
 use std::process::Abort;
 
-/// Whether these are the pairs of the row of a whole formula.
+/// Whether these are the pairs of the root of a formula.
 fn has_pairs(rt: &impl Abort, alloc: &Global, text: &str, wanted: &[Pair]) -> bool {
     let formula = read(alloc, text.as_bytes()).expect(rt, "a formula");
     let table = Table::build(alloc, &formula, false, false).expect(rt, "a table");

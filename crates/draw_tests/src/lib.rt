@@ -1,6 +1,7 @@
-//! Tests of pictures of automata: texts by hand, and runs of `ltldraw` over memory, with each growth refused and each stream failing.
+//! Tests of pictures of automata: texts that were made by hand, and runs of `ltldraw` over memory, in which each allocation is refused and each
+//! stream fails.
 //!
-//! `ltl_tests` says why tests stand in crates of their own, by what they call, and where the other ones are.
+//! `ltl_tests` says why tests are crates of their own, divided by what they call, and where the others are.
 //!
 //! `rt try --test` in this folder runs them without a proof, `rt test` with one.
 #![tactic(auto)]

@@ -1,4 +1,4 @@
-//! Runs of the program.
+//! Tests of runs of the program.
 
 use crate::streams::{Given, Taken};
 use ltl_draw::{draw_over, plan};
@@ -12,10 +12,10 @@ const AUTOMATON: &str =
 const PICTURE: &str =
     "digraph automaton {\n  rankdir=LR\n  labelloc=t\n  label=\"Buchi\"\n  node [shape=circle]\n  I [label=\"\", style=invis, width=0]\n  I -> 0\n  0\n  0 -> 0 [label=\"1\\np\"]\n  0 -> 1 [label=\"p\\n!p\\np\\np\"]\n  1 [peripheries=2]\n  1 -> 1 [label=\"p\"]\n}\n";
 
-/// More growths than a run makes.
+/// More allocations than a run makes.
 const MOST_GROWTHS: u64 = 1_000;
 
-/// Runs the program of these words; its status.
+/// Runs the program with these words, and answers its status.
 fn ended<A: Allocator>(
     memory: Global,
     alloc: &A,

@@ -1,4 +1,4 @@
-//! Readers and writers that fail where they are told to.
+//! Readers and writers that fail at a given place.
 
 use std::alloc::Global;
 use std::io;
@@ -8,7 +8,7 @@ fn fault() -> io::Error {
     io::Error::from(io::ErrorKind::Other)
 }
 
-/// Gives a text, a few bytes a call, and fails behind so many bytes.
+/// A reader that gives a text, a few bytes in each call, and fails after a number of bytes.
 #[derive(Drop)]
 pub(crate) struct Given<'t> {
     pub(crate) rest: &'t [u8],
@@ -28,7 +28,7 @@ impl Read for Given<'_> {
     }
 }
 
-/// Takes so many bytes, a few a call, and tells how often it was flushed.
+/// A writer that takes a number of bytes, a few in each call, and counts flushes.
 #[derive(Drop)]
 pub(crate) struct Taken {
     pub(crate) held: Vec<u8>,

@@ -1,4 +1,4 @@
-//! The libraries in a program of one's own: a formula is read, its automaton is printed and read back, and a property of its words is checked.
+//! An example of the libraries in a program: it reads a formula, prints its automaton, reads that back, and checks a property of its words.
 #![tactic(auto)]
 
 ghost use Rattle.std.specs.Prelude.{length, IfOk};
@@ -14,7 +14,7 @@ use ltl_word::holds;
 use std::alloc::Global;
 use std::io::{self, Write};
 
-/// The formula of a text, and the automaton of the words that satisfy it or, with `negate`, that violate it.
+/// The formula with this text, and the automaton of the words that satisfy it. With `negate`, it is the automaton of the words that violate it.
 fn translated<'a>(
     alloc: &'a Global,
     text: &str,
@@ -40,7 +40,7 @@ fn written<'a>(alloc: &'a Global) -> Result<Vec<u8, &'a Global>> {
     Ok(text)
 }
 
-/// What `[]<>p` says of the words of the automaton with this text.
+/// The property `[]<>p`, and whether every word of the automaton with this text satisfies it.
 fn verdict_on<'a>(
     alloc: &'a Global,
     mut text: &[u8],

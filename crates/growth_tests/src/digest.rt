@@ -1,4 +1,4 @@
-//! Numbers by which values are told apart, made without memory.
+//! Digests of values, made without an allocation.
 
 use ltl_alt::{Gba, GbaEdge, PairSet};
 use ltl_buchi::{Ba, Gen};
@@ -12,7 +12,7 @@ use std::alloc::Allocator;
 use std::io;
 use std::io::Write;
 
-/// A number of what was taken, in its order.
+/// A number that depends on all values that were added, and on their order.
 #[derive(Clone, Copy, PartialEq, Eq)]
 pub(crate) struct Digest {
     sum: u64,
@@ -62,7 +62,7 @@ impl Digest {
         self.take(usize::MAX);
     }
 
-    /// A row of a table.
+    /// Adds a row of a table.
     fn row(&mut self, row: Row) {
         let (kind, first, second) = match row {
             Row::True => (0, 0, 0),

@@ -1,4 +1,4 @@
-//! The calls of the libraries, with each growth refused in turn.
+//! Tests of the calls of the libraries with each allocation refused in turn.
 
 ghost use Rattle.std.specs.Prelude.{◌<◌, length, IfSome};
 ghost use Rattle.ltl_spec.specs.Checking.Bounds.{HasNamesBelow};
@@ -21,11 +21,11 @@ use ltl_word::{Lasso, WordFault, holds};
 use refusing::Refusing;
 use std::alloc::{Allocator, Global};
 
-/// More growths than any case makes.
+/// More allocations than any case makes.
 const MOST_GROWTHS: u64 = 100_000;
 
-/// The value of a call. A call in which the growth is refused has to answer that memory was short and to leave its input as it was, and is made once
-/// more; a call in which none is refused has to answer a value.
+/// The value of a call. If an allocation of the call is refused, the call has to answer that memory was refused, and to leave its input unchanged;
+/// then it is made again. If none is refused, the call has to answer a value.
 macro_rules! made {
     ($alloc:ident, $input:expr, $memory:pat, $call:expr) => {{
         let was_refused = $alloc.has_refused();
@@ -166,13 +166,13 @@ fn generalized_of<B: Allocator>(alloc: &Memory<B>, table: &BuiltTable<'_, B>) ->
     Some(of_gen(&found))
 }
 
-/// What an automaton is that is numbered anew.
+/// The digest of an automaton after it is numbered.
 fn numbered_of<'a, B: Allocator>(alloc: &'a Memory<B>, ba: &Ba<'a, Memory<B>>) -> Option<Digest> {
     let numbered = numbered(alloc, ba)?;
     Some(of_ba(&numbered))
 }
 
-/// What is made of an automaton on levels is.
+/// The digest of what is made of a degeneralized automaton.
 fn made_of_levels<'a, B: Allocator>(
     alloc: &'a Memory<B>,
     ba: &Ba<'a, Memory<B>>,
@@ -181,7 +181,7 @@ fn made_of_levels<'a, B: Allocator>(
     Some(of_ba(&merged).with(numbered_of(alloc, &merged)?))
 }
 
-/// What is made of a merged automaton is.
+/// The digest of what is made of a quotient.
 fn made_of_merged<'a, B: Allocator>(
     alloc: &'a Memory<B>,
     gba: &Gba<'a, Memory<B>>,
@@ -190,19 +190,19 @@ fn made_of_merged<'a, B: Allocator>(
     Some(of_ba(&ba).with(made_of_levels(alloc, &ba)?))
 }
 
-/// What is made of a generalized automaton is.
+/// The digest of what is made of a generalized automaton.
 fn made_of_gba<'a, B: Allocator>(alloc: &'a Memory<B>, gba: &Gba<'a, Memory<B>>) -> Option<Digest> {
     let merged = merged(alloc, gba)?;
     Some(of_gba(&merged).with(made_of_merged(alloc, &merged)?))
 }
 
-/// What the automata of a table are. Each is held by a function of its own, since what is dropped on which way out is dear to prove.
+/// The digest of the automata of a table. A function of its own holds each automaton, since proofs of what is dropped on which path are expensive.
 fn automata<'a, B: Allocator>(alloc: &'a Memory<B>, table: &BuiltTable<'a, B>) -> Option<Digest> {
     let gba = reached(alloc, table)?;
     Some(of_gba(&gba).with(made_of_gba(alloc, &gba)?))
 }
 
-/// What is made of a table is.
+/// The digest of what is made of a table.
 fn made_of_table<'a, B: Allocator>(
     alloc: &'a Memory<B>,
     table: &BuiltTable<'a, B>,
@@ -247,7 +247,7 @@ fn truth<'a, B: Allocator>(
     ))
 }
 
-/// The table of the word and the formula.
+/// The digest of the timeline of the word and the formula.
 fn table_of_truth<'a, B: Allocator>(
     alloc: &'a Memory<B>,
     formula: &Read<'a, B>,
@@ -274,7 +274,7 @@ fn word_of_numbers<B: Allocator>(alloc: &Memory<B>) -> Option<Digest> {
     Some(of_word(&found))
 }
 
-/// What the words are, and the formula's truth on one of them and its subformulas' at each position.
+/// The digest of the words, of the formula's truth on one of them, and of the truth of its subformulas at each position.
 fn words<'a, B: Allocator>(
     alloc: &'a Memory<B>,
     formula: &Read<'a, B>,
@@ -296,7 +296,7 @@ fn automaton<'a, B: Allocator>(alloc: &'a Memory<B>, text: &str) -> Option<Marke
     ))
 }
 
-/// A formula and the automaton of the words that violate it.
+/// A formula, and the automaton of the words that violate it.
 fn violations<'a, B: Allocator>(
     alloc: &'a Memory<B>,
     text: &str,
@@ -334,7 +334,7 @@ fn checked<'a, B: Allocator>(
     Some(of_verdict(&found))
 }
 
-/// A walk through the product, in which each proposition of the formula has its own number.
+/// The digest of a search of the product, in which each proposition of the formula has a number of its own.
 fn walked<'a, B: Allocator>(
     alloc: &'a Memory<B>,
     automaton: &Marked<'a, Memory<B>>,
@@ -362,7 +362,7 @@ fn walked<'a, B: Allocator>(
     Some(of_walk(&found))
 }
 
-/// What a check finds, where the automata and the formula stand in other memory.
+/// The digest of a check, whose inputs use an allocator that refuses nothing.
 fn checks<'a, B: Allocator>(
     alloc: &'a Memory<B>,
     calm: &'a Memory<B>,
@@ -376,7 +376,7 @@ fn checks<'a, B: Allocator>(
     Some(digest.with(walked(alloc, &automaton, &ba, &formula)?))
 }
 
-/// What a table, and all that is made of it, is.
+/// The digest of a table and of all that is made of it.
 fn made_of_formula<'a, B: Allocator>(
     alloc: &'a Memory<B>,
     formula: &Read<'a, B>,
@@ -386,13 +386,13 @@ fn made_of_formula<'a, B: Allocator>(
     made_of_table(alloc, &table)
 }
 
-/// What an automaton that is read is.
+/// The digest of an automaton that is read.
 fn automaton_of<B: Allocator>(alloc: &Memory<B>, text: &str) -> Option<Digest> {
     let read = automaton(alloc, text)?;
     Some(of_marked(&read))
 }
 
-/// What all that is made of a case is; none where a call answers otherwise than it has to. No growth of the calm memory is refused.
+/// The digest of all that is made of a case, or `None` if a call answers wrongly. `calm` refuses no allocation.
 fn all_of<'a, B: Allocator>(
     alloc: &'a Memory<B>,
     calm: &'a Memory<B>,
@@ -407,7 +407,7 @@ fn all_of<'a, B: Allocator>(
     Some(digest.with(checks(alloc, calm, case)?))
 }
 
-/// What came of refusing each growth of a case.
+/// The outcome of refusing each allocation of a case.
 fn told(memory: Global, case: &Case<'_>) -> &'static str {
     let calm = Refusing::new(memory, u64::MAX);
     let Some(wanted) = all_of(&calm, &calm, case) else {

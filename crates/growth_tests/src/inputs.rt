@@ -1,4 +1,4 @@
-//! What is read, translated and checked.
+//! The inputs of the calls.
 
 /// A formula, a word and an automaton, for the calls of the libraries.
 #[derive(Clone, Copy, Drop)]

@@ -1,7 +1,7 @@
-//! Tests of want of memory in the calls of the libraries, which no clause tells of.
+//! Tests of lack of memory in the calls of the libraries, which no contract promises.
 //!
-//! Each growth of memory is refused in turn. What has to come of it is want of memory and nothing else: a call leaves its input as it was and can be
-//! made again. `program_tests` does the same with the programs. Other tests of the libraries are those that `ltl_tests` names.
+//! Each allocation is refused in turn. The call has to answer that memory was refused, has to leave its input unchanged, and has to work when it is
+//! made again. `program_tests` does the same with the programs. `ltl_tests` names the other tests of the libraries.
 //!
 //! `rt try --test` in this folder runs them without a proof, `rt test` with one.
 #![tactic(auto)]

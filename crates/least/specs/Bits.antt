@@ -1,4 +1,4 @@
--- The ones of one number among those of another.
+-- Inclusion of bit sets, as a preorder.
 use Rattle.std.specs.Prelude.{◌≡◌, ℕ, Bool, true, nat_eq, bit_or, max}
 use Rattle.std.specs.Int.{bit_at}
 use Rattle.std.proofs.Common.{arith, sym, ◌∙◌, ap}

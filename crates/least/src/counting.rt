@@ -1,12 +1,13 @@
-//! Which of the items below a given one count.
+//! Which items below a given one are taken into account.
 
 ghost use Rattle.std.specs.Prelude.{◌≡◌, Bool};
 
-/// A test of two items, the first of which is below the second. Any relation will do. Often it is that the two differ.
+/// A relation on items. An item that is below another one is taken into account only if the relation holds. Often the relation is that the two
+/// differ.
 pub trait Counting<T> {
     ghost counts: { Self → T → T → Bool };
 
-    /// Whether the first item counts among those below the second.
+    /// Whether `other` is taken into account for `item`.
     fn counts(&self, other: &T, item: &T) -> bool
         ensures { result ≡ counts self.now other.now item.now };
 }

@@ -1,11 +1,11 @@
-//! Indexes of items: lists of nodes, in which a node that is below many items stands behind them.
+//! An index of items by lower bounds of whole runs of them.
 //!
-//! Items that have much in common stand together, as those with an element and those without it do. Behind each such run of nodes
-//! stands one that is below all its items. Who looks for an item below a given one goes from the end to the start: where such a
-//! node isn't below the given item none of its run is, and the whole run is passed over.
+//! The index is a list of nodes. Items that share many elements stand next to each other. Behind each such run of nodes stands a lower bound of all
+//! items in it. A search for an item below a given one goes from the end to the start. If a lower bound isn't below the given item, no item of its
+//! run is, and the whole run is skipped.
 //!
-//! How the items are divided into runs changes the number of looks alone. What a node says of its run holds by how the node is
-//! made, so no proof speaks of the choice of elements.
+//! The division into runs affects the number of comparisons alone. What a node says of its run holds by the way the node is made, so no proof depends
+//! on the choice of elements.
 
 ghost use Rattle.std.specs.Prelude.{◌≡◌, ◌++◌, ◌≤◌, length, map, IfSome, IfOk, OnOk};
 ghost use Rattle.std.specs.List.{All};
@@ -19,16 +19,16 @@ use crate::node::Node;
 use crate::order::{copied, divided};
 use std::alloc::{AllocError, Allocator};
 
-/// What is left to do of an index.
+/// A task of making an index.
 #[derive(Clone, Copy)]
 enum Task {
-    /// The items from the last one that was listed up to that place.
+    /// Add the items from the last one that was added up to this position.
     UpTo(usize),
-    /// What the items among the nodes from that place on have in common.
+    /// Add the lower bound of the nodes from this position on.
     Close(usize),
 }
 
-/// One that is below all items among the nodes, where there is an item.
+/// A lower bound of all items among the nodes, or `None` if there is no item.
 fn common_of<T: Below>(nodes: &[Node<T>]) -> Option<T>
     ensures { IfSome result (λ c. All (IsUnder T.below c) nodes.now) }
 {
@@ -44,7 +44,7 @@ fn common_of<T: Below>(nodes: &[Node<T>]) -> Option<T>
     common
 }
 
-/// Adds what the items among the nodes from the start on have in common.
+/// Adds the lower bound of the nodes from `start` on.
 fn close<'a, T: Below, A: Allocator>(
     nodes: &mut Vec<Node<T>, &'a A>,
     start: usize,
@@ -75,7 +75,7 @@ fn list<'a, T: Below, A: Allocator>(
     Ok(())
 }
 
-/// Adds the items, and what they have in common.
+/// Adds the items, and their lower bound.
 fn list_piece<'a, T: Below, A: Allocator>(
     nodes: &mut Vec<Node<T>, &'a A>,
     items: &[T],
@@ -89,7 +89,7 @@ fn list_piece<'a, T: Below, A: Allocator>(
     close(nodes, start)
 }
 
-/// Adds the items up to that place, or divides them and leaves that for later. Answers how many items are listed.
+/// Adds the items up to `end`, or divides them and pushes tasks for both halves. Answers the number of items that were added so far.
 #[tactic(auto, using(crate::proofs::IndexLaws::moved_part))]
 fn list_up_to<'a, T: Below, A: Allocator>(
     order: &mut [T],
@@ -147,7 +147,7 @@ pub(crate) fn index_of<'a, T: Below, A: Allocator>(
     Ok(nodes)
 }
 
-/// Whether one of the items is below this one and counts.
+/// Whether an item of the index is below this one and is taken into account.
 pub(crate) fn is_above_one<T: Below, C: Counting<T>>(
     nodes: &[Node<T>],
     counting: &C,

@@ -1,4 +1,4 @@
-//! The least ones.
+//! The minimal items of a list.
 
 ghost use Rattle.std.specs.Prelude.{◌≡◌, ◌&&◌, not, IfOk};
 ghost use Rattle.std.specs.List.{list_any, filter};
@@ -8,7 +8,7 @@ use crate::counting::Counting;
 use crate::lookup::Lookup;
 use std::alloc::{AllocError, Allocator};
 
-/// The items that none below them counts for, in the order given.
+/// The items that have no item below them which is taken into account, in the given order.
 pub fn least<'a, T: Below, C: Counting<T>, A: Allocator>(
     alloc: &'a A,
     counting: &C,

@@ -1,22 +1,20 @@
-//! The least ones of many: those that no other one is below, without looking at every two of them.
+//! Minimal elements of a finite preorder, without a comparison of every two items.
 //!
-//! In the field's words: the minimal elements of a finite preorder, as the antichain that remains of a list of sets when those that contain another
-//! one go. Automata are made smaller by this again and again: transitions that another one implies, edges that another edge implies, pairs in whose
-//! place a weaker one may be listed.
+//! In the field's words: from a list of sets, it keeps those that include no other one of the list, which form an antichain. This makes automata
+//! smaller: it removes transitions and edges that another one subsumes, and pairs that a weaker pair may replace.
 //!
-//! What flows: a type with the trait `Below`, which says when one item is below another, as a set within another is, and what two items have in
-//! common; a test with the trait `Counting`, which says which of the items below a given one count, as those that differ from it; and a `Lookup` of
-//! items, which tells whether one of them is below a given one and counts. `least` asks it for each item, and answers those that there is none for, in
-//! the order given. Up to 48 items are looked at one by one. Of more an index is made, a list in which items that have much in common stand together,
-//! and behind each such run stands what all its items have in common. Where that isn't below a given item none of the run is, so a whole run is
-//! passed over by one test.
+//! What flows: a type with the trait `Below` says when an item is below another, and has a lower bound of two items. A test with the trait `Counting`
+//! says which of the items below a given one are taken into account, for instance those that differ from it. A `Lookup` of items answers whether one
+//! of them is below a given item and is taken into account. `least` asks it for each item, and keeps those for which there is none, in the given
+//! order. Up to 48 items are compared one by one. More items get an index: items that share many elements stand next to each other, and behind each
+//! run of them stands a lower bound. If the bound isn't below a given item, the whole run is skipped.
 //!
-//! The trait's `has` and `tally` choose which items stand together. They change how long it takes and never what is answered, so no clause speaks of
-//! them. What the answer needs is one law: below is transitive.
+//! `has` and `tally` of the trait choose which items stand next to each other. They affect the time alone, never the answer, so no clause mentions
+//! them. The answer needs one law: the preorder is transitive.
 //!
 //! ```
 //! {0, 1, 2}  {0, 1}  {2}  {0, 1, 3}      of these four sets
-//! {0, 1}  {2}                            are the least ones
+//! {0, 1}  {2}                            are the minimal ones
 //! ```
 #![tactic(auto)]
 

@@ -1,4 +1,4 @@
-//! Items that are asked whether one of them is below another one.
+//! Lookup of an item below a given one.
 
 ghost use Rattle.std.specs.Prelude.{◌≡◌, ◌&&◌, IfOk};
 ghost use Rattle.std.specs.List.{list_any};
@@ -10,10 +10,10 @@ use crate::node::Node;
 use std::alloc::{AllocError, Allocator};
 use std::marker::Model;
 
-/// So many items are looked at one by one.
+/// The largest number of items that are compared one by one, without an index.
 const FEW: usize = 48;
 
-/// Items, seen as the list of them, and where there are many an index of them.
+/// Items, with an index if there are more than `FEW`. Contracts see it as the list of the items.
 #[derive(Drop)]
 pub struct Lookup<'b, 'a, T: Below, A: Allocator> {
     items: &'b [T],
@@ -32,7 +32,7 @@ impl<'b, 'a, T: Below, A: Allocator> Model for Lookup<'b, 'a, T, A> {
 }
 
 impl<'b, 'a, T: Below, A: Allocator> Lookup<'b, 'a, T, A> {
-    /// The items, ready to be asked. For few items no memory is taken.
+    /// Prepares the items for lookups. For up to 48 items nothing is allocated.
     pub fn new(alloc: &'a A, items: &'b [T]) -> Result<Lookup<'b, 'a, T, A>, AllocError>
         ensures { IfOk result (λ l. l ≡ items.now) }
     {
@@ -44,7 +44,7 @@ impl<'b, 'a, T: Below, A: Allocator> Lookup<'b, 'a, T, A> {
         Ok(Lookup { items, index })
     }
 
-    /// Whether one of the items is below this one and counts.
+    /// Whether one of the items is below this one and is taken into account.
     pub fn has_lesser<C: Counting<T>>(&self, counting: &C, item: &T) -> bool
         ensures { result ≡ list_any (λ u. C.counts counting.now u item.now && T.below u item.now) self.now }
     {
@@ -55,14 +55,14 @@ impl<'b, 'a, T: Below, A: Allocator> Lookup<'b, 'a, T, A> {
     }
 }
 
-/// Whether one of the items is below this one and counts, by looking at each.
+/// The same by a comparison with each item.
 fn is_above_any<T: Below, C: Counting<T>>(items: &[T], counting: &C, item: &T) -> bool
     ensures { result ≡ list_any (λ u. C.counts counting.now u item.now && T.below u item.now) items.now }
 {
     items.iter().any(|other| is_lesser(other, counting, item))
 }
 
-/// Whether the first item is below the second and counts.
+/// Whether `other` is below `item` and is taken into account.
 #[tactic(auto, using(crate::proofs::LookupLaws::not_below, crate::proofs::LookupLaws::is_below))]
 #[inline(always)]
 fn is_lesser<T: Below, C: Counting<T>>(other: &T, counting: &C, item: &T) -> bool

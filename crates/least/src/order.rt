@@ -1,4 +1,4 @@
-//! Items in an order in which those that have much in common stand together.
+//! The order of items in an index: items that share many elements stand next to each other.
 
 ghost use Rattle.std.specs.Prelude.{◌≡◌, ◌≤◌, length, IfSome, IfOk};
 ghost use Rattle.std.specs.List.Sorted.{IsPermutation};
@@ -6,19 +6,19 @@ ghost use Rattle.std.specs.List.Sorted.{IsPermutation};
 use crate::below::Below;
 use std::alloc::{AllocError, Allocator};
 
-/// So many elements are looked at to divide items. Those of greater numbers are only compared.
+/// The number of elements by which items may be divided. Elements with greater numbers are used in comparisons only.
 const ELEMENTS: usize = 768;
 
-/// So many items stand for all when they are divided.
+/// The number of items in a sample.
 const SAMPLE: usize = 16;
 
-/// So many of the sample on either side are halves that are good enough.
+/// A division is good enough if at least this many items of the sample are on either side.
 const HALF: u32 = 6;
 
-/// So many items aren't divided.
+/// Up to this many items aren't divided.
 const FEW: usize = 12;
 
-/// The items.
+/// A copy of the items.
 pub(crate) fn copied<'a, T: Below, A: Allocator>(
     alloc: &'a A,
     items: &[T],
@@ -32,7 +32,7 @@ pub(crate) fn copied<'a, T: Below, A: Allocator>(
     Ok(copied)
 }
 
-/// Of a sample of the items, how many have each element, and how many items there are.
+/// For each element, the number of items in a sample that have it, and the size of the sample.
 fn tallied<T: Below>(items: &[T]) -> ([u32; ELEMENTS], u32) {
     let step = items.len() / SAMPLE + 1;
     let mut counts = [0u32; ELEMENTS];
@@ -46,7 +46,7 @@ fn tallied<T: Below>(items: &[T]) -> ([u32; ELEMENTS], u32) {
     (counts, all)
 }
 
-/// The element that divides the items into halves best, or the first that does it well enough.
+/// The element that divides the sample most evenly, or the first one that does so well enough.
 fn dividing<T: Below>(items: &[T]) -> Option<usize> {
     let (counts, all) = tallied(items);
     let mut best = None;
@@ -64,7 +64,7 @@ fn dividing<T: Below>(items: &[T]) -> Option<usize> {
     best
 }
 
-/// Puts those without the element first, and answers how many these are.
+/// Puts the items without the element before the others, and answers their number.
 fn parted<T: Below>(items: &mut [T], element: usize) -> usize
     ensures moved { IsPermutation items.old items.new }
     ensures within { result ≤ length items.old }
@@ -79,7 +79,7 @@ fn parted<T: Below>(items: &mut [T], element: usize) -> usize
     without
 }
 
-/// Divides the items, unless there are few of them.
+/// Divides the items by an element, and answers the number of items without it. `None` if there are few items, or if no element divides the sample.
 pub(crate) fn divided<T: Below>(items: &mut [T]) -> Option<usize>
     ensures moved { IsPermutation items.old items.new }
     ensures within { IfSome result (λ n. n ≤ length items.old) }

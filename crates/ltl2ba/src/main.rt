@@ -1,4 +1,4 @@
-//! `ltl2ba`: hands the process to the translator.
+//! `ltl2ba`: runs the translator on the words and streams of the process.
 #![tactic(auto)]
 
 use ltl_host::run;

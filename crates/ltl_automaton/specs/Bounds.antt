@@ -1,4 +1,4 @@
--- What every automaton that is listed has.
+-- The bounds of an automaton that was constructed within limits.
 use Rattle.std.specs.Prelude.{ℕ, ◌<◌, ◌≤◌, length, sum_by, All}
 use Rattle.ltl_spec.specs.Automata.Automaton.{Automaton}
 

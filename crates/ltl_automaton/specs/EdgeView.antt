@@ -1,4 +1,4 @@
--- The edges of the code as those of the definitions, equal lists of them, and what is fed to a hasher of one.
+-- The edges of the code as edges of the definitions: their equality, and what is fed to a hasher.
 use Rattle.std.specs.Prelude.{◌≡◌, ◌++◌, Bool, List, ℕ, IsTrue, refl}
 use Rattle.std.proofs.Common.{ap, sym}
 use Rattle.std.specs.Bool.{Decides}

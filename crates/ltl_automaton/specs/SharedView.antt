@@ -1,4 +1,4 @@
--- An automaton whose states share lists of edges.
+-- An explicit automaton whose states share edge lists.
 use Rattle.std.specs.Prelude.{◌≡◌, ℕ, ◌<◌, Bool, List, [], ◌∷◌, ◌++◌, length, map, slice_index_or, All}
 use Rattle.ltl_spec.specs.Automata.Automaton.{Automaton, State, Edge}
 use Rattle.ltl_spec.specs.Collections.Lists.{HasNoRepeats}

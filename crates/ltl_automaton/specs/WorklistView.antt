@@ -1,4 +1,4 @@
--- A list of things, of which some were taken.
+-- The worklist and the interner, as the lists of their keys.
 use Rattle.std.specs.Prelude.{ℕ, List}
 
 pub record WorklistView (K : Type 0) : Type 0 where

@@ -1,4 +1,4 @@
-//! Whether too many edges are sure to come.
+//! The lower bound on the edges still to come, by which `explore_from` finds early that the limit on edges will be passed.
 
 ghost use Rattle.std.specs.Prelude.{◌≡◌, ◌<◌, ◌≤◌, ◌+◌, true, length, IfOk, OnOk};
 ghost use Rattle.ltl_automaton.specs.Net.{edges_behind};
@@ -7,17 +7,18 @@ use crate::successors::Successors;
 use crate::worklist::{Key, Worklist};
 use std::alloc::{AllocError, Allocator};
 
-/// So many things have to wait before it pays to look ahead.
+/// The bound is computed only while at least this many states wait in the worklist.
 const MANY: usize = 1024;
 
-/// So many edges a state has on the average where the limits of 65,536 states and 1,048,576 edges are passed at once. With fewer the look doesn't pay.
+/// The bound is computed only if the explored states have at least this many edges on average: the average at which the limits of 65,536 states and
+/// 1,048,576 edges are reached together.
 const DENSE: usize = 16;
 
-/// So many edges are made for each thing that is looked at ahead.
+/// The bound is computed only if the number of edges is at least this multiple of the number of waiting states and of the number of edges at the last
+/// computation. So its cost stays below that of the exploration.
 const SELDOM: usize = 4;
 
-/// Whether it pays to look ahead: where many things wait that have many edges, and there are several times as many edges as things that wait, and as
-/// at the last look.
+/// Whether the bound is worth computing now. `count` is the number of edges so far, and `looked` their number when the bound was last computed.
 fn is_time<'a, K: Key, A: Allocator>(
     listing: &Worklist<'a, K, A>,
     looked: usize,
@@ -28,7 +29,7 @@ fn is_time<'a, K: Key, A: Allocator>(
     waiting >= MANY && count / DENSE >= explored && count / SELDOM >= waiting.max(looked)
 }
 
-/// Whether more edges than `most` are sure to come, by what is known of the things that are listed and not yet taken.
+/// Whether `count` edges, and what `edges_at_least` answers for each waiting state, are more than `most` together.
 fn are_more_behind<'a, K: Key, S: Successors<K>, A: Allocator>(
     net: &mut S,
     listing: &Worklist<'a, K, A>,
@@ -54,7 +55,8 @@ fn are_more_behind<'a, K: Key, S: Successors<K>, A: Allocator>(
     Ok(false)
 }
 
-/// Whether more edges than `most` are sure to come, if this is looked at now. At the last look there were `looked` edges.
+/// Whether more than `most` edges are certain. The answer is `false` without a computation where this wouldn't be worth it. `looked` is the number of
+/// edges at the last computation, and is updated.
 pub(crate) fn are_too_many_ahead<'a, K: Key, S: Successors<K>, A: Allocator>(
     net: &mut S,
     listing: &Worklist<'a, K, A>,

@@ -1,4 +1,4 @@
-//! Edges of automata.
+//! Edges of explicit automata.
 
 ghost use Rattle.std.specs.Prelude.{◌≡◌};
 ghost use Rattle.ltl_spec.specs.Automata.Automaton.{edge_cmp};
@@ -7,7 +7,7 @@ ghost use Rattle.ltl_automaton.specs.EdgeView.{edge_of};
 use ltl_sets::{Cube, RowSet};
 use std::cmp::Ordering;
 
-/// An edge: its literals, its target, and the acceptance sets that it is in, by number.
+/// An edge: its label as a cube, the number of its target, and the numbers of the acceptance sets that it belongs to.
 #[derive(Clone, Copy, Debug, PartialEq, Eq, Hash)]
 pub struct Edge {
     pub cube: Cube,
@@ -16,7 +16,7 @@ pub struct Edge {
 }
 
 impl Edge {
-    /// By the literals, then by the target, then by the marks.
+    /// Compares the labels, then the targets, then the acceptance sets.
     #[inline(always)]
     pub fn cmp_list(&self, other: &Edge) -> Ordering
         ensures { result ≡ edge_cmp (edge_of self.now) (edge_of other.now) }

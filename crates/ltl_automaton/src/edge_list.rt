@@ -1,4 +1,4 @@
-//! Lists of edges that are compared and hashed.
+//! Edge lists as values that can be interned.
 
 ghost use Rattle.std.specs.Prelude.{◌≡◌, map};
 ghost use Rattle.ltl_automaton.specs.EdgeView.{edge_of};
@@ -8,7 +8,7 @@ use std::alloc::Allocator;
 use std::hash::{Hash, Hasher};
 use std::marker::Model;
 
-/// A list of edges.
+/// A list of edges that is compared and hashed by its content, in its order.
 #[derive(Drop)]
 pub struct EdgeList<'a, A: Allocator> {
     edges: Vec<Edge, &'a A>,
@@ -60,13 +60,14 @@ impl<'a, A: Allocator> Hash for EdgeList<'a, A> {
 }
 
 impl<'a, A: Allocator> EdgeList<'a, A> {
+    /// The list of these edges, in their order.
     pub fn new(edges: Vec<Edge, &'a A>) -> Self
         ensures { result ≡ map edge_of edges.entry.items }
     {
         EdgeList { edges }
     }
 
-    /// The edges in order.
+    /// The edges in their order.
     pub fn as_slice(&self) -> &[Edge]
         ensures { map edge_of result.now ≡ self.now }
     {

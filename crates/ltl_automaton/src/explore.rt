@@ -1,4 +1,4 @@
-//! Automata listed breadth first.
+//! Breadth-first construction of an automaton from its initial state.
 
 ghost use Rattle.std.specs.Prelude.{◌≡◌, ◌<◌, ◌≤◌, ◌+◌, ◌++◌, ◌∷◌, [], fold, map};
 ghost use Rattle.std.specs.Prelude.{slice_get, slice_index_or, Some, length, is_some, IfOk, IfSome, OnOk, IsErrOf, if◌then◌else◌};
@@ -21,7 +21,7 @@ use crate::successors::Successors;
 use crate::worklist::{Key, Worklist};
 use std::alloc::{AllocError, Allocator};
 
-/// The edges by the numbers of their targets. A target that isn't listed gets the next number.
+/// The edges with numbers as targets. A key that isn't listed is put behind the others.
 fn numbered<'a, K: Key, A: Allocator>(
     alloc: &'a A,
     listing: &mut Worklist<'a, K, A>,
@@ -44,7 +44,7 @@ fn numbered<'a, K: Key, A: Allocator>(
     Ok(edges)
 }
 
-/// The edges by the numbers of their targets, sorted and distinct if this is asked, unless more things are listed then than may be.
+/// The edges with numbers as targets, sorted and without duplicates if `sorted` is set. `TooLarge` if more than `most` keys are listed then.
 fn numbered_by<'a, K: Key, A: Allocator>(
     alloc: &'a A,
     listing: &mut Worklist<'a, K, A>,
@@ -68,7 +68,7 @@ fn numbered_by<'a, K: Key, A: Allocator>(
     Ok(edges)
 }
 
-/// How many edges there are with so many more, unless this passes the limit.
+/// The sum `count + more`, or `TooLarge` if it is above `most`.
 fn counted(count: usize, more: usize, most: usize) -> Result<usize, AutomatonFault>
     requires { count ≤ most }
     ensures sum { IfOk result (λ n. n ≡ count + more) }
@@ -81,14 +81,14 @@ fn counted(count: usize, more: usize, most: usize) -> Result<usize, AutomatonFau
     Ok(count + more)
 }
 
-/// The most states and edges that an automaton may have.
+/// The largest numbers of states and edges that an automaton may have.
 #[derive(Clone, Copy)]
 pub struct Limits {
     pub states: usize,
     pub edges: usize,
 }
 
-/// The number of a thing among the first `states` whose edges are those of this one, if one is known.
+/// The number of an explored state that has the edges of `key`, if one is known. The explored states are the first `states` of the listing.
 fn known_place<'a, K: Key, S: Successors<K>, A: Allocator>(
     net: &mut S,
     listing: &Worklist<'a, K, A>,
@@ -109,7 +109,7 @@ fn known_place<'a, K: Key, S: Successors<K>, A: Allocator>(
     }
 }
 
-/// Makes the state of a thing that has the edges of the one at a place, and answers how many edges there are then.
+/// Appends a state that shares the edge list of the state `place`. Answers the new number of edges.
 fn put_like<'a, A: Allocator>(
     made: &mut SharedStates<'a, A>,
     lengths: &mut Vec<usize, &'a A>,
@@ -133,7 +133,7 @@ fn put_like<'a, A: Allocator>(
     Ok(count)
 }
 
-/// Makes the state of a thing, lists the targets of its edges, and answers how many edges there are then.
+/// Appends the state of `key` with edges of its own, and lists their targets. Answers the new number of edges.
 fn put_new<'a, K: Key, S: Successors<K>, A: Allocator>(
     alloc: &'a A,
     net: &mut S,
@@ -162,7 +162,7 @@ fn put_new<'a, K: Key, S: Successors<K>, A: Allocator>(
     Ok(count)
 }
 
-/// The thing that comes next, which is then taken, unless it is seen that more edges than `most` are to come.
+/// The next key of the worklist, `None` at its end, or `TooLarge` as soon as more than `most` edges are certain.
 fn take_next<'a, K: Key, S: Successors<K>, A: Allocator>(
     net: &mut S,
     listing: &mut Worklist<'a, K, A>,
@@ -184,7 +184,7 @@ fn take_next<'a, K: Key, S: Successors<K>, A: Allocator>(
     Ok(listing.next())
 }
 
-/// Lists the things that are reached from the start, and makes their states.
+/// Explores what the start reaches, until the worklist is empty or a limit is passed.
 fn explore<'a, K: Key, S: Successors<K>, A: Allocator>(
     alloc: &'a A,
     start: K,
@@ -225,8 +225,8 @@ fn explore<'a, K: Key, S: Successors<K>, A: Allocator>(
     Ok(())
 }
 
-/// The automaton of the things that are reached from the start, which is state 0. The edges of a state stand as they come, or sorted and
-/// distinct if this is asked.
+/// The automaton of the states that are reachable from `start`, which is state 0; the others are numbered breadth first. The edges of a state keep
+/// the order that `net` answers, or are sorted and without duplicates if `sorted` is set. A limit counts edges before duplicates are removed.
 pub fn explore_from<'a, K: Key, S: Successors<K>, A: Allocator>(
     alloc: &'a A,
     start: K,
@@ -240,7 +240,7 @@ pub fn explore_from<'a, K: Key, S: Successors<K>, A: Allocator>(
     ensures reachable { IfOk result (λ s. IsReachable K.eq sorted (S.net net.old) start sets (automaton_of s)) }
     ensures bounded { IfOk result (λ s. IsBounded limits.states limits.edges (automaton_of s)) }
 
-    // The fault comes exactly where a limit is passed. Memory may be refused at any time.
+    // The result is `TooLarge` if and only if a limit is passed, unless memory is refused before.
     ensures fits { OnOk result (¬ (PassesLimits K.eq (targets_of (S.net net.old)) start limits.states limits.edges)) }
     ensures large { IsErrOf result AutomatonFault.TooLarge → PassesLimits K.eq (targets_of (S.net net.old)) start limits.states limits.edges }
 {

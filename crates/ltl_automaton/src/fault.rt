@@ -1,4 +1,4 @@
-//! Why there is no automaton.
+//! The errors of a construction.
 
 ghost use Rattle.std.specs.Prelude.{◌≡◌};
 ghost use Rattle.ltl_automaton.specs.declared.fault.AutomatonFault.TheVariants.{OutOfMemory};
@@ -6,13 +6,13 @@ ghost use Rattle.ltl_automaton.specs.declared.fault.AutomatonFault.TheVariants.{
 use std::alloc::{AllocError, AllocFailed};
 use thiserror::Error;
 
-/// Why there is no automaton.
+/// Why no automaton was made.
 #[derive(Clone, Copy, Debug, PartialEq, Eq, Error)]
 pub enum AutomatonFault {
-    /// It would have more states or edges than it may.
+    /// The automaton has more states or more edges than its limits allow.
     #[error("limit: automaton too large")]
     TooLarge,
-    /// A growth was refused.
+    /// The allocator refused an allocation.
     #[error("out of memory")]
     OutOfMemory,
 }

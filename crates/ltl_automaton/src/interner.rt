@@ -1,4 +1,4 @@
-//! Different things by number.
+//! An interner: it numbers different values by first occurrence.
 
 ghost use Rattle.std.specs.Prelude.{◌≡◌, ◌<◌, [], true, length, position, slice_get, Some, IfOk, OnOk, OnErr};
 ghost use Rattle.ltl_spec.specs.Collections.Lists.{with_new, place_of};
@@ -8,7 +8,7 @@ use std::alloc::{AllocError, Allocator};
 use std::hash::{BuildHasherDefault, FoldHasher, Hash};
 use std::marker::Model;
 
-/// Different things, numbered by first occurrence.
+/// An interner. Equal values have one number; numbers begin at 0 and have no gaps.
 #[derive(Drop)]
 pub struct Interner<'a, K: Eq + Hash + Drop, A: Allocator> {
     things: IndexSet<K, BuildHasherDefault<FoldHasher>, &'a A>,
@@ -23,6 +23,7 @@ impl<'a, K: Eq + Hash + Drop, A: Allocator> Model for Interner<'a, K, A> {
 }
 
 impl<'a, K: Eq + Hash + Drop, A: Allocator> Interner<'a, K, A> {
+    /// An interner without values.
     pub fn new(alloc: &'a A) -> Self
         ensures { result ≡ record { keys = [] } }
     {
@@ -31,14 +32,14 @@ impl<'a, K: Eq + Hash + Drop, A: Allocator> Interner<'a, K, A> {
         }
     }
 
-    /// How many there are.
+    /// The number of different values.
     pub fn len(&self) -> usize
         ensures { result ≡ length self.now.keys }
     {
         self.things.len()
     }
 
-    /// The thing with this number.
+    /// The value with this number.
     pub fn get(&self, number: usize) -> &K
         requires { number < length self.now.keys }
         ensures { slice_get self.now.keys number ≡ Some result.now }
@@ -46,14 +47,14 @@ impl<'a, K: Eq + Hash + Drop, A: Allocator> Interner<'a, K, A> {
         &self.things[number]
     }
 
-    /// The number of a thing, if it is there.
+    /// The number of a value, if it is there.
     pub fn place(&self, thing: &K) -> Option<usize>
         ensures { result ≡ position (K.eq thing.now) self.now.keys }
     {
         self.things.get_index_of(thing)
     }
 
-    /// The number of a thing, the next one where it isn't there.
+    /// The number of a value. A value that isn't there is put behind the others, and gets the next number.
     #[inline(always)]
     pub fn number(&mut self, thing: K) -> Result<usize, AllocError>
         ensures keys { OnOk result (self.new.keys ≡ with_new K.eq self.old.keys thing) }

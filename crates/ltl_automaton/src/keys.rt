@@ -1,4 +1,4 @@
-//! Numbers and sets of rows as things that are listed.
+//! Numbers and sets of rows as keys of states.
 
 use crate::worklist::Key;
 use ltl_sets::RowSet;

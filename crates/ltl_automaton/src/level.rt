@@ -1,12 +1,12 @@
-//! Levels: how far an edge's marks lead.
+//! The step of degeneralization: the level to which an edge leads.
 
 ghost use Rattle.std.specs.Prelude.{◌≡◌};
 ghost use Rattle.ltl_spec.specs.Construction.Levels as levels_of;
 
 use ltl_sets::RowSet;
 
-/// The level to which an edge with these marks leads, of those from 0 to the number of sets: up as long as the marks hold the set that comes
-/// next, from the last level as from the first.
+/// The level behind an edge with these marks. Levels are 0 to `sets`; level `sets` counts as level 0 does. From there the level goes up by one as
+/// long as the marks hold the set of that number.
 pub fn next_level(sets: usize, marks: &RowSet, level: usize) -> usize
     ensures { result ≡ levels_of.next_level sets marks.now level }
 {

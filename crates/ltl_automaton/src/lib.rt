@@ -1,18 +1,20 @@
-//! Automata with acceptance on states and on edges, whose states share their lists of edges, and the listing of states breadth first.
+//! Explicit automata with acceptance on states and on edges, and their breadth-first construction on the fly.
 //!
-//! In the field's words: one explicit representation of every automaton that is made here, generalized or not, and the exploration on the fly that
-//! makes each one. A state is accepting or not, and has edges; an edge has a label, a target and the acceptance sets that it is in. Many states of
-//! these automata have equal edges, so each list of edges stands once, and a state has its number.
+//! In the field's words: one representation of every automaton that is made here, generalized or not. A state is accepting or not, and has outgoing
+//! edges. An edge has a label (a cube), a target, and the acceptance sets that it belongs to. Many states of these automata have equal edges, so each
+//! edge list is stored once, and a state holds the number of its list.
 //!
-//! What flows: a start, and a type with the trait `Successors`, which answers for each thing that can be a state, as a set of rows or a state on a
-//! level, whether it accepts, and its `Successor`s, which are edges to things that have no numbers yet; a `Worklist`, which numbers things as they are met;
-//! `explore_from`, which takes one after the other until none is left or a limit is passed: a `SharedStates`. Where a thing that was explored has
-//! the same edges, its list is used, and they aren't made again. So sets of rows are listed in `ltl_alt`, and in `ltl_passes` copies
-//! on levels and, to number them anew, the states of an automaton that stands. Where many things wait that have many edges, the listing looks ahead
-//! (`ahead`): what these have at least, as far as `Successors` knows, is added to the edges there are, and too many are refused before they are made.
+//! What flows: `explore_from` takes a start and a type with the trait `Successors`. A state is known by its *key*: a set of rows in `ltl_alt`, and in
+//! `ltl_passes` a copy of a state on a level, or the number of a state of an automaton that is numbered anew. For a key, `Successors` answers whether
+//! the state is accepting, and its outgoing edges as `Successor`s, whose targets are keys. A `Worklist` is the worklist, and numbers the keys as they are
+//! met. The result is a `SharedStates`, or `TooLarge` if a limit is passed.
 //!
-//! The generalized automaton of `[]<>p` is listed from the set of the root alone; from there `p` leads back to it, in set 0, and every letter to the
-//! root with `<>p` put off, whose edges are the same:
+//! Two devices save work. If `Successors` knows a `same_successors_as` of a state, which was explored before and has the same edges, the state gets the twin's
+//! list. While many states wait, `ahead` adds a lower bound on their edges to the edges so far, and the construction ends early if the sum is above
+//! the limit.
+//!
+//! The generalized automaton of `[]<>p` is explored from the state of the root row. Its edge under `p` leads back to it and belongs to acceptance set
+//! 0. Its edge under every letter leads to the state of the root and `<>p`, which has the same edges:
 //!
 //! ```
 //! list 0:   [t] to 1    [p] to 0, in set 0

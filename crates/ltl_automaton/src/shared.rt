@@ -1,4 +1,4 @@
-//! Automata whose states share their lists of edges.
+//! Explicit automata whose states share edge lists.
 
 ghost use Rattle.std.specs.Prelude.{◌≡◌, ◌<◌, [], length, map, slice_get, Some, OnOk};
 ghost use Rattle.ltl_spec.specs.Automata.Automaton.{state_at};
@@ -11,17 +11,18 @@ use crate::interner::Interner;
 use std::alloc::{AllocError, Allocator};
 use std::marker::Model;
 
-/// The different lists, by number.
+/// The different edge lists, by number.
 type Lists<'a, A> = Interner<'a, EdgeList<'a, A>, A>;
 
-/// A state: the number of its list of edges, and whether it is accepting.
+/// A state: the number of its edge list, and whether it is accepting.
 #[derive(Clone, Copy, Debug, PartialEq, Eq, Hash)]
 pub struct SharedState {
     pub list: usize,
     pub accepting: bool,
 }
 
-/// An automaton that grows. Its states share lists of edges, each of which stands once.
+/// An automaton that grows by one state at a time. Each edge list is stored once. State 0 is the initial one once the automaton is complete; the
+/// type doesn't require that targets exist.
 #[derive(Drop)]
 pub struct SharedStates<'a, A: Allocator> {
     sets: usize,
@@ -40,7 +41,7 @@ impl<'a, A: Allocator> Model for SharedStates<'a, A> {
 }
 
 impl<'a, A: Allocator> SharedStates<'a, A> {
-    /// No state, and so many acceptance sets.
+    /// An automaton without states, with this number of acceptance sets.
     pub fn new(alloc: &'a A, sets: usize) -> Self
         ensures { result ≡ record { sets = sets; lists = []; states = [] } }
     {
@@ -51,28 +52,28 @@ impl<'a, A: Allocator> SharedStates<'a, A> {
         }
     }
 
-    /// How many states there are.
+    /// The number of states.
     pub fn len(&self) -> usize
         ensures { result ≡ length (automaton_of self.now).states }
     {
         self.states.len()
     }
 
-    /// How many acceptance sets there are.
+    /// The number of acceptance sets.
     pub fn sets(&self) -> usize
         ensures { result ≡ (automaton_of self.now).sets }
     {
         self.sets
     }
 
-    /// How many lists there are.
+    /// The number of different edge lists.
     pub fn list_count(&self) -> usize
         ensures { result ≡ length self.now.lists }
     {
         self.lists.len()
     }
 
-    /// The list with this number.
+    /// The edge list with this number.
     pub fn list_edges(&self, list: usize) -> &[Edge]
         requires { list < length self.now.lists }
         ensures { slice_get self.now.lists list ≡ Some (map edge_of result.now) }
@@ -88,7 +89,7 @@ impl<'a, A: Allocator> SharedStates<'a, A> {
         self.states[i].accepting
     }
 
-    /// A state, with the number of its list.
+    /// A state as it is stored.
     pub fn state(&self, i: usize) -> SharedState
         requires { i < length (automaton_of self.now).states }
         ensures state { slice_get self.now.states i ≡ Some result }
@@ -97,7 +98,7 @@ impl<'a, A: Allocator> SharedStates<'a, A> {
         self.states[i]
     }
 
-    /// The number of a state's list. States with equal numbers have equal edges, and those with other numbers have others.
+    /// The number of a state's edge list. Two states have the same number if and only if their edges are equal.
     pub fn list(&self, i: usize) -> usize
         requires { i < length (automaton_of self.now).states }
         ensures within { result < length self.now.lists }
@@ -114,14 +115,14 @@ impl<'a, A: Allocator> SharedStates<'a, A> {
         self.list_edges(self.list(i))
     }
 
-    /// Hands what the type promises to callers: each list stands once, and is the list of a state.
+    /// Gives a caller's proof the invariant: the edge lists are different, and each is the list of a state. It does nothing when it runs.
     pub fn invariant(&self)
         ensures { IsShared self.now.lists self.now.states }
     {
         let _ = &self.states;
     }
 
-    /// Puts a state behind the others.
+    /// Appends a state with these edges.
     pub fn push(&mut self, accepting: bool, edges: Vec<Edge, &'a A>) -> Result<(), AllocError>
         ensures ok { OnOk result (automaton_of self.new ≡ with_state (automaton_of self.old) accepting (map edge_of edges.entry.items)) }
     {
@@ -131,7 +132,7 @@ impl<'a, A: Allocator> SharedStates<'a, A> {
         Ok(())
     }
 
-    /// Puts a state behind the others that has the list of one of them.
+    /// Appends a state that shares the edge list of state `i`.
     pub fn push_like(&mut self, accepting: bool, i: usize) -> Result<(), AllocError>
         requires { i < length (automaton_of self.old).states }
         ensures ok { OnOk result (automaton_of self.new ≡ with_state (automaton_of self.old) accepting (state_at (automaton_of self.old) i).edges) }

@@ -1,4 +1,4 @@
-//! What leads on from a thing that is listed.
+//! The transition function of an automaton that is constructed on the fly.
 
 ghost use Rattle.std.specs.Prelude.{◌≡◌, ◌<◌, ◌≤◌, length, IfOk, IfSome, OnOk, IsErrOf};
 ghost use Rattle.ltl_automaton.specs.Net.{Net};
@@ -8,32 +8,32 @@ use crate::successor::Successor;
 use crate::worklist::Key;
 use std::alloc::{AllocError, Allocator};
 
-/// Things as the states of an automaton.
+/// An automaton by its transition function: keys stand for states.
 pub trait Successors<K: Key> {
     ghost net: { Self → Net K };
 
-    // what has to hold of what is kept from one call to the next
+    // the invariant of what is remembered between two calls
     ghost ready: { Self → Type 0 };
 
-    /// Whether the state of a thing is accepting.
+    /// Whether the state of a key is accepting.
     fn accepting(&self, key: &K) -> bool
         ensures { result ≡ (net self.now).accepts key.now };
 
-    /// A thing that was asked for before and has the same edges, if one is known.
+    /// A key that has the same edges, if one is known. `None` says nothing.
     fn same_successors_as(&mut self, key: &K) -> Result<Option<K>, AllocError>
         requires { ready self.old }
         ensures same_successors_as { IfOk result (λ t. IfSome t (λ k. (net self.old).successors k ≡ (net self.old).successors key.now)) }
         ensures same { OnOk result (net self.new ≡ net self.old) }
         ensures ready { OnOk result (ready self.new) };
 
-    /// So many edges the state of a thing has at least, as far as this is known without making them; else 0.
+    /// A lower bound on the number of a state's edges, which is found without making them. It is 0 if nothing is known.
     fn edges_at_least(&mut self, key: &K) -> Result<usize, AllocError>
         requires { ready self.old }
         ensures least { IfOk result (λ n. n ≤ length ((net self.old).successors key.now)) }
         ensures same { OnOk result (net self.new ≡ net self.old) }
         ensures ready { OnOk result (ready self.new) };
 
-    /// The edges of the state of a thing. Where they are more than `most` they may be refused, and needn't be made.
+    /// The outgoing edges of a state. If there are more than `most`, the result may be `TooLarge`; it needn't be.
     fn successors<'a, A: Allocator>(
         &mut self,
         alloc: &'a A,

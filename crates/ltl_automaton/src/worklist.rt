@@ -1,4 +1,4 @@
-//! Things listed breadth first.
+//! The worklist of a breadth-first construction.
 
 ghost use Rattle.std.specs.Prelude.{◌≡◌, ◌<◌, ◌+◌, ◌∷◌, [], length, slice_get, Some, true, if◌then◌else◌, is_some, IfOk, IfSome, OnOk};
 ghost use Rattle.ltl_spec.specs.Collections.Lists.{with_new, place_of};
@@ -8,12 +8,12 @@ use std::alloc::{AllocError, Allocator};
 use std::hash::Hash;
 use std::marker::Model;
 
-/// What may be listed: things that are the same where they are equal.
+/// The keys of states. Equal keys are the same value.
 pub trait Key: Copy + Eq + Hash + Drop {
     ghost exact: { (x y : Self) → Self.eq x y ≡ true → x ≡ y };
 }
 
-/// A list of different things, of which some were taken.
+/// A worklist that keeps what was taken: different keys, numbered in the order in which they came. The first `explored` of them were taken.
 #[derive(Drop)]
 pub struct Worklist<'a, K: Key, A: Allocator> {
     keys: Interner<'a, K, A>,
@@ -32,7 +32,7 @@ impl<'a, K: Key, A: Allocator> Model for Worklist<'a, K, A> {
 }
 
 impl<'a, K: Key, A: Allocator> Worklist<'a, K, A> {
-    /// Nothing is listed.
+    /// A listing of no keys.
     pub fn new(alloc: &'a A) -> Self
         ensures { result ≡ record { keys = []; explored = 0 } }
     {
@@ -42,21 +42,21 @@ impl<'a, K: Key, A: Allocator> Worklist<'a, K, A> {
         }
     }
 
-    /// How many things are listed.
+    /// The number of keys, taken or not.
     pub fn len(&self) -> usize
         ensures { result ≡ length self.now.keys }
     {
         self.keys.len()
     }
 
-    /// How many of them were taken.
+    /// The number of keys that were taken.
     pub(crate) fn explored(&self) -> usize
         ensures { result ≡ self.now.explored }
     {
         self.explored
     }
 
-    /// The thing with this number.
+    /// The key with this number.
     pub(crate) fn key(&self, place: usize) -> &K
         requires { place < length self.now.keys }
         ensures { slice_get self.now.keys place ≡ Some result.now }
@@ -64,7 +64,7 @@ impl<'a, K: Key, A: Allocator> Worklist<'a, K, A> {
         self.keys.get(place)
     }
 
-    /// The thing that comes next, which is then taken.
+    /// Takes the first key that wasn't taken; `None` if every key was.
     pub fn next(&mut self) -> Option<K>
         ensures next { result ≡ slice_get self.old.keys self.old.explored }
         ensures keys { self.new.keys ≡ self.old.keys }
@@ -79,14 +79,14 @@ impl<'a, K: Key, A: Allocator> Worklist<'a, K, A> {
         }
     }
 
-    /// The number of a thing, if it is listed.
+    /// The number of a key, if it is listed.
     pub fn place(&self, key: K) -> Option<usize>
         ensures { IfSome result (λ i. slice_get self.now.keys i ≡ Some key) }
     {
         self.keys.place(&key)
     }
 
-    /// The number of a thing, the next one where it isn't listed.
+    /// The number of a key. A key that isn't listed is put behind the others.
     #[inline(always)]
     pub fn number(&mut self, key: K) -> Result<usize, AllocError>
         ensures keys { OnOk result (self.new.keys ≡ with_new K.eq self.old.keys key) }

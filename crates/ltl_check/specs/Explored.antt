@@ -1,4 +1,4 @@
--- What is known in the middle of a search. `col` is the colour of each state.
+-- The invariants of the nested depth-first search. `col` is the colour of each state.
 use Rattle.std.specs.Prelude.{◌≡◌, ◌≢◌, ℕ, zero, suc, ◌+◌, ◌*◌, ◌<◌, ◌≤◌, true, List, [], ◌∷◌, ◌++◌, length, take, drop, ◌⊎◌, ⊤, slice_index_or, ◌-◌, ◌^◌, min}
 use Rattle.ltl_check.specs.declared.graph.Step.{Step}
 use Rattle.ltl_check.specs.declared.walk.Taken.{Taken}

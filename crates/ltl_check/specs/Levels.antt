@@ -1,4 +1,4 @@
--- From sets of edges to accepting states: each state on levels, one for each number of sets met in turn.
+-- Degeneralization of a graph: copies of each state on levels, which count the sets that were met in turn.
 use Rattle.std.specs.Prelude.{◌≡◌, ◌≢◌, ℕ, ◌+◌, ◌*◌, ◌/◌, ◌%◌, ◌<◌, true, false, cond, ◌==◌, List, [], ◌∷◌, Option, option_map, ◌⊎◌}
 use Rattle.ltl_check.specs.declared.graph.Step.{Step}
 use Rattle.ltl_check.specs.declared.levels.LevelState.{LevelState}

@@ -1,4 +1,4 @@
--- How often a search looks: `old` and `new` are the numbers of looks before and behind it.
+-- Bounds on the number of looks in a search. `old` and `new` are the numbers of looks before and after it.
 use Rattle.std.specs.Prelude.{◌≡◌, ℕ, ◌≤◌, ◌^◌, ◌-◌, Bool, true, cond, min, List}
 use Rattle.ltl_spec.specs.Semantics.Word.{Name}
 use Rattle.ltl_spec.specs.Automata.Automaton.{Automaton}

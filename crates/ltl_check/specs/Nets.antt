@@ -1,4 +1,4 @@
--- Graphs by the numbers of their states, and walks in them.
+-- Graphs whose states are numbers, and paths and cycles in them.
 use Rattle.std.specs.Prelude.{◌≡◌, ℕ, ◌<◌, Bool, true, List, [], ◌∷◌, Option, Some, ◌⊎◌}
 use Rattle.ltl_check.specs.declared.graph.Step.{Step}
 use Rattle.ltl_check.specs.declared.walk.Taken.{Taken}

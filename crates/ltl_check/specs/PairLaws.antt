@@ -1,4 +1,4 @@
--- Laws of the product's states and steps.
+-- Laws of the states and steps of a product.
 use Rattle.std.proofs.Common.{◌≡◌, ℕ, zero, suc, ◌+◌, ◌*◌, ◌/◌, ◌%◌, ◌<◌, Bool, true, false, List, [], length, Some, inl, inr, sym, subst, arith}
 use Rattle.std.specs.Prelude.{All, slice_index_or}
 use Rattle.std.specs.Ordering.{nat_cmp}

@@ -1,4 +1,4 @@
--- The product of an automaton that was read and a Büchi automaton, as a graph whose edges are found by looking.
+-- The product of two automata as an implicit graph.
 use Rattle.std.specs.Prelude.{ℕ, ◌+◌, ◌*◌, ◌/◌, ◌%◌, ◌<◌, ◌≤◌, ◌≡◌, Bool, cond, List, [], length, sum_by, All, slice_index_or, Option, option_map}
 use Rattle.std.specs.Ordering.{nat_cmp}
 use Rattle.ltl_spec.specs.Collections.Sets.{put}

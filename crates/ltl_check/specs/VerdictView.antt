@@ -1,4 +1,4 @@
--- A verdict as one of the definitions, the letters along a walk, and what bounds the steps.
+-- A verdict of the code as one of the definitions, the letters along a path, and bounds on the number of looks.
 use Rattle.std.specs.Prelude.{ℕ, ◌+◌, ◌*◌, ◌/◌, ◌%◌, Bool, cond, List, map, length, sum_by}
 use Rattle.ltl_spec.specs.Semantics.Word.{Name}
 use Rattle.ltl_spec.specs.Automata.Automaton.{Automaton, Edge}

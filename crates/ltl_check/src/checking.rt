@@ -1,4 +1,4 @@
-//! The check of an automaton that was read against a Büchi automaton.
+//! The check: does an automaton that was read accept a word that a Büchi automaton accepts too?
 
 ghost use Rattle.std.specs.Prelude.{◌≡◌, ℕ, ◌+◌, ◌*◌, ◌<◌, ◌≤◌, ◌++◌, length, map, All, IsTrue, IfOk, IfErr, OnOk, IfSome, Ok, IsErrOf, []};
 ghost use Rattle.std.specs.List.{list_all};
@@ -31,10 +31,11 @@ use ltl_syntax::{Formula, PROPOSITION_LIMIT};
 use ltl_word::Lasso;
 use std::alloc::{AllocError, Allocator};
 
-/// How many states a search may have: those of both automata, on the levels of the given one's sets and of one set more.
+/// The largest number of states in a search. Their number is that of pairs of states, times the number of levels, which is the number of the given
+/// automaton's acceptance sets plus 2.
 pub const PRODUCT_LIMIT: usize = 16_777_216;
 
-/// The letters of the steps, which are given up.
+/// The letters of the steps. The steps are dropped.
 fn letters<'a, A: Allocator>(
     alloc: &'a A,
     steps: Vec<Taken, &'a A>,
@@ -70,7 +71,7 @@ fn word<'a, A: Allocator>(
     word.least(alloc)
 }
 
-/// Searches the product, where all names are these.
+/// Searches the product. `names` are the propositions of both automata.
 fn search_product<'a, A: Allocator>(
     alloc: &'a A,
     product: &Product<'_, 'a, A>,
@@ -99,7 +100,7 @@ fn search_product<'a, A: Allocator>(
     }
 }
 
-/// How many states a search of the product has.
+/// The number of states in a search of the product.
 fn product_states<'a, A: Allocator>(automaton: &Marked<'a, A>, ba: &Ba<'a, A>) -> usize
     ensures { result ≡ product_size automaton.now [] ba.now }
 {
@@ -108,12 +109,12 @@ fn product_states<'a, A: Allocator>(automaton: &Marked<'a, A>, ba: &Ba<'a, A>) -
     automaton.len() * ba.len() * (automaton.sets() + 2)
 }
 
-/// Whether both automata accept a common word, where the propositions of the second one are those of the formula. The names of
-/// both are unified: the automaton's first, and then those of the formula that it lacks.
+/// Whether there is a word that both automata accept. The propositions of `ba` are those of the formula, by number. Propositions of both automata
+/// with one name are the same; a proposition that an automaton doesn't list is free in it.
 ///
 /// # Errors
 ///
-/// More than [`PROPOSITION_LIMIT`] names together, more than [`PRODUCT_LIMIT`] states of the product on its levels, or no memory.
+/// There are more than [`PROPOSITION_LIMIT`] propositions together, the search has more than [`PRODUCT_LIMIT`] states, or memory is refused.
 pub fn check<'a, A: Allocator>(
     alloc: &'a A,
     automaton: &Marked<'a, A>,
@@ -123,11 +124,11 @@ pub fn check<'a, A: Allocator>(
     requires { HasNamesBelow (length formula.now.names) ba.now }
     ensures verdict { IfOk result (λ v. IsVerdictOn automaton.now formula.now.names ba.now (verdict_of v.outcome)) }
 
-    // Each pair of edges is looked at on each level at most twice, and without a common word each one that is reached at least once.
+    // Each pair of edges is tried at most twice on each level. If there is no common word, each reachable pair is tried at least once.
     ensures most { IfOk result (λ v. v.steps ≤ 2 * level_pairs automaton.now ba.now) }
     ensures least { IfOk result (λ v. v.outcome ≡ Contained → CoversReached automaton.now formula.now.names ba.now v.steps) }
 
-    // The faults come exactly where a limit is passed, in this order. Memory may be refused at any time.
+    // An error of a limit comes if and only if the limit is passed, in this order. Memory may be refused at any time.
     ensures few { OnOk result (length (unified automaton.now.names formula.now.names) ≤ stated_limits.propositions) }
     ensures fits { OnOk result (product_size automaton.now formula.now.names ba.now ≤ stated_limits.product) }
     ensures many { IsErrOf result CheckFault.TooManyPropositions → RefusesCheck stated_limits automaton.now formula.now.names ba.now TooManyPropositions }

@@ -1,19 +1,19 @@
-//! Why there is no verdict.
+//! The errors of a check.
 
 use ltl_syntax::PROPOSITION_LIMIT;
 use std::alloc::AllocError;
 use thiserror::Error;
 
-/// Why there is no verdict. The faults stand in the order in which they are looked for; memory may be refused at any time.
+/// Why there is no verdict. The limits are tested in this order; memory may be refused at any time.
 #[derive(Clone, Copy, Debug, PartialEq, Eq, Error)]
 pub enum CheckFault {
-    /// The automaton and the formula have more than [`PROPOSITION_LIMIT`] propositions together.
+    /// The automaton and the formula have more than [`PROPOSITION_LIMIT`] different propositions together.
     #[error("limit: more than {limit} propositions", limit = PROPOSITION_LIMIT)]
     TooManyPropositions,
-    /// The states of both automata, on the levels of the search, are more than [`PRODUCT_LIMIT`](crate::PRODUCT_LIMIT).
+    /// The search has more than [`PRODUCT_LIMIT`](crate::PRODUCT_LIMIT) states.
     #[error("limit: product too large")]
     ProductTooLarge,
-    /// A growth was refused.
+    /// The allocator refused an allocation.
     #[error("out of memory")]
     OutOfMemory,
 }

@@ -1,4 +1,4 @@
-//! A closed walk through all sets of a graph.
+//! Emptiness of a graph with several sets of edges: a search for a lasso whose cycle meets every set.
 
 ghost use Rattle.std.specs.Prelude.{◌≡◌, ℕ, ◌+◌, ◌*◌, ◌<◌, ◌≤◌, List, map, length, IfOk, IfErr, IfSome, Ok, None, ◌/◌, ◌^◌};
 ghost use Rattle.ltl_spec.specs.Tools.Limits.{stated_limits};
@@ -14,7 +14,7 @@ use crate::search::search_net;
 use crate::walk::{Taken, Walk};
 use std::alloc::{AllocError, Allocator};
 
-/// The steps of the graph under steps on levels, which are given up.
+/// The steps of `Levels` as steps of its graph: their levels are removed. The given list is dropped.
 fn strip<'a, A: Allocator>(
     alloc: &'a A,
     steps: Vec<Taken, &'a A>,
@@ -38,11 +38,11 @@ fn strip<'a, A: Allocator>(
     Ok(stripped)
 }
 
-/// A stem from the start and a closed walk from its end that takes an edge of every set, where there is one.
+/// A path from the start, and a cycle from its end that has an edge of every set; `None` if there is no such path and cycle.
 ///
 /// # Errors
 ///
-/// No memory, and nothing else.
+/// Memory is refused. There is no other error.
 pub fn find<'a, G: Graph, A: Allocator>(
     alloc: &'a A,
     graph: &G,
@@ -52,7 +52,7 @@ pub fn find<'a, G: Graph, A: Allocator>(
     ensures found { IfOk result (λ r. IfSome r (λ w. IsFullWalk (graph_net G.Graph graph.now) (G.sets_of graph.now) w.stem.items w.cycle.items)) }
     ensures none { result ≡ Ok None → (stem cycle : List Taken) → IsFullWalk (graph_net G.Graph graph.now) (G.sets_of graph.now) stem cycle → ⊥ }
 
-    // Each edge is looked at on each level at most twice, and where there is no such walk each one that is reached at least once.
+    // Each edge is tried at most twice on each level. If there is no such cycle, each reachable edge is tried at least once.
     ensures most { LooksAtMost (G.looked_of looks.old) (G.looked_of looks.new)
         (2 * ((G.sets_of graph.now + 1) * sum_below (λ n. G.pairs_of graph.now (G.state_of graph.now n)) (G.count_of graph.now))) }
     ensures least { result ≡ Ok None → LooksAtReached (levels_net (G.sets_of graph.now) (graph_net G.Graph graph.now))

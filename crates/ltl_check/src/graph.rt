@@ -1,4 +1,4 @@
-//! Graphs whose edges are found by looking.
+//! Implicit graphs: a candidate edge is asked for by its number, which is called a look.
 
 ghost use Rattle.std.specs.Prelude.{◌≡◌, ℕ, ◌+◌, ◌-◌, ◌<◌, ◌^◌, Option, Some, min};
 ghost use Rattle.ltl_check.specs.declared.graph.Step.{Step};
@@ -6,7 +6,7 @@ ghost use Rattle.ltl_check.specs.Marks.{MarksBelow};
 
 use ltl_sets::RowSet;
 
-/// What a look finds: where the edge leads, the sets that it is in, by number, and the propositions that are true in its letter.
+/// The edge that a look finds: its target, the numbers of the sets that it is in, and the propositions that are true in its letter.
 #[derive(Clone, Copy, Debug)]
 pub struct Step<S> {
     pub target: S,
@@ -14,13 +14,13 @@ pub struct Step<S> {
     pub letter: RowSet,
 }
 
-/// A finite graph with sets of edges, which is looked at edge by edge. Its states are the start, those that edges lead to, and those of
-/// the numbers below `count()`. Numbers tell them apart.
+/// A finite graph with sets of edges, whose edges are computed one at a time. Its states are the start, the targets of edges, and those of the
+/// numbers below `count()`. Different states have different numbers.
 pub trait Graph {
-    /// A state, handed on by value.
+    /// A state, passed by value.
     type State: Copy;
 
-    /// The count of looks. Nobody can make, copy or set back one by this trait.
+    /// The counter of looks. The trait has no way to make, copy or reset one.
     type Looks;
 
     ghost count_of: { Self → ℕ };
@@ -41,15 +41,15 @@ pub trait Graph {
 
     ghost looked_of: { Self.Looks → ℕ };
 
-    /// Every number of a state is below this.
+    /// A bound above every number of a state.
     fn count(&self) -> usize
         ensures { result ≡ count_of self.now };
 
-    /// How many sets of edges there are.
+    /// The number of sets of edges.
     fn sets(&self) -> usize
         ensures { result ≡ sets_of self.now };
 
-    /// Where walks begin.
+    /// The initial state.
     fn start(&self) -> Self::State
         ensures { result ≡ start_of self.now };
 
@@ -58,24 +58,24 @@ pub trait Graph {
         requires { IsState self.now s }
         ensures { result ≡ number_of self.now s };
 
-    /// The state of a number.
+    /// The state with this number.
     fn state(&self, n: usize) -> Self::State
         requires { n < count_of self.now }
         ensures { result ≡ state_of self.now n };
 
-    /// How many looks a state has.
+    /// The number of candidate edges of a state.
     fn pairs(&self, s: Self::State) -> usize
         requires { IsState self.now s }
         ensures { result ≡ pairs_of self.now s };
 
-    /// The k-th look at a state, which finds an edge or nothing and is counted. At the greatest number the count stays.
+    /// The candidate edge `k` of a state, or `None` if there is no such edge. The look is counted; the counter stays at its greatest value.
     fn at(&self, s: Self::State, k: usize, looks: &mut Self::Looks) -> Option<Step<Self::State>>
         requires own { IsState self.now s }
         requires inside { k < pairs_of self.now s }
         ensures found { result ≡ step_of self.now s k }
         ensures counted { looked_of looks.new ≡ min (looked_of looks.old + 1) (2 ^ 128 - 1) };
 
-    /// How many looks were counted.
+    /// The number of looks that were counted.
     fn looked(looks: &Self::Looks) -> u128
         ensures { result ≡ looked_of looks.now };
 

@@ -1,4 +1,4 @@
-//! Levels: a graph with one set of edges, those that leave a state of the last level.
+//! Degeneralization on the fly: a graph with one set of edges, in place of one with several.
 
 ghost use Rattle.std.specs.Prelude.{◌≡◌, ℕ, ◌+◌, ◌-◌, ◌*◌, ◌/◌, ◌%◌, ◌<◌, ◌≤◌, ◌==◌, cond, option_map};
 ghost use Rattle.ltl_check.specs.declared.graph.Step.{Step};
@@ -10,15 +10,16 @@ use crate::net::Numbered;
 use ltl_automaton::next_level;
 use ltl_sets::RowSet;
 
-/// A state on a level.
+/// A copy of a state on a level.
 #[derive(Clone, Copy, Debug)]
 pub struct LevelState<S> {
     pub state: S,
     pub level: usize,
 }
 
-/// A graph on levels, from 0 to the number of its sets. An edge climbs past each level whose set it is in, as far as they follow on one
-/// another, and from the last level it climbs as from level 0. A look is one look of the graph, and counts as that.
+/// The degeneralized graph. Its levels are 0 to the number of sets of `graph`. From level `k`, an edge goes up one level if it is in set `k`, from
+/// there one more if it is in set `k + 1`, and so on; the last level counts as level 0. Its one set has the edges that leave the last level. A look
+/// is one look of `graph`.
 #[derive(Drop)]
 pub struct Levels<'a, G: Graph> {
     graph: &'a G,
@@ -26,7 +27,7 @@ pub struct Levels<'a, G: Graph> {
 }
 
 impl<'a, G: Graph> Levels<'a, G> {
-    /// The graph on levels. It takes no memory.
+    /// The degeneralized graph. Nothing is computed and nothing allocated.
     pub fn of(graph: &'a G) -> Levels<'a, G>
         requires { G.count_of graph.now * (G.sets_of graph.now + 1) ≤ stated_limits.product }
         ensures { result.graph.now ≡ graph.now }

@@ -1,15 +1,14 @@
-//! Whether an automaton that was read and a Büchi automaton accept a common word: finite graphs that are looked at edge by edge, and a search for a
-//! closed walk through all their sets.
+//! Model checking of automata: does an automaton that was read have a word in common with a Büchi automaton?
 //!
-//! In the field's words: emptiness of the product of two automata, on the fly, by nested depth-first search. With the automaton of a negated formula
-//! that decides whether every word of the first automaton satisfies the formula, and finds a counterexample.
+//! In the field's words: emptiness of the product of two automata, on the fly, by nested depth-first search. If the Büchi automaton is that of a
+//! negated formula, the check decides whether every word of the first automaton satisfies the formula, and finds a counterexample.
 //!
-//! What flows: a `Marked` and a `Ba`, whose names are unified; their `Product`, of which no state and no edge is stored: a look at a pair of edges
-//! answers the step that both take together, if their labels join; its copies on `Levels`, so that the acceptance sets become accepting states;
-//! a `Search`, with a stack for each of its two passes and a mark for each state on a level; a `Walk`, which is a stem and a cycle; the word along it,
-//! with the positive literals of each step true, in least form: the `Verdict`.
+//! What flows: `check` takes a `Marked` and a `Ba`, and unifies their propositions by name. Their `Product` stores no states and no edges. A look at
+//! a pair of edges answers the step that both take together, if their labels don't contradict each other. `Levels` degeneralizes the product on the
+//! fly. `Search` has a stack for each of the two depth-first searches, and a colour for each state on a level. It finds a `Walk`, which is a stem and
+//! a cycle. Its word, in which the positive literals of each step are true, is put into least form, and is the counterexample of the `Verdict`.
 //!
-//! `find` searches any type with the trait `Graph`, whose laws say what a graph is. `check` is the whole way:
+//! `find` searches any type with the trait `Graph`, whose laws say what a graph is. `check` does all of this:
 //!
 //! ```
 //! let property = ltl_syntax::read(&alloc, b"[]<>p")?;

@@ -1,4 +1,4 @@
-//! The names of an automaton and of a formula together.
+//! The propositions of an automaton and of a formula, unified by name.
 
 ghost use Rattle.std.specs.Prelude.{◌≡◌, ◌<◌, ◌≤◌, ℕ, [], length, map, fold, slice_index_or, string_bytes, IfOk, OnOk};
 ghost use Rattle.ltl_spec.specs.Collections.Lists as lists;
@@ -16,7 +16,7 @@ fn is_same(a: &str, b: &str) -> bool
     a == b
 }
 
-/// The place of the name, or the length where it isn't there.
+/// The position of the name in the list, or the length of the list if it isn't there.
 fn place_of(names: &[&str], name: &str) -> usize
     ensures place { result ≡ lists.place_of same_name name.now (map (λ n. n.now) names.now) }
     ensures within { result ≤ length names.now }
@@ -30,7 +30,7 @@ fn place_of(names: &[&str], name: &str) -> usize
     names.len()
 }
 
-/// Puts the name behind the others, unless it is there.
+/// Appends the name, unless it is in the list.
 fn put<'p, 'a, A: Allocator>(
     names: &mut Vec<&'p str, &'a A>,
     name: &'p str,
@@ -44,7 +44,7 @@ fn put<'p, 'a, A: Allocator>(
     Ok(())
 }
 
-/// Puts each of the names.
+/// Appends each of the names that isn't in the list.
 fn put_all<'p, 'a, A: Allocator>(
     names: &mut Vec<&'p str, &'a A>,
     more: &'p [String<&'a A>],
@@ -58,7 +58,7 @@ fn put_all<'p, 'a, A: Allocator>(
     Ok(())
 }
 
-/// Puts each of the formula's names.
+/// Appends each name of the formula that isn't in the list.
 fn put_formula<'p, 'a, A: Allocator>(
     names: &mut Vec<&'p str, &'a A>,
     formula: &'p Formula<'a, A>,
@@ -71,7 +71,7 @@ fn put_formula<'p, 'a, A: Allocator>(
     Ok(())
 }
 
-/// The names of the automaton, and then those of the formula that it lacks.
+/// The names of the automaton, followed by those names of the formula that the automaton lacks.
 #[tactic(auto, using(crate::proofs::NameLaws::unified_is))]
 pub(crate) fn all_names<'p, 'a, A: Allocator>(
     alloc: &'a A,
@@ -86,7 +86,7 @@ pub(crate) fn all_names<'p, 'a, A: Allocator>(
     Ok(names)
 }
 
-/// The numbers that the formula's propositions have among these names.
+/// For each proposition of the formula, its position among these names.
 pub(crate) fn numbers<'a, A: Allocator>(
     alloc: &'a A,
     names: &[&str],

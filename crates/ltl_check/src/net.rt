@@ -1,11 +1,11 @@
-//! Graphs by the numbers of their states, with accepting states.
+//! Implicit graphs whose states are numbers, with accepting states.
 
 ghost use Rattle.std.specs.Prelude.{◌≡◌, ℕ, ◌+◌, ◌-◌, ◌<◌, ◌^◌, IfSome, min};
 ghost use Rattle.ltl_check.specs.Nets.{Net};
 
 use crate::graph::Step;
 
-/// A graph whose states are numbers, with looks counted.
+/// A graph whose states are numbers. A look at a candidate edge is counted.
 pub trait Numbered {
     type Looks;
 

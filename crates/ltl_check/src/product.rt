@@ -1,4 +1,4 @@
-//! The product of an automaton that was read and a Büchi automaton.
+//! The product of an automaton that was read and a Büchi automaton, on the fly.
 
 ghost use Rattle.std.specs.Prelude.{◌≡◌, ℕ, ◌<◌, [], ◌∷◌, length, All};
 ghost use Rattle.ltl_spec.specs.Collections.Sets.{Has};
@@ -15,21 +15,21 @@ use ltl_models::Ba;
 use ltl_sets::{Cube, Literal, RowSet};
 use std::alloc::Allocator;
 
-/// A state of the product: a state of each side, by its number.
+/// A state of the product: the numbers of a state of each automaton.
 #[derive(Clone, Copy, Debug)]
 pub struct ProductState {
     pub first: usize,
     pub second: usize,
 }
 
-/// How many pairs of edges were looked at. At the greatest number it stays.
+/// The number of pairs of edges that were looked at. It stays at its greatest value.
 #[derive(Debug, Drop)]
 pub struct Steps {
     pub(crate) count: u128,
 }
 
 impl Steps {
-    /// None yet.
+    /// No look was counted.
     pub fn new() -> Steps
         ensures { result.count ≡ 0 }
     {
@@ -37,7 +37,7 @@ impl Steps {
     }
 }
 
-/// The literal alone, with the number of its proposition.
+/// The literal as a cube, with its proposition renumbered.
 fn numbered(literal: Literal, numbers: &[usize]) -> Cube
     requires named { literal.proposition < length numbers.now }
     requires within { All (λ n. n < RowSet.LIMIT) numbers.now }
@@ -46,8 +46,7 @@ fn numbered(literal: Literal, numbers: &[usize]) -> Cube
     Cube::literal(numbers[literal.proposition], literal.positive)
 }
 
-/// The literals of both, where `numbers` holds the numbers of the other one's propositions, or `None` where they contradict each
-/// other.
+/// The conjunction of both cubes, or `None` if they contradict each other. `numbers` has the new number for each proposition of `other`.
 fn joined(mine: &Cube, other: &Cube, numbers: &[usize]) -> Option<Cube>
     requires named { (l : cubes.Literal) → Has other.now l → l.proposition < length numbers.now }
     requires within { All (λ n. n < RowSet.LIMIT) numbers.now }
@@ -77,7 +76,8 @@ pub struct Product<'p, 'a, A: Allocator> {
 }
 
 impl<'p, 'a, A: Allocator> Product<'p, 'a, A> {
-    /// The product of these, where `numbers` holds the number of each proposition of the second one.
+    /// The product of two automata. `numbers` has, for each proposition of the second one, its number in the product. The propositions of the first
+    /// one keep their numbers.
     pub fn new(
         first: &'p Marked<'a, A>,
         second: &'p Ba<'a, A>,
@@ -98,7 +98,8 @@ impl<'p, 'a, A: Allocator> Product<'p, 'a, A> {
         }
     }
 
-    /// The marks of an edge, and the last set where it leaves an accepting state of the second automaton.
+    /// The acceptance sets of an edge: those of the first automaton's edge, and one set more if the edge leaves an accepting state of the second
+    /// automaton.
     fn marks(&self, marks: RowSet, second: usize) -> RowSet
         requires { second < length self.now.second.now.states }
         ensures { result ≡ pair_marks self.now.first.now.sets (state_at self.now.second.now second).accepting marks }

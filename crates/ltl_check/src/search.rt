@@ -1,4 +1,4 @@
-//! The search for a closed walk through an accepting state.
+//! Nested depth-first search for a lasso whose cycle passes an accepting state.
 
 ghost use Rattle.std.specs.Prelude.{◌≡◌, ◌+◌, ◌<◌, ◌≤◌, ◌++◌, ◌∷◌, ◌*◌, [], length, List, OnOk, IfOk, take, drop, slice_index_or, true, false, IfSome, None, Ok};
 ghost use Rattle.ltl_check.specs.declared.walk.Taken.{Taken};
@@ -11,7 +11,7 @@ use crate::net::Numbered;
 use crate::walk::{Taken, Walk};
 use std::alloc::{AllocError, Allocator};
 
-/// How far the search has come with a state.
+/// What the searches know of a state: it is new, on the stack of the first search, left by it, or left and visited by the second one too.
 #[derive(Clone, Copy)]
 pub enum Colour {
     New,
@@ -20,7 +20,7 @@ pub enum Colour {
     Probed,
 }
 
-/// Where a pass stands: the steps that led there, the state, and the next look.
+/// The path of a depth-first search: the steps from its start, the current state, and the number of the candidate edge that comes next.
 #[derive(Drop)]
 pub struct DfsPath<'a, A: Allocator> {
     pub stem: Vec<Taken, &'a A>,
@@ -29,7 +29,7 @@ pub struct DfsPath<'a, A: Allocator> {
 }
 
 impl<'a, A: Allocator> DfsPath<'a, A> {
-    /// Back to the step before, if there is one.
+    /// Goes back by one step. The answer is `false` if the path is empty.
     fn step_back(&mut self) -> bool
         requires { HasRooms self.old }
         ensures back { result ≡ true → IsPopped self.old self.new }
@@ -46,14 +46,14 @@ impl<'a, A: Allocator> DfsPath<'a, A> {
     }
 }
 
-/// An open state that the second pass has met: the step to it, and its place on the stem.
+/// What closes a cycle: a step of the second search to a state on the stack of the first one, and the position of that state on the stack.
 #[derive(Clone, Copy)]
 pub struct Met {
     pub taken: Taken,
     pub place: usize,
 }
 
-/// Where the stem leaves the state, or its length.
+/// The first position where the path leaves this state, or the length of the path.
 fn place_of(stem: &[Taken], n: usize) -> usize
     ensures within { result ≤ length stem.now }
     ensures there { result < length stem.now → (t : Taken) × (slice_index_or stem.now result t ≡ t) × (t.state ≡ n) }
@@ -69,7 +69,7 @@ fn place_of(stem: &[Taken], n: usize) -> usize
     i
 }
 
-/// One look of the second pass.
+/// One look of the second search. It answers a step to a state on the stack of the first search.
 fn second_look<'a, N: Numbered, A: Allocator>(
     net: &N,
     first: &DfsPath<'a, A>,
@@ -115,7 +115,8 @@ fn second_look<'a, N: Numbered, A: Allocator>(
     }
 }
 
-/// The walk that the second pass has found.
+/// The stem and the cycle that the second search has closed: the cycle follows the first search's stack from the state that was met, and then the
+/// second search's path.
 fn close<'a, A: Allocator>(
     alloc: &'a A,
     first: &DfsPath<'a, A>,
@@ -135,7 +136,7 @@ fn close<'a, A: Allocator>(
     Ok(Walk { stem, cycle })
 }
 
-/// The second pass, from a state that the first pass is about to leave.
+/// The second search, from a state that the first search is about to leave. It ends at any state on the stack of the first search.
 fn inner_search<'a, N: Numbered, A: Allocator>(
     alloc: &'a A,
     net: &N,
@@ -168,7 +169,7 @@ fn inner_search<'a, N: Numbered, A: Allocator>(
     }
 }
 
-/// The search: a colour for each state, and where the first pass stands.
+/// The first search: a colour for each state, and its path.
 #[derive(Drop)]
 pub struct Search<'a, A: Allocator> {
     pub colours: Vec<Colour, &'a A>,
@@ -176,7 +177,7 @@ pub struct Search<'a, A: Allocator> {
 }
 
 impl<'a, A: Allocator> Search<'a, A> {
-    /// Before the first look.
+    /// The search before its first look.
     fn new<N: Numbered>(alloc: &'a A, net: &N) -> Result<Self, AllocError>
         ensures searching { IfOk result (λ s. IsSearching (N.net net.now) s) }
         ensures unpaid { IfOk result (λ s. rest_of (N.net net.now) s.dfs_path ≡ spent (N.net net.now) s.colours.items) }
@@ -219,7 +220,7 @@ impl<'a, A: Allocator> Search<'a, A> {
         Ok(())
     }
 
-    /// Leaves the state: the second pass from it, where it is accepting, and its colour.
+    /// Leaves the current state: if it is accepting, the second search starts from it. Sets its colour.
     fn leave<N: Numbered>(
         &mut self,
         alloc: &'a A,
@@ -248,7 +249,7 @@ impl<'a, A: Allocator> Search<'a, A> {
     }
 }
 
-/// A stem from the start and a closed walk from its end that passes an accepting state, where there is one.
+/// A path from the start, and a cycle from its end that passes an accepting state; `None` if there is no such path and cycle.
 pub fn search_net<'a, N: Numbered, A: Allocator>(
     alloc: &'a A,
     net: &N,

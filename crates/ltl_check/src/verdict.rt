@@ -1,16 +1,16 @@
-//! What a check answers.
+//! The answer of a check.
 
 ghost use Rattle.std.specs.Prelude.{◌≡◌};
 
 use ltl_word::Lasso;
 use std::alloc::Allocator;
 
-/// Whether both automata accept a common word.
+/// Whether there is a word that both automata accept.
 #[derive(Drop)]
 pub enum Outcome<'a, A: Allocator> {
-    /// There is none.
+    /// There is no common word.
     Contained,
-    /// This one, in least form.
+    /// A common word, in least form.
     Violated(Lasso<'a, A>),
 }
 
@@ -29,7 +29,7 @@ impl<'a, A: Allocator> Verdict<'a, A> {
         &self.outcome
     }
 
-    /// How many pairs of edges were looked at, each on one level. At the greatest number it stays.
+    /// The number of looks at pairs of edges; a pair is counted on each level again. It stays at its greatest value.
     pub fn steps(&self) -> u128
         ensures { result ≡ self.now.steps }
     {

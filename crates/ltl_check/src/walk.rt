@@ -1,9 +1,9 @@
-//! What a search hands back.
+//! The result of a search.
 
 use ltl_sets::RowSet;
 use std::alloc::Allocator;
 
-/// One step of a walk: the state that it leaves, by its number, the look, and the letter that the look found.
+/// One step of a path: the number of the state that it leaves, the number of the candidate edge, and the edge's letter.
 #[derive(Clone, Copy, Debug)]
 pub struct Taken {
     pub state: usize,
@@ -11,7 +11,7 @@ pub struct Taken {
     pub letter: RowSet,
 }
 
-/// A stem from the start, and a closed walk from its end.
+/// A lasso in a graph: a path from the start, and a cycle from its end.
 #[derive(Drop)]
 pub struct Walk<'a, A: Allocator> {
     pub stem: Vec<Taken, &'a A>,

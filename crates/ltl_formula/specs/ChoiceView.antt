@@ -1,4 +1,4 @@
--- What is chosen to stand for a rewritten node.
+-- The choice of a rewriting rule: a node that is there, or a new one.
 use Rattle.std.specs.Prelude.{ℕ, ◌<◌}
 use Rattle.ltl_spec.specs.NormalForms.SharedNodes.{AllBefore}
 use Rattle.ltl_spec.specs.NormalForms.SharedRewriting as law

@@ -1,4 +1,4 @@
--- The normal forms of a formula and of its negation as numbers of nodes.
+-- The normal forms of a formula and of its negation, as numbers of nodes.
 use Rattle.std.specs.Prelude.{◌≡◌, ◌<◌, ℕ, List, length, slice_index_or}
 use Rattle.ltl_spec.specs.NormalForms.BothPolarities.{Both, FlatNode, FlatConstant, FlatProposition, FlatUnary, FlatBinary}
 use Rattle.ltl_spec.specs.NormalForms.SharedRewriting.{IsMore, StandsFor, Numbers, stand_for}

@@ -1,4 +1,4 @@
--- Nodes whose operands are numbered anew.
+-- Nodes with renumbered operands.
 use Rattle.std.specs.Prelude.{ℕ}
 use Rattle.ltl_spec.specs.NormalForms.SharedNodes.{Node, TopNode, BottomNode, LeafNode, NextNode, AndNode, OrNode, UntilNode, ReleaseNode}
 

@@ -1,4 +1,4 @@
--- What the code's nodes in normal form, and graphs of them, stand for.
+-- The nodes of the hash-consed graph, and the normal forms that they stand for.
 use Rattle.std.specs.Prelude.{◌≡◌, ◌<◌, ℕ, Bool, List, map}
 use Rattle.ltl_sets.specs.Literals.{literal_of}
 use Rattle.ltl_spec.specs.NormalForms.Normal.{Normal}

@@ -1,4 +1,4 @@
--- The tasks of the walk as those of its laws, and the numbers that it lists.
+-- The tasks of the depth-first walk as those of its laws, and the numbers that it lists.
 use Rattle.std.specs.Prelude.{ℕ, ◌<◌, List, length, map, take, All, slice_index}
 use Rattle.ltl_spec.specs.Collections.Sets.{Has}
 use Rattle.ltl_spec.specs.Collections.Lists.{HasNoRepeats}

@@ -1,4 +1,4 @@
-//! Why no table was built.
+//! The errors of building a table.
 
 ghost use Rattle.std.specs.Prelude.{◌≡◌};
 ghost use Rattle.ltl_formula.specs.declared.build_fault.BuildFault.TheVariants.{OutOfMemory};
@@ -16,7 +16,7 @@ pub enum BuildFault {
     /// There are more than `ELEMENTARY_ROW_LIMIT` elementary rows.
     #[error("limit: more than {limit} elementary rows", limit = ELEMENTARY_ROW_LIMIT)]
     TooManyElementaryRows,
-    /// An allocation was refused.
+    /// The allocator refused an allocation.
     #[error("out of memory")]
     OutOfMemory,
 }

@@ -1,10 +1,12 @@
-//! The rows of a formula of linear temporal logic. What `ltl_syntax` reads and prints formulas by is handed out here too.
+//! The normal form of an LTL formula, as a table of its different subformulas, which are called rows. The names of `ltl_syntax` are exported here
+//! too.
 //!
-//! In the field's words: negation normal form with rewriting by local equivalences, and the different subformulas as a shared graph. Nothing here
-//! recurses, so nested formulas are as good as flat ones.
+//! In the field's words: negation normal form, rewriting by local equivalences, and a shared graph (a DAG) of subformulas. Nothing recurses, so
+//! deeply nested formulas cost no more than flat ones.
 //!
-//! What flows: a `Formula`; `Table::build` makes the normal forms of each node and of its negation, from those of its operands, in a graph where equal
-//! nodes are one and where rewriting is decided by numbers alone; what the whole formula's form reaches are the rows.
+//! What flows: `Table::build` takes a `Formula`. Bottom up, it makes the normal forms of each node and of the node's negation. They are nodes of a
+//! graph in which equal nodes are one; so the numbers of the operands decide which rewriting rule applies. The rows of the table are what can be
+//! reached from the normal form of the whole formula.
 //!
 //! `[]<>p` is read as the nodes `p`, `<>p`, `[]<>p`. Its normal form is `false V (true U p)`, so its table has the rows
 //!
@@ -12,11 +14,12 @@
 //! 0  false
 //! 1  true
 //! 2  p
-//! 3  1 U 2      the until row: `p` has to come, and has an acceptance set
-//! 4  0 V 3      the root, the whole formula
+//! 3  1 U 2      an until row: an eventuality, for which there is an acceptance set
+//! 4  0 V 3      the root: the whole formula
 //! ```
 //!
-//! of which 2, 3 and 4 are elementary: literals, temporal rows and the root, the states of the alternating automaton.
+//! Rows 2, 3 and 4 are elementary. Elementary rows are the literals, the temporal rows and the root; they are the states of the alternating
+//! automaton.
 #![tactic(auto)]
 
 pub mod build_fault;

@@ -1,9 +1,9 @@
-//! Limits of tables, and those of formulas.
+//! The limits on tables and on formulas.
 
 pub use ltl_syntax::limits::{PROPOSITION_LIMIT, TEXT_LIMIT};
 
-/// How many rows a table may have.
+/// The largest number of rows in a table.
 pub const ROW_LIMIT: usize = 4096;
 
-/// How many elementary rows a table may have.
+/// The largest number of elementary rows in a table.
 pub const ELEMENTARY_ROW_LIMIT: usize = 256;

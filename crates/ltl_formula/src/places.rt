@@ -1,4 +1,4 @@
-//! The rows of a table from the nodes of a graph, and the places of some of them.
+//! The numbering of a table's rows, and the lists of its until rows and elementary rows.
 
 ghost use Rattle.std.specs.Prelude.{◌≡◌, ◌<◌, length, map, slice_index, IfOk};
 ghost use Rattle.ltl_spec.specs.NormalForms.SharedNodes.{tree_at};
@@ -12,7 +12,7 @@ use crate::shared_nodes::SharedNodes;
 use smallvec::SmallVec;
 use std::alloc::{AllocError, Allocator};
 
-/// The node with operands by their places.
+/// The node, with its operands renumbered by `places`.
 fn placed(node: Row, places: &[usize]) -> Row
     requires { IsBelow (length places.now) node }
     ensures { node_of result ≡ renumbered (λ i. slice_index places.now i) (node_of node) }
@@ -27,15 +27,16 @@ fn placed(node: Row, places: &[usize]) -> Row
     }
 }
 
-/// A place for each node of the graph. No formula of the benchmark has more than 128 nodes in both forms.
+/// The number in the table for each node of the graph. Up to 128 are stored without an allocation.
 type NodePlaces<'a, A> = SmallVec<usize, 128, &'a A>;
 
-/// Places of rows. Most formulas of the benchmark have no more than 16 until rows and 32 elementary ones, which need no memory.
+/// Numbers of until rows. Up to 16 are stored without an allocation.
 pub type UntilPlaces<'a, A> = SmallVec<usize, 16, &'a A>;
 
+/// Numbers of elementary rows. Up to 32 are stored without an allocation.
 pub type ElementaryPlaces<'a, A> = SmallVec<usize, 32, &'a A>;
 
-/// The nodes of these numbers, with operands by their places among them.
+/// The rows of a table: the nodes of the graph with these numbers, whose operands are renumbered by their positions in `numbers`.
 pub fn numbered_rows<'a, A: Allocator>(
     alloc: &'a A,
     graph: &SharedNodes<'_, A>,
@@ -61,7 +62,7 @@ fn is_until(row: Row) -> bool
     matches!(row, Row::Until(_, _))
 }
 
-/// Whether the row is a literal or its operator is `X`, `U` or `V`.
+/// Whether the row is a literal, or its operator is `X`, `U` or `V`.
 fn is_elementary(row: Row) -> bool
     ensures { result ≡ table.is_elementary_row row }
 {
@@ -71,7 +72,7 @@ fn is_elementary(row: Row) -> bool
     }
 }
 
-/// Whether the row at a place is elementary, where `count` rows stand and the last is the root.
+/// Whether row number `place` of `count` rows is elementary. The last row is the root.
 fn is_elementary_at(row: Row, place: usize, count: usize) -> bool
     requires { place < count }
     ensures { result ≡ table.is_elementary_of count place row }
@@ -79,7 +80,7 @@ fn is_elementary_at(row: Row, place: usize, count: usize) -> bool
     is_elementary(row) || place + 1 == count
 }
 
-/// The places of the rows whose operator is `U`.
+/// The numbers of the rows whose operator is `U`, in ascending order.
 pub fn until_places<'a, A: Allocator>(
     alloc: &'a A,
     rows: &[Row],
@@ -95,7 +96,7 @@ pub fn until_places<'a, A: Allocator>(
     Ok(places)
 }
 
-/// The places of the elementary rows. The last row, which is the whole formula's, is one of them.
+/// The numbers of the elementary rows, in ascending order. The last row is one of them, since it is the root.
 pub fn elementary_places<'a, A: Allocator>(
     alloc: &'a A,
     rows: &[Row],

@@ -1,4 +1,4 @@
-//! The normal forms of a formula and of its negation, built together from those of its operands.
+//! Negation normal form: the normal forms of a formula and of its negation, built together from those of its operands.
 
 ghost use Rattle.std.specs.Prelude.{◌≡◌, ◌<◌, ◌≤◌, ℕ, [], if◌then◌else◌, length, not, All, IfOk};
 ghost use Rattle.ltl_spec.specs.NormalForms.NormalForm.{core};
@@ -15,14 +15,14 @@ use ltl_syntax::{BinaryOperator, Formula, Node, UnaryOperator};
 use smallvec::SmallVec;
 use std::alloc::{AllocError, Allocator};
 
-/// The numbers of the normal forms of a formula and of its negation.
+/// The normal form of a formula and that of its negation, by the numbers of their nodes.
 #[derive(Clone, Copy, Default)]
 pub struct Forms {
     pub positive: usize,
     pub negative: usize,
 }
 
-/// The forms of the nodes so far. No formula of the benchmark has more than 64 nodes, so they need no memory.
+/// The forms of the nodes of a formula. Up to 64 are stored without an allocation.
 type FormsList<'a, A> = SmallVec<Forms, 64, &'a A>;
 
 impl Forms {
@@ -37,7 +37,7 @@ impl Forms {
         }
     }
 
-    /// The number of one of the forms.
+    /// The form of the negation if `negate` is set, else that of the formula.
     fn chosen(self, negate: bool) -> usize
         ensures { result ≡ (if negate then self.negative else self.positive) }
     {
@@ -56,7 +56,7 @@ impl<'a, A: Allocator> SharedNodes<'a, A> {
     ghost use Rattle.ltl_syntax.specs.FormulaView.{unary_of, binary_of, StandsAt};
     ghost use Rattle.ltl_formula.specs.SharedNodesView.{Makes};
 
-    /// The number of what was chosen.
+    /// The number of the node that a rewriting rule chose.
     fn take(&mut self, choice: Choice) -> Result<usize, AllocError>
         requires { IsInside (length self.old.nodes) choice }
         ensures { IfOk result (λ k. Makes self.old self.new k (choice_tree self.old.nodes (choice_of choice))) }
@@ -67,7 +67,7 @@ impl<'a, A: Allocator> SharedNodes<'a, A> {
         }
     }
 
-    /// The number of `X` above node i.
+    /// The number of the node that stands for `X i`.
     fn make_next(&mut self, i: usize) -> Result<usize, AllocError>
         requires { i < length self.old.nodes }
         ensures { IfOk result (λ k. Makes self.old self.new k (made_next self.old.rewrite (tree_at self.old.nodes i))) }
@@ -76,7 +76,7 @@ impl<'a, A: Allocator> SharedNodes<'a, A> {
         self.take(choose_next(rewrite, i))
     }
 
-    /// The number of the conjunction of nodes i and j.
+    /// The number of the node that stands for `i && j`.
     fn make_and(&mut self, i: usize, j: usize) -> Result<usize, AllocError>
         requires left { i < length self.old.nodes }
         requires right { j < length self.old.nodes }
@@ -86,7 +86,7 @@ impl<'a, A: Allocator> SharedNodes<'a, A> {
         self.take(choose_and(rewrite, i, j))
     }
 
-    /// The number of the disjunction of nodes i and j.
+    /// The number of the node that stands for `i || j`.
     fn make_or(&mut self, i: usize, j: usize) -> Result<usize, AllocError>
         requires left { i < length self.old.nodes }
         requires right { j < length self.old.nodes }
@@ -96,7 +96,7 @@ impl<'a, A: Allocator> SharedNodes<'a, A> {
         self.take(choose_or(rewrite, i, j))
     }
 
-    /// The number of `U` above nodes i and j.
+    /// The number of the node that stands for `i U j`.
     fn make_until(&mut self, i: usize, j: usize) -> Result<usize, AllocError>
         requires left { i < length self.old.nodes }
         requires right { j < length self.old.nodes }
@@ -107,7 +107,7 @@ impl<'a, A: Allocator> SharedNodes<'a, A> {
         self.take(choose_until(rewrite, i, j, right))
     }
 
-    /// The number of `V` above nodes i and j.
+    /// The number of the node that stands for `i V j`.
     fn make_release(&mut self, i: usize, j: usize) -> Result<usize, AllocError>
         requires left { i < length self.old.nodes }
         requires right { j < length self.old.nodes }
@@ -145,7 +145,7 @@ impl<'a, A: Allocator> SharedNodes<'a, A> {
         Ok(Forms { positive, negative })
     }
 
-    /// The forms of `X`.
+    /// The forms of `X a`. `X` is its own dual.
     fn next_forms(&mut self, a: Forms) -> Result<Forms, AllocError>
         requires { AreInside self.old a }
         ensures { IfOk result (λ p. MakesBoth self.old self.new p (both_unary self.old.rewrite spec.Next (forms_at self.old a))) }
@@ -155,7 +155,7 @@ impl<'a, A: Allocator> SharedNodes<'a, A> {
         Ok(Forms { positive, negative })
     }
 
-    /// The forms of the conjunction.
+    /// The forms of `a && b`.
     fn and_forms(&mut self, a: Forms, b: Forms) -> Result<Forms, AllocError>
         requires left { AreInside self.old a }
         requires right { AreInside self.old b }
@@ -166,7 +166,7 @@ impl<'a, A: Allocator> SharedNodes<'a, A> {
         Ok(Forms { positive, negative })
     }
 
-    /// The forms of the disjunction.
+    /// The forms of `a || b`, by its dual.
     fn or_forms(&mut self, a: Forms, b: Forms) -> Result<Forms, AllocError>
         requires left { AreInside self.old a }
         requires right { AreInside self.old b }
@@ -176,7 +176,7 @@ impl<'a, A: Allocator> SharedNodes<'a, A> {
         Ok(neither.negated())
     }
 
-    /// The forms of `<->`: both operands hold or neither does.
+    /// The forms of `a <-> b`, read as `(a && b) || (!a && !b)`.
     fn iff_forms(&mut self, a: Forms, b: Forms) -> Result<Forms, AllocError>
         requires left { AreInside self.old a }
         requires right { AreInside self.old b }
@@ -187,7 +187,7 @@ impl<'a, A: Allocator> SharedNodes<'a, A> {
         self.or_forms(both, neither)
     }
 
-    /// The forms of `U`.
+    /// The forms of `a U b`.
     fn until_forms(&mut self, a: Forms, b: Forms) -> Result<Forms, AllocError>
         requires left { AreInside self.old a }
         requires right { AreInside self.old b }
@@ -198,7 +198,7 @@ impl<'a, A: Allocator> SharedNodes<'a, A> {
         Ok(Forms { positive, negative })
     }
 
-    /// The forms of `V`.
+    /// The forms of `a V b`, by its dual.
     fn release_forms(&mut self, a: Forms, b: Forms) -> Result<Forms, AllocError>
         requires left { AreInside self.old a }
         requires right { AreInside self.old b }
@@ -208,7 +208,7 @@ impl<'a, A: Allocator> SharedNodes<'a, A> {
         Ok(negated.negated())
     }
 
-    /// The forms of an operator before its operand.
+    /// The forms of a prefix operator over `a`. `[]a` is `false V a`, and `<>a` is `true U a`.
     fn unary_forms(&mut self, operator: UnaryOperator, a: Forms) -> Result<Forms, AllocError>
         requires { AreInside self.old a }
         ensures { IfOk result (λ p. MakesBoth self.old self.new p (both_unary self.old.rewrite (unary_of operator) (forms_at self.old a))) }
@@ -221,7 +221,7 @@ impl<'a, A: Allocator> SharedNodes<'a, A> {
         }
     }
 
-    /// The forms of an operator between its operands.
+    /// The forms of an infix operator over `a` and `b`. `a -> b` is `!a || b`.
     fn binary_forms(
         &mut self,
         operator: BinaryOperator,
@@ -243,7 +243,7 @@ impl<'a, A: Allocator> SharedNodes<'a, A> {
         }
     }
 
-    /// The forms of a node, given those of the nodes before it.
+    /// The forms of a node, from those of the nodes before it.
     fn node_forms(&mut self, node: Node, done: &[Forms]) -> Result<Forms, AllocError>
         requires before { (count : ℕ) × StandsAt count (length done.now) node }
         requires inside { All (AreInside self.old) done.now }
@@ -258,7 +258,7 @@ impl<'a, A: Allocator> SharedNodes<'a, A> {
     }
 }
 
-/// The number of the node that stands for the core of the formula: for its normal form, or that of its negation.
+/// The number of the node that is the normal form of the formula, or of its negation if `negate` is set.
 pub fn core_number<A: Allocator, B: Allocator>(
     alloc: &A,
     graph: &mut SharedNodes<'_, A>,

@@ -1,4 +1,5 @@
-//! The table of rewriting, decided by the numbers of the operands alone.
+//! The rewriting rules: local equivalences that apply when a node is built. The numbers of the operands decide them, and the right operand's node if
+//! the operator is `U` or `V`.
 
 ghost use Rattle.std.specs.Prelude.{◌≡◌, ◌<◌, ◌==◌, ◌&&◌, ℕ, length, IfOk, if◌then◌else◌};
 ghost use Rattle.ltl_spec.specs.NormalForms.SharedNodes as nodes;
@@ -9,7 +10,7 @@ ghost use Rattle.ltl_formula.specs.ChoiceView.{choice_of, IsInside};
 use crate::row::Row;
 use crate::shared_nodes::{BOTTOM, TOP};
 
-/// A number that is there, or a node that may be there or not.
+/// What a rule chooses: a node of the graph, or one that may have to be added.
 #[derive(Clone, Copy)]
 pub enum Choice {
     Old(usize),
@@ -36,7 +37,7 @@ fn is_always(node: Row) -> bool
     }
 }
 
-/// What stands for `X`.
+/// The node for `X i`. A constant stands for itself.
 pub fn choose_next(rewrite: bool, i: usize) -> Choice
     ensures chosen { choice_of result ≡ (if rewrite then law.choose_next 0 1 i else law.New (nodes.NextNode i)) }
     ensures inside { (n : ℕ) → 1 < n → i < n → IsInside n result }
@@ -47,7 +48,7 @@ pub fn choose_next(rewrite: bool, i: usize) -> Choice
     Choice::New(Row::Next(i))
 }
 
-/// What stands for the conjunction.
+/// The node for `i && j`: units, zeros and equal operands are removed.
 pub fn choose_and(rewrite: bool, i: usize, j: usize) -> Choice
     ensures chosen { choice_of result ≡ (if rewrite then law.choose_and 0 1 i j else law.New (nodes.AndNode i j)) }
     ensures inside { (n : ℕ) → 1 < n → i < n → j < n → IsInside n result }
@@ -70,7 +71,7 @@ pub fn choose_and(rewrite: bool, i: usize, j: usize) -> Choice
     Choice::New(Row::And(i, j))
 }
 
-/// What stands for the disjunction.
+/// The node for `i || j`: units, zeros and equal operands are removed.
 pub fn choose_or(rewrite: bool, i: usize, j: usize) -> Choice
     ensures chosen { choice_of result ≡ (if rewrite then law.choose_or 0 1 i j else law.New (nodes.OrNode i j)) }
     ensures inside { (n : ℕ) → 1 < n → i < n → j < n → IsInside n result }
@@ -93,7 +94,8 @@ pub fn choose_or(rewrite: bool, i: usize, j: usize) -> Choice
     Choice::New(Row::Or(i, j))
 }
 
-/// What stands for `U`, where `right` is the node of number j.
+/// The node for `i U j`, where `right` is node `j`. It is `j` if `j` is a constant, if `i` is `false`, if the operands are equal, or if the formula
+/// is `true U (true U ..)`.
 pub fn choose_until(rewrite: bool, i: usize, j: usize, right: Row) -> Choice
     ensures chosen { choice_of result ≡ (if rewrite then law.choose_until 0 1 i j (node_of right) else law.New (nodes.UntilNode i j)) }
     ensures inside { (n : ℕ) → 1 < n → i < n → j < n → IsInside n result }
@@ -113,7 +115,7 @@ pub fn choose_until(rewrite: bool, i: usize, j: usize, right: Row) -> Choice
     Choice::New(Row::Until(i, j))
 }
 
-/// What stands for `V`, where `right` is the node of number j.
+/// The node for `i V j`, where `right` is node `j`. It is `j` in the cases dual to those of `choose_until`.
 pub fn choose_release(rewrite: bool, i: usize, j: usize, right: Row) -> Choice
     ensures chosen { choice_of result ≡ (if rewrite then law.choose_release 0 1 i j (node_of right) else law.New (nodes.ReleaseNode i j)) }
     ensures inside { (n : ℕ) → 1 < n → i < n → j < n → IsInside n result }

@@ -1,8 +1,9 @@
-//! Nodes in negation normal form.
+//! Rows: the nodes of formulas in negation normal form.
 
 use ltl_sets::Literal;
 
-/// A node in negation normal form. Operands are given by their numbers, which are below the node's own.
+/// A formula in negation normal form: a constant, a literal or an operator. An operator has the numbers of its operands, which are smaller than the
+/// row's own.
 #[derive(Clone, Copy, Debug, PartialEq, Eq, Hash)]
 pub enum Row {
     True,

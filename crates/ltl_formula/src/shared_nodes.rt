@@ -1,4 +1,4 @@
-//! A graph of nodes in normal form, in which equal nodes are one.
+//! A hash-consed graph of subformulas in negation normal form: equal nodes are stored once.
 
 ghost use Rattle.std.specs.Prelude.{◌≡◌, ◌<◌, length, IfOk};
 
@@ -8,13 +8,13 @@ use std::alloc::{AllocError, Allocator};
 use std::hash::{BuildHasherDefault, FoldHasher};
 use std::marker::Model;
 
-/// The number of the node that is true.
+/// The number of the node `true`.
 pub const TOP: usize = 0;
 
-/// The number of the node that is false.
+/// The number of the node `false`.
 pub const BOTTOM: usize = 1;
 
-/// Nodes, each once and behind its operands. They are numbered by first occurrence.
+/// Different nodes, numbered by first occurrence. A node comes behind its operands, so the graph has no cycle.
 #[derive(Drop)]
 pub struct SharedNodes<'a, A: Allocator> {
     rows: IndexSet<Row, BuildHasherDefault<FoldHasher>, &'a A>,
@@ -39,8 +39,8 @@ impl<'a, A: Allocator> SharedNodes<'a, A> {
     ghost use Rattle.ltl_spec.specs.NormalForms.Normal.{Top, Bottom};
     ghost use Rattle.ltl_formula.specs.SharedNodesView.{IsBelow, Makes, node_of};
 
-    /// The graph of the two constants, for a formula of that many nodes: most have two forms. With `rewrite` set, nodes that are built later are
-    /// rewritten.
+    /// A graph of the two constants, with room for both normal forms of a formula of `count` nodes. If `rewrite` is set, nodes that are built later
+    /// are rewritten.
     pub fn new(alloc: &'a A, count: usize, rewrite: bool) -> Result<Self, AllocError>
         ensures { IfOk result (λ g. g.rewrite ≡ rewrite) }
     {
@@ -51,7 +51,7 @@ impl<'a, A: Allocator> SharedNodes<'a, A> {
         Ok(SharedNodes { rows, rewrite })
     }
 
-    /// How many nodes there are.
+    /// The number of nodes.
     pub fn len(&self) -> usize
         ensures count { result ≡ length self.now.nodes }
         ensures constants { HasConstants self.now.nodes 0 1 }
@@ -59,7 +59,7 @@ impl<'a, A: Allocator> SharedNodes<'a, A> {
         self.rows.len()
     }
 
-    /// The number of the node that is true.
+    /// The number of the node `true`.
     pub fn top(&self) -> usize
         ensures { StandsFor self.now.nodes result Top }
     {
@@ -67,7 +67,7 @@ impl<'a, A: Allocator> SharedNodes<'a, A> {
         TOP
     }
 
-    /// The number of the node that is false.
+    /// The number of the node `false`.
     pub fn bottom(&self) -> usize
         ensures { StandsFor self.now.nodes result Bottom }
     {
@@ -83,7 +83,7 @@ impl<'a, A: Allocator> SharedNodes<'a, A> {
         self.rewrite
     }
 
-    /// A node by its number.
+    /// The node with this number. The numbers of its operands are smaller.
     pub fn node(&self, k: usize) -> Row
         requires { k < length self.now.nodes }
         ensures found { node_of result ≡ node_at self.now.nodes k }
@@ -92,7 +92,7 @@ impl<'a, A: Allocator> SharedNodes<'a, A> {
         self.rows[k]
     }
 
-    /// The number of a node, which is put behind the others unless it is there.
+    /// The number of a node. A node that isn't there gets the next number.
     pub fn intern(&mut self, node: Row) -> Result<usize, AllocError>
         requires { AllBefore (length self.old.nodes) (node_of node) }
         ensures { IfOk result (λ k. Makes self.old self.new k (tree_of (tree_at self.old.nodes) (node_of node))) }

@@ -1,4 +1,4 @@
-//! The table of a formula: its rows in normal form.
+//! The table of a formula: the rows of its normal form.
 
 ghost use Rattle.ltl_spec.specs.Tools.Limits.{stated_limits};
 ghost use Rattle.std.specs.Prelude.{◌≡◌, ◌<◌, ◌≤◌, ◌-◌, All, length, slice_get, Some, IfOk, IsErrOf};
@@ -17,7 +17,8 @@ use ltl_syntax::Formula;
 use std::alloc::Allocator;
 use std::marker::Model;
 
-/// The rows of a formula or of its negation: the different subformulas of the normal form, by first occurrence in postorder.
+/// The different subformulas of the normal form of a formula or of its negation, numbered by first occurrence in postorder. So operands come before
+/// their operators, and the whole formula is the last row, the root.
 #[derive(Drop)]
 pub struct Table<'a, A: Allocator> {
     rows: Vec<Row, &'a A>,
@@ -43,7 +44,8 @@ impl<'a, A: Allocator> Table<'a, A> {
     ghost use Rattle.ltl_formula.specs.SharedNodesView.{IsBelow};
     ghost use Rattle.ltl_formula.specs.TableView.{IsNamedBelow, IsTable, core_of};
 
-    /// The table of a formula or, with `negate`, of its negation, rewritten with `rewrite`.
+    /// The table of a formula, or of its negation if `negate` is set. Subformulas are rewritten if `rewrite` is set. Memory, and the expected time,
+    /// are linear in the number of nodes.
     pub fn build<B: Allocator>(
         alloc: &'a A,
         formula: &Formula<'_, B>,
@@ -54,7 +56,7 @@ impl<'a, A: Allocator> Table<'a, A> {
         ensures core { IfOk result (λ t. core_of t ≡ core (reading_of formula.now).formula negate rewrite) }
         ensures literals { IfOk result (λ t. All (IsNamedBelow (length formula.now.names)) t.rows) }
 
-        // The faults come where a limit is passed. Memory may be refused at any time.
+        // A limit is passed if `TooManyRows` or `TooManyElementaryRows` comes. Memory may be refused at any time.
         ensures rows { IsErrOf result BuildFault.TooManyRows → stated_limits.rows < length (rows (core (reading_of formula.now).formula negate rewrite)) }
         ensures few { IsErrOf result BuildFault.TooManyElementaryRows → length
             (rows (core (reading_of formula.now).formula negate rewrite)) ≤ stated_limits.rows }
@@ -66,7 +68,7 @@ impl<'a, A: Allocator> Table<'a, A> {
         Table::of_node(alloc, &graph, root)
     }
 
-    /// The table of a node of a graph.
+    /// The table whose root is a node of the graph.
     fn of_node(
         alloc: &'a A,
         graph: &SharedNodes<'_, A>,
@@ -97,7 +99,7 @@ impl<'a, A: Allocator> Table<'a, A> {
         })
     }
 
-    /// How many rows there are.
+    /// The number of rows, which is at least 1.
     pub fn len(&self) -> usize
         ensures count { result ≡ length self.now.rows }
         ensures table { IsTable self.now }
@@ -105,14 +107,14 @@ impl<'a, A: Allocator> Table<'a, A> {
         self.rows.len()
     }
 
-    /// Hands what the type promises to callers.
+    /// Gives a caller's proof the invariant of the type. It does nothing when it runs.
     pub fn invariant(&self)
         ensures { IsTable self.now }
     {
         let _ = &self.rows;
     }
 
-    /// A row by its number.
+    /// The row with this number. The numbers of its operands are smaller.
     pub fn row(&self, i: usize) -> Row
         requires { i < length self.now.rows }
         ensures found { slice_get self.now.rows i ≡ Some result }
@@ -122,7 +124,7 @@ impl<'a, A: Allocator> Table<'a, A> {
         self.rows[i]
     }
 
-    /// The number of the row of the whole formula, the last one.
+    /// The number of the root, which is the last row.
     pub fn root(&self) -> usize
         ensures last { result ≡ length self.now.rows - 1 }
         ensures table { IsTable self.now }
@@ -130,14 +132,14 @@ impl<'a, A: Allocator> Table<'a, A> {
         self.rows.len() - 1
     }
 
-    /// The numbers of the rows whose operator is `U`, rising.
+    /// The numbers of the rows whose operator is `U`, in ascending order.
     pub fn untils(&self) -> &[usize]
         ensures { result.now ≡ self.now.untils }
     {
         &self.untils
     }
 
-    /// The numbers of the elementary rows, rising: of the literals, of the rows whose operator is `X`, `U` or `V`, and of the root.
+    /// The numbers of the elementary rows, in ascending order: the literals, the rows whose operator is `X`, `U` or `V`, and the root.
     pub fn elementary(&self) -> &[usize]
         ensures { result.now ≡ self.now.elementary }
     {

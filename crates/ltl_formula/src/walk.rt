@@ -1,4 +1,4 @@
-//! The rows below a node: the numbers of its different subformulas, operands first.
+//! A depth-first walk with an explicit stack, which lists the different subformulas of a node in postorder.
 
 ghost use Rattle.std.specs.Prelude.{◌≡◌, ◌<◌, ◌≤◌, ℕ, [], ◌∷◌, ◌++◌, All, IfOk, IsErrOf, OnOk, length, map};
 ghost use Rattle.ltl_spec.specs.NormalForms.NormalForm.{rows};
@@ -13,7 +13,7 @@ use crate::shared_nodes::SharedNodes;
 use smallvec::SmallVec;
 use std::alloc::{AllocError, Allocator};
 
-/// What is left to do for a node: to look at its operands, or to list it.
+/// A task of the walk: `Enter` a node, which pushes its operands, or `Leave` it, which lists it.
 #[derive(Clone, Copy)]
 pub enum Task {
     Enter(usize),
@@ -26,16 +26,16 @@ impl Default for Task {
     }
 }
 
-/// What is left to do, the last first. Most formulas of the benchmark leave no more than 32 tasks, which need no memory.
+/// The stack of tasks. Up to 32 are stored without an allocation.
 type Tasks<'a, A> = SmallVec<Task, 32, &'a A>;
 
-/// Numbers of rows. Most formulas of the benchmark have no more than 64, which need no memory.
+/// Numbers of nodes. Up to 64 are stored without an allocation.
 pub type Numbers<'a, A> = SmallVec<usize, 64, &'a A>;
 
-/// A truth value for each node of the graph. No formula of the benchmark has more than 128 in both forms.
+/// For each node of the graph, whether it was listed. Up to 128 are stored without an allocation.
 type Flags<'a, A> = SmallVec<bool, 128, &'a A>;
 
-/// Lists a node.
+/// Lists a node, and marks it as listed.
 fn list<A: Allocator>(
     k: usize,
     flags: &mut Flags<'_, A>,
@@ -52,7 +52,7 @@ fn list<A: Allocator>(
     Ok(())
 }
 
-/// Does one task.
+/// Does one task. A node that is listed isn't entered again.
 fn step<A: Allocator>(
     graph: &SharedNodes<'_, A>,
     task: Task,
@@ -87,7 +87,7 @@ fn step<A: Allocator>(
     }
 }
 
-/// The numbers of the rows of node `root`, by first occurrence in postorder.
+/// The numbers of the subformulas of node `root`, by first occurrence in postorder.
 pub fn row_numbers<'a, A: Allocator>(
     alloc: &'a A,
     graph: &SharedNodes<'_, A>,

@@ -1,4 +1,4 @@
--- The header so far as a state of the definition, and what the definition's step makes of it.
+-- The state of the header's parser, as a state of the definition, and what the definition's step makes of it.
 use Rattle.std.specs.Prelude.{◌≡◌, ℕ, ◌+◌, ◌-◌, ◌<◌, ◌≤◌, true, List, [], ◌∷◌, ◌++◌, length, flat_map, Option, Some, None, is_some, option_map, unwrap_or, Result, Ok, Err, codes, ⊤}
 use Rattle.std.specs.List.{range_with_len}
 use Rattle.ltl_spec.specs.Semantics.Word.{Name}

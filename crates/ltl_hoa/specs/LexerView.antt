@@ -1,4 +1,4 @@
--- A lexer's state, and what a byte makes of it.
+-- The state of the lexer, and what a byte changes of it.
 use Rattle.std.specs.Prelude.{ℕ, ◌+◌, ◌-◌, Bool, true, false, ◌||◌, ◌==◌, nat_le, if◌then◌else◌, List, [], ◌∷◌, ◌++◌, Option, Some, None}
 use Rattle.ltl_spec.specs.Formulas.Tokens.{is_blank}
 use Rattle.ltl_spec.specs.Hoa.HoaToken.{is_digit, begins_identifier, is_identifier_byte}

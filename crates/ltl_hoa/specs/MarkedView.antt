@@ -1,4 +1,4 @@
--- An automaton that was read as one of the definitions, and what its type holds.
+-- An automaton that was read as one of the definitions, and the invariant of its type.
 use Rattle.std.specs.Prelude.{◌≡◌, ℕ, ◌<◌, ◌≤◌, Bool, IsTrue, List, length, sum_by, All, refl}
 use Rattle.std.specs.List.{list_all}
 use Rattle.std.specs.Coded.{Coded, code_by, coded×, coded_ℕ, coded_bool, coded_list}

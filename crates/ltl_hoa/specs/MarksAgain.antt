@@ -1,4 +1,4 @@
--- The bits of a set are those that its numbers give back.
+-- The bits of a set of acceptance sets: they are the inverse of listing its numbers.
 use Rattle.std.specs.Prelude.{◌≡◌, ◌<◌, ◌^◌, ℕ, zero, suc, slice_index}
 use Rattle.std.proofs.Common.{ap, refl, arith}
 use Rattle.ltl_sets.specs.Words.{IsWords}

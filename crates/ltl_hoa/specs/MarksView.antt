@@ -1,4 +1,4 @@
--- Sets of acceptance sets as the bits of a number.
+-- Sets of acceptance sets as the bits of an integer.
 use Rattle.std.specs.Prelude.{ℕ, List, [], ◌∷◌, slice_index}
 use Rattle.ltl_sets.specs.Words.{members, words_with}
 

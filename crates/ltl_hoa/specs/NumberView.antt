@@ -1,4 +1,4 @@
--- Numbers as they are read: one that is too large for any count is a fixed one.
+-- The value of digits, up to a bound above every count.
 use Rattle.std.specs.Prelude.{ℕ, min}
 use Rattle.ltl_spec.specs.Hoa.HoaToken.{HoaToken, Int}
 

@@ -1,4 +1,4 @@
--- What stood so far, what a token makes of it, and how it shows the state of the definition.
+-- The state of the parser, what a token changes of it, and the state of the definition that it stands for.
 use Rattle.std.specs.Prelude.{◌≡◌, ◌<◌, ◌≤◌, [], Option, Some, None, option_map, unwrap_or, Result, Ok, Err}
 use Rattle.ltl_spec.specs.Tools.Limits.{stated_limits}
 use Rattle.ltl_spec.specs.Hoa.HoaToken as token

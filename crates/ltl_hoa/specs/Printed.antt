@@ -1,4 +1,4 @@
--- An automaton that is printed, and what its text reads as.
+-- A printed automaton, and the automaton that its text is read as.
 use Rattle.std.specs.Prelude.{◌≡◌, ℕ, ◌<◌, ◌≤◌, Bool, false, if◌then◌else◌, IsTrue, List, [], ◌∷◌, length, map, sum_by, All, Result, MatchResult}
 use Rattle.std.specs.List.{list_all}
 use Rattle.ltl_spec.specs.Collections.Sets.{IsRising}

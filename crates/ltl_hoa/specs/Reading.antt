@@ -1,4 +1,4 @@
--- How the stream reader's state is that of a text so far, and what a call answers.
+-- The relation of the reader's state to the text so far, and the answer to a text.
 use Rattle.std.specs.Prelude.{◌≡◌, ℕ, ◌<◌, take, IfSome, ◌≤◌, ◌+◌, List, ◌++◌, length, fold, ◌⊎◌, Option, Some, None, Result, Ok, Err, MatchResult, ⊤}
 use Rattle.std.specs.Io.KnownBytes.{Consumes}
 use Rattle.ltl_spec.specs.Tools.Limits.{stated_limits}

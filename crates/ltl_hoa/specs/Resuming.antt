@@ -1,4 +1,4 @@
--- The items that are left to come where a lexer stands.
+-- The tokens that a lexer in a given state makes of the rest of a text.
 use Rattle.std.specs.Prelude.{◌≡◌, ℕ, ◌≤◌, Bool, true, false, ◌||◌, ◌==◌, nat_eq, codes, List, [], ◌∷◌, ◌++◌, Option, Some, None, ⊤}
 use Rattle.std.specs.List.{list_all, starts_with}
 use Rattle.ltl_spec.specs.Hoa.HoaToken.{HoaItem, StringToken, UnclosedString, UnclosedComment, hoa_items_from, string_rest, comment_rest, begins_identifier, is_identifier_byte, is_digit}

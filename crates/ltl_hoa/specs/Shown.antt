@@ -1,4 +1,4 @@
--- How the body shows the state of the definition, and what its steps make of it.
+-- The relation of the body parser's state to the state of the definition, and what its steps make of it.
 use Rattle.std.specs.Prelude.{◌≡◌, ℕ, zero, suc, ◌<◌, ◌≤◌, Bool, true, false, not, ◌==◌, nat_lt, if◌then◌else◌, List, [], ◌∷◌, ◌++◌, length, map, slice_index_or, Option, Some, None, option_map, Result, Ok, Err, ⊤}
 use Rattle.std.specs.Bool.{beq}
 use Rattle.std.specs.List.{list_any}

@@ -1,4 +1,4 @@
--- What was read so far, and what a byte makes of it.
+-- The state of the streaming reader, and what a byte changes of it.
 use Rattle.std.specs.Prelude.{◌≡◌, true, ℕ, ◌+◌, ◌==◌, if◌then◌else◌, ◌≤◌, Option, Some, None, Result, Ok, Err, is_some}
 use Rattle.ltl_spec.specs.Tools.Limits.{stated_limits}
 use Rattle.ltl_hoa.specs.declared.fault.Stop.{Stop}

@@ -1,4 +1,4 @@
--- Tokens of the code as those of the definitions, and their bytes.
+-- The tokens of the code as tokens of the definitions, and their bytes.
 use Rattle.std.specs.Prelude.{ℕ, Bool, ◌||◌, ◌==◌, nat_eq, if◌then◌else◌, List, Option, Some, None, codes}
 use Rattle.std.specs.List.{starts_with}
 use Rattle.ltl_spec.specs.Formulas.Tokens.{same_name}

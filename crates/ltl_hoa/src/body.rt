@@ -1,4 +1,4 @@
-//! The body: states and their edges.
+//! The parser of the body: states and their edges.
 
 ghost use Rattle.std.specs.Prelude.{◌≡◌, ◌<◌, ◌≤◌, [], ◌∷◌, ◌++◌, List, ℕ, IfOk, OnOk, map, length};
 ghost use Rattle.ltl_hoa.specs.TokenView.{token_of, kind_of};
@@ -23,20 +23,20 @@ use smallvec::SmallVec;
 use std::alloc::{AllocError, Allocator};
 use std::marker::Model;
 
-/// The states so far. The last edge isn't among those of its state while sets may follow it.
+/// The states that were read so far. The last edge isn't stored with its state as long as its acceptance sets may follow.
 #[derive(Drop)]
 pub(crate) struct Body<'a, A: Allocator> {
     counts: Counts,
-    /// Which states have stood.
+    /// For each state, whether its definition was met.
     defined: Vec<bool, &'a A>,
     edges: Vec<Vec<MarkedEdge, &'a A>, &'a A>,
     /// How many edges the labels so far make.
     made: usize,
-    /// The state that stood last, and its sets.
+    /// The state whose definition was met last, and its acceptance sets.
     at: usize,
     sets: Marks,
     label: Label<'a, A>,
-    /// The last edge: its cubes, its target and its sets.
+    /// The last edge: the cubes of its label, its target and its acceptance sets.
     cubes: CubeList<'a, A>,
     target: usize,
     own: Marks,
@@ -76,7 +76,7 @@ impl<'a, A: Allocator> Model for Body<'a, A> {
     }) };
 }
 
-/// Takes a token where a state may begin, or the end come.
+/// Takes a token where a state or the end of the body may come.
 fn at_state(kind: TokenKind, text: &[u8]) -> Result<Place, Stop>
     ensures { (v : view.BodyView) → StepsAt AtState v (token_of kind text.now) result v }
 {
@@ -87,7 +87,7 @@ fn at_state(kind: TokenKind, text: &[u8]) -> Result<Place, Stop>
     }
 }
 
-/// Lists without edges, one for each state.
+/// An empty edge list for each state.
 fn no_edges<'a, A: Allocator>(
     alloc: &'a A,
     states: usize,
@@ -101,7 +101,7 @@ fn no_edges<'a, A: Allocator>(
     Ok(edges)
 }
 
-/// As many times false.
+/// `false` for each state.
 fn none_defined<'a, A: Allocator>(
     alloc: &'a A,
     states: usize,
@@ -115,7 +115,7 @@ fn none_defined<'a, A: Allocator>(
     Ok(defined)
 }
 
-/// Puts an edge for each of the cubes behind the others.
+/// Appends one edge for each of the cubes.
 fn file_all<A: Allocator>(
     edges: &mut Vec<MarkedEdge, &A>,
     cubes: &[Cube],
@@ -136,7 +136,7 @@ fn file_all<A: Allocator>(
 }
 
 impl<'a, A: Allocator> Body<'a, A> {
-    /// A body of so many states, at least one, without edges.
+    /// A body with the counts of the header, in which nothing was read. There is at least one state.
     pub(crate) fn new(alloc: &'a A, counts: Counts) -> Result<Body<'a, A>, AllocError>
         requires some { 0 < counts.states }
         requires names { counts.names ≤ MOST_NAMES }
@@ -157,7 +157,7 @@ impl<'a, A: Allocator> Body<'a, A> {
         })
     }
 
-    /// Takes a token at its place.
+    /// Takes a token at the place `place`, and answers the next place.
     pub(crate) fn take(
         &mut self,
         place: BodyPlace,
@@ -172,7 +172,7 @@ impl<'a, A: Allocator> Body<'a, A> {
         }
     }
 
-    /// Takes a token other than `--ABORT--` at its place.
+    /// Takes a token other than `--ABORT--` at the place `place`.
     fn take_at(&mut self, place: BodyPlace, kind: TokenKind, text: &[u8]) -> Result<Place, Stop>
         ensures { TakesAt place self.old (token_of kind text.now) result self.new }
     {
@@ -201,7 +201,7 @@ impl<'a, A: Allocator> Body<'a, A> {
         }
     }
 
-    /// Begins the state of that number.
+    /// Begins the definition of the state with this number.
     #[tactic(auto, using(crate::proofs::BodySteps::no_state, crate::proofs::BodySteps::state_twice, crate::proofs::BodySteps::state_begun))]
     fn define(&mut self, number: usize) -> Result<Place, Stop>
         ensures { (n : ℕ) → number ≡ capped n → StepsAt AtNumber self.old (Int n) result self.new }
@@ -339,7 +339,7 @@ impl<'a, A: Allocator> Body<'a, A> {
         Ok(Place::Body(BodyPlace::AfterOperand))
     }
 
-    /// Ends the label.
+    /// Ends the label, and takes its cubes.
     #[tactic(auto, using(crate::proofs::BodySteps::still_open, crate::proofs::BodySteps::label_wide, crate::proofs::BodySteps::too_many, crate::proofs::BodySteps::label_ended, crate::proofs::BodySteps::no_memory))]
     fn close_label(&mut self) -> Result<Place, Stop>
         ensures { StepsInLabel AfterOperand self.old CloseLabel result self.new }
@@ -409,7 +409,7 @@ impl<'a, A: Allocator> Body<'a, A> {
         }
     }
 
-    /// Puts the last edge, one for each of its cubes, among those of its state.
+    /// Stores the last edge with its state, as one edge for each cube.
     fn file(&mut self) -> Result<(), AllocError>
         ensures { OnOk result (self.new ≡ view.filed self.old) }
     {
@@ -422,7 +422,7 @@ impl<'a, A: Allocator> Body<'a, A> {
         Ok(())
     }
 
-    /// The edges of each state.
+    /// The edge lists of the states.
     pub(crate) fn into_edges(self) -> Vec<Vec<MarkedEdge, &'a A>, &'a A>
         ensures { map (λ s. map edge_of s.items) result.items ≡ self.entry.edges }
     {

@@ -1,4 +1,4 @@
-//! Classes of bytes, signs and marks.
+//! The classes of bytes, the signs and the `--..--` marks of the format.
 
 ghost use Rattle.std.specs.Prelude.{◌≡◌};
 ghost use Rattle.ltl_spec.specs.Hoa.HoaToken as hoa;
@@ -19,14 +19,14 @@ pub(crate) fn begins_identifier(byte: u8) -> bool
     byte.is_ascii_lowercase() || byte.is_ascii_uppercase() || byte == b'_'
 }
 
-/// Whether an identifier may go on with the byte.
+/// Whether the byte may follow in an identifier.
 pub(crate) fn is_identifier_byte(byte: u8) -> bool
     ensures { result ≡ hoa.is_identifier_byte byte }
 {
     begins_identifier(byte) || is_digit(byte) || byte == b'-'
 }
 
-/// The sign that the byte is.
+/// The token that consists of this byte alone.
 pub(crate) fn sign_kind(byte: u8) -> Option<TokenKind>
     ensures { result ≡ sign_kind byte }
 {
@@ -44,7 +44,7 @@ pub(crate) fn sign_kind(byte: u8) -> Option<TokenKind>
     }
 }
 
-/// The mark that the bytes are.
+/// The mark that these bytes are.
 pub(crate) fn mark_kind(text: &[u8]) -> Option<TokenKind>
     ensures { result ≡ mark_kind text.now }
 {
@@ -59,7 +59,7 @@ pub(crate) fn mark_kind(text: &[u8]) -> Option<TokenKind>
     }
 }
 
-/// Whether a mark begins with the bytes.
+/// Whether the bytes are a prefix of a mark.
 pub(crate) fn begins_mark(text: &[u8]) -> bool
     ensures { result ≡ begins_mark text.now }
 {

@@ -1,4 +1,4 @@
-//! Why there is no automaton.
+//! The errors of reading an automaton.
 
 ghost use Rattle.std.specs.Prelude.{◌≡◌};
 ghost use Rattle.ltl_hoa.specs.declared.fault.HoaFault.TheVariants as hoa;
@@ -7,13 +7,13 @@ ghost use Rattle.ltl_hoa.specs.declared.fault.Stop.TheVariants as stop;
 use std::alloc::AllocError;
 use thiserror::Error;
 
-/// Why a text is no automaton.
+/// What is wrong with a text.
 #[derive(Clone, Copy, Debug, PartialEq, Eq, Error)]
 pub enum HoaFaultKind {
     /// The text doesn't begin with `HOA: v1`.
     #[error("not HOA v1")]
     NotHoaVersion1,
-    /// A token that may not stand there, a byte that begins no token, an end that comes too early, or a string or comment that has no end.
+    /// A token stands in a wrong place, a byte begins no token, the text ends too early, or a string or a comment isn't closed.
     #[error("bad token")]
     BadToken,
     #[error("item twice")]
@@ -22,34 +22,35 @@ pub enum HoaFaultKind {
     ItemMissing,
     #[error("unknown item")]
     UnknownItem,
-    /// A part of the format that isn't read.
+    /// The text uses a part of the format that this reader doesn't support.
     #[error("unsupported")]
     Unsupported,
-    /// A number that isn't below its count.
+    /// A number of a state, a set or a proposition isn't below the count in the header.
     #[error("number out of range")]
     NumberOutOfRange,
-    /// A name that is no proposition or stands twice, or a list with too few or too many names.
+    /// A name is no proposition or stands twice, or the list has too few or too many names.
     #[error("bad AP list")]
     BadPropositionList,
     #[error("state defined twice")]
     StateDefinedTwice,
     #[error("text after the end")]
     TextAfterEnd,
-    /// The text, the automaton or a label is too large.
+    /// The text, the automaton or a label is above a limit.
     #[error("limit passed")]
     LimitPassed,
 }
 
-/// Why nothing was read.
+/// Why no automaton was read.
 #[derive(Clone, Copy, Debug, PartialEq, Eq, Error)]
 pub enum HoaFault {
-    /// The leftmost fault of the text, and its line, counted from 1.
+    /// The leftmost fault of the text, and its line, counted from 1. A text with too many bytes has the fault `LimitPassed` alone, in the line where
+    /// the limit is passed.
     #[error("automaton: line {0}: {1}")]
     AtLine(usize, HoaFaultKind),
-    /// A read failed.
+    /// A read of the source failed.
     #[error("cannot read")]
     CannotRead,
-    /// A growth was refused.
+    /// The allocator refused an allocation.
     #[error("out of memory")]
     OutOfMemory,
 }
@@ -62,7 +63,7 @@ impl From<AllocError> for HoaFault {
     }
 }
 
-/// Why a token isn't taken.
+/// Why a token was refused.
 #[derive(Clone, Copy)]
 pub(crate) enum Stop {
     Fault(HoaFaultKind),

@@ -1,4 +1,4 @@
-//! The header: its items in any order.
+//! The parser of the header, whose items may come in any order.
 
 ghost use Rattle.std.specs.Prelude.{◌≡◌, ◌<◌, ◌≤◌, List, ℕ, map, drop, IfOk};
 ghost use Rattle.ltl_hoa.specs.MarkedView.{edge_of};
@@ -21,7 +21,7 @@ use ltl_names::is_proposition;
 use std::alloc::Allocator;
 use std::marker::Model;
 
-/// How many states, names and acceptance sets there are.
+/// The numbers of states, propositions and acceptance sets.
 #[derive(Clone, Copy)]
 pub(crate) struct Counts {
     pub states: usize,
@@ -29,14 +29,14 @@ pub(crate) struct Counts {
     pub sets: usize,
 }
 
-/// The items so far.
+/// The items that were read so far.
 #[derive(Drop)]
 pub(crate) struct Header<'a, A: Allocator> {
     alloc: &'a A,
     states: Option<usize>,
     start: Option<usize>,
     names: Option<Vec<String<&'a A>, &'a A>>,
-    /// How many names have still to come.
+    /// The number of names that are still missing in the list.
     left: usize,
     sets: Option<usize>,
 }
@@ -58,7 +58,7 @@ impl<'a, A: Allocator> Model for Header<'a, A> {
     }) };
 }
 
-/// The fault, but a bad token where none begins or one has no end.
+/// `BadToken` if the token is broken (it is unknown or not closed), else `fault`.
 fn unless_broken(kind: TokenKind, fault: HoaFaultKind) -> HoaFaultKind
     ensures { (text : List ℕ) → kind_of result ≡ table.unless_broken (view.read kind text) (kind_of fault) }
 {
@@ -70,7 +70,7 @@ fn unless_broken(kind: TokenKind, fault: HoaFaultKind) -> HoaFaultKind
     }
 }
 
-/// Whether an item of another name begins with an upper-case letter.
+/// Whether the name of an unknown item begins with an upper-case letter. By the format, such an item may change the meaning, and can't be skipped.
 fn begins_upper(name: &[u8]) -> bool
     ensures { result ≡ reading.begins_upper name.now }
 {
@@ -80,7 +80,7 @@ fn begins_upper(name: &[u8]) -> bool
     }
 }
 
-/// Begins an item that may stand once.
+/// The place behind the name of an item, or `ItemTwice` if the item was read before.
 fn once(stood: bool, place: Place) -> Result<Place, Stop>
     ensures { (v : view.HeaderView) → view.Fits place v → Leads (table.begin_once (before_of v) stood (place_of place v)) result v }
 {
@@ -91,7 +91,7 @@ fn once(stood: bool, place: Place) -> Result<Place, Stop>
     }
 }
 
-/// Takes a token that begins no item, behind one.
+/// Takes a token behind an item, if it isn't the name of the next one.
 fn go_on(before: ItemBefore, kind: TokenKind) -> Result<Place, Stop>
     ensures { (v : view.HeaderView) (text : List ℕ) → Leads (table.go_on (before_of v) (item_of before) (view.read kind text)) result v }
 {
@@ -107,7 +107,7 @@ fn go_on(before: ItemBefore, kind: TokenKind) -> Result<Place, Stop>
     Err(Stop::Fault(fault))
 }
 
-/// The first token behind so many sets' number.
+/// The first part of the acceptance condition of this many sets.
 fn first_part(sets: usize) -> AcceptancePart
     ensures next { (b : Before) → table.expect b (drop 1 (acceptance_tokens sets)) ≡ table.go_to b (InAcceptance (acceptance_left sets result)) }
     ensures inside { IsPartOf sets result }
@@ -119,7 +119,7 @@ fn first_part(sets: usize) -> AcceptancePart
     }
 }
 
-/// Takes the beginning of the format's name.
+/// Takes `HOA:`.
 fn at_format(kind: TokenKind, text: &[u8]) -> Result<Place, Stop>
     ensures { (v : view.HeaderView) → Leads (view.stepped Place.Format v (token_of kind text.now)) result v }
 {
@@ -129,7 +129,7 @@ fn at_format(kind: TokenKind, text: &[u8]) -> Result<Place, Stop>
     }
 }
 
-/// Takes the format's version.
+/// Takes the version `v1`.
 fn at_version(kind: TokenKind, text: &[u8]) -> Result<Place, Stop>
     ensures { (v : view.HeaderView) → Leads (view.stepped Place.Version v (token_of kind text.now)) result v }
 {
@@ -153,7 +153,7 @@ impl<'a, A: Allocator> Header<'a, A> {
         }
     }
 
-    /// Takes a token at its place, but for `--BODY--` where an item may begin.
+    /// Takes a token at the place `place`, and answers the next place. `--BODY--` between two items isn't handed to it.
     pub(crate) fn take(&mut self, place: Place, kind: TokenKind, text: &[u8]) -> Result<Place, Stop>
         ensures { view.Takes place self.old (token_of kind text.now) result self.new }
     {
@@ -241,7 +241,7 @@ impl<'a, A: Allocator> Header<'a, A> {
         Ok(self.after_name())
     }
 
-    /// Where the next name stands, if there is one.
+    /// The place behind a name: another name, or the next item.
     fn after_name(&self) -> Place
         ensures { view.IsBehindNames self.now result }
     {
@@ -320,7 +320,7 @@ impl<'a, A: Allocator> Header<'a, A> {
         }
     }
 
-    /// Where the next set stands, if there is one.
+    /// The place behind a set of the acceptance condition: another set, or the next item.
     fn behind_set(&self, set: usize) -> Place
         ensures { view.IsBehindSet set self.now result }
     {
@@ -331,7 +331,7 @@ impl<'a, A: Allocator> Header<'a, A> {
         }
     }
 
-    /// What the header counts, where nothing is missing and the start is a state.
+    /// The counts of a complete header. It is an error if an item is missing, or if the initial state isn't below the number of states.
     pub(crate) fn counts(&self) -> Result<Counts, HoaFaultKind>
         ensures counts { view.Counted (view.body_begun self.now) self.now.items result }
         ensures names { IfOk result (λ c. c.names ≤ MOST_NAMES) }
@@ -356,7 +356,7 @@ impl<'a, A: Allocator> Header<'a, A> {
         })
     }
 
-    /// The automaton of these states, by their edges.
+    /// The automaton with these edge lists, one for each state.
     pub(crate) fn finish(self, edges: Vec<Vec<MarkedEdge, &'a A>, &'a A>) -> Marked<'a, A>
         requires { view.IsWhole self (map (λ s. map edge_of s.items) edges.items) }
         ensures { view.IsAutomaton self.entry (map (λ s. map edge_of s.items) edges.entry.items) result }

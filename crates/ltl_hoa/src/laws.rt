@@ -1,4 +1,4 @@
-//! Laws of texts and automata. These functions do nothing: their contracts are the laws.
+//! Laws of texts and automata, for callers' proofs. The functions do nothing; their contracts are the laws.
 
 ghost use Rattle.std.specs.Prelude.{◌≡◌, ◌↔◌, ◌≤◌, ℕ, List, length, None, Ok, Err, Result};
 ghost use Rattle.ltl_spec.specs.Automata.Automaton.{Automaton};
@@ -15,8 +15,8 @@ ghost use Rattle.ltl_hoa.specs.Reading.{Answers, IsOfText};
 use crate::fault::HoaFault;
 use crate::marked::MOST_SETS;
 
-/// The text of an automaton, if it is within the limit, reads as that automaton, an edge being in set 0 exactly when it leaves an accepting
-/// state. So what is answered to it is that automaton, unless a read failed or memory ran out.
+/// The printed text of a Büchi automaton is read as the same automaton, if it isn't too long: an edge is in set 0 if and only if it leaves an
+/// accepting state. So the answer is this automaton, unless a read failed or memory was refused.
 pub fn printed_automata_are_read_back()
     ensures reads { (B : Automaton) (F : Reading) → IsPrinted B F → length (hoa_text B F) ≤ stated_limits.hoa_bytes
         → HoaReadsWithin stated_limits stated_form (hoa_text B F) (marked_of B F.names) }
@@ -25,7 +25,7 @@ pub fn printed_automata_are_read_back()
         → Answers (hoa_text B F) answer → IsReadBack B F answer }
 {}
 
-/// The same of the text of a generalized automaton of at most `MOST_SETS` acceptance sets: each edge is in the sets that it is marked with.
+/// The same for a generalized automaton with at most `MOST_SETS` acceptance sets: each edge is in the sets that it has as marks.
 pub fn printed_generalized_automata_are_read_back()
     ensures reads { (B : Automaton) (F : Reading) → generalized.IsPrinted stated_limits MOST_SETS B F
         → length (generalized_text B F) ≤ stated_limits.hoa_bytes
@@ -35,8 +35,8 @@ pub fn printed_generalized_automata_are_read_back()
         → Answers (generalized_text B F) answer → IsAnswered (generalized.marked_of B F.names) answer }
 {}
 
-/// A text reads as an automaton exactly where it has no fault, and then as one alone. So of two answers about it one can't be an automaton and
-/// the other a fault.
+/// A text is read as an automaton if and only if it has no fault, and then as exactly one. So no text can be answered once by an automaton and once
+/// by a fault.
 pub fn texts_are_read_one_way()
     ensures exactly { (text : List ℕ) → (hoa_fault stated_limits stated_form text ≡ None)
         ↔ ((A : MarkedAutomaton) × HoaReadsWithin stated_limits stated_form text A) }

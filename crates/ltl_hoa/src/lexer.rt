@@ -1,4 +1,4 @@
-//! The tokens of a text, byte by byte: only what belongs to the current token is kept.
+//! The lexer, which takes one byte at a time and keeps the current token alone.
 
 ghost use Rattle.std.specs.Prelude.{◌≡◌, ◌<◌, ◌≤◌, ◌^◌, ◌+◌, IfOk};
 ghost use Rattle.ltl_hoa.specs.LexerView.{begun, beginning, depth_of, ended_kind, last_kind, rested, taken, commented, quoted, spelled};
@@ -11,33 +11,33 @@ use ltl_names::is_blank;
 use std::alloc::{AllocError, Allocator};
 use std::marker::Model;
 
-/// What the bytes so far leave open. Comments are open to a depth.
+/// The state of the lexer. Comments nest; an open one has its depth.
 #[derive(Clone, Copy)]
 pub(crate) enum Phase {
-    /// Nothing.
+    /// No token is open.
     Between,
-    /// A slash that begins a comment or no token.
+    /// A slash, which begins a comment or is an unknown token.
     Slash,
-    /// An identifier, which may be a header's name.
+    /// An identifier, or the name of a header item.
     Word,
-    /// The number zero.
+    /// The number zero. It ends before any byte, since no number has a leading zero.
     Zero,
     Digits,
-    /// A beginning of a mark.
+    /// A prefix of a mark, as `--BO`.
     Mark,
     Text,
-    /// A string behind a backslash.
+    /// A string, behind a backslash.
     Escape,
     Comment(usize),
-    /// A comment behind a slash that may open another one.
+    /// A comment, behind a slash that may open an inner one.
     CommentSlash(usize),
-    /// A comment behind a star that may close it.
+    /// A comment, behind a star that may close it.
     CommentStar(usize),
-    /// No token comes any more.
+    /// An unknown token was met; no token follows.
     Ended,
 }
 
-/// The token that is open, with the content that it has so far and the line of its first byte.
+/// The lexer: its state, the content of the open token so far, and the line of the token's first byte.
 #[derive(Drop)]
 pub(crate) struct Lexer<'a, A: Allocator> {
     phase: Phase,
@@ -53,7 +53,7 @@ impl<'a, A: Allocator> Model for Lexer<'a, A> {
     ghost view = { λ x. record { phase = x.phase; text = x.text.items; start = x.start } };
 }
 
-/// What a byte between tokens begins, and the token that it is.
+/// The state behind a byte between tokens, and the token if it is this byte alone.
 fn beginning(byte: u8) -> (Phase, Option<TokenKind>)
     ensures exact { result ≡ beginning byte }
     ensures shallow { depth_of result.0 ≡ 0 }
@@ -80,7 +80,7 @@ fn beginning(byte: u8) -> (Phase, Option<TokenKind>)
     }
 }
 
-/// What is open behind a byte of a comment, which is behind `last` if that may begin a mark.
+/// The state behind a byte of a comment. In other states nothing changes.
 fn commented(phase: Phase, byte: u8) -> Phase
     requires { depth_of phase < 2 ^ 32 }
     ensures exact { result ≡ commented phase byte }
@@ -130,7 +130,7 @@ impl<'a, A: Allocator> Lexer<'a, A> {
         self.start
     }
 
-    /// The token that ends before the byte.
+    /// The token that ends before this byte, if there is one.
     pub(crate) fn ends(&self, byte: u8) -> Option<TokenKind>
         ensures { result ≡ ended_kind self.now.phase byte }
     {
@@ -142,14 +142,14 @@ impl<'a, A: Allocator> Lexer<'a, A> {
         }
     }
 
-    /// Leaves the token that has ended.
+    /// Closes the token that `ends` told of. Its content stays until the next token begins.
     pub(crate) fn rest(&mut self)
         ensures { self.new ≡ rested self.old }
     {
         self.phase = Phase::Between;
     }
 
-    /// Takes a byte before which no token ends, of a line; the answer is the token that ends with it.
+    /// Takes a byte in line `line`, before which no token ends. Answers the token that ends with it, if there is one.
     pub(crate) fn take(&mut self, line: usize, byte: u8) -> Result<Option<TokenKind>, AllocError>
         requires { depth_of self.old.phase < 2 ^ 32 }
         ensures exact { IfOk result (λ kind. (kind, self.new) ≡ taken self.old line byte) }
@@ -200,7 +200,7 @@ impl<'a, A: Allocator> Lexer<'a, A> {
         Ok(kind)
     }
 
-    /// Takes a byte behind a beginning of a mark.
+    /// Takes a byte behind a prefix of a mark.
     fn take_mark(&mut self, byte: u8) -> Result<Option<TokenKind>, AllocError>
         requires { self.old.phase ≡ Phase.Mark }
         ensures exact { IfOk result (λ kind. (kind, self.new) ≡ taken self.old 0 byte) }
@@ -218,7 +218,7 @@ impl<'a, A: Allocator> Lexer<'a, A> {
         Ok(Some(TokenKind::Unknown))
     }
 
-    /// Takes a byte in a string.
+    /// Takes a byte of a string.
     fn take_quoted(&mut self, byte: u8) -> Result<Option<TokenKind>, AllocError>
         ensures exact { IfOk result (λ kind. (kind, self.new) ≡ quoted self.old byte) }
         ensures shallow { depth_of self.new.phase ≡ 0 }
@@ -240,7 +240,7 @@ impl<'a, A: Allocator> Lexer<'a, A> {
         }
     }
 
-    /// What the end of the text makes of the open token.
+    /// The token that ends with the text, if one is open.
     pub(crate) fn end(&self) -> Option<TokenKind>
         ensures { result ≡ last_kind self.now.phase }
     {

@@ -1,24 +1,25 @@
-//! Automata as texts in the Hanoi Omega-Automata format, read exactly.
+//! A streaming reader of automata in the Hanoi Omega-Automata format (HOA), version 1.
 //!
-//! In the field's words: a streaming parser of version 1 of that format (HOA), for deterministic and nondeterministic automata with explicit labels
-//! on edges and with Büchi or generalized Büchi acceptance of up to 32 sets, on states or on edges. Where a text has several faults, the leftmost one
-//! is told, with its line. Sets on a state are those of its edges: a `Marked` has sets on edges alone.
+//! In the field's words: it reads deterministic and nondeterministic automata with one initial state, with explicit labels on edges, and with Büchi
+//! or generalized Büchi acceptance of up to 32 sets, on states or on edges. If a text has several faults, the leftmost one is answered, with its
+//! line. The sets of a state are given to each of its edges, so a `Marked` has sets on edges alone.
 //!
-//! What flows: pieces of 4,096 bytes of a source; bytes to tokens (`lexer`), of which only the current one is kept; tokens to places, which say what
-//! may come next (`place`, `parser`), in the header and in the body; a label to its cubes as its brackets close (the crate `ltl_label`), each
-//! cube an edge; states and edges to a `Marked`. However long a text, beside the automaton only its current token, open labels and names are held.
+//! What flows: a source is read in pieces of 4,096 bytes. Bytes become tokens (`lexer`), of which only the current one is kept. A token moves the
+//! parser from one place to the next; a place says which tokens may come (`place`, `parser`, `header`, `body`). A label becomes cubes while it is
+//! read (the crate `ltl_label`), and each cube an edge. The result is a `Marked`. Whatever the length of the text, only the automaton, the current
+//! token, the open label and the names are held.
 //!
 //! ```
 //! HOA: v1
 //! States: 1 Start: 0 AP: 2 "p" "q"
 //! Acceptance: 1 Inf(0)
-//! --BODY--
+//! BODY--
 //! State: 0 [0|!1] 0 {0} [!0&1] 0
-//! --END--
+//! END--
 //! ```
 //!
-//! is read as one state with three edges to itself: `p` in set 0, `!q` in set 0, `!p && q` in none. It accepts the words on which `q -> p` holds
-//! again and again.
+//! This is read as one state with three edges to itself: `p` and `!q`, which are in set 0, and `!p && q`, which is in none. It accepts the words on
+//! which `q -> p` holds infinitely often.
 #![tactic(auto)]
 
 mod body;

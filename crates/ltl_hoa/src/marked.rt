@@ -1,4 +1,4 @@
-//! Automata that were read.
+//! The automata that the reader makes.
 
 ghost use Rattle.std.specs.Prelude.{◌≡◌, ◌<◌, length, map, string_bytes, slice_index_or, []};
 ghost use Rattle.ltl_spec.specs.Hoa.HoaReading as spec;
@@ -10,19 +10,19 @@ use ltl_sets::Cube;
 use std::alloc::Allocator;
 use std::marker::Model;
 
-/// The most states that an automaton may have.
+/// The largest number of states that an automaton may have.
 pub const MOST_STATES: usize = 65_536;
 
-/// The most edges that an automaton may have.
+/// The largest number of edges that an automaton may have, where each cube of a label counts as an edge.
 pub const MOST_EDGES: usize = 1_048_576;
 
-/// The most names that an automaton may list.
+/// The largest number of propositions that an automaton may list.
 pub const MOST_NAMES: usize = PROPOSITION_LIMIT;
 
-/// The most acceptance sets that an automaton may have.
+/// The largest number of acceptance sets that an automaton may have.
 pub const MOST_SETS: usize = 32;
 
-/// An edge: its literals by the numbers of the automaton's names, its target, and the acceptance sets that it is in, by number.
+/// An edge: its label as a cube over the automaton's propositions, its target, and the acceptance sets that it belongs to.
 #[derive(Clone, Copy, Debug, PartialEq, Eq)]
 pub struct MarkedEdge {
     pub cube: Cube,
@@ -30,7 +30,7 @@ pub struct MarkedEdge {
     pub sets: Marks,
 }
 
-/// An automaton with acceptance sets of edges, over named propositions.
+/// A generalized Büchi automaton with acceptance sets of edges, over named propositions. It has one initial state.
 #[derive(Drop)]
 pub struct Marked<'a, A: Allocator> {
     start: usize,
@@ -66,7 +66,7 @@ impl<'a, A: Allocator> Model for Marked<'a, A> {
 }
 
 impl<'a, A: Allocator> Marked<'a, A> {
-    /// The automaton of its parts: the states are given by their edges.
+    /// The automaton with these parts. `states` has the edge list of each state.
     pub(crate) fn new(
         start: usize,
         sets: usize,
@@ -96,7 +96,7 @@ impl<'a, A: Allocator> Marked<'a, A> {
         }
     }
 
-    /// How many states there are, at least one.
+    /// The number of states, which is at least 1.
     pub fn len(&self) -> usize
         ensures count { result ≡ self.now.states }
         ensures edges { result ≡ length self.now.edges }
@@ -104,28 +104,28 @@ impl<'a, A: Allocator> Marked<'a, A> {
         self.states.len()
     }
 
-    /// The number of the state where words begin.
+    /// The number of the initial state.
     pub fn start(&self) -> usize
         ensures { result ≡ self.now.start }
     {
         self.start
     }
 
-    /// How many acceptance sets there are.
+    /// The number of acceptance sets.
     pub fn sets(&self) -> usize
         ensures { result ≡ self.now.sets }
     {
         self.sets
     }
 
-    /// The names of the propositions, by number.
+    /// The names of the propositions, in the order of the list `AP:`. Their positions are the numbers in labels.
     pub fn names(&self) -> &[String<&'a A>]
         ensures { map string_bytes result.now ≡ self.now.names }
     {
         self.names.as_slice()
     }
 
-    /// The edges of a state: in the order of the text, and those of one label by their literals.
+    /// The edges of a state, in the order of the text. The edges of one label are sorted by their cubes.
     pub fn edges(&self, i: usize) -> &[MarkedEdge]
         requires { i < self.now.states }
         ensures { map edge_of result.now ≡ slice_index_or self.now.edges i [] }
@@ -133,7 +133,7 @@ impl<'a, A: Allocator> Marked<'a, A> {
         self.states[i].as_slice()
     }
 
-    /// Hands what the type promises to callers.
+    /// Gives a caller's proof the invariant of the type. It does nothing when it runs.
     pub fn invariant(&self)
         ensures { IsMarked self.now }
     {

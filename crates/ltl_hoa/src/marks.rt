@@ -1,4 +1,4 @@
-//! Sets of acceptance sets.
+//! Small sets of acceptance sets.
 
 ghost use Rattle.std.specs.Prelude.{◌≡◌, ◌<◌, []};
 ghost use Rattle.std.specs.Ordering.{nat_cmp};
@@ -10,8 +10,8 @@ use std::alloc::AllocError;
 use std::fmt;
 use std::marker::Model;
 
-/// The acceptance sets that an edge is in, seen as the rising list of their numbers, which are below [`MOST_SETS`]. It takes 4 bytes, an eighth of a
-/// `RowSet`, since an automaton that was read holds one for each edge.
+/// The acceptance sets that an edge belongs to, whose numbers are below [`MOST_SETS`]. Contracts see it as the sorted list of these numbers. It takes
+/// 4 bytes, an eighth of a `RowSet`, since every edge of an automaton has one.
 pub struct Marks {
     bits: u32,
 }
@@ -38,14 +38,14 @@ impl Model for Marks {
 }
 
 impl Marks {
-    /// No set.
+    /// The empty set.
     pub(crate) fn empty() -> Marks
         ensures { result ≡ [] }
     {
         Marks { bits: 0 }
     }
 
-    /// Puts the set of that number.
+    /// Adds the set with this number.
     pub(crate) fn insert(&mut self, i: usize)
         requires { i < MOST_SETS }
         ensures { self.new ≡ sets.put nat_cmp i self.old }
@@ -53,7 +53,7 @@ impl Marks {
         self.bits = self.bits | 1 << i;
     }
 
-    /// The numbers as a set that can be asked.
+    /// The same numbers as a `RowSet`, which has the usual operations.
     pub fn to_row_set(&self) -> RowSet
         ensures { result ≡ self.now }
     {

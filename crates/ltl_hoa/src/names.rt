@@ -1,4 +1,4 @@
-//! Names of propositions.
+//! The list of the propositions of an automaton.
 
 ghost use Rattle.std.specs.Prelude.{◌≡◌, ◌++◌, ◌∷◌, [], map, string_bytes, true, OnOk, OnErr};
 ghost use Rattle.std.specs.List.{list_any};
@@ -7,7 +7,7 @@ ghost use Rattle.ltl_spec.specs.Formulas.Names as spec_names;
 
 use std::alloc::{AllocError, Allocator};
 
-/// Whether the name is one of those.
+/// Whether the name is in the list.
 pub(crate) fn is_listed<A: Allocator>(names: &[String<&A>], name: &[u8]) -> bool
     ensures { result ≡ list_any (tokens.same_name name.now) (map string_bytes names.now) }
 {
@@ -19,7 +19,7 @@ pub(crate) fn is_listed<A: Allocator>(names: &[String<&A>], name: &[u8]) -> bool
     false
 }
 
-/// Puts a name behind the others.
+/// Appends a copy of the name.
 pub(crate) fn list_name<'a, A: Allocator>(
     alloc: &'a A,
     names: &mut Vec<String<&'a A>, &'a A>,

@@ -1,13 +1,13 @@
-//! Numbers of any length, as far as they can be below a count.
+//! Numbers in decimal digits, of any length.
 
 ghost use Rattle.std.specs.Prelude.{◌≡◌};
 ghost use Rattle.ltl_spec.specs.Hoa.HoaToken.{number_of};
 ghost use Rattle.ltl_hoa.specs.NumberView.{capped};
 
-/// No count is larger. Numbers above it are read as this one.
+/// A number above every count that may be read. Greater numbers are read as this one.
 pub(crate) const MOST_NUMBER: usize = 4_294_967_295;
 
-/// The number that the digits write.
+/// The value of the digits, but at most `MOST_NUMBER`.
 pub(crate) fn number(digits: &[u8]) -> usize
     ensures { result ≡ capped (number_of digits.now) }
 {

@@ -1,4 +1,4 @@
-//! The tokens of a text, one after the other: what stood and what may come next.
+//! The parser, an automaton over tokens: its place says which tokens may come next.
 
 ghost use Rattle.std.specs.Prelude.{◌≡◌, List, ℕ, IfOk, OnOk, MatchResult, map, string_bytes, Some, None};
 ghost use Rattle.ltl_hoa.specs.TokenView.{token_of, kind_of};
@@ -15,13 +15,13 @@ use std::alloc::Allocator;
 use std::marker::Model;
 use std::mem;
 
-/// What stood so far.
+/// The state of the parser.
 #[derive(Drop)]
 pub(crate) struct Parser<'a, A: Allocator> {
     alloc: &'a A,
     place: Place,
     header: Header<'a, A>,
-    /// Behind `--BODY--`.
+    /// Present from `--BODY--` on.
     body: Option<Body<'a, A>>,
 }
 
@@ -45,14 +45,14 @@ impl<'a, A: Allocator> Parser<'a, A> {
         }
     }
 
-    /// What may come next.
+    /// The place, which says what may come next.
     pub(crate) fn place(&self) -> Place
         ensures { result ≡ self.now.place }
     {
         self.place
     }
 
-    /// Takes a token.
+    /// Takes the next token.
     pub(crate) fn take(&mut self, kind: TokenKind, text: &[u8]) -> Result<(), Stop>
         ensures { view.Takes self.old (token_of kind text.now) result self.new }
     {
@@ -64,7 +64,7 @@ impl<'a, A: Allocator> Parser<'a, A> {
         }
     }
 
-    /// Takes a token at a place of the header.
+    /// Takes a token of the header.
     fn take_in_header(&mut self, place: Place, kind: TokenKind, text: &[u8]) -> Result<(), Stop>
         ensures { view.TakesInHeader place self.old (token_of kind text.now) result self.new }
     {
@@ -72,7 +72,7 @@ impl<'a, A: Allocator> Parser<'a, A> {
         Ok(())
     }
 
-    /// Takes a token in the body.
+    /// Takes a token of the body.
     fn take_in_body(&mut self, place: BodyPlace, kind: TokenKind, text: &[u8]) -> Result<(), Stop>
         ensures { view.TakesInBody place self.old (token_of kind text.now) result self.new }
     {
@@ -83,7 +83,7 @@ impl<'a, A: Allocator> Parser<'a, A> {
         Ok(())
     }
 
-    /// Takes `--BODY--` where an item may begin.
+    /// Takes `--BODY--`, which ends the header.
     fn begin_body(&mut self) -> Result<(), Stop>
         ensures { view.Begins (body_begun self.old.header) self.old result self.new }
     {
@@ -97,7 +97,7 @@ impl<'a, A: Allocator> Parser<'a, A> {
         }
     }
 
-    /// The automaton of a text that has ended. Nothing is claimed of the parser behind it.
+    /// The automaton of a complete text. The parser must not be used again.
     pub(crate) fn finish(&mut self) -> Marked<'a, A>
         requires { view.IsWhole self.old }
         ensures { view.IsAutomaton self.old result }

@@ -1,6 +1,6 @@
-//! Places in a text: which tokens may come next.
+//! The places of the parser, which say which tokens may come next.
 
-/// The item before the place where another one may begin.
+/// The item that was read last, behind which another one may begin. It says which tokens may still belong to it.
 #[derive(Clone, Copy)]
 pub(crate) enum ItemBefore {
     Plain,
@@ -10,39 +10,40 @@ pub(crate) enum ItemBefore {
     Other,
 }
 
-/// The token that comes next in `t`, or in `Inf(0)&Inf(1)`: that of the set with a number.
+/// The next part of the acceptance condition, which is `t` or a conjunction as `Inf(0)&Inf(1)`. The number is that of the set which the part belongs
+/// to.
 #[derive(Clone, Copy)]
 pub(crate) enum AcceptancePart {
-    /// `t`: there are no sets.
+    /// `t`, the condition of no sets.
     True,
     Inf(usize),
     Open(usize),
     Number(usize),
     Close(usize),
-    /// `&` before the set.
+    /// The `&` before the set.
     And(usize),
 }
 
 /// What may come next in the body.
 #[derive(Clone, Copy)]
 pub(crate) enum BodyPlace {
-    /// A state.
+    /// A state, or the end.
     State,
-    /// A state's number.
+    /// The number of a state.
     Number,
     AfterNumber,
     AfterName,
-    /// The sets of a state.
+    /// The acceptance sets of a state.
     StateSets,
-    /// An edge or a state.
+    /// An edge, a state, or the end.
     Edge,
-    /// An operand in a label.
+    /// An operand of a label.
     Operand,
     AfterOperand,
-    /// An edge's target.
+    /// The target of an edge.
     Target,
     AfterTarget,
-    /// The sets of an edge.
+    /// The acceptance sets of an edge.
     EdgeSets,
 }
 
@@ -54,11 +55,11 @@ pub(crate) enum Place {
     Item(ItemBefore),
     /// The number of states.
     States,
-    /// The number of the start.
+    /// The number of the initial state.
     Start,
     /// The number of names.
     Count,
-    /// The names that are left.
+    /// A name of the list.
     Names,
     /// The number of acceptance sets.
     Sets,

@@ -1,4 +1,4 @@
-//! Reading an automaton from a source, chunk by chunk.
+//! Reading an automaton from a reader or a source.
 
 ghost use Rattle.std.specs.Prelude.{◌≡◌, MatchResult, IsErrOf, ⊤};
 ghost use Rattle.ltl_spec.specs.Tools.Stage.{Open};
@@ -12,12 +12,11 @@ use ltl_streams::{ByteSource, LentReader};
 use std::alloc::Allocator;
 use std::io::Read;
 
-/// How many bytes are read at a time.
+/// The number of bytes that are read at a time.
 const CHUNK: usize = 4_096;
 
-/// Reads an automaton from a standard reader. The text is taken to its end, or up to one byte past its limit, whatever the answer is but for a
-/// failed read and want of memory, where less of it may have been taken; beside the automaton only the current token, what is open of a label and
-/// the names are kept.
+/// Reads an automaton from a standard reader. It reads the text to its end, or up to one byte past the limit of 16 MiB, even if the text has a fault.
+/// It stops earlier only if a read fails or memory is refused. Only the automaton, the current token, the open label and the names are held.
 pub fn hoa_read<'a, A: Allocator, R: Read>(
     alloc: &'a A,
     reader: &mut R,
@@ -31,7 +30,7 @@ pub fn hoa_read<'a, A: Allocator, R: Read>(
     hoa_read_from(alloc, &mut LentReader::new(reader))
 }
 
-/// Reads an automaton from a source, as `hoa_read` does. A source that was open is broken exactly where a read failed, and never misused.
+/// The same as `hoa_read` for a source. If the source was open, it is broken afterwards if and only if a read failed, and never misused.
 pub fn hoa_read_from<'a, A: Allocator, R: ByteSource>(
     alloc: &'a A,
     source: &mut R,
@@ -48,7 +47,7 @@ pub fn hoa_read_from<'a, A: Allocator, R: ByteSource>(
     read_by(&mut stream_reader, source)
 }
 
-/// The same by a stream reader that has read nothing.
+/// The same with a `StreamReader` that has taken no byte.
 fn read_by<'a, A: Allocator, R: ByteSource>(
     stream_reader: &mut StreamReader<'a, A>,
     source: &mut R,

@@ -1,4 +1,4 @@
-//! The bytes of a text, one after the other.
+//! The streaming reader: it takes bytes, and holds the lexer, the parser, the current line and the first fault.
 
 ghost use Rattle.std.specs.Prelude.{◌≡◌, ◌≢◌, ◌<◌, ◌≤◌, ◌+◌, ◌∷◌, ◌++◌, [], List, ℕ, Some, None, IsErrOf, IfNone, IfSome, length, OnOk};
 ghost use Rattle.ltl_hoa.specs.LexerView.{depth_of, ended_kind, taken};
@@ -14,7 +14,7 @@ use crate::token::TokenKind;
 use std::alloc::{AllocError, Allocator};
 use std::marker::Model;
 
-/// The most bytes that a text may have.
+/// The largest number of bytes in a text.
 pub(crate) const MOST_BYTES: usize = 16_777_216;
 
 /// A fault and its line.
@@ -24,16 +24,15 @@ pub(crate) struct Found {
     pub kind: HoaFaultKind,
 }
 
-/// What was read so far of a text: its tokens, its leftmost fault and its lines. Only the current token, what is open of a label, the names and
-/// the automaton so far are kept.
+/// The state of the reader. It keeps the current token, the open label, the names and the automaton so far, but no text.
 #[derive(Drop)]
 pub(crate) struct StreamReader<'a, A: Allocator> {
-    /// How many bytes, and the line behind them.
+    /// The number of bytes that were taken, and the line that they end in.
     given: usize,
     line: usize,
     lexer: Lexer<'a, A>,
     parser: Parser<'a, A>,
-    /// The leftmost fault. Behind it only lines are counted.
+    /// The leftmost fault. Once there is one, only lines are counted.
     fault: Option<Found>,
 }
 
@@ -47,7 +46,8 @@ impl<'a, A: Allocator> Model for StreamReader<'a, A> {
     ghost invariant = { λ m. IsStreamReader (record { given = m.given; line = m.line; lexer = m.lexer; parser = m.parser; fault = m.fault }) };
 }
 
-/// The line of a fault at a token: what has no end is at fault in the last line, but behind the automaton a string is where it begins.
+/// The line of a fault at a token that begins in line `start`, where the text goes on in line `last`. A string or comment without an end is at fault
+/// in the last line. Only a string behind the automaton is at fault where it begins.
 fn fault_line(place: Place, kind: TokenKind, start: usize, last: usize) -> usize
     ensures { result ≡ view.fault_line place kind start last }
 {
@@ -68,7 +68,7 @@ fn line_behind(line: usize, byte: u8) -> usize
 }
 
 impl<'a, A: Allocator> StreamReader<'a, A> {
-    /// No byte was read.
+    /// A reader that has taken no byte.
     pub(crate) fn new(alloc: &'a A) -> StreamReader<'a, A>
         ensures { result ≡ view.new_stream_reader }
     {
@@ -88,7 +88,7 @@ impl<'a, A: Allocator> StreamReader<'a, A> {
         self.line
     }
 
-    /// Takes the bytes of a chunk. Behind a fault only lines are counted. After an error nothing is claimed of the stream reader.
+    /// Takes some bytes. After an error the reader must not be used again.
     pub(crate) fn take_chunk(&mut self, chunk: &[u8]) -> Result<(), AllocError>
         requires { self.old.given + length chunk.now ≤ MOST_BYTES }
         ensures { (text : List ℕ) → IsAfter self.old text → OnOk result (IsAfter self.new (text ++ chunk.now)) }
@@ -111,7 +111,7 @@ impl<'a, A: Allocator> StreamReader<'a, A> {
         Ok(())
     }
 
-    /// Takes the tokens that end before and with a byte, unless a fault was met.
+    /// Hands the parser the tokens that end before this byte and with it, unless there is a fault.
     fn lex(&mut self, byte: u8) -> Result<(), AllocError>
         requires { depth_of self.old.lexer.phase < self.old.given }
         ensures exact { OnOk result (view.Lexes self.old byte self.new) }
@@ -128,7 +128,7 @@ impl<'a, A: Allocator> StreamReader<'a, A> {
         Ok(())
     }
 
-    /// Takes the token that ends before a byte.
+    /// Hands the parser the token that ends before this byte, if there is one.
     fn end_token(&mut self, byte: u8) -> Result<(), AllocError>
         ensures exact { OnOk result (view.EndsToken (ended_kind self.old.lexer.phase byte) self.old self.new) }
         ensures given { self.new.given ≡ self.old.given }
@@ -142,7 +142,7 @@ impl<'a, A: Allocator> StreamReader<'a, A> {
         Ok(())
     }
 
-    /// Takes a byte before which no token ends, and the token that ends with it.
+    /// Takes a byte before which no token ends. Hands the parser the token that ends with it, if there is one.
     fn feed(&mut self, byte: u8) -> Result<(), AllocError>
         requires { depth_of self.old.lexer.phase < self.old.given }
         ensures exact { OnOk result (view.Feeds (taken self.old.lexer self.old.line byte) self.old self.new) }
@@ -156,7 +156,7 @@ impl<'a, A: Allocator> StreamReader<'a, A> {
         Ok(())
     }
 
-    /// Takes the token that has ended.
+    /// Hands the parser a token that has ended, and records a fault.
     fn take_token(&mut self, kind: TokenKind) -> Result<(), AllocError>
         ensures exact { OnOk result (view.TakesToken self.old kind self.new) }
         ensures given { self.new.given ≡ self.old.given }
@@ -177,7 +177,7 @@ impl<'a, A: Allocator> StreamReader<'a, A> {
         }
     }
 
-    /// The automaton that the whole text reads as, or its leftmost fault. Nothing is claimed of the stream reader behind it.
+    /// Ends the text, and answers its automaton or its leftmost fault. The reader must not be used again.
     pub(crate) fn finish(&mut self) -> Result<Marked<'a, A>, HoaFault>
         requires { (text : List ℕ) × IsAfter self.old text }
         ensures answers { (text : List ℕ) → IsAfter self.old text → Answers text result }
@@ -187,7 +187,7 @@ impl<'a, A: Allocator> StreamReader<'a, A> {
         self.answer()
     }
 
-    /// Takes the token that ends with the text.
+    /// Hands the parser the token that ends with the text, if there is one.
     fn take_last(&mut self) -> Result<(), AllocError>
         ensures { (text : List ℕ) → IsAfter self.old text → OnOk result (IsEnded self.new text) }
     {
@@ -200,7 +200,7 @@ impl<'a, A: Allocator> StreamReader<'a, A> {
         }
     }
 
-    /// What the text is, once its last token was taken.
+    /// The answer to the text, after its last token.
     fn answer(&mut self) -> Result<Marked<'a, A>, HoaFault>
         requires { (text : List ℕ) × IsEnded self.old text }
         ensures answers { (text : List ℕ) → IsEnded self.old text → Answers text result }
@@ -212,7 +212,7 @@ impl<'a, A: Allocator> StreamReader<'a, A> {
         }
     }
 
-    /// Why the text is no automaton, once its last token was taken.
+    /// The fault of the text, after its last token. A text that isn't complete has one.
     fn refusal(&self) -> Option<HoaFault>
         ensures refused { IfSome result (λ fault. (text : List ℕ) → IsEnded self.now text → RefusesText text fault) }
         ensures told { result ≢ Some HoaFault.CannotRead }

@@ -1,14 +1,14 @@
-//! Tokens of an automaton's text.
+//! The tokens of the format.
 
-/// What a token is. Its content stands beside it.
+/// The kind of a token. Its content is kept apart from it.
 #[derive(Clone, Copy)]
 pub(crate) enum TokenKind {
-    /// By its content, without the quotes and the backslashes that keep a byte.
+    /// A string. Its content lacks the quotes, and the backslashes that escape a byte.
     Text,
     Identifier,
-    /// An identifier with a colon right behind it, which its content lacks.
+    /// The name of a header item: an identifier followed by a colon, which isn't in the content.
     Header,
-    /// By its digits.
+    /// A number. Its content is its digits.
     Int,
     Body,
     End,

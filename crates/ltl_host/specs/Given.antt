@@ -1,4 +1,4 @@
--- The words that the system gives, or why there are none.
+-- The words of a process, or why there are none.
 use Rattle.std.specs.Prelude.{◌≡◌, Result, Ok, Err, MatchResult}
 use Rattle.std.specs.IoError.{error_kind}
 use Rattle.std.specs.declared.io.Error.{Error}

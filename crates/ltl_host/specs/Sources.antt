@@ -1,4 +1,4 @@
--- What stands behind a name, for a runtime that says nothing of it.
+-- The inputs of a runtime whose files are unknown.
 use Rattle.std.specs.Prelude.{◌≡◌, List, ℕ, Result, Ok, Err, ⊤}
 use Rattle.std.specs.declared.io.Error.{Error}
 use Rattle.ltl_spec.specs.Tools.Outcome.{Input}

@@ -1,4 +1,4 @@
-//! The files of a runtime.
+//! The files and the standard input of a runtime.
 
 ghost use Rattle.ltl_host.specs.Sources.{IsOpenedAs};
 
@@ -9,7 +9,7 @@ use std::io;
 use std::io::Read;
 use std::rt::Files;
 
-/// The files of a runtime, and a reader as the standard input.
+/// The files of a runtime, with a reader as the standard input.
 #[derive(Drop)]
 pub struct HostFiles<'r, R, I> {
     rt: &'r R,
@@ -17,13 +17,13 @@ pub struct HostFiles<'r, R, I> {
 }
 
 impl<'r, R, I> HostFiles<'r, R, I> {
-    /// Nothing is opened or read yet.
+    /// Makes the value. Nothing is opened or read yet.
     pub fn new(rt: &'r R, input: I) -> HostFiles<'r, R, I> {
         HostFiles { rt, input }
     }
 }
 
-/// The source of the file that was opened, or of one that could not be. Why it could not be opened isn't told.
+/// The source of a file. If the file wasn't opened, the reason isn't kept.
 pub fn opened<F: Drop>(file: io::Result<F>) -> Source<ReaderSource<F>>
     ensures { IsOpenedAs file result }
 {

@@ -1,11 +1,11 @@
-//! What the three mains share: the words that the system hands over, the files that they name, and the streams of the process.
+//! The layer between a process and `ltl_cli`, which the `main` functions share: command line, files, allocator and standard streams.
 //!
-//! This is the thin layer between a process and `ltl_cli`: command line, files and allocator come from a runtime (`HostRuntime` in the programs, any
-//! type with the traits `Env`, `Files` and `Alloc` in tests), so all of it can be tried without one.
+//! All of these come from a runtime: from `HostRuntime` in the programs, and in tests from any type with the traits `Env`, `Files` and `Alloc`. So
+//! this layer can be tested without a process.
 //!
-//! What flows: the runtime's words, to strings (`words`), to texts (`texts`), which `ltl_cli::run` takes; a name, to the file or to "not opened"
-//! (`HostFiles`); readers and writers, to the sources and sinks that `ltl_cli::run` asks (`run`). A fault of the words is handed on, so the program
-//! tells of it as it tells of usage or of want of memory.
+//! What flows: the runtime's words become strings (`words`), and then texts (`texts`), which `ltl_cli::run` takes. The name of a file becomes its
+//! source, or "not opened" (`HostFiles`). Readers and writers become sources and sinks (`run`). An error of the words is handed on to `ltl_cli::run`,
+//! which reports it as it reports wrong usage and lack of memory.
 //!
 //! ```
 //! run(&rt, Tool::Translator, rt.stdin(), &mut io::writer(&rt), &mut rt.stderr())
@@ -34,17 +34,19 @@ use std::io::{Read, Write};
 use std::rt::{Env, Files};
 use std::{env, io};
 
-/// Just under the size up to which the C library of Linux learns from a block that is freed.
+/// A little less than 32 MiB, which is the largest block that makes the C library of Linux raise its thresholds when the block is freed.
 const ROOM: usize = 33_488_896;
 
-/// Takes a large block of memory and gives it back unused. Many an allocator hands freed memory back to the system as soon as 128 KB of it are free, and
-/// each page that is taken again costs a fault; behind such a block it keeps up to twice as much. Where there is no such block nothing is lost.
+/// Allocates a large block and frees it unused, so that the allocator keeps freed memory later. The C library of Linux returns memory to the system
+/// as soon as 128 KiB at the end of its heap are free, and each page that is used again costs a page fault. When a block of this size is freed, it
+/// raises that threshold to twice the block's size. If the block is refused, nothing is lost.
 fn keep_freed<A: Allocator>(alloc: A) {
     let room: Result<Vec<u8, A>, AllocError> = Vec::with_capacity(alloc, ROOM);
     let _ = room.is_ok();
 }
 
-/// The words that the system gave, the program's name first, or why it gave none. A word that isn't UTF-8 is usage.
+/// The words of the process, with the program's name as the first one. If the runtime has none, or if a word isn't UTF-8, the error is
+/// `Usage`, unless memory was refused.
 pub fn words<A: Allocator, B: Allocator>(
     alloc: A,
     given: io::Result<Args<B>>,
@@ -57,7 +59,7 @@ pub fn words<A: Allocator, B: Allocator>(
     }
 }
 
-/// The words that are still to come.
+/// The words that the iterator still has.
 fn listed<A: Allocator, B: Allocator>(
     alloc: A,
     given: Args<B>,
@@ -73,7 +75,7 @@ fn listed<A: Allocator, B: Allocator>(
     Ok(words)
 }
 
-/// Why there are no words.
+/// The error for words that the runtime didn't hand over.
 fn fault_of(error: &io::Error) -> PlanFault
     ensures { result ≡ fault_for (error_kind error.now) }
 {
@@ -83,7 +85,7 @@ fn fault_of(error: &io::Error) -> PlanFault
     }
 }
 
-/// The words as texts.
+/// The words as string slices.
 pub fn texts<'a, A: Allocator, B: Allocator>(
     alloc: A,
     words: &'a [String<B>],
@@ -98,8 +100,8 @@ pub fn texts<'a, A: Allocator, B: Allocator>(
     Ok(texts)
 }
 
-/// Runs the program for the words of the runtime, over its files and this standard input, and answers the exit status. The output and the message
-/// are handed in before any call on them. A program calls this first, so here the allocator is told to keep what is freed.
+/// Runs the program on the words and the files of the runtime, with this standard input, and answers the exit status. Neither sink may have been
+/// called before. First it makes the allocator keep freed memory, so a `main` function calls it first.
 pub fn run_over<R, I, S, M>(rt: &R, tool: Tool, input: I, output: &mut S, message: &mut M) -> u8
 where
     R: Env + Files + Alloc<A = Global>,
@@ -133,7 +135,7 @@ where
     )
 }
 
-/// The same over writers of the standard library.
+/// The same as `run_over` with writers of the standard library.
 pub fn run<R, I, W, E>(rt: &R, tool: Tool, input: I, output: &mut W, message: &mut E) -> u8
 where
     R: Env + Files + Alloc<A = Global>,

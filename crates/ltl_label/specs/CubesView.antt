@@ -1,4 +1,4 @@
--- Cubes of a label's parts, unless there are too many.
+-- The cubes of the parts of a label, as far as they aren't too many.
 use Rattle.std.specs.Prelude.{◌≡◌, ◌<◌, ℕ, Bool, true, false, nat_lt, if◌then◌else◌, List, [], ◌∷◌, ◌++◌, length, flat_map, filter_map, Option, Some, None}
 use Rattle.ltl_spec.specs.Collections.Sets.{set_of}
 use Rattle.ltl_spec.specs.Transitions.Cubes.{Cube, cube_cmp, join_cubes}

@@ -1,4 +1,4 @@
--- What is open of a label, by the cubes of its complete parts.
+-- The state of the label evaluator, and what each token changes of it.
 use Rattle.std.specs.Prelude.{◌≡◌, ℕ, Bool, true, false, not, List, [], ◌∷◌, ◌++◌, length, ◌==◌, Option, Some, None}
 use Rattle.std.specs.Bool.{beq}
 use Rattle.ltl_spec.specs.Transitions.Cubes.{Cube}

@@ -1,4 +1,4 @@
-//! Sets of cubes of a label's parts, each at most of a size.
+//! Disjunctive normal forms of the parts of a label, as sets of cubes of limited size.
 
 ghost use Rattle.std.specs.Prelude.{◌≡◌, ◌<◌, ◌≤◌, ◌++◌, length, IfOk, IfErr, OnOk, option_map};
 ghost use Rattle.ltl_spec.specs.Collections.Sets as spec_sets;
@@ -11,19 +11,19 @@ use smallvec::SmallVec;
 use std::alloc::{AllocError, Allocator};
 use std::cmp::Ordering;
 
-/// The most cubes that a part of a label may have.
+/// The largest number of cubes that a part of a label may have.
 pub const MOST_CUBES: usize = 4_096;
 
-/// Cubes, of which one takes no memory.
+/// A list of cubes. One cube is stored without an allocation.
 pub type CubeList<'a, A> = SmallVec<Cube, 1, &'a A>;
 
-/// The cubes of a part of a label; `None` where the part, or one inside it, has more than `MOST_CUBES`.
+/// The cubes of a part of a label, or `None` if the part, or one inside it, has more than `MOST_CUBES`.
 pub type Cubes<'a, A> = Option<CubeList<'a, A>>;
 
-/// Up to so many cubes are put into others one by one, without sorting them.
+/// The largest number of cubes that are inserted into a list one by one. More are appended and sorted.
 const MOST_INSERTED: usize = 8;
 
-/// Sorts the cubes, and keeps each once.
+/// Sorts the cubes, and removes duplicates.
 pub(crate) fn sort_dedup<A: Allocator>(cubes: &mut CubeList<'_, A>)
     ensures { cubes.new.items ≡ spec_sets.set_of spec_cubes.cube_cmp cubes.old.items }
 {
@@ -31,7 +31,7 @@ pub(crate) fn sort_dedup<A: Allocator>(cubes: &mut CubeList<'_, A>)
     cubes.dedup();
 }
 
-/// The cubes, unless there are too many.
+/// The cubes, or `None` if they are more than `MOST_CUBES`.
 pub(crate) fn few<'a, A: Allocator>(cubes: CubeList<'a, A>) -> Cubes<'a, A>
     ensures { option_map (λ v. v.items) result ≡ few cubes.entry.items }
 {
@@ -42,7 +42,7 @@ pub(crate) fn few<'a, A: Allocator>(cubes: CubeList<'a, A>) -> Cubes<'a, A>
     }
 }
 
-/// The cubes of a constant.
+/// The cubes of a constant: the empty cube for true, and none for false.
 pub(crate) fn constant<'a, A: Allocator>(
     alloc: &'a A,
     value: bool,
@@ -70,7 +70,7 @@ pub(crate) fn literal<'a, A: Allocator>(
     Ok(Some(cubes))
 }
 
-/// Where the cube stands in a rising list, or where it would. Of another list the answer may be that the cube isn't there.
+/// The position of the cube in a sorted list, or else the one where it is to be inserted. For a list that isn't sorted, the search may miss the cube.
 pub(crate) fn place_of(cubes: &[Cube], cube: &Cube) -> Result<usize, usize>
     ensures found { IfOk result (λ i. spec_sets.Has cubes.now cube.now) }
     ensures within { IfErr result (λ i. i ≤ length cubes.now) }
@@ -87,7 +87,7 @@ pub(crate) fn place_of(cubes: &[Cube], cube: &Cube) -> Result<usize, usize>
     Err(low)
 }
 
-/// The same, looking first at the place where the cube is likely to stand.
+/// The same as `place_of`, but the position `likely` is tried first.
 pub(crate) fn place_near(cubes: &[Cube], likely: usize, cube: &Cube) -> Result<usize, usize>
     ensures found { IfOk result (λ i. spec_sets.Has cubes.now cube.now) }
     ensures within { IfErr result (λ i. i ≤ length cubes.now) }
@@ -100,7 +100,7 @@ pub(crate) fn place_near(cubes: &[Cube], likely: usize, cube: &Cube) -> Result<u
     place_of(cubes, cube)
 }
 
-/// Puts each cube of a short list into the cubes.
+/// Inserts each cube of a short list that isn't found among the cubes.
 fn insert_each<A: Allocator>(cubes: &mut CubeList<'_, A>, more: &[Cube]) -> Result<(), AllocError>
     ensures { OnOk result (SameCubes cubes.new.items (cubes.old.items ++ more.now)) }
 {
@@ -113,7 +113,7 @@ fn insert_each<A: Allocator>(cubes: &mut CubeList<'_, A>, more: &[Cube]) -> Resu
     Ok(())
 }
 
-/// The cubes of both sides.
+/// The cubes of both operands of a disjunction.
 fn unite<'a, A: Allocator>(
     mut left: CubeList<'a, A>,
     right: &[Cube],
@@ -129,7 +129,7 @@ fn unite<'a, A: Allocator>(
     Ok(few(left))
 }
 
-/// The cubes of two parts: where `meet`, of their conjunction, else of their disjunction.
+/// The cubes of a conjunction if `meet` is set, else those of a disjunction.
 pub(crate) fn both<'a, A: Allocator>(
     alloc: &'a A,
     meet: bool,

@@ -1,5 +1,5 @@
-//! Joins of two sets of cubes. Large sets are parted by literals, so that most cubes that contradict each other, or that make what others
-//! make, are never joined.
+//! Conjunctions of two sets of cubes. Large sets are split by literals first, so that most joins that would be contradictory or duplicates are never
+//! made.
 
 ghost use Rattle.std.specs.Prelude.{◌≡◌, ◌++◌, ◌+◌, length, flat_map, filter_map, IfOk, OnOk, option_map, true, false};
 ghost use Rattle.std.specs.Bool.{beq};
@@ -14,20 +14,20 @@ use ltl_sets::Cube;
 use smallvec::SmallVec;
 use std::alloc::{AllocError, Allocator};
 
-/// How often sets are parted for one join.
+/// The largest number of splits in one conjunction.
 const MOST_PARTINGS: usize = 16_384;
 
-/// How many joins may wait at a time.
+/// The largest number of `Sides` that may wait at a time.
 const MOST_WAITING: usize = 64;
 
-/// Two sets of cubes, of which each cube of the one is to be joined with each of the other.
+/// Two sets of cubes whose conjunction is still to be made: each cube of the one is joined with each of the other.
 #[derive(Drop)]
 struct Sides<'a, A: Allocator> {
     left: CubeList<'a, A>,
     right: CubeList<'a, A>,
 }
 
-/// Puts the joins of a cube with each of a list behind the others.
+/// Appends the joins of a cube with each cube of a list.
 fn join_one<A: Allocator>(
     joined: &mut CubeList<'_, A>,
     left: &Cube,
@@ -43,8 +43,8 @@ fn join_one<A: Allocator>(
     Ok(())
 }
 
-/// Puts one cube of each side joined, in every way, behind the others; false where there are too many. No more than twice as many as may be are
-/// held at a time.
+/// Appends the joins of each cube on the left with each one on the right. The answer is `false` if there are more than `MOST_CUBES`. At most twice as
+/// many are held at a time.
 fn join_each<A: Allocator>(
     joined: &mut CubeList<'_, A>,
     left: &[Cube],
@@ -64,7 +64,7 @@ fn join_each<A: Allocator>(
     Ok(true)
 }
 
-/// Puts the cubes behind the others; false where there are too many.
+/// Appends the cubes. The answer is `false` if there are more than `MOST_CUBES` different ones.
 fn put_behind<A: Allocator>(joined: &mut CubeList<'_, A>, made: &[Cube]) -> Result<bool, AllocError>
     ensures { IfOk result (λ is_few. HasFew (joined.old.items ++ made.now) is_few joined.new.items) }
 {
@@ -78,8 +78,8 @@ fn put_behind<A: Allocator>(joined: &mut CubeList<'_, A>, made: &[Cube]) -> Resu
     Ok(true)
 }
 
-/// Puts one cube of each side joined, in every way, behind the others; false where there are too many. Behind others each comes once, so that these
-/// are seldom sorted.
+/// Appends the joins of both sides. The answer is `false` if there are too many. Behind earlier cubes, the joins are appended without duplicates, so
+/// that the whole list seldom has to be sorted.
 fn join_sides<'a, A: Allocator>(
     alloc: &'a A,
     joined: &mut CubeList<'_, A>,
@@ -98,7 +98,7 @@ fn join_sides<'a, A: Allocator>(
     put_behind(joined, made.as_slice())
 }
 
-/// The cubes that have all of these literals, or else those that don't.
+/// The cubes that have all of these literals if `all` is set, else the other cubes.
 fn having<'a, A: Allocator>(
     alloc: &'a A,
     cubes: &[Cube],
@@ -116,7 +116,8 @@ fn having<'a, A: Allocator>(
     Ok(found)
 }
 
-/// What the cubes join to with these literals and isn't among the others. As a rule the others stand in the order in which they are found.
+/// The joins of the cubes with these literals, without those that are found among `others`. `others` is usually sorted as `cubes` is, so the search
+/// begins behind the last one found.
 fn widened<'a, A: Allocator>(
     alloc: &'a A,
     cubes: &[Cube],
@@ -138,7 +139,7 @@ fn widened<'a, A: Allocator>(
     Ok(made)
 }
 
-/// For proofs: each cube is a set of literals.
+/// For proofs: the literals of each cube are sorted.
 fn cubes_rise(cubes: &[Cube])
     ensures { (c : spec_cubes.Cube) → spec_sets.Has cubes.now c → spec_sets.IsRising spec_cubes.literal_cmp c }
 {
@@ -147,8 +148,8 @@ fn cubes_rise(cubes: &[Cube])
     }
 }
 
-/// A side, parted by some literals: the cubes that have them all, those that don't, and what those join to with the literals and isn't among the
-/// first.
+/// A side that is split by some literals: the cubes that have all of them (`with`), the others (`without`), and the joins of the others with the
+/// literals, as far as they aren't in `with` (`made`).
 #[derive(Drop)]
 struct Parted<'a, A: Allocator> {
     with: CubeList<'a, A>,
@@ -156,7 +157,7 @@ struct Parted<'a, A: Allocator> {
     made: CubeList<'a, A>,
 }
 
-/// The side of these cubes, parted by these literals.
+/// Splits the cubes by these literals.
 fn side_by<'a, A: Allocator>(
     alloc: &'a A,
     cubes: &[Cube],
@@ -177,7 +178,7 @@ fn side_by<'a, A: Allocator>(
     })
 }
 
-/// The cubes of a side that have the literals and those that were made, each once.
+/// The cubes of `with` and `made`, without duplicates.
 fn all_with<'a, A: Allocator>(
     alloc: &'a A,
     side: &Parted<'_, A>,
@@ -190,8 +191,8 @@ fn all_with<'a, A: Allocator>(
     Ok(all)
 }
 
-/// Lets what lacks the literals on both sides wait, then what was made on the left and what has them on the right, then what has them on the left
-/// and all of the right.
+/// Queues the three conjunctions that a split leaves: `without` on both sides, `made` on the left with `with` on the right, and `with` on the left
+/// with `right_all`.
 fn put_waiting<'a, A: Allocator>(
     waiting: &mut Vec<Sides<'a, A>, &'a A>,
     left: Parted<'a, A>,
@@ -228,7 +229,8 @@ fn put_waiting<'a, A: Allocator>(
     Ok(())
 }
 
-/// Parts both sides by whether their cubes have these literals. Whatever joins to a cube with them is joined with them before.
+/// Splits both sides by these literals. A cube that is joined with a cube of the other side's `with` gets the literals first, by which many cubes
+/// become equal.
 fn part<'a, A: Allocator>(
     alloc: &'a A,
     sides: &Sides<'a, A>,
@@ -248,7 +250,7 @@ fn part<'a, A: Allocator>(
     put_waiting(waiting, left, right, right_all)
 }
 
-/// One cube of each side joined, in every way.
+/// The joins of each cube on the left with each one on the right, or `None` if there are too many.
 pub(crate) fn join<'a, A: Allocator>(
     alloc: &'a A,
     left: CubeList<'a, A>,

@@ -1,4 +1,4 @@
-//! Labels: what is open of one, with the cubes of its complete parts.
+//! The evaluator of labels: it makes the cubes of a label from its tokens, without a syntax tree.
 
 ghost use Rattle.std.specs.Prelude.{◌≡◌, ◌<◌, [], ◌∷◌, ◌++◌, IfOk, OnOk, option_map};
 ghost use Rattle.ltl_label.specs.LabelView as view;
@@ -10,12 +10,13 @@ use std::alloc::{AllocError, Allocator};
 use std::marker::Model;
 use std::mem;
 
-/// A label, or what stands in open brackets: the cubes of what `|` and what `&` join to the operand that comes next.
+/// A label, or what follows an open bracket, as far as it was read. `sum` has the cubes of what stands before the last `|`, and `product` those of
+/// the operands behind it.
 #[derive(Drop)]
 pub(crate) struct LabelPart<'a, A: Allocator> {
-    /// Whether an even number of negations stands around the part.
+    /// Whether the number of negations around the part is even. If it is odd, `&` and `|` change places.
     positive: bool,
-    /// Whether an odd number of negations stands before the operand that comes next.
+    /// Whether the number of negations before the next operand is odd.
     negated: bool,
     sum: Option<Cubes<'a, A>>,
     product: Option<Cubes<'a, A>>,
@@ -35,7 +36,7 @@ impl<'a, A: Allocator> Model for LabelPart<'a, A> {
     } };
 }
 
-/// A part of no label.
+/// An empty part, under no negation.
 impl<'a, A: Allocator> Default for LabelPart<'a, A> {
     fn default() -> LabelPart<'a, A> {
         LabelPart::new(true)
@@ -54,7 +55,7 @@ impl<'a, A: Allocator> LabelPart<'a, A> {
         }
     }
 
-    /// Whether an even number of negations stands around the operand that comes next.
+    /// Whether the number of all negations over the next operand is even.
     fn sign(&self) -> bool
         ensures { result ≡ view.sign_of self.now }
     {
@@ -67,7 +68,7 @@ impl<'a, A: Allocator> LabelPart<'a, A> {
         self.negated = !self.negated;
     }
 
-    /// Joins an operand to what stands before it.
+    /// Adds an operand to the product.
     fn add(&mut self, alloc: &'a A, cubes: Cubes<'a, A>) -> Result<(), AllocError>
         ensures { OnOk result (self.new ≡ view.add self.old (option_map (λ v. v.items) cubes.entry)) }
     {
@@ -80,7 +81,7 @@ impl<'a, A: Allocator> LabelPart<'a, A> {
         Ok(())
     }
 
-    /// The cubes of the part, which has none after it.
+    /// The cubes of the part, which ends here. An empty product counts as true.
     fn whole(&mut self, alloc: &'a A) -> Result<Cubes<'a, A>, AllocError>
         ensures cubes { IfOk result (λ r. option_map (λ v. v.items) r ≡ view.whole self.old) }
         ensures spent { OnOk result (self.new ≡ view.spent_part self.old) }
@@ -95,7 +96,7 @@ impl<'a, A: Allocator> LabelPart<'a, A> {
         }
     }
 
-    /// Leaves the part behind `|`.
+    /// Ends the product at a `|`, and adds it to the sum.
     fn alternative(&mut self, alloc: &'a A) -> Result<(), AllocError>
         ensures { OnOk result (self.new ≡ view.alternative self.old) }
     {
@@ -107,7 +108,7 @@ impl<'a, A: Allocator> LabelPart<'a, A> {
     }
 }
 
-/// What is open of a label: the innermost part, and those around it, the innermost of them last. Up to 4 of them take no memory.
+/// The evaluator of one label: the innermost part that is open, and a stack of those around it. Up to 4 of these are stored without an allocation.
 #[derive(Drop)]
 pub struct Label<'a, A: Allocator> {
     alloc: &'a A,
@@ -124,6 +125,7 @@ impl<'a, A: Allocator> Model for Label<'a, A> {
 }
 
 impl<'a, A: Allocator> Label<'a, A> {
+    /// An evaluator at the beginning of a label.
     pub fn new(alloc: &'a A) -> Label<'a, A>
         ensures { result ≡ view.new_label }
     {
@@ -134,7 +136,7 @@ impl<'a, A: Allocator> Label<'a, A> {
         }
     }
 
-    /// Begins a label.
+    /// Begins a label, and forgets what was read before.
     pub fn begin(&mut self)
         ensures { self.new ≡ view.new_label }
     {
@@ -190,7 +192,7 @@ impl<'a, A: Allocator> Label<'a, A> {
         self.around.is_empty()
     }
 
-    /// Takes a closing bracket. Without an open one the answer is false.
+    /// Takes a closing bracket. The answer is `false` if no bracket is open, and then nothing is taken.
     pub fn close(&mut self) -> Result<bool, AllocError>
         ensures { IfOk result (λ b. view.Closes self.old b self.new) }
     {
@@ -203,7 +205,7 @@ impl<'a, A: Allocator> Label<'a, A> {
         Ok(true)
     }
 
-    /// The cubes of the label, which ends.
+    /// The cubes of the label, which ends here. Brackets that are still open are not checked; `is_closed` tells of them.
     pub fn whole(&mut self) -> Result<Cubes<'a, A>, AllocError>
         ensures cubes { IfOk result (λ r. option_map (λ v. v.items) r ≡ view.whole self.old.inner) }
         ensures spent { OnOk result (self.new ≡ view.spent self.old) }

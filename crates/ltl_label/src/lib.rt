@@ -1,13 +1,13 @@
-//! Labels of edges, as they are read: combinations of propositions, turned into cubes as their brackets close.
+//! Evaluation of edge labels: Boolean expressions over propositions are turned into cubes while they are read.
 //!
-//! In the field's words: a label is a Boolean expression over the numbers of propositions, with `t`, `f`, `!`, `&`, `|` and brackets, as the Hanoi
-//! Omega-Automata format has them on edges; what is wanted of it is a disjunctive normal form, a set of conjunctions of literals (cubes), each of
-//! which becomes an edge. No tree of the expression is built.
+//! In the field's words: a label of the Hanoi Omega-Automata format is a Boolean expression over the numbers of propositions, with `t`, `f`, `!`,
+//! `&`, `|` and brackets. This crate computes a disjunctive normal form of it: a set of cubes, each of which becomes an edge. It builds no syntax
+//! tree.
 //!
-//! What flows: the reader hands over a label's tokens one by one (`label`). For each bracket that is open, a part is kept: the cubes of what stands
-//! before the operand that comes next, and whether an odd number of negations stands around it, by which `&` and `|` change places. Where a part is
-//! complete, its cubes are joined with those before it or united with them (`cubes`). Large joins are parted by literals, so that few of the joins
-//! that would contradict themselves, or that are there already, are made (`joins`, `parting`). A part of more than 4,096 cubes is told as too large.
+//! What flows: the reader hands over the tokens of a label one by one (`label`). For each open bracket, the evaluator keeps the cubes of what was
+//! read behind it, and whether it stands under an odd number of negations. Under an odd number, literals change their sign, and `&` and `|` change
+//! places. A part that ends is joined or united with the part before it (`cubes`). Before a large conjunction is made, its sets are split by
+//! literals, so that few contradictory or duplicate joins are made (`joins`, `parting`). A part of more than 4,096 cubes is refused as too large.
 //!
 //! ```
 //! 0 | !1         {p0} {!p1}

@@ -1,27 +1,27 @@
-//! The literals that part two sets of cubes best: one by a few cubes of each, and what all cubes that have it share. Whichever they are, the joins
-//! are the same.
+//! The choice of the literals that split two sets of cubes: a literal that a sample suggests, and the literals that all cubes with it share. The
+//! choice affects the time alone, not the result.
 
 ghost use Rattle.std.specs.Prelude.{◌<◌};
 
 use ltl_sets::{Cube, RowSet};
 
-/// How many cubes of a set are looked at.
+/// The number of cubes in the sample of a set.
 const SAMPLE: u32 = 8;
 
-/// Sets of so few pairs of cubes aren't parted.
+/// Sets with at most this many pairs of cubes aren't split.
 const FEW_PAIRS: usize = 64;
 
-/// A step through a set that no regular structure follows.
+/// The stride of the sample. It is a large prime, so that the sample follows no regular order of the list.
 const STRIDE: usize = 20_736_203;
 
-/// How many of the cubes that are looked at have each literal.
+/// For each literal, the number of sampled cubes that have it.
 #[derive(Drop)]
 struct Counts {
     positive: [u32; RowSet::LIMIT],
     negative: [u32; RowSet::LIMIT],
 }
 
-/// How many cubes have a literal, its opposite, and neither.
+/// The numbers of sampled cubes that have a literal, that have its negation, and that have neither.
 #[derive(Clone, Copy)]
 struct Share {
     with: u32,
@@ -56,7 +56,7 @@ impl Counts {
         }
     }
 
-    /// Whether a cube that was looked at has the proposition.
+    /// Whether a sampled cube has a literal of the proposition.
     fn names(&self, proposition: usize) -> bool
         requires { proposition < RowSet.LIMIT }
     {
@@ -81,7 +81,7 @@ impl Counts {
     }
 }
 
-/// How many pairs of the cubes that are looked at would be left behind a parting by a literal, if cubes that can get equal do.
+/// An estimate of the pairs of sampled cubes that are left after a split by a literal. It takes it that cubes which can become equal do so.
 fn pairs_left(left: Share, right: Share) -> u32 {
     let with = left.with.saturating_mul(right.with.max(right.neither));
     let made = left
@@ -94,7 +94,8 @@ fn pairs_left(left: Share, right: Share) -> u32 {
     with.saturating_add(made).saturating_add(without)
 }
 
-/// The literal by which the two sets are best parted, unless that would help nothing. One of a proposition that the cubes of a side lack never helps.
+/// The literal that promises the fewest pairs after a split, or `None` if no literal saves any. A proposition that is missing in the sample of one
+/// side is skipped, since its literals never help.
 fn best_literal(left: &[Cube], right: &[Cube]) -> Option<Cube> {
     let (left, right) = (Counts::of(left), Counts::of(right));
     let mut least = SAMPLE * SAMPLE;
@@ -117,7 +118,7 @@ fn best_literal(left: &[Cube], right: &[Cube]) -> Option<Cube> {
     best
 }
 
-/// What all of the cubes with these literals have, if there is such a cube.
+/// The literals that all cubes with these literals share, or `None` if there is no such cube.
 fn shared(cubes: &[Cube], literals: &Cube) -> Option<Cube> {
     let mut shared: Option<Cube> = None;
     for cube in cubes {
@@ -131,8 +132,8 @@ fn shared(cubes: &[Cube], literals: &Cube) -> Option<Cube> {
     shared
 }
 
-/// The literals by which the two sets are best parted, unless that would help nothing. With a literal go all that the cubes of one side have
-/// beside it: what is joined with one of these has them all, so that many cubes of the other side get equal at once.
+/// The literals by which the two sets are to be split, or `None` if a split wouldn't help. To the best literal come all literals that the cubes with
+/// it on one side share. A join with one of these cubes has them all, so many cubes of the other side become equal at once.
 pub(crate) fn parting_literals(left: &[Cube], right: &[Cube]) -> Option<Cube> {
     if left.len().min(right.len()) <= 1 || left.len().saturating_mul(right.len()) <= FEW_PAIRS {
         return None;

@@ -1,4 +1,4 @@
--- A Büchi automaton as one of the definitions, and what its type holds.
+-- A Büchi automaton of the code as one of the definitions, and the invariant of its type.
 use Rattle.std.specs.Prelude.{◌≡◌, ℕ, ◌<◌, ◌≤◌, false, List, [], length, sum_by, slice_get, slice_index_or, Some, All}
 use Rattle.std.specs.declared.cmp.Ordering.{Ordering}
 use Rattle.std.specs.Ordering.{nat_cmp, on, then_cmp}

@@ -1,4 +1,4 @@
--- Literals and rows by number, and counts by such numbers.
+-- The numbering of literals and rows, and counts by these numbers.
 use Rattle.std.specs.Prelude.{◌≡◌, ℕ, ◌+◌, ◌<◌, if◌then◌else◌, min, List, fold, slice_index, slice_set}
 use Rattle.ltl_spec.specs.Collections.Sets.{Has}
 use Rattle.ltl_spec.specs.Transitions.Cubes.{Literal, Cube}

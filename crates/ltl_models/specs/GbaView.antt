@@ -1,4 +1,4 @@
--- A generalized automaton as one of the definitions, and what its type holds.
+-- A generalized automaton of the code as one of the definitions, and the invariant of its type.
 use Rattle.std.specs.Prelude.{◌≡◌, ℕ, ◌<◌, ◌≤◌, true, false, length, sum_by, All}
 use Rattle.ltl_spec.specs.Transitions.Cubes.{is_contradictory}
 use Rattle.ltl_spec.specs.Automata.Automaton.{Automaton, Edge}

@@ -1,4 +1,4 @@
--- The options as the pair of their values.
+-- The options of a translation as a pair of truth values.
 use Rattle.std.specs.Prelude.{Bool, refl}
 use Rattle.std.specs.Coded.{Coded, code_by, coded×, coded_bool}
 use Rattle.ltl_spec.specs.Construction.Translation.{Options}

@@ -1,4 +1,4 @@
-//! Büchi automata.
+//! State-based Büchi automata.
 
 ghost use Rattle.std.specs.Prelude.{◌≡◌, ◌%◌, ◌<◌, ◌≤◌, [], length, map, All, IfOk};
 ghost use Rattle.ltl_spec.specs.Automata.Automaton.{state_at};
@@ -12,13 +12,13 @@ use smallvec::SmallVec;
 use std::alloc::{AllocError, Allocator};
 use std::marker::Model;
 
-/// Places of edges. Most states have few edges.
+/// Positions in an edge list. Up to 4 are stored without an allocation, since most states have few edges.
 type Places<'a, A> = SmallVec<usize, 4, &'a A>;
 
-/// No place of an edge reaches this.
+/// 2^64, so above every position in an edge list.
 const PLACES: u128 = 18_446_744_073_709_551_616;
 
-/// The places of the edges, by target and then by place. A target and a place are sorted as one number.
+/// The positions of the edges, sorted by target and then by position. Target and position are sorted as one number of 128 bits.
 fn places_by_target<'a, A: Allocator>(
     alloc: &'a A,
     edges: &[Edge],
@@ -34,7 +34,7 @@ fn places_by_target<'a, A: Allocator>(
     Ok(places)
 }
 
-/// The places alone.
+/// The positions, which are the keys without the targets.
 fn places<'a, A: Allocator>(alloc: &'a A, keys: &[u128]) -> Result<Places<'a, A>, AllocError>
     ensures { IfOk result (λ ps. ps.items ≡ map (λ k. k % PLACES) keys.now) }
 {
@@ -45,7 +45,7 @@ fn places<'a, A: Allocator>(alloc: &'a A, keys: &[u128]) -> Result<Places<'a, A>
     Ok(places)
 }
 
-/// The places of the edges of each list.
+/// `places_by_target` for each edge list.
 fn orders<'a, A: Allocator>(
     alloc: &'a A,
     states: &SharedStates<'_, A>,
@@ -59,7 +59,8 @@ fn orders<'a, A: Allocator>(
     Ok(orders)
 }
 
-/// A Büchi automaton. State 0 is the start.
+/// A Büchi automaton with acceptance on states. State 0 is the initial one. It also holds the order of each state's edges by target, which
+/// `by_target` answers.
 #[derive(Drop)]
 pub struct Ba<'a, A: Allocator> {
     states: SharedStates<'a, A>,
@@ -83,6 +84,7 @@ impl<'a, A: Allocator> Model for Ba<'a, A> {
 }
 
 impl<'a, A: Allocator> Ba<'a, A> {
+    /// The automaton with these states. The edges of each list are sorted by target once, for `by_target`.
     pub fn new(alloc: &'a A, states: SharedStates<'a, A>) -> Result<Self, AllocError>
         requires inside { IsBa (automaton_of states) }
         ensures { IfOk result (λ b. b ≡ automaton_of states.entry) }
@@ -91,14 +93,14 @@ impl<'a, A: Allocator> Ba<'a, A> {
         Ok(Ba { states, orders })
     }
 
-    /// The states, which share their lists of edges.
+    /// The states, which share their edge lists.
     pub fn states(&self) -> &SharedStates<'a, A>
         ensures { automaton_of result.now ≡ self.now }
     {
         &self.states
     }
 
-    /// How many states there are, at least one.
+    /// The number of states, which is at least 1.
     pub fn len(&self) -> usize
         ensures count { result ≡ length self.now.states }
         ensures some { 0 < result }
@@ -115,7 +117,7 @@ impl<'a, A: Allocator> Ba<'a, A> {
         self.states.accepting(i)
     }
 
-    /// The edges of a state: by literals, then by target.
+    /// The edges of a state, sorted by label and then by target, without duplicates.
     pub fn edges(&self, i: usize) -> &[Edge]
         requires { i < length self.now.states }
         ensures edges { map edge_of result.now ≡ (state_at self.now i).edges }
@@ -125,7 +127,7 @@ impl<'a, A: Allocator> Ba<'a, A> {
         self.states.edges(i)
     }
 
-    /// The places of a state's edges, by target and then by place.
+    /// The positions in `edges(i)`, sorted by target and then by position. So edges with one target stand together.
     pub fn by_target(&self, i: usize) -> &[usize]
         requires { i < length self.now.states }
         ensures order { IsTargetOrder (state_at self.now i).edges result.now }
@@ -134,7 +136,7 @@ impl<'a, A: Allocator> Ba<'a, A> {
         self.orders[list].as_slice()
     }
 
-    /// Hands what the type promises to callers.
+    /// Gives a caller's proof the invariant of the type. It does nothing when it runs.
     pub fn invariant(&self)
         ensures { IsBa self.now }
     {

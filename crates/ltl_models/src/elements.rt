@@ -1,4 +1,4 @@
-//! What cubes and sets of rows have, by number: first the literals, then the rows. An index of items that have such parts is made by it.
+//! The numbering of literals and rows that an index over cubes and sets of rows uses: literals come first, then rows.
 
 ghost use Rattle.std.specs.Prelude.{◌≡◌, map};
 ghost use Rattle.std.specs.Bool.{Decides};
@@ -6,10 +6,10 @@ ghost use Rattle.ltl_models.specs.Elements.{HasLiteral, HasRow, counted, literal
 
 use ltl_sets::{Cube, RowSet};
 
-/// So many numbers are those of literals: the positive ones, then the others.
+/// The number of literals. The positive literals have the numbers below 256, in the order of their propositions; the negative ones follow.
 pub const LITERALS: usize = 2 * RowSet::LIMIT;
 
-/// Whether the cube has the literal of that number.
+/// Whether the cube has the literal with this number. The answer is `false` for the number of a row.
 #[tactic(auto, using(crate::proofs::ElementLaws::past_decides))]
 pub fn has_literal(cube: &Cube, element: usize) -> bool
     ensures { Decides result (HasLiteral cube.now element) }
@@ -23,7 +23,7 @@ pub fn has_literal(cube: &Cube, element: usize) -> bool
     }
 }
 
-/// Whether the set has the row of that number.
+/// Whether the set has the row with this number. The answer is `false` for the number of a literal.
 #[tactic(auto, using(crate::proofs::ElementLaws::no_row))]
 pub fn has_row(rows: &RowSet, element: usize) -> bool
     ensures { Decides result (HasRow rows.now element) }
@@ -35,7 +35,7 @@ pub fn has_row(rows: &RowSet, element: usize) -> bool
     row < RowSet::LIMIT && rows.contains(row)
 }
 
-/// Adds one to the count of the element, if there is one and it isn't the greatest.
+/// Adds one to the count of an element. It does nothing if there is no such count, or if the count is the greatest `u32`.
 pub fn count(counts: &mut [u32], element: usize)
     ensures { counts.new ≡ counted counts.old element }
 {
@@ -44,7 +44,7 @@ pub fn count(counts: &mut [u32], element: usize)
     }
 }
 
-/// Adds one to the count of each literal.
+/// Adds one to the count of each literal of the cube.
 pub fn tally_literals(cube: &Cube, counts: &mut [u32])
     ensures { counts.new ≡ tallied counts.old (map literal_number cube.now) }
 {
@@ -58,7 +58,7 @@ pub fn tally_literals(cube: &Cube, counts: &mut [u32])
     }
 }
 
-/// Adds one to the count of each row.
+/// Adds one to the count of each row of the set.
 pub fn tally_rows(rows: &RowSet, counts: &mut [u32])
     ensures { counts.new ≡ tallied counts.old (map row_number rows.now) }
 {

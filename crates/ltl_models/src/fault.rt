@@ -1,3 +1,3 @@
-//! Why there is no Büchi automaton: as for any automaton that is listed.
+//! The errors of a translation to a Büchi automaton, which are those of every construction.
 
 pub use ltl_automaton::AutomatonFault as BaFault;

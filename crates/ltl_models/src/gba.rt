@@ -1,4 +1,4 @@
-//! Generalized Büchi automata.
+//! Transition-based generalized Büchi automata.
 
 ghost use Rattle.std.specs.Prelude.{◌≡◌, ◌<◌, length, map};
 ghost use Rattle.ltl_spec.specs.Automata.Automaton.{state_at};
@@ -9,13 +9,13 @@ use ltl_automaton::{Edge as GbaEdge, SharedStates};
 use std::alloc::Allocator;
 use std::marker::Model;
 
-/// The most states that an automaton may have.
+/// The largest number of states that an automaton may have.
 pub const MOST_STATES: usize = 65_536;
 
-/// The most edges that an automaton may have.
+/// The largest number of edges that an automaton may have.
 pub const MOST_EDGES: usize = 1_048_576;
 
-/// A generalized Büchi automaton with acceptance on edges. State 0 is the start.
+/// A generalized Büchi automaton with acceptance sets of edges. State 0 is the initial one.
 #[derive(Drop)]
 pub struct Gba<'a, A: Allocator> {
     states: SharedStates<'a, A>,
@@ -36,6 +36,7 @@ impl<'a, A: Allocator> Model for Gba<'a, A> {
 }
 
 impl<'a, A: Allocator> Gba<'a, A> {
+    /// The automaton with these states.
     pub fn new(states: SharedStates<'a, A>) -> Gba<'a, A>
         requires { IsAcceptingGba (automaton_of states) }
         ensures { result ≡ automaton_of states.entry }
@@ -43,28 +44,28 @@ impl<'a, A: Allocator> Gba<'a, A> {
         Gba { states }
     }
 
-    /// The states, which share their lists of edges.
+    /// The states, which share their edge lists.
     pub fn states(&self) -> &SharedStates<'a, A>
         ensures { automaton_of result.now ≡ self.now }
     {
         &self.states
     }
 
-    /// How many states there are, at least one.
+    /// The number of states, which is at least 1.
     pub fn len(&self) -> usize
         ensures count { result ≡ length self.now.states }
     {
         self.states.len()
     }
 
-    /// How many acceptance sets there are.
+    /// The number of acceptance sets.
     pub fn sets(&self) -> usize
         ensures count { result ≡ self.now.sets }
     {
         self.states.sets()
     }
 
-    /// The edges of a state, by literals and then by the target as a set of rows.
+    /// The edges of a state. Their order depends on how the automaton was made; the type doesn't fix it.
     pub fn edges(&self, i: usize) -> &[GbaEdge]
         requires { i < length self.now.states }
         ensures { map edge_of result.now ≡ (state_at self.now i).edges }
@@ -72,7 +73,7 @@ impl<'a, A: Allocator> Gba<'a, A> {
         self.states.edges(i)
     }
 
-    /// Hands what the type promises to callers.
+    /// Gives a caller's proof the invariant of the type. It does nothing when it runs.
     pub fn invariant(&self)
         ensures { IsAcceptingGba self.now }
     {

@@ -1,15 +1,16 @@
-//! Automata as values: generalized (`Gba`), Büchi (`Ba`), and generalized as they are printed (`Gen`).
+//! The automata that the translation makes, as values: generalized (`Gba`), Büchi (`Ba`), and generalized as printed (`Gen`).
 //!
-//! In the field's words: transition-based generalized Büchi automata (TGBA) and state-based Büchi automata, as explicit graphs, with what holds of every
-//! one that is made here. Each is a `SharedStates` of `ltl_automaton`, and its type promises the rest: all states of a `Gba` accept, so that only its
-//! sets count; a `Ba` has no sets, the edges of a state rise, and each state is reached; no limit is passed, and labels have no contradiction.
+//! In the field's words: transition-based generalized Büchi automata (TGBA) and state-based Büchi automata, as explicit graphs. Each is a
+//! `SharedStates` of `ltl_automaton`, and its type adds an invariant. No limit is passed, every target exists, and no label contradicts itself. All
+//! states of a `Gba` are accepting, so that only its acceptance sets count. A `Ba` has no acceptance sets, the edges of each state are sorted without
+//! duplicates, and every state is reachable.
 //!
-//! What flows: states that `ltl_alt` or `ltl_passes` listed come in by `new`, which requires what the type promises; who prints or checks an automaton
-//! looks at it state by state (`edges`, `accepting`), or at a state's edges by their targets (`by_target`). So texts and the check stand on this crate
-//! alone, and not on those that make automata. `Options` says what is left out on the way. What cubes and sets of rows have is numbered by `elements`,
-//! for who indexes things that have such parts.
+//! What flows: states that `ltl_alt` or `ltl_passes` made come in by `new`, which requires the invariant. Printers and checkers read an automaton
+//! state by state (`edges`, `accepting`), or the edges of a state by their targets (`by_target`). So they stand on this crate alone, and not on those
+//! that make automata. `Options` says which simplifications are left out. `elements` numbers the literals of cubes and the members of sets, for an
+//! index over them.
 //!
-//! The Büchi automaton of `[]<>p`, whose states have one list of edges:
+//! The Büchi automaton of `[]<>p`, whose two states share an edge list:
 //!
 //! ```
 //! state 0:             [t] to 0    [p] to 1

@@ -9,8 +9,8 @@ use ltl_automaton::Edge as GbaEdge;
 use std::alloc::Allocator;
 use std::marker::Model;
 
-/// A generalized Büchi automaton as it is printed: its states are numbered breadth first. State 0 is the start, and every state is
-/// accepting, so that only the acceptance sets count.
+/// A generalized Büchi automaton as it is printed. Where `renumber_generalized` makes it, its states are numbered breadth first. State 0 is the
+/// initial one. Every state is accepting, so that only the acceptance sets count.
 #[derive(Drop)]
 pub struct Gen<'a, A: Allocator> {
     automaton: Gba<'a, A>,
@@ -28,13 +28,14 @@ impl<'a, A: Allocator> Model for Gen<'a, A> {
 }
 
 impl<'a, A: Allocator> Gen<'a, A> {
+    /// The same automaton. Its states aren't renumbered here.
     pub fn new(automaton: Gba<'a, A>) -> Self
         ensures { result ≡ automaton.entry }
     {
         Gen { automaton }
     }
 
-    /// How many states there are.
+    /// The number of states.
     pub fn len(&self) -> usize
         ensures count { result ≡ length self.now.states }
         ensures some { 0 < result }
@@ -44,14 +45,14 @@ impl<'a, A: Allocator> Gen<'a, A> {
         self.automaton.len()
     }
 
-    /// How many acceptance sets there are.
+    /// The number of acceptance sets.
     pub fn sets(&self) -> usize
         ensures count { result ≡ self.now.sets }
     {
         self.automaton.sets()
     }
 
-    /// The edges of a state: by literals, then by target, then by the sets that they are in.
+    /// The edges of a state. `renumber_generalized` sorts them by label, then by target, then by acceptance sets.
     pub fn edges(&self, i: usize) -> &[GbaEdge]
         requires { i < length self.now.states }
         ensures edges { map edge_of result.now ≡ (state_at self.now i).edges }
@@ -61,7 +62,7 @@ impl<'a, A: Allocator> Gen<'a, A> {
         self.automaton.edges(i)
     }
 
-    /// Hands what the type promises to callers.
+    /// Gives a caller's proof the invariant of the type. It does nothing when it runs.
     pub fn invariant(&self)
         ensures { IsAcceptingGba self.now }
     {

@@ -1,13 +1,13 @@
-//! What is left out of simplification.
+//! The simplifications that a translation leaves out.
 
 use std::marker::Model;
 
-/// What is left out of simplification.
+/// The simplifications that a translation leaves out. The language is the same in any case.
 #[derive(Clone, Copy, Debug, PartialEq, Eq)]
 pub struct Options {
-    /// Transitions that another one implies stay.
+    /// Transitions that another one subsumes are kept.
     pub keep_implied: bool,
-    /// States that are equal to another one stay.
+    /// States that are equivalent to another one are kept: no quotient is made.
     pub keep_equal: bool,
 }
 

@@ -1,7 +1,7 @@
-//! What the texts of formulas, of words and of automata share: blanks, names of propositions, and how many of these there may be.
+//! The lexical rules that the texts of formulas, words and automata share: blanks, names of propositions, and the limit on propositions.
 //!
-//! A name is a lower-case letter with letters, digits and `_` behind it, and no constant, so that each name that is read anywhere is one that a
-//! formula may hold.
+//! A name is an ASCII lower-case letter, followed by such letters, digits and `_`. `true` and `false` are constants, and so no names.
+//! Every name that is read anywhere may stand in a formula.
 //!
 //! ```
 //! is_proposition(b"ready_1")    true

@@ -1,4 +1,4 @@
--- Two sets of literals are equal when their lists are.
+-- Equality of cubes: two cubes are equal if and only if their lists of literals are.
 use Rattle.std.specs.Prelude.{◌≡◌, ◌&&◌, ◌++◌, Bool, true, false, nat_eq, List, ℕ, IsTrue, refl}
 use Rattle.std.proofs.Common.{ap, sym}
 use Rattle.std.specs.Bool.{Decides, beq}

@@ -1,4 +1,4 @@
--- The words of a set are those that its members give back.
+-- The bit set of a list of members: it is the inverse of listing the members of a bit set.
 use Rattle.std.specs.Prelude.{◌≡◌, List, ℕ, true, false}
 use Rattle.std.proofs.Common.{ap}
 use Rattle.ltl_sets.specs.Words.{IsWords, IsCubeWords, members, words_with, literals, words_with_literals}

@@ -1,4 +1,4 @@
--- The literals of the code as those of the definitions.
+-- The literals of the code as literals of the definitions.
 use Rattle.std.specs.Prelude.{ℕ, List, map}
 use Rattle.std.specs.Ordering.{nat_cmp}
 use Rattle.ltl_sets.specs.declared.literal.Literal as made

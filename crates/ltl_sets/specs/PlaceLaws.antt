@@ -1,4 +1,4 @@
--- The numbers and the literals of bits, as sets.
+-- The members of a bit set, and the literals of a cube, are sorted.
 use Rattle.std.proofs.Common.{◌≡◌, ◌∙◌, ap, ℕ, zero, suc, ◌+◌, ◌<◌, ◌≤◌, arith, Bool, true, false, ◌⊎◌, inl, inr, List, ◌∷◌}
 use Rattle.std.specs.declared.cmp.Ordering.TheVariants.{Less, Equal}
 use Rattle.std.specs.Ordering.{nat_cmp, bool_cmp, flip_args, ordering_then}

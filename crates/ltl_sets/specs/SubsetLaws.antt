@@ -1,4 +1,4 @@
--- The sets of those members of a fixed set that pass a test: what the operations on sets do to the tests.
+-- Subsets of a fixed set as predicates: what union, intersection and insertion do to the predicates.
 use Rattle.std.proofs.Common.{◌≡◌, Bool, true, false, cond, ◌||◌, ◌&&◌, ◌⊎◌, inl, inr, List, [], ◌∷◌, refl, sym, ◌∙◌, ap, subst}
 use Rattle.std.specs.declared.cmp.Ordering.{Ordering}
 use Rattle.std.specs.declared.cmp.Ordering.TheVariants.{Less, Equal, Greater}

@@ -1,4 +1,4 @@
--- Bits numbered from 0 to 255, in four words of 64, and what they stand for.
+-- Bit sets of 256 bits in four words of 64, and the sets and cubes that they stand for.
 use Rattle.std.specs.Prelude.{◌≡◌, ℕ, ◌≤◌, ◌≢◌, ◌&&◌, not, Option, MatchOption, zero, suc, ◌+◌, ◌*◌, ◌/◌, ◌%◌, ◌^◌, ◌<◌, Bool, true, false, cond, nat_eq, List, [], ◌∷◌, length, map, slice_index}
 use Rattle.std.specs.Int.{bit_at}
 use Rattle.std.specs.Hash.{le_bytes}

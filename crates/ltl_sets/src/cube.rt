@@ -1,4 +1,4 @@
-//! Sets of literals without contradiction.
+//! Cubes: conjunctions of literals that don't contradict each other.
 
 ghost use Rattle.std.specs.Prelude.{◌≡◌, ◌<◌, ◌≤◌, false, [], ◌∷◌, length, bit_or, bit_xor};
 ghost use Rattle.std.specs.List.{AllByRecursion, filter};
@@ -23,8 +23,8 @@ use std::marker::Model;
 use std::simd::prelude::*;
 use std::simd::u64x4;
 
-/// A set of literals, of propositions below [`RowSet::LIMIT`], none of which has both signs. It is
-/// seen as the list of the literals by proposition, the positive one first.
+/// A conjunction of literals of propositions below [`RowSet::LIMIT`], as two bit sets. No proposition has both signs. Contracts see it as the list of
+/// its literals by proposition.
 pub struct Cube {
     positive: u64x4,
     negative: u64x4,
@@ -48,7 +48,7 @@ impl Model for Cube {
     ghost inverse_ok = { cube_again };
 }
 
-/// No literals.
+/// The cube without literals, which is true.
 impl Default for Cube {
     ghost is_default = { λ c. c ≡ [] };
 
@@ -57,7 +57,7 @@ impl Default for Cube {
     }
 }
 
-/// Compares the cubes of two words each as the rising lists of their literals, where this is the lowest place in which they differ.
+/// Compares two cubes as the sorted lists of their literals, given the lowest proposition `p` at which they differ.
 #[inline(always)]
 fn cmp_at(
     positive: u64x4,
@@ -87,6 +87,7 @@ fn cmp_at(
 }
 
 impl Cube {
+    /// The cube without literals, which is true.
     pub fn empty() -> Cube
         ensures { result ≡ [] }
     {
@@ -96,6 +97,7 @@ impl Cube {
         }
     }
 
+    /// The cube of one literal: proposition `p`, or its negation if `sign` is `false`.
     pub fn literal(p: usize, sign: bool) -> Cube
         requires { p < RowSet.LIMIT }
         ensures { result ≡ record { proposition = p; positive = sign } ∷ [] }
@@ -115,7 +117,7 @@ impl Cube {
         }
     }
 
-    /// The literals of both, or `None` where they contradict each other.
+    /// The conjunction of two cubes, or `None` if they contradict each other.
     #[inline(always)]
     pub fn join(&self, other: &Cube) -> Option<Cube>
         ensures { result ≡ cubes.join_cubes self.now other.now }
@@ -129,7 +131,7 @@ impl Cube {
         }
     }
 
-    /// The literals that both have.
+    /// The literals that are in both cubes.
     #[inline(always)]
     pub fn common(&self, other: &Cube) -> Cube
         ensures { result ≡ filter (λ l. sets.has cubes.literal_cmp l other.now) self.now }
@@ -140,7 +142,7 @@ impl Cube {
         }
     }
 
-    /// Whether the literals are among those of the other cube, so that the other one implies this.
+    /// Whether the literals are among those of the other cube, so that the other cube implies this one.
     #[inline(always)]
     pub fn implies_of(&self, other: &Cube) -> bool
         ensures { result ≡ sets.is_subset cubes.literal_cmp self.now other.now }
@@ -149,7 +151,7 @@ impl Cube {
         lanes::is_zero(lacking)
     }
 
-    /// Whether each literal holds where exactly the propositions of the letter are true.
+    /// Whether the cube is true at a letter, in which exactly these propositions are true.
     pub fn allows(&self, letter: &RowSet) -> bool
         ensures { result ≡ cubes.allows (λ i. sets.has nat_cmp i letter.now) self.now }
     {
@@ -157,7 +159,7 @@ impl Cube {
         lanes::is_zero(failing)
     }
 
-    /// The least letter that the cube allows.
+    /// The least letter at which the cube is true: the propositions of its positive literals.
     pub fn letter(&self) -> RowSet
         ensures { result ≡ letter_of self.now }
     {
@@ -166,7 +168,7 @@ impl Cube {
         }
     }
 
-    /// The propositions that have to be false.
+    /// The propositions of the negative literals.
     pub fn forbidden(&self) -> RowSet
         ensures { result ≡ forbidden_of self.now }
     {
@@ -175,7 +177,7 @@ impl Cube {
         }
     }
 
-    /// Compares the two as the rising lists of their literals.
+    /// Compares the cubes as the sorted lists of their literals.
     #[inline(always)]
     pub fn cmp_list(&self, other: &Cube) -> Ordering
         ensures { result ≡ cubes.cube_cmp self.now other.now }
@@ -204,7 +206,7 @@ impl Cube {
         }
     }
 
-    /// The literals by proposition, the positive one first.
+    /// The literals by proposition.
     #[inline(always)]
     pub fn iter(&self) -> Literals
         ensures literals { cube_of result ≡ self.now }
@@ -220,8 +222,8 @@ impl Cube {
         }
     }
 
-    /// Hands what the type promises to callers: each cube is a rising list of literals of propositions below
-    /// [`RowSet::LIMIT`], without contradiction.
+    /// Gives a caller's proof the invariant: the literals are sorted, their propositions are below [`RowSet::LIMIT`], and they don't contradict each
+    /// other. It does nothing when it runs.
     pub fn invariant(&self)
         ensures rising { sets.IsRising cubes.literal_cmp self.now }
         ensures below { AllByRecursion (λ l. l.proposition < RowSet.LIMIT) self.now }
@@ -285,7 +287,7 @@ impl fmt::Debug for Cube {
     }
 }
 
-/// The literals of a cube that are left, rising, seen as the list of them.
+/// An iterator over the literals of a cube. Contracts see it as the list of those still to come.
 #[derive(Clone, Debug, Drop)]
 pub struct Literals {
     places: Members,

@@ -1,4 +1,4 @@
-// Bits numbered from 0 to 255, in four words: bit i stands in word i / 64.
+// Bit sets of 256 bits in four words: bit i is bit i % 64 of word i / 64.
 
 ghost use Rattle.std.specs.Prelude.{◌≡◌, ℕ, ◌<◌, cond, nat_eq, IfSome, MatchOption, fold};
 ghost use Rattle.std.specs.Bool.{Decides, beq};
@@ -10,7 +10,7 @@ use std::hash::{Hash, Hasher};
 use std::simd::prelude::*;
 use std::simd::u64x4;
 
-// Whether bit i is a one.
+// Whether bit i is set.
 #[inline(always)]
 pub(crate) fn has(lanes: &u64x4, i: usize) -> bool
     requires { i < 256 }
@@ -19,7 +19,7 @@ pub(crate) fn has(lanes: &u64x4, i: usize) -> bool
     (lanes.to_array()[i / 64] >> (i % 64)) & 1 == 1
 }
 
-// Word k of the words in which bit i alone is a one.
+// Word k of the set that has bit i alone.
 fn word_alone(i: usize, k: usize) -> u64
     requires { i < 256 }
     ensures { result ≡ word_alone i k }
@@ -27,7 +27,7 @@ fn word_alone(i: usize, k: usize) -> u64
     if i / 64 == k { 1 << (i % 64) } else { 0 }
 }
 
-// Bit i alone.
+// The set that has bit i alone.
 pub(crate) fn single(i: usize) -> u64x4
     requires { i < 256 }
     ensures words { IsWords result }
@@ -41,7 +41,7 @@ pub(crate) fn single(i: usize) -> u64x4
     ])
 }
 
-// Whether there is no one.
+// Whether no bit is set.
 #[inline(always)]
 pub(crate) fn is_zero(lanes: u64x4) -> bool
     requires { IsWords lanes }
@@ -50,7 +50,7 @@ pub(crate) fn is_zero(lanes: u64x4) -> bool
     lanes.reduce_or() == 0
 }
 
-// Whether there is a one at i or above it.
+// Whether bit i or a higher bit is set.
 #[inline(always)]
 pub(crate) fn reaches(lanes: u64x4, i: usize) -> bool
     requires words { IsWords lanes }
@@ -62,7 +62,7 @@ pub(crate) fn reaches(lanes: u64x4, i: usize) -> bool
     (words[at] >> (i % 64) != 0) | has_later(&words, at)
 }
 
-// Whether a word after the given one is not zero.
+// Whether a word behind this one is not zero.
 #[inline(always)]
 fn has_later(words: &[u64; 4], at: usize) -> bool
     ensures { Decides result (HasLater words.now at) }
@@ -70,7 +70,7 @@ fn has_later(words: &[u64; 4], at: usize) -> bool
     ((at < 1) & (words[1] != 0)) | ((at < 2) & (words[2] != 0)) | ((at < 3) & (words[3] != 0))
 }
 
-// Takes the lowest one away.
+// Clears the lowest bit that is set, and answers its number.
 #[inline(always)]
 pub(crate) fn take_lowest(words: &mut [u64; 4]) -> Option<usize>
     ensures words { IsWords words.new }
@@ -88,7 +88,7 @@ pub(crate) fn take_lowest(words: &mut [u64; 4]) -> Option<usize>
     None
 }
 
-// The lowest one.
+// The lowest bit that is set.
 #[inline(always)]
 pub(crate) fn lowest(lanes: u64x4) -> Option<usize>
     requires { IsWords lanes }
@@ -97,7 +97,7 @@ pub(crate) fn lowest(lanes: u64x4) -> Option<usize>
     take_lowest(&mut lanes.to_array())
 }
 
-// The lowest one, if the first word has one. Mostly it does, and then no word has to be looked for.
+// The lowest bit that is set, if it is in the first word. This is the usual case, and needs no search for a word.
 #[inline(always)]
 pub(crate) fn lowest_of_first(lanes: u64x4) -> Option<usize>
     requires { IsWords lanes }
@@ -110,8 +110,8 @@ pub(crate) fn lowest_of_first(lanes: u64x4) -> Option<usize>
     Some(word.trailing_zeros() as usize)
 }
 
-// How two rising lists compare, where one has the first member in which they differ: whether it is
-// the first list, and whether the other one goes on above it.
+// How two sorted lists compare whose first difference is a member of one of them. `is_first` says that it is a member of the first list, and
+// `goes_on` that the other list has a greater member.
 #[inline(always)]
 pub(crate) fn list_order(is_first: bool, goes_on: bool) -> Ordering
     ensures { result ≡ cond (beq is_first goes_on) Less Greater }
@@ -123,7 +123,7 @@ pub(crate) fn list_order(is_first: bool, goes_on: bool) -> Ordering
     }
 }
 
-// The four words in one number, by which they are told apart mostly.
+// The four words mixed into one, as the input of a hash. Different sets rarely give the same number.
 #[inline(always)]
 fn mixed(words: &[u64; 4]) -> u64
     ensures { result ≡ mixed words.now }
@@ -137,7 +137,7 @@ fn mixed(words: &[u64; 4]) -> u64
     low.wrapping_add(high)
 }
 
-// Feeds the four words to a hasher, in one number.
+// Feeds the four words to a hasher, as one number.
 #[inline(always)]
 pub(crate) fn hash<H: Hasher>(lanes: &u64x4, state: &mut H)
     ensures { state.new ≡ fold H.write state.old (hash_of lanes.now) }

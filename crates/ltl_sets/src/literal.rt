@@ -5,6 +5,6 @@
 pub struct Literal {
     /// The number of the proposition.
     pub proposition: usize,
-    /// Whether it stands without a negation.
+    /// Whether the literal is the proposition itself, not its negation.
     pub positive: bool,
 }

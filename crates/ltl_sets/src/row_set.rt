@@ -17,7 +17,7 @@ use std::marker::Model;
 use std::simd::prelude::*;
 use std::simd::u64x4;
 
-/// A set of numbers below [`RowSet::LIMIT`], seen as the rising list of its members.
+/// A set of numbers below [`RowSet::LIMIT`], as a bit set. Contracts see it as the sorted list of its members.
 pub struct RowSet {
     pub(crate) lanes: u64x4,
 }
@@ -44,9 +44,10 @@ impl Model for RowSet {
 }
 
 impl RowSet {
-    /// Every member is below this.
+    /// The bound below which every member is.
     pub const LIMIT: usize = 256;
 
+    /// The empty set.
     pub fn empty() -> RowSet
         ensures { result ≡ [] }
     {
@@ -55,6 +56,7 @@ impl RowSet {
         }
     }
 
+    /// The set with one member.
     pub fn single(i: usize) -> RowSet
         requires { i < RowSet.LIMIT }
         ensures { result ≡ i ∷ [] }
@@ -64,6 +66,7 @@ impl RowSet {
         }
     }
 
+    /// Adds a member, which may be there already.
     pub fn insert(&mut self, i: usize)
         requires { i < RowSet.LIMIT }
         ensures { self.new ≡ sets.put nat_cmp i self.old }
@@ -71,6 +74,7 @@ impl RowSet {
         self.lanes = self.lanes | lanes::single(i);
     }
 
+    /// Whether the set has this number, which is below the limit. `holds` takes any number.
     #[inline(always)]
     pub fn contains(&self, i: usize) -> bool
         requires { i < RowSet.LIMIT }
@@ -79,7 +83,7 @@ impl RowSet {
         lanes::has(&self.lanes, i)
     }
 
-    /// Whether the set holds any number, one at the limit or above it too.
+    /// Whether the set has this number, which may be at or above the limit.
     #[tactic(auto, using(crate::proofs::RowSetLaws::none_high))]
     pub fn holds(&self, i: usize) -> bool
         ensures { result ≡ sets.has nat_cmp i self.now }
@@ -88,6 +92,7 @@ impl RowSet {
         i < RowSet::LIMIT && self.contains(i)
     }
 
+    /// The union.
     #[inline(always)]
     pub fn union(&self, other: &RowSet) -> RowSet
         ensures { result ≡ sets.union nat_cmp self.now other.now }
@@ -97,7 +102,7 @@ impl RowSet {
         }
     }
 
-    /// The members of both.
+    /// The intersection.
     #[inline(always)]
     pub fn common(&self, other: &RowSet) -> RowSet
         ensures { result ≡ filter (λ i. sets.has nat_cmp i other.now) self.now }
@@ -107,7 +112,7 @@ impl RowSet {
         }
     }
 
-    /// The members that aren't in the other set.
+    /// The members that are not in the other set.
     #[inline(always)]
     pub fn without(&self, other: &RowSet) -> RowSet
         ensures { result ≡ filter (λ i. not (sets.has nat_cmp i other.now)) self.now }
@@ -117,7 +122,7 @@ impl RowSet {
         }
     }
 
-    /// Whether a member is in both.
+    /// Whether the intersection is not empty.
     #[inline(always)]
     pub fn meets(&self, other: &RowSet) -> bool
         ensures { result ≡ list_any (λ i. sets.has nat_cmp i other.now) self.now }
@@ -125,6 +130,7 @@ impl RowSet {
         !lanes::is_zero(self.lanes & other.lanes)
     }
 
+    /// Whether every member is in the other set.
     #[inline(always)]
     pub fn is_subset(&self, other: &RowSet) -> bool
         ensures { result ≡ sets.is_subset nat_cmp self.now other.now }
@@ -132,7 +138,7 @@ impl RowSet {
         lanes::is_zero(self.lanes & !other.lanes)
     }
 
-    /// Compares the two as the rising lists of their members.
+    /// Compares the sets as the sorted lists of their members.
     #[inline(always)]
     pub fn cmp_list(&self, other: &RowSet) -> Ordering
         ensures { result ≡ slice_cmp nat_cmp self.now other.now }
@@ -145,7 +151,7 @@ impl RowSet {
         lanes::list_order(is_mine, lanes::reaches(lacking, i))
     }
 
-    /// The members, rising.
+    /// The members in ascending order.
     #[inline(always)]
     pub fn iter(&self) -> Members
         ensures members { result ≡ self.now }
@@ -157,7 +163,7 @@ impl RowSet {
         }
     }
 
-    /// Hands what the type promises to callers: each set is a rising list of numbers below [`RowSet::LIMIT`].
+    /// Gives a caller's proof the invariant: the members are sorted and below [`RowSet::LIMIT`]. It does nothing when it runs.
     pub fn invariant(&self)
         ensures rising { sets.IsRising nat_cmp self.now }
         ensures below { AllByRecursion (λ i. i < RowSet.LIMIT) self.now }
@@ -223,7 +229,7 @@ impl fmt::Debug for RowSet {
     }
 }
 
-/// The members of a set that are left, rising, seen as the list of them.
+/// An iterator over the members of a set. Contracts see it as the list of those still to come.
 #[derive(Clone, Debug, Drop)]
 pub struct Members {
     words: [u64; 4],

@@ -1,4 +1,4 @@
--- What a sink takes when bytes go to it in pieces.
+-- What a sink receives, and what stays in the buffer, when bytes are written through a buffer.
 use Rattle.std.specs.Prelude.{◌≡◌, List, ℕ, ◌++◌, Result, MatchResult}
 use Rattle.ltl_streams.specs.Streams.{SinkState, Takes, Breaks}
 

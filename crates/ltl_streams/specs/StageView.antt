@@ -1,4 +1,4 @@
--- Stages of the code as those of the definition, and the states that they are part of.
+-- The stages of the code as stages of the definitions, and the states of streams.
 use Rattle.std.specs.Prelude.{ℕ, List, Option}
 use Rattle.ltl_spec.specs.Tools.Stage as spec
 use Rattle.ltl_streams.specs.Streams.{SinkState, SourceState}

@@ -1,4 +1,4 @@
--- What is known of a stream of bytes, and what a call on it changes.
+-- The state of a byte stream, and what a call changes of it.
 use Rattle.std.specs.Prelude.{◌≡◌, ℕ, ◌<◌, ◌≤◌, List, ◌∷◌, length, take, Option}
 use Rattle.std.specs.Io.KnownBytes.{Appends, Consumes, IsAtEnd, Keeps}
 use Rattle.ltl_spec.specs.Tools.Stage.{Stage, Open, Closed, Broken, behind}

@@ -1,4 +1,4 @@
-//! Bytes on their way to a sink, in pieces.
+//! An output buffer of 16 KiB.
 
 ghost use Rattle.std.specs.Prelude.{◌≡◌, ◌+◌, ◌≤◌, [], ◌++◌, length, OnOk, OnErr};
 ghost use Rattle.ltl_streams.specs.Streams.{Takes, Breaks};
@@ -10,7 +10,8 @@ use std::marker::Model;
 
 const SIZE: usize = 16_384;
 
-/// The bytes that are held back for the next write. Behind a fault nothing more is to be put or sent.
+/// An output buffer: the bytes that aren't written yet. After an error from `send` or `put` the buffer must not be used again; its content is then
+/// unspecified.
 #[derive(Drop)]
 pub struct OutputBuffer {
     bytes: [u8; SIZE],
@@ -28,7 +29,7 @@ impl Model for OutputBuffer {
 }
 
 impl OutputBuffer {
-    /// No byte is held back.
+    /// An empty buffer.
     pub fn new() -> OutputBuffer
         ensures { result ≡ [] }
     {
@@ -38,7 +39,7 @@ impl OutputBuffer {
         }
     }
 
-    /// How many more bytes there is room for.
+    /// The number of bytes that still fit.
     #[inline(always)]
     fn room(&self) -> usize
         ensures { result + length self.now ≡ 16384 }
@@ -46,7 +47,7 @@ impl OutputBuffer {
         SIZE - self.len
     }
 
-    /// Holds the bytes back.
+    /// Appends bytes that fit.
     #[inline(always)]
     fn hold(&mut self, bytes: &[u8])
         requires { length bytes.now + length self.old ≤ 16384 }
@@ -57,7 +58,7 @@ impl OutputBuffer {
         self.len = end;
     }
 
-    /// Writes what is held back.
+    /// Writes the buffered bytes and empties the buffer. An empty buffer causes no call of the sink.
     pub fn send<S: ByteSink>(&mut self, sink: &mut S) -> Result<(), WriteFault>
         ensures sent { OnOk result (Takes (S.state sink.old) (S.state sink.new) self.old) }
         ensures empty { OnOk result (self.new ≡ []) }
@@ -68,7 +69,7 @@ impl OutputBuffer {
         Ok(())
     }
 
-    /// Holds the bytes back, after those that were held back before are written where there is no room.
+    /// Appends the bytes. If they don't fit, the buffered bytes are written first. Bytes that don't fit into an empty buffer are written at once.
     #[inline(always)]
     pub fn put<S: ByteSink>(&mut self, bytes: &[u8], sink: &mut S) -> Result<(), WriteFault>
         ensures { Puts result (S.state sink.old) self.old (S.state sink.new) self.new bytes.now }

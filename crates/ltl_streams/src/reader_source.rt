@@ -1,4 +1,4 @@
-//! Standard readers as sources.
+//! Readers of the standard library as byte sources.
 
 ghost use Rattle.std.specs.Prelude.{◌≡◌, ℕ, Option, None, MatchResult};
 ghost use Rattle.ltl_streams.specs.Streams.{FailsToGive, GivesSome};
@@ -8,14 +8,14 @@ use crate::source::{ByteSource, SourceFault};
 use crate::stage::Stage;
 use std::io::Read;
 
-/// A reader, and how the calls on it went. Behind a fault or the end it isn't called again.
+/// A source over a reader that it owns. After an error or the end of the input the reader isn't called again.
 #[derive(Drop)]
 pub struct ReaderSource<R> {
     reader: R,
     stage: Stage,
 }
 
-/// A reader that is lent, and how the calls on it went. Behind a fault or the end it isn't called again.
+/// A source over a reader that it borrows. After an error or the end of the input the reader isn't called again.
 #[derive(Drop)]
 pub struct LentReader<'r, R> {
     reader: &'r mut R,
@@ -23,7 +23,7 @@ pub struct LentReader<'r, R> {
 }
 
 impl<R> ReaderSource<R> {
-    /// There was no call yet.
+    /// A source that wasn't read yet.
     pub fn new(reader: R) -> ReaderSource<R>
         ensures same { result.reader ≡ reader }
         ensures stage { result.stage ≡ Stage.Open }
@@ -36,7 +36,7 @@ impl<R> ReaderSource<R> {
 }
 
 impl<'r, R> LentReader<'r, R> {
-    /// There was no call yet.
+    /// A source that wasn't read yet.
     pub fn new(reader: &'r mut R) -> LentReader<'r, R>
         ensures same { result.reader.ghost_name ≡ reader.entry.ghost_name }
         ensures now { result.reader.now ≡ reader.old }
@@ -49,7 +49,7 @@ impl<'r, R> LentReader<'r, R> {
     }
 }
 
-/// Reads once, where that is in order.
+/// Calls the reader once if the stage admits a call, and sets the stage.
 fn read_once<R: Read>(
     reader: &mut R,
     stage: &mut Stage,

@@ -1,4 +1,4 @@
-//! Sinks: where bytes go.
+//! Byte sinks: where an output goes.
 
 ghost use Rattle.std.specs.Prelude.{MatchResult};
 ghost use Rattle.ltl_streams.specs.Streams.{SinkState, Fails, Flushes, TakesSome};
@@ -10,15 +10,15 @@ use thiserror::Error;
 #[error("cannot write")]
 pub struct WriteFault;
 
-/// What takes bytes, and knows how the calls on it went. Behind a fault or a flush each further call is a fault.
+/// An output that records how the calls on it went. After an error or a flush every further call is an error.
 pub trait ByteSink {
     ghost state: { Self → SinkState };
 
-    /// Takes a beginning of the bytes, which is not empty where there are any, and tells its length.
+    /// Writes a prefix of the bytes, and answers its length. The prefix is empty only if there are no bytes.
     fn write(&mut self, bytes: &[u8]) -> Result<usize, WriteFault>
         ensures { MatchResult result (λ n. TakesSome (state self.old) (state self.new) n bytes.now) (λ _. Fails (state self.old) (state self.new)) };
 
-    /// Hands on what it took, to stay.
+    /// Hands everything written on to its destination, and ends the output.
     fn flush(&mut self) -> Result<(), WriteFault>
         ensures { MatchResult result (λ _. Flushes (state self.old) (state self.new)) (λ _. Fails (state self.old) (state self.new)) };
 }

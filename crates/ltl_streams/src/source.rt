@@ -1,4 +1,4 @@
-//! Sources: where bytes come from.
+//! Byte sources: where an input comes from.
 
 ghost use Rattle.std.specs.Prelude.{MatchResult};
 ghost use Rattle.ltl_streams.specs.Streams.{SourceState, FailsToGive, GivesSome};
@@ -10,11 +10,11 @@ use thiserror::Error;
 #[error("cannot read")]
 pub struct SourceFault;
 
-/// What gives bytes, and knows how the calls on it went. Behind a fault or the end each further call is a fault.
+/// An input that records how the calls on it went. After an error or the end of the input every further call is an error.
 pub trait ByteSource {
     ghost state: { Self → SourceState };
 
-    /// Puts the next bytes at the beginning of the room, and tells how many. There are none at the end alone, or where there is no room.
+    /// Puts the next bytes at the beginning of `room`, and answers their number. It is 0 only at the end of the input, or if `room` is empty.
     fn read(&mut self, room: &mut [u8]) -> Result<usize, SourceFault>
         ensures { MatchResult result (λ n. GivesSome (state self.old) (state self.new) n room.new) (λ _. FailsToGive (state self.old) (state self.new)) };
 }

@@ -1,22 +1,22 @@
-//! How the calls on a stream went.
+//! The protocol of a stream, as a state.
 
 ghost use Rattle.std.specs.Prelude.{◌≡◌, ◌↔◌, IsTrue, if◌then◌else◌};
 
-/// How the calls on a stream of bytes went so far.
+/// How the calls on a stream went so far.
 #[derive(Clone, Copy, Debug, PartialEq, Eq)]
 pub enum Stage {
-    /// Each call did what was asked: a write took some of its bytes, a read gave some.
+    /// No call failed, and the stream hasn't ended: each write took some of its bytes, and each read gave some.
     Open,
-    /// The last call flushed the output, or found the end of the input.
+    /// The last call flushed the output, or met the end of the input.
     Closed,
     /// The last call failed.
     Broken,
-    /// There was a call behind the one that closed or broke the stream.
+    /// The stream was called after it was closed or broken.
     Misused,
 }
 
 impl Stage {
-    /// Whether a call is in order. Where it isn't, the stream is misused from here on.
+    /// Whether the stream may be called. If not, it is misused from here on.
     #[inline(always)]
     pub(crate) fn admits(&mut self) -> bool
         ensures admitted { IsTrue result ↔ self.old ≡ Stage.Open }

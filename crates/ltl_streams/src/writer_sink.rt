@@ -1,4 +1,4 @@
-//! Standard writers as sinks.
+//! Writers of the standard library as byte sinks.
 
 ghost use Rattle.std.specs.Prelude.{◌≡◌};
 
@@ -6,7 +6,7 @@ use crate::sink::{ByteSink, WriteFault};
 use crate::stage::Stage;
 use std::io::Write;
 
-/// A writer that is lent, and how the calls on it went. Behind a fault or a flush it isn't called again.
+/// A sink over a writer that it borrows. After an error or a flush the writer isn't called again.
 #[derive(Drop)]
 pub struct WriterSink<'w, W> {
     writer: &'w mut W,
@@ -14,7 +14,7 @@ pub struct WriterSink<'w, W> {
 }
 
 impl<'w, W> WriterSink<'w, W> {
-    /// There was no call yet.
+    /// A sink that wasn't written to yet.
     pub fn new(writer: &'w mut W) -> WriterSink<'w, W>
         ensures same { result.writer.ghost_name ≡ writer.entry.ghost_name }
         ensures now { result.writer.now ≡ writer.old }

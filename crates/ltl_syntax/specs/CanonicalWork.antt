@@ -1,4 +1,4 @@
--- What a printer of canonical text has still to write.
+-- The stack of the printer, and the text that is still to be written.
 use Rattle.std.specs.Prelude.{ℕ, ◌+◌, ◌<◌, List, [], ◌∷◌, ◌++◌, length, slice_index_or, codes, false}
 use Rattle.ltl_spec.specs.Semantics.Word.{Name}
 use Rattle.ltl_spec.specs.Formulas.Formula as spec

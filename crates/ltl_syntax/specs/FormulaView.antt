@@ -1,4 +1,4 @@
--- A formula as the list of its nodes, and the tree that it stands for.
+-- A formula as the list of its nodes, and the syntax tree that they stand for.
 use Rattle.std.specs.Prelude.{◌≡◌, ℕ, suc, ◌+◌, ◌-◌, ◌<◌, ◌≤◌, ◌==◌, ◌∷◌, ◌++◌, [], List, fold, length, if◌then◌else◌, slice_index_or, false, IsTrue}
 use Rattle.std.specs.List.{flat_map, list_all}
 use Rattle.ltl_spec.specs.Semantics.Word.{Name}

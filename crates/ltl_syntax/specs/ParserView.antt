@@ -1,4 +1,4 @@
--- A parser's state as a state of the definitions' reader.
+-- The state of the parser as a state of the definitions' parser.
 use Rattle.std.specs.Prelude.{◌≡◌, ℕ, suc, ◌+◌, ◌-◌, ◌<◌, Bool, true, false, if◌then◌else◌, nat_le, List, [], ◌∷◌, fold, length, Option, Some, None, Result, Ok, Err}
 use Rattle.std.specs.List.{flat_map}
 use Rattle.ltl_spec.specs.Semantics.Word.{Name}

@@ -1,4 +1,4 @@
--- What reading a text answers.
+-- The answer to a text: a formula, or why it is refused.
 use Rattle.std.specs.Prelude.{ℕ, ◌<◌, ◌≤◌, List, length}
 use Rattle.ltl_spec.specs.Formulas.Formula.{Reading}
 use Rattle.ltl_spec.specs.Formulas.Grammar.{IsTextOf}

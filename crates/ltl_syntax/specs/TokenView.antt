@@ -1,4 +1,4 @@
--- Tokens of the code as those of the definitions.
+-- The tokens of the code as tokens of the definitions.
 use Rattle.std.specs.Prelude.{◌≡◌, ℕ, ◌≤◌, List, [], ◌∷◌, drop, length, slice_range, find, Option, Some, None, nat_eq}
 use Rattle.std.specs.List.{starts_with}
 use Rattle.ltl_spec.specs.Formulas.Tokens as spec

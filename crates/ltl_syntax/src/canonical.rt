@@ -1,4 +1,4 @@
-//! The canonical text of a formula: brackets around each binary operator.
+//! The printer of formulas: the canonical text, with brackets around each binary operator.
 
 ghost use Rattle.std.specs.Prelude.{◌≡◌, ◌+◌, ◌++◌, ◌<◌, All, IfOk, OnOk, length, map, string_bytes, sum_by};
 ghost use Rattle.ltl_spec.specs.Formulas.Canonical as spec;
@@ -9,7 +9,7 @@ use crate::operators::{BinaryOperator, Node, UnaryOperator};
 use smallvec::SmallVec;
 use std::alloc::{AllocError, Allocator};
 
-/// What is still to be written.
+/// A part of the text that is still to be written.
 #[derive(Clone, Copy, Default)]
 enum Task {
     Visit(usize),
@@ -18,7 +18,7 @@ enum Task {
     Close,
 }
 
-/// What is still to be written, the last first. Most formulas of the benchmark leave no more than 32 parts, which need no memory.
+/// The stack of what is still to be written. Up to 32 entries are stored without an allocation.
 type Tasks<'a, A> = SmallVec<Task, 32, &'a A>;
 
 fn constant_text(value: bool) -> &'static [u8]
@@ -51,7 +51,7 @@ fn binary_text(operator: BinaryOperator) -> &'static [u8]
     }
 }
 
-/// Writes what begins a node, and puts what is left of it on the stack.
+/// Writes the beginning of a node, and pushes what follows it.
 fn visit<A: Allocator>(
     nodes: &[Node],
     names: &[String<&A>],
@@ -88,7 +88,7 @@ fn visit<A: Allocator>(
     }
 }
 
-/// Writes what stands on top, and puts what is left of it on the stack.
+/// Writes an entry of the stack, or its beginning, and pushes what follows.
 fn step<A: Allocator>(
     nodes: &[Node],
     names: &[String<&A>],
@@ -113,7 +113,7 @@ fn step<A: Allocator>(
     }
 }
 
-/// The canonical text of the last node.
+/// The canonical text of the last node. The node tree is walked by an explicit stack.
 pub(crate) fn canonical<'a, A: Allocator>(
     alloc: &'a A,
     nodes: &[Node],
@@ -124,7 +124,7 @@ pub(crate) fn canonical<'a, A: Allocator>(
     ensures { IfOk result (λ text. text.items ≡ spec.formula_text (map string_bytes names.now) (whole_tree nodes.now)) }
 {
     let mut stack: Tasks<'a, A> = SmallVec::from_slice(alloc, &[Task::Visit(nodes.len() - 1)])?;
-    // Most texts have no more than eight bytes for each node.
+    // Most texts have at most eight bytes for each node.
     let mut text = Vec::with_capacity(alloc, nodes.len().saturating_mul(8))?;
     'work: while let Some(work) = stack.pop() {
         step(nodes, names, work, &mut text, &mut stack)?;

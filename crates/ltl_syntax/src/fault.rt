@@ -1,10 +1,10 @@
-//! Why a text is not read.
+//! The errors of reading a formula.
 
 use crate::limits::{PROPOSITION_LIMIT, TEXT_LIMIT};
 use std::alloc::AllocError;
 use thiserror::Error;
 
-/// Why no formula's text goes on so.
+/// What is wrong at a byte of a formula's text.
 #[derive(Clone, Copy, Debug, PartialEq, Eq, Error)]
 pub enum FaultKind {
     /// The byte begins no token.
@@ -14,21 +14,22 @@ pub enum FaultKind {
     ExpectedOperand,
     #[error("expected operator or end")]
     ExpectedOperatorOrEnd,
-    /// As before an operator or the end, but a bracket is open.
+    /// An operator or the end is expected, but a bracket is open, so that `)` may stand here too.
     #[error("expected ) or operator")]
     ExpectedCloseOrOperator,
 }
 
-/// Why a text is not read. Of several reasons the first of these is told.
+/// Why a text is not read. If several reasons apply, the first one in this order is answered. `OutOfMemory` may come in place of any.
 #[derive(Clone, Copy, Debug, PartialEq, Eq, Error)]
 pub enum ReadFault {
     /// The text has more than `TEXT_LIMIT` bytes.
     #[error("limit: formula longer than {limit} bytes", limit = TEXT_LIMIT)]
     TooLong,
-    /// No formula's text goes on as this one does at the byte of that number.
+    /// The token at this byte is wrong: the text before it begins some formula, and the text with it begins none. Bytes are counted from 0. If tokens
+    /// are missing at the end, the number is the length of the text.
     #[error("formula: byte {0}: {1}")]
     AtByte(usize, FaultKind),
-    /// The formula has more than `PROPOSITION_LIMIT` propositions.
+    /// The formula has more than `PROPOSITION_LIMIT` different propositions.
     #[error("limit: more than {limit} propositions", limit = PROPOSITION_LIMIT)]
     TooManyPropositions,
     #[error("out of memory")]

@@ -1,4 +1,4 @@
-//! A formula as it was read.
+//! Formulas as syntax trees.
 
 ghost use Rattle.std.specs.Prelude.{◌≡◌, ◌<◌, length, slice_index_or, slice_get, Some, [], map, string_bytes};
 ghost use Rattle.ltl_syntax.specs.FormulaView.{IsFormula, StandsAt, reading_of, whole_tree};
@@ -8,7 +8,8 @@ use crate::operators::Node;
 use std::alloc::Allocator;
 use std::marker::Model;
 
-/// A formula: its nodes, operands first, the whole formula last; the names of its propositions, by number; and its canonical text.
+/// A formula that was read: its nodes in postorder, so that operands come before their operators and the whole formula is last; the names of its
+/// propositions, numbered by first occurrence; and its canonical text.
 #[derive(Drop)]
 pub struct Formula<'a, A: Allocator> {
     nodes: Vec<Node, &'a A>,
@@ -32,7 +33,7 @@ impl<'a, A: Allocator> Model for Formula<'a, A> {
 }
 
 impl<'a, A: Allocator> Formula<'a, A> {
-    /// A formula of its parts.
+    /// The formula with these parts.
     pub(crate) fn from_parts(
         nodes: Vec<Node, &'a A>,
         names: Vec<String<&'a A>, &'a A>,
@@ -53,7 +54,7 @@ impl<'a, A: Allocator> Formula<'a, A> {
         self.text.as_slice()
     }
 
-    /// How many nodes there are, at least one.
+    /// The number of nodes, which is at least 1.
     pub fn len(&self) -> usize
         ensures count { result ≡ length self.now.nodes }
         ensures formula { IsFormula self.now.nodes self.now.names }
@@ -61,14 +62,14 @@ impl<'a, A: Allocator> Formula<'a, A> {
         self.nodes.len()
     }
 
-    /// Hands what the type promises to callers.
+    /// Gives a caller's proof the invariant of the type. It does nothing when it runs.
     pub fn invariant(&self)
         ensures { IsFormula self.now.nodes self.now.names }
     {
         let _ = &self.nodes;
     }
 
-    /// A node by its number.
+    /// The node with this number. The numbers of its operands are smaller.
     pub fn node(&self, i: usize) -> Node
         requires { i < length self.now.nodes }
         ensures found { slice_get self.now.nodes i ≡ Some result }
@@ -77,7 +78,7 @@ impl<'a, A: Allocator> Formula<'a, A> {
         self.nodes[i]
     }
 
-    /// How many propositions there are.
+    /// The number of different propositions.
     pub fn name_count(&self) -> usize
         ensures { result ≡ length self.now.names }
     {

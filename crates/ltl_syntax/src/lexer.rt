@@ -1,4 +1,4 @@
-//! The tokens of a formula's text, one after the other. The longest token is taken, and blanks are left out.
+//! The lexer of formulas. It takes the longest token at each place, and skips blanks.
 
 ghost use Rattle.std.specs.Prelude.{◌≡◌, ◌<◌, ◌≤◌, false, length, slice_index, take};
 ghost use Rattle.ltl_spec.specs.Formulas.Tokens as tokens;
@@ -11,7 +11,7 @@ use crate::word::{word_kind, word_length};
 use ltl_names::{is_blank, is_lower};
 use std::marker::Model;
 
-/// The tokens of a text that are still to come.
+/// An iterator over the tokens of a text.
 #[derive(Drop)]
 pub struct Tokens<'t> {
     text: &'t [u8],
@@ -29,7 +29,7 @@ impl<'t> Model for Tokens<'t> {
     ghost invariant = { λ t. t.at ≤ length t.text.now };
 }
 
-/// The tokens of a text. A byte that begins no token comes as an unknown one, and no token comes after it.
+/// The tokens of a text. A byte that begins no token comes as `Unknown`, and is the last token.
 pub fn lex(text: &[u8]) -> Tokens<'_>
     ensures text { result.text ≡ text.now }
     ensures rest { result.rest ≡ tokens.items text.now }
@@ -37,7 +37,7 @@ pub fn lex(text: &[u8]) -> Tokens<'_>
     Tokens { text, at: 0 }
 }
 
-/// The place of the first byte from `at` on that is no blank.
+/// The offset of the first byte at or behind `at` that is no blank, or the length of the text.
 fn after_blanks(text: &[u8], mut at: usize) -> usize
     requires { at ≤ length text.now }
     ensures within { result ≤ length text.now }
@@ -50,7 +50,7 @@ fn after_blanks(text: &[u8], mut at: usize) -> usize
     at
 }
 
-/// The token that the text begins with, and its length.
+/// The token at the beginning of the text, and its length in bytes.
 fn first_token(text: &[u8]) -> (TokenKind, usize)
     requires { 0 < length text.now }
     ensures within { result.1 ≤ length text.now }

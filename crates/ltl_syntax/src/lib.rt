@@ -1,10 +1,10 @@
-//! Formulas of linear temporal logic as text: their tokens, their reading, and their canonical text.
+//! The syntax of LTL formulas: a lexer, a parser and a printer.
 //!
-//! In the field's words: a lexer, a parser with one explicit stack, and a printer with all brackets. Nothing here recurses, so nested formulas are as
-//! good as flat ones.
+//! In the field's words: the parser is an operator-precedence parser with one explicit stack, and the printer writes every bracket. Nothing recurses,
+//! so deeply nested formulas cost no more than flat ones.
 //!
-//! What flows: bytes, `lex`ed to tokens; `read` to a `Formula`, whose nodes stand behind their operands, with the names of its propositions by
-//! number. `text_to` goes the way back from a formula to its text.
+//! What flows: `lex` turns bytes into tokens. `read` makes a `Formula` of them: nodes that come behind their operands, and the names of the
+//! propositions by number. `text_to` writes the text of a formula.
 //!
 //! ```
 //! let formula = read(&alloc, b"[](p -> <> q)")?;

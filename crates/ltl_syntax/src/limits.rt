@@ -1,9 +1,9 @@
-//! Limits of formulas.
+//! The limits on formulas.
 
 use ltl_names as names;
 
-/// How many bytes the text of a formula may have.
+/// The largest number of bytes in the text of a formula.
 pub const TEXT_LIMIT: usize = 65_536;
 
-/// How many propositions a formula may have.
+/// The largest number of different propositions in a formula.
 pub const PROPOSITION_LIMIT: usize = names::PROPOSITION_LIMIT;

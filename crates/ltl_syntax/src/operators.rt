@@ -1,6 +1,6 @@
-//! Operators, and the nodes of a formula.
+//! The operators of LTL, and the nodes of a formula.
 
-/// An operator before its operand.
+/// A prefix operator.
 #[derive(Clone, Copy, Debug, PartialEq, Eq)]
 pub enum UnaryOperator {
     Not,
@@ -9,7 +9,7 @@ pub enum UnaryOperator {
     Eventually,
 }
 
-/// An operator between its operands.
+/// An infix operator.
 #[derive(Clone, Copy, Debug, PartialEq, Eq)]
 pub enum BinaryOperator {
     And,
@@ -20,7 +20,8 @@ pub enum BinaryOperator {
     Release,
 }
 
-/// A node of a formula. Operands are given by their numbers, which are below the node's own.
+/// A node of a formula: a constant, a proposition by its number, or an operator. An operator has the numbers of its operands, which are smaller than
+/// the node's own.
 #[derive(Clone, Copy, Debug, PartialEq, Eq)]
 pub enum Node {
     Constant(bool),

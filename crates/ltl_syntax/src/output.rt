@@ -1,4 +1,4 @@
-//! Writing a formula.
+//! Output of a formula's canonical text.
 
 ghost use Rattle.std.specs.Prelude.{OnOk, OnErr};
 ghost use Rattle.std.specs.Io.KnownBytes.{Appends};
@@ -11,7 +11,7 @@ use ltl_streams::{ByteSink, WriteFault, WriterSink, write_whole};
 use std::alloc::Allocator;
 use std::io::Write;
 
-/// Writes the canonical text of a formula. No memory is taken.
+/// Writes the canonical text of a formula to a sink, without an end of line and without a flush. It allocates nothing.
 pub fn put_text<A: Allocator, S: ByteSink>(
     formula: &Formula<'_, A>,
     sink: &mut S,
@@ -22,7 +22,7 @@ pub fn put_text<A: Allocator, S: ByteSink>(
     write_whole(sink, formula.text())
 }
 
-/// The same to a standard writer, which isn't flushed.
+/// The same as `put_text` to a standard writer, which isn't flushed.
 pub fn text_to<A: Allocator, W: Write>(
     formula: &Formula<'_, A>,
     w: &mut W,

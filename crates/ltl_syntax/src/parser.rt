@@ -1,4 +1,4 @@
-//! A parser with one explicit stack, which goes over the tokens once.
+//! An operator-precedence parser with one explicit stack, in one pass over the tokens.
 
 ghost use Rattle.std.specs.Prelude.{◌≡◌, ℕ, ◌<◌, ◌≤◌, [], ◌∷◌, ◌++◌, true, false, length, map, slice_range, if◌then◌else◌, List, IfOk, OnOk, MatchResult};
 ghost use Rattle.std.specs.List.{list_any};
@@ -23,10 +23,10 @@ use std::alloc::{AllocError, Allocator};
 use std::hash::{BuildHasherDefault, FoldHasher};
 use std::marker::Model;
 
-/// Names by number, each where it first stood.
+/// Names, numbered by first occurrence.
 pub(crate) type NameSet<'t, 'a, A> = IndexSet<&'t [u8], BuildHasherDefault<FoldHasher>, &'a A>;
 
-/// What is open: a bracket, an operator that waits for its operand, or a left operand with its operator.
+/// An entry of the stack: an open bracket, a prefix operator that waits for its operand, or a left operand with its infix operator.
 #[derive(Clone, Copy, Default)]
 pub(crate) enum Frame {
     #[default]
@@ -35,13 +35,13 @@ pub(crate) enum Frame {
     Pending(usize, BinaryOperator),
 }
 
-/// What is open. Up to 32 frames need no memory.
+/// The stack. Up to 32 frames are stored without an allocation.
 type Frames<'a, A> = SmallVec<Frame, 32, &'a A>;
 
-/// The rank that closes all operators.
+/// The greatest rank, which closes every operator.
 const LOOSEST: u8 = 5;
 
-/// The rank of an operator. What binds tighter has a lower one.
+/// The rank of an operator. An operator that binds more tightly has a lower rank.
 fn rank(operator: BinaryOperator) -> u8
     ensures { result ≡ rank_of (binary_of operator) }
 {
@@ -54,7 +54,7 @@ fn rank(operator: BinaryOperator) -> u8
     }
 }
 
-/// The highest rank in a left operand. Implications group to the right, all other operators to the left.
+/// The greatest rank that the left operand may have without brackets. Implication is right-associative, the other operators are left-associative.
 fn left_rank(operator: BinaryOperator) -> u8
     ensures { result ≡ machine.left_rank (binary_of operator) }
 {
@@ -76,7 +76,7 @@ fn has_bracket(frames: &[Frame]) -> bool
     frames.iter().copied().any(is_bracket)
 }
 
-/// The node of a frame that closes at this rank over its operand.
+/// The node that the frame makes of its right operand, if the frame is a prefix operator or an infix one of at most this rank.
 fn closed(frame: Frame, operand: usize, most: u8) -> Option<Node>
     ensures { result ≡ closed_node frame operand most }
 {
@@ -89,7 +89,7 @@ fn closed(frame: Frame, operand: usize, most: u8) -> Option<Node>
     }
 }
 
-/// Closes what binds the operand, which is the last node, at least as tightly as the rank.
+/// Reduces the stack: each operator of at most this rank takes the last node as its operand, and becomes the last node.
 fn close<A: Allocator>(
     nodes: &mut Vec<Node, &A>,
     frames: &mut Frames<'_, A>,
@@ -115,7 +115,7 @@ fn close<A: Allocator>(
     Ok(())
 }
 
-/// What was read so far. A complete operand is the last node.
+/// The state of the parser. If `has_operand` is set, a complete operand was read, and is the last node.
 #[derive(Drop)]
 pub(crate) struct Parser<'a, 't, A: Allocator> {
     nodes: Vec<Node, &'a A>,
@@ -152,7 +152,7 @@ impl<'a, 't, A: Allocator> Parser<'a, 't, A> {
         }
     }
 
-    /// Takes one token more.
+    /// Takes the next token.
     pub(crate) fn take(&mut self, text: &'t [u8], token: Token) -> Result<(), ReadFault>
         requires order { token.start ≤ token.end }
         requires within { token.end ≤ length text.now }
@@ -207,7 +207,7 @@ impl<'a, 't, A: Allocator> Parser<'a, 't, A> {
         Ok(())
     }
 
-    /// The number of a name: its own where it has one, else the next.
+    /// The number of a name. A new name gets the next number.
     fn number(&mut self, name: &'t [u8]) -> Result<usize, AllocError>
         ensures number { IfOk result (λ i. i ≡ place_of tokens.same_name name.now self.new.names) }
         ensures within { IfOk result (λ i. i < length self.new.names) }
@@ -238,7 +238,7 @@ impl<'a, 't, A: Allocator> Parser<'a, 't, A> {
         Ok(())
     }
 
-    /// Puts an operator behind its left operand.
+    /// Takes an infix operator: reduces its left operand, and pushes both.
     fn push_pending(&mut self, operator: BinaryOperator) -> Result<(), AllocError>
         requires { self.old.has_operand ≡ true }
         ensures names { OnOk result (self.new.names ≡ self.old.names) }
@@ -252,7 +252,7 @@ impl<'a, 't, A: Allocator> Parser<'a, 't, A> {
         Ok(())
     }
 
-    /// Closes a bracket. Without an open one the answer is false.
+    /// Takes a closing bracket. The answer is `false` if no bracket is open.
     fn close_bracket(&mut self) -> Result<bool, AllocError>
         requires { self.old.has_operand ≡ true }
         ensures names { OnOk result (self.new.names ≡ self.old.names) }
@@ -263,7 +263,7 @@ impl<'a, 't, A: Allocator> Parser<'a, 't, A> {
         Ok(self.frames.pop().is_some_and(is_bracket))
     }
 
-    /// What is expected, where no byte is at fault.
+    /// The fault at a token that may not stand here.
     fn expected(&self) -> FaultKind
         ensures { kind_of result ≡ kind_before (outline (reader_of self.now)) }
     {
@@ -276,7 +276,7 @@ impl<'a, 't, A: Allocator> Parser<'a, 't, A> {
         }
     }
 
-    /// Closes all that is open at the end of the text, which is that place.
+    /// Ends the text, which has length `end`, and reduces the whole stack.
     pub(crate) fn finish(&mut self, end: usize) -> Result<(), ReadFault>
         ensures { FinishesAt self.old end result self.new }
     {

@@ -1,4 +1,4 @@
-//! Reading a formula from its text.
+//! The reader of formulas.
 
 ghost use Rattle.std.specs.Prelude.{◌≡◌, ◌<◌, ◌≤◌, [], true, length, map, string_bytes, IfOk, MatchResult};
 ghost use Rattle.std.specs.List.{AllByRecursion};
@@ -17,7 +17,7 @@ use crate::operators::Node;
 use crate::parser::{NameSet, Parser};
 use std::alloc::{AllocError, Allocator};
 
-/// Reads a formula. The text is gone over once, with no recursion.
+/// Reads a formula, in one pass and without recursion.
 pub fn read<'a, A: Allocator>(alloc: &'a A, text: &[u8]) -> Result<Formula<'a, A>, ReadFault>
     ensures { MatchResult result (IsReadAs text.now) (IsRefusedFor text.now) }
 {
@@ -34,7 +34,7 @@ pub fn read<'a, A: Allocator>(alloc: &'a A, text: &[u8]) -> Result<Formula<'a, A
     formula_from(alloc, nodes, &names)
 }
 
-/// The formula of these nodes and names.
+/// The formula with these nodes and names, if the names aren't too many.
 fn formula_from<'a, A: Allocator>(
     alloc: &'a A,
     nodes: Vec<Node, &'a A>,
@@ -56,7 +56,7 @@ fn formula_from<'a, A: Allocator>(
     Ok(Formula::from_parts(nodes, names, text))
 }
 
-/// The names, each on its own memory.
+/// Copies of the names.
 fn owned_names<'a, A: Allocator>(
     alloc: &'a A,
     names: &NameSet<'_, 'a, A>,

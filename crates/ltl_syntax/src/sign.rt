@@ -1,4 +1,4 @@
-//! Signs: the tokens that are no words.
+//! Signs: the tokens that consist of punctuation or of a capital letter.
 
 ghost use Rattle.std.specs.Prelude.{◌≡◌, ℕ, List};
 ghost use Rattle.ltl_syntax.specs.TokenView.{token_of, sign_of};
@@ -6,7 +6,7 @@ ghost use Rattle.ltl_syntax.specs.TokenView.{token_of, sign_of};
 use crate::operators::{BinaryOperator, UnaryOperator};
 use crate::token::TokenKind;
 
-/// The sign that these bytes begin, and its length. No sign is longer than three bytes.
+/// The longest sign at the beginning of these bytes, and its length in bytes. No sign is longer than three bytes.
 pub(crate) fn sign_from(first: u8, second: u8, third: u8) -> (TokenKind, usize)
     ensures token { (word : List ℕ) → token_of word result.0 ≡ (sign_of first second third).0 }
     ensures length { result.1 ≡ (sign_of first second third).1 }
@@ -32,7 +32,7 @@ pub(crate) fn sign_from(first: u8, second: u8, third: u8) -> (TokenKind, usize)
     }
 }
 
-/// The sign that begins with `<` and these bytes.
+/// The longest sign that begins with `<` and goes on with these bytes.
 fn angle_from(second: u8, third: u8) -> (TokenKind, usize)
     ensures token { (word : List ℕ) → token_of word result.0 ≡ (sign_of 60 second third).0 }
     ensures length { result.1 ≡ (sign_of 60 second third).1 }

@@ -1,12 +1,12 @@
-//! Tokens of a formula's text.
+//! The tokens of a formula's text.
 
 use crate::operators::{BinaryOperator, UnaryOperator};
 
-/// What a token is.
+/// The kind of a token.
 #[derive(Clone, Copy, Debug, PartialEq, Eq)]
 pub enum TokenKind {
     Constant(bool),
-    /// A proposition, whose name is the token's text.
+    /// The name of a proposition, which is the text of the token.
     Name,
     Unary(UnaryOperator),
     Binary(BinaryOperator),
@@ -16,7 +16,7 @@ pub enum TokenKind {
     Unknown,
 }
 
-/// A token, and the places in the text where it begins and ends.
+/// A token, and its place in the text: `start` is the offset of its first byte, `end` that of the byte behind it.
 #[derive(Clone, Copy, Debug, PartialEq, Eq)]
 pub struct Token {
     pub kind: TokenKind,

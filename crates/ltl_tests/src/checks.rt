@@ -1,4 +1,4 @@
-//! Checks: how much is looked at.
+//! Tests of the number of looks in a check.
 
 ghost use Rattle.std.specs.Prelude.{length, IfOk};
 ghost use Rattle.ltl_spec.specs.Checking.Bounds.{HasNamesBelow};
@@ -11,7 +11,7 @@ use ltl_hoa::hoa_read;
 use ltl_syntax::{Formula, read};
 use std::alloc::Global;
 
-/// Its only word has `p` in each second letter, from the first on.
+/// An automaton whose only word has `p` at each second position, from the first on.
 const ALTERNATING: &str =
     "HOA: v1\nStates: 2\nStart: 0\nAP: 1 \"p\"\nAcceptance: 1 Inf(0)\n--BODY--\nState: 0 {0}\n[0] 1\nState: 1\n[!0] 0\n--END--\n";
 
@@ -32,7 +32,7 @@ fn violations<'a>(
     Ok((formula, automaton))
 }
 
-/// Two states, one acceptance set and so three levels, on which each pair of edges is looked at twice at most.
+/// There are two states and one acceptance set, and so three levels. Each pair of edges is looked at twice at most on each of them.
 #[test]
 fn looks_within_the_bound(rt: HostRuntime) {
     let alloc = rt.alloc();

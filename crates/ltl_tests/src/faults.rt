@@ -1,4 +1,4 @@
-//! The messages of faults.
+//! Tests of the messages of errors.
 
 use ltl_alt::AltFault;
 use ltl_buchi::BaFault;
@@ -12,7 +12,7 @@ use ltl_words::PlanFault;
 use std::error::Error;
 use std::fmt::InlineText;
 
-/// What an error says of itself.
+/// The message of an error.
 fn said<E: Error>(error: E) -> InlineText<64> {
     InlineText::of(error)
 }

@@ -1,4 +1,4 @@
-//! What the mains share, over a runtime that isn't the system's.
+//! Tests of `ltl_host` over a runtime that isn't the system's.
 
 ghost use Rattle.std.specs.Prelude.{◌≤◌};
 
@@ -19,7 +19,7 @@ use std::{env, io};
 const LOOP: &[u8] =
     b"HOA: v1\nStates: 1\nStart: 0\nAP: 1 \"p\"\nAcceptance: 1 Inf(0)\n--BODY--\nState: 0 {0}\n[!0] 0\n--END--\n";
 
-/// A runtime with these words, where each name but `absent` is that of a file that holds it.
+/// A runtime with these words. Each name but `absent` is that of a file whose content is its name.
 #[derive(Clone, Copy)]
 struct Desk<'a> {
     words: &'a [&'a [u8]],
@@ -51,7 +51,7 @@ fn unsupported() -> io::Error {
     io::Error::from(io::ErrorKind::Unsupported)
 }
 
-/// A file that holds its name.
+/// A file whose content is its name.
 #[derive(Drop)]
 struct Named {
     name: [u8; 16],
@@ -157,7 +157,7 @@ impl<'a> Files for Desk<'a> {
     }
 }
 
-/// What the source is: the name of the file that was opened, or what there is in its place.
+/// The name of the file that was opened, or what the source is instead.
 fn shown<R: ByteSource + Drop>(source: Source<R>, name: &mut [u8; 16]) -> &[u8] {
     match source {
         Source::Text => b"(text)",
@@ -172,7 +172,7 @@ fn shown<R: ByteSource + Drop>(source: Source<R>, name: &mut [u8; 16]) -> &[u8] 
     }
 }
 
-/// The words as they are, in their order, the empty one too; or why there are none.
+/// The words come unchanged and in their order, the empty one too, or the error says why there are none.
 #[test]
 fn words_of_the_system(rt: HostRuntime) -> Result<(), Fail> {
     let given: [&[u8]; 4] = [b"ltl2ba", b"", b"-f", b"[]<>p"];
@@ -193,7 +193,7 @@ fn words_that_are_no_text(rt: HostRuntime) {
     assert_eq!(rt; words.err(), Some(PlanFault::Usage));
 }
 
-/// Whichever growth is refused, there are no words or no texts for want of memory.
+/// Whichever allocation is refused, the answer is that memory was refused.
 #[test]
 fn each_growth_refused(rt: HostRuntime) {
     let given: [&[u8]; 5] = [b"ltlcheck", b"-f", b"[]<>p", b"-a", b"m.hoa"];
@@ -233,7 +233,7 @@ fn files_by_name(rt: HostRuntime) {
     );
 }
 
-/// Whole programs, over the words and the files of a runtime: a file holds its name.
+/// Runs whole programs over the words and the files of a runtime. The content of a file is its name.
 #[test]
 fn programs_of_a_runtime(rt: HostRuntime) -> Result<(), Fail> {
     let rows: [(Tool, &[&[u8]], &[u8], &[u8], u8); 5] = [

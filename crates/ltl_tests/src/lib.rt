@@ -1,11 +1,12 @@
-//! Tests of what stands on all libraries, over their public calls alone: worked runs of the three programs over memory, from a table; looks of a search;
-//! messages of faults; and what the mains share.
+//! Tests of the upper libraries by their public calls: runs of the three programs over memory, from a table; the number of looks of a search;
+//! messages of errors; and `ltl_host`.
 //!
-//! A clause that pins a result leaves a test nothing to show, so tests are few. Wanted values come from the definitions, by hand or by a reference in
-//! another language. They stand in crates by what they call, so that none waits for more: sets, least ones and the allocator that refuses in
-//! `sets_tests`; automata that are read, words and streams in `reader_tests`; lists of edges, pairs of rows and generalized automata in
-//! `automata_tests`. Each growth of memory that fails in turn is tested in `growth_tests`, in calls, and in `program_tests`, in programs, where each read
-//! and write fails too; whole programs as they are built by `tests/run.py`. No library has tests of its own, for it would be proved once more with them.
+//! A contract that fixes a result leaves nothing to test, so there are few tests. The wanted values come from the definitions: by hand, or by a
+//! reference implementation in another language. Tests are crates of their own, divided by what they call, so that none waits for the proof of more.
+//! `sets_tests` has sets, minimal elements and the allocator that refuses. `reader_tests` has the reading of automata, words, streams and timelines.
+//! `automata_tests` has edge lists, pairs of rows and generalized automata, and `draw_tests` has pictures. `growth_tests` refuses each allocation of
+//! the calls in turn, and `program_tests` each allocation, read and write of the programs. `tests/run.py` runs the programs as they are built. No
+//! library has tests of its own, since it would have to be proved once more with them.
 //!
 //! `rt try --test` in this folder runs them without a proof, `rt test` with one.
 #![tactic(auto)]

@@ -1,4 +1,4 @@
-//! Texts that are given by their parts.
+//! Texts that are described by their parts.
 
 use std::alloc::{AllocError, Global};
 use std::fmt::InlineText;
@@ -6,23 +6,23 @@ use std::fmt::InlineText;
 /// A part of a text.
 #[derive(Clone, Copy)]
 pub(crate) enum Part {
-    /// The text as it stands.
+    /// This text.
     Text(&'static str),
-    /// The text so many times.
+    /// This text, repeated.
     Times(&'static str, usize),
-    /// The text once for each number from the first to the last, which stands for `#` in it.
+    /// This text for each number from the first to the last, which replaces `#` in it.
     Each(&'static str, usize, usize),
-    /// So many states of an automaton, each with one edge to the next, and the last with one to itself.
+    /// This many states of an automaton. Each has one edge to the next one, and the last has one to itself.
     Chain(usize),
 }
 
-/// Puts a number behind a text.
+/// Appends a number.
 fn put_number(text: &mut String, number: usize) -> Result<(), AllocError> {
     let digits: InlineText<20> = InlineText::of(number);
     text.push_str(digits.as_str())
 }
 
-/// Puts a text behind another, with the number in place of each `#`.
+/// Appends a text, with the number in place of each `#`.
 fn put_numbered(text: &mut String, form: &str, number: usize) -> Result<(), AllocError> {
     for letter in form.chars() {
         if letter == '#' {
@@ -34,7 +34,7 @@ fn put_numbered(text: &mut String, form: &str, number: usize) -> Result<(), Allo
     Ok(())
 }
 
-/// Puts the states of a chain behind a text.
+/// Appends the states of a chain.
 fn put_chain(text: &mut String, count: usize) -> Result<(), AllocError> {
     for state in 0..count {
         put_numbered(text, "State: #\n", state)?;
@@ -44,7 +44,7 @@ fn put_chain(text: &mut String, count: usize) -> Result<(), AllocError> {
     Ok(())
 }
 
-/// Puts a part behind a text.
+/// Appends a part.
 fn put(text: &mut String, part: Part) -> Result<(), AllocError> {
     match part {
         Part::Text(more) => text.push_str(more),
@@ -64,7 +64,7 @@ fn put(text: &mut String, part: Part) -> Result<(), AllocError> {
     }
 }
 
-/// The text of these parts.
+/// The text with these parts.
 pub(crate) fn text_of(alloc: Global, parts: &[Part]) -> Result<String, AllocError> {
     let mut text = String::new(alloc);
     for part in parts {

@@ -1,9 +1,9 @@
-//! Worked runs of the programs: the words, the files and the input of each, and what it has to give.
+//! The table of runs of the programs: the words, the files and the input of each, and the wanted output, message and status.
 
 use crate::parts::Part;
 use ltl_words::Tool;
 
-/// A file that a run finds, or a folder, which has no text: it opens and can't be read.
+/// A file that a run finds. Without a text it is a folder, which can be opened but not read.
 #[derive(Clone, Copy)]
 pub(crate) struct File {
     pub(crate) name: &'static str,
@@ -17,7 +17,7 @@ pub(crate) struct Row {
     pub(crate) tool: Tool,
     /// The words behind the program's name.
     pub(crate) words: &'static [&'static str],
-    /// One word more behind them, where it is long.
+    /// One more word, if it is long.
     pub(crate) last: &'static [Part],
     pub(crate) file: Option<File>,
     pub(crate) input: &'static [Part],
@@ -26,7 +26,7 @@ pub(crate) struct Row {
     pub(crate) status: u8,
 }
 
-/// Its only word never has `p`.
+/// An automaton whose only word never has `p`.
 pub(crate) const LOOP: &str = "HOA: v1\n\
     States: 1\n\
     Start: 0\n\
@@ -37,7 +37,7 @@ pub(crate) const LOOP: &str = "HOA: v1\n\
     [!0] 0\n\
     --END--\n";
 
-/// Its only word has `p` in each second letter, from the first on.
+/// An automaton whose only word has `p` at each second position, from the first on.
 const TURNS: &str = "HOA: v1\n\
     States: 2\n\
     Start: 0\n\
@@ -336,7 +336,7 @@ pub(crate) static CLAIMS: [Row; 13] = [
     },
 ];
 
-/// What rewriting, merging and the options that leave them out make of a formula.
+/// Formulas with rewriting and quotients, and with the options that leave them out.
 pub(crate) static SIMPLIFICATIONS: [Row; 13] = [
     Row {
         about: "rewriting: eventually twice",
@@ -661,7 +661,7 @@ pub(crate) static SIMPLIFICATIONS: [Row; 13] = [
     },
 ];
 
-/// The other layouts, and the other spellings.
+/// The other formats of an automaton, and other spellings of operators.
 pub(crate) static LAYOUTS: [Row; 7] = [
     Row {
         about: "an eventuality in the other format",
@@ -848,7 +848,7 @@ pub(crate) static LAYOUTS: [Row; 7] = [
     },
 ];
 
-/// Formulas that are none.
+/// Texts that are no formulas.
 pub(crate) static REFUSED_FORMULAS: [Row; 11] = [
     Row {
         about: "an empty file",
@@ -976,7 +976,7 @@ pub(crate) static REFUSED_FORMULAS: [Row; 11] = [
     },
 ];
 
-/// What is refused before an automaton is made or read: words that mean nothing, files that are not there.
+/// Runs that are refused before an automaton is made or read: wrong command lines, and files that don't exist.
 pub(crate) static REFUSED_COMMANDS: [Row; 6] = [
     Row {
         about: "no words",
@@ -1049,7 +1049,7 @@ pub(crate) static REFUSED_COMMANDS: [Row; 6] = [
     },
 ];
 
-/// Formulas at the limits, and past them.
+/// Formulas at the limits and above them.
 pub(crate) static FORMULA_LIMITS: [Row; 14] = [
     Row {
         about: "formula bytes: the longest text",
@@ -1542,7 +1542,7 @@ pub(crate) static VERDICTS: [Row; 10] = [
     },
 ];
 
-/// Automata whose header is at fault.
+/// Automata with a fault in the header.
 pub(crate) static REFUSED_HEADERS: [Row; 9] = [
     Row {
         about: "an empty automaton",
@@ -1724,7 +1724,7 @@ pub(crate) static REFUSED_HEADERS: [Row; 9] = [
     },
 ];
 
-/// Automata whose body is at fault.
+/// Automata with a fault in the body.
 pub(crate) static REFUSED_BODIES: [Row; 8] = [
     Row {
         about: "an automaton that ends too early",
@@ -1896,7 +1896,7 @@ pub(crate) static REFUSED_BODIES: [Row; 8] = [
     },
 ];
 
-/// Automata at the limits, and past them.
+/// Automata at the limits and above them.
 pub(crate) static AUTOMATON_LIMITS: [Row; 7] = [
     Row {
         about: "a number of states past any limit",
@@ -2068,7 +2068,7 @@ pub(crate) static AUTOMATON_LIMITS: [Row; 7] = [
     },
 ];
 
-/// Automata with many comments or brackets within each other.
+/// Automata with deeply nested comments or brackets.
 pub(crate) static NESTED_TEXTS: [Row; 2] = [
     Row {
         about: "nothing recurses: 100,000 nested comments",
@@ -2113,7 +2113,7 @@ pub(crate) static NESTED_TEXTS: [Row; 2] = [
     },
 ];
 
-/// Texts of as many bytes as may be read, and of one more.
+/// Texts with as many bytes as may be read, and with one more.
 pub(crate) static LONG_TEXTS: [Row; 2] = [
     Row {
         about: "automaton bytes: at the limit, all of them blanks",
@@ -2139,7 +2139,7 @@ pub(crate) static LONG_TEXTS: [Row; 2] = [
     },
 ];
 
-/// Automata of many states.
+/// Automata with many states.
 pub(crate) static MANY_STATES: [Row; 3] = [
     Row {
         about: "nothing recurses: 65,536 states in a row",
@@ -2272,7 +2272,7 @@ pub(crate) static TRUTHS: [Row; 7] = [
     },
 ];
 
-/// Words that are none.
+/// Texts that are no words.
 pub(crate) static REFUSED_LASSOS: [Row; 6] = [
     Row {
         about: "a word that ends too early",

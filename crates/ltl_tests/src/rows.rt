@@ -1,4 +1,4 @@
-//! The worked runs, each made over memory by the call that a `main` makes: its output, its message and its status are compared byte by byte.
+//! The runs of the table, each made over memory by the call that a `main` makes. Output, message and status are compared byte by byte.
 
 ghost use Rattle.std.specs.Prelude.{⊤};
 
@@ -16,7 +16,7 @@ use std::io;
 use std::io::Read;
 use std::test::Fail;
 
-/// A text that is read, or a folder, which can't be.
+/// A reader of a text, or of a folder, which fails.
 #[derive(Clone, Copy, Drop)]
 struct Held<'t> {
     rest: Option<&'t [u8]>,
@@ -34,7 +34,7 @@ impl Read for Held<'_> {
     }
 }
 
-/// What a run finds: one file at most, and the standard input.
+/// The files of a run: at most one, and the standard input.
 #[derive(Clone, Copy)]
 struct Desk<'t> {
     name: Option<&'t str>,
@@ -64,7 +64,7 @@ impl<'t> Files for Desk<'t> {
     }
 }
 
-/// The name under which a program is started.
+/// The name of a program.
 fn name_of(tool: Tool) -> &'static str {
     match tool {
         Tool::Translator => "ltl2ba",
@@ -73,7 +73,7 @@ fn name_of(tool: Tool) -> &'static str {
     }
 }
 
-/// The words of a row, the program's name first.
+/// The words of a row, with the program's name as the first one.
 fn words_of<'a>(alloc: Global, row: &Row, last: &'a str) -> Result<Vec<&'a str>, AllocError> {
     let mut words = Vec::new(alloc);
     words.push(name_of(row.tool))?;
@@ -86,7 +86,7 @@ fn words_of<'a>(alloc: Global, row: &Row, last: &'a str) -> Result<Vec<&'a str>,
     Ok(words)
 }
 
-/// The text of the row's file; empty where there is none.
+/// The text of the row's file, which is empty if there is none.
 fn file_text(alloc: Global, file: Option<File>) -> Result<String, AllocError> {
     match file {
         Some(
@@ -99,7 +99,7 @@ fn file_text(alloc: Global, file: Option<File>) -> Result<String, AllocError> {
     }
 }
 
-/// The text as what is read; a folder where it is none.
+/// A reader of the text, or of a folder if the file has no text.
 fn reader_of<'t>(file: Option<File>, text: &'t str) -> Held<'t> {
     match file {
         Some(File { text: None, .. }) => Held { rest: None },
@@ -109,7 +109,7 @@ fn reader_of<'t>(file: Option<File>, text: &'t str) -> Held<'t> {
     }
 }
 
-/// What is told of a run: its output, its message and its status.
+/// The output, the message and the status of a run.
 #[derive(Drop)]
 struct Told {
     output: Vec<u8>,
@@ -117,7 +117,7 @@ struct Told {
     status: u8,
 }
 
-/// What is told of a program with these words, at this desk.
+/// The run of a program with these words and files.
 fn ran(alloc: Global, tool: Tool, words: &[&str], desk: &Desk<'_>) -> Told {
     let mut output = Vec::new(alloc);
     let mut message = Vec::new(alloc);
@@ -131,7 +131,7 @@ fn ran(alloc: Global, tool: Tool, words: &[&str], desk: &Desk<'_>) -> Told {
     }
 }
 
-/// What is told of a row.
+/// The run of a row.
 fn ran_row(alloc: Global, row: &Row) -> Result<Told, AllocError> {
     let last = text_of(alloc, row.last)?;
     let input = text_of(alloc, row.input)?;
@@ -147,7 +147,7 @@ fn ran_row(alloc: Global, row: &Row) -> Result<Told, AllocError> {
     Ok(ran(alloc, row.tool, words.as_slice(), &desk))
 }
 
-/// What the first of these rows is about that gives something else than it has to.
+/// The title of the first row whose run differs from what is wanted.
 fn first_wrong(alloc: Global, rows: &[Row]) -> Result<Option<&'static str>, AllocError> {
     for row in rows {
         let told = ran_row(alloc, row)?;
@@ -252,7 +252,7 @@ fn refused_lassos(rt: HostRuntime) -> Result<(), Fail> {
     Ok(())
 }
 
-/// What is told of these words, where the standard input is `LOOP`.
+/// The run with these words, whose standard input is `LOOP`.
 fn ran_on_loop(alloc: Global, tool: Tool, words: &[&str]) -> Told {
     let input = Held {
         rest: Some(LOOP.as_bytes()),
@@ -265,7 +265,8 @@ fn ran_on_loop(alloc: Global, tool: Tool, words: &[&str]) -> Told {
     ran(alloc, tool, words, &desk)
 }
 
-/// A proposition that the automaton doesn't list is free, so more than one word is a right answer: one in which `q` holds somewhere and `p` nowhere.
+/// A proposition that the automaton doesn't list is free, so there is more than one right answer: any word in which `q` holds somewhere and `p`
+/// nowhere.
 #[test]
 fn a_word_with_a_free_proposition(rt: HostRuntime) -> Result<(), Fail> {
     let alloc = rt.alloc();
@@ -288,7 +289,7 @@ fn a_word_with_a_free_proposition(rt: HostRuntime) -> Result<(), Fail> {
     Ok(())
 }
 
-/// The word in what was told of a violation.
+/// The word in the output of a violation.
 fn word_in(told: &Told) -> Option<&str> {
     let rest = told.output.as_slice().strip_prefix(b"violated\n")?;
     str::from_utf8(rest.strip_suffix(b"\n")?).ok()

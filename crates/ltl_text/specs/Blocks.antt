@@ -1,4 +1,4 @@
--- The blocks of a never claim.
+-- The text of a never claim, by states.
 use Rattle.std.specs.Prelude.{ℕ, not, ◌==◌, List, ◌++◌}
 use Rattle.std.specs.List.{filter, flat_map}
 use Rattle.ltl_spec.specs.Semantics.Word.{Name}

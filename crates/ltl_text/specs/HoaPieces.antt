@@ -1,4 +1,4 @@
--- Parts of a text in the Hanoi Omega-Automata format.
+-- The parts of a text in the Hanoi Omega-Automata format.
 use Rattle.std.specs.Prelude.{ℕ, Bool, if◌then◌else◌, List, [], ◌∷◌, ◌++◌, length, codes}
 use Rattle.std.specs.Fmt.{decimal}
 use Rattle.std.specs.List.{flat_map, range_with_len}

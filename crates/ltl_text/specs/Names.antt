@@ -1,4 +1,4 @@
--- Propositions that have a name.
+-- Automata and cubes whose propositions have names.
 use Rattle.std.specs.Prelude.{ℕ, ◌<◌, List, length, slice_index_or}
 use Rattle.ltl_spec.specs.Collections.Sets.{Has}
 use Rattle.ltl_spec.specs.Transitions.Cubes.{Literal, Cube}

@@ -1,4 +1,4 @@
--- The options of a state from the places of its edges.
+-- The options of a state in a never claim, made from the positions of its edges.
 use Rattle.std.specs.Prelude.{ℕ, Bool, true, false, List, [], ◌∷◌, ◌++◌, map, codes, slice_index_or}
 use Rattle.std.specs.List.{flat_map}
 use Rattle.std.specs.Ordering.{nat_cmp}

@@ -1,4 +1,4 @@
--- What is read of the text of an automaton.
+-- What the printed text of an automaton is read as.
 use Rattle.std.specs.Prelude.{ℕ, ◌<◌, ◌≤◌, ◌↔◌, List, length, Result}
 use Rattle.ltl_spec.specs.Semantics.Word.{Name, Lasso}
 use Rattle.ltl_spec.specs.Semantics.Satisfaction.{Satisfies}

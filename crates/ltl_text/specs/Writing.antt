@@ -1,4 +1,4 @@
--- What goes to the sink behind an output.
+-- What the sink of an output receives.
 use Rattle.std.specs.Prelude.{◌≡◌, ℕ, List, Result, MatchResult}
 use Rattle.ltl_streams.specs.Streams.{SinkState}
 use Rattle.ltl_streams.specs.Sending.{Sends, Stops}

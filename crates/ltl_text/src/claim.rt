@@ -1,4 +1,4 @@
-//! A Büchi automaton as a never claim of Spin.
+//! The printer of a Büchi automaton as a never claim of Spin.
 
 ghost use Rattle.std.specs.Prelude.{◌≡◌, ◌<◌, length, OnOk, OnErr};
 ghost use Rattle.std.specs.Io.KnownBytes.{Appends};
@@ -18,7 +18,7 @@ use ltl_syntax::{Formula, put_text};
 use std::alloc::Allocator;
 use std::io::Write;
 
-/// Puts what stands below a state's label.
+/// Writes the lines below the label of a state.
 fn put_body<A: Allocator, B: Allocator, S: ByteSink>(
     automaton: &Ba<'_, A>,
     formula: &Formula<'_, B>,
@@ -42,7 +42,7 @@ fn put_body<A: Allocator, B: Allocator, S: ByteSink>(
     output.put(b"\tfi;\n")
 }
 
-/// Puts the block of a state.
+/// Writes a state: its label and the lines below it.
 fn put_block<A: Allocator, B: Allocator, S: ByteSink>(
     automaton: &Ba<'_, A>,
     formula: &Formula<'_, B>,
@@ -60,7 +60,7 @@ fn put_block<A: Allocator, B: Allocator, S: ByteSink>(
     put_body(automaton, formula, skip, k, output)
 }
 
-/// Puts the blocks of all states but the skipping one.
+/// Writes all states but `skip`.
 fn put_others<A: Allocator, B: Allocator, S: ByteSink>(
     automaton: &Ba<'_, A>,
     formula: &Formula<'_, B>,
@@ -80,7 +80,7 @@ fn put_others<A: Allocator, B: Allocator, S: ByteSink>(
     Ok(())
 }
 
-/// Puts the blocks of all states, the skipping one last.
+/// Writes all states, `accept_all` last.
 fn put_blocks<A: Allocator, B: Allocator, S: ByteSink>(
     automaton: &Ba<'_, A>,
     formula: &Formula<'_, B>,
@@ -97,9 +97,9 @@ fn put_blocks<A: Allocator, B: Allocator, S: ByteSink>(
     put_block(automaton, formula, skip, skip, output)
 }
 
-/// Writes the automaton as a never claim of Spin, with the formula's text in a comment. State 0 is `accept_init` or `T0_init`, `accept_all`
-/// is the least accepting state other than 0 whose only edge has no literal and leads to itself, and its block stands last. The options of a
-/// state stand in the order of their targets. No memory is taken, and after a fault nothing more is written.
+/// Writes the automaton as a never claim of Spin, with the formula in a comment. State 0 is named `accept_init` or `T0_init`. The least accepting
+/// state other than 0 whose only edge is a loop without literals is named `accept_all`, and comes last. The options of a state are ordered by target.
+/// It allocates nothing, and writes nothing after an error.
 pub fn put_claim<A: Allocator, B: Allocator, S: ByteSink>(
     automaton: &Ba<'_, A>,
     formula: &Formula<'_, B>,
@@ -118,7 +118,7 @@ pub fn put_claim<A: Allocator, B: Allocator, S: ByteSink>(
     output.send()
 }
 
-/// The same to a standard writer, which isn't flushed.
+/// The same as `put_claim` to a standard writer, which isn't flushed.
 pub fn never_to<A: Allocator, B: Allocator, W: Write>(
     automaton: &Ba<'_, A>,
     formula: &Formula<'_, B>,

@@ -1,11 +1,11 @@
-//! Decimal numbers with no memory.
+//! Decimal numbers without an allocation.
 
 ghost use Rattle.std.specs.Prelude.{◌≡◌, ◌≤◌, drop};
 ghost use Rattle.std.specs.Fmt.{decimal};
 
 use itoa::write_digits;
 
-/// The digits of a number, in a buffer of their own.
+/// A number in decimal digits, at the end of a buffer.
 #[derive(Clone, Copy)]
 pub struct Digits {
     bytes: [u8; 20],
@@ -14,7 +14,7 @@ pub struct Digits {
 }
 
 impl Digits {
-    /// The digits of this number.
+    /// The digits of this number. Those of 0 are `0`.
     pub fn of(number: u64) -> Digits
         ensures { drop result.start result.bytes ≡ decimal number }
     {
@@ -23,7 +23,7 @@ impl Digits {
         Digits { bytes, start }
     }
 
-    /// The digits, the first one first.
+    /// The digits, the most significant one first.
     pub fn as_slice(&self) -> &[u8]
         ensures { result.now ≡ drop self.now.start self.now.bytes }
     {

@@ -1,4 +1,4 @@
-//! A generalized Büchi automaton in the Hanoi Omega-Automata format.
+//! The printer of a generalized Büchi automaton in the Hanoi Omega-Automata format.
 
 ghost use Rattle.std.specs.Prelude.{◌≡◌, ◌<◌, length, map, OnOk, OnErr};
 ghost use Rattle.std.specs.List.{flat_map};
@@ -19,7 +19,7 @@ use ltl_syntax::Formula;
 use std::alloc::Allocator;
 use std::io::Write;
 
-/// Puts the numbers of the sets in braces behind a blank, and nothing where there is none.
+/// Writes a blank and the numbers of the acceptance sets in braces, or nothing if there is none.
 fn put_marks<S: ByteSink>(marks: &RowSet, output: &mut Output<'_, S>) -> Result<(), WriteFault>
     ensures { Writes S.state result output.old output.new (text.marks_text marks.now) }
 {
@@ -53,7 +53,7 @@ fn put_edges<S: ByteSink>(edges: &[GbaEdge], output: &mut Output<'_, S>) -> Resu
     Ok(())
 }
 
-/// Puts a state's number and its edges.
+/// Writes the number of a state, and its edges.
 fn put_state<A: Allocator, S: ByteSink>(
     automaton: &Gen<'_, A>,
     k: usize,
@@ -79,7 +79,7 @@ fn put_states<A: Allocator, S: ByteSink>(
     Ok(())
 }
 
-/// Puts the name of the acceptance of so many sets.
+/// Writes the name of the acceptance condition: `all` for no sets.
 fn put_acceptance_name<S: ByteSink>(
     sets: usize,
     output: &mut Output<'_, S>,
@@ -101,7 +101,7 @@ fn put_set<S: ByteSink>(k: usize, output: &mut Output<'_, S>) -> Result<(), Writ
     output.put(b")")
 }
 
-/// Puts how many sets there are, and then all of them with `&` between them.
+/// Writes the number of acceptance sets and the acceptance condition: `t` for no sets.
 fn put_acceptance<S: ByteSink>(sets: usize, output: &mut Output<'_, S>) -> Result<(), WriteFault>
     ensures { Writes S.state result output.old output.new (text.acceptance_text sets) }
 {
@@ -118,7 +118,7 @@ fn put_acceptance<S: ByteSink>(sets: usize, output: &mut Output<'_, S>) -> Resul
     Ok(())
 }
 
-/// Puts the end of the line of names and the lines from the acceptance to the states.
+/// Writes the end of the line `AP:`, and the lines from `acc-name:` to `--BODY--`.
 fn put_condition<S: ByteSink>(sets: usize, output: &mut Output<'_, S>) -> Result<(), WriteFault>
     ensures { Writes S.state result output.old output.new (condition_text sets) }
 {
@@ -129,8 +129,8 @@ fn put_condition<S: ByteSink>(sets: usize, output: &mut Output<'_, S>) -> Result
     output.put(b"\nproperties: trans-labels explicit-labels trans-acc\n--BODY--\n")
 }
 
-/// Writes the automaton in the Hanoi Omega-Automata format, version 1, with the formula's text as its name and the sets on the edges. No
-/// memory is taken, and after a fault nothing more is written.
+/// Writes the automaton in version 1 of the Hanoi Omega-Automata format, with the formula as its name and the acceptance sets on edges. It allocates
+/// nothing, and writes nothing after an error.
 pub fn put_generalized<A: Allocator, B: Allocator, S: ByteSink>(
     automaton: &Gen<'_, A>,
     formula: &Formula<'_, B>,
@@ -149,7 +149,7 @@ pub fn put_generalized<A: Allocator, B: Allocator, S: ByteSink>(
     output.send()
 }
 
-/// The same to a standard writer, which isn't flushed.
+/// The same as `put_generalized` to a standard writer, which isn't flushed.
 pub fn gen_to<A: Allocator, B: Allocator, W: Write>(
     automaton: &Gen<'_, A>,
     formula: &Formula<'_, B>,

@@ -1,4 +1,4 @@
-//! The literals of an edge as a guard.
+//! The printer of a cube as a guard of Promela.
 
 ghost use Rattle.std.specs.Prelude.{◌<◌, length};
 ghost use Rattle.ltl_spec.specs.Automata.ClaimText.{cube_text, literal_text};
@@ -29,7 +29,7 @@ fn put_literal<A: Allocator, S: ByteSink>(
     output.put(name)
 }
 
-/// Puts the literals in brackets with `&&` between them, and `(1)` where there is none.
+/// Writes the literals in brackets with `&&` between them, or `(1)` if there is none.
 pub fn put_guard<A: Allocator, S: ByteSink>(
     cube: &Cube,
     formula: &Formula<'_, A>,

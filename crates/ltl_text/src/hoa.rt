@@ -1,4 +1,4 @@
-//! A Büchi automaton in the Hanoi Omega-Automata format.
+//! The printer of a Büchi automaton in the Hanoi Omega-Automata format.
 
 ghost use Rattle.std.specs.Prelude.{◌≡◌, ◌<◌, length, map, OnOk, OnErr};
 ghost use Rattle.std.specs.Fmt.{decimal};
@@ -41,7 +41,7 @@ fn put_literal<S: ByteSink>(literal: Literal, output: &mut Output<'_, S>) -> Res
     put_number(literal.proposition, output)
 }
 
-/// Puts the literals with `&` between them, and `t` where there is none.
+/// Writes the literals with `&` between them, or `t` if there is none.
 fn put_literals<S: ByteSink>(cube: &Cube, output: &mut Output<'_, S>) -> Result<(), WriteFault>
     ensures { Writes S.state result output.old output.new (text.label_text cube.now) }
 {
@@ -57,7 +57,7 @@ fn put_literals<S: ByteSink>(cube: &Cube, output: &mut Output<'_, S>) -> Result<
     Ok(())
 }
 
-/// Puts the label of an edge and its target.
+/// Writes the label and the target of an edge.
 pub(crate) fn put_step<S: ByteSink>(
     cube: &Cube,
     target: usize,
@@ -87,7 +87,7 @@ fn put_edges<S: ByteSink>(edges: &[Edge], output: &mut Output<'_, S>) -> Result<
     Ok(())
 }
 
-/// Puts the end of a state's line.
+/// Writes the end of the line `State:`, which says whether the state is accepting.
 fn put_acceptance<S: ByteSink>(
     accepting: bool,
     output: &mut Output<'_, S>,
@@ -100,7 +100,7 @@ fn put_acceptance<S: ByteSink>(
     output.put(b"\n")
 }
 
-/// Puts the beginning of a state's line.
+/// Writes the beginning of the line `State:`.
 pub(crate) fn put_state_number<S: ByteSink>(
     k: usize,
     output: &mut Output<'_, S>,
@@ -111,7 +111,7 @@ pub(crate) fn put_state_number<S: ByteSink>(
     put_number(k, output)
 }
 
-/// Puts a state's number, whether it is accepting, and its edges.
+/// Writes the number of a state, whether it is accepting, and its edges.
 fn put_state<A: Allocator, S: ByteSink>(
     automaton: &Ba<'_, A>,
     k: usize,
@@ -137,7 +137,7 @@ fn put_states<A: Allocator, S: ByteSink>(
     Ok(())
 }
 
-/// Puts the names in quotes, each behind a blank.
+/// Writes the names of the propositions in quotes, each after a blank.
 fn put_names<A: Allocator, S: ByteSink>(
     formula: &Formula<'_, A>,
     output: &mut Output<'_, S>,
@@ -152,7 +152,7 @@ fn put_names<A: Allocator, S: ByteSink>(
     Ok(())
 }
 
-/// Writes the first line and the formula's text in quotes, but for the last one.
+/// Writes the line `HOA:`, and the line `name:` up to the end of the formula. Its closing quote is missing.
 pub(crate) fn write_title<A: Allocator, S: ByteSink>(
     formula: &Formula<'_, A>,
     sink: &mut S,
@@ -164,7 +164,7 @@ pub(crate) fn write_title<A: Allocator, S: ByteSink>(
     put_text(formula, sink)
 }
 
-/// Puts that quote and the lines from the count of states to the names, but for the end of the last line.
+/// Writes the closing quote, and the lines from `States:` to `AP:`. The end of the last line is missing.
 pub(crate) fn put_counts<A: Allocator, S: ByteSink>(
     count: usize,
     formula: &Formula<'_, A>,
@@ -179,8 +179,8 @@ pub(crate) fn put_counts<A: Allocator, S: ByteSink>(
     put_names(formula, output)
 }
 
-/// Writes the automaton in the Hanoi Omega-Automata format, version 1, with the formula's text as its name. No memory is taken, and after a
-/// fault nothing more is written.
+/// Writes the automaton in version 1 of the Hanoi Omega-Automata format, with the formula as its name. It allocates nothing, and writes nothing after
+/// an error.
 pub fn put_hoa<A: Allocator, B: Allocator, S: ByteSink>(
     automaton: &Ba<'_, A>,
     formula: &Formula<'_, B>,
@@ -200,7 +200,7 @@ pub fn put_hoa<A: Allocator, B: Allocator, S: ByteSink>(
     output.send()
 }
 
-/// The same to a standard writer, which isn't flushed.
+/// The same as `put_hoa` to a standard writer, which isn't flushed.
 pub fn hoa_to<A: Allocator, B: Allocator, W: Write>(
     automaton: &Ba<'_, A>,
     formula: &Formula<'_, B>,

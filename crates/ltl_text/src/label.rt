@@ -1,4 +1,4 @@
-//! The names of the states of a never claim.
+//! The names of states in a never claim.
 
 ghost use Rattle.std.specs.Prelude.{◌≡◌, ◌<◌, ◌++◌, [], ◌∷◌, length, map};
 ghost use Rattle.std.specs.Fmt.{decimal};
@@ -23,7 +23,7 @@ fn has_no_literals(cube: &Cube) -> bool
     literals.next().is_none()
 }
 
-/// Whether the edges are a single one without literals that leads to this state.
+/// Whether the only edge is one to state `k` without literals.
 fn is_free_loop(edges: &[Edge], k: usize) -> bool
     ensures { result ≡ pointwise same_edge (map edge_of edges.now) (record { cube = []; target = k; marks = [] } ∷ []) }
 {
@@ -33,7 +33,7 @@ fn is_free_loop(edges: &[Edge], k: usize) -> bool
     }
 }
 
-/// Whether a state other than the start is accepting, and its one edge has no literal and leads to itself.
+/// Whether a state other than 0 is accepting, and its only edge is a loop without literals.
 fn is_skip_state<A: Allocator>(automaton: &Ba<'_, A>, k: usize) -> bool
     requires { k < length automaton.now.states }
     ensures { result ≡ claim.is_skip_state automaton.now k }
@@ -41,7 +41,7 @@ fn is_skip_state<A: Allocator>(automaton: &Ba<'_, A>, k: usize) -> bool
     k != 0 && automaton.accepting(k) && is_free_loop(automaton.edges(k), k)
 }
 
-/// The least such state, or the number of states where there is none.
+/// The least state for which `is_skip_state` is true, or the number of states if there is none. It is named `accept_all`.
 pub fn skip_state<A: Allocator>(automaton: &Ba<'_, A>) -> usize
     ensures { result ≡ claim.skip_state automaton.now }
 {
@@ -65,7 +65,7 @@ fn put_numbered<S: ByteSink>(
     output.put(Digits::of(k as u64).as_slice())
 }
 
-/// Puts the label of a state, where `skip` is the one that is called `accept_all`.
+/// Writes the name of a state. `skip` is the state that is named `accept_all`.
 pub fn put_label<A: Allocator, S: ByteSink>(
     automaton: &Ba<'_, A>,
     skip: usize,

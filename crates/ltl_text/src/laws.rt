@@ -1,4 +1,4 @@
-//! Laws of automata and of what is read of their texts. These functions do nothing: their contracts are the laws.
+//! Laws of automata and of their printed texts, for callers' proofs. The functions do nothing; their contracts are the laws.
 
 ghost use Rattle.std.specs.Prelude.{◌≡◌, ◌≤◌, Bool, length};
 ghost use Rattle.ltl_spec.specs.Automata.Automaton.{Automaton};
@@ -23,9 +23,9 @@ use ltl_models::{Ba, Gen};
 use ltl_syntax::Formula;
 use std::alloc::Allocator;
 
-/// The text that `hoa_to` writes, if it is within the limit, reads as the automaton: its number of states, start, the formula's names, cubes
-/// and targets, an edge being in set 0 exactly when it leaves an accepting state. What is read accepts the same words. So where those are the
-/// words that satisfy the formula, it accepts exactly these.
+/// The text that `hoa_to` writes is read as the same automaton, if it isn't too long. The states, the initial state, the names, the labels and the
+/// targets are the same, and an edge is in set 0 if and only if it leaves an accepting state. So both accept the same words. If these are the words
+/// that satisfy the formula, the automaton that is read accepts exactly them.
 pub fn hoa_text_is_read_back<A: Allocator, B: Allocator>(
     automaton: &Ba<'_, A>,
     formula: &Formula<'_, B>,
@@ -40,8 +40,8 @@ pub fn hoa_text_is_read_back<A: Allocator, B: Allocator>(
     formula.invariant();
 }
 
-/// The same of the text that `gen_to` writes of an automaton of at most `MOST_SETS` acceptance sets, each edge in the sets that it is marked
-/// with.
+/// The same for the text that `gen_to` writes, if the automaton has at most `MOST_SETS` acceptance sets: each edge is in the sets that it has as
+/// marks.
 pub fn generalized_text_is_read_back<A: Allocator, B: Allocator>(
     automaton: &Gen<'_, A>,
     formula: &Formula<'_, B>,
@@ -57,8 +57,7 @@ pub fn generalized_text_is_read_back<A: Allocator, B: Allocator>(
     formula.invariant();
 }
 
-/// The propositions of the automaton of a formula, or of its negation, have names in the formula. This is what printing and the laws above ask
-/// for.
+/// In the automaton of a formula or of its negation, every proposition has a name in the formula. The printers and the laws above require this.
 pub fn propositions_have_names<A: Allocator>(formula: &Formula<'_, A>)
     ensures { (N : Normal) (negate rewrite : Bool) (B : Automaton) → N ≡ core (reading_of formula.now).formula negate rewrite → HasNamesOf N B
         → HasNamesBelow (length formula.now.names) B }

@@ -1,12 +1,12 @@
-//! Automata as texts: never claims, and the Hanoi Omega-Automata format.
+//! Printers of automata: never claims of Spin, and the Hanoi Omega-Automata format.
 //!
-//! In the field's words: the printers of a Büchi automaton as a never claim of Spin (`never_to`) and in version 1 of the Hanoi Omega-Automata format
-//! (HOA) with accepting states (`hoa_to`), and that of a generalized automaton with acceptance sets on its edges (`gen_to`). The reader of that
-//! format, `hoa_read`, stands in `ltl_hoa` and is handed out here, so that who uses texts needs this crate alone.
+//! In the field's words: a Büchi automaton is printed as a never claim (`never_to`), or in version 1 of the Hanoi Omega-Automata format (HOA) with
+//! accepting states (`hoa_to`). A generalized automaton is printed in HOA with acceptance sets on edges (`gen_to`). The reader of HOA, `hoa_read` of
+//! `ltl_hoa`, is exported here too, so that users of texts need this crate alone.
 //!
-//! What flows: an automaton and its formula, whose text and names go into the output; short pieces of text, which are held back up to 16 KiB; a
-//! sink (`put_claim`, `put_hoa`, `put_generalized`), or a standard writer. No memory is taken. The first fault of the sink ends it, and a beginning
-//! of the text has gone out.
+//! What flows: a printer takes an automaton and its formula, whose text and names go into the output. It writes to a buffer of 16 KiB, and from there
+//! to a sink (`put_claim`, `put_hoa`, `put_generalized`) or to a standard writer. It allocates nothing. The first error of the sink ends it; a prefix
+//! of the text was written then.
 //!
 //! ```
 //! let mut text = Vec::new(alloc);

@@ -1,4 +1,4 @@
-//! The options of a state, one for each target.
+//! The options of a state in a never claim: one for each target.
 
 ghost use Rattle.std.specs.Prelude.{◌≡◌, ◌<◌, ◌≤◌, ◌==◌, length, map, All};
 ghost use Rattle.std.specs.List.{prefix_len};
@@ -18,7 +18,7 @@ use ltl_streams::{ByteSink, WriteFault};
 use ltl_syntax::Formula;
 use std::alloc::Allocator;
 
-/// How many places at the beginning have edges to this target.
+/// The number of positions at the beginning of the list whose edges lead to this target.
 fn group_len(edges: &[Edge], places: &[usize], target: usize) -> usize
     requires { All (λ p. p < length edges.now) places.now }
     ensures within { result ≤ length places.now }
@@ -31,7 +31,7 @@ fn group_len(edges: &[Edge], places: &[usize], target: usize) -> usize
     len
 }
 
-/// Puts the guards of the edges at these places with `||` between them.
+/// Writes the guards of the edges at these positions, with `||` between them.
 fn put_guards<A: Allocator, S: ByteSink>(
     edges: &[Edge],
     places: &[usize],
@@ -53,7 +53,7 @@ fn put_guards<A: Allocator, S: ByteSink>(
     Ok(())
 }
 
-/// Puts the options of a state in the order of their targets, where `skip` is the state that is called `accept_all`.
+/// Writes the options of a state, ordered by target. `skip` is the state that is named `accept_all`.
 pub fn put_options<A: Allocator, B: Allocator, S: ByteSink>(
     automaton: &Ba<'_, A>,
     formula: &Formula<'_, B>,

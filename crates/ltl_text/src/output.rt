@@ -1,4 +1,4 @@
-//! Where a text goes.
+//! Buffered output to a sink.
 
 ghost use Rattle.std.specs.Prelude.{◌≡◌, [], OnOk, OnErr};
 ghost use Rattle.ltl_streams.specs.Streams.{Breaks, Takes};
@@ -6,7 +6,7 @@ ghost use Rattle.ltl_text.specs.Writing.{Writes};
 
 use ltl_streams::{ByteSink, OutputBuffer, WriteFault};
 
-/// A sink, and the bytes that are held back for its next write. Behind a fault nothing more is to be put or sent.
+/// A sink with a buffer of 16 KiB. After an error from `send` or `put` it must not be used again.
 #[derive(Drop)]
 pub struct Output<'s, S> {
     buffer: OutputBuffer,
@@ -14,7 +14,7 @@ pub struct Output<'s, S> {
 }
 
 impl<'s, S: ByteSink> Output<'s, S> {
-    /// No byte is held back.
+    /// An output with an empty buffer.
     pub fn new(sink: &'s mut S) -> Output<'s, S>
         ensures same { result.sink.ghost_name ≡ sink.entry.ghost_name }
         ensures now { result.sink.now ≡ sink.old }
@@ -26,7 +26,7 @@ impl<'s, S: ByteSink> Output<'s, S> {
         }
     }
 
-    /// Holds the bytes back, after those that were held back before are written where there is no room.
+    /// Appends the bytes to the buffer, and writes what doesn't fit, as `put` of `OutputBuffer` does.
     #[inline(always)]
     pub fn put(&mut self, bytes: &[u8]) -> Result<(), WriteFault>
         ensures { Writes S.state result self.old self.new bytes.now }
@@ -34,7 +34,7 @@ impl<'s, S: ByteSink> Output<'s, S> {
         self.buffer.put(bytes, self.sink)
     }
 
-    /// Writes what is held back.
+    /// Writes the buffered bytes. It has to be the last call, since dropping the output writes nothing.
     pub fn send(&mut self) -> Result<(), WriteFault>
         ensures same { self.new.sink.ghost_name ≡ self.old.sink.ghost_name }
         ensures sent { OnOk result (Takes (S.state self.old.sink.now) (S.state self.new.sink.now) self.old.buffer) }

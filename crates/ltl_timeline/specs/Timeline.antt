@@ -1,4 +1,4 @@
--- A word as a table of characters: a line for each proposition, and one for each subformula.
+-- The timeline of a word: a table of characters, with a line for each proposition and for each subformula.
 use Rattle.std.specs.Prelude.{ℕ, zero, suc, ◌+◌, ◌-◌, ◌%◌, ◌<◌, max, Bool, true, false, ◌==◌, if◌then◌else◌, List, [], ◌∷◌, ◌++◌, codes, fold, length, replicate, slice_index_or}
 use Rattle.std.specs.Bool.{Decides}
 use Rattle.ltl_spec.specs.Collections.Lists.{with_new}

@@ -1,4 +1,4 @@
--- What is written of a timeline, and what it is made of.
+-- The values that a timeline is written from, and what is written.
 use Rattle.std.specs.Prelude.{◌≡◌, ℕ, ◌<◌, Bool, IsTrue, List, [], length, slice_index_or}
 use Rattle.ltl_spec.specs.Collections.Sets.{has}
 use Rattle.ltl_spec.specs.Semantics.Word.{Name, Lasso, letter_at, name_cmp}

@@ -1,4 +1,4 @@
-//! The columns of a line.
+//! The columns of a timeline's lines, one for each position.
 
 ghost use Rattle.std.specs.Prelude.{◌≡◌, ◌+◌, ◌/◌, ◌==◌, [], codes, if◌then◌else◌, length};
 ghost use Rattle.ltl_streams.specs.Sending.{Puts};
@@ -22,7 +22,7 @@ fn digit(i: usize) -> u8
     b'0' + (i % 10) as u8
 }
 
-/// Puts a bar where the cycle begins.
+/// Writes a bar if the cycle begins at this position.
 fn put_bar<S: ByteSink>(
     stem: usize,
     i: usize,
@@ -37,7 +37,7 @@ fn put_bar<S: ByteSink>(
     Ok(())
 }
 
-/// Puts a column, behind a bar where the cycle begins.
+/// Writes a column, after a bar if the cycle begins there.
 fn put_column<S: ByteSink>(
     stem: usize,
     i: usize,
@@ -51,7 +51,7 @@ fn put_column<S: ByteSink>(
     buffer.put(&[b' ', byte], sink)
 }
 
-/// Puts the last digits of the numbers of the positions.
+/// Writes the last digit of each position's number.
 pub(crate) fn put_numbers<C: Allocator, S: ByteSink>(
     word: &Lasso<'_, C>,
     buffer: &mut OutputBuffer,
@@ -66,7 +66,7 @@ pub(crate) fn put_numbers<C: Allocator, S: ByteSink>(
     Ok(())
 }
 
-/// Puts a mark for each position.
+/// Writes a mark for each position.
 pub(crate) fn put_marks<A: Allocator, C: Allocator, S: ByteSink>(
     word: &Lasso<'_, C>,
     row: &Bits<'_, A>,

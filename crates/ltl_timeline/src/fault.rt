@@ -1,15 +1,15 @@
-//! Why a timeline isn't written whole.
+//! The errors of writing a timeline.
 
 use ltl_streams::WriteFault;
 use std::alloc::AllocError;
 use thiserror::Error;
 
-/// Why a timeline isn't written whole.
+/// Why a timeline wasn't written to its end.
 #[derive(Clone, Copy, Debug, PartialEq, Eq, Error)]
 pub enum TimelineFault {
     #[error("cannot write")]
     CannotWrite,
-    /// A growth was refused, before any output.
+    /// The allocator refused an allocation. Nothing was written.
     #[error("out of memory")]
     OutOfMemory,
 }

@@ -1,10 +1,11 @@
-//! Words as timelines: tables of characters that show at which positions propositions are true and subformulas hold.
+//! Timelines: tables of characters that show the positions where propositions and subformulas are true on a word.
 //!
-//! In the field's words: the satisfaction of all subformulas at all positions of a lasso, as model checking of a path finds it. So it shows why a
+//! In the field's words: the truth of all subformulas at all positions of a lasso, as model checking of a path computes it. So a timeline shows why a
 //! formula fails on a word.
 //!
-//! What flows: a word and a formula, to rows of bits by the evaluation of `ltl_word` (`propositions`, `subformulas`), and to lines of a table in which
-//! each position has a column (`columns`, `lines`). All memory is taken before any output; the text goes out in pieces of up to 16 KiB.
+//! What flows: `propositions` and `subformulas` have a word and a formula evaluated by `ltl_word`, which answers a bit vector for each of them.
+//! `lines` and `columns` write these as a table with a column for each position. Everything is allocated before the first byte is written, in pieces
+//! of up to 16 KiB.
 //!
 //! ```
 //! let formula = ltl_syntax::read(&alloc, b"p U q")?;

@@ -1,4 +1,4 @@
-//! The lines of a table.
+//! The lines of a timeline.
 
 ghost use Rattle.std.specs.Prelude.{◌≡◌, ◌+◌, ◌-◌, ◌/◌, [], length, replicate};
 ghost use Rattle.ltl_streams.specs.Sending.{Puts};
@@ -11,7 +11,7 @@ use ltl_streams::{ByteSink, OutputBuffer, WriteFault};
 use ltl_word::{Bits, Lasso};
 use std::alloc::Allocator;
 
-/// Puts a blank for each number from the first on that is below the second.
+/// Writes `to - from` blanks, or none if `from` is greater.
 fn put_blanks<S: ByteSink>(
     from: usize,
     to: usize,
@@ -28,7 +28,7 @@ fn put_blanks<S: ByteSink>(
     Ok(())
 }
 
-/// Puts a label, and behind it blanks up to the width.
+/// Writes a label, filled up to the width with blanks.
 fn put_label<S: ByteSink>(
     width: usize,
     label: &[u8],
@@ -41,7 +41,7 @@ fn put_label<S: ByteSink>(
     put_blanks(label.len(), width, buffer, sink)
 }
 
-/// Puts the line of the numbers of the positions.
+/// Writes the line with the numbers of the positions.
 pub(crate) fn put_head<C: Allocator, S: ByteSink>(
     width: usize,
     word: &Lasso<'_, C>,
@@ -55,7 +55,7 @@ pub(crate) fn put_head<C: Allocator, S: ByteSink>(
     buffer.put(b"\n", sink)
 }
 
-/// Puts the line of a row.
+/// Writes the line of a bit vector.
 pub(crate) fn put_line<A: Allocator, C: Allocator, S: ByteSink>(
     width: usize,
     word: &Lasso<'_, C>,

@@ -1,4 +1,4 @@
-//! The propositions of a table, and where they are true.
+//! The propositions of a timeline, and the positions where they are true.
 
 ghost use Rattle.std.specs.Prelude.{◌≡◌, [], length, map, fold, IfOk, OnOk};
 ghost use Rattle.std.specs.List.{list_any};
@@ -14,7 +14,7 @@ use ltl_syntax::Formula;
 use ltl_word::{Bits, Lasso};
 use std::alloc::{AllocError, Allocator};
 
-/// Names, and a row for each of them.
+/// The names of propositions, and a bit vector for each of them.
 #[derive(Drop)]
 pub(crate) struct Propositions<'w, 'a, A: Allocator> {
     names: Vec<&'w [u8], &'a A>,
@@ -27,7 +27,7 @@ fn is_same(name: &[u8], other: &[u8]) -> bool
     name == other
 }
 
-/// Whether the name is one of these.
+/// Whether the name is in the list.
 fn is_listed(names: &[&[u8]], name: &[u8]) -> bool
     ensures { result ≡ list_any (same_name name.now) (map (λ n. n.now) names.now) }
 {
@@ -40,7 +40,7 @@ fn is_listed(names: &[&[u8]], name: &[u8]) -> bool
     false
 }
 
-/// Puts the name behind the others, unless it is there.
+/// Appends the name, unless it is in the list.
 fn put_name<'w, A: Allocator>(
     names: &mut Vec<&'w [u8], &A>,
     name: &'w [u8],
@@ -54,7 +54,7 @@ fn put_name<'w, A: Allocator>(
     Ok(())
 }
 
-/// Puts each of the names.
+/// Appends each of the names that isn't in the list.
 fn put_names<'w, A: Allocator>(
     names: &mut Vec<&'w [u8], &A>,
     more: &[&'w [u8]],
@@ -67,7 +67,7 @@ fn put_names<'w, A: Allocator>(
     Ok(())
 }
 
-/// The names of a formula.
+/// The names of a formula's propositions.
 fn formula_names<'w, 'a, A: Allocator, B: Allocator>(
     alloc: &'a A,
     formula: &'w Formula<'_, B>,
@@ -81,7 +81,7 @@ fn formula_names<'w, 'a, A: Allocator, B: Allocator>(
     Ok(names)
 }
 
-/// The rows of the names.
+/// For each name, the positions where it is true.
 fn name_rows<'a, A: Allocator, C: Allocator>(
     alloc: &'a A,
     word: &Lasso<'_, C>,
@@ -97,7 +97,7 @@ fn name_rows<'a, A: Allocator, C: Allocator>(
 }
 
 impl<'w, 'a, A: Allocator> Propositions<'w, 'a, A> {
-    /// These names, and then those of the word that they lack.
+    /// These names, followed by the names of the word that they lack.
     fn with<C: Allocator>(
         alloc: &'a A,
         mut names: Vec<&'w [u8], &'a A>,
@@ -114,7 +114,7 @@ impl<'w, 'a, A: Allocator> Propositions<'w, 'a, A> {
 }
 
 impl<'w, 'a, A: Allocator> Propositions<'w, 'a, A> {
-    /// Those of the word alone.
+    /// The propositions of the word.
     pub(crate) fn of_word<C: Allocator>(
         alloc: &'a A,
         word: &'w Lasso<'_, C>,
@@ -125,7 +125,7 @@ impl<'w, 'a, A: Allocator> Propositions<'w, 'a, A> {
         Propositions::with(alloc, Vec::new(alloc), word)
     }
 
-    /// Those of the formula, and then those of the word that it lacks.
+    /// The propositions of the formula, followed by those of the word that the formula lacks.
     pub(crate) fn of_both<B: Allocator, C: Allocator>(
         alloc: &'a A,
         formula: &'w Formula<'_, B>,
@@ -148,7 +148,7 @@ impl<'w, 'a, A: Allocator> Propositions<'w, 'a, A> {
         width
     }
 
-    /// Puts the numbers of the positions, and a line for each proposition.
+    /// Writes the numbers of the positions, and a line for each proposition.
     pub(crate) fn put<C: Allocator, S: ByteSink>(
         &self,
         width: usize,

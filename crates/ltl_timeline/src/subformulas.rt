@@ -1,4 +1,4 @@
-//! The subformulas of a table, and where they hold.
+//! The subformulas of a timeline, and the positions where they hold.
 
 ghost use Rattle.std.specs.Prelude.{◌≡◌, ◌++◌, ℕ, List, [], codes, length, map, slice_index_or, IfOk, if◌then◌else◌};
 ghost use Rattle.ltl_spec.specs.Formulas.Canonical as canonical;
@@ -15,7 +15,7 @@ use ltl_syntax::{BinaryOperator, Formula, Node, UnaryOperator};
 use ltl_word::{Bits, Lasso, subformula_rows};
 use std::alloc::{AllocError, Allocator};
 
-/// For each node of a formula its text, and its row.
+/// For each node of a formula, its canonical text and its bit vector.
 #[derive(Drop)]
 pub(crate) struct Subformulas<'a, A: Allocator> {
     texts: Vec<Vec<u8, &'a A>, &'a A>,
@@ -52,7 +52,7 @@ fn binary_text(operator: BinaryOperator) -> &'static [u8]
     }
 }
 
-/// The text of an operator before its operand.
+/// The text of a prefix operator with its operand.
 fn unary_node<'a, A: Allocator>(
     alloc: &'a A,
     operator: UnaryOperator,
@@ -66,7 +66,7 @@ fn unary_node<'a, A: Allocator>(
     Ok(text)
 }
 
-/// The text of an operator between its operands, in brackets.
+/// The text of an infix operator with its operands, in brackets.
 fn binary_node<'a, A: Allocator>(
     alloc: &'a A,
     operator: BinaryOperator,
@@ -92,7 +92,7 @@ fn copied<'a, A: Allocator>(alloc: &'a A, bytes: &[u8]) -> Result<Vec<u8, &'a A>
     Ok(text)
 }
 
-/// The text of a node, by those of all nodes before it.
+/// The text of a node, from those of all nodes before it.
 fn node_text<'a, A: Allocator, B: Allocator>(
     alloc: &'a A,
     formula: &Formula<'_, B>,
@@ -113,7 +113,7 @@ fn node_text<'a, A: Allocator, B: Allocator>(
     }
 }
 
-/// The texts of all nodes.
+/// The texts of all nodes. Their total length is at most that of the formula's canonical text times the number of levels of its tree.
 fn node_texts<'a, A: Allocator, B: Allocator>(
     alloc: &'a A,
     formula: &Formula<'_, B>,
@@ -139,7 +139,7 @@ fn is_proposition(node: Node) -> bool
 }
 
 impl<'a, A: Allocator> Subformulas<'a, A> {
-    /// Those of the formula, on the word.
+    /// The subformulas of the formula, evaluated on the word.
     pub(crate) fn new<B: Allocator, C: Allocator>(
         alloc: &'a A,
         formula: &Formula<'_, B>,
@@ -165,7 +165,7 @@ impl<'a, A: Allocator> Subformulas<'a, A> {
         width
     }
 
-    /// Puts a line for each subformula that is no proposition.
+    /// Writes a line for each subformula that isn't a proposition.
     pub(crate) fn put<B: Allocator, C: Allocator, S: ByteSink>(
         &self,
         width: usize,

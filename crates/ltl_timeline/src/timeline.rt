@@ -1,4 +1,4 @@
-//! Timelines: words as tables of characters.
+//! The timelines of a word and of a formula on a word.
 
 ghost use Rattle.std.specs.Prelude.{◌≡◌, [], length, map, MatchResult, OnOk, OnErr};
 ghost use Rattle.ltl_streams.specs.Streams.{Breaks, Takes};
@@ -53,8 +53,8 @@ fn write_both<A: Allocator, B: Allocator, C: Allocator, S: ByteSink>(
     buffer.send(sink)
 }
 
-/// Writes the word as a table: the last digits of the numbers of its positions, and a line for each proposition, `*` where it is true and `.` where it
-/// isn't, with `|` before the first position of the cycle. All memory is taken before any output.
+/// Writes the word as a table. The first line has the last digits of the positions' numbers, counted from 0. Each proposition has a line, with `*`
+/// where it is true and `.` elsewhere. A `|` stands before the first position of the cycle. Everything is allocated before the first byte is written.
 pub fn word_timeline_to<A: Allocator, C: Allocator, S: ByteSink>(
     alloc: &A,
     word: &Lasso<'_, C>,
@@ -69,8 +69,8 @@ pub fn word_timeline_to<A: Allocator, C: Allocator, S: ByteSink>(
     Ok(())
 }
 
-/// Writes the same table with a line for each subformula too that is no proposition, `*` at the positions where it holds. It takes a bit for each position
-/// and subformula, and the texts of all subformulas. All memory is taken before any output.
+/// Writes the same table, with another line for each subformula that isn't a proposition. Memory is one bit for each position and subformula, and the
+/// texts of all subformulas. Everything is allocated before the first byte is written.
 pub fn timeline_to<A: Allocator, B: Allocator, C: Allocator, S: ByteSink>(
     alloc: &A,
     formula: &Formula<'_, B>,

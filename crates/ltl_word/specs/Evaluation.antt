@@ -1,4 +1,4 @@
--- Rows of bits that say where formulas hold.
+-- Bit vectors that have the truth of a formula at each position of a word.
 use Rattle.std.specs.Prelude.{◌≡◌, ◌+◌, ℕ, ◌<◌, ◌≤◌, ◌/◌, Bool, true, false, IsTrue, List, [], length, slice_index_or, Option, Some, None}
 use Rattle.std.specs.Bool.{Decides}
 use Rattle.ltl_spec.specs.Semantics.Word.{Name, Lasso}

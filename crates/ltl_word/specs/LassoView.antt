@@ -1,4 +1,4 @@
--- A word as its letters, which are sets of places in a list of names.
+-- A word as the list of its letters, which are sets of positions in a list of names.
 use Rattle.std.specs.Prelude.{ℕ, ◌<◌, ◌≤◌, ◌++◌, IsTrue, List, [], map, length, take, drop, slice_index_or}
 use Rattle.std.specs.List.{AllByRecursion, list_all}
 use Rattle.std.specs.Ordering.{nat_cmp}

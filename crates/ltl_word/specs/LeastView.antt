@@ -1,4 +1,4 @@
--- What makes a word shorter.
+-- The shortest cycle and the shortest stem of a word.
 use Rattle.std.specs.Prelude.{◌≡◌, ◌≢◌, ℕ, ◌+◌, ◌-◌, ◌%◌, ◌<◌, ◌≤◌, List, [], length, slice_index_or}
 
 -- the letters are the first d of them, over and over

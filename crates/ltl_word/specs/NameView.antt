@@ -1,4 +1,4 @@
--- Names as a set.
+-- Sorted lists of names.
 use Rattle.std.specs.Prelude.{◌≡◌, ◌<◌, ◌≤◌, ◌≢◌, ℕ, List, [], fold, length, slice_index_or}
 use Rattle.std.specs.declared.cmp.Ordering.TheVariants.{Greater}
 use Rattle.std.specs.Prelude.{flat_map}

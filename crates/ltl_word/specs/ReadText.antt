@@ -1,4 +1,4 @@
--- What reading the text of a word answers.
+-- The answer to the text of a word: the word, or why it is refused.
 use Rattle.std.specs.Prelude.{ℕ, ◌<◌, ◌≤◌, IsTrue, List, ◌++◌, length}
 use Rattle.std.specs.List.{list_all}
 use Rattle.ltl_spec.specs.Semantics.Word.{Name, Lasso}

@@ -1,4 +1,4 @@
--- The rows of all subformulas.
+-- The bit vectors of all subformulas.
 use Rattle.std.specs.Prelude.{◌≡◌, ℕ, ◌<◌, List, [], length, slice_index_or}
 use Rattle.ltl_spec.specs.Semantics.Word.{Lasso}
 use Rattle.ltl_syntax.specs.FormulaView.{FormulaView, tree_in, trees}

@@ -1,4 +1,4 @@
--- Which rows of nodes are still to be looked at.
+-- The last uses of nodes, and which bit vectors are still needed.
 use Rattle.std.specs.Prelude.{◌≡◌, ℕ, ◌-◌, ◌<◌, ◌≤◌, List, [], length, slice_index_or, false}
 use Rattle.ltl_syntax.specs.declared.operators.Node.{Node}
 use Rattle.ltl_syntax.specs.declared.operators.Node.TheVariants.{Constant, Proposition, Unary, Binary}

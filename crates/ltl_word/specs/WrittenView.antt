@@ -1,4 +1,4 @@
--- What was read of a word, as a state of the definitions' reader.
+-- The letters that were read so far, as a state of the definitions' reader.
 use Rattle.std.specs.Prelude.{◌≡◌, ℕ, ◌+◌, ◌≤◌, Bool, List, slice_range, Option}
 use Rattle.std.specs.Option.{option_map}
 use Rattle.ltl_spec.specs.Semantics.Word.{Name, Lasso}

@@ -1,4 +1,4 @@
-//! Rows of bits, one bit for each position of a word.
+//! Bit vectors with one bit for each position of a word.
 
 ghost use Rattle.std.specs.Prelude.{◌≡◌, ◌≢◌, ℕ, ◌<◌, ◌/◌, ◌+◌, [], not, length, IfOk, slice_index, slice_set};
 ghost use Rattle.ltl_word.specs.Rows.{bit_of, is_set, joined};
@@ -8,8 +8,7 @@ use smallvec::SmallVec;
 use std::alloc::{AllocError, Allocator};
 use std::marker::Model;
 
-/// Bits by number, seen as words of 64 of them. Two words need no memory: the words that people write and that the checker prints have fewer
-/// than 128 letters.
+/// A bit vector, which contracts see as the list of its words of 64 bits. Two words, or 128 bits, are stored without an allocation.
 #[derive(Drop)]
 pub struct Bits<'a, A: Allocator> {
     words: SmallVec<u64, 2, &'a A>,
@@ -24,7 +23,7 @@ impl<'a, A: Allocator> Model for Bits<'a, A> {
 }
 
 impl<'a, A: Allocator> Bits<'a, A> {
-    /// No bits.
+    /// A vector without bits.
     pub(crate) fn none(alloc: &'a A) -> Bits<'a, A>
         ensures { result ≡ [] }
     {
@@ -33,7 +32,7 @@ impl<'a, A: Allocator> Bits<'a, A> {
         }
     }
 
-    /// More than so many bits, all of this value.
+    /// A vector of more than `count` bits, which all have this value.
     pub(crate) fn all(alloc: &'a A, count: usize, value: bool) -> Result<Bits<'a, A>, AllocError>
         ensures long { IfOk result (λ bits. length bits ≡ count / 64 + 1) }
         ensures same { IfOk result (λ bits. (i : ℕ) → i / 64 < length bits → bit_of bits i ≡ value) }
@@ -46,6 +45,7 @@ impl<'a, A: Allocator> Bits<'a, A> {
         Ok(Bits { words })
     }
 
+    /// Bit `i`, which is the value at position `i`.
     pub fn get(&self, i: usize) -> bool
         requires { i / 64 < length self.now }
         ensures { result ≡ bit_of self.now i }
@@ -53,7 +53,7 @@ impl<'a, A: Allocator> Bits<'a, A> {
         (self.words[i / 64] >> (i % 64)) & 1 == 1
     }
 
-    /// A word of 64 bits by its number.
+    /// The 64 bits from bit `64 * k` on.
     pub(crate) fn word(&self, k: usize) -> u64
         requires { k < length self.now }
         ensures { result ≡ slice_index self.now k }
@@ -61,7 +61,7 @@ impl<'a, A: Allocator> Bits<'a, A> {
         self.words[k]
     }
 
-    /// Puts a word of 64 bits in the place of another one.
+    /// Sets the 64 bits from bit `64 * k` on.
     pub(crate) fn set_word(&mut self, k: usize, word: u64)
         requires { k < length self.old }
         ensures { self.new ≡ slice_set self.old k word }
@@ -69,7 +69,7 @@ impl<'a, A: Allocator> Bits<'a, A> {
         self.words[k] = word;
     }
 
-    /// Puts a bit in the place of another one.
+    /// Sets one bit.
     pub(crate) fn put(&mut self, i: usize, value: bool)
         requires { i / 64 < length self.old }
         ensures long { length self.new ≡ length self.old }
@@ -80,7 +80,7 @@ impl<'a, A: Allocator> Bits<'a, A> {
         self.set_word(k, with_bit(self.word(k), i % 64, value));
     }
 
-    /// The bits turned over.
+    /// The complement.
     pub(crate) fn inverted(&self, alloc: &'a A) -> Result<Bits<'a, A>, AllocError>
         ensures long { IfOk result (λ bits. length bits ≡ length self.now) }
         ensures bits { IfOk result (λ bits. (i : ℕ) → i / 64 < length self.now → bit_of bits i ≡ not (bit_of self.now i)) }
@@ -92,7 +92,7 @@ impl<'a, A: Allocator> Bits<'a, A> {
         Ok(Bits { words })
     }
 
-    /// The bits, each at the number before its own.
+    /// The bits shifted by one position: bit `i` of the result is bit `i + 1`.
     pub(crate) fn shifted(&self, alloc: &'a A) -> Result<Bits<'a, A>, AllocError>
         ensures long { IfOk result (λ bits. length bits ≡ length self.now) }
         ensures bits { IfOk result (λ bits. (i : ℕ) → (i + 1) / 64 < length self.now → bit_of bits i ≡ bit_of self.now (i + 1)) }
@@ -105,7 +105,7 @@ impl<'a, A: Allocator> Bits<'a, A> {
         Ok(Bits { words })
     }
 
-    /// The bits joined with those of a row that is as long.
+    /// The two vectors combined bit by bit. They have the same length.
     pub(crate) fn with(
         &self,
         alloc: &'a A,

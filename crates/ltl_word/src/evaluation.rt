@@ -1,4 +1,4 @@
-//! Whether a formula holds on a word.
+//! Evaluation of a formula on an ultimately periodic word.
 
 ghost use Rattle.std.specs.Prelude.{◌≡◌, ℕ, ◌<◌, ◌/◌, ◌+◌, List, false, length, IfOk, [], slice_index_or, map};
 ghost use Rattle.std.specs.Bool.{Decides};
@@ -19,7 +19,7 @@ use crate::uses::last_uses;
 use ltl_syntax::{BinaryOperator, Formula, Node, UnaryOperator};
 use std::alloc::{AllocError, Allocator};
 
-/// The rows of the propositions, by number.
+/// For each proposition of the formula, the positions where it is true.
 fn name_rows<'a, A: Allocator, B: Allocator, C: Allocator>(
     alloc: &'a A,
     formula: &Formula<'_, B>,
@@ -34,8 +34,9 @@ fn name_rows<'a, A: Allocator, B: Allocator, C: Allocator>(
     Ok(rows)
 }
 
-/// Whether the formula holds at the beginning of the word. One bit is kept for each position of the word and each proposition and each operator
-/// or constant that is still to be used.
+/// Whether the formula holds at the first position of the word. The time is proportional to the number of nodes times the number of positions, at 64
+/// positions a step. Memory is one bit for each position and each proposition, and for each position and each operator or constant whose value is
+/// still needed.
 pub fn holds<'a, A: Allocator, B: Allocator, C: Allocator>(
     alloc: &'a A,
     formula: &Formula<'_, B>,
@@ -68,7 +69,7 @@ pub fn holds<'a, A: Allocator, B: Allocator, C: Allocator>(
     Ok(whole.get(word.first()))
 }
 
-/// Gives back the row of a node, if it is used for the last time.
+/// Drops the row of node `k` if node `i` is the last one that uses it.
 fn release_one<'a, A: Allocator>(
     alloc: &'a A,
     rows: &mut Vec<Bits<'a, A>, &'a A>,
@@ -85,7 +86,7 @@ fn release_one<'a, A: Allocator>(
     }
 }
 
-/// Gives back the rows of a node's operands that are used for the last time.
+/// Drops the rows of the operands of node `i` that no later node uses.
 fn release<'a, A: Allocator>(
     alloc: &'a A,
     rows: &mut Vec<Bits<'a, A>, &'a A>,
@@ -108,7 +109,7 @@ fn release<'a, A: Allocator>(
     }
 }
 
-/// The row of a node: its own, or that of its proposition.
+/// The row of a node. That of a proposition is shared by all nodes with the proposition.
 fn operand<'r, 'a, A: Allocator, B: Allocator>(
     formula: &Formula<'_, B>,
     names: &'r [Bits<'a, A>],
@@ -126,7 +127,7 @@ fn operand<'r, 'a, A: Allocator, B: Allocator>(
     }
 }
 
-/// The own row of a node, by those of its operands. A proposition has none of its own.
+/// The row that is stored for a node, made from those of its operands. For a proposition it is empty, since the row of `names` is used.
 fn node_row<'a, A: Allocator, B: Allocator, C: Allocator>(
     alloc: &'a A,
     formula: &Formula<'_, B>,
@@ -160,7 +161,7 @@ fn node_row<'a, A: Allocator, B: Allocator, C: Allocator>(
     }
 }
 
-/// The row of an operator over this operand.
+/// The row of a prefix operator, from that of its operand.
 pub(crate) fn unary_row<'a, A: Allocator, C: Allocator>(
     alloc: &'a A,
     word: &Lasso<'_, C>,
@@ -213,7 +214,7 @@ fn eventually_row<'a, A: Allocator, C: Allocator>(
     going.row(alloc, word.stem_len(), word.len())
 }
 
-/// The row of what the row says of the next position.
+/// The row of `X`: the value at the next position. Behind the last position comes the first one of the cycle.
 fn next_row<'a, A: Allocator>(
     alloc: &'a A,
     stem: usize,
@@ -230,7 +231,7 @@ fn next_row<'a, A: Allocator>(
     Ok(next)
 }
 
-/// The row of an operator over these operands.
+/// The row of an infix operator, from those of its operands.
 pub(crate) fn binary_row<'a, A: Allocator, C: Allocator>(
     alloc: &'a A,
     word: &Lasso<'_, C>,

@@ -1,4 +1,4 @@
-//! The rows of `U` and `V`.
+//! Evaluation of `U` and `V`, from the last position to the first, 64 positions at a time.
 
 ghost use Rattle.std.specs.Prelude.{◌≡◌, ◌≢◌, ◌<◌, ◌/◌, ◌*◌, ◌+◌, length, IfOk, ℕ};
 ghost use Rattle.std.specs.Option.{option_map};
@@ -9,8 +9,8 @@ use crate::bits::Bits;
 use crate::machine_word::{inverted, until_word, with_bit};
 use std::alloc::{AllocError, Allocator};
 
-/// `left U right`, or where `negated` the opposite of the opposites, which is `left V right`. No left operand holds always, or where
-/// `negated` never.
+/// The operands of `left U right`. With `negated`, the operator is `V`: the operands and the result are complemented, by duality. Without a left
+/// operand it is `<>right`, or with `negated` `[]right`.
 #[derive(Drop)]
 pub(crate) struct Going<'r, 'a, A: Allocator> {
     pub(crate) left: Option<&'r Bits<'a, A>>,
@@ -19,14 +19,14 @@ pub(crate) struct Going<'r, 'a, A: Allocator> {
 }
 
 impl<'r, 'a, A: Allocator> Going<'r, 'a, A> {
-    /// The bits of a word, or where `negated` their opposites.
+    /// The bits of a machine word, complemented if `negated` is set.
     fn turned(&self, word: u64) -> u64
         ensures { (j : ℕ) → j < 64 → is_set result j ≡ turned self.now.negated (is_set word j) }
     {
         if self.negated { inverted(word) } else { word }
     }
 
-    /// The left operand's values at 64 positions.
+    /// The values of the left operand at 64 positions.
     fn left_word(&self, k: usize) -> u64
         requires { IsLong (k * 64) (option_map (λ b. b.now) self.now.left) }
         ensures { IsWordOf (left_at self.now.negated (option_map (λ b. b.now) self.now.left)) (k * 64) result }
@@ -37,7 +37,7 @@ impl<'r, 'a, A: Allocator> Going<'r, 'a, A> {
         }
     }
 
-    /// The right operand's values at 64 positions.
+    /// The values of the right operand at 64 positions.
     fn right_word(&self, k: usize) -> u64
         requires { k < length self.now.right.now }
         ensures { IsWordOf (right_at self.now.negated self.now.right.now) (k * 64) result }
@@ -45,7 +45,7 @@ impl<'r, 'a, A: Allocator> Going<'r, 'a, A> {
         self.turned(self.right.word(k))
     }
 
-    /// The values from the last whole 64 positions to the end, behind which is the value `later`.
+    /// The values at the last positions, which fill no whole machine word, where `later` is the value behind the end.
     fn last_word(&self, count: usize, later: bool) -> u64
         requires right { count / 64 < length self.now.right.now }
         requires left { IsLong count (option_map (λ b. b.now) self.now.left) }
@@ -57,7 +57,7 @@ impl<'r, 'a, A: Allocator> Going<'r, 'a, A> {
         until_word(left, right, false)
     }
 
-    /// The row, by the value `later` behind its end: of the opposite, where `negated`.
+    /// The row, if `later` is the value behind the last position. With `negated`, `later` is the value of the complement.
     fn pass(&self, alloc: &'a A, count: usize, later: bool) -> Result<Bits<'a, A>, AllocError>
         requires right { count / 64 < length self.now.right.now }
         requires left { IsLong count (option_map (λ b. b.now) self.now.left) }
@@ -76,8 +76,8 @@ impl<'r, 'a, A: Allocator> Going<'r, 'a, A> {
         Ok(row)
     }
 
-    /// The row: of the opposite, where `negated`. Once round the cycle with nothing behind it tells the value at its beginning, which is the
-    /// value behind its end; where that holds, the row is made once more with it.
+    /// The row. A first pass takes `false` as the value behind the end. The value that it gives at the first position of the cycle is right, and is
+    /// also the value behind the end. If it is `true`, a second pass uses it. With `negated`, these are values of the complement.
     pub(crate) fn row(
         &self,
         alloc: &'a A,

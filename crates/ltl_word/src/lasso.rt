@@ -1,4 +1,4 @@
-//! Ultimately periodic words.
+//! Ultimately periodic words (lassos).
 
 ghost use Rattle.std.specs.Prelude.{◌≡◌, ◌≢◌, ◌<◌, ◌≤◌, ℕ, IfOk, IsTrue, [], length, map, slice_index_or};
 ghost use Rattle.std.specs.Ordering.{nat_cmp};
@@ -16,8 +16,8 @@ use ltl_sets::RowSet;
 use std::alloc::{AllocError, Allocator};
 use std::marker::Model;
 
-/// An ultimately periodic word: the letters of a stem, and then those of a cycle for ever. A letter is the set of the names that are
-/// true there.
+/// An ultimately periodic word: the letters of a finite stem, followed by those of a cycle that repeats forever. A letter is the set of the
+/// propositions that are true at a position. `letters` has the stem and then the cycle; a letter has the numbers of its names.
 #[derive(Drop)]
 pub struct Lasso<'a, A: Allocator> {
     pub(crate) names: Vec<OwnedName<'a, A>, &'a A>,
@@ -38,7 +38,7 @@ impl<'a, A: Allocator> Model for Lasso<'a, A> {
 }
 
 impl<'a, A: Allocator> Lasso<'a, A> {
-    /// Hands what the type promises to callers.
+    /// Gives a caller's proof the invariant of the type. It does nothing when it runs.
     pub fn invariant(&self)
         ensures word { IsLasso self.now }
         ensures spelled { IsSpelled self.now }
@@ -47,7 +47,7 @@ impl<'a, A: Allocator> Lasso<'a, A> {
         let _ = &self.names;
     }
 
-    /// How many letters are written, those of the stem and of the cycle.
+    /// The number of letters of the stem and of the cycle together, which is at least 1.
     #[tactic(auto, using(crate::proofs::LetterLaws::size_is))]
     pub fn len(&self) -> usize
         ensures { result ≡ size self.now }
@@ -65,7 +65,7 @@ impl<'a, A: Allocator> Lasso<'a, A> {
         0
     }
 
-    /// How many letters the stem has.
+    /// The number of letters of the stem, which is also the first position of the cycle.
     #[tactic(auto, using(crate::proofs::LetterLaws::size_is, crate::proofs::LetterLaws::stem_is))]
     pub fn stem_len(&self) -> usize
         ensures stem { result ≡ length self.now.stem }
@@ -74,7 +74,7 @@ impl<'a, A: Allocator> Lasso<'a, A> {
         self.stem
     }
 
-    /// The row of the positions where the name is true.
+    /// The positions where this proposition is true, as a bit vector. A name that isn't in the word is true nowhere.
     pub fn row_of_name<'r, B: Allocator>(
         &self,
         alloc: &'r B,
@@ -93,7 +93,7 @@ impl<'a, A: Allocator> Lasso<'a, A> {
     }
 }
 
-/// Where the name stands, or the length.
+/// The position of the name in the list, or the length of the list if it isn't there.
 fn place_of<A: Allocator>(names: &[OwnedName<'_, A>], name: &[u8]) -> usize
     ensures within { result ≤ length names.now }
     ensures found { result < length names.now → slice_index_or (map (λ n. n.items) names.now) result [] ≡ name.now }

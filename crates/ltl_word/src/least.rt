@@ -1,4 +1,4 @@
-//! The least form of a word.
+//! The shortest representation of a word.
 
 ghost use Rattle.std.specs.Prelude.{◌≡◌, ◌+◌, ◌<◌, ◌≤◌, length, map, IfOk};
 ghost use Rattle.std.specs.Bool.{Decides};
@@ -11,7 +11,7 @@ use ltl_sets::RowSet;
 use smallvec::SmallVec;
 use std::alloc::{AllocError, Allocator};
 
-/// Whether the letters are the first `d` of them, over and over.
+/// Whether the cycle is its first `d` letters, repeated.
 fn repeats(cycle: &[RowSet], d: usize) -> bool
     requires { 0 < d }
     ensures { Decides result (Repeats cycle.now d) }
@@ -27,7 +27,7 @@ fn repeats(cycle: &[RowSet], d: usize) -> bool
     true
 }
 
-/// How many letters the shortest list has that these repeat.
+/// The smallest `d` for which the cycle is its first `d` letters, repeated.
 fn shortest(cycle: &[RowSet]) -> usize
     requires { 0 < length cycle.now }
     ensures { IsShortest cycle.now result }
@@ -39,7 +39,7 @@ fn shortest(cycle: &[RowSet]) -> usize
     d
 }
 
-/// How many letters of the stem are left, where a cycle of `d` letters takes over those that it can.
+/// The length of the stem that is left when its last letters are moved into a cycle of `d` letters, as far as they equal those of the cycle.
 fn kept(letters: &[RowSet], stem: usize, d: usize) -> usize
     requires { stem + d ≤ length letters.now }
     ensures { IsKept letters.now stem d result }
@@ -51,7 +51,7 @@ fn kept(letters: &[RowSet], stem: usize, d: usize) -> usize
     keep
 }
 
-/// The names once more.
+/// A copy of the names.
 fn copied<'a, A: Allocator>(
     alloc: &'a A,
     names: &[OwnedName<'_, A>],
@@ -66,7 +66,8 @@ fn copied<'a, A: Allocator>(
 }
 
 impl<'a, A: Allocator> Lasso<'a, A> {
-    /// The same word in least form. Only lengths that divide the cycle's are tried, each once round the cycle.
+    /// The same word in least form: with the shortest cycle, and then the shortest stem. Only divisors of the cycle's length are tried, each in one
+    /// pass over the cycle.
     pub fn least(&self, alloc: &'a A) -> Result<Lasso<'a, A>, AllocError>
         ensures { IfOk result (λ w. IsLeastForm self.now w) }
     {

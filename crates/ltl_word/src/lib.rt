@@ -1,12 +1,12 @@
-//! Ultimately periodic words: their text, their least form, and whether a formula holds there.
+//! Ultimately periodic words: their text, their shortest representation, and the evaluation of formulas on them.
 //!
-//! In the field's words: lassos u v^ω over letters that are sets of atomic propositions; their shortest representation; and model checking of a path,
-//! which is the semantics of the formula itself, with no automaton in between. So it can judge the answer of a translator or a checker.
+//! In the field's words: lassos u v^ω over letters that are sets of atomic propositions, and model checking of a path. The evaluation follows the
+//! semantics of the formula itself, without an automaton. So it can judge the answers of a translator or a checker.
 //!
-//! What flows: a text, byte by byte (`scan`), to the letters as they are written (`written`); with the names sorted once, to a `Lasso`, whose letters
-//! are sets of places of names. `holds` makes a row of bits for each node of the formula, operands first, a bit for each written letter, 64 at a
-//! time: `&&` and `||` by words, `X` by a shift, `U` and `V` from the last letter to the first (`going`). A row is given back after its last use.
-//! `subformula_rows` makes the same rows and hands out all of them.
+//! What flows: a text is read byte by byte (`scan`) to its letters as they are written (`written`). These become a `Lasso`, whose names are sorted
+//! once, and whose letters are sets of numbers of names. `holds` makes a bit vector, which is called a row, for each node of the formula, operands
+//! first. A row has one bit for each written letter, and 64 bits are handled at a time: `&&` and `||` by machine words, `X` by a shift, `U` and `V`
+//! from the last letter to the first (`going`). A row is dropped after its last use. `subformula_rows` makes the same rows and keeps all of them.
 //!
 //! ```
 //! let formula = ltl_syntax::read(&alloc, b"[](p -> X q)")?;

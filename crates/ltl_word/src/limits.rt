@@ -1,9 +1,9 @@
-//! Limits of words.
+//! The limits on words.
 
 use ltl_names::PROPOSITION_LIMIT;
 
-/// How many bytes the text of a word may have.
+/// The largest number of bytes in the text of a word.
 pub const TEXT_LIMIT: usize = 65_536;
 
-/// How many propositions a word may have, those of a formula included.
+/// The largest number of different propositions in a word and the formula that is evaluated on it, counted together.
 pub const NAME_LIMIT: usize = PROPOSITION_LIMIT;

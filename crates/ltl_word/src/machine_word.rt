@@ -1,9 +1,9 @@
-//! Bits of machine words, 64 at a time.
+//! Operations on 64 bits in a machine word.
 
 ghost use Rattle.std.specs.Prelude.{◌≡◌, ◌≢◌, ℕ, ◌+◌, ◌-◌, ◌<◌, not};
 ghost use Rattle.ltl_word.specs.Rows.{back, is_set, joined};
 
-/// How two truth values make one.
+/// A binary Boolean operation.
 #[derive(Clone, Copy)]
 pub(crate) enum Junction {
     And,
@@ -13,7 +13,7 @@ pub(crate) enum Junction {
 }
 
 impl Junction {
-    /// Joins the bits of two words.
+    /// The operation on each pair of bits of two machine words.
     pub(crate) fn word(self, left: u64, right: u64) -> u64
         ensures { (k : ℕ) → k < 64 → is_set result k ≡ joined self (is_set left k) (is_set right k) }
     {
@@ -26,7 +26,7 @@ impl Junction {
     }
 }
 
-/// The bits of a word turned over.
+/// The complement.
 #[tactic(auto, using(crate::proofs::BitLemmas::one_not))]
 pub(crate) fn inverted(word: u64) -> u64
     ensures { (k : ℕ) → k < 64 → is_set result k ≡ not (is_set word k) }
@@ -34,7 +34,7 @@ pub(crate) fn inverted(word: u64) -> u64
     !word
 }
 
-/// The word with this bit at a place.
+/// The machine word with this value of the bit at `place`.
 pub(crate) fn with_bit(word: u64, place: usize, value: bool) -> u64
     requires { place < 64 }
     ensures here { is_set result place ≡ value }
@@ -44,7 +44,7 @@ pub(crate) fn with_bit(word: u64, place: usize, value: bool) -> u64
     if value { word | bit } else { word & !bit }
 }
 
-/// The bits, each at the place before its own, and this one last.
+/// The bits shifted by one place, with `last` as bit 63: bit `k` of the result is bit `k + 1`.
 pub(crate) fn shifted(word: u64, last: bool) -> u64
     ensures before { (k : ℕ) → k < 63 → is_set result k ≡ is_set word (k + 1) }
     ensures last { is_set result 63 ≡ last }
@@ -52,8 +52,8 @@ pub(crate) fn shifted(word: u64, last: bool) -> u64
     with_bit(word >> 1, 63, last)
 }
 
-/// At each place whether `right` comes there or later and `left` holds until then, where `later` says it of the place behind the last. What
-/// is known of some places ahead of each is known of twice as many by one step.
+/// `left U right` at each of 64 positions, where `later` is its value at the position behind them. The steps double the distance that they look
+/// ahead, so there are six of them.
 pub(crate) fn until_word(left: u64, right: u64, later: bool) -> u64
     ensures { (k : ℕ) → k < 64 → is_set result k ≡ back (is_set left) (is_set right) (64 - k) k later }
 {

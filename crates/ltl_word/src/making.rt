@@ -1,4 +1,4 @@
-//! The word that is written so.
+//! Making a word from its letters as they are written.
 
 ghost use Rattle.std.specs.Prelude.{◌≡◌, ◌≤◌, length, map, IfOk};
 ghost use Rattle.std.specs.List.{AllByRecursion};
@@ -17,7 +17,7 @@ use ltl_sets::RowSet;
 use smallvec::SmallVec;
 use std::alloc::{AllocError, Allocator};
 
-/// The names, each on its own memory.
+/// Copies of the names.
 fn owned<'a, A: Allocator>(
     alloc: &'a A,
     names: &[&[u8]],
@@ -31,7 +31,7 @@ fn owned<'a, A: Allocator>(
     Ok(owned)
 }
 
-/// The places of the names of letters.
+/// The letters as sets of numbers of names.
 fn all_places<'a, A: Allocator>(
     alloc: &'a A,
     names: &NameList<'_, 'a, A>,
@@ -50,7 +50,7 @@ fn all_places<'a, A: Allocator>(
 }
 
 impl<'a, A: Allocator> Lasso<'a, A> {
-    /// The word that is written so, over these names.
+    /// The word with these letters. `names` has all their names.
     pub(crate) fn from_written(
         alloc: &'a A,
         names: &NameList<'_, 'a, A>,

@@ -1,4 +1,4 @@
-//! Names of propositions, byte by byte.
+//! Names of propositions as byte strings.
 
 ghost use Rattle.std.specs.Prelude.{◌≡◌};
 ghost use Rattle.std.specs.Bool.{Decides};
@@ -8,10 +8,10 @@ ghost use Rattle.ltl_spec.specs.Semantics.Word.{name_cmp};
 use smallvec::SmallVec;
 use std::cmp::Ordering;
 
-/// A name on its own memory. Up to 16 bytes need none: names of variables that people write are mostly shorter.
+/// A name that is owned. Up to 16 bytes are stored without an allocation.
 pub(crate) type OwnedName<'a, A> = SmallVec<u8, 16, &'a A>;
 
-/// Whether the bytes are the same.
+/// Whether two byte strings are equal.
 #[tactic(auto, using(crate::proofs::LetterLaws::same_bytes))]
 pub(crate) fn is_same(bytes: &[u8], name: &[u8]) -> bool
     ensures { Decides result (bytes.now ≡ name.now) }
@@ -19,7 +19,7 @@ pub(crate) fn is_same(bytes: &[u8], name: &[u8]) -> bool
     bytes == name
 }
 
-/// Whether the name is greater than the other one.
+/// Whether the name comes behind the other one in the order of the bytes.
 pub(crate) fn is_greater(name: &[u8], other: &[u8]) -> bool
     ensures { Decides result (name_cmp name.now other.now ≡ Greater) }
 {

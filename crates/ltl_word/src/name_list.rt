@@ -1,4 +1,4 @@
-//! Names, sorted by their bytes.
+//! Sorted lists of names.
 
 ghost use Rattle.std.specs.Prelude.{◌≡◌, ◌<◌, ◌≤◌, [], ◌∷◌, ◌++◌, length, map, MatchResult, OnOk};
 ghost use Rattle.std.specs.List.{AllByRecursion};
@@ -20,7 +20,7 @@ use smallvec::SmallVec;
 use std::alloc::{AllocError, Allocator};
 use std::marker::Model;
 
-/// Names, sorted by their bytes, each once. Up to 8 need no memory: those of a formula of the benchmark and of a word beside it.
+/// Different names, sorted by their bytes. Up to 8 are stored without an allocation.
 #[derive(Drop)]
 pub(crate) struct NameList<'t, 'a, A: Allocator> {
     names: SmallVec<&'t [u8], 8, &'a A>,
@@ -44,7 +44,7 @@ impl<'t, 'a, A: Allocator> NameList<'t, 'a, A> {
         }
     }
 
-    /// Where the name stands or belongs: behind all lesser ones.
+    /// The position of the name, or the one where it is to be inserted: behind all smaller names.
     fn place_for(&self, name: &[u8]) -> usize
         ensures { FindsName name.now self.now result }
     {
@@ -55,21 +55,21 @@ impl<'t, 'a, A: Allocator> NameList<'t, 'a, A> {
         at
     }
 
-    /// How many names there are.
+    /// The number of names.
     pub(crate) fn len(&self) -> usize
         ensures { result ≡ length self.now }
     {
         self.names.len()
     }
 
-    /// The names.
+    /// The names in ascending order.
     pub(crate) fn names(&self) -> &[&'t [u8]]
         ensures { map (λ n. n.now) result.now ≡ self.now }
     {
         self.names.as_slice()
     }
 
-    /// Puts a name where it belongs, unless it is there.
+    /// Inserts a name, unless it is there.
     pub(crate) fn put(&mut self, name: &'t [u8]) -> Result<(), AllocError>
         ensures { OnOk result (self.new ≡ sets.put name_cmp name.now self.old) }
     {
@@ -81,7 +81,7 @@ impl<'t, 'a, A: Allocator> NameList<'t, 'a, A> {
         Ok(())
     }
 
-    /// Puts a name, if there are not too many then.
+    /// Inserts a name, unless there are too many names then.
     fn add(&mut self, name: &'t [u8]) -> Result<(), WordFault>
         ensures { MatchResult result (λ _. (self.new ≡ sets.put name_cmp name.now self.old) × (length self.new ≤ NAME_LIMIT))
             (RefusesNames (length (sets.put name_cmp name.now self.old))) }
@@ -93,7 +93,7 @@ impl<'t, 'a, A: Allocator> NameList<'t, 'a, A> {
         Ok(())
     }
 
-    /// Puts the names of a letter.
+    /// Inserts the names of a letter.
     fn add_letter(&mut self, letter: &[&'t [u8]]) -> Result<(), WordFault>
         requires { length self.old ≤ NAME_LIMIT }
         ensures { MatchResult result (λ _. AddsNames self.old (map (λ n. n.now) letter.now) self.new)
@@ -105,7 +105,7 @@ impl<'t, 'a, A: Allocator> NameList<'t, 'a, A> {
         Ok(())
     }
 
-    /// Puts the names of letters.
+    /// Inserts the names of some letters.
     fn add_letters(&mut self, letters: &[Letter<'t, 'a, A>]) -> Result<(), WordFault>
         requires { length self.old ≤ NAME_LIMIT }
         ensures { MatchResult result (λ _. AddsNames self.old (all_names (map (λ a. map (λ n. n.now) a.items) letters.now)) self.new)
@@ -117,7 +117,7 @@ impl<'t, 'a, A: Allocator> NameList<'t, 'a, A> {
         Ok(())
     }
 
-    /// The places of the names of a letter.
+    /// The numbers of a letter's names, which are all in the list.
     pub(crate) fn places(&self, letter: &[&[u8]]) -> RowSet
         requires few { length self.now ≤ NAME_LIMIT }
         requires sorted { sets.IsRising name_cmp self.now }
@@ -134,7 +134,7 @@ impl<'t, 'a, A: Allocator> NameList<'t, 'a, A> {
     }
 }
 
-/// The names of a formula and of a word.
+/// The names of a formula and of a word together.
 pub(crate) fn gather<'t, 'a, A: Allocator, B: Allocator>(
     alloc: &'a A,
     formula: &'t Formula<'_, B>,

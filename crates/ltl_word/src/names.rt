@@ -1,4 +1,4 @@
-//! The names that stand in a word.
+//! The names of a word's letters.
 
 ghost use Rattle.std.specs.Prelude.{◌≡◌, ◌<◌, ◌++◌, length, map, IfOk, OnOk};
 ghost use Rattle.std.specs.List.{AllByRecursion};
@@ -10,7 +10,7 @@ use crate::name::OwnedName;
 use ltl_sets::RowSet;
 use std::alloc::{AllocError, Allocator};
 
-/// Puts the names of a letter behind the others.
+/// Appends the names of a letter.
 fn push_names<'w, A: Allocator, B: Allocator>(
     names: &'w [OwnedName<'_, A>],
     letter: &RowSet,
@@ -26,7 +26,7 @@ fn push_names<'w, A: Allocator, B: Allocator>(
 }
 
 impl<'a, A: Allocator> Lasso<'a, A> {
-    /// The names of the letters, each as often as it stands.
+    /// The names of all letters, in their order and with repetitions.
     #[tactic(auto, using(crate::proofs::StandingNames::names_begin))]
     pub fn names<'w, 'b, B: Allocator>(
         &'w self,

@@ -1,4 +1,4 @@
-//! Words whose letters are sets of numbers of names.
+//! Making a word from letters that are sets of numbers of names.
 
 ghost use Rattle.std.specs.Prelude.{◌≡◌, ◌<◌, ◌≤◌, ◌++◌, [], length, map, true, All, IfOk, IsTrue};
 ghost use Rattle.std.specs.List.{AllByRecursion, list_all};
@@ -46,7 +46,7 @@ fn letters_at<'t, 'a, A: Allocator>(
     Ok(letters)
 }
 
-/// The names as a set.
+/// The names, sorted and without duplicates.
 fn name_set<'t, 'a, A: Allocator>(
     alloc: &'a A,
     names: &[&'t str],
@@ -60,7 +60,7 @@ fn name_set<'t, 'a, A: Allocator>(
     Ok(set)
 }
 
-/// The word of these letters as it is written, over these names.
+/// The letters as if they had been read from a text.
 fn written_of<'t, 'a, A: Allocator>(
     alloc: &'a A,
     names: &[&'t str],
@@ -82,7 +82,7 @@ fn written_of<'t, 'a, A: Allocator>(
 }
 
 impl<'a, A: Allocator> Lasso<'a, A> {
-    /// The word of these letters, which are sets of numbers in the list of names.
+    /// The word with this stem and cycle. A letter has the numbers of its propositions in `names`; a name may stand there twice.
     pub fn new(
         alloc: &'a A,
         names: &[&str],

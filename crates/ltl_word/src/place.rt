@@ -1,15 +1,15 @@
-//! Places in the text of a word.
+//! The places of the reader of words, which say what may come next.
 
-/// What may come next.
+/// What may come next in the text of a word.
 #[derive(Clone, Copy)]
 pub(crate) enum WordPlace {
     Letter,
     FirstName,
     Name,
-    /// In a name that begins there.
+    /// The rest of a name that begins at this offset, or what may follow it.
     InName(usize),
     AfterLetter,
     Blank,
-    /// In the word `cycle `, of which this is still to come.
+    /// This rest of `cycle `.
     InWord(&'static [u8]),
 }

@@ -1,4 +1,4 @@
-//! The text of a word.
+//! Printing a word.
 
 ghost use Rattle.std.specs.Prelude.{◌≡◌, ◌<◌, ◌++◌, codes, flat_map, length, map, OnOk, OnErr};
 ghost use Rattle.std.specs.List.{AllByRecursion};
@@ -16,7 +16,7 @@ use ltl_streams::{ByteSink, OutputBuffer, WriteFault, WriterSink};
 use std::alloc::Allocator;
 use std::io::Write;
 
-/// Puts a name that follows another one.
+/// Writes a comma and a name.
 fn put_next_name<S: ByteSink>(
     name: &[u8],
     buffer: &mut OutputBuffer,
@@ -28,7 +28,7 @@ fn put_next_name<S: ByteSink>(
     buffer.put(name, sink)
 }
 
-/// Puts the names that follow the first one.
+/// Writes the names behind the first one of a letter, each after a comma.
 fn put_other_names<A: Allocator, S: ByteSink>(
     names: &[OwnedName<'_, A>],
     places: Members,
@@ -45,7 +45,7 @@ fn put_other_names<A: Allocator, S: ByteSink>(
     Ok(())
 }
 
-/// Puts the names of a letter.
+/// Writes the names of a letter.
 fn put_names<A: Allocator, S: ByteSink>(
     names: &[OwnedName<'_, A>],
     letter: &RowSet,
@@ -64,7 +64,7 @@ fn put_names<A: Allocator, S: ByteSink>(
     put_other_names(names, places, buffer, sink)
 }
 
-/// Puts a letter.
+/// Writes a letter, with its braces.
 fn put_letter<A: Allocator, S: ByteSink>(
     names: &[OwnedName<'_, A>],
     letter: &RowSet,
@@ -80,7 +80,7 @@ fn put_letter<A: Allocator, S: ByteSink>(
     buffer.put(b"}", sink)
 }
 
-/// Puts the letters of a stem.
+/// Writes the letters of the stem, each before `; `.
 fn put_stem<A: Allocator, S: ByteSink>(
     names: &[OwnedName<'_, A>],
     letters: &[RowSet],
@@ -98,7 +98,7 @@ fn put_stem<A: Allocator, S: ByteSink>(
     Ok(())
 }
 
-/// Puts the letters that follow the first one of a cycle.
+/// Writes the letters behind the first one of the cycle, each after `; `.
 fn put_other_letters<A: Allocator, S: ByteSink>(
     names: &[OwnedName<'_, A>],
     letters: &[RowSet],
@@ -116,7 +116,7 @@ fn put_other_letters<A: Allocator, S: ByteSink>(
     Ok(())
 }
 
-/// Puts the letters of a cycle.
+/// Writes the letters of the cycle.
 fn put_cycle<A: Allocator, S: ByteSink>(
     names: &[OwnedName<'_, A>],
     letters: &[RowSet],
@@ -135,7 +135,7 @@ fn put_cycle<A: Allocator, S: ByteSink>(
 }
 
 impl<'a, A: Allocator> Lasso<'a, A> {
-    /// Puts the text of the word, the names of each letter sorted by their bytes, each once. No memory is taken.
+    /// Writes the text of the word to a buffer. The names of each letter are sorted by their bytes. It allocates nothing.
     pub fn put<S: ByteSink>(
         &self,
         buffer: &mut OutputBuffer,
@@ -150,7 +150,8 @@ impl<'a, A: Allocator> Lasso<'a, A> {
         put_cycle(names, cycle, buffer, sink)
     }
 
-    /// Writes the same text, in pieces of up to 16 KiB, and a longer name by itself. No memory is taken.
+    /// Writes the text of the word to a sink, in pieces of up to 16 KiB, without an end of line. A name that is longer is a piece of its own. It
+    /// allocates nothing.
     pub fn write_to<S: ByteSink>(&self, sink: &mut S) -> Result<(), WriteFault>
         ensures ok { OnOk result (Takes (S.state sink.old) (S.state sink.new) (lasso_text self.now)) }
         ensures err { OnErr result (Breaks (S.state sink.old) (S.state sink.new) (lasso_text self.now)) }
@@ -160,7 +161,7 @@ impl<'a, A: Allocator> Lasso<'a, A> {
         buffer.send(sink)
     }
 
-    /// The same to a standard writer, which isn't flushed.
+    /// The same as `write_to` to a standard writer, which isn't flushed.
     pub fn text_to<W: Write>(&self, w: &mut W) -> Result<(), WriteFault>
         ensures ok { OnOk result (Appends (W.contents w.old) (W.contents w.new) (lasso_text self.now)) }
         ensures err { OnErr result (AppendsBeginning (W.contents w.old) (W.contents w.new) (lasso_text self.now)) }

@@ -1,4 +1,4 @@
-//! Reading a word from its text.
+//! Reading a word.
 
 ghost use Rattle.std.specs.Prelude.{MatchResult};
 ghost use Rattle.ltl_word.specs.ReadText.{IsReadAs, IsRefusedFor};
@@ -12,7 +12,8 @@ use ltl_syntax::Formula;
 use std::alloc::Allocator;
 
 impl<'a, A: Allocator> Lasso<'a, A> {
-    /// Reads a word that is to be looked at with the formula. The text is gone over once, with no recursion.
+    /// Reads a word on which the formula is to be evaluated, in one pass and without recursion. The names of both count for the limit on
+    /// propositions.
     pub fn read<B: Allocator>(
         alloc: &'a A,
         text: &[u8],

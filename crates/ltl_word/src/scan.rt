@@ -1,4 +1,4 @@
-//! Reading the text of a word byte by byte.
+//! The reader of a word's text, an automaton over bytes. Each step answers the next place, or `None` if no word begins with the text up to this byte.
 
 ghost use Rattle.std.specs.Prelude.{◌≡◌, ℕ, ◌+◌, ◌<◌, ◌≤◌, List, [], ◌∷◌, ◌++◌, if◌then◌else◌, ◌==◌, length, slice_index, IfOk, IfSome, Some, None, MatchResult};
 ghost use Rattle.std.specs.Option.{option_map};
@@ -14,7 +14,7 @@ use crate::written::Written;
 use ltl_names::{is_lower, is_name_byte, is_proposition};
 use std::alloc::{AllocError, Allocator};
 
-/// Where a letter or the word `cycle ` has to begin.
+/// The step where a letter or `cycle ` may begin.
 fn at_letter(in_cycle: bool, byte: u8) -> Option<WordPlace>
     ensures next { (text : List ℕ) (at : ℕ) (v : WrittenView) → v.in_cycle ≡ in_cycle → NextIs text at byte places.Letter v result v }
     ensures inside { (at : ℕ) → IfSome result (IsInside at) }
@@ -28,7 +28,7 @@ fn at_letter(in_cycle: bool, byte: u8) -> Option<WordPlace>
     None
 }
 
-/// Where a name has to begin.
+/// The step where a name has to begin.
 fn at_name(text: &[u8], at: usize) -> Option<WordPlace>
     requires { at < length text.now }
     ensures next { (v : WrittenView) → NextIs text.now at (slice_index text.now at) places.Name v result v }
@@ -41,14 +41,14 @@ fn at_name(text: &[u8], at: usize) -> Option<WordPlace>
     }
 }
 
-/// Where one byte has to come.
+/// The step where the byte `wanted` has to come.
 fn expect(byte: u8, wanted: u8, place: WordPlace) -> Option<WordPlace>
     ensures { result ≡ (if byte == wanted then Some place else None) }
 {
     if byte == wanted { Some(place) } else { None }
 }
 
-/// In the word `cycle `.
+/// The step inside `cycle `.
 fn in_word<A: Allocator>(
     written: &mut Written<'_, '_, A>,
     rest: &'static [u8],
@@ -70,7 +70,7 @@ fn in_word<A: Allocator>(
     Some(WordPlace::InWord(rest))
 }
 
-/// Behind a whole name.
+/// The step behind a complete name.
 fn end_name<'t, A: Allocator>(
     written: &mut Written<'t, '_, A>,
     name: &'t [u8],
@@ -93,7 +93,7 @@ fn end_name<'t, A: Allocator>(
     Ok(None)
 }
 
-/// Where a letter ends, or its first name has to begin.
+/// The step behind `{`: the letter ends, or its first name begins.
 fn at_first_name<A: Allocator>(
     written: &mut Written<'_, '_, A>,
     text: &[u8],
@@ -111,7 +111,7 @@ fn at_first_name<A: Allocator>(
     Ok(at_name(text, at))
 }
 
-/// In a name that begins there.
+/// The step inside a name that begins at `start`, or behind it.
 fn in_name<'t, A: Allocator>(
     written: &mut Written<'t, '_, A>,
     text: &'t [u8],
@@ -134,7 +134,7 @@ fn in_name<'t, A: Allocator>(
     Ok(None)
 }
 
-/// Takes a byte, and tells what may come next, if some word's text goes on so.
+/// Takes the byte at `at`, and answers what may come next.
 fn step<'t, A: Allocator>(
     written: &mut Written<'t, '_, A>,
     text: &'t [u8],
@@ -158,7 +158,7 @@ fn step<'t, A: Allocator>(
     }
 }
 
-/// Whether all of a word was read.
+/// Whether the text may end here.
 fn is_finished(place: WordPlace, in_cycle: bool) -> bool
     ensures { (text : List ℕ) (at : ℕ) → result ≡ machine.is_finished (place_of text at place) in_cycle }
 {

@@ -1,4 +1,4 @@
-//! Where each subformula holds.
+//! Evaluation of all subformulas of a formula.
 
 ghost use Rattle.std.specs.Prelude.{◌<◌, length, IfOk};
 ghost use Rattle.ltl_syntax.specs.FormulaView.{StandsAt, tree_of, trees};
@@ -11,7 +11,7 @@ use crate::lasso::Lasso;
 use ltl_syntax::{Formula, Node};
 use std::alloc::{AllocError, Allocator};
 
-/// The row of a node, by those of all nodes before it.
+/// The row of a node, from those of all nodes before it.
 fn subformula_row<'a, A: Allocator, B: Allocator, C: Allocator>(
     alloc: &'a A,
     formula: &Formula<'_, B>,
@@ -31,7 +31,8 @@ fn subformula_row<'a, A: Allocator, B: Allocator, C: Allocator>(
     }
 }
 
-/// A row for each node of the formula, by number: the positions of the word where its subformula holds. One bit is kept for each position and each node.
+/// For each node of the formula, the positions of the word where its subformula holds, as a bit vector. Memory is one bit for each position and each
+/// node.
 pub fn subformula_rows<'a, A: Allocator, B: Allocator, C: Allocator>(
     alloc: &'a A,
     formula: &Formula<'_, B>,

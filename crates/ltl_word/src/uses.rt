@@ -1,4 +1,4 @@
-//! Where the nodes of a formula are used for the last time.
+//! The last uses of the nodes of a formula, by which rows are dropped early.
 
 ghost use Rattle.std.specs.Prelude.{◌≡◌, ℕ, ◌<◌, ◌≤◌, length, slice_index_or, IfOk};
 ghost use Rattle.ltl_syntax.specs.FormulaView.{StandsAt};
@@ -7,7 +7,7 @@ ghost use Rattle.ltl_word.specs.Uses.{AreLastUses, IsUsedAt};
 use ltl_syntax::{Formula, Node};
 use std::alloc::{AllocError, Allocator};
 
-/// Notes that the node of that number uses its operands.
+/// Records node `i` as the last one that uses its operands.
 fn note<A: Allocator>(last_uses: &mut Vec<usize, &A>, i: usize, node: Node)
     requires stands { (count : ℕ) × StandsAt count i node }
     requires within { i < length last_uses.old.items }
@@ -25,7 +25,8 @@ fn note<A: Allocator>(last_uses: &mut Vec<usize, &A>, i: usize, node: Node)
     }
 }
 
-/// For each node a number that none of those that use it passes. That of the whole formula is behind all nodes.
+/// For each node the number of the last node that has it as an operand. That of the whole formula is the number of nodes, since its row is needed at
+/// the end.
 pub(crate) fn last_uses<'a, A: Allocator, B: Allocator>(
     alloc: &'a A,
     formula: &Formula<'_, B>,

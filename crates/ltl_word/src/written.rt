@@ -1,4 +1,4 @@
-//! Words as they are written.
+//! The letters of a word as they are written.
 
 ghost use Rattle.std.specs.Prelude.{◌≡◌, ℕ, List, [], ◌∷◌, ◌++◌, false, true, map, OnOk, IfOk};
 ghost use Rattle.ltl_spec.specs.Words.LassoMachine as machine;
@@ -9,14 +9,13 @@ use smallvec::SmallVec;
 use std::alloc::{AllocError, Allocator};
 use std::marker::Model;
 
-/// The names of a letter in any order, also repeatedly. Up to 4 need no memory: formulas of the benchmark have at most 5 propositions, and few are
-/// true at once.
+/// The names of a letter in the order of the text, with repetitions. Up to 4 are stored without an allocation.
 pub(crate) type Letter<'t, 'a, A> = SmallVec<&'t [u8], 4, &'a A>;
 
-/// Letters. They are mostly many, and so on the heap.
+/// A list of letters.
 pub(crate) type Letters<'t, 'a, A> = Vec<Letter<'t, 'a, A>, &'a A>;
 
-/// What is written of a word: whether it is in its cycle, the letters of the stem and of the cycle, and the names of an open letter.
+/// A word as far as it was read: whether the cycle has begun, the letters of the stem and of the cycle, and the names of the open letter.
 #[derive(Drop)]
 pub(crate) struct Written<'t, 'a, A: Allocator> {
     alloc: &'a A,
@@ -53,7 +52,7 @@ impl<'t, 'a, A: Allocator> Written<'t, 'a, A> {
         }
     }
 
-    /// A word whose letters are all there.
+    /// A complete word with these letters.
     pub(crate) fn of_letters(
         alloc: &'a A,
         stem: Letters<'t, 'a, A>,
@@ -75,14 +74,14 @@ impl<'t, 'a, A: Allocator> Written<'t, 'a, A> {
         }
     }
 
-    /// Forgets the names of the open letter.
+    /// Removes the names of the open letter.
     pub(crate) fn clear(&mut self)
         ensures { self.new ≡ record self.old { letter = [] } }
     {
         self.letter.clear();
     }
 
-    /// A name more in the open letter.
+    /// Adds a name to the open letter.
     pub(crate) fn push(&mut self, name: &'t [u8]) -> Result<(), AllocError>
         ensures { OnOk result (self.new ≡ record self.old { letter = self.old.letter ++ name.now ∷ [] }) }
     {
@@ -90,7 +89,7 @@ impl<'t, 'a, A: Allocator> Written<'t, 'a, A> {
         Ok(())
     }
 
-    /// Goes on with the cycle.
+    /// Begins the cycle.
     pub(crate) fn turn(&mut self)
         ensures { self.new ≡ record self.old { in_cycle = true } }
     {

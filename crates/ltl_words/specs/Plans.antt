@@ -1,4 +1,4 @@
--- A plan as what its words ask for.
+-- A plan as the request of its command line.
 use Rattle.std.specs.Prelude.{◌≡◌, Bool, true, false, Option, Some, None, List, [], Result, Ok, Err, MatchResult, option_map}
 use Rattle.ltl_spec.specs.Tools.Refusal.{Tool}
 use Rattle.ltl_spec.specs.Tools.Outcome as spec

@@ -1,4 +1,4 @@
--- The programs and statuses of the code as those of the definitions.
+-- The programs and exit statuses of the code as those of the definitions.
 use Rattle.std.specs.Prelude.{ℕ}
 use Rattle.ltl_spec.specs.Tools.Refusal as spec
 use Rattle.ltl_words.specs.declared.tool.Tool as tool

@@ -1,4 +1,4 @@
--- The command lines of the programs, as the library for command lines documents them, and what their words mean.
+-- The command lines of the programs, as they are declared for `clap`, and what their words mean.
 use Rattle.std.specs.Prelude.{ℕ, Bool, true, false, not, List, [], Option, Some, None, codes, if◌then◌else◌}
 use Rattle.std.specs.Str.{bytes_eq}
 use Rattle.std.specs.Option.{option_map_or}

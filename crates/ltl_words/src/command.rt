@@ -1,4 +1,4 @@
-//! The command lines, by the library for them.
+//! The command lines of the programs, declared for `clap`.
 
 ghost use Rattle.std.specs.Prelude.{◌≡◌, map, IfOk, false};
 ghost use Rattle.clap.specs.Words.{app_of, found_of, rows_of, rule_of};
@@ -12,7 +12,7 @@ use clap::error::ErrorKind;
 use clap::{Arg, ArgAction, ArgMatches, Command};
 use std::alloc::{AllocError, Global};
 
-/// A word that stands alone.
+/// A flag: an option without a value.
 fn flag<'a>(alloc: Global, id: &'a str, short: char) -> Arg<'a>
     ensures rule { rule_of result ≡ flag_rule id.entry.now short }
     ensures local { result.global ≡ false }
@@ -20,7 +20,7 @@ fn flag<'a>(alloc: Global, id: &'a str, short: char) -> Arg<'a>
     Arg::new(alloc, id).short(short).action(ArgAction::SetTrue)
 }
 
-/// A word with a value behind it.
+/// An option with a value.
 fn value<'a>(alloc: Global, id: &'a str, short: char) -> Arg<'a>
     ensures rule { rule_of result ≡ value_rule id.entry.now short }
     ensures local { result.global ≡ false }
@@ -79,7 +79,8 @@ pub fn is_set(matches: &ArgMatches<'_>, id: &str) -> bool
     }
 }
 
-/// What was given of each argument.
+/// The options that were given, as `clap` parses them. The first word is the program's name, and is skipped. Any error but a refused allocation is
+/// `Usage`.
 pub fn matched<'a>(
     alloc: Global,
     tool: Tool,

@@ -1,7 +1,7 @@
-//! Command lines: what the words of one ask of a program, and with which status a program ends.
+//! Command lines of `ltl2ba`, `ltlcheck` and `ltleval`, and the exit statuses of the programs.
 //!
-//! What flows: words, to what the library for command lines makes of them (`command`), to a `Plan` (`plan`), or to why there is none. Nothing is opened
-//! or read here. `ltl_cli` does what was planned, and hands all of this out.
+//! What flows: `command` has the words of a command line parsed by `clap`, and `plan` makes a `Plan` of the result, or a `PlanFault`. Nothing is
+//! opened or read here. `ltl_cli` carries out the plan, and exports the names of this crate too.
 //!
 //! ```
 //! let words = ["ltleval", "-f", "[]<>p", "-w", "cycle {p}; {}"];

@@ -1,4 +1,4 @@
-//! What the words of a command line ask for.
+//! The request that a command line makes.
 
 ghost use Rattle.std.specs.Prelude.{◌≡◌, option_map};
 
@@ -7,16 +7,16 @@ use ltl_models::Options;
 use std::alloc::{AllocError, AllocFailed};
 use thiserror::Error;
 
-/// Where the formula's text comes from.
+/// Where the text of the formula comes from.
 #[derive(Clone, Copy, Debug)]
 pub enum FormulaWord<'a> {
     /// The text itself.
     Given(&'a str),
-    /// The name of the file that holds it.
+    /// The name of the file that holds the text.
     File(&'a str),
 }
 
-/// What the words ask for. A look that a program has no word for answers what a command line without that word asks for.
+/// The request of a command line. If a program doesn't have an option, the plan has what it would have if the option weren't given.
 #[derive(Clone, Copy, Debug)]
 pub struct Plan<'a> {
     pub(crate) formula: FormulaWord<'a>,
@@ -30,56 +30,56 @@ pub struct Plan<'a> {
 impl<'a> Plan<'a> {
     ghost use Rattle.ltl_words.specs.Plans.{formula_word, is_generalized, is_hoa, layout_in};
 
-    /// The formula, or its file.
+    /// The formula, or the name of its file: `-f` or `-F`.
     pub fn formula(&self) -> FormulaWord<'a>
         ensures { result ≡ self.now.formula }
     {
         self.formula
     }
 
-    /// The name of the automaton's file, where one was given.
+    /// The name of the automaton's file, if one was given: `-A`.
     pub fn automaton(&self) -> Option<&'a str>
         ensures { option_map (λ s. s.now) result ≡ option_map (λ s. s.now) self.now.automaton }
     {
         self.automaton
     }
 
-    /// The text of the word, where one was given.
+    /// The text of the word, if one was given: `-w`.
     pub fn word(&self) -> Option<&'a str>
         ensures { option_map (λ s. s.now) result ≡ option_map (λ s. s.now) self.now.word }
     {
         self.word
     }
 
-    /// Whether the normal form is rewritten.
+    /// Whether the normal form is rewritten: not with `-l`.
     pub fn rewrite(&self) -> bool
         ensures { result ≡ self.now.rewrite }
     {
         self.rewrite
     }
 
-    /// What is left out of simplification.
+    /// The simplifications that are left out: `-o` and `-p`.
     pub fn options(&self) -> Options
         ensures { result ≡ self.now.options }
     {
         self.options
     }
 
-    /// How an automaton is printed.
+    /// The format of the automaton's text.
     pub fn layout(&self) -> Layout
         ensures { result ≡ self.now.layout }
     {
         self.layout
     }
 
-    /// Whether a Büchi automaton in the Hanoi Omega-Automata format is asked for, and no never claim.
+    /// Whether the format is that of `-H`: a Büchi automaton in the Hanoi Omega-Automata format.
     pub fn hoa(&self) -> bool
         ensures { result ≡ is_hoa (layout_in self.now.layout) }
     {
         matches!(self.layout, Layout::Hoa)
     }
 
-    /// Whether a generalized Büchi automaton is asked for, in the Hanoi Omega-Automata format.
+    /// Whether the format is that of `-G`: a generalized Büchi automaton in the Hanoi Omega-Automata format.
     pub fn generalized(&self) -> bool
         ensures { result ≡ is_generalized (layout_in self.now.layout) }
     {
@@ -90,10 +90,10 @@ impl<'a> Plan<'a> {
 /// Why there is no plan.
 #[derive(Clone, Copy, Debug, PartialEq, Eq, Error)]
 pub enum PlanFault {
-    /// The words mean nothing, or ask for help.
+    /// The command line is wrong, or asks for help.
     #[error("usage")]
     Usage,
-    /// A growth was refused.
+    /// The allocator refused an allocation.
     #[error("out of memory")]
     OutOfMemory,
 }

@@ -1,4 +1,4 @@
-//! How a program ends.
+//! The exit statuses of the programs.
 
 ghost use Rattle.std.specs.Prelude.{◌≡◌};
 ghost use Rattle.ltl_words.specs.Tools.{status_number};
@@ -6,22 +6,22 @@ ghost use Rattle.ltl_words.specs.Tools.{status_number};
 /// The exit status of a program.
 #[derive(Clone, Copy, Debug, PartialEq, Eq)]
 pub enum Status {
-    /// Printed, contained, true.
+    /// The automaton was printed, every word satisfies the formula, or the formula holds on the word.
     Done,
-    /// Violated, false.
+    /// A word violates the formula, or the formula doesn't hold on the word.
     Violated,
-    /// The words of the command line have no meaning.
+    /// The command line is wrong.
     Usage,
     /// The input was refused.
     Refused,
-    /// A growth was refused.
+    /// The allocator refused an allocation.
     OutOfMemory,
-    /// Opening, reading or writing failed.
+    /// A file wasn't opened, or a read or a write failed.
     Failed,
 }
 
 impl Status {
-    /// The number that the system sees.
+    /// The number of the status, from 0 to 5 in the order above.
     pub fn number(self) -> u8
         ensures { result ≡ status_number self }
     {

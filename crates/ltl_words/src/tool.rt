@@ -1,6 +1,6 @@
-//! The programs.
+//! The programs whose command lines this crate parses.
 
-/// One of the programs.
+/// A program, as far as its command line is parsed here. `ltldraw` isn't one of them.
 #[derive(Clone, Copy, Debug, PartialEq, Eq)]
 pub enum Tool {
     /// `ltl2ba`

@@ -1,4 +1,4 @@
-//! From the words of a command line to what they ask for.
+//! From the words of a command line to a plan.
 
 ghost use Rattle.std.specs.Prelude.{◌≡◌, map, option_map};
 ghost use Rattle.clap.specs.Words.{found_of, rows_of};
@@ -15,7 +15,7 @@ use clap::ArgMatches;
 use ltl_models::Options;
 use std::alloc::Global;
 
-/// The one of the two that was given.
+/// The formula, if exactly one of `-f` and `-F` was given.
 fn one_formula<'a>(text: Option<&'a str>, path: Option<&'a str>) -> Option<FormulaWord<'a>>
     ensures { option_map formula_word result
         ≡ formula_among (option_map (λ s. s.now) text.entry) (option_map (λ s. s.now) path.entry) }
@@ -27,7 +27,7 @@ fn one_formula<'a>(text: Option<&'a str>, path: Option<&'a str>) -> Option<Formu
     }
 }
 
-/// The layout that the two flags ask for. Together they ask for none.
+/// The format that `-H` and `-G` ask for. They exclude each other.
 fn one_layout(hoa: bool, generalized: bool) -> Option<Layout>
     ensures { option_map layout_in result ≡ layout_of hoa generalized }
 {
@@ -39,7 +39,7 @@ fn one_layout(hoa: bool, generalized: bool) -> Option<Layout>
     }
 }
 
-/// Whether the tool has to have a word and was given none.
+/// Whether the program requires a word and none was given.
 fn lacks(tool: Tool, word: &Option<&str>) -> bool
     ensures { result ≡ lacks_word (tool_of tool) (option_map (λ s. s.now) word.now) }
 {
@@ -68,7 +68,7 @@ fn planned<'a>(tool: Tool, matches: &ArgMatches<'a>) -> Option<Plan<'a>>
     })
 }
 
-/// What the words ask of the tool. The first of them is the program's name and plays no part.
+/// The plan of a command line. The first word is the program's name, and is skipped.
 pub fn plan<'a>(alloc: Global, tool: Tool, words: &'a [&'a str]) -> Result<Plan<'a>, PlanFault>
     ensures { Plans (tool_of tool) (map (λ w. w.now) words.entry.now) result }
 {

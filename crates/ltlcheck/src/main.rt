@@ -1,4 +1,4 @@
-//! `ltlcheck`: hands the process to the checker.
+//! `ltlcheck`: runs the checker on the words and streams of the process.
 #![tactic(auto)]
 
 use ltl_host::run;

@@ -1,4 +1,4 @@
-//! `ltldraw`: hands the process to the drawer.
+//! `ltldraw`: runs the drawing program on the words and streams of the process.
 #![tactic(auto)]
 
 use ltl_draw::run;

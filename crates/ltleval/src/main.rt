@@ -1,4 +1,4 @@
-//! `ltleval`: hands the process to the evaluator.
+//! `ltleval`: runs the evaluator on the words and streams of the process.
 #![tactic(auto)]
 
 use ltl_host::run;

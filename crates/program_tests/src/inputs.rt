@@ -1,8 +1,8 @@
-//! What is translated, checked and evaluated.
+//! The inputs of the programs.
 
 use ltl_words::Tool;
 
-/// The words of a program, and what its formula file or, without one, its automaton holds.
+/// The words of a program, and the content of its formula file, or of its automaton if it has no such file.
 #[derive(Clone, Copy, Drop)]
 pub(crate) struct Run<'a> {
     pub(crate) name: &'a str,
@@ -17,7 +17,7 @@ pub(crate) const LOOP: &str =
 const TURNS: &str =
     "HOA: v1\nStates: 2\nStart: 0\nAP: 1 \"p\"\nAcceptance: 1 Inf(0)\n--BODY--\nState: 0 {0}\n[0] 1\nState: 1\n[!0] 0\n--END--\n";
 
-/// More states than an automaton may have.
+/// An automaton with more states than are allowed.
 pub(crate) const MANY: &str =
     "HOA: v1\nStates: 4294967295\nStart: 0\nAP: 1 \"p\"\nAcceptance: 1 Inf(0)\n--BODY--\nState: 0 {0}\n[!0] 0\n--END--\n";
 

@@ -1,8 +1,8 @@
-//! Tests of want of memory and of streams that fail in the programs, which no clause tells of.
+//! Tests of lack of memory and of failing streams in the programs, which no contract promises.
 //!
-//! Each growth of memory is refused in turn; each read and each write fails at each place, for ever and once. What has to come of it is want of memory,
-//! or a failure that is told, and nothing else: a program writes a beginning of what it would have written. `growth_tests` has the growths of the calls
-//! that it makes. Other tests of the programs are those that `ltl_tests` names.
+//! Each allocation is refused in turn. Each read and each write fails at each place, once or from there on. The program has to report lack of memory
+//! or the failure, and nothing else, and what it has written has to be a prefix of its output. `growth_tests` refuses the allocations of the
+//! libraries' calls. `ltl_tests` names the other tests of the programs.
 //!
 //! `rt try --test` in this folder runs them without a proof, `rt test` with one.
 #![tactic(auto)]

@@ -1,4 +1,4 @@
-//! The programs, with each growth refused and each stream cut at each place.
+//! Tests of the programs with each allocation refused, and with each stream failing at each place.
 
 use crate::inputs::{LOOP, MANY, RUNS, Run};
 use crate::streams::{Failing, Given, Taken};
@@ -8,18 +8,18 @@ use refusing::Refusing;
 use std::alloc::{Allocator, Global};
 use std::test::Fail;
 
-/// More growths than any run makes.
+/// More allocations than any run makes.
 const MOST_GROWTHS: u64 = 100_000;
 
-/// The most bytes that are read of a formula: one more than it may have.
+/// The largest number of bytes that are read of a formula: one more than it may have.
 const PAST_THE_LIMIT: usize = 65_537;
 
-/// How many bytes a reader gives a call.
+/// The numbers of bytes that a reader gives in a call.
 const SIZES: [usize; 5] = [1, 2, 3, 7, 4_096];
 
 const WAYS: [Failing; 3] = [Failing::Always, Failing::Once, Failing::TakesNone];
 
-/// Whether the formula is that of a file.
+/// Whether the formula is read from a file.
 fn reads_a_file(run: &Run<'_>) -> bool {
     match run.words.get(1) {
         Some(word) => *word == "-F",
@@ -27,7 +27,7 @@ fn reads_a_file(run: &Run<'_>) -> bool {
     }
 }
 
-/// Runs the program of these words, whose formula file or, without one, whose automaton is the input; its status.
+/// Runs the program with these words, and answers its status. `input` is its formula file, or its automaton if it has no such file.
 fn ended<A: Allocator>(
     memory: Global,
     alloc: &A,
@@ -49,7 +49,7 @@ fn ended<A: Allocator>(
     }
 }
 
-/// Whether this line and no more was told, by the tool of this run.
+/// Whether the message is this one line of the run's program.
 fn tells(run: &Run<'_>, message: &Taken, text: &str) -> bool {
     let Some(name) = run.words.first() else {
         return false;
@@ -60,7 +60,7 @@ fn tells(run: &Run<'_>, message: &Taken, text: &str) -> bool {
     rest == text.as_bytes()
 }
 
-/// What a run with all its memory and input gives.
+/// The result of a run with all its memory and input.
 #[derive(Drop)]
 struct Wanted {
     output: Taken,
@@ -68,12 +68,13 @@ struct Wanted {
     status: u8,
 }
 
-/// The run with all its memory and input, over these writers.
+/// Makes the run with all its memory and input, over these writers.
 fn calm(memory: Global, run: &Run<'_>, output: &mut Taken, message: &mut Taken) -> u8 {
     ended(memory, &memory, run, Given::of(run.input), output, message)
 }
 
-/// What came of a run with this growth refused; none where it is answered by want of memory. Without one the run has to be as ever.
+/// The outcome of a run with this allocation refused, or `None` if it reports lack of memory. If no allocation is refused, the result has to be the
+/// usual one.
 fn refused(memory: Global, run: &Run<'_>, n: u64, wanted: &Wanted) -> Option<&'static str> {
     let alloc = Refusing::new(memory, n);
     let (mut output, mut message) = (Taken::new(), Taken::new());
@@ -103,7 +104,7 @@ fn refused(memory: Global, run: &Run<'_>, n: u64, wanted: &Wanted) -> Option<&'s
     }
 }
 
-/// What came of refusing each growth of a run.
+/// The outcome of refusing each allocation of a run.
 fn told(memory: Global, run: &Run<'_>) -> &'static str {
     let (mut output, mut message) = (Taken::new(), Taken::new());
     let status = calm(memory, run, &mut output, &mut message);
@@ -120,7 +121,7 @@ fn told(memory: Global, run: &Run<'_>) -> &'static str {
     "more growths than were refused"
 }
 
-/// Whether a writer that fails behind so many bytes gets a beginning and no more, and the fault is told.
+/// Whether a writer that fails after `k` bytes gets just a prefix of the output, and the error is reported.
 fn cut(memory: Global, run: &Run<'_>, k: usize, way: Failing, wanted: &Taken) -> bool {
     let mut output = Taken::with_room(k, way);
     let mut message = Taken::new();
@@ -130,7 +131,7 @@ fn cut(memory: Global, run: &Run<'_>, k: usize, way: Failing, wanted: &Taken) ->
     found == 5 && is_beginning && is_still && tells(run, &message, ": cannot write\n")
 }
 
-/// Whether the same comes of it where the writer of messages fails too.
+/// Whether the same is true if the writer of messages fails too.
 fn cut_twice(memory: Global, run: &Run<'_>, k: usize, way: Failing, wanted: &Taken) -> bool {
     let mut output = Taken::with_room(k, way);
     let mut full = Taken::with_room(k % 5, way);
@@ -139,7 +140,7 @@ fn cut_twice(memory: Global, run: &Run<'_>, k: usize, way: Failing, wanted: &Tak
     found == 5 && is_beginning
 }
 
-/// Whether a flush that fails comes once, behind the last byte, and is told.
+/// Whether a flush that fails comes once, after the last byte, and is reported.
 fn unflushed(memory: Global, run: &Run<'_>, wanted: &Taken) -> bool {
     let mut output = Taken::unflushed();
     let mut message = Taken::new();
@@ -148,7 +149,7 @@ fn unflushed(memory: Global, run: &Run<'_>, wanted: &Taken) -> bool {
     found == 5 && is_whole && tells(run, &message, ": cannot write\n")
 }
 
-/// What came of writers that fail.
+/// The outcome of writers that fail.
 fn told_of_output(memory: Global, run: &Run<'_>) -> &'static str {
     let mut wanted = Taken::new();
     let status = calm(memory, run, &mut wanted, &mut Taken::new());
@@ -175,7 +176,7 @@ fn told_of_output(memory: Global, run: &Run<'_>) -> &'static str {
     }
 }
 
-/// Whether the run is as ever where the reader gives so few bytes a call.
+/// Whether the result is the usual one with a reader that gives `size` bytes in a call.
 fn in_pieces(memory: Global, run: &Run<'_>, size: usize, status: u8, wanted: &Taken) -> bool {
     let mut output = Taken::new();
     let found = ended(
@@ -189,7 +190,7 @@ fn in_pieces(memory: Global, run: &Run<'_>, size: usize, status: u8, wanted: &Ta
     found == status && output.bytes() == wanted.bytes()
 }
 
-/// Whether a reader that fails behind so many bytes is told, and nothing is written. The reader that gives all bytes of the input fails where the run
+/// Whether a reader's failure after `k` bytes is reported and nothing is written. A reader that gives all bytes of the input fails where the run
 /// looks for their end.
 fn unread(memory: Global, run: &Run<'_>, k: usize, way: Failing) -> bool {
     let (mut output, mut message) = (Taken::new(), Taken::new());
@@ -205,7 +206,7 @@ fn unread(memory: Global, run: &Run<'_>, k: usize, way: Failing) -> bool {
     found == 5 && is_silent && tells(run, &message, ": cannot read\n")
 }
 
-/// What came of readers that fail, and of those that give few bytes a call.
+/// The outcome of readers that fail, and of those that give few bytes in a call.
 fn told_of_input(memory: Global, run: &Run<'_>) -> &'static str {
     let mut wanted = Taken::new();
     let status = calm(memory, run, &mut wanted, &mut Taken::new());
@@ -227,7 +228,7 @@ fn told_of_input(memory: Global, run: &Run<'_>) -> &'static str {
     "cut at each place"
 }
 
-/// Whether a formula that is too long is told, though its reader fails behind the first byte past the limit.
+/// Whether a formula that is too long is reported, although its reader fails behind the first byte past the limit.
 fn stops_at_the_limit(memory: Global, run: &Run<'_>) -> bool {
     let (mut output, mut message) = (Taken::new(), Taken::new());
     let input = Given::failing(run.input, PAST_THE_LIMIT, Failing::Always);
@@ -245,7 +246,7 @@ fn each_growth_of_the_programs(rt: HostRuntime) {
     }
 }
 
-/// A run that is refused gives its message; the number of states is refused before anything grows for states.
+/// A run that is refused gives its message. A number of states that is too large is refused before memory for states is allocated.
 #[test]
 fn each_growth_of_a_refused_run(rt: HostRuntime) {
     let run = Run {

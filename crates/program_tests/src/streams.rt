@@ -1,4 +1,4 @@
-//! Readers and writers that take no memory, and that fail where they are told to.
+//! Readers and writers without allocations, which fail at a given place.
 
 ghost use Rattle.std.specs.Prelude.{◌≤◌};
 
@@ -20,7 +20,7 @@ fn fault() -> io::Error {
     io::Error::from(io::ErrorKind::Other)
 }
 
-/// Gives a text, at most so many bytes a call.
+/// A reader of a text, which gives a limited number of bytes in a call.
 #[derive(Drop)]
 pub(crate) struct Given<'t> {
     rest: &'t [u8],
@@ -45,7 +45,7 @@ impl<'t> Given<'t> {
         }
     }
 
-    /// Fails behind so many bytes.
+    /// A reader that fails after `left` bytes.
     pub(crate) fn failing(text: &'t str, left: usize, way: Failing) -> Given<'t> {
         Given {
             rest: text.as_bytes(),
@@ -76,10 +76,10 @@ impl Read for Given<'_> {
     }
 }
 
-/// The most bytes that a run of these writes.
+/// The largest number of bytes that a run writes.
 pub(crate) const MOST_BYTES: usize = 1_024;
 
-/// Holds what was written, up to a number of bytes.
+/// A writer that keeps what was written, up to a number of bytes.
 #[derive(Drop)]
 pub(crate) struct Taken {
     bytes: [u8; MOST_BYTES],
@@ -98,7 +98,7 @@ impl Taken {
         Taken::with_room(MOST_BYTES, Failing::Always)
     }
 
-    /// Fails behind so many bytes.
+    /// A writer that fails after `room` bytes.
     pub(crate) fn with_room(room: usize, way: Failing) -> Taken {
         Taken {
             bytes: [0; MOST_BYTES],
@@ -112,7 +112,7 @@ impl Taken {
         }
     }
 
-    /// Takes each byte, and can't be flushed.
+    /// A writer that takes each byte, but whose flush fails.
     pub(crate) fn unflushed() -> Taken {
         let mut taken = Taken::new();
         taken.flush_fails = true;
@@ -127,7 +127,7 @@ impl Taken {
         self.flushes
     }
 
-    /// Whether something was written behind a failure or a flush, or flushed behind one of these.
+    /// Whether there was a write behind a failure or a flush, or a flush behind one of these.
     pub(crate) fn is_late(&self) -> bool {
         self.is_late
     }

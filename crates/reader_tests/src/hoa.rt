@@ -1,4 +1,4 @@
-//! Reading automata.
+//! Tests of reading automata.
 
 use ltl_hoa::{HoaFault, HoaFaultKind, Marked, MarkedEdge, hoa_read};
 use ltl_sets::{Cube, RowSet};
@@ -8,7 +8,7 @@ use std::fmt::InlineText;
 use std::io::{self, Read};
 use std::test::Fail;
 
-/// Gives a text in pieces of a size, and fails once `left` calls were made.
+/// A reader that gives a text in pieces of one size, and fails after `left` calls.
 #[derive(Drop)]
 struct Pieces<'t> {
     rest: &'t [u8],
@@ -29,7 +29,7 @@ impl Read for Pieces<'_> {
     }
 }
 
-/// Gives so many spaces.
+/// A reader that gives a number of spaces.
 #[derive(Drop)]
 struct Spaces {
     left: usize,
@@ -44,27 +44,27 @@ impl Read for Spaces {
     }
 }
 
-/// Its only word never has p.
+/// An automaton whose only word never has `p`.
 const NEVER: &str =
     "HOA: v1\nStates: 1\nStart: 0\nAP: 1 \"p\"\nAcceptance: 1 Inf(0)\n--BODY--\nState: 0 {0}\n[!0] 0\n--END--\n";
 
-/// Its only word alternates.
+/// An automaton in whose only word `p` alternates.
 const ALTERNATING: &str =
     "HOA: v1\nStates: 2\nStart: 0\nAP: 1 \"p\"\nAcceptance: 1 Inf(0)\n--BODY--\nState: 0 {0}\n[0] 1\nState: 1\n[!0] 0\n--END--\n";
 
-/// It has two sets: of a state, of an edge, and of both.
+/// An automaton with two sets: sets on a state, on an edge, and on both.
 const TWO_SETS: &str =
     "HOA: v1\nStates: 2\nStart: 0\nAP: 1 \"p\"\nAcceptance: 2 Inf(0) & /* both */ Inf(1)\n--BODY--\nState: 0 {1 0}\n[0] 1\nState: 1 {1}\n[!0] 0 {0}\n[t] 1\n--END--\n";
 
-/// It has no sets.
+/// An automaton without sets.
 const NO_SETS: &str =
     "HOA: v1\nStates: 1\nStart: 0\nAP: 1 \"p\"\nAcceptance: 0 t\n--BODY--\nState: 0\n[!0] 0\n--END--\n";
 
-/// It has as many sets as there may be.
+/// An automaton with as many sets as are allowed.
 const ALL_SETS: &str =
     "HOA: v1\nStates: 1\nStart: 0\nAP: 1 \"p\"\nAcceptance: 32 Inf(0)&Inf(1)&Inf(2)&Inf(3)&Inf(4)&Inf(5)&Inf(6)&Inf(7)&Inf(8)&Inf(9)&Inf(10)&Inf(11)&Inf(12)&Inf(13)&Inf(14)&Inf(15)&Inf(16)&Inf(17)&Inf(18)&Inf(19)&Inf(20)&Inf(21)&Inf(22)&Inf(23)&Inf(24)&Inf(25)&Inf(26)&Inf(27)&Inf(28)&Inf(29)&Inf(30)&Inf(31)\n--BODY--\nState: 0 {31}\n[!0] 0\n--END--\n";
 
-/// Texts that are refused, with the fault's line and kind.
+/// Texts that are refused, with the line and the kind of the fault.
 const REFUSED: [(&str, usize, HoaFaultKind); 41] = [
     (
         "HOA: v1\nStates: 1\nStart: 0\nAP: 1 \"p\"\nAcceptance: 33\n--BODY--\nState: 0\n[!0] 0\n--END--\n",
@@ -269,7 +269,7 @@ const REFUSED: [(&str, usize, HoaFaultKind); 41] = [
     ),
 ];
 
-/// Texts with one label, and how many edges it makes.
+/// Texts with one label, and the number of edges that it makes.
 const LABELS: [(&str, usize); 5] = [
     (
         "HOA: v1\nStates: 1\nStart: 0\nAP: 4 \"p0\" \"p1\" \"p2\" \"p3\"\nAcceptance: 1 Inf(0)\n--BODY--\nState: 0 {0}\n[(0|1)&(2|3)] 0\n--END--\n",
@@ -293,7 +293,7 @@ const LABELS: [(&str, usize); 5] = [
     ),
 ];
 
-/// Messages, each once.
+/// All messages.
 const MESSAGES: [(HoaFaultKind, &str); 11] = [
     (
         HoaFaultKind::NotHoaVersion1,
@@ -332,7 +332,7 @@ const MESSAGES: [(HoaFaultKind, &str); 11] = [
     ),
 ];
 
-/// Gives each part as many times as said, one a call.
+/// A reader that gives each part a given number of times, one part in a call.
 #[derive(Drop)]
 struct Repeated<'t> {
     parts: &'t [(&'t str, usize)],
@@ -373,7 +373,7 @@ fn parts_of<'t>(parts: &'t [(&'t str, usize)]) -> Repeated<'t> {
     }
 }
 
-/// Whether the edge at that place leads there, in these sets.
+/// Whether the edge at that position has this label, this target and these sets.
 fn leads<A: Allocator>(
     automaton: &Marked<'_, A>,
     state: usize,
@@ -395,7 +395,7 @@ fn leads<A: Allocator>(
     }
 }
 
-/// Whether it is the automaton whose only word never has p.
+/// Whether it is the automaton whose only word never has `p`.
 fn is_never<A: Allocator>(read: Result<Marked<'_, A>, HoaFault>) -> bool {
     match read {
         Ok(automaton) => {
@@ -414,7 +414,7 @@ fn is_never<A: Allocator>(read: Result<Marked<'_, A>, HoaFault>) -> bool {
     }
 }
 
-/// Whether it is the automaton whose only word alternates.
+/// Whether it is the automaton in whose only word `p` alternates.
 fn is_alternating<A: Allocator>(read: Result<Marked<'_, A>, HoaFault>) -> bool {
     match read {
         Ok(automaton) => {
@@ -459,7 +459,7 @@ fn has_two_sets<A: Allocator>(read: Result<Marked<'_, A>, HoaFault>) -> bool {
     }
 }
 
-/// Whether it has so many sets, and its only edge is in these.
+/// Whether it has `count` sets, and its only edge is in `sets`.
 fn is_in_sets<A: Allocator>(
     read: Result<Marked<'_, A>, HoaFault>,
     count: usize,
@@ -496,7 +496,7 @@ fn in_pieces(rt: HostRuntime) {
     }
 }
 
-/// How a text is refused, and how much of it is left unread.
+/// The fault of a text, and how much of the text is left unread.
 fn refusal(alloc: Global, text: &str) -> (Option<HoaFault>, usize) {
     let mut reader = given(text, 4_096);
     let fault = hoa_read(&alloc, &mut reader).err();
@@ -528,7 +528,7 @@ fn messages(rt: HostRuntime) {
     assert_eq!(rt; said(HoaFault::OutOfMemory).as_str(), "out of memory");
 }
 
-/// A text that lists 256 names of two letters. Its only edge has the last one.
+/// A text that lists 256 names of two letters. Its only edge has a literal of the last one.
 fn many_names<A: Allocator>(alloc: &A) -> Result<Vec<u8, &A>, AllocError> {
     let mut text = Vec::new(alloc);
     text.extend_from_slice(b"HOA: v1\nStates: 1\nStart: 0\nAP: 256")?;
@@ -611,7 +611,7 @@ fn deep_and_long(rt: HostRuntime) {
     );
 }
 
-/// One byte past the limit is taken, and no more.
+/// One byte past the limit is read, and no more.
 #[test]
 fn spaces_to_the_limit(rt: HostRuntime) {
     let alloc = rt.alloc();
@@ -630,7 +630,7 @@ fn spaces_to_the_limit(rt: HostRuntime) {
     assert_eq!(rt; past.left, 1);
 }
 
-/// No growth is reached, so none is refused.
+/// Nothing is allocated, so nothing is refused.
 #[test]
 fn spaces_without_memory(rt: HostRuntime) {
     let alloc = Refusing::new(rt.alloc(), 1);
@@ -656,7 +656,7 @@ fn each_growth_refused(rt: HostRuntime) {
     }
 }
 
-/// A read that fails is told, whatever stood before it.
+/// A read that fails is reported, whatever was read before.
 #[test]
 fn each_read_fails(rt: HostRuntime) {
     let alloc = rt.alloc();

@@ -1,7 +1,7 @@
-//! Tests of what is read: automata and their faults by their lines, words with their least forms and texts, and how often standard readers and writers
-//! are called.
+//! Tests of readers: automata and the lines of their faults, words with their least forms and texts, timelines, and the number of calls on standard
+//! readers and writers.
 //!
-//! `ltl_tests` says why tests stand in crates of their own, by what they call, and where the other ones are.
+//! `ltl_tests` says why tests are crates of their own, divided by what they call, and where the others are.
 //!
 //! `rt try --test` in this folder runs them without a proof, `rt test` with one.
 #![tactic(auto)]

@@ -1,4 +1,4 @@
-//! Sinks and sources over standard writers and readers: how often these are called.
+//! Tests of sinks and sources over standard writers and readers: how often these are called.
 
 use ltl_streams::{
     ByteSink, ByteSource, LentReader, OutputBuffer, ReaderSource, WriterSink, write_whole,
@@ -6,7 +6,7 @@ use ltl_streams::{
 use std::io;
 use std::io::{Read, Write};
 
-/// What the call of a number, counted from 1, does; the other ones do all that is asked.
+/// What the call with a given number does, counted from 1. The other calls do all that is asked.
 #[derive(Clone, Copy, PartialEq, Eq)]
 enum Failing {
     Never,
@@ -14,7 +14,7 @@ enum Failing {
     TakesNone(usize),
 }
 
-/// Counts its calls.
+/// A stream that counts its calls.
 #[derive(Drop)]
 struct Counting {
     calls: usize,
@@ -26,7 +26,7 @@ impl Counting {
         Counting { calls: 0, way }
     }
 
-    /// How many of so many bytes go over.
+    /// The number of bytes that are transferred, of `len`.
     fn call(&mut self, len: usize) -> io::Result<usize> {
         self.calls = self.calls.saturating_add(1);
         if self.way == Failing::Fails(self.calls) {

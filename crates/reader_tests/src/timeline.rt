@@ -1,4 +1,4 @@
-//! Words as tables of characters. The tables were made by hand.
+//! Tests of timelines. The tables were made by hand.
 
 use ltl_streams::WriterSink;
 use ltl_syntax::read;
@@ -8,7 +8,7 @@ use refusing::Refusing;
 use std::alloc::{Allocator, Global};
 use std::process::Abort;
 
-/// Writes the table of a word and a formula, whose own memory is that of `known`.
+/// Writes the timeline of a word and a formula, which are read with the allocator `known`.
 fn write_table<A: Allocator>(
     rt: &impl Abort,
     known: &Global,
@@ -87,7 +87,7 @@ fn tables_of_words(rt: HostRuntime) {
     }
 }
 
-/// Memory is refused before any output.
+/// Memory is refused before anything is written.
 #[test]
 fn growths_refused(rt: HostRuntime) {
     let known = rt.alloc();

@@ -1,4 +1,4 @@
-//! Words: their least forms, and their texts.
+//! Tests of words: their least forms, and their texts.
 
 use ltl_sets::RowSet;
 use ltl_syntax::read;

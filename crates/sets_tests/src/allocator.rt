@@ -1,4 +1,4 @@
-//! The allocator that refuses.
+//! Tests of the allocator that refuses.
 
 use refusing::Refusing;
 use std::alloc::{AllocError, Allocator};

@@ -1,4 +1,4 @@
-//! Least ones of many, over sets of numbers below 64.
+//! Tests of minimal elements, over sets of numbers below 64.
 
 ghost use Rattle.std.specs.Prelude.{◌≡◌, bit_and};
 
@@ -6,7 +6,7 @@ use least::{Below, Counting, least};
 use std::alloc::{AllocError, Global};
 use std::test::Fail;
 
-/// A set: each number is in it whose bit is a one.
+/// A set of numbers, each of which is a bit.
 struct Bits {
     bits: u64,
 }
@@ -58,7 +58,7 @@ impl Below for Bits {
     ghost transitive = { λ a b c. within_transitive a.bits b.bits c.bits };
 }
 
-/// Sets that differ count.
+/// The relation that two sets differ.
 struct Different;
 
 impl Counting<Bits> for Different {
@@ -71,7 +71,7 @@ impl Counting<Bits> for Different {
     }
 }
 
-/// The sets of six of twelve numbers, and each once more with 20: more than are compared each with each.
+/// The sets of six of twelve numbers, and the same sets with 20 added. They are more than are compared one by one.
 #[test]
 fn those_with_more_go(rt: HostRuntime) -> Result<(), Fail> {
     let alloc = rt.alloc();
@@ -93,7 +93,7 @@ fn those_with_more_go(rt: HostRuntime) -> Result<(), Fail> {
     Ok(())
 }
 
-/// The least ones of a few sets.
+/// The minimal ones of a few sets.
 fn least_of(alloc: Global, bits: &[u64]) -> Result<Vec<u64>, AllocError> {
     let mut items = Vec::new(alloc);
     for bits in bits {

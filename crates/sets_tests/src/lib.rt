@@ -1,6 +1,6 @@
-//! Tests of the lowest libraries: sets of rows and of literals, least ones of many, and the allocator that refuses.
+//! Tests of the lowest libraries: sets of rows, cubes, minimal elements, and the allocator that refuses.
 //!
-//! `ltl_tests` says why tests stand in crates of their own, by what they call, and where the other ones are.
+//! `ltl_tests` says why tests are crates of their own, divided by what they call, and where the others are.
 //!
 //! `rt try --test` in this folder runs them without a proof, `rt test` with one.
 #![tactic(auto)]

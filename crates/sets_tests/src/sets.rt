@@ -1,4 +1,4 @@
-//! Sets of rows and of literals.
+//! Tests of sets of rows and of cubes.
 
 use ltl_sets::{Cube, Literal, RowSet};
 use std::alloc::{AllocError, Global};
@@ -6,7 +6,7 @@ use std::cmp::Ordering;
 
 const PLACES: [usize; 6] = [0, 63, 64, 127, 128, 255];
 
-// The set of those of the numbers that can be members.
+// The set of those numbers that are below the limit.
 fn rows(numbers: &[usize]) -> RowSet {
     let mut set = RowSet::empty();
     for i in numbers {
@@ -17,7 +17,7 @@ fn rows(numbers: &[usize]) -> RowSet {
     set
 }
 
-// The cube of the literals, where each joins those before it.
+// The join of the literals, one after the other.
 fn cube(literals: &[(usize, bool)]) -> Option<Cube> {
     let mut all = Cube::empty();
     for (p, sign) in literals {
@@ -157,15 +157,14 @@ fn lists_in_order(rt: HostRuntime) {
     assert_eq!(rt; rows(&[7, 200]).cmp_list(&rows(&[200, 7])), Ordering::Equal);
 }
 
-// The next number of a row that looks random.
+// The next pseudorandom number.
 fn next(state: u64) -> u64 {
     state
         .wrapping_mul(6_364_136_223_846_793_005)
         .wrapping_add(1_442_695_040_888_963_407)
 }
 
-// A few numbers below 256, as a set and as a rising list. The places crowd in the low words, so
-// that two sets often share a beginning.
+// A few numbers below 256, as a set and as a sorted list. Most are in the low words, so that two sets often have the same beginning.
 fn some_rows(alloc: Global, seed: u64) -> Result<(RowSet, Vec<usize>), AllocError> {
     let mut state = next(seed);
     let count = (state >> 61) as usize;
@@ -209,8 +208,7 @@ fn as_sorted_lists(rt: HostRuntime) -> Result<(), AllocError> {
     Ok(())
 }
 
-// A cube of a few literals, with its literals as pairs of a proposition and whether it is negated,
-// which sort as the literals do.
+// A cube of a few literals, and its literals as pairs of a proposition and whether it is negated. These sort as literals do.
 fn some_cube(alloc: Global, seed: u64) -> Result<(Cube, Vec<(usize, bool)>), AllocError> {
     let (places, list) = some_rows(alloc, seed)?;
     let signs = next(next(seed));
