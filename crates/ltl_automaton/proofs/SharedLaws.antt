@@ -15,6 +15,7 @@ use Rattle.ltl_spec.proofs.Automata.ListingLaws.{with_new_behind}
 use Rattle.ltl_automaton.specs.EdgeView.{same_edges, edges_Decides}
 use Rattle.ltl_automaton.specs.SharedView.{Shared, state_in, states_in, automaton_of, ArePlaces, IsShared, with_state}
 use Rattle.ltl_automaton.specs.declared.shared.SharedState.{SharedState}
+use Rattle.ltl_spec.proofs.Collections.FoundLaws.{index_there}
 
 -- states have lists where more lists are put behind
 places_longer : (lists new : List (List Edge)) (ps qs : List SharedState) → (more : List (List Edge)) × (new ≡ lists ++ more) → qs ≡ ps → ArePlaces lists ps → ArePlaces new qs
@@ -33,14 +34,6 @@ states_stay lists more (p ∷ ps) a =
     let first = index_append lists more p.list [] (All-head (λ (q : SharedState). q.list < length lists) p ps a) in
     let rest = states_stay lists more ps (All-tail (λ (q : SharedState). q.list < length lists) p ps a) in
     λ i. (let s : State = record { accepting = p.accepting; edges = first i } in s) ∷ rest i
-
-index_there : {K : Type 0} (xs : List K) (i : ℕ) (x d : K) → slice_get xs i ≡ Some x → (i < length xs) × (slice_index_or xs i d ≡ x)
-index_there [] i x d e = absurd (never e)
-  where
-    never : None ≡ Some x → ⊥
-    never q = cc
-index_there (y ∷ ys) zero x d e = (omega arith, cc)
-index_there (y ∷ ys) (suc i) x d e = let w = index_there ys i x d e in (omega (arith, w.0), w.1)
 
 -- what was found stands within the lists
 pub found_within : (new : List (List Edge)) (i : ℕ) (edges : List Edge) → slice_get new i ≡ Some edges → i < length new
@@ -73,10 +66,7 @@ below_or_from k q = grind arith
 
 -- in a list without repeats a thing stands at one place
 pub got_once : {K : Type 0} (keys : List K) (i j : ℕ) (x : K) → HasNoRepeats keys → slice_get keys i ≡ Some x → slice_get keys j ≡ Some x → i ≡ j
-got_once [] i j x d e f = absurd (never e)
-  where
-    never : None ≡ Some x → ⊥
-    never q = cc
+got_once [] i j x d e f = absurd (cc)
 got_once (y ∷ ys) zero zero x d e f = refl
 got_once (y ∷ ys) zero (suc j) x d e f = let p : y ≡ x = cc in absurd (d.0 (subst (Has ys) (sym p) (slice_get_has ys j x f)))
 got_once (y ∷ ys) (suc i) zero x d e f = let p : y ≡ x = cc in absurd (d.0 (subst (Has ys) (sym p) (slice_get_has ys i x e)))

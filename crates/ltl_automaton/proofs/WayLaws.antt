@@ -4,7 +4,7 @@ use Rattle.std.specs.Prelude.{fold, slice_get, slice_index_or, take, drop, sum_b
 use Rattle.std.proofs.lemmas.List.Sums.{sum_by-cons}
 use Rattle.std.specs.Bool.{Decides}
 use Rattle.std.proofs.lemmas.Option.{get_or_from_slice_get, slice_get_within}
-use Rattle.std.proofs.lemmas.List.{map-append, length-map, get_or-map, get_or-take, length-take-le}
+use Rattle.std.proofs.lemmas.List.{map-append, length-map, get_or-map, get_or-take, length-take-le, take-append-le}
 use Rattle.ltl_spec.specs.Collections.Sets.{Has}
 use Rattle.ltl_spec.specs.Collections.Lists.{with_new}
 use Rattle.ltl_spec.specs.Automata.Automaton.{Automaton, Edge, State, state_at}
@@ -16,6 +16,8 @@ use Rattle.ltl_automaton.specs.WorklistView.{WorklistView}
 use Rattle.ltl_automaton.specs.Net.{Net, key_of, targets_of, HasSuccessorsOf, lengths_of, edges_behind, edges_in, state_of, IsReachable, IsUnderWay}
 use Rattle.ltl_automaton.specs.SharedView.{with_state}
 use Rattle.ltl_automaton.proofs.NetLaws.{map_agree, state_stays, fold_within}
+pub use Rattle.std.proofs.lemmas.List.{take_all as take_whole}
+pub use Rattle.ltl_spec.proofs.Collections.FoundLaws.{take_got}
 
 -- the elements of a beginning stand at places before its end
 pub Has_taken_at : {K : Type 0} (n : ℕ) (xs : List K) (x : K) → Has (take n xs) x → (i : ℕ) × (i < n) × (i < length xs) × (slice_index_or xs i x ≡ x)
@@ -23,27 +25,6 @@ Has_taken_at zero xs x h = absurd h
 Has_taken_at (suc n) [] x h = absurd h
 Has_taken_at (suc n) (y ∷ ys) x (inl e) = (0, omega arith, omega arith, sym e)
 Has_taken_at (suc n) (y ∷ ys) x (inr h) = let w = Has_taken_at n ys x h in (suc w.0, omega (arith, w.1), omega (arith, w.2), w.3)
-
--- one more of a list
-pub take_got : {K : Type 0} (xs : List K) (n : ℕ) (x : K) → slice_get xs n ≡ Some x → take (suc n) xs ≡ take n xs ++ x ∷ []
-take_got [] n x e = absurd (never e)
-  where
-    never : None ≡ Some x → ⊥
-    never q = cc
-take_got (y ∷ ys) zero x e = let p : y ≡ x = cc in λ i. p i ∷ []
-take_got (y ∷ ys) (suc n) x e = ap (λ l. y ∷ l) (take_got ys n x e)
-
--- what is put behind a list leaves its beginnings
-take_behind : {K : Type 0} (n : ℕ) (xs more : List K) → n ≤ length xs → take n (xs ++ more) ≡ take n xs
-take_behind zero xs more l = refl
-take_behind (suc n) [] more l = absurd (omega arith)
-take_behind (suc n) (x ∷ xs) more l = ap (λ l. x ∷ l) (take_behind n xs more (omega arith))
-
-pub take_whole : {K : Type 0} (n : ℕ) (xs : List K) → length xs ≤ n → take n xs ≡ xs
-take_whole zero [] l = refl
-take_whole zero (x ∷ xs) l = absurd (omega arith)
-take_whole (suc n) [] l = refl
-take_whole (suc n) (x ∷ xs) l = ap (λ l. x ∷ l) (take_whole n xs (omega arith))
 
 -- a thing with the same edges, seen alike
 pub same_successors_here : {K : Type 0} (M N : Net K) (ks ls : List K) (i : ℕ) (k : K) → M ≡ N → ks ≡ ls → HasSuccessorsOf M ks i k → HasSuccessorsOf N ls i k
@@ -57,10 +38,7 @@ sum_split f (suc n) (x ∷ xs) = let a = sum_by-cons f x xs in let b = sum_by-co
 
 -- what stands from a place on has the edges of the thing there, and of those behind it
 behind_step : {K : Type 0} (net : Net K) (keys : List K) (n : ℕ) (k : K) → slice_get keys n ≡ Some k → edges_behind net keys n ≡ length (net.successors k) + edges_behind net keys (suc n)
-behind_step net [] n k e = absurd (never e)
-  where
-    never : None ≡ Some k → ⊥
-    never q = cc
+behind_step net [] n k e = absurd (cc)
 behind_step net (x ∷ xs) zero k e =
     let p : x ≡ k = cc in
     sum_by-cons (λ s. length (targets_of net s)) x xs ∙ ap (λ n. n + edges_behind net xs 0) (length-map (net.successors x) key_of ∙ ap (λ s. length (net.successors s)) p)
@@ -72,10 +50,7 @@ behind_next net keys n k e = let one : suc n ≡ n + 1 = omega arith in behind_s
 -- there is nothing past the end alone
 past : {K : Type 0} (xs : List K) (n : ℕ) → slice_get xs n ≡ None → length xs ≤ n
 past [] n e = omega arith
-past (x ∷ xs) zero e = absurd (never e)
-  where
-    never : Some x ≡ None → ⊥
-    never q = cc
+past (x ∷ xs) zero e = absurd (cc)
 past (x ∷ xs) (suc n) e = let l = past xs n e in omega arith
 
 module _ {K : Type 0} (same : K → K → Bool) (decides : (x y : K) → Decides (same x y) (x ≡ y)) (sorted : Bool) (net : Net K) (start : K) (sets : ℕ) where
@@ -121,7 +96,7 @@ module _ {K : Type 0} (same : K → K → Bool) (decides : (x y : K) → Decides
       taken_next =
           let behind = fold_behind same (T k) l.keys in
           let m = inside in
-          ap (take (suc l.explored)) behind.1 ∙ take_behind (suc l.explored) l.keys behind.0 (omega arith) ∙ take_got l.keys l.explored k f
+          ap (take (suc l.explored)) behind.1 ∙ take-append-le (suc l.explored) l.keys behind.0 (omega arith) ∙ take_got l.keys l.explored k f
 
       states_next : map (st next) (take (suc l.explored) next) ≡ map (st l.keys) (take l.explored l.keys) ++ st next k ∷ []
       states_next =
@@ -213,7 +188,7 @@ module _ {K : Type 0} (same : K → K → Bool) (decides : (x y : K) → Decides
         let d : (n - l.explored) + l.explored ≡ n = let b = w.within in omega arith in
         let later = listing_later same T start l.explored (n - l.explored) in
         let grown : listing same T start n ≡ l.keys ++ later.0 = ap (listing same T start) (sym d) ∙ later.1 ∙ ap (λ ks. ks ++ later.0) (sym w.listed) in
-        let all : take n (listing same T start n) ≡ l.keys = ap (take n) grown ∙ take_behind n l.keys later.0 (omega arith) ∙ take_whole n l.keys (omega arith) in
+        let all : take n (listing same T start n) ≡ l.keys = ap (take n) grown ∙ take-append-le n l.keys later.0 (omega arith) ∙ take_whole n l.keys (omega arith) in
         let sum = ap (sum_by edges) all in
         let split = sum_split edges l.explored l.keys in
         let old = w.counted in

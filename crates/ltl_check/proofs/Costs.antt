@@ -233,9 +233,7 @@ new_everywhere (suc n) (suc i) = new_everywhere n i
 module _ (N : Net) where
   cost_le : (n : ℕ) (c : Colour) → cost N n c ≤ N.pairs n + N.pairs n
   cost_le n New = omega arith
-  cost_le n Open = omega arith
-  cost_le n Left = omega arith
-  cost_le n Probed = omega arith
+  cost_le n _ = omega arith
 
   pub twice : (cs : List Colour) → length cs ≡ N.count → total (cost N) 0 cs ≤ 2 * sum_below N.pairs N.count
   twice cs sized =

@@ -40,11 +40,8 @@ module _ (N : Net) (sets : ℕ) where
   -- either an edge of the set is taken, or the level stays up to it
   after_low : (marks : List ℕ) (level j : ℕ) → j < sets → level ≤ j → in_set marks j ≡ false → next_level sets marks level ≤ j
   after_low marks level j l m h =
-      let f : first_level sets level ≤ j = from_low level j l m in
+      let f : first_level sets level ≤ j = (grind (arith, nat_tests, l, m)) in
       climb_bound (sets - first_level sets level) marks (first_level sets level) j f h
-    where
-      from_low : (level j : ℕ) → j < sets → level ≤ j → first_level sets level ≤ j
-      from_low level j l m = grind (arith, nat_tests)
 
   after_last : (marks : List ℕ) (level j : ℕ) → j < sets → eqb level sets ≡ true → in_set marks j ≡ false → next_level sets marks level ≤ j
   after_last marks level j l a h =

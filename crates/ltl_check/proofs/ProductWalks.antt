@@ -35,6 +35,7 @@ use Rattle.ltl_word.specs.LassoView.{letter_with}
 use Rattle.ltl_check.specs.LevelLaws.{mapped}
 use Rattle.ltl_check.specs.ProductView.{no_edge, number_in, pair_marks, step_with, joined_step, first_edges, second_edges, edge_pairs, pair_at, pair_place, pair_step, product_net}
 use Rattle.ltl_check.specs.PairLaws.{place_in_rows, first_place, second_place, first_at, second_at, step_is}
+use Rattle.ltl_spec.proofs.Collections.FoundLaws.{map_equal, map_same}
 
 -- a member stands at some place
 place_in : {K : Type 0} (xs : List K) (x d : K) → Has xs x → (i : ℕ) × (i < length xs) × (slice_index_or xs i d ≡ x)
@@ -42,17 +43,8 @@ place_in [] x d h = absurd h
 place_in (y ∷ ys) x d (inl e) = (0, omega arith, sym e)
 place_in (y ∷ ys) x d (inr h) = let w = place_in ys x d h in let l = w.1 in (suc w.0, omega arith, w.2)
 
--- maps that agree on the members
-map_alike : {X Y : Type 0} (f g : X → Y) (xs : List X) → ((x : X) → Has xs x → f x ≡ g x) → map f xs ≡ map g xs
-map_alike f g [] h = refl
-map_alike f g (x ∷ xs) h = ap (λ y. y ∷ map f xs) (h x (inl refl)) ∙ ap (λ ys. g x ∷ ys) (map_alike f g xs (λ z k. h z (inr k)))
-
-pub map_twice : {X Y Z : Type 0} (f : X → Y) (g : Y → Z) (xs : List X) → map g (map f xs) ≡ map (λ x. g (f x)) xs
-map_twice f g [] = refl
-map_twice f g (x ∷ xs) = ap (λ ys. g (f x) ∷ ys) (map_twice f g xs)
-
 same_letter : (names : List Name) (c : Cube) → letter_with names (words.letter_of c) ≡ letter_of names c
-same_letter names c = ap (set_of name_cmp) (map_twice (λ (l : Literal). l.proposition) (λ i. slice_index_or names i []) (filter (λ (l : Literal). l.positive) c))
+same_letter names c = ap (set_of name_cmp) (map_same (λ (l : Literal). l.proposition) (λ i. slice_index_or names i []) (filter (λ (l : Literal). l.positive) c))
 
 -- the edges of a state of the automaton that was read
 at_state : (ess : List (List Edge)) (s : ℕ) → (slice_index_or (map (λ (es : List Edge). record { accepting = true; edges = es }) ess) s no_state).edges ≡ slice_index_or ess s []
@@ -99,7 +91,7 @@ module _ (A : MarkedAutomaton) (names : List Name) (B : Automaton) (numbers : Li
 
   -- the second edge under the numbers of both
   same_cube : (t : ℕ) (f : Edge) → Has (second_edges A B t) f → renamed_cube (number_in numbers) f.cube ≡ renamed_cube number f.cube
-  same_cube t f h = ap (set_of literal_cmp) (map_alike (renamed_literal (number_in numbers)) (renamed_literal number) f.cube (λ l k. ap (λ p. record { proposition = p; positive = l.positive }) (maps l.proposition (below t f h l k))))
+  same_cube t f h = ap (set_of literal_cmp) (map_equal (renamed_literal (number_in numbers)) (renamed_literal number) f.cube (λ l k. ap (λ p. record { proposition = p; positive = l.positive }) (maps l.proposition (below t f h l k))))
 
   Has-renamed : (t : ℕ) (f : Edge) → Has (second_edges A B t) f → Has (state_at renamed t).edges (renamed_edge number f)
   Has-renamed t f h = subst (λ (x : State). Has x.edges (renamed_edge number f)) (sym (renamed_at number B t)) (Has-map (renamed_edge number) (second_edges A B t) f h)

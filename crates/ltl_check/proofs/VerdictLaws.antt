@@ -29,7 +29,8 @@ use Rattle.ltl_check.specs.ProductView.{number_in, product_net, edge_pairs, pair
 use Rattle.ltl_check.specs.VerdictView.{letters_of, IsReachedLevelState, chosen_pairs}
 use Rattle.ltl_word.specs.LassoView.{letter_with, word_with}
 use Rattle.ltl_check.specs.Explored.{sum_below, Reached}
-use Rattle.ltl_check.proofs.ProductWalks.{map_twice, found_walk, found_cubes, walk_found, reached_by_looks}
+use Rattle.ltl_check.proofs.ProductWalks.{found_walk, found_cubes, walk_found, reached_by_looks}
+use Rattle.ltl_spec.proofs.Collections.FoundLaws.{map_same}
 
 -- what the types hold is what the laws of the check ask for
 pub proper_of : (A : MarkedAutomaton) → IsMarked A → IsProper A
@@ -94,7 +95,7 @@ module _ (A : MarkedAutomaton) (names : List Name) (B : Automaton) (numbers : Li
         of_walk : (h : HasCommonWalk A names B) × (lasso_along all_names h.stem h.cycle ≡ record { stem = map (λ (t : Taken). letter_with all_names t.letter) stem; cycle = map (λ (t : Taken). letter_with all_names t.letter) cycle }) → IsVerdict A names B (IsCommon A names B) (Violated v)
         of_walk (h, along) =
             let letters : word_with all_names (letters_of stem) (letters_of cycle) ≡ lasso_along all_names h.stem h.cycle =
-            (λ i. record { stem = map_twice (λ (t : Taken). t.letter) (letter_with all_names) stem i; cycle = map_twice (λ (t : Taken). t.letter) (letter_with all_names) cycle i }) ∙ sym along in
+            (λ i. record { stem = map_same (λ (t : Taken). t.letter) (letter_with all_names) stem i; cycle = map_same (λ (t : Taken). t.letter) (letter_with all_names) cycle i }) ∙ sym along in
             let here : IsLeastForm (lasso_along all_names h.stem h.cycle) v = subst (λ u. IsLeastForm u v) letters (subst (λ ns. IsLeastForm (word_with ns (letters_of stem) (letters_of cycle)) v) e least) in
             let lasso = common_lasso (graph_of A) B A.names names marked.differ (graph_is_graph A proper) buchi A.start h in
             let p = least_form_is (lasso_along all_names h.stem h.cycle) lasso in

@@ -8,23 +8,15 @@ use Rattle.ltl_spec.proofs.NormalForms.SharedNodes.{tree_at}
 use Rattle.ltl_spec.proofs.NormalForms.BothPolarities as law
 use Rattle.ltl_spec.proofs.NormalForms.BothPolarities.{FlatNode, both_in, both_of, both_unary, both_binary, built, formula_in, formulas}
 use Rattle.ltl_spec.proofs.NormalForms.SharedRewriting.{IsMore, IsBuilt, Numbers, StandsFor, built_at, built_length, built_step, built_translated}
-use Rattle.ltl_spec.proofs.Collections.SumLaws.{take_whole}
 use Rattle.ltl_syntax.specs.declared.operators.Node.{Node}
 use Rattle.ltl_syntax.specs.declared.operators.Node.TheVariants as code
 use Rattle.ltl_formula.specs.declared.polarity.Forms.{Forms}
 use Rattle.ltl_formula.specs.FormsView.{numbers_of, forms_in, flat_of, AreInside, MakesBoth}
 use Rattle.ltl_syntax.specs.FormulaView.{StandsAt, trees, tree_of, tree_in, with_tree, whole_tree, unary_of, binary_of}
 use Rattle.ltl_formula.specs.SharedNodesView.{SharedNodesView, Makes}
-
-pub map_push : {X Y : Type 0} (f : X → Y) (xs : List X) (x : X) → map f (xs ++ x ∷ []) ≡ map f xs ++ f x ∷ []
-map_push f [] x = refl
-map_push f (y ∷ xs) x = ap (λ l. f y ∷ l) (map_push f xs x)
-
--- one element more of a list
-take_more : {X : Type 0} (xs : List X) (i : ℕ) (x : X) → slice_get xs i ≡ Some x → take (suc i) xs ≡ take i xs ++ x ∷ []
-take_more [] i x e = cc
-take_more (y ∷ xs) zero x e = let s : y ≡ x = cc in λ i. s i ∷ []
-take_more (y ∷ xs) (suc i) x e = ap (λ l. y ∷ l) (take_more xs i x e)
+use Rattle.std.proofs.lemmas.List.{map_push}
+use Rattle.std.proofs.Math.Seq.{take-length}
+use Rattle.ltl_spec.proofs.Collections.FoundLaws.{take_got}
 
 -- ---- a step of the loop
 
@@ -75,7 +67,7 @@ module _ (g : SharedNodesView) (done : List Forms) (nodes : List Node) (i : ℕ)
   step_built count v new p more now here l s at made_now e =
       let m = subst (λ (ds : List Forms). MakesBoth g new p (both_of g.rewrite (forms_in g ds) (flat_of v))) here made_now in
       let x = both_of g.rewrite (forms_in g done) (flat_of v) in
-      let next : map flat_of (take (i + 1) nodes) ≡ flat ++ flat_of v ∷ [] = rw add-one (ap (map flat_of) (take_more nodes i v at) ∙ map_push flat_of (take i nodes) v) in
+      let next : map flat_of (take (i + 1) nodes) ≡ flat ++ flat_of v ∷ [] = rw add-one (ap (map flat_of) (take_got nodes i v at) ∙ map_push flat_of (take i nodes) v) in
       let pairs : map numbers_of more ≡ map numbers_of done ++ numbers_of p ∷ [] = ap (map numbers_of) e ∙ map_push numbers_of done p in
       let made : IsBuilt g.rewrite new.nodes (map numbers_of done ++ numbers_of p ∷ []) (flat ++ flat_of v ∷ []) =
       built_step g.rewrite g.nodes new.nodes (map numbers_of done) flat (flat_of v) (numbers_of p) x.yes x.no b m.keeps m.positive m.negative (node_same count v (stands_before count v done refl l s)) in
@@ -88,9 +80,7 @@ module _ (g : SharedNodesView) (done : List Forms) (nodes : List Node) (i : ℕ)
 -- the formula of a node by the flat nodes of the laws is its tree
 formula_same : (ts : List spec.Formula) (v : Node) → law.formula_of (formula_in ts) (flat_of v) ≡ tree_of ts v
 formula_same ts (code.Constant c) = refl
-formula_same ts (code.Proposition p) = refl
-formula_same ts (code.Unary op k) = refl
-formula_same ts (code.Binary op k l) = refl
+formula_same ts _ = refl
 
 trees_from : (nodes : List Node) (ts : List spec.Formula) → fold law.with_formula ts (map flat_of nodes) ≡ fold with_tree ts nodes
 trees_from [] ts = refl
@@ -105,7 +95,7 @@ module _ (g : SharedNodesView) (done : List Forms) (nodes : List Node) (n : ℕ)
   pub last_inside : n - 1 < length done
   last_inside =
       let l = done_length g done nodes n b in
-      let t : length (take n nodes) ≡ length nodes = ap length (ap (λ m. take m nodes) e ∙ take_whole nodes) in
+      let t : length (take n nodes) ≡ length nodes = ap length (ap (λ m. take m nodes) e ∙ take-length nodes) in
       omega arith
 
   pub core_stands : (negate : Bool) (p : Forms) → p ≡ slice_index_or done (n - 1) p → (k : ℕ) → k ≡ cond negate p.negative p.positive → StandsFor g.nodes k (core (whole_tree nodes) negate g.rewrite)
@@ -113,7 +103,7 @@ module _ (g : SharedNodesView) (done : List Forms) (nodes : List Node) (n : ℕ)
       let l = last_inside in
       let long = map_length numbers_of done in
       let m : n - 1 < length (map numbers_of done) = omega arith in
-      let all : IsBuilt g.rewrite g.nodes (map numbers_of done) (map flat_of nodes) = subst (λ (ns : List Node). IsBuilt g.rewrite g.nodes (map numbers_of done) (map flat_of ns)) (ap (λ i. take i nodes) e ∙ take_whole nodes) b in
+      let all : IsBuilt g.rewrite g.nodes (map numbers_of done) (map flat_of nodes) = subst (λ (ns : List Node). IsBuilt g.rewrite g.nodes (map numbers_of done) (map flat_of ns)) (ap (λ i. take i nodes) e ∙ take-length nodes) b in
       let there : slice_index_or (map numbers_of done) (n - 1) (numbers_of p) ≡ numbers_of p = at_map numbers_of done (n - 1) p (numbers_of p) l ∙ ap numbers_of (sym at) in
       let whole : formula_in (formulas (map flat_of nodes)) (n - 1) ≡ whole_tree nodes = λ t. tree_in (formulas_same nodes t) (e t - 1) in
       let t = built_translated g.rewrite g.nodes (map numbers_of done) (map flat_of nodes) all (n - 1) (numbers_of p) negate m in

@@ -3,14 +3,15 @@ use Rattle.std.proofs.Common.{◌≡◌, ℕ, zero, suc, ◌<◌, ◌≤◌, tru
 use Rattle.std.specs.Prelude.{All, fold, slice_index_or, slice_index}
 use Rattle.std.specs.Bool.{Decides}
 use Rattle.std.specs.List.{list_any}
+use Rattle.std.proofs.lemmas.List.{take-append-le, take-map}
 use Rattle.ltl_spec.proofs.Collections.ListLaws.{All-at_has, index_append}
 use Rattle.ltl_spec.specs.Collections.Sets.{Has}
 use Rattle.ltl_spec.specs.NormalForms.Normal.{Normal, same}
 use Rattle.ltl_spec.specs.NormalForms.NormalForm.{postorder, rows}
 use Rattle.ltl_spec.proofs.Collections.ListLaws.{any_Decides, Has-at}
-use Rattle.ltl_spec.proofs.Collections.MemberLaws.{at_map, map_length}
+use Rattle.ltl_spec.proofs.Collections.MemberLaws.{at_map, map_length, Has-map}
 use Rattle.ltl_spec.proofs.NormalForms.NormalLaws.{same_Decides}
-use Rattle.ltl_spec.proofs.NormalForms.RowsCollected.{operands, by_operands, collect, collect_seen, collect_new, collect_closed, collect_has, collect_last, postorder_self, rows_collected, HasOperands, IsGraph, Has-map_tree, number_seen, listed_no_repeats}
+use Rattle.ltl_spec.proofs.NormalForms.RowsCollected.{operands, by_operands, collect, collect_seen, collect_new, collect_closed, collect_has, collect_last, postorder_self, rows_collected, HasOperands, IsGraph, number_seen, listed_no_repeats}
 use Rattle.ltl_spec.proofs.NormalForms.SharedNodes.{Node, parts_of, tree_at, node_at, index_last, IsShared, shared_graph}
 use Rattle.ltl_spec.proofs.Collections.CaseLaws.{below_or_last}
 use Rattle.ltl_formula.specs.WalkView.{AreInOrder}
@@ -19,11 +20,6 @@ use Rattle.ltl_formula.specs.WalkView.{AreInOrder}
 abbrev pub AreFirst : List Normal → Type 0
 AreFirst xs = (k : ℕ) (d : Normal) → k < length xs → (a : Normal) → Has (operands (slice_index_or xs k d)) a → Has (take k xs) a
 
-take_append : {X : Type 0} (xs ys : List X) (k : ℕ) → k ≤ length xs → take k (xs ++ ys) ≡ take k xs
-take_append xs ys zero l = refl
-take_append [] ys (suc k) l = absurd (omega arith)
-take_append (x ∷ xs) ys (suc k) l = ap (λ zs. x ∷ zs) (take_append xs ys k (omega arith))
-
 take_whole : {X : Type 0} (xs ys : List X) → take (length xs) (xs ++ ys) ≡ xs
 take_whole [] ys = refl
 take_whole (x ∷ xs) ys = ap (λ zs. x ∷ zs) (take_whole xs ys)
@@ -31,7 +27,7 @@ take_whole (x ∷ xs) ys = ap (λ zs. x ∷ zs) (take_whole xs ys)
 -- one more whose operands are there
 first_push : (xs : List Normal) (F : Normal) → AreFirst xs → ((a : Normal) → Has (operands F) a → Has xs a) → AreFirst (xs ++ F ∷ [])
 first_push xs F first there k d l a h = elim (below_or_last k (length xs) (let e = length-append xs (F ∷ []) in omega arith)) [
-  | inl m ↦ subst (λ ys. Has ys a) (sym (take_append xs (F ∷ []) k (omega arith))) (first k d m a (subst (λ (G : Normal). Has (operands G) a) (index_append xs (F ∷ []) k d m) h))
+  | inl m ↦ subst (λ ys. Has ys a) (sym (take-append-le k xs (F ∷ []) (omega arith))) (first k d m a (subst (λ (G : Normal). Has (operands G) a) (index_append xs (F ∷ []) k d m) h))
   | inr e ↦ subst (λ j. Has (take j (xs ++ F ∷ [])) a) (sym e) (subst (λ ys. Has ys a) (sym (take_whole xs (F ∷ []))) (there a (subst (λ (G : Normal). Has (operands G) a) (ap (λ j. slice_index_or (xs ++ F ∷ []) j d) e ∙ index_last xs F d) h)))
 ]
 
@@ -85,12 +81,6 @@ rows_last F = let (before, e) = collect_last [] F (λ h. h) in (before, sym (row
 
 -- ---- numbers of nodes
 
-take_map : {X Y : Type 0} (f : X → Y) (xs : List X) (k : ℕ) → take k (map f xs) ≡ map f (take k xs)
-take_map f [] zero = refl
-take_map f [] (suc k) = refl
-take_map f (x ∷ xs) zero = refl
-take_map f (x ∷ xs) (suc k) = ap (λ l. f x ∷ l) (take_map f xs k)
-
 Has-take : (ks : List ℕ) (n k : ℕ) → Has (take n ks) k → Has ks k
 Has-take [] zero k h = h
 Has-take [] (suc n) k h = h
@@ -109,9 +99,9 @@ numbers_in_order nodes root shared l ks inside e = record {
       let long : length (map (tree_at nodes) ks) ≡ length ks = map_length (tree_at nodes) ks in
       let rows_long : length (rows (tree_at nodes root)) ≡ length ks = sym (ap length e) ∙ long in
       let here : slice_index_or (rows (tree_at nodes root)) n (tree_at nodes 0) ≡ tree_at nodes k = ap (λ xs. slice_index_or xs n (tree_at nodes 0)) (sym e) ∙ at_map (tree_at nodes) ks n 0 (tree_at nodes 0) m in
-      let operand : Has (operands (tree_at nodes k)) (tree_at nodes i) = subst (λ os. Has os (tree_at nodes i)) (sym (graph.stands k k_inside)) (Has-map_tree (tree_at nodes) (parts_of (node_at nodes k)) i h) in
+      let operand : Has (operands (tree_at nodes k)) (tree_at nodes i) = subst (λ os. Has os (tree_at nodes i)) (sym (graph.stands k k_inside)) (Has-map (tree_at nodes) (parts_of (node_at nodes k)) i h) in
       let found : Has (take n (rows (tree_at nodes root))) (tree_at nodes i) = rows_first (tree_at nodes root) n (tree_at nodes 0) (omega arith) (tree_at nodes i) (subst (λ (F : Normal). Has (operands F) (tree_at nodes i)) (sym here) operand) in
-      let mapped : Has (map (tree_at nodes) (take n ks)) (tree_at nodes i) = subst (λ xs. Has xs (tree_at nodes i)) (ap (take n) (sym e) ∙ take_map (tree_at nodes) ks n) found in
+      let mapped : Has (map (tree_at nodes) (take n ks)) (tree_at nodes i) = subst (λ xs. Has xs (tree_at nodes i)) (ap (take n) (sym e) ∙ take-map (tree_at nodes) n ks) found in
       let i_inside : i < length nodes = (let o = graph.before k k_inside i h in omega arith) in
       number_seen (tree_at nodes) (λ k. parts_of (node_at nodes k)) (length nodes) graph (take n ks) i (λ j t. each j (Has-take ks n j t)) i_inside mapped;
 }

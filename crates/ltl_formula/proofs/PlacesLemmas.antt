@@ -2,7 +2,7 @@
 use Rattle.std.proofs.Common.{◌≡◌, ℕ, zero, suc, ◌+◌, ◌<◌, Bool, true, false, inl, inr, List, [], ◌∷◌, ◌++◌, map, take, drop, length, refl, sym, ◌∙◌, ap, subst, arith, eqb, length-append, length-take, add-one, cond, append_assoc, drop-cons, get_or-set_other, get_or-set_same}
 use Rattle.std.specs.Prelude.{slice_index_or, slice_index, slice_set}
 use Rattle.std.proofs.lemmas.Bool.Decides.{Decides-eqb}
-use Rattle.std.proofs.lemmas.List.{get_or-take}
+use Rattle.std.proofs.lemmas.List.{get_or-take, map_push}
 use Rattle.ltl_spec.proofs.Collections.ListLaws.{index_append, place_again}
 use Rattle.ltl_spec.specs.Collections.Sets.{Has}
 use Rattle.ltl_spec.specs.Collections.Lists.{HasNoRepeats, place_of}
@@ -17,7 +17,6 @@ use Rattle.ltl_formula.specs.PlacesView.{renumbered}
 use Rattle.ltl_formula.specs.TableView.{AreOrdered, row_trees, places_by}
 use Rattle.ltl_formula.specs.WalkView.{AreInOrder}
 use Rattle.ltl_formula.proofs.SharedNodesLemmas.{below_of}
-use Rattle.ltl_formula.proofs.FormsLemmas.{map_push}
 
 -- one element more of a list
 take_next : (xs : List ℕ) (n : ℕ) → n < length xs → take (suc n) xs ≡ take n xs ++ slice_index xs n ∷ []
@@ -28,13 +27,7 @@ take_next (x ∷ xs) (suc n) l = ap (λ ys. x ∷ ys) (take_next xs n (omega ari
 -- the tree of a node that is numbered anew
 tree_renumbered : (F : ℕ → Normal) (f : ℕ → ℕ) (v : Node) → tree_of F (renumbered f v) ≡ tree_of (λ i. F (f i)) v
 tree_renumbered F f TopNode = refl
-tree_renumbered F f BottomNode = refl
-tree_renumbered F f (LeafNode l) = refl
-tree_renumbered F f (NextNode i) = refl
-tree_renumbered F f (AndNode i j) = refl
-tree_renumbered F f (OrNode i j) = refl
-tree_renumbered F f (UntilNode i j) = refl
-tree_renumbered F f (ReleaseNode i j) = refl
+tree_renumbered F f _ = refl
 
 two : (n : ℕ) (f : ℕ → ℕ) (i k : ℕ) → f i < n → f k < n → (j : ℕ) → Has (f i ∷ f k ∷ []) j → j < n
 two n f i k p q j (inl e) = subst (λ x. x < n) (sym e) p

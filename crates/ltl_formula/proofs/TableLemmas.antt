@@ -106,23 +106,11 @@ places_length q n (t ∷ ts) = elim (q t) as (λ b. length (cond b (n ∷ places
 
 until_same : (f : ℕ → Normal) (r : Row) → is_until_row r ≡ normal.is_until (tree_of f (node_of r))
 until_same f row.True = refl
-until_same f row.False = refl
-until_same f (row.Literal l) = refl
-until_same f (row.Next i) = refl
-until_same f (row.And i j) = refl
-until_same f (row.Or i j) = refl
-until_same f (row.Until i j) = refl
-until_same f (row.Release i j) = refl
+until_same f _ = refl
 
 pub elementary_same : (f : ℕ → Normal) (r : Row) → is_elementary_row r ≡ normal.is_elementary (tree_of f (node_of r))
 elementary_same f row.True = refl
-elementary_same f row.False = refl
-elementary_same f (row.Literal l) = refl
-elementary_same f (row.Next i) = refl
-elementary_same f (row.And i j) = refl
-elementary_same f (row.Or i j) = refl
-elementary_same f (row.Until i j) = refl
-elementary_same f (row.Release i j) = refl
+elementary_same f _ = refl
 
 -- ---- literals
 
@@ -175,14 +163,8 @@ part_below n x F = by_operands (λ G. Has (normal.postorder G) x → HasLeavesBe
     ]
 
 row_below : (n : ℕ) (f : ℕ → Normal) (r : Row) → HasLeavesBelow n (tree_of f (node_of r)) → IsNamedBelow n r
-row_below n f row.True b = tt
-row_below n f row.False b = tt
 row_below n f (row.Literal l) b = b
-row_below n f (row.Next i) b = tt
-row_below n f (row.And i j) b = tt
-row_below n f (row.Or i j) b = tt
-row_below n f (row.Until i j) b = tt
-row_below n f (row.Release i j) b = tt
+row_below n f _ b = tt
 
 -- and so have the literals of its rows
 pub rows_below : (n : ℕ) (F : Normal) (rs : List Row) → row_trees rs ≡ normal.rows F → AreOrdered rs → HasLeavesBelow n F → All (IsNamedBelow n) rs

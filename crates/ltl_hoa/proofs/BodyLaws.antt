@@ -1,7 +1,7 @@
 -- Tokens that are passed on to another place.
 use Rattle.std.proofs.Common.{◌≡◌, List, [], ◌∷◌, ◌++◌, ℕ, zero, suc, ◌<◌, length, map, refl, sym, subst, ◌∙◌, ap, arith}
 use Rattle.std.specs.Prelude.{Result, slice_index_or, slice_set}
-use Rattle.std.proofs.lemmas.List.{map-set}
+use Rattle.std.proofs.lemmas.List.{map-set, get_or_default}
 use Rattle.ltl_spec.specs.Automata.Automaton.{Edge}
 use Rattle.ltl_spec.specs.Tools.Limits.{stated_limits}
 use Rattle.ltl_spec.specs.Hoa.HoaPlace as spec
@@ -66,20 +66,9 @@ nth_map f [] i d = refl
 nth_map f (x ∷ xs) zero d = refl
 nth_map f (x ∷ xs) (suc i) d = nth_map f xs i d
 
-nth_any : {T : Type 0} (xs : List T) (i : ℕ) (d e : T) → i < length xs → slice_index_or xs i d ≡ slice_index_or xs i e
-nth_any [] i d e l = absurd (nothing i l)
-  where
-    nothing : (k : ℕ) → k < 0 → ⊥
-    nothing k m = omega (arith, m)
-nth_any (x ∷ xs) zero d e l = refl
-nth_any (x ∷ xs) (suc i) d e l = nth_any xs i d e (below i (length xs) l)
-  where
-    below : (j n : ℕ) → suc j < suc n → j < n
-    below j n m = omega (arith, m)
-
 pub filed_edges : {T : Type 0} (f : T → List Edge) (lists : List T) (at n : ℕ) (old new : T) (more : List Edge) → old ≡ slice_index_or lists at old → at < n → length (map f lists) ≡ n
     → f new ≡ f old ++ more → map f (slice_set lists at new) ≡ slice_set (map f lists) at (slice_index_or (map f lists) at [] ++ more)
 filed_edges f lists at n old new more o l c e =
     let within : at < length (map f lists) = omega (arith, l, c) in
     map-set f lists at new
-    ∙ ap (slice_set (map f lists) at) (e ∙ ap (λ es. es ++ more) (ap f o ∙ sym (nth_map f lists at old) ∙ nth_any (map f lists) at (f old) [] within))
+    ∙ ap (slice_set (map f lists) at) (e ∙ ap (λ es. es ++ more) (ap f o ∙ sym (nth_map f lists at old) ∙ get_or_default (map f lists) at (f old) [] within))

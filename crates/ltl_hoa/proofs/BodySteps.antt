@@ -5,7 +5,7 @@ use Rattle.std.specs.List.{list_any}
 use Rattle.std.specs.Ordering.{nat_cmp}
 use Rattle.std.proofs.lemmas.Bool.Decides.{nat_tests}
 use Rattle.std.proofs.lemmas.Bool.{eqb-true}
-use Rattle.std.proofs.lemmas.List.{append-nil, length-set}
+use Rattle.std.proofs.lemmas.List.{append-nil, length-set, get_or-set_same, get_or-set_other, nil_from_length}
 use Rattle.ltl_spec.specs.Collections.Sets.{put, set_of}
 use Rattle.ltl_spec.specs.Transitions.Cubes.{Cube}
 use Rattle.ltl_spec.specs.Tools.Limits.{stated_limits}
@@ -62,13 +62,10 @@ too_large n m count o y b g w e few c l =
 in_range : (n m count : ℕ) (o : Option ℕ) (y : Step) (b : Before) (g : Came) (r : Result Place Stop) (w : BodyView) → o ≡ Some count → count ≤ stated_limits.hoa_edges → m ≡ capped n → m < count → (m ≡ n → Leads y b g r w) → Leads (if_below n o y) b g r w
 in_range n m count o y b g r w e few c l f =
     subst (λ u. Leads (if_below n u y) b g r w) (sym e)
-    (subst (λ d. Leads (if d then y else Err fault.NumberOutOfRange) b g r w) (sym (under n m count few c l)) (f (same n m count few c l)))
+    (subst (λ d. Leads (if d then y else Err fault.NumberOutOfRange) b g r w) (sym (under n m count few c l)) (f (omega (arith, few, c, l))))
   where
     under : (n m count : ℕ) → count ≤ stated_limits.hoa_edges → m ≡ capped n → m < count → nat_lt n count ≡ true
     under n m count few c l = grind (arith, nat_tests, few, c, l)
-
-    same : (n m count : ℕ) → count ≤ stated_limits.hoa_edges → m ≡ capped n → m < count → m ≡ n
-    same n m count few c l = omega (arith, few, c, l)
 
 -- a set with one number more
 pub put_last : (ks : List ℕ) (k : ℕ) → set_of nat_cmp (ks ++ k ∷ []) ≡ put nat_cmp k (set_of nat_cmp ks)
@@ -84,26 +81,11 @@ put_last ks k =
     ]))
 
 set_get : {T : Type 0} (xs : List T) (i k : ℕ) (y d : T) → i < length xs → slice_index_or (slice_set xs i y) k d ≡ (if i == k then y else slice_index_or xs k d)
-set_get [] i k y d l = absurd (nothing i l)
-  where
-    nothing : (j : ℕ) → j < 0 → ⊥
-    nothing j m = omega (arith, m)
-set_get (x ∷ xs) zero zero y d l = refl
-set_get (x ∷ xs) zero (suc k) y d l = ap (λ c. if c then y else slice_index_or xs k d) (apart k)
-  where
-    apart : (j : ℕ) → false ≡ (0 == suc j)
-    apart j = grind (arith, nat_tests)
-set_get (x ∷ xs) (suc i) zero y d l = ap (λ c. if c then y else x) (apart i)
-  where
-    apart : (j : ℕ) → false ≡ (suc j == 0)
-    apart j = grind (arith, nat_tests)
-set_get (x ∷ xs) (suc i) (suc k) y d l = set_get xs i k y d (below i (length xs) l) ∙ ap (λ c. if c then y else slice_index_or xs k d) (same i k)
-  where
-    below : (j n : ℕ) → suc j < suc n → j < n
-    below j n m = omega (arith, m)
-
-    same : (j n : ℕ) → (j == n) ≡ (suc j == suc n)
-    same j n = grind (arith, nat_tests)
+set_get xs i k y d l =
+    elim (i == k) as (λ c. (i == k) ≡ c → slice_index_or (slice_set xs i y) k d ≡ (if c then y else slice_index_or xs k d)) [
+      | true ↦ λ e. ap (λ j. slice_index_or (slice_set xs i y) j d) (sym (eqb-true i k e)) ∙ get_or-set_same xs i y d l
+      | false ↦ λ e. get_or-set_other xs i k y d (λ q. grind (arith, nat_tests, e, q))
+    ] refl
 
 -- ---- states
 
@@ -235,11 +217,7 @@ no_bracket v w c = λ p l b g s. go p.inner p.around b g (sym (ap (λ y. y.aroun
 
 -- the end of a label
 none_length : {T : Type 0} (xs : List T) → (length xs == 0) ≡ true → xs ≡ []
-none_length [] e = refl
-none_length (x ∷ xs) e = absurd (some (length xs) e)
-  where
-    some : (n : ℕ) → (suc n == 0) ≡ true → ⊥
-    some n q = grind (arith, nat_tests, q)
+none_length xs e = nil_from_length xs (eqb-true (length xs) 0 e)
 
 pub still_open : (v w : BodyView) → label.is_closed v.label ≡ false → StepsInLabel spec.AfterOperand v token.CloseLabel (Err (Fault BadToken)) w
 still_open v w c = λ p l b g s. go p.inner p.around b (record g { cubes = label_cubes (whole p.inner) }) (sym (ap label.is_closed l) ∙ c)

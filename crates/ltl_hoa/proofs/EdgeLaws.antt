@@ -271,16 +271,13 @@ module _ (l : Limits) (form : AcceptanceForm) (A : MarkedAutomaton) where
   states_lead [] place numbers edges g p i w d f m = record { place_behind = place; begins = p; all = numbers; count = edges; came = g; told = refl; are = λ k. sym (append-nil (edges_of k g.edges)) }
   states_lead (s ∷ ss) place numbers edges g p i w d f m =
       let count = sum_by-cons (λ t. length (state_edges t)) s ss in
-      let first = state_leads s place numbers edges g p (left_true _ _ i) (left_true _ _ w) (fresh s.number numbers (f s.number (inl refl))) (at_most _ (length (state_edges s)) (count_edges l form A ss) _ _ count m) in
+      let first = state_leads s place numbers edges g p (left_true _ _ i) (left_true _ _ w) (fresh s.number numbers (f s.number (inl refl))) (omega (arith, count, m)) in
       behind_state s ss place numbers edges g first (
       states_lead ss first.place_behind (s.number ∷ numbers) (edges + length (state_edges s)) first.came (edge_begins_state first.place_behind first.begins) (right_true (is_state_inside A s) _ i)
       (right_true (is_narrow l form A s) _ w) d.1
       (λ n h k. elim k [ inl e ↦ d.0 (subst (Has (map (λ t. t.number) ss)) e h) | inr r ↦ f n (inr h) r ])
       (regroup _ (length (state_edges s)) (count_edges l form A ss) _ _ count m))
     where
-      at_most : (a b c k n : ℕ) → n ≡ b + c → a + n ≤ k → a + b ≤ k
-      at_most a b c k n e q = omega (arith, e, q)
-
       regroup : (a b c k n : ℕ) → n ≡ b + c → a + n ≤ k → a + b + c ≤ k
       regroup a b c k n e q = omega (arith, e, q)
 
@@ -302,7 +299,7 @@ module _ (l : Limits) (form : AcceptanceForm) (A : MarkedAutomaton) where
       let begun : Told l form = (at l form (AtItem PlainItem) no_header [] 0, came_none) in
       let first : (tell l form begun hs).0 ≡ at l form (AtItem items.0) (whole_header A) [] 0 = first_told l form hs begun ∙ items.1 in
       let second : (tell l form begun hs).1 ≡ came_none = header_told l form hs begun.0 came_none tt (items_kept d.items f.items) in
-      let states = states_lead d.states AtState [] 0 came_none refl f.inside w.labels f.once (λ n h k. k) (from_zero _ _ w.edges) in
+      let states = states_lead d.states AtState [] 0 came_none refl f.inside w.labels f.once (λ n h k. k) (omega (arith, w.edges)) in
       let head : tell l form begun hs ≡ (at l form (AtItem items.0) (whole_header A) [] 0, came_none) = λ i. (first i, second i) in
       let begins : tell l form (at l form (AtItem items.0) (whole_header A) [] 0, came_none) (Body ∷ ss) ≡ (body l form A states.place_behind states.all states.count, states.came) =
       ap (λ t. tell l form (if t then body l form A AtState [] 0 else Err NumberOutOfRange, came_none) ss) (lt-ltb A.start A.states f.begins) ∙ states.told in
@@ -315,9 +312,6 @@ module _ (l : Limits) (form : AcceptanceForm) (A : MarkedAutomaton) where
             (ends_told states.place_behind states.all states.count states.came states.begins);
         are = states.are;
       }
-    where
-      from_zero : (n k : ℕ) → n ≤ k → 0 + n ≤ k
-      from_zero n k m = omega (arith, m)
 
 -- what the items come to, their tokens come to
 abbrev step_of : Result Before fault.HoaFault → Step

@@ -241,10 +241,7 @@ longer (x ∷ m) (y ∷ p) rest e =
 -- one byte more
 pub one_longer : (m p : List ℕ) (b : ℕ) → starts_with nat_eq (p ++ b ∷ []) m ≡ true → (starts_with nat_eq p m ≡ true) ⊎ (same_name (p ++ b ∷ []) m ≡ true)
 one_longer [] p b e = inl refl
-one_longer (x ∷ []) [] b e = inr (turned (left_true (nat_eq x b) _ e))
-  where
-    turned : nat_eq x b ≡ true → (nat_eq b x && true) ≡ true
-    turned q = grind (arith, nat_tests, q)
+one_longer (x ∷ []) [] b e = inr (let h0 = left_true (nat_eq x b) _ e in grind (arith, nat_tests, h0))
 one_longer (x ∷ y ∷ m) [] b e = false_is_true (right_true (nat_eq x b) _ e)
 one_longer (x ∷ m) (y ∷ p) b e =
     let one = left_true (nat_eq x y) _ e in

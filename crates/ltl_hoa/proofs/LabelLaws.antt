@@ -17,6 +17,7 @@ use Rattle.ltl_label.specs.CubesView.{few, constant_cubes, literal_cubes, both_c
 use Rattle.ltl_label.specs.LabelView as view
 use Rattle.ltl_label.specs.LabelView.{LabelView}
 use Rattle.ltl_hoa.specs.Shown.{narrow_normal, narrow, is_odd, shown_part, sign_within, shown_around, shown_label}
+use Rattle.std.proofs.lemmas.List.{same_from_push}
 
 -- cubes of a normal form are a set
 cubes_rise : (N : Normal) → IsRising cube_cmp (cubes N)
@@ -190,28 +191,10 @@ pub shows_alternative : (p : LabelParts) → shown_label (record p { inner = rec
 shows_alternative p =
     ap (λ c. record { inner = record { positive = sign_within p.around; negated = false; sum = Some c; product = None }; around = shown_around p.around }) (part_whole (sign_within p.around) p.inner)
 
--- the last of a list
-last_same : {K : Type 0} (xs ys : List K) (x y : K) → xs ++ x ∷ [] ≡ ys ++ y ∷ [] → (xs ≡ ys) × (x ≡ y)
-last_same [] [] x y e = (refl, same_first e)
-last_same {K} [] (z ∷ zs) x y e = absurd (none zs y (same_behind e))
-  where
-    none : (us : List K) (u : K) → [] ≡ us ++ u ∷ [] → ⊥
-    none [] u q = cc
-    none (w ∷ us) u q = cc
-last_same {K} (z ∷ zs) [] x y e = absurd (none zs x (sym (same_behind e)))
-  where
-    none : (us : List K) (u : K) → [] ≡ us ++ u ∷ [] → ⊥
-    none [] u q = cc
-    none (w ∷ us) u q = cc
-last_same (w ∷ xs) (z ∷ ys) x y e =
-    let rest = last_same xs ys x y (same_behind e) in
-    let first = same_first e in
-    ((λ i. first i ∷ rest.0 i), rest.1)
-
 pub shows_closed : (inner p : LabelPart) (ps : List LabelPart) (x : LabelView) → view.Closes (shown_label (record { inner = inner; around = p ∷ ps })) true x
     → x ≡ shown_label (record { inner = with_operand p (BracketLabel (whole inner)); around = ps })
 shows_closed inner p ps x (q, e, f) =
-    let last = last_same (shown_around ps) x.around (shown_part (sign_within ps) p) q e in
+    let last = same_from_push (shown_around ps) x.around (shown_part (sign_within ps) p) q e in
     let cubes = part_whole (flipped (sign_within ps) (is_odd p.negations)) inner in
     let added = part_added (sign_within ps) p (BracketLabel (whole inner)) ∙ ap (view.add (shown_part (sign_within ps) p)) (narrow_bracket _ (whole inner) ∙ cubes) in
     let same : x.inner ≡ shown_part (sign_within ps) (with_operand p (BracketLabel (whole inner))) = f ∙ ap (λ r. view.add r (view.whole (shown_part (flipped (sign_within ps) (is_odd p.negations)) inner))) (sym last.1) ∙ sym added in

@@ -441,15 +441,7 @@ ended_at Digits line b (x ∷ xs) start k l e rest =
     number_ends line x xs (b ∷ rest) l.1.0 l.1.1 l.1.2 end.0
     ∙ ap (λ n. item_of kind.Int (at_phase Digits (x ∷ xs) n) ∷ hoa_items_from 0 line (b ∷ rest)) (sym l.0)
     ∙ ap (λ j. item_of j (at_phase Digits (x ∷ xs) start) ∷ hoa_items_from 0 line (b ∷ rest)) end.1
-ended_at Between line b text start k l e rest = cc
-ended_at Slash line b text start k l e rest = cc
-ended_at Mark line b text start k l e rest = cc
-ended_at Text line b text start k l e rest = cc
-ended_at Escape line b text start k l e rest = cc
-ended_at (Comment depth) line b text start k l e rest = cc
-ended_at (CommentSlash depth) line b text start k l e rest = cc
-ended_at (CommentStar depth) line b text start k l e rest = cc
-ended_at Ended line b text start k l e rest = cc
+ended_at _ line b text start k l e rest = cc
 
 pub lexer_ends : (v : LexerView) (line b : ℕ) (k : TokenKind) → IsLexing v line → ended_kind v.phase b ≡ Some k
     → (rest : List ℕ) → resume v line (b ∷ rest) ≡ item_of k v ∷ resume (rested v) line (b ∷ rest)
@@ -457,7 +449,6 @@ lexer_ends v line b k l e = ended_at v.phase line b v.text v.start k l e
 
 -- the end of the text
 last_at : (phase : Phase) (line : ℕ) (text : List ℕ) (start : ℕ) → IsLexing (at_phase phase text start) line → resume (at_phase phase text start) line [] ≡ with_item (last_kind phase) (at_phase phase text start) []
-last_at Between line text start l = refl
 last_at Slash line text start l = slash_last line ∙ ap (λ n. record { token = Unknown; line = n } ∷ []) (sym l)
 last_at Word line [] start l = absurd l.1
 last_at Word line (x ∷ xs) start l = word_ends line x xs [] l.1.0 l.1.1 tt ∙ ap (λ n. item_of kind.Identifier (at_phase Word (x ∷ xs) n) ∷ []) (sym l.0)
@@ -470,12 +461,7 @@ last_at Mark line (x ∷ xs) start l =
     ap (λ t. hoa_items_from 0 line (x ∷ t)) (append-nil xs)
     ∙ (subst (λ n. has_mark (n ∷ xs) ≡ false → hoa_items_from 0 line (n ∷ xs) ≡ record { token = Unknown; line = line } ∷ []) (sym l.1.0) (dash_alone line xs)) l.1.2
     ∙ ap (λ n. record { token = Unknown; line = n } ∷ []) (sym l.0)
-last_at Text line text start l = refl
-last_at Escape line text start l = refl
-last_at (Comment depth) line text start l = refl
-last_at (CommentSlash depth) line text start l = refl
-last_at (CommentStar depth) line text start l = refl
-last_at Ended line text start l = refl
+last_at _ line text start l = refl
 
 pub lexer_last : (v : LexerView) (line : ℕ) → IsLexing v line → resume v line [] ≡ with_item (last_kind v.phase) v []
 lexer_last v line l = last_at v.phase line v.text v.start l

@@ -41,10 +41,7 @@ none_counted c n m (suc j) l =
     ∙ none_counted c n (m + 1) j (omega (arith, l))
   where
     other : (a b : ℕ) → a < b → (a == b) ≡ false
-    other a b h = false_from_ne_true (a == b) (λ e. apart a b h (eqb-true a b e))
-      where
-        apart : (x y : ℕ) → x < y → x ≡ y → ⊥
-        apart x y h e = omega (arith, h, e)
+    other a b h = false_from_ne_true (a == b) (λ e. (let h1 = eqb-true a b e in omega (arith, h, h1)))
 
 once_counted : (c n m j : ℕ) → sum_by (λ k. if n == k then c else 0) (range_with_len m j) ≤ c
 once_counted c n m zero = omega arith
@@ -154,8 +151,5 @@ read_marked text A r =
       few_edges =
           let same = ap (sum_by length) f.edges ∙ sum_mapped (edges_at d) (range_with_len 0 A.states) in
           let count = edges_counted d.states 0 A.states in
-          at_most _ _ _ stated_limits.hoa_edges same count w.edges;
+          (omega (arith, same, count, w.edges));
     }
-  where
-    at_most : (a b c n : ℕ) → a ≡ b → b ≤ c → c ≤ n → a ≤ n
-    at_most a b c n e f g = omega (arith, e, f, g)

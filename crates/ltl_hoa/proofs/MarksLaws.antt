@@ -29,14 +29,11 @@ alone i e f = rw (e, f) refl
 pub marks_put : (n i m : ℕ) → n < 2 ^ 64 → i < 32 → m ≡ 1 * 2 ^ i % 2 ^ 32 → marks_of (bit_or n m) ≡ put nat_cmp i (marks_of n)
 marks_put n i m h l e =
     ap (λ p. marks_of (bit_or n p)) (e ∙ whole (2 ^ i) (pow_below i 32 l))
-    ∙ members_insert (words_of_bits n) (words_of_bits (2 ^ i)) i (omega (arith, l)) (bits_fit n h) (bits_fit (2 ^ i) (wider (2 ^ i) (pow_below i 32 l)))
+    ∙ members_insert (words_of_bits n) (words_of_bits (2 ^ i)) i (omega (arith, l)) (bits_fit n h) (bits_fit (2 ^ i) (let h0 = pow_below i 32 l in omega (arith, h0)))
     (bit_in-alone i (words_of_bits (2 ^ i)) (alone i (omega (arith, l)) (omega (arith, l))))
   where
     whole : (p : ℕ) → p < 2 ^ 32 → 1 * p % 2 ^ 32 ≡ p
     whole p g = omega (arith, g)
-
-    wider : (p : ℕ) → p < 2 ^ 32 → p < 2 ^ 64
-    wider p g = omega (arith, g)
 
 -- ---- one set after another
 

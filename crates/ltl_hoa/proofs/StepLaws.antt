@@ -63,14 +63,11 @@ limited : (m n : ℕ) → m ≤ stated_limits.hoa_edges → (f g : ℕ → Step)
     → Agrees (if nat_lt m (capped n) then Err LimitPassed else f (capped n)) (if nat_lt m n then Err LimitPassed else g n)
 limited m n l f g a = go (nat_lt m n) refl
   where
-    few : (i j : ℕ) → nat_lt i j ≡ false → j ≤ i
-    few i j e = grind (arith, nat_tests, e)
-
     go : (c : Bool) → nat_lt m n ≡ c → Agrees (if nat_lt m (capped n) then Err LimitPassed else f (capped n)) (if c then Err LimitPassed else g n)
     go true e = subst (λ x. Agrees (if x then Err LimitPassed else f (capped n)) (Err LimitPassed)) (sym (capped_over m n l ∙ e)) refl
     go false e =
         subst (λ x. Agrees (if x then Err LimitPassed else f (capped n)) (g n)) (sym (capped_over m n l ∙ e))
-        (subst (λ k. Agrees (f k) (g n)) (sym (small_of m n l e)) (a n (few m n e)))
+        (subst (λ k. Agrees (f k) (g n)) (sym (small_of m n l e)) (a n (grind (arith, nat_tests, e))))
 
 -- a token that is wanted
 abbrev IsSmall : List HoaToken → Type 0

@@ -42,14 +42,11 @@ past_limit bytes rest b l =
     text : List ℕ
     text = bytes ++ b ∷ rest
 
-    counted : (m n k : ℕ) → m ≡ n + k → n ≡ stated_limits.hoa_bytes → 0 < k → stated_limits.hoa_bytes < m
-    counted m n k e f g = omega (arith, e, f, g)
-
     some : (ys : List ℕ) → 0 < length (b ∷ ys)
     some ys = omega arith
 
     more : stated_limits.hoa_bytes < length text
-    more = counted (length text) (length bytes) (length (b ∷ rest)) (length-append bytes (b ∷ rest)) l (some rest)
+    more = (let h0 = length-append bytes (b ∷ rest) in let h2 = some rest in omega (arith, h0, l, h2))
 
 -- ---- the loop
 
@@ -129,25 +126,16 @@ whatever (Err f) p = λ _. p
 pub end_taken : (o m n : Option (List ℕ)) (v : StreamReaderView) (given k : ℕ) (buf : List ℕ) → HasRead o m v given → given ≤ stated_limits.hoa_bytes → k ≡ 0 → 0 < length buf
     → Consumes m n (take k buf) × (k ≡ 0 → 0 < length buf → IsAtEnd n) → TakesText o n
 end_taken o m n v given k buf (text, c, a, l) g z s (d, e) =
-    takes_all o n text (few (length text) l) (subst (λ t. Consumes o n t) (append-nil text) (consumes_trans o m n text [] c (subst (λ j. Consumes m n (take j buf)) z d))) (e z s)
-  where
-    few : (x : ℕ) → x ≡ given → x ≤ (stated_limits.hoa_bytes + 1)
-    few x q = omega (arith, q, g)
+    takes_all o n text (omega (arith, g, l)) (subst (λ t. Consumes o n t) (append-nil text) (consumes_trans o m n text [] c (subst (λ j. Consumes m n (take j buf)) z d))) (e z s)
 
 -- a byte was read behind the limit
 one_byte : (k : ℕ) (buf : List ℕ) → 0 < k → k ≤ length buf → length buf ≡ 1 → (b : ℕ) × (take k buf ≡ b ∷ [])
-one_byte k [] p l e = absurd (none p l)
-  where
-    none : 0 < k → k ≤ 0 → ⊥
-    none p l = omega (arith, p, l)
+one_byte k [] p l e = absurd (omega (arith, p, l))
 one_byte k (b ∷ []) p l e = (b, ap (λ j. take j (b ∷ [])) (one p l))
   where
     one : 0 < k → k ≤ 1 → k ≡ 1
     one p l = omega (arith, p, l)
-one_byte k (b ∷ c ∷ buf) p l e = absurd (two (length buf) e)
-  where
-    two : (n : ℕ) → suc (suc n) ≡ 1 → ⊥
-    two n q = omega (arith, q)
+one_byte k (b ∷ c ∷ buf) p l e = absurd (omega (arith, e))
 
 refused_past : (o n : Option (List ℕ)) (text : List ℕ) (b line : ℕ) → length text ≡ stated_limits.hoa_bytes → line ≡ last_line text → Consumes o n (text ++ b ∷ []) → AnswersHeld o (Err (AtLine line made.LimitPassed))
 refused_past None n text b line l e c = (text ++ b ∷ [], tt, past_limit text [] b l ∙ ap (λ m. fault_at LimitPassed m) (sym e))
@@ -184,10 +172,7 @@ past_taken o m n v given k buf (text, c, a, l) g p s e d =
 -- behind a read of so many bytes, the last one maybe
 pub taken_up_to : (o m n : Option (List ℕ)) (v : StreamReaderView) (given k : ℕ) (buf : List ℕ) → HasRead o m v given → Consumes m n (take k buf) → given + k ≤ stated_limits.hoa_bytes + 1 → TakesUpTo o n
 taken_up_to o m n v given k buf (text, c, a, l) d few =
-    (text ++ take k buf, consumes_trans o m n text (take k buf) c d, counted (length (text ++ take k buf)) (length text) (length (take k buf)) (length-append text (take k buf)) l (length-take k buf))
-  where
-    counted : (z x y : ℕ) → z ≡ x + y → x ≡ given → y ≡ min k (length buf) → z ≤ stated_limits.hoa_bytes + 1
-    counted z x y e f g = omega (arith, e, f, g, few)
+    (text ++ take k buf, consumes_trans o m n text (take k buf) c d, (let h0 = length-append text (take k buf) in let h2 = length-take k buf in omega (arith, few, h0, l, h2)))
 
 -- behind a failed read
 pub kept_up_to : (o m n : Option (List ℕ)) (v : StreamReaderView) (given : ℕ) → HasRead o m v given → Keeps m n → given ≤ stated_limits.hoa_bytes → TakesUpTo o n

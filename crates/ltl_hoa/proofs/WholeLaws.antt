@@ -65,11 +65,8 @@ header_made : (A : MarkedAutomaton) (v : HeaderView) (h : spec.HoaHeader) (b : B
 header_made A v h b before g s e l m c q =
     let items = s.items ∙ ap capped_header e in
     automaton_made A v.items.start v.items.sets v.items.names b.edges
-    (ap (λ x. x.start) items ∙ ap Some (capped_small A.start (small A.start A.states l m)))
+    (ap (λ x. x.start) items ∙ ap Some (capped_small A.start (omega (arith, l, m))))
     (ap (λ x. x.sets) items) (ap (λ x. x.names) items) c q
-  where
-    small : (m n : ℕ) → m < n → n ≤ stated_limits.hoa_states → m ≤ 4_294_967_295
-    small m n l k = omega (arith, l, k)
 
 -- the parser's automaton is the one that the text reads as
 pub whole_automaton : (v : ParserView) (text : List ℕ) (b : Before) (g : Came) (A : MarkedAutomaton) → HoaReadsWithin stated_limits stated_form text A → v.place ≡ place.End → Shows v b g

@@ -8,3 +8,4 @@ pub mod SortedSets
 pub mod SumLaws
 pub mod ProductLists
 pub mod SortedOnce
+pub mod FoundLaws

@@ -10,7 +10,4 @@ where_ok (Err x) p f = tt
 -- a list of which a call that takes an element found none
 pub none_left : {X : Type 0} (xs : List X) → (0 < length xs → IsSome {T = X} None) → xs ≡ []
 none_left [] some = refl
-none_left (x ∷ xs) some = absurd (impossible (some (omega arith)))
-  where
-    impossible : false ≡ true → ⊥
-    impossible e = cc
+none_left (x ∷ xs) some = absurd (let h0 = some (omega arith) in cc)

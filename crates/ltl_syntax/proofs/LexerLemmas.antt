@@ -27,10 +27,7 @@ sign_first (x ∷ xs) b c d l e f g h =
 -- a list with which another one begins is no longer
 no_longer : (xs ys : List ℕ) → starts_with nat_eq xs ys ≡ true → length ys ≤ length xs
 no_longer xs [] e = omega arith
-no_longer [] (y ∷ ys) e = absurd (no_test e)
-  where
-    no_test : false ≡ true → ⊥
-    no_test d = cc
+no_longer [] (y ∷ ys) e = absurd (cc)
 no_longer (x ∷ xs) (y ∷ ys) e = let l = no_longer xs ys (second (nat_eq y x) (starts_with nat_eq xs ys) e) in omega arith
   where
     second : (p q : Bool) → (p && q) ≡ true → q ≡ true

@@ -1,6 +1,7 @@
 -- A parser's frames and nodes, one more and one less.
 use Rattle.std.proofs.Common.{◌≡◌, ◌∙◌, ap, sym, refl, subst, ℕ, suc, ◌-◌, ◌<◌, ◌≤◌, true, false, cond, inl, inr, ◌⊎◌, List, [], ◌∷◌, ◌++◌, fold, length, arith, slice_index_or, nat_le, Some, None}
 use Rattle.std.proofs.lemmas.Option.{same_Some}
+use Rattle.std.proofs.lemmas.List.Sums.{fold-append}
 use Rattle.ltl_spec.specs.Formulas.Formula as spec
 use Rattle.ltl_spec.specs.Formulas.Grammar.{rank_of}
 use Rattle.ltl_spec.proofs.Formulas.GrammarMachine as machine
@@ -11,13 +12,13 @@ use Rattle.ltl_syntax.specs.declared.parser.Frame.TheVariants.{Bracket, Prefix, 
 use Rattle.ltl_syntax.specs.FormulaView.{StandsAt, tree_in, tree_of, trees, whole_tree, binary_of}
 use Rattle.ltl_syntax.specs.CanonicalWork.{HasOperands}
 use Rattle.ltl_syntax.specs.ParserView.{frame_of, with_frame, frames_of, IsBelow, AreBelow, closed_node}
-use Rattle.ltl_syntax.proofs.TreeLemmas.{push_length, push_before, push_at, fold_push, trees_push, trees_length}
+use Rattle.ltl_syntax.proofs.TreeLemmas.{push_length, push_before, push_at, trees_push, trees_length}
 
 -- ---- frames
 
 -- a frame more is on top
 pub frames_push : (ts : List spec.Formula) (fs : List Frame) (f : Frame) → frames_of ts (fs ++ f ∷ []) ≡ frame_of ts f ∷ frames_of ts fs
-frames_push ts fs f = fold_push (with_frame ts) [] fs f
+frames_push ts fs f = fold-append (with_frame ts) [] fs (f ∷ [])
 
 pub below_push : (n : ℕ) (fs : List Frame) (f : Frame) → AreBelow n fs → IsBelow n f → AreBelow n (fs ++ f ∷ [])
 below_push n [] f b h = (h, tt)
@@ -65,11 +66,8 @@ frames_stay ns n fs b =
 
 -- with one node more
 pub operands_push : (count : ℕ) (ns : List Node) (n : Node) → HasOperands count ns → StandsAt count (length ns) n → HasOperands count (ns ++ n ∷ [])
-operands_push count ns n o s i k = by (split i)
+operands_push count ns n o s i k = by (grind arith)
   where
-    split : (j : ℕ) → (j < length ns) ⊎ (length ns ≤ j)
-    split j = grind arith
-
     by : (i < length ns) ⊎ (length ns ≤ i) → StandsAt count i (slice_index_or (ns ++ n ∷ []) i (Constant false))
     by (inl l) = subst (StandsAt count i) (sym (push_before ns n i (Constant false) l)) (o i l)
     by (inr l) =

@@ -24,6 +24,7 @@ use Rattle.ltl_syntax.proofs.CallLemmas.{none_left}
 use Rattle.ltl_syntax.proofs.TreeLemmas.{push_length}
 use Rattle.ltl_syntax.proofs.ParserLemmas.{below_push, below_pop, below_more, operands_push, frames_push, frames_stay, whole_push}
 use Rattle.ltl_syntax.proofs.UseLemmas.{leaf_once, frame_once, frame_gone, pending_once, popped_free}
+use Rattle.ltl_spec.proofs.Collections.CaseLaws.{false_is_true}
 
 -- a frame that holds no operand
 free_below : (n : ℕ) (f : Frame) → left_of f ≡ [] → IsBelow n f
@@ -87,14 +88,8 @@ module _ (ns : List Node) (fs : List Frame) (names : List Name) (has : Bool) (p 
           operands = closed_kept.operands;
           once = pending_once ns1 fs1 fs2 (Pending (k - 1) op) e (ap (λ j. (j - 1) ∷ []) l) once_kept;
           pending = subst (AreBelow (length ns1)) (sym e) (below_push (length ns1) fs1 (Pending (k - 1) op) pending (omega arith));
-          some = λ d. no_test d;
+          some = λ d. false_is_true d;
         }
-      where
-        no_test : {P : Type 0} → false ≡ true → P
-        no_test d = absurd (no_way d)
-          where
-            no_way : false ≡ true → ⊥
-            no_way z = cc
 
     -- and one off
     pub closed_popped : (fs2 : List Frame) (f : Frame) → left_of f ≡ [] → fs1 ≡ fs2 ++ f ∷ [] → IsParsing (record { nodes = ns1; frames = fs2; names = names; has_operand = has })
@@ -112,11 +107,6 @@ module _ (ns : List Node) (fs : List Frame) (names : List Name) (has : Bool) (p 
     closed_pop closed fs2 (Some f) e = closed_popped fs2 f (popped_free (trees ns1) (whole_tree ns) (whole_tree ns1) (frames_of (trees ns) fs) fs1 fs2 f closed e) e
 
 -- ---- the reader
-
--- no element is left
-pub empty_list : {X : Type 0} (xs : List X) → length xs ≡ 0 → xs ≡ []
-empty_list [] z = refl
-empty_list (x ∷ xs) z = absurd (omega arith)
 
 -- a test for zero
 pub zero_from_test : (n : ℕ) → (n == 0) ≡ true → n ≡ 0
@@ -228,11 +218,8 @@ expects_open now h e =
     let s = frames_of (trees now.nodes) now.frames in
     by F s (brackets s) refl (ap machine.finished (sym (having now h)) ∙ e) ∙ ap (λ r. kind_before (outline r)) (sym (having now h))
   where
-    different : (F : spec.Formula) → None ≡ Some F → ⊥
-    different F d = cc
-
     by : (F : spec.Formula) (s : List machine.Frame) (n : ℕ) → brackets s ≡ n → machine.finished (machine.Having F s) ≡ None → fault.ExpectedCloseOrOperator ≡ kind_before (After (brackets s))
-    by F s zero b none = let w = outline_finished (Some (machine.Having F s)) (ap (λ k. Some (After k)) b) in absurd (different w.0 (sym none ∙ w.1))
+    by F s zero b none = let w = outline_finished (Some (machine.Having F s)) (ap (λ k. Some (After k)) b) in absurd (let h0 = sym none ∙ w.1 in cc)
     by F s (suc n) b none = ap (λ k. kind_before (After k)) (sym b)
 
 -- how many brackets there are among the frames
@@ -257,10 +244,7 @@ no_bracket (Pending i op ∷ fs) e = no_bracket fs e
 
 some_bracket : (fs : List Frame) → list_any is_bracket fs ≡ true → 1 ≤ open_count fs
 some_bracket [] e = cc
-some_bracket (Bracket ∷ fs) e = let m = open_count fs in suc_positive m
-  where
-    suc_positive : (m : ℕ) → 1 ≤ suc m
-    suc_positive m = omega arith
+some_bracket (Bracket ∷ fs) e = let m = open_count fs in (omega arith)
 some_bracket (Prefix op ∷ fs) e = some_bracket fs e
 some_bracket (Pending i op ∷ fs) e = some_bracket fs e
 

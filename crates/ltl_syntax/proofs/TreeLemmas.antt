@@ -1,5 +1,6 @@
 -- The trees of nodes.
 use Rattle.std.proofs.Common.{◌≡◌, ◌∙◌, ap, ap₂, sym, refl, subst, ℕ, zero, suc, ◌+◌, ◌<◌, List, [], ◌∷◌, ◌++◌, fold, length, arith, slice_index_or, false}
+use Rattle.std.proofs.lemmas.List.Sums.{fold-append}
 use Rattle.ltl_spec.specs.Formulas.Formula as spec
 use Rattle.ltl_syntax.specs.declared.operators.Node.{Node}
 use Rattle.ltl_syntax.specs.declared.operators.Node.TheVariants.{Constant, Proposition, Unary, Binary}
@@ -22,14 +23,9 @@ pub push_at : {X : Type 0} (xs : List X) (x : X) (d : X) → slice_index_or (xs 
 push_at [] x d = refl
 push_at (y ∷ ys) x d = push_at ys x d
 
--- one step more of a fold
-pub fold_push : {S X : Type 0} (f : S → X → S) (s : S) (xs : List X) (x : X) → fold f s (xs ++ x ∷ []) ≡ f (fold f s xs) x
-fold_push f s [] x = refl
-fold_push f s (y ∷ ys) x = fold_push f (f s y) ys x
-
 -- the tree of one node more
 pub trees_push : (ns : List Node) (n : Node) → trees (ns ++ n ∷ []) ≡ trees ns ++ tree_of (trees ns) n ∷ []
-trees_push ns n = fold_push with_tree [] ns n
+trees_push ns n = fold-append with_tree [] ns (n ∷ [])
 
 trees_from_length : (ts : List spec.Formula) (ns : List Node) → length (fold with_tree ts ns) ≡ length ts + length ns
 trees_from_length ts [] = omega arith

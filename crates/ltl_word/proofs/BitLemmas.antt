@@ -111,12 +111,6 @@ all_alike n i value word ws e t f l =
       | false ↦ λ g h. ap (λ w. one w (i % 64)) (h refl) ∙ zeros_at (i % 64)
     ] t f
 
--- the default plays no part at a place that is there
-pub any_default : {X : Type 0} (xs : List X) (i : ℕ) (d e : X) → i < length xs → get_or xs i d ≡ get_or xs i e
-any_default [] i d e l = absurd (omega arith)
-any_default (x ∷ xs) zero d e l = refl
-any_default (x ∷ xs) (suc i) d e l = let m : i < length xs = omega arith in any_default xs i d e m
-
 -- what holds of each of a list holds of each of one that is longer by one thing of which it holds
 pub each_pushed : {X : Type 0} (P : ℕ → X → Type 0) (xs ys : List X) (x d : X) → ys ≡ xs ++ x ∷ [] → ((k : ℕ) → k < length xs → P k (get_or xs k d)) → P (length xs) x → (k : ℕ) → k < length ys → P k (get_or ys k d)
 each_pushed P xs ys x d e old new k l =

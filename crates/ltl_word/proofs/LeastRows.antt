@@ -4,7 +4,7 @@ use Rattle.std.specs.Prelude.{slice_index_or, ◌≢◌}
 use Rattle.std.specs.List.{AllByRecursion, list_all}
 use Rattle.std.specs.Ordering.{nat_cmp}
 use Rattle.std.proofs.lemmas.Bool.{cases_lt, and_from}
-use Rattle.std.proofs.lemmas.List.{get_or-map, take-map, drop-map, take-take, drop-take, ext_get_or, length-take-le}
+use Rattle.std.proofs.lemmas.List.{get_or-map, take-map, drop-map, take-take, drop-take, ext_get_or, length-take-le, take_more, take_all as taken_whole}
 use Rattle.std.proofs.lemmas.Nat.{div-add-mod', mod-mul-add, mod_below}
 use Rattle.ltl_spec.specs.Collections.Sets.{Has, IsRising, put, set_of}
 use Rattle.ltl_spec.specs.Semantics.Word.{Name, name_cmp, Letter, Lasso, IsLasso}
@@ -20,7 +20,7 @@ use Rattle.ltl_spec.proofs.Words.LeastLaws.{same_letter_Decides, same_letters_De
 use Rattle.ltl_word.specs.LassoView.{letter_of, lasso_of, IsMade}
 use Rattle.ltl_word.specs.LeastView.{Repeats, IsShortest, IsKept}
 use Rattle.ltl_word.proofs.LetterLaws.{same_places, whole_letters}
-use Rattle.ltl_word.proofs.NameLaws.{places_put, take_one, take_whole}
+use Rattle.ltl_word.proofs.NameLaws.{places_put}
 
 -- repetitions by places
 
@@ -151,13 +151,7 @@ module _ (names : List Name) (rise : IsRising name_cmp names) where
   letters_same [] [] a b e = refl
   letters_same [] (y ∷ ys) a b e = cc
   letters_same (x ∷ xs) [] a b e = cc
-  letters_same (x ∷ xs) (y ∷ ys) a b e = ap₂ (λ z zs. z ∷ zs) (same_places names rise x y a.0 b.0 (heads e)) (letters_same xs ys a.1 b.1 (tails e))
-    where
-      heads : {m n : Name} {ms ns : List Name} → m ∷ ms ≡ n ∷ ns → m ≡ n
-      heads q = cc
-
-      tails : {m n : Name} {ms ns : List Name} → m ∷ ms ≡ n ∷ ns → ms ≡ ns
-      tails q = cc
+  letters_same (x ∷ xs) (y ∷ ys) a b e = ap₂ (λ z zs. z ∷ zs) (same_places names rise x y a.0 b.0 (cc)) (letters_same xs ys a.1 b.1 (cc))
 
   letter_set : (r : List ℕ) → Within r → letter_of names (set_of nat_cmp r) ≡ set_of name_cmp (letter_of names r)
   letter_set [] a = refl
@@ -258,12 +252,12 @@ module _ (all : List Letter) (e : ℕ) where
       let size = drop_size all (m + 1) (omega (arith, l)) in
       let place : m + 1 + e ≡ m + suc e = omega arith in
       ap (λ k. take k (drop (m + 1) all)) one
-      ∙ take_one (drop (m + 1) all) e [] (omega (arith, size, l))
+      ∙ take_more (drop (m + 1) all) e [] (omega (arith, size, l))
       ∙ ap (λ x. take e (drop (m + 1) all) ++ x ∷ []) (index_drop all (m + 1) e [] ∙ ap at place)
 
   one_back : (m : ℕ) → m + 1 + suc e ≤ length all → at m ≡ at (m + suc e) → put_all (take (m + 1) all) (take (suc e) (drop (m + 1) all)) ≡ put_all (take m all) (take (suc e) (drop m all))
   one_back m l same =
-      ap₂ put_all (take_one all m [] (omega (arith, l))) (cycle_from m l)
+      ap₂ put_all (take_more all m [] (omega (arith, l))) (cycle_from m l)
       ∙ put_turned (take m all) (take e (drop (m + 1) all)) (at m) (at (m + suc e)) same
       ∙ ap (λ xs. put_all (take m all) (take (suc e) xs)) (sym (drop_one all m [] (omega (arith, l))))
 
@@ -284,7 +278,7 @@ module _ (all : List Letter) (e : ℕ) where
   stays (suc m) l n =
       let s : suc m ≡ m + 1 = omega arith in
       let z : suc m - 1 ≡ m = omega arith in
-      let first : take (suc m) all ≡ take m all ++ at m ∷ [] = ap (λ k. take k all) s ∙ take_one all m [] (omega (arith, l)) in
+      let first : take (suc m) all ≡ take m all ++ at m ∷ [] = ap (λ k. take k all) s ∙ take_more all m [] (omega (arith, l)) in
       let second : take (suc e) (drop (suc m) all) ≡ take e (drop (m + 1) all) ++ at (m + suc e) ∷ [] = ap (λ k. take (suc e) (drop k all)) s ∙ cycle_from m (omega (arith, l)) in
       ap₂ put_all first second
       ∙ put_left (take m all) (take e (drop (m + 1) all)) (at m) (at (m + suc e)) (subst (λ k. at k ≢ at (k + suc e)) z (n (omega arith)))
@@ -379,4 +373,4 @@ module _ (names : List Name) (rows : List (List ℕ)) (stem : ℕ) (made : IsMad
 
 -- the letters from the stem's end on
 pub cycle_rows : (rows : List (List ℕ)) (stem : ℕ) → stem < length rows → take (length rows - stem) (drop stem rows) ≡ drop stem rows
-cycle_rows rows stem l = let m = drop_size rows stem (omega (arith, l)) in take_whole (drop stem rows) (length rows - stem) (omega (arith, m))
+cycle_rows rows stem l = let m = drop_size rows stem (omega (arith, l)) in taken_whole (length rows - stem) (drop stem rows) (omega (arith, m))

@@ -6,7 +6,7 @@ use Rattle.std.specs.List.{AllByRecursion}
 use Rattle.std.specs.Ordering.{nat_cmp}
 use Rattle.std.proofs.lemmas.Bool.{cases_lt}
 use Rattle.std.proofs.lemmas.Bool.Decides.{same_from_decides}
-use Rattle.std.proofs.lemmas.List.{get_or-map, map-append}
+use Rattle.std.proofs.lemmas.List.{get_or-map, map-append, take-append-drop}
 use Rattle.std.specs.declared.cmp.Ordering.TheVariants.{Less}
 use Rattle.ltl_spec.specs.Collections.Sets.{Has, IsRising, has}
 use Rattle.ltl_spec.specs.Semantics.Word.{Name, name_cmp, Lasso, letter_at}
@@ -57,15 +57,9 @@ letter_has names r places within name place found earlier =
     back : Has (letter_of names places) name → Has places place
     back h = let w = map_cases (λ i. slice_index_or names i []) places name h in at w.0 (all_at (λ i. i < length names) places w.0 within w.1) w.2 w.1
 
-take_and_drop : {X : Type 0} (n : ℕ) (xs : List X) → take n xs ++ drop n xs ≡ xs
-take_and_drop zero [] = refl
-take_and_drop zero (x ∷ xs) = refl
-take_and_drop (suc n) [] = refl
-take_and_drop (suc n) (x ∷ xs) = ap (λ l. x ∷ l) (take_and_drop n xs)
-
 -- the letters of a word
 pub whole_letters : (names : List Name) (letters : List (List ℕ)) (stem : ℕ) → (lasso_of names letters stem).stem ++ (lasso_of names letters stem).cycle ≡ map (letter_of names) letters
-whole_letters names letters stem = sym (map-append (letter_of names) (take stem letters) (drop stem letters)) ∙ ap (map (letter_of names)) (take_and_drop stem letters)
+whole_letters names letters stem = sym (map-append (letter_of names) (take stem letters) (drop stem letters)) ∙ ap (map (letter_of names)) (take-append-drop stem letters)
 
 pub size_is : (names : List Name) (letters : List (List ℕ)) (stem : ℕ) → size (lasso_of names letters stem) ≡ length letters
 size_is names letters stem = ap length (whole_letters names letters stem) ∙ map_length (letter_of names) letters

@@ -6,7 +6,7 @@ use Rattle.std.specs.Ordering.{nat_cmp, ordering_reverse}
 use Rattle.std.specs.declared.cmp.Ordering.TheVariants.{Less, Equal, Greater}
 use Rattle.std.proofs.lemmas.Bool.{cases_lt}
 use Rattle.std.proofs.lemmas.List.Sums.{fold-append}
-use Rattle.std.proofs.lemmas.List.{get_or-map, map-append, take-map, drop-map, append-nil}
+use Rattle.std.proofs.lemmas.List.{get_or-map, map-append, take-map, drop-map, append-nil, take_more, take_all, take-append-drop}
 use Rattle.std.proofs.lemmas.Cmp.{tied_itself}
 use Rattle.ltl_spec.specs.Collections.Sets.{by_order, Has, IsRising, put, set_of}
 use Rattle.ltl_spec.specs.Semantics.Word.{Name, name_cmp}
@@ -113,30 +113,6 @@ names_longer (n ∷ ns) set = let l = names_longer ns (put name_cmp n set) in le
 pub names_append : (set xs ys : List Name) → with_names set (xs ++ ys) ≡ with_names (with_names set xs) ys
 names_append set xs ys = fold-append (λ s n. put name_cmp n s) set xs ys
 
-pub take_one : {X : Type 0} (xs : List X) (i : ℕ) (d : X) → i < length xs → take (i + 1) xs ≡ take i xs ++ slice_index_or xs i d ∷ []
-take_one [] i d l = absurd (omega arith)
-take_one {X = X} (x ∷ xs) zero d l = ap (λ ys. x ∷ ys) (none xs)
-  where
-    none : (ys : List X) → take 0 ys ≡ []
-    none [] = refl
-    none (y ∷ ys) = refl
-take_one (x ∷ xs) (suc i) d l =
-    let e : suc i + 1 ≡ suc (i + 1) = omega arith in
-    let m : i < length xs = omega arith in
-    ap (λ k. take k (x ∷ xs)) e ∙ ap (λ ys. x ∷ ys) (take_one xs i d m)
-
-pub take_whole : {X : Type 0} (xs : List X) (i : ℕ) → length xs ≤ i → take i xs ≡ xs
-take_whole [] zero l = refl
-take_whole [] (suc i) l = refl
-take_whole (x ∷ xs) zero l = absurd (omega arith)
-take_whole (x ∷ xs) (suc i) l = ap (λ ys. x ∷ ys) (take_whole xs i (omega arith))
-
-take_rest : {X : Type 0} (xs : List X) (i : ℕ) → take i xs ++ drop i xs ≡ xs
-take_rest [] zero = refl
-take_rest (x ∷ xs) zero = refl
-take_rest [] (suc i) = refl
-take_rest (x ∷ xs) (suc i) = ap (λ ys. x ∷ ys) (take_rest xs i)
-
 pub refuses_more : (m n : ℕ) (fault : WordFault) → m ≤ n → RefusesNames m fault → RefusesNames n fault
 refuses_more m n TooLong l h = absurd h
 refuses_more m n (BadWord p) l h = absurd h
@@ -146,12 +122,12 @@ refuses_more m n OutOfMemory l h = tt
 -- one name more
 pub added_name : (set ns now new : List Name) (name : Name) (i : ℕ) → i < length ns → slice_index_or ns i [] ≡ name → now ≡ with_names set (take i ns) → new ≡ put name_cmp name now → new ≡ with_names set (take (i + 1) ns)
 added_name set ns now new name i l e h f =
-    f ∙ ap₂ (put name_cmp) (sym e) h ∙ sym (ap (with_names set) (take_one ns i [] l) ∙ names_append set (take i ns) (slice_index_or ns i [] ∷ []))
+    f ∙ ap₂ (put name_cmp) (sym e) h ∙ sym (ap (with_names set) (take_more ns i [] l) ∙ names_append set (take i ns) (slice_index_or ns i [] ∷ []))
 
 pub refused_name : (set ns now : List Name) (name : Name) (i : ℕ) (fault : WordFault) → i < length ns → slice_index_or ns i [] ≡ name → now ≡ with_names set (take i ns) → RefusesNames (length (put name_cmp name now)) fault → RefusesNames (length (with_names set ns)) fault
 refused_name set ns now name i fault l e h r =
     let more : put name_cmp name now ≡ with_names set (take (i + 1) ns) = added_name set ns now (put name_cmp name now) name i l e h refl in
-    let whole : with_names set ns ≡ with_names (with_names set (take (i + 1) ns)) (drop (i + 1) ns) = ap (with_names set) (sym (take_rest ns (i + 1))) ∙ names_append set (take (i + 1) ns) (drop (i + 1) ns) in
+    let whole : with_names set ns ≡ with_names (with_names set (take (i + 1) ns)) (drop (i + 1) ns) = ap (with_names set) (sym (take-append-drop (i + 1) ns)) ∙ names_append set (take (i + 1) ns) (drop (i + 1) ns) in
     let long = names_longer (drop (i + 1) ns) (with_names set (take (i + 1) ns)) in
     refuses_more (length (put name_cmp name now)) (length (with_names set ns)) fault
     (subst (λ ms. length ms ≤ length (with_names set ns)) (sym more) (subst (λ ms. length (with_names set (take (i + 1) ns)) ≤ length ms) (sym whole) long)) r
@@ -162,7 +138,7 @@ all_append [] ys = refl
 all_append (x ∷ xs) ys = ap (λ ns. x ++ ns) (all_append xs ys) ∙ sym (append_assoc x (all_names xs) (all_names ys))
 
 all_one : (ls : List (List Name)) (i : ℕ) → i < length ls → all_names (take (i + 1) ls) ≡ all_names (take i ls) ++ slice_index_or ls i []
-all_one ls i l = ap all_names (take_one ls i [] l) ∙ all_append (take i ls) (slice_index_or ls i [] ∷ []) ∙ ap (λ ns. all_names (take i ls) ++ ns) (append-nil (slice_index_or ls i []))
+all_one ls i l = ap all_names (take_more ls i [] l) ∙ all_append (take i ls) (slice_index_or ls i [] ∷ []) ∙ ap (λ ns. all_names (take i ls) ++ ns) (append-nil (slice_index_or ls i []))
 
 pub added_letter : (set : List Name) (ls : List (List Name)) (now new letter : List Name) (i : ℕ) → i < length ls → slice_index_or ls i [] ≡ letter → now ≡ with_names set (all_names (take i ls)) → new ≡ with_names now letter
     → new ≡ with_names set (all_names (take (i + 1) ls))
@@ -174,7 +150,7 @@ pub refused_letter : (set : List Name) (ls : List (List Name)) (now letter : Lis
 refused_letter set ls now letter i fault l e h r =
     let more : with_names now letter ≡ with_names set (all_names (take (i + 1) ls)) = added_letter set ls now (with_names now letter) letter i l e h refl in
     let whole : with_names set (all_names ls) ≡ with_names (with_names set (all_names (take (i + 1) ls))) (all_names (drop (i + 1) ls)) =
-    ap (λ ms. with_names set (all_names ms)) (sym (take_rest ls (i + 1))) ∙ ap (with_names set) (all_append (take (i + 1) ls) (drop (i + 1) ls)) ∙ names_append set (all_names (take (i + 1) ls)) (all_names (drop (i + 1) ls)) in
+    ap (λ ms. with_names set (all_names ms)) (sym (take-append-drop (i + 1) ls)) ∙ ap (with_names set) (all_append (take (i + 1) ls) (drop (i + 1) ls)) ∙ names_append set (all_names (take (i + 1) ls)) (all_names (drop (i + 1) ls)) in
     let long = names_longer (all_names (drop (i + 1) ls)) (with_names set (all_names (take (i + 1) ls))) in
     refuses_more (length (with_names now letter)) (length (with_names set (all_names ls))) fault
     (subst (λ ms. length ms ≤ length (with_names set (all_names ls))) (sym more) (subst (λ ms. length (with_names set (all_names (take (i + 1) ls))) ≤ length ms) (sym whole) long)) r
@@ -468,7 +444,7 @@ pub owned_push : {X Y : Type 0} (f : X → Name) (g : Y → Name) (xs new : List
     → map f new ≡ take (i + 1) (map g ys)
 owned_push f g xs new x ys name i e h q l a =
     let size = map_length g ys in
-    ap (map f) e ∙ map-append f xs (x ∷ []) ∙ ap₂ (λ ns n. ns ++ n ∷ []) h (q ∙ sym a) ∙ sym (take_one (map g ys) i [] (omega (arith, l, size)))
+    ap (map f) e ∙ map-append f xs (x ∷ []) ∙ ap₂ (λ ns n. ns ++ n ∷ []) h (q ∙ sym a) ∙ sym (take_more (map g ys) i [] (omega (arith, l, size)))
 
 pub owned_end : {X Y : Type 0} (f : X → Name) (g : Y → Name) (xs : List X) (ys : List Y) (i : ℕ) → length ys ≤ i → map f xs ≡ take i (map g ys) → map f xs ≡ map g ys
-owned_end f g xs ys i l e = let size = map_length g ys in e ∙ take_whole (map g ys) i (omega (arith, l, size))
+owned_end f g xs ys i l e = let size = map_length g ys in e ∙ take_all i (map g ys) (omega (arith, l, size))

@@ -10,10 +10,10 @@ use Rattle.ltl_spec.specs.Tools.Limits.{stated_limits}
 use Rattle.ltl_spec.proofs.Collections.SetLaws.{all_at, all_from, append_left, append_right}
 use Rattle.ltl_spec.proofs.Collections.ListLaws.{All-at_has, Has-at}
 use Rattle.ltl_spec.proofs.Collections.MemberLaws.{all_Decides, map_cases, map_length, flat_map_cases}
-use Rattle.std.proofs.lemmas.List.{map-append, get_or-map}
+use Rattle.std.proofs.lemmas.List.{map-append, get_or-map, take_more}
 use Rattle.ltl_word.specs.LassoView.{letter_of, word_with}
 use Rattle.ltl_word.specs.NameView.{with_names, IsKnown}
-use Rattle.ltl_word.proofs.NameLaws.{names_rise, has_new, put_shorter, take_one}
+use Rattle.ltl_word.proofs.NameLaws.{names_rise, has_new, put_shorter}
 use Rattle.ltl_word.specs.WrittenView.{WrittenView, letters_of}
 
 -- one more of a list
@@ -21,7 +21,7 @@ pub mapped_push : {X Y Z : Type 0} (d : Z) (f : X → Z) (g : Y → Z) (xs new :
     → map f new ≡ take (i + 1) (map g ys)
 mapped_push d f g xs new x ys y i e h q l a =
     let size = map_length g ys in
-    ap (map f) e ∙ map-append f xs (x ∷ []) ∙ ap₂ (λ zs z. zs ++ z ∷ []) h (q ∙ sym (get_or-map g ys i y d l ∙ ap g a)) ∙ sym (take_one (map g ys) i d (omega (arith, l, size)))
+    ap (map f) e ∙ map-append f xs (x ∷ []) ∙ ap₂ (λ zs z. zs ++ z ∷ []) h (q ∙ sym (get_or-map g ys i y d l ∙ ap g a)) ∙ sym (take_more (map g ys) i d (omega (arith, l, size)))
 
 -- the letters as lists of names
 abbrev pub listed : List Name → List (List ℕ) → List (List ℕ) → Lasso

@@ -27,6 +27,7 @@ use Rattle.ltl_word.specs.Evaluation.{AreOperandRows, AreRows, IsRowAt, IsRowOf,
 use Rattle.ltl_word.specs.Uses.{AreLastUses, IsUsedAt, KeepsLater, row_by}
 use Rattle.ltl_word.specs.LassoView.{size}
 use Rattle.ltl_word.proofs.BackLaws.{after_within}
+use Rattle.ltl_spec.proofs.Collections.FoundLaws.{index_there}
 
 -- junctions
 
@@ -168,11 +169,6 @@ junction_rows op w a b (Err e) long each = tt
 
 -- the rows of nodes
 
-pub get_index : {X : Type 0} (xs : List X) (i : ℕ) (x d : X) → slice_get xs i ≡ Some x → (i < length xs) × (slice_index_or xs i d ≡ x)
-get_index [] i x d e = cc
-get_index (y ∷ ys) zero x d e = (omega arith, same_Some y x e)
-get_index (y ∷ ys) (suc i) x d e = let w = get_index ys i x d e in ((let l = w.0 in omega arith), w.1)
-
 -- one node's uses more
 pub uses_more : (nodes : List Node) (old new : List ℕ) (node : Node) (i : ℕ) → slice_get nodes i ≡ Some node → ((j : ℕ) → j < i → IsUsedAt old j (slice_index_or nodes j (Constant false))) → IsUsedAt new i node
     → ((k j : ℕ) → j ≤ i → j ≤ slice_index_or old k 0 → j ≤ slice_index_or new k 0) → (j : ℕ) → j < i + 1 → IsUsedAt new j (slice_index_or nodes j (Constant false))
@@ -181,7 +177,7 @@ uses_more nodes old new node i found used here kept j l =
     elim (last_or_below j i (subst (λ n. j < n) s l)) [
       | inl b ↦ by (slice_index_or nodes j (Constant false)) (used j b)
       | inr e ↦
-          let at = get_index nodes i node (Constant false) found in
+          let at = index_there nodes i node (Constant false) found in
           subst (λ n. IsUsedAt new n (slice_index_or nodes n (Constant false))) (sym e) (subst (IsUsedAt new i) (sym at.1) here)
     ]
   where
@@ -195,7 +191,7 @@ uses_more nodes old new node i found used here kept j l =
 pub operand_rows : (f : FormulaView) (w : Lasso) (names rows : List (List ℕ)) (last_uses : List ℕ) (node : Node) (count i : ℕ) → AreLastUses f.nodes last_uses → AreRows f w names last_uses rows → length rows ≡ i
     → slice_get f.nodes i ≡ Some node → StandsAt count i node → AreOperandRows f w names rows node
 operand_rows f w names rows last_uses node count i uses old long found =
-    let at = get_index f.nodes i node (Constant false) found in
+    let at = index_there f.nodes i node (Constant false) found in
     by node (subst (IsUsedAt last_uses i) at.1 (uses.used i at.0))
   where
     one : (a : ℕ) → a < i → i ≤ slice_index_or last_uses a 0 → IsRowAt f w names rows a
@@ -219,7 +215,7 @@ rows_step f w names rows new last_uses row node i is old long found own keeps k 
           subst (λ r. IsRowOf f.names w (tree_in (trees f.nodes) k) (row_by names r (slice_index_or f.nodes k (Constant false)))) (sym (keeps.1 k later ∙ push_before rows row k [] b))
           (old k b (omega (arith, m, size, longer)))
       | inr e ↦
-          let n = get_index f.nodes i node (Constant false) found in
+          let n = index_there f.nodes i node (Constant false) found in
           let tree : tree_in (trees f.nodes) i ≡ tree_of (trees f.nodes) node = tree_at (length f.names) f.nodes is.operands i n.0 ∙ ap (tree_of (trees f.nodes)) n.1 in
           let place : k ≡ i = e ∙ long in
           let kept : slice_index_or new k [] ≡ row = keeps.1 k later ∙ ap (λ j. slice_index_or (rows ++ row ∷ []) j []) e ∙ push_at rows row [] in

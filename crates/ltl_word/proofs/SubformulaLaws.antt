@@ -14,13 +14,14 @@ use Rattle.ltl_word.specs.Evaluation.{IsRowOf}
 use Rattle.ltl_word.specs.LassoView.{size}
 use Rattle.ltl_word.specs.Rows.{IsRow}
 use Rattle.ltl_word.specs.SubformulaRows.{AreFirstRows}
-use Rattle.ltl_word.proofs.BitLemmas.{any_default, each_pushed}
-use Rattle.ltl_word.proofs.RowLaws.{get_index}
+use Rattle.ltl_word.proofs.BitLemmas.{each_pushed}
+use Rattle.std.proofs.lemmas.List.{get_or_default}
+use Rattle.ltl_spec.proofs.Collections.FoundLaws.{index_there}
 
 module _ (f : FormulaView) (w : Lasso) where
   -- the row of an operand
   pub row_there : (rows : List (List ℕ)) (k : ℕ) (row : List ℕ) → AreFirstRows f w rows → k < length rows → row ≡ slice_index_or rows k row → IsRowOf f.names w (tree_in (trees f.nodes) k) row
-  row_there rows k row h l e = subst (IsRowOf f.names w (tree_in (trees f.nodes) k)) (sym (e ∙ any_default rows k row [] l)) (h k l)
+  row_there rows k row h l e = subst (IsRowOf f.names w (tree_in (trees f.nodes) k)) (sym (e ∙ get_or_default rows k row [] l)) (h k l)
 
   pub proposition_answer : (p : ℕ) (name : Name) (bits : List ℕ) (node : Node) → node ≡ Proposition p → name ≡ slice_index_or f.names p []
       → IsRow (size w) (λ i. IsTrue (has name_cmp name (letter_at w i))) bits → IsRowOf f.names w (tree_of (trees f.nodes) node) bits
@@ -40,7 +41,7 @@ module _ (f : FormulaView) (w : Lasso) where
   pub one_row_more : (old new : List (List ℕ)) (row : List ℕ) (node : Node) (i : ℕ) → IsFormula f.nodes f.names → AreFirstRows f w old → length old ≡ i → slice_get f.nodes i ≡ Some node
       → IsRowOf f.names w (tree_of (trees f.nodes) node) row → new ≡ old ++ row ∷ [] → AreFirstRows f w new
   one_row_more old new row node i is rows long found own pushed =
-      let n = get_index f.nodes i node (Constant false) found in
+      let n = index_there f.nodes i node (Constant false) found in
       let tree : tree_in (trees f.nodes) i ≡ tree_of (trees f.nodes) node = tree_at (length f.names) f.nodes is.operands i n.0 ∙ ap (tree_of (trees f.nodes)) n.1 in
       each_pushed (λ k r. IsRowOf f.names w (tree_in (trees f.nodes) k) r) old new row [] pushed rows
       (subst (λ k. IsRowOf f.names w (tree_in (trees f.nodes) k) row) (sym long) (subst (λ F. IsRowOf f.names w F row) (sym tree) own))

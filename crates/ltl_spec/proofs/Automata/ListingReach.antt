@@ -1,4 +1,4 @@
--- What a breadth-first listing reaches: with each thing that was taken all of its targets, and everything where there is an end.
+-- What a breadth-first listing reaches: all targets of each state that was taken, and everything that is reachable once all were taken.
 use Rattle.std.proofs.Common.{◌≡◌, ℕ, zero, suc, ◌+◌, ◌-◌, ◌<◌, ◌≤◌, Bool, cond, not, inl, inr, List, [], ◌∷◌, ◌++◌, length, refl, sym, ◌∙◌, ap, subst, arith, Some, None}
 use Rattle.std.specs.Prelude.{slice_get, slice_index_or}
 use Rattle.std.specs.Bool.{Decides}

@@ -1,12 +1,10 @@
 -- The propositions of an automaton's cubes are those of the formula from which it was made.
-use Rattle.std.proofs.Common.{◌≡◌, ℕ, suc, ◌<◌, Bool, true, false, cond, inl, inr, List, [], ◌∷◌, ◌++◌, map, length, refl, sym, ◌∙◌, subst, arith, ◌||◌, ◌&&◌, Some, None}
-use Rattle.std.specs.Prelude.{fold, slice_index, slice_index_or, slice_get, ◌==◌}
-use Rattle.std.specs.Ordering.{nat_cmp}
+use Rattle.std.proofs.Common.{◌≡◌, ℕ, suc, ◌<◌, Bool, true, false, cond, inl, inr, List, [], ◌∷◌, ◌++◌, map, length, refl, sym, ◌∙◌, subst, ◌||◌, ◌&&◌, Some}
+use Rattle.std.specs.Prelude.{fold, slice_index_or, slice_get}
 use Rattle.std.proofs.lemmas.Bool.{cases_lt}
-use Rattle.std.proofs.lemmas.List.{get_or_past, get_or-map}
-use Rattle.std.proofs.lemmas.Option.{slice_get_past}
-use Rattle.ltl_spec.specs.Collections.Sets.{Has, set_of}
-use Rattle.ltl_spec.specs.Collections.Lists.{place_of}
+use Rattle.std.proofs.lemmas.List.{get_or_past}
+use Rattle.std.proofs.lemmas.Option.{slice_get_past, none-some}
+use Rattle.ltl_spec.specs.Collections.Sets.{Has}
 use Rattle.ltl_spec.specs.Automata.Listing.{listing}
 use Rattle.ltl_spec.specs.Semantics.Word.{Name}
 use Rattle.ltl_spec.specs.Transitions.Cubes.{Literal, Cube}
@@ -16,11 +14,10 @@ use Rattle.ltl_spec.specs.NormalForms.Normal.{Normal, Top, Bottom, Leaf, Next, A
 use Rattle.ltl_spec.specs.NormalForms.NormalForm.{normal_form, is_eventually, is_always, simple_and, simple_or, simple_until, simple_release, simple_form, core, postorder, rows, is_elementary, elementary_rows}
 use Rattle.ltl_spec.specs.Transitions.Pairs.{RowSet, Pair, join, empty_pair, later_pair, conj, pairs}
 use Rattle.ltl_spec.specs.Transitions.RowTransitions.{Table, table_of, place, pairs_at, Transition, transitions}
-use Rattle.ltl_spec.specs.Automata.Automaton.{Automaton, State, Edge, state_at}
+use Rattle.ltl_spec.specs.Automata.Automaton.{Automaton, Edge, state_at}
 use Rattle.ltl_spec.specs.Automata.Generalized.{same_row_set, target_sets, root_set, edge_to, state_of, automaton_over, IsGeneralized}
-use Rattle.ltl_spec.specs.Construction.Merging.{retargeted_state, without_implied, class_names, quotient, merged_automaton}
+use Rattle.ltl_spec.specs.Construction.Merging.{merged_automaton}
 use Rattle.ltl_spec.specs.Construction.Levels.{LevelState, LevelEdge, level_edge, level_edges, copies, edge_to_level_state, copy_state, level_automaton}
-use Rattle.ltl_spec.specs.Construction.Renumbered.{reached_states, renumbered_automaton}
 use Rattle.ltl_spec.specs.Formulas.Grammar.{Parses, Reads, of_constant, of_name, of_brackets, of_unary, of_tighter, of_left, of_right}
 use Rattle.ltl_spec.specs.Formulas.Tokens.{Token}
 use Rattle.ltl_spec.specs.Construction.Translation.{Options, buchi_automaton, IsTranslation}
@@ -28,13 +25,11 @@ use Rattle.ltl_spec.specs.Checking.Bounds.{HasPropositionsBelow, HasNamesBelow, 
 use Rattle.ltl_spec.proofs.Collections.SetLaws.{append_cases, set_of_cases, union_cases, filter_cases}
 use Rattle.ltl_spec.proofs.Collections.ListLaws.{Has-at, first_occurrences_cases}
 use Rattle.ltl_spec.proofs.NormalForms.NormalLaws.{same_Decides}
-use Rattle.ltl_spec.proofs.Collections.MemberLaws.{map_cases, map_length}
+use Rattle.ltl_spec.proofs.Collections.MemberLaws.{map_cases}
 use Rattle.ltl_spec.proofs.Transitions.JoinLaws.{join_cases}
 use Rattle.ltl_spec.proofs.Collections.Orders.{literal_linear, pair_linear, level_edge_linear, edge_linear}
 use Rattle.ltl_spec.proofs.Transitions.TransitionLaws.{transition_cases}
-use Rattle.ltl_spec.proofs.Construction.ImpliedEdges.{thin_cases}
-use Rattle.ltl_spec.proofs.Construction.QuotientRuns.{retarget_cases}
-use Rattle.ltl_spec.proofs.Automata.ListedStates.{no_state}
+use Rattle.ltl_spec.proofs.Construction.EdgeBounds.{made_all, merged_all, renumbered_all}
 use Rattle.ltl_spec.proofs.Construction.MergingRuns.{merged_closed}
 use Rattle.ltl_spec.proofs.Construction.LevelRuns.{levels_closed}
 use Rattle.ltl_spec.proofs.Construction.RenumberedRuns.{renumbered_closed}
@@ -178,17 +173,8 @@ module _ (n : ℕ) where
 
   -- automata
 
-  -- what holds of the edges of each state that is made holds of all
-  made_below : {K : Type 0} (f : K → State) (list : List K) (d : K) → ((k : K) (x : Edge) → Has (f k).edges x → IsBelow x.cube) → (s : ℕ) (x : Edge) → Has (slice_index_or (map f list) s no_state).edges x → IsBelow x.cube
-  made_below f list d each s x h = elim (cases_lt s (length list)) [
-    | inl l ↦ each (slice_index_or list s d) x (subst (λ (v : State). Has v.edges x) (get_or-map f list s d no_state l) h)
-    | inr l ↦
-        let e = map_length f list in
-        absurd (subst (λ (v : State). Has v.edges x) (get_or_past (map f list) s no_state (omega (arith, e, l))) h)
-  ]
-
   over_below : (core : Normal) → HasLeavesBelow n core → (keep : Bool) (list : List RowSet) → HasNamesBelow n (automaton_over core keep list)
-  over_below core low keep list s x h = made_below (state_of core keep list) list [] each s x h
+  over_below core low keep list = made_all (λ v. IsBelow v.cube) (state_of core keep list) list [] each
     where
       each : (e : RowSet) (y : Edge) → Has (state_of core keep list e).edges y → IsBelow y.cube
       each e y m =
@@ -199,30 +185,14 @@ module _ (n : ℕ) where
   generalized_below core low keep A (m, c, e) = subst (HasNamesBelow n) (sym e) (over_below core low keep (listing same_row_set (target_sets core keep) (root_set core keep) m))
 
   module _ (A : Automaton) (low : HasNamesBelow n A) where
-    retargeted_below : (f : ℕ → ℕ) (s : ℕ) (x : Edge) → Has (retargeted_state f (state_at A s)).edges x → IsBelow x.cube
-    retargeted_below f s x h = let (y, k, e) = retarget_cases f (state_at A s) x h in subst (λ (v : Edge). IsBelow v.cube) (sym e) (low s y k)
-
-    quotient_below : (keep : Bool) (names : List ℕ) → HasNamesBelow n (quotient keep names A)
-    quotient_below keep names s x h =
-        made_below (λ c. without_implied keep (retargeted_state (λ t'. place_of ◌==◌ (slice_index names t') (set_of nat_cmp names)) (state_at A c))) (set_of nat_cmp names) 0
-        (λ c y m. retargeted_below (λ t'. place_of ◌==◌ (slice_index names t') (set_of nat_cmp names)) c y
-        (thin_cases keep (retargeted_state (λ t'. place_of ◌==◌ (slice_index names t') (set_of nat_cmp names)) (state_at A c)) y m)) s x h
-
-    pub merged_below : (keep_implied keep_equal : Bool) → HasNamesBelow n (merged_automaton keep_implied keep_equal A)
-    merged_below keep_implied keep_equal = quotient_below keep_implied (class_names A (cond keep_equal 0 (length A.states)))
-
-    pub levels_below : HasNamesBelow n (level_automaton A)
-    levels_below s x h = made_below (copy_state A (copies A)) (copies A) (record { state = 0; level = 0 }) each s x h
+    levels_below : HasNamesBelow n (level_automaton A)
+    levels_below = made_all (λ v. IsBelow v.cube) (copy_state A (copies A)) (copies A) (record { state = 0; level = 0 }) each
       where
         each : (c : LevelState) (y : Edge) → Has (copy_state A (copies A) c).edges y → IsBelow y.cube
         each c y m =
             let (e, k, d) = map_cases (edge_to_level_state A (copies A)) (level_edges A c) y (set_of_cases edge_linear (map (edge_to_level_state A (copies A)) (level_edges A c)) y m) in
             let (z, o, q) = map_cases (level_edge A c.level) (state_at A c.state).edges e (set_of_cases level_edge_linear (map (level_edge A c.level) (state_at A c.state).edges) e k) in
             subst (λ (v : Edge). IsBelow v.cube) (sym d) (subst (λ (v : LevelEdge). IsBelow v.cube) (sym q) (low c.state z o))
-
-    pub renumbered_below : HasNamesBelow n (renumbered_automaton A)
-    renumbered_below s x h =
-        made_below (λ u. retargeted_state (λ t'. place_of ◌==◌ t' (reached_states A)) (state_at A u)) (reached_states A) 0 (λ u. retargeted_below (λ t'. place_of ◌==◌ t' (reached_states A)) u) s x h
 
   -- the automaton of a normal form is one to search with
   pub translation_is_buchi : (N : Normal) (o : Options) (B : Automaton) → IsTranslation N o B → HasLeavesBelow n N → IsBuchi n B
@@ -236,25 +206,22 @@ module _ (n : ℕ) where
           let smaller_closed = merged_closed (level_automaton (merged_automaton o.keep_implied o.keep_equal A)) o.keep_implied o.keep_equal leveled_closed in
           let last = renumbered_closed (merged_automaton o.keep_implied o.keep_equal (level_automaton (merged_automaton o.keep_implied o.keep_equal A))) smaller_closed in
           let below = generalized_below N low o.keep_implied A g in
-          let small_below = merged_below A below o.keep_implied o.keep_equal in
+          let small_below = merged_all (λ v. IsBelow v.cube) (λ f x m. m) A below o.keep_implied o.keep_equal in
           let leveled_below = levels_below (merged_automaton o.keep_implied o.keep_equal A) small_below in
-          let smaller_below = merged_below (level_automaton (merged_automaton o.keep_implied o.keep_equal A)) leveled_below o.keep_implied o.keep_equal in
+          let smaller_below = merged_all (λ v. IsBelow v.cube) (λ f x m. m) (level_automaton (merged_automaton o.keep_implied o.keep_equal A)) leveled_below o.keep_implied o.keep_equal in
           record {
             sets = refl;
             begins = last.begins;
             inside = last.inside;
-            propositions = renumbered_below (merged_automaton o.keep_implied o.keep_equal (level_automaton (merged_automaton o.keep_implied o.keep_equal A))) smaller_below;
+            propositions = renumbered_all (λ v. IsBelow v.cube) (λ f x m. m) (merged_automaton o.keep_implied o.keep_equal (level_automaton (merged_automaton o.keep_implied o.keep_equal A))) smaller_below;
           }
 
 -- the propositions of a formula as it was read have names
 within_names : (names : List Name) (p : ℕ) (m : Name) → slice_get names p ≡ Some m → p < length names
 within_names names p m e = elim (cases_lt p (length names)) [
   | inl l ↦ l
-  | inr l ↦ absurd (never (sym (slice_get_past names p l) ∙ e))
+  | inr l ↦ absurd (none-some m (sym (slice_get_past names p l) ∙ e))
 ]
-  where
-    never : None ≡ Some m → ⊥
-    never d = cc
 
 pub parsed_below : {names : List Name} (r : ℕ) (ts : List Token) (F : Formula) → Parses names r ts F → HasPropositionsBelow (length names) F
 parsed_below r ts F (of_constant b) = tt

@@ -14,9 +14,8 @@ use Rattle.ltl_spec.proofs.Collections.SetLaws.{append_cases, append_left, appen
 use Rattle.ltl_spec.proofs.Collections.Orders.{literal_linear}
 use Rattle.ltl_spec.proofs.Collections.MemberLaws.{Has-map, map_cases, map_length, Has-flat_map, flat_map_cases, Has-filter_map, filter_map_cases}
 use Rattle.ltl_spec.proofs.Transitions.CubeLaws.{Agrees, allows_Decides, agrees_union, join_cubes_agree}
-use Rattle.ltl_spec.proofs.Automata.ListedStates.{no_state, has_edge_below}
+use Rattle.ltl_spec.proofs.Automata.ListedStates.{no_state, has_edge_below, mapped_at}
 use Rattle.ltl_spec.proofs.Semantics.Runs.{RunFrom}
-use Rattle.ltl_spec.proofs.Automata.ListedStates.{mapped_at}
 use Rattle.ltl_spec.proofs.Collections.CaseLaws.{last_or_below}
 use Rattle.ltl_spec.proofs.Semantics.RunLaws.{retold}
 
@@ -118,10 +117,7 @@ joined_is sets number accepting e f g h = at (is_contradictory (union literal_cm
   where
     at : (t : Bool) → is_contradictory (union literal_cmp e.cube f.cube) ≡ t → option_map (λ c. record { cube = c; target = number e.target f.target; marks = e.marks ++ mark_if accepting sets }) (cond t None (Some (union literal_cmp e.cube f.cube))) ≡ Some g → (g ≡ both_edges sets number accepting e f) × (t ≡ false)
     at true q d = cc
-    at false q d = (inside d, refl)
-      where
-        inside : Some (both_edges sets number accepting e f) ≡ Some g → g ≡ both_edges sets number accepting e f
-        inside c = cc
+    at false q d = (cc, refl)
 
 module _ (A B : Automaton) where
   -- both edges at once, in the product

@@ -12,6 +12,7 @@ use Rattle.ltl_spec.specs.Collections.Lists.{HasNoRepeats}
 use Rattle.ltl_spec.proofs.Collections.SetLaws.{has_Decides}
 use Rattle.ltl_spec.proofs.Collections.Orders.{nat_linear}
 use Rattle.ltl_spec.proofs.Automata.CountsLaws.{sum_step}
+use Rattle.std.proofs.Math.Seq.{take-length}
 
 -- ---- lengths
 
@@ -102,13 +103,9 @@ taken_sum g d ks (suc n) places l r b =
           omega arith
     ]
 
-pub take_whole : {K : Type 0} (xs : List K) → take (length xs) xs ≡ xs
-take_whole [] = refl
-take_whole (x ∷ xs) = ap (λ ys. x ∷ ys) (take_whole xs)
-
 -- a sum over different places is at most that over the whole list
 pub sum_distinct : {K : Type 0} (g : K → ℕ) (d : K) (ks : List K) (places : List ℕ) → HasNoRepeats places → ((z : ℕ) → Has places z → z < length ks) → sum_by (λ k. g (slice_index_or ks k d)) places ≤ sum_by g ks
-sum_distinct g d ks places r b = subst (λ xs. sum_by (λ k. g (slice_index_or ks k d)) places ≤ sum_by g xs) (take_whole ks) (taken_sum g d ks (length ks) places (omega arith) r b)
+sum_distinct g d ks places r b = subst (λ xs. sum_by (λ k. g (slice_index_or ks k d)) places ≤ sum_by g xs) (take-length ks) (taken_sum g d ks (length ks) places (omega arith) r b)
 
 -- and no greater where each thing has less
 pub sum_less : {K L : Type 0} (f : K → L) (g : L → ℕ) (h : K → ℕ) → ((x : K) → g (f x) ≤ h x) → (xs : List K) → sum_by g (map f xs) ≤ sum_by h xs

@@ -1,4 +1,4 @@
--- How levels go: up with the marks that come in turn, from the last one to the first.
+-- Levels: an edge goes up as long as its marks have the next set, and from the last level as from the first.
 use Rattle.std.proofs.Common.{◌≡◌, ℕ, zero, suc, ◌+◌, ◌-◌, ◌<◌, ◌≤◌, true, false, cond, eqb, inl, inr, List, refl, sym, ◌∙◌, ap, subst, arith}
 use Rattle.std.specs.Ordering.{nat_cmp}
 use Rattle.std.specs.Bool.{Decides}

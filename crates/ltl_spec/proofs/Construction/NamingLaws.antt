@@ -1,4 +1,4 @@
--- Lists of names for the states of an automaton: what is seen of a state under them, and those of the rounds of merging.
+-- Names of the states of an automaton: the signature of a state under them, and the names in each round of merging.
 use Rattle.std.proofs.Common.{◌≡◌, ℕ, suc, ◌<◌, ◌≤◌, List, length, sym, ◌∙◌, ap, arith}
 use Rattle.std.specs.Prelude.{slice_index}
 use Rattle.std.proofs.lemmas.List.{ext_get_or}

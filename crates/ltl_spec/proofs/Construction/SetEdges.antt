@@ -1,16 +1,15 @@
--- Of the automata that are merged, the literals of each edge are a set, and its marks too.
-use Rattle.std.proofs.Common.{◌≡◌, ℕ, Bool, true, false, cond, inl, inr, List, [], ◌∷◌, ◌++◌, map, sym, ap, subst, arith, Option, Some, None}
+-- In the automata that are merged, the literals of each edge are a set, and so are its marks.
+use Rattle.std.proofs.Common.{◌≡◌, ℕ, Bool, true, false, cond, inl, inr, List, [], ◌∷◌, ◌++◌, map, sym, ap, subst, Option, Some, None}
 use Rattle.std.specs.Prelude.{filter_map, option_map, fold, slice_index_or, not, ◌&&◌}
 use Rattle.std.specs.Ordering.{nat_cmp, is_ne}
 use Rattle.std.specs.List.{list_any}
-use Rattle.std.proofs.lemmas.List.{get_or-map}
 use Rattle.ltl_spec.specs.Collections.Sets.{Has, IsRising, union}
 use Rattle.ltl_spec.specs.Automata.Listing.{listing}
 use Rattle.ltl_spec.specs.Transitions.Cubes.{Cube, literal_cmp, is_contradictory}
 use Rattle.ltl_spec.specs.NormalForms.Normal.{Normal, Top, Bottom, Leaf, Next, And, Or, Until, Release}
 use Rattle.ltl_spec.specs.Transitions.Pairs.{RowSet, Pair, join_pair, join, empty_pair, later_pair, conj, pairs}
 use Rattle.ltl_spec.specs.Transitions.RowTransitions.{Table, table_of, place, pairs_at, successors, is_marked, with_marks, Transition, transition_cmp, implies, transitions}
-use Rattle.ltl_spec.specs.Automata.Automaton.{Automaton, State, Edge, state_at}
+use Rattle.ltl_spec.specs.Automata.Automaton.{Automaton, Edge, state_at}
 use Rattle.ltl_spec.specs.Automata.Generalized.{same_row_set, target_sets, root_set, edge_to, state_of, automaton_over, IsGeneralized}
 use Rattle.ltl_spec.specs.Construction.Levels.{LevelState, LevelEdge, level_edge, level_edges, copies, edge_to_level_state, copy_state, level_automaton}
 use Rattle.ltl_spec.proofs.Collections.SetLaws.{append_cases, IsRising-union, set_of_cases, filter_cases}
@@ -18,8 +17,8 @@ use Rattle.ltl_spec.proofs.Collections.ListLaws.{IsRising-places}
 use Rattle.ltl_spec.proofs.Collections.Orders.{literal_linear, pair_linear, level_edge_linear, edge_linear}
 use Rattle.ltl_spec.proofs.Construction.ImpliedEdges.{IsSetEdge}
 use Rattle.ltl_spec.proofs.Construction.QuotientRuns.{HasSetEdges}
-use Rattle.ltl_spec.proofs.Collections.MemberLaws.{map_cases, flat_map_cases, filter_map_cases, map_length}
-use Rattle.ltl_spec.proofs.Automata.ListedStates.{state_inside}
+use Rattle.ltl_spec.proofs.Construction.EdgeBounds.{made_all}
+use Rattle.ltl_spec.proofs.Collections.MemberLaws.{map_cases, flat_map_cases, filter_map_cases}
 
 -- what a join has
 
@@ -96,14 +95,6 @@ module _ (t : Table) where
   transitions_sets false e u h =
       all_transitions_sets e u (filter_cases (λ v. not (list_any (λ w. is_ne (transition_cmp w v) && implies w v) (map (with_marks t) (successors t e)))) (map (with_marks t) (successors t e)) u h).0
 
--- what holds of the edges of each state that is made holds of the edges of all
-made_states : {K : Type 0} (f : K → State) (list : List K) (start : K) → ((k : K) (x : Edge) → Has (f k).edges x → IsSetEdge x) → (s : ℕ) (x : Edge)
-    → Has (slice_index_or (map f list) s (record { accepting = true; edges = [] })).edges x → IsSetEdge x
-made_states f list start each s x h =
-    let long = map_length f list in
-    let l = state_inside (map f list) s x h in
-    each (slice_index_or list s start) x (subst (λ (v : State). Has v.edges x) (get_or-map f list s start (record { accepting = true; edges = [] }) (omega arith)) h)
-
 module _ (core : Normal) (keep_implied : Bool) where
   formula_state_sets : (list : List RowSet) (e : RowSet) (x : Edge) → Has (state_of core keep_implied list e).edges x → IsSetEdge x
   formula_state_sets list e x h =
@@ -113,7 +104,7 @@ module _ (core : Normal) (keep_implied : Bool) where
 
   -- and for the edges of the automaton of a formula
   pub automaton_sets : (list : List RowSet) → HasSetEdges (automaton_over core keep_implied list)
-  automaton_sets list s x h = made_states (state_of core keep_implied list) list [] (formula_state_sets list) s x h
+  automaton_sets list = made_all IsSetEdge (state_of core keep_implied list) list [] (formula_state_sets list)
 
   pub generalized_sets : (A : Automaton) → IsGeneralized core keep_implied A → HasSetEdges A
   generalized_sets A g = subst HasSetEdges (sym g.2) (automaton_sets (listing same_row_set (target_sets core keep_implied) (root_set core keep_implied) g.0))
@@ -135,4 +126,4 @@ module _ (A : Automaton) (sets : HasSetEdges A) where
 
   -- so it is for the edges of the copies
   pub levels_sets : HasSetEdges (level_automaton A)
-  levels_sets s x h = made_states (copy_state A (copies A)) (copies A) (record { state = 0; level = 0 }) (copy_state_sets (copies A)) s x h
+  levels_sets = made_all IsSetEdge (copy_state A (copies A)) (copies A) (record { state = 0; level = 0 }) (copy_state_sets (copies A))

@@ -1,11 +1,11 @@
 -- Worked examples: a formula printed as a claim, and an automaton checked against it, from the words to the answers.
-use Rattle.std.proofs.Common.{◌≡◌, ℕ, zero, suc, ◌<◌, true, false, inl, inr, List, [], ◌∷◌, ◌++◌, length, refl, sym, ◌∙◌, ap, arith, Some, None}
+use Rattle.std.proofs.Common.{◌≡◌, ℕ, zero, suc, ◌<◌, true, false, inl, inr, [], ◌∷◌, refl, sym, ◌∙◌, ap, arith, Some, None}
 use Rattle.std.specs.Prelude.{Ok, codes, IsTrue}
 use Rattle.std.specs.Fmt.{digits}
 use Rattle.std.proofs.lemmas.Bool.{false≢true}
-use Rattle.ltl_spec.specs.Semantics.Word.{Lasso, next, after_steps, is_true_at}
+use Rattle.ltl_spec.specs.Semantics.Word.{Lasso, IsLasso, next, after_steps, is_true_at}
 use Rattle.ltl_spec.specs.Formulas.Formula.{Proposition, Unary, Eventually, Reading}
-use Rattle.ltl_spec.specs.Formulas.Grammar.{of_name, of_unary, of_tighter, IsTextOf}
+use Rattle.ltl_spec.specs.Formulas.Grammar.{IsTextOf}
 use Rattle.ltl_spec.specs.NormalForms.NormalForm.{core}
 use Rattle.ltl_spec.specs.Automata.Automaton.{Edge}
 use Rattle.ltl_spec.specs.Automata.Generalized.{generalized_within}
@@ -13,11 +13,12 @@ use Rattle.ltl_spec.specs.Tools.Limits.{stated_limits}
 use Rattle.ltl_spec.specs.Tools.Outcome.{NotOpened, Ended, Given}
 use Rattle.ltl_spec.specs.Hoa.HoaReading.{OneSet}
 use Rattle.ltl_spec.specs.Checking.Check.{MarkedAccepts, IsViolation, Violated}
-use Rattle.ltl_spec.specs.Words.LassoText.{IsLeast, repeated}
 use Rattle.ltl_spec.specs.Tools.Programs.{Claim, plain_options, ReadsFormula, Translates, TranslatorPlan, TranslatorAnswers, CheckerPlan, CheckerAnswers}
+use Rattle.ltl_spec.proofs.Formulas.ReaderLaws.{verdict_reading}
+use Rattle.ltl_spec.proofs.Words.LeastLaws.{least_form_is}
 use Rattle.ltl_spec.proofs.Examples.WithinLimits.{translation_fits}
 use Rattle.ltl_spec.proofs.Examples.Claims.{translation_within}
-use Rattle.ltl_spec.proofs.Examples.InputTexts.{text_e, automaton_e, reads_e, one_lasso}
+use Rattle.ltl_spec.proofs.Examples.InputTexts.{text_e, automaton_e, reads_e, rising}
 use Rattle.ltl_spec.proofs.Examples.ProgramTexts.{answer}
 
 -- `<>p`
@@ -25,7 +26,7 @@ abbrev eventually : Reading
 eventually = record { formula = Unary Eventually (Proposition 0); names = codes "p" ∷ [] }
 
 eventually_text : IsTextOf (codes "<>p") eventually
-eventually_text = (refl, of_tighter 4 _ _ (of_tighter 3 _ _ (of_tighter 2 _ _ (of_tighter 1 _ _ (of_tighter 0 _ _ (of_unary Eventually _ _ (of_name (codes "p") 0 refl)))))))
+eventually_text = verdict_reading (codes "<>p") eventually refl
 
 eventually_read : ReadsFormula stated_limits (codes "<>p") (Ok eventually)
 eventually_read = (omega arith, eventually_text, omega arith)
@@ -79,12 +80,9 @@ empty_accepted = record {
   stem = [];
   cycle = loop ∷ [];
   arrives = (refl, refl);
-  cycles = record { closes = (inl refl, refl, (refl, refl)); moves = λ e. not_nil e; accepts = (loop, inl refl, refl); marks = λ k l. (loop, inl refl, inl (only k l)) };
+  cycles = record { closes = (inl refl, refl, (refl, refl)); moves = λ e. cc; accepts = (loop, inl refl, refl); marks = λ k l. (loop, inl refl, inl (only k l)) };
 }
   where
-    not_nil : loop ∷ [] ≡ [] → ⊥
-    not_nil e = cc
-
     only : (k : ℕ) → k < 1 → k ≡ 0
     only k l = omega (arith, l)
 
@@ -97,6 +95,9 @@ empty_violates = (empty_accepted, λ h. never h.0 (stays h.0) h.1)
   where
     never : (k : ℕ) → after_steps (next empty_word) k 0 ≡ 0 → IsTrue (is_true_at (codes "p" ∷ []) empty_word (after_steps (next empty_word) k 0) 0) → ⊥
     never k e t = false≢true (sym (ap (λ i. is_true_at (codes "p" ∷ []) empty_word i 0) e) ∙ t)
+
+empty_lasso : IsLasso empty_word
+empty_lasso = record { sets = rising ([] ∷ []) (tt, tt); cycles = omega arith }
 
 abbrev check_plan : CheckerPlan
 check_plan = record { formula = Given (codes "<>p"); automaton = None }
@@ -120,7 +121,7 @@ violated_answer = (
           inr (
             automaton_e,
             reads_e,
-            (omega arith, omega arith, (one_lasso [] tt, empty_violates, empty_least, λ n h. absurd h)),
+            (omega arith, omega arith, (empty_lasso, empty_violates, (least_form_is empty_word empty_lasso).least, λ n h. absurd h)),
           ),
         ),
       ),
@@ -128,21 +129,3 @@ violated_answer = (
   ),
   refl,
 )
-  where
-    nothing : (n : ℕ) → repeated {K = List (List ℕ)} n [] ≡ []
-    nothing zero = refl
-    nothing (suc n) = nothing n
-
-    none : (n : ℕ) (xs : List (List (List ℕ))) → length xs < 1 → repeated n xs ≡ [] ∷ [] → ⊥
-    none n [] l e = differ (sym (nothing n) ∙ e)
-      where
-        differ : ◌≡◌ {A = List (List (List ℕ))} [] ([] ∷ []) → ⊥
-        differ d = cc
-    none n (x ∷ xs) l e = omega (arith, l)
-
-    no_end : (before : List (List (List ℕ))) (a : List (List ℕ)) → before ++ a ∷ [] ≡ [] → ⊥
-    no_end [] a d = cc
-    no_end (b ∷ bs) a d = cc
-
-    empty_least : IsLeast empty_word
-    empty_least = record { shortest = λ n xs l e. none n xs l (sym e); differs = λ a d. λ _. no_end d.0 a (sym d.1) }

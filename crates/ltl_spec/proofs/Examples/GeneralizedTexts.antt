@@ -1,11 +1,11 @@
 -- Worked examples of generalized automata: printed with all options, read with any number of sets, and checked against a formula.
 use Rattle.std.proofs.Common.{◌≡◌, ℕ, zero, suc, ◌*◌, ◌<◌, ◌≤◌, Bool, true, false, inl, inr, List, [], ◌∷◌, ◌++◌, refl, sym, ◌∙◌, ap, subst, arith, Option, Some, None}
-use Rattle.std.specs.Prelude.{codes, IsTrue}
+use Rattle.std.specs.Prelude.{codes, IsTrue, map, Ok, Err}
 use Rattle.std.specs.Fmt.{digits}
 use Rattle.std.proofs.lemmas.Bool.{false≢true, cases_eq}
 use Rattle.ltl_spec.specs.Collections.Sets.{Has}
 use Rattle.ltl_spec.specs.Semantics.Word.{Lasso, next, after_steps, is_true_at}
-use Rattle.ltl_spec.specs.Formulas.Formula.{Constant, Proposition, Unary, Always, Eventually, Reading}
+use Rattle.ltl_spec.specs.Formulas.Formula.{Proposition, Unary, Always, Eventually, Reading}
 use Rattle.ltl_spec.specs.Formulas.Tokens.{same_name}
 use Rattle.ltl_spec.specs.NormalForms.NormalForm.{core}
 use Rattle.ltl_spec.specs.Automata.Automaton.{Edge, IsWalk, state_at}
@@ -17,9 +17,11 @@ use Rattle.ltl_spec.specs.Tools.Limits.{stated_limits}
 use Rattle.ltl_spec.specs.Tools.Refusal.{translator_usage}
 use Rattle.ltl_spec.specs.Tools.Programs.{Claim, Generalized, layout_of}
 use Rattle.ltl_spec.specs.Hoa.HoaFaultKind.{BadToken, Unsupported, NumberOutOfRange, LimitPassed}
-use Rattle.ltl_spec.specs.Hoa.HoaFault.{hoa_fault, HoaFault}
+use Rattle.ltl_spec.specs.Hoa.HoaFault.{hoa_fault, HoaFault, fault_at}
 use Rattle.ltl_spec.specs.Hoa.HoaLabel.{NumberLabel, NotLabel, AndLabel}
 use Rattle.ltl_spec.specs.Hoa.HoaReading.{SetsUpTo, MarkedAutomaton, StatesItem, StartItem, NamesItem, SetsItem, HoaReadsWithin}
+use Rattle.ltl_spec.proofs.Examples.ReaderTexts.{verdict_of}
+use Rattle.ltl_spec.proofs.Examples.InputTexts.{reads_as}
 use Rattle.ltl_spec.specs.Checking.Check.{graph_of, IsViolation, IsContained}
 
 -- ---- what the words ask for
@@ -39,29 +41,30 @@ generalized_usage = refl
 
 -- ---- texts
 
-abbrev generalized : Bool → Bool → Reading → List ℕ
-generalized keep_implied keep_equal R = generalized_text (renumbered_automaton (merged_automaton keep_implied keep_equal (generalized_within (core R.formula false true) keep_implied 8))) R
+-- the text for the formula of a text
+abbrev generalized : Bool → Bool → List ℕ → List ℕ
+generalized keep_implied keep_equal text = elim (verdict_of text) [
+  | Ok R ↦ generalized_text (renumbered_automaton (merged_automaton keep_implied keep_equal (generalized_within (core R.formula false true) keep_implied 8))) R
+  | Err f ↦ []
+]
 
-abbrev infinitely_often : Reading
-infinitely_often = record { formula = Unary Always (Unary Eventually (Proposition 0)); names = codes "p" ∷ [] }
+-- what is printed for texts, and what should be
+abbrev texts : List (List ℕ × List ℕ)
+texts =
+    (generalized false false (codes "[]<>p"), codes "HOA: v1\nname: \"[]<>p\"\nStates: 1\nStart: 0\nAP: 1 \"p\"\nacc-name: generalized-Buchi 1\nAcceptance: 1 Inf(0)\nproperties: trans-labels explicit-labels trans-acc\n--BODY--\nState: 0\n[t] 0\n[0] 0 {0}\n--END--\n")
+    ∷ (generalized false false (codes "<>p && <>q"), codes "HOA: v1\nname: \"(<>p && <>q)\"\nStates: 4\nStart: 0\nAP: 2 \"p\" \"q\"\nacc-name: generalized-Buchi 2\nAcceptance: 2 Inf(0)&Inf(1)\nproperties: trans-labels explicit-labels trans-acc\n--BODY--\nState: 0\n[t] 0\n[0] 1 {0}\n[0&1] 2 {0 1}\n[1] 3 {1}\nState: 1\n[t] 1 {0}\n[1] 2 {0 1}\nState: 2\n[t] 2 {0 1}\nState: 3\n[t] 3 {1}\n[0] 2 {0 1}\n--END--\n")
+    ∷ (generalized false false (codes "true"), codes "HOA: v1\nname: \"true\"\nStates: 1\nStart: 0\nAP: 0\nacc-name: all\nAcceptance: 0 t\nproperties: trans-labels explicit-labels trans-acc\n--BODY--\nState: 0\n[t] 0\n--END--\n")
+    -- `[]<>p` with `-p`: the states `[]<>p` and `<>p, []<>p` stay apart
+    ∷ (generalized false true (codes "[]<>p"), codes "HOA: v1\nname: \"[]<>p\"\nStates: 2\nStart: 0\nAP: 1 \"p\"\nacc-name: generalized-Buchi 1\nAcceptance: 1 Inf(0)\nproperties: trans-labels explicit-labels trans-acc\n--BODY--\nState: 0\n[t] 1\n[0] 0 {0}\nState: 1\n[t] 1\n[0] 0 {0}\n--END--\n")
+    -- with `-o`: the second one also stays where it is on p, so the two aren't equal
+    ∷ (generalized true false (codes "[]<>p"), codes "HOA: v1\nname: \"[]<>p\"\nStates: 2\nStart: 0\nAP: 1 \"p\"\nacc-name: generalized-Buchi 1\nAcceptance: 1 Inf(0)\nproperties: trans-labels explicit-labels trans-acc\n--BODY--\nState: 0\n[t] 1\n[0] 0 {0}\nState: 1\n[t] 1\n[0] 0 {0}\n[0] 1 {0}\n--END--\n")
+    -- `false` has a state without edges, and no set
+    ∷ (generalized false false (codes "false"), codes "HOA: v1\nname: \"false\"\nStates: 1\nStart: 0\nAP: 0\nacc-name: all\nAcceptance: 0 t\nproperties: trans-labels explicit-labels trans-acc\n--BODY--\nState: 0\n--END--\n")
+    ∷ []
 
--- `[]<>p` with `-p`: the states `[]<>p` and `<>p, []<>p` stay apart
-infinitely_often_apart : generalized false true infinitely_often
-    ≡ codes "HOA: v1\nname: \"[]<>p\"\nStates: 2\nStart: 0\nAP: 1 \"p\"\nacc-name: generalized-Buchi 1\nAcceptance: 1 Inf(0)\nproperties: trans-labels explicit-labels trans-acc\n--BODY--\nState: 0\n[t] 1\n[0] 0 {0}\nState: 1\n[t] 1\n[0] 0 {0}\n--END--\n"
+texts_printed : map (λ e. e.0) texts ≡ map (λ e. e.1) texts
 unfolding digits
-infinitely_often_apart = refl
-
--- with `-o`: the second one also stays where it is on p, so the two aren't equal
-infinitely_often_implied : generalized true false infinitely_often
-    ≡ codes "HOA: v1\nname: \"[]<>p\"\nStates: 2\nStart: 0\nAP: 1 \"p\"\nacc-name: generalized-Buchi 1\nAcceptance: 1 Inf(0)\nproperties: trans-labels explicit-labels trans-acc\n--BODY--\nState: 0\n[t] 1\n[0] 0 {0}\nState: 1\n[t] 1\n[0] 0 {0}\n[0] 1 {0}\n--END--\n"
-unfolding digits
-infinitely_often_implied = refl
-
--- `false` has a state without edges, and no set
-falsity : generalized false false (record { formula = Constant false; names = [] })
-    ≡ codes "HOA: v1\nname: \"false\"\nStates: 1\nStart: 0\nAP: 0\nacc-name: all\nAcceptance: 0 t\nproperties: trans-labels explicit-labels trans-acc\n--BODY--\nState: 0\n--END--\n"
-unfolding digits
-falsity = refl
+texts_printed = refl
 
 -- ---- faults in `Acceptance:`
 
@@ -72,48 +75,30 @@ sample sets marks = codes "HOA: v1\nStates: 1\nStart: 0\nAP: 1 \"p\"\nAcceptance
 abbrev fault_of : List ℕ → List ℕ → Option HoaFault
 fault_of sets marks = hoa_fault stated_limits (SetsUpTo 32) (sample sets marks)
 
-no_sets : fault_of (codes "0 t") [] ≡ None
-no_sets = refl
+-- each with its fault
+abbrev faults : List (Option HoaFault × Option HoaFault)
+faults =
+    (fault_of (codes "0 t") [], None)
+    ∷ (fault_of (codes "0 t") (codes " {0}"), fault_at NumberOutOfRange 7)
+    ∷ (fault_of (codes "2 Inf ( 0 )\n& /* and */ Inf(1)") (codes " {1 0 1}"), None)
+    ∷ (fault_of (codes "2 Inf(0)&Inf(1)") (codes " {2}"), fault_at NumberOutOfRange 7)
+    ∷ (fault_of (codes "2 Inf(1)&Inf(0)") (codes " {0}"), fault_at Unsupported 5)
+    ∷ (fault_of (codes "33") (codes " {0}"), fault_at LimitPassed 5)
+    -- a wrong token before the number
+    ∷ (fault_of (codes "t") [], fault_at Unsupported 5)
+    ∷ (fault_of (codes "0 f") [], fault_at Unsupported 5)
+    ∷ (fault_of (codes "0 Inf(0)") [], fault_at Unsupported 5)
+    -- a set too few: the next token is the mark of the body
+    ∷ (fault_of (codes "2 Inf(0)") [], fault_at Unsupported 6)
+    -- and one too many
+    ∷ (fault_of (codes "1 Inf(0)&Inf(1)") [], fault_at Unsupported 5)
+    ∷ (fault_of (codes "0 t t") [], fault_at Unsupported 5)
+    -- a byte that begins no token comes first
+    ∷ (fault_of (codes "2 Inf(0)&@") [], fault_at BadToken 5)
+    ∷ []
 
-no_set_to_be_in : fault_of (codes "0 t") (codes " {0}") ≡ Some (record { kind = NumberOutOfRange; line = 7 })
-no_set_to_be_in = refl
-
-spread : fault_of (codes "2 Inf ( 0 )\n& /* and */ Inf(1)") (codes " {1 0 1}") ≡ None
-spread = refl
-
-third_set : fault_of (codes "2 Inf(0)&Inf(1)") (codes " {2}") ≡ Some (record { kind = NumberOutOfRange; line = 7 })
-third_set = refl
-
-turned : fault_of (codes "2 Inf(1)&Inf(0)") (codes " {0}") ≡ Some (record { kind = Unsupported; line = 5 })
-turned = refl
-
-too_many : fault_of (codes "33") (codes " {0}") ≡ Some (record { kind = LimitPassed; line = 5 })
-too_many = refl
-
--- a wrong token before the number
-no_number : fault_of (codes "t") [] ≡ Some (record { kind = Unsupported; line = 5 })
-no_number = refl
-
-false_for_true : fault_of (codes "0 f") [] ≡ Some (record { kind = Unsupported; line = 5 })
-false_for_true = refl
-
-sets_for_none : fault_of (codes "0 Inf(0)") [] ≡ Some (record { kind = Unsupported; line = 5 })
-sets_for_none = refl
-
--- a set too few: the next token is the mark of the body
-one_of_two : fault_of (codes "2 Inf(0)") [] ≡ Some (record { kind = Unsupported; line = 6 })
-one_of_two = refl
-
--- and one too many
-two_of_one : fault_of (codes "1 Inf(0)&Inf(1)") [] ≡ Some (record { kind = Unsupported; line = 5 })
-two_of_one = refl
-
-behind_none : fault_of (codes "0 t t") [] ≡ Some (record { kind = Unsupported; line = 5 })
-behind_none = refl
-
--- a byte that begins no token comes first
-broken : fault_of (codes "2 Inf(0)&@") [] ≡ Some (record { kind = BadToken; line = 5 })
-broken = refl
+faults_found : map (λ e. e.0) faults ≡ map (λ e. e.1) faults
+faults_found = refl
 
 -- ---- automata with two sets or none, and what they accept
 
@@ -122,56 +107,20 @@ abbrev looping : ℕ → List ℕ → MarkedAutomaton
 looping sets marks = record { states = 1; start = 0; sets = sets; names = codes "p" ∷ []; edges = (record { cube = record { proposition = 0; positive = false } ∷ []; target = 0; marks = marks } ∷ []) ∷ [] }
 
 reads_two : HoaReadsWithin stated_limits (SetsUpTo 32) (sample (codes "2 Inf(0)&Inf(1)") (codes " {0}")) (looping 2 (0 ∷ []))
-reads_two = (
-  record {
-    document = record {
+reads_two = reads_as (SetsUpTo 32) (sample (codes "2 Inf(0)&Inf(1)") (codes " {0}")) (looping 2 (0 ∷ [])) (
+    record {
       items = StatesItem 1 ∷ StartItem 0 ∷ NamesItem (codes "p" ∷ []) ∷ SetsItem 2 ∷ [];
       states = record { number = 0; name = None; sets = Some (0 ∷ []); edges = record { label = NotLabel (NumberLabel 0); target = 0; sets = None } ∷ [] } ∷ [];
-    };
-    spelled = refl;
-    describes = record {
-      items = refl;
-      states = refl;
-      start = refl;
-      sets = refl;
-      names = refl;
-      reads = refl;
-      begins = omega arith;
-      propositions = refl;
-      differ = ((λ h. h), tt);
-      once = ((λ h. h), tt);
-      inside = refl;
-      edges = refl;
-    };
-  },
-  record { bytes = omega arith; states = omega arith; names = omega arith; labels = refl; edges = omega arith },
-)
+    }
+    ) refl (refl, refl, refl, refl) refl refl refl ((λ h. h), tt) ((λ h. h), tt)
 
 reads_none : HoaReadsWithin stated_limits (SetsUpTo 32) (sample (codes "0 t") []) (looping 0 [])
-reads_none = (
-  record {
-    document = record {
+reads_none = reads_as (SetsUpTo 32) (sample (codes "0 t") []) (looping 0 []) (
+    record {
       items = StatesItem 1 ∷ StartItem 0 ∷ NamesItem (codes "p" ∷ []) ∷ SetsItem 0 ∷ [];
       states = record { number = 0; name = None; sets = None; edges = record { label = NotLabel (NumberLabel 0); target = 0; sets = None } ∷ [] } ∷ [];
-    };
-    spelled = refl;
-    describes = record {
-      items = refl;
-      states = refl;
-      start = refl;
-      sets = refl;
-      names = refl;
-      reads = refl;
-      begins = omega arith;
-      propositions = refl;
-      differ = ((λ h. h), tt);
-      once = ((λ h. h), tt);
-      inside = refl;
-      edges = refl;
-    };
-  },
-  record { bytes = omega arith; states = omega arith; names = omega arith; labels = refl; edges = omega arith },
-)
+    }
+    ) refl (refl, refl, refl, refl) refl refl refl ((λ h. h), tt) ((λ h. h), tt)
 
 abbrev eventually : Reading
 eventually = record { formula = Unary Eventually (Proposition 0); names = codes "p" ∷ [] }
@@ -185,12 +134,9 @@ two_contained w s (a, v) = let (e, h, m) = a.cycles.marks 1 (omega arith) in nev
     unmarked zero e (inr z) = absurd z
     unmarked (suc s) e h = absurd h
 
-    other : ◌≡◌ {A = ℕ} 1 0 → ⊥
-    other q = omega (arith, q)
-
     never : (s i : ℕ) (es : List Edge) (t j : ℕ) → IsWalk (graph_of (looping 2 (0 ∷ []))) (is_true_at (codes "p" ∷ []) w) (next w) s i es t j → (e : Edge) → Has es e → Has e.marks 1 → ⊥
     never s i [] t j k e h m = h
-    never s i (x ∷ es) t j k e (inl q) m = elim (subst (λ ks. Has ks 1) (ap (λ (y : Edge). y.marks) q ∙ unmarked s x k.0) m) [ inl z ↦ other z | inr z ↦ absurd z ]
+    never s i (x ∷ es) t j k e (inl q) m = elim (subst (λ ks. Has ks 1) (ap (λ (y : Edge). y.marks) q ∙ unmarked s x k.0) m) [ inl z ↦ (omega (arith, z)) | inr z ↦ absurd z ]
     never s i (x ∷ es) t j k e (inr h) m = never x.target (next w i) es t j k.2 e h m
 
 -- the word without p
@@ -209,14 +155,11 @@ none_violated = (
     stem = [];
     cycle = loop ∷ [];
     arrives = (refl, refl);
-    cycles = record { closes = (inl refl, refl, (refl, refl)); moves = λ e. not_nil e; accepts = (loop, inl refl, refl); marks = λ k l. absurd (omega (arith, l)) };
+    cycles = record { closes = (inl refl, refl, (refl, refl)); moves = λ e. cc; accepts = (loop, inl refl, refl); marks = λ k l. absurd (omega (arith, l)) };
   },
   λ h. never h.0 (stays h.0) h.1,
 )
   where
-    not_nil : loop ∷ [] ≡ [] → ⊥
-    not_nil e = cc
-
     stays : (k : ℕ) → after_steps (next empty_word) k 0 ≡ 0
     stays zero = refl
     stays (suc k) = stays k
@@ -242,37 +185,16 @@ abbrev cycles_text : List ℕ → List ℕ
 cycles_text marks = codes "HOA: v1\nStates: 2\nStart: 0\nAP: 2 \"p\" \"q\"\nAcceptance: 2 Inf(0)&Inf(1)\n--BODY--\nState: 0\n[0&!1] 1 {0}\nState: 1\n[!0&1] 0" ++ marks ++ codes "\n--END--\n"
 
 reads_by_cycles : HoaReadsWithin stated_limits (SetsUpTo 32) (cycles_text (codes " {1}")) (by_cycles (1 ∷ []))
-reads_by_cycles = (
-  record {
-    document = record {
+reads_by_cycles = reads_as (SetsUpTo 32) (cycles_text (codes " {1}")) (by_cycles (1 ∷ [])) (
+    record {
       items = StatesItem 2 ∷ StartItem 0 ∷ NamesItem (codes "p" ∷ codes "q" ∷ []) ∷ SetsItem 2 ∷ [];
       states = record { number = 0; name = None; sets = None; edges = record { label = AndLabel (NumberLabel 0) (NotLabel (NumberLabel 1)); target = 1; sets = Some (0 ∷ []) } ∷ [] }
           ∷ record { number = 1; name = None; sets = None; edges = record { label = AndLabel (NotLabel (NumberLabel 0)) (NumberLabel 1); target = 0; sets = Some (1 ∷ []) } ∷ [] } ∷ [];
-    };
-    spelled = refl;
-    describes = record {
-      items = refl;
-      states = refl;
-      start = refl;
-      sets = refl;
-      names = refl;
-      reads = refl;
-      begins = omega arith;
-      propositions = refl;
-      differ = (elim [ inl e ↦ differ e | inr z ↦ z ], ((λ h. h), tt));
-      once = (elim [ inl e ↦ apart e | inr z ↦ z ], ((λ h. h), tt));
-      inside = refl;
-      edges = refl;
-    };
-  },
-  record { bytes = omega arith; states = omega arith; names = omega arith; labels = refl; edges = omega arith },
-)
+    }
+    ) refl (refl, refl, refl, refl) refl refl refl (elim [ inl e ↦ differ e | inr z ↦ z ], ((λ h. h), tt)) (elim [ inl e ↦ (omega (arith, e)) | inr z ↦ z ], ((λ h. h), tt))
   where
     differ : codes "p" ≡ codes "q" → ⊥
     differ e = false≢true (sym (ap (λ n. same_name n (codes "p")) e))
-
-    apart : ◌≡◌ {A = ℕ} 0 1 → ⊥
-    apart e = omega (arith, e)
 
 abbrev always : Reading
 always = record { formula = Unary Always (Proposition 0); names = codes "p" ∷ [] }
@@ -298,7 +220,7 @@ cycles_violated = (
     arrives = (refl, refl);
     cycles = record {
       closes = (inl refl, refl, (inl refl, refl, (refl, refl)));
-      moves = λ e. not_nil e;
+      moves = λ e. cc;
       accepts = (first_edge, inl refl, refl);
       marks = λ k l. elim (cases_eq k 0) [
         | inl e ↦ (first_edge, inl refl, inl e)
@@ -308,19 +230,13 @@ cycles_violated = (
   },
   λ h. elim (h 1) [ inl t ↦ false≢true t | inr f ↦ f.2 ],
 )
-  where
-    not_nil : first_edge ∷ second_edge ∷ [] ≡ [] → ⊥
-    not_nil e = cc
 
 -- without the second set nothing is accepted
 cycles_contained : IsContained (by_cycles []) always
 cycles_contained w s (a, v) = let (e, h, m) = a.cycles.marks 1 (omega arith) in never a.state a.position a.cycle a.state a.position a.cycles.closes e h m
   where
     unmarked : (s : ℕ) (e : Edge) → Has (state_at (graph_of (by_cycles [])) s).edges e → Has e.marks 1 → ⊥
-    unmarked zero e (inl q) m = elim (subst (λ (x : Edge). Has x.marks 1) q m) [ inl z ↦ other z | inr z ↦ z ]
-      where
-        other : ◌≡◌ {A = ℕ} 1 0 → ⊥
-        other z = omega (arith, z)
+    unmarked zero e (inl q) m = elim (subst (λ (x : Edge). Has x.marks 1) q m) [ inl z ↦ (omega (arith, z)) | inr z ↦ z ]
     unmarked zero e (inr z) m = z
     unmarked (suc zero) e (inl q) m = subst (λ (x : Edge). Has x.marks 1) q m
     unmarked (suc zero) e (inr z) m = z

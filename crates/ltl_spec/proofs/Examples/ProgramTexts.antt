@@ -1,18 +1,17 @@
 -- Worked examples: answers of the programs.
-use Rattle.std.proofs.Common.{◌≡◌, ℕ, ◌<◌, true, false, inl, inr, List, [], ◌∷◌, ◌++◌, length, refl, sym, ◌∙◌, arith, Some, None}
+use Rattle.std.proofs.Common.{ℕ, ◌<◌, true, false, inl, inr, List, [], ◌∷◌, length, refl, arith, Some, None}
 use Rattle.std.specs.Prelude.{Ok, Err, codes}
 use Rattle.std.specs.Fmt.{digits}
 use Rattle.std.proofs.lemmas.Bool.{false≢true}
-use Rattle.ltl_spec.specs.Semantics.Word.{Lasso, Name}
-use Rattle.ltl_spec.specs.Formulas.Formula.{Formula, Proposition, Reading}
-use Rattle.ltl_spec.specs.Formulas.Tokens.{Token, NameWord}
-use Rattle.ltl_spec.specs.Formulas.Grammar.{Parses, of_constant, of_name, of_brackets, of_unary, of_tighter, of_left, of_right}
+use Rattle.ltl_spec.specs.Semantics.Word.{Lasso}
+use Rattle.ltl_spec.specs.Formulas.Formula.{Proposition, Reading}
 use Rattle.ltl_spec.specs.Formulas.Fault.{IsFault, ExpectedOperand}
 use Rattle.ltl_spec.specs.Words.LassoText.{IsLassoText}
 use Rattle.ltl_spec.specs.Tools.Limits.{stated_limits}
 use Rattle.ltl_spec.specs.Tools.Refusal.{CannotOpen, CannotRead, LongFormula, BadFormula, BadWord}
 use Rattle.ltl_spec.specs.Tools.Outcome.{Answer, NotOpened, Ended, Failed, Given, File}
 use Rattle.ltl_spec.specs.Tools.Programs.{Claim, TranslatorPlan, TranslatorAnswers, EvaluatorPlan, EvaluatorAnswers, ReadsFormula}
+use Rattle.ltl_spec.proofs.Formulas.ReaderLaws.{verdict_reading, verdict_fault}
 use Rattle.ltl_spec.proofs.Examples.InputTexts.{stem_alone}
 
 abbrev pub answer : List ℕ → List ℕ → ℕ → Answer
@@ -39,39 +38,12 @@ long_answer : (text : List ℕ) → 65_536 < length text
 unfolding digits
 long_answer text l = (Err LongFormula, inl (LongFormula, inr (text, refl, l), refl), refl)
 
-not_nil : (xs ys : List Token) (t : Token) → xs ++ t ∷ ys ≡ [] → ⊥
-not_nil [] ys t e = cc
-not_nil (x ∷ xs) ys t e = cc
-
--- a formula has a token
-pub no_empty_formula : (names : List Name) (r : ℕ) (ts : List Token) (F : Formula) → Parses names r ts F → ts ≡ [] → ⊥
-no_empty_formula names r ts F (of_constant b) e = cc
-no_empty_formula names r ts F (of_name n p d) e = cc
-no_empty_formula names r us F (of_brackets ts us' F' d p) e = cc
-no_empty_formula names r us F (of_unary op ts F' p) e = cc
-no_empty_formula names r us F (of_tighter r' ts F' p) e = no_empty_formula names r' ts F' p e
-no_empty_formula names r us F (of_left op r' xs ys us' a b i g d p q) e = not_nil xs ys _ (sym d ∙ e)
-no_empty_formula names r us F (of_right op r' xs ys us' a b i g d p q) e = not_nil xs ys _ (sym d ∙ e)
-
 abbrev p_reading : Reading
 p_reading = record { formula = Proposition 0; names = codes "p" ∷ [] }
 
-p_parses : Parses (codes "p" ∷ []) 5 (NameWord (codes "p") ∷ []) (Proposition 0)
-p_parses = of_tighter 4 _ _ (of_tighter 3 _ _ (of_tighter 2 _ _ (of_tighter 1 _ _ (of_tighter 0 _ _ (of_name (codes "p") 0 refl)))))
-
-a_parses : Parses (codes "a" ∷ []) 5 (NameWord (codes "a") ∷ []) (Proposition 0)
-a_parses = of_tighter 4 _ _ (of_tighter 3 _ _ (of_tighter 2 _ _ (of_tighter 1 _ _ (of_tighter 0 _ _ (of_name (codes "a") 0 refl)))))
-
-abbrev a_reading : Reading
-a_reading = record { formula = Proposition 0; names = codes "a" ∷ [] }
-
 -- an empty file
 empty_fault : IsFault [] 0 ExpectedOperand
-empty_fault = record {
-  count = 0;
-  begins = (NameWord (codes "a") ∷ [], a_reading, (refl, a_parses));
-  stops = (refl, (λ R d. no_empty_formula R.names 5 [] R.formula d.1 refl), ([], a_reading, (refl, a_parses)));
-}
+empty_fault = verdict_fault [] (0, ExpectedOperand) refl
 
 empty_answer : TranslatorAnswers stated_limits (Some file_plan) (Ended []) (answer [] (codes "ltl2ba: formula: byte 0: expected operand\n") 3)
 unfolding digits
@@ -82,7 +54,7 @@ abbrev p_plan : List ℕ → EvaluatorPlan
 p_plan word = record { formula = Given (codes "p"); word = word }
 
 reads_p : ReadsFormula stated_limits (codes "p") (Ok p_reading)
-reads_p = (omega arith, (refl, p_parses), omega arith)
+reads_p = (omega arith, verdict_reading (codes "p") p_reading refl, omega arith)
 
 bad_word_answer : EvaluatorAnswers stated_limits (Some (p_plan (codes "{p}"))) NotOpened (answer [] (codes "ltleval: word: byte 3: bad word\n") 3)
 unfolding digits

@@ -1,5 +1,5 @@
 -- Worked examples of the reader's verdicts.
-use Rattle.std.proofs.Common.{◌≡◌, ℕ, [], ◌∷◌, length, List, Ok, Err, codes, refl}
+use Rattle.std.proofs.Common.{◌≡◌, ℕ, [], ◌∷◌, length, map, List, Ok, Err, codes, refl}
 use Rattle.ltl_spec.specs.Formulas.Formula.{Constant, Proposition, Unary, Binary, Not, Next, Always, Eventually, And, Or, Implies, Iff, Until, Release}
 use Rattle.ltl_spec.specs.Formulas.Tokens.{items}
 use Rattle.ltl_spec.specs.Formulas.Canonical.{canonical_text}
@@ -8,80 +8,46 @@ use Rattle.ltl_spec.proofs.Formulas.GrammarMachine.{Wanting}
 use Rattle.ltl_spec.proofs.Formulas.ReaderLaws.{Verdict, verdict}
 
 -- the verdict on a text
-abbrev verdict_of : List ℕ → Verdict
+abbrev pub verdict_of : List ℕ → Verdict
 verdict_of text = verdict (length text) [] (Wanting []) (items text)
 
--- `->` groups to the right
-right : verdict_of (codes "p -> q -> p")
-    ≡ Ok (record { formula = Binary Implies (Proposition 0) (Binary Implies (Proposition 1) (Proposition 0)); names = codes "p" ∷ codes "q" ∷ [] })
-right = refl
+-- texts with their verdicts
+abbrev verdicts : List (Verdict × Verdict)
+verdicts =
+    -- `->` groups to the right
+    (verdict_of (codes "p -> q -> p"), Ok (record { formula = Binary Implies (Proposition 0) (Binary Implies (Proposition 1) (Proposition 0)); names = codes "p" ∷ codes "q" ∷ [] }))
+    -- `U` groups to the left, and unary operators bind tightest
+    ∷ (verdict_of (codes "!p U []q V r"), Ok (record { formula = Binary Release (Binary Until (Unary Not (Proposition 0)) (Unary Always (Proposition 1))) (Proposition 2); names = codes "p" ∷ codes "q" ∷ codes "r" ∷ [] }))
+    -- each rank in its place
+    ∷ (verdict_of (codes "a <-> b -> c || d && e U f"), Ok (record { formula = Binary Iff (Proposition 0) (Binary Implies (Proposition 1) (Binary Or (Proposition 2) (Binary And (Proposition 3) (Binary Until (Proposition 4) (Proposition 5))))); names = codes "a" ∷ codes "b" ∷ codes "c" ∷ codes "d" ∷ codes "e" ∷ codes "f" ∷ [] }))
+    -- a unary operator closes before the binary one
+    ∷ (verdict_of (codes "X(true \\/ <>q)&&q"), Ok (record { formula = Binary And (Unary Next (Binary Or (Constant Rattle.std.proofs.Common.true) (Unary Eventually (Proposition 0)))) (Proposition 0); names = codes "q" ∷ [] }))
+    -- faults
+    ∷ (verdict_of (codes "p & q"), Err (2, UnexpectedByte))
+    -- an operand too many before a byte at fault
+    ∷ (verdict_of (codes "p q #"), Err (2, ExpectedOperatorOrEnd))
+    -- a bracket closes too early
+    ∷ (verdict_of (codes "(p U )"), Err (5, ExpectedOperand))
+    -- a bracket stays open
+    ∷ (verdict_of (codes "[](p -> q "), Err (10, ExpectedCloseOrOperator))
+    -- no text is a formula of no token
+    ∷ (verdict_of [], Err (0, ExpectedOperand))
+    -- a bracket that was not open
+    ∷ (verdict_of (codes "p)"), Err (1, ExpectedOperatorOrEnd))
+    -- an operand too many in a bracket
+    ∷ (verdict_of (codes "(p q"), Err (3, ExpectedCloseOrOperator))
+    -- letters for operators: `[]<>p`, and `p V q`
+    ∷ (verdict_of (codes "GFp"), Ok (record { formula = Unary Always (Unary Eventually (Proposition 0)); names = codes "p" ∷ [] }))
+    ∷ (verdict_of (codes "pRq"), Ok (record { formula = Binary Release (Proposition 0) (Proposition 1); names = codes "p" ∷ codes "q" ∷ [] }))
+    -- the same binding as the signs
+    ∷ (verdict_of (codes "Gp R q && F q U p"), Ok (record { formula = Binary And (Binary Release (Unary Always (Proposition 0)) (Proposition 1)) (Binary Until (Unary Eventually (Proposition 1)) (Proposition 0)); names = codes "p" ∷ codes "q" ∷ [] }))
+    ∷ (verdict_of (codes "p W q"), Err (2, UnexpectedByte))
+    ∷ (verdict_of (codes "p R"), Err (3, ExpectedOperand))
+    ∷ (verdict_of (codes "p G q"), Err (2, ExpectedOperatorOrEnd))
+    ∷ []
 
--- `U` groups to the left, and unary operators bind tightest
-left : verdict_of (codes "!p U []q V r")
-    ≡ Ok (record { formula = Binary Release (Binary Until (Unary Not (Proposition 0)) (Unary Always (Proposition 1))) (Proposition 2); names = codes "p" ∷ codes "q" ∷ codes "r" ∷ [] })
-left = refl
-
--- each rank in its place
-ranks : verdict_of (codes "a <-> b -> c || d && e U f")
-    ≡ Ok (record {
-      formula = Binary Iff (Proposition 0) (Binary Implies (Proposition 1) (Binary Or (Proposition 2) (Binary And (Proposition 3) (Binary Until (Proposition 4) (Proposition 5)))));
-      names = codes "a" ∷ codes "b" ∷ codes "c" ∷ codes "d" ∷ codes "e" ∷ codes "f" ∷ [];
-    })
-ranks = refl
-
--- a unary operator closes before the binary one
-brackets : verdict_of (codes "X(true \\/ <>q)&&q")
-    ≡ Ok (record { formula = Binary And (Unary Next (Binary Or (Constant Rattle.std.proofs.Common.true) (Unary Eventually (Proposition 0)))) (Proposition 0); names = codes "q" ∷ [] })
-brackets = refl
-
--- faults
-byte : verdict_of (codes "p & q") ≡ Err (2, UnexpectedByte)
-byte = refl
-
--- an operand too many before a byte at fault
-byte_first : verdict_of (codes "p q #") ≡ Err (2, ExpectedOperatorOrEnd)
-byte_first = refl
-
--- a bracket closes too early
-operand : verdict_of (codes "(p U )") ≡ Err (5, ExpectedOperand)
-operand = refl
-
--- a bracket stays open
-at_end : verdict_of (codes "[](p -> q ") ≡ Err (10, ExpectedCloseOrOperator)
-at_end = refl
-
--- no text is a formula of no token
-empty : verdict_of [] ≡ Err (0, ExpectedOperand)
-empty = refl
-
--- a bracket that was not open
-closed : verdict_of (codes "p)") ≡ Err (1, ExpectedOperatorOrEnd)
-closed = refl
-
--- an operand too many in a bracket
-in_bracket : verdict_of (codes "(p q") ≡ Err (3, ExpectedCloseOrOperator)
-in_bracket = refl
-
--- letters for operators: `[]<>p`, and `p V q`
-letters : verdict_of (codes "GFp") ≡ Ok (record { formula = Unary Always (Unary Eventually (Proposition 0)); names = codes "p" ∷ [] })
-letters = refl
-
-letter_between : verdict_of (codes "pRq") ≡ Ok (record { formula = Binary Release (Proposition 0) (Proposition 1); names = codes "p" ∷ codes "q" ∷ [] })
-letter_between = refl
-
--- the same binding as the signs
-letters_bind : verdict_of (codes "Gp R q && F q U p")
-    ≡ Ok (record { formula = Binary And (Binary Release (Unary Always (Proposition 0)) (Proposition 1)) (Binary Until (Unary Eventually (Proposition 1)) (Proposition 0)); names = codes "p" ∷ codes "q" ∷ [] })
-letters_bind = refl
-
-other_letter : verdict_of (codes "p W q") ≡ Err (2, UnexpectedByte)
-other_letter = refl
-
-letter_at_end : verdict_of (codes "p R") ≡ Err (3, ExpectedOperand)
-letter_at_end = refl
-
-letter_for_binary : verdict_of (codes "p G q") ≡ Err (2, ExpectedOperatorOrEnd)
-letter_for_binary = refl
+verdicts_hold : map (λ e. e.0) verdicts ≡ map (λ e. e.1) verdicts
+verdicts_hold = refl
 
 -- the canonical text has the signs
 letters_printed : canonical_text (record { formula = Unary Always (Unary Eventually (Proposition 0)); names = codes "p" ∷ [] }) ≡ codes "[]<>p"

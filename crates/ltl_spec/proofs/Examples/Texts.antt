@@ -1,10 +1,10 @@
 -- Worked examples of texts, tokens, faults and words.
-use Rattle.std.proofs.Common.{◌≡◌, ℕ, zero, suc, Bool, true, false, ap, inl, inr, List, [], ◌∷◌, refl, arith}
+use Rattle.std.proofs.Common.{◌≡◌, ℕ, zero, suc, Bool, true, false, ap, inl, inr, [], ◌∷◌, refl, arith}
 use Rattle.std.specs.Prelude.{codes}
 use Rattle.ltl_spec.specs.Semantics.Word.{Lasso, next, after_steps, is_true_at}
 use Rattle.ltl_spec.specs.Formulas.Formula.{Proposition, Unary, Binary, Not, Next, Always, Eventually, And, Implies, Iff, Until, Release, Reading}
 use Rattle.ltl_spec.specs.Formulas.Tokens.{ConstantWord, NameWord, UnarySign, BinarySign, Unknown, tokens, items}
-use Rattle.ltl_spec.specs.Formulas.Grammar.{Parses, of_name, of_tighter, of_right, IsTextOf}
+use Rattle.ltl_spec.specs.Formulas.Grammar.{IsTextOf}
 use Rattle.ltl_spec.specs.Formulas.Canonical.{canonical_text}
 use Rattle.ltl_spec.specs.Semantics.Satisfaction.{Satisfies}
 use Rattle.ltl_spec.specs.Automata.Automaton.{Automaton, Edge, Accepts}
@@ -12,6 +12,7 @@ use Rattle.ltl_spec.specs.NormalForms.Normal.{Normal}
 use Rattle.ltl_spec.specs.NormalForms.NormalForm.{core}
 use Rattle.ltl_spec.specs.Automata.Generalized.{generalized_within}
 use Rattle.ltl_spec.specs.Construction.Translation.{IsTranslation}
+use Rattle.ltl_spec.proofs.Formulas.ReaderLaws.{verdict_reading}
 
 -- the longest token is taken, and a name has no upper-case letter
 until_tokens : tokens (codes "pUq") ≡ NameWord (codes "p") ∷ BinarySign Until ∷ NameWord (codes "q") ∷ []
@@ -37,19 +38,8 @@ unknown_items = refl
 abbrev p_q_p : Reading
 p_q_p = record { formula = Binary Implies (Proposition 0) (Binary Implies (Proposition 1) (Proposition 0)); names = codes "p" ∷ codes "q" ∷ [] }
 
-abbrev p_parses : (names : List (List ℕ)) → Parses (codes "p" ∷ names) 3 (NameWord (codes "p") ∷ []) (Proposition 0)
-p_parses names = of_tighter 2 _ _ (of_tighter 1 _ _ (of_tighter 0 _ _ (of_name (codes "p") 0 refl)))
-
-q_parses : Parses (codes "p" ∷ codes "q" ∷ []) 3 (NameWord (codes "q") ∷ []) (Proposition 1)
-q_parses = of_tighter 2 _ _ (of_tighter 1 _ _ (of_tighter 0 _ _ (of_name (codes "q") 1 refl)))
-
 p_q_p_text : IsTextOf (codes "p -> q -> p") p_q_p
-p_q_p_text = (
-  refl,
-  of_tighter 4 _ _ (
-      of_right Implies 3 (NameWord (codes "p") ∷ []) (NameWord (codes "q") ∷ BinarySign Implies ∷ NameWord (codes "p") ∷ []) _ _ _ refl refl refl (p_parses _)
-      (of_right Implies 3 (NameWord (codes "q") ∷ []) (NameWord (codes "p") ∷ []) _ _ _ refl refl refl q_parses (of_tighter 3 _ _ (p_parses _)))),
-)
+p_q_p_text = verdict_reading (codes "p -> q -> p") p_q_p refl
 
 p_q_p_canonical : canonical_text p_q_p ≡ codes "(p -> (q -> p))"
 p_q_p_canonical = refl
@@ -91,11 +81,8 @@ accepted = record {
   stem = record { cube = record { proposition = 0; positive = true } ∷ []; target = 1; marks = [] } ∷ [];
   cycle = loop ∷ [];
   arrives = (inr (inl refl), refl, (refl, refl));
-  cycles = record { closes = (inl refl, refl, (refl, refl)); moves = λ e. not_nil e; accepts = (loop, inl refl, refl); marks = λ k l. absurd (omega arith) };
+  cycles = record { closes = (inl refl, refl, (refl, refl)); moves = λ e. cc; accepts = (loop, inl refl, refl); marks = λ k l. absurd (omega arith) };
 }
-  where
-    not_nil : loop ∷ [] ≡ [] → ⊥
-    not_nil e = cc
 
 -- the translation of `[]<>p`: its two sets of rows are all
 always_eventually : Normal

@@ -3,7 +3,7 @@ use Rattle.std.proofs.Common.{◌≡◌, ℕ, zero, suc, true, false, cond, inl,
 use Rattle.std.specs.Prelude.{nat_le}
 use Rattle.std.specs.List.{AllByRecursion}
 use Rattle.std.proofs.lemmas.Slice.Eq.{bytes_eq-Decides}
-use Rattle.std.proofs.lemmas.Option.{same_Some}
+use Rattle.std.proofs.lemmas.Option.{same_Some, none-some}
 use Rattle.ltl_spec.specs.Collections.Sets.{Has}
 use Rattle.ltl_spec.specs.Collections.Lists.{HasNoRepeats}
 use Rattle.ltl_spec.specs.Semantics.Word.{Name}
@@ -111,14 +111,8 @@ finished_outline (Some (Having G s)) F e = ap (λ n. Some (After n)) (sym (close
 
 -- and the other way round
 pub outline_finished : (r : Option Reader) → outline_if r ≡ Some (After 0) → (F : Formula) × (finished_if r ≡ Some F)
-outline_finished None e = absurd (none_some e)
-  where
-    none_some : None ≡ Some (After 0) → ⊥
-    none_some d = cc
-outline_finished (Some (Wanting s)) e = absurd (before_after e)
-  where
-    before_after : Some (Before (brackets s)) ≡ Some (After 0) → ⊥
-    before_after d = cc
+outline_finished None e = absurd (none-some (After 0) e)
+outline_finished (Some (Wanting s)) e = absurd (cc)
 outline_finished (Some (Having F s)) e = unopened_closed F s (ap count e)
 
 -- names
@@ -205,10 +199,7 @@ walk_begins ts o e =
 
 -- what walks on to the end was not stuck
 walk_start : (o : Option Outline) (ts : List Token) → walk o ts ≡ Some (After 0) → (q : Outline) × (o ≡ Some q)
-walk_start None ts e = absurd (none_some (sym (walk_none ts) ∙ e))
-  where
-    none_some : None ≡ Some (After 0) → ⊥
-    none_some d = cc
+walk_start None ts e = absurd (none-some (After 0) (sym (walk_none ts) ∙ e))
 walk_start (Some q) ts e = (q, refl)
 
 -- and the other way round

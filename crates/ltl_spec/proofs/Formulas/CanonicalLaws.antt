@@ -7,7 +7,7 @@ use Rattle.std.proofs.lemmas.Slice.Eq.{bytes_eq-Decides}
 use Rattle.ltl_spec.specs.Collections.Sets.{Has}
 use Rattle.ltl_spec.specs.Collections.Lists.{HasNoRepeats, first_occurrences}
 use Rattle.ltl_spec.specs.Semantics.Word.{Name}
-use Rattle.ltl_spec.specs.Formulas.Formula.{Formula, Constant, Proposition, Unary, Binary, UnaryOperator, Not, Next, Always, Eventually, BinaryOperator, And, Or, Implies, Iff, Until, Release, Reading}
+use Rattle.ltl_spec.specs.Formulas.Formula.{Formula, Constant, Proposition, Unary, Binary, UnaryOperator, Not, BinaryOperator, And, Reading}
 use Rattle.ltl_spec.specs.Formulas.Tokens.{Token, ConstantWord, NameWord, UnarySign, BinarySign, Open, Close, same_name, tokens}
 use Rattle.ltl_spec.specs.Formulas.Grammar.{Parses, of_constant, of_name, of_brackets, of_unary, of_tighter, of_left, of_right, rank_of, name_in, Reads, IsTextOf}
 use Rattle.ltl_spec.specs.Formulas.Canonical.{constant_text, unary_text, binary_text, formula_text, canonical_text}
@@ -36,18 +36,12 @@ HasNames names (Binary op a b) = HasNames names a × HasNames names b
 -- the token of a unary operator
 unary_tokens : (op : UnaryOperator) (bs : List ℕ) → tokens_from 0 (unary_text op ++ bs) ≡ UnarySign op ∷ tokens_from 0 bs
 unary_tokens Not bs = refl
-unary_tokens Next bs = refl
-unary_tokens Always bs = refl
-unary_tokens Eventually bs = refl
+unary_tokens _ bs = refl
 
 -- of a binary one
 binary_tokens : (op : BinaryOperator) (bs : List ℕ) → tokens_from 0 (binary_text op ++ bs) ≡ BinarySign op ∷ tokens_from 0 bs
 binary_tokens And bs = refl
-binary_tokens Or bs = refl
-binary_tokens Implies bs = refl
-binary_tokens Iff bs = refl
-binary_tokens Until bs = refl
-binary_tokens Release bs = refl
+binary_tokens _ bs = refl
 
 -- a word ends before an operator
 binary_ends : (op : BinaryOperator) (bs : List ℕ) → EndsWord (binary_text op ++ bs)

@@ -1,6 +1,6 @@
 -- Each text has one reading or else one fault, and the outline of what was read tells which.
 use Rattle.std.proofs.Common.{◌≡◌, ℕ, zero, suc, ◌⊎◌, inl, inr, List, [], ◌∷◌, ◌++◌, length, map, take, Option, Some, None, slice_get, codes, refl, sym, ◌∙◌, ap, subst, arith, append_assoc, append-nil}
-use Rattle.std.proofs.lemmas.Option.{same_Some}
+use Rattle.std.proofs.lemmas.Option.{same_Some, none-some}
 use Rattle.std.proofs.lemmas.List.{map_push}
 use Rattle.ltl_spec.specs.Formulas.Formula.{Reading}
 use Rattle.ltl_spec.specs.Formulas.Tokens.{Token, NameWord, Close, Unknown, Item, items, tokens}
@@ -37,10 +37,7 @@ same_fault a b k l p q = λ i. fault_of (p i) (q i)
 
 -- nothing is no outline
 different : {P : Type 0} (o : Outline) → None ≡ Some o → P
-different o e = absurd (no_way e)
-  where
-    no_way : None ≡ Some o → ⊥
-    no_way d = cc
+different o e = absurd (none-some o e)
 
 -- kinds
 
@@ -144,19 +141,13 @@ Tells text (Some f) = IsFault text f.0 f.1
 
 -- what the end of a text tells
 tells_at_end : (text : List ℕ) (o : Outline) → walk (Some (Before 0)) (tokens text) ≡ Some o → Tells text (end_fault (length text) o)
-tells_at_end text (Before n) w = fault_at_end text (Before n) w (λ e. not_after e)
-  where
-    not_after : Before n ≡ After 0 → ⊥
-    not_after d = cc
+tells_at_end text (Before n) w = fault_at_end text (Before n) w (λ e. cc)
 tells_at_end text (After zero) w = walk_reads (tokens text) w
-tells_at_end text (After (suc n)) w = fault_at_end text (After (suc n)) w (λ e. not_after (ap brackets e))
+tells_at_end text (After (suc n)) w = fault_at_end text (After (suc n)) w (λ e. (let h0 = ap brackets e in omega (arith, h0)))
   where
     brackets : Outline → ℕ
     brackets (Before m) = m
     brackets (After m) = m
-
-    not_after : suc n ≡ 0 → ⊥
-    not_after d = omega arith
 
 -- what the search tells from an item on
 first_fault_from : (text : List ℕ) (o : Outline) (rest done : List Item) → items text ≡ done ++ rest → walk (Some (Before 0)) (map token_of done) ≡ Some o
@@ -262,10 +253,7 @@ reading_or_fault text = at (first_fault (length text) (Before 0) (items text)) (
 
 -- not both
 pub never_both : (text : List ℕ) (R : Reading) (place : ℕ) (kind : FaultKind) → IsTextOf text R → ¬ (IsFault text place kind)
-never_both text R place kind r f = clash (sym (reading_has_no_fault text R r) ∙ fault_is_first text place kind f)
-  where
-    clash : None ≡ fault_of place kind → ⊥
-    clash d = cc
+never_both text R place kind r f = (let h0 = sym (reading_has_no_fault text R r) ∙ fault_is_first text place kind f in cc)
 
 -- and not two faults
 pub fault_once : (text : List ℕ) (place place' : ℕ) (kind kind' : FaultKind) → IsFault text place kind → IsFault text place' kind' → (place ≡ place') × (kind ≡ kind')

@@ -4,6 +4,7 @@ use Rattle.std.proofs.Common.{◌≡◌, ℕ, ◌+◌, true, false, cond, not, D
 use Rattle.std.specs.List.{list_any}
 use Rattle.std.proofs.lemmas.Slice.Eq.{bytes_eq-Decides}
 use Rattle.std.proofs.lemmas.List.{map_push}
+use Rattle.std.proofs.lemmas.Option.{none-some}
 use Rattle.ltl_spec.specs.Collections.Sets.{Has}
 use Rattle.ltl_spec.specs.Collections.Lists.{with_new, place_of}
 use Rattle.ltl_spec.specs.Semantics.Word.{Name}
@@ -112,10 +113,7 @@ VerdictTells text (Err f) = IsFault text f.0 f.1
 
 -- a reader with no formula has an operand or a bracket missing
 not_finished : (r : Reader) → finished r ≡ None → ¬ (outline r ≡ After 0)
-not_finished r e o = let w = outline_finished (Some r) (ap Some o) in no_way w.0 (sym e ∙ w.1)
-  where
-    no_way : (F : Formula) → None ≡ Some F → ⊥
-    no_way F d = cc
+not_finished r e o = let w = outline_finished (Some r) (ap Some o) in none-some w.0 (sym e ∙ w.1)
 
 -- what the end of a text says
 judge_at_end : (text : List ℕ) (r : Reader) → run (names_of (tokens text)) (Some (Wanting [])) (tokens text) ≡ Some r

@@ -1,11 +1,9 @@
 -- The tokens of a text, with no regard to their places.
-use Rattle.std.proofs.Common.{◌≡◌, ℕ, zero, suc, ◌+◌, ◌-◌, ◌≤◌, Bool, true, false, cond, ◌&&◌, ◌||◌, Decides, List, [], ◌∷◌, ◌++◌, length, map, drop, take_while, find, Some, if◌then◌else◌, nat_le, nat_eq, ◌==◌, codes, refl, sym, ◌∙◌, ap, subst, arith, leb-true, ne_eqb}
+use Rattle.std.proofs.Common.{◌≡◌, ℕ, zero, suc, ◌+◌, ◌-◌, ◌≤◌, Bool, true, false, cond, ◌&&◌, ◌||◌, Decides, List, [], ◌∷◌, ◌++◌, length, map, drop, take_while, find, Some, if◌then◌else◌, nat_le, nat_eq, ◌==◌, codes, refl, sym, ◌∙◌, ap, subst, arith, leb-true, ne_eqb, drop-cons, ◌<◌}
 use Rattle.std.proofs.lemmas.Bool.{false_from_ne_true, false≢true}
 use Rattle.std.proofs.lemmas.Slice.Eq.{bytes_eq-Decides}
-use Rattle.std.specs.Prelude.{⊤}
+use Rattle.std.specs.Prelude.{⊤, slice_index}
 use Rattle.std.specs.List.{AllByRecursion, starts_with}
-use Rattle.std.specs.Prelude.{slice_index}
-use Rattle.std.proofs.Common.{drop-cons, ◌<◌}
 use Rattle.std.proofs.lemmas.List.{drop-drop, drop_all}
 use Rattle.std.proofs.lemmas.List.Sums.{take_while-cons}
 use Rattle.ltl_spec.specs.Collections.Sets.{Has}
@@ -226,15 +224,12 @@ pub first_length : (b : ℕ) (bs : List ℕ) → 1 ≤ (first_token b bs).1
 first_length b bs =
     elim (is_lower b) as (λ l. is_lower b ≡ l
     → 1 ≤ (cond l (word_token (take_while is_name_byte (b ∷ bs)), length (take_while is_name_byte (b ∷ bs))) (sign_token (find (λ s. starts_with nat_eq (b ∷ bs) s.0) signs))).1) [
-      | true ↦ λ l. subst (λ w. 1 ≤ length w) (sym (word_is l)) (some_byte (take_while is_name_byte bs))
+      | true ↦ λ l. subst (λ w. 1 ≤ length w) (sym (word_is l)) (omega arith)
       | false ↦ λ l. sign_length (λ s. starts_with nat_eq (b ∷ bs) s.0) signs (omega arith, (omega arith, (omega arith, (omega arith, (omega arith, (omega arith, (omega arith, (omega arith, (omega arith, (omega arith, (omega arith, (omega arith, (omega arith, (omega arith, (omega arith, (omega arith, (omega arith, tt)))))))))))))))))
     ] refl
   where
     word_is : is_lower b ≡ true → take_while is_name_byte (b ∷ bs) ≡ b ∷ take_while is_name_byte bs
     word_is l = take_while-cons is_name_byte b bs ∙ ap (λ c. cond c (b ∷ take_while is_name_byte bs) []) (lower_is_name b l)
-
-    some_byte : (w : List ℕ) → 1 ≤ length (b ∷ w)
-    some_byte w = omega arith
 
 -- a loop over the text's bytes
 

@@ -1,5 +1,5 @@
 -- A text without a fault reads as an automaton.
-use Rattle.std.proofs.Common.{◌≡◌, ℕ, ◌+◌, ◌≤◌, Bool, true, false, not, ◌||◌, ◌↔◌, inl, inr, List, [], ◌∷◌, ◌++◌, length, refl, sym, ◌∙◌, ap, subst, arith, append_assoc, Option, Some, None}
+use Rattle.std.proofs.Common.{◌≡◌, ℕ, ◌≤◌, Bool, true, false, not, ◌||◌, ◌↔◌, inl, inr, List, [], ◌∷◌, ◌++◌, length, refl, sym, ◌∙◌, ap, subst, arith, append_assoc, Option, Some, None}
 use Rattle.std.specs.Prelude.{if◌then◌else◌, nat_lt, IsTrue, fold, take, map, flat_map, filter_map, Ok, Err, codes}
 use Rattle.std.specs.List.{AllByRecursion, cons_option, list_all, list_any, range_with_len}
 use Rattle.std.proofs.lemmas.Bool.{and_from, or_right, false≢true, ltb-false}
@@ -11,9 +11,9 @@ use Rattle.ltl_spec.specs.Formulas.Tokens.{same_name}
 use Rattle.ltl_spec.specs.Formulas.Names.{is_proposition}
 use Rattle.ltl_spec.specs.Tools.Limits.{Limits}
 use Rattle.ltl_spec.specs.Hoa.HoaToken.{HoaToken, Identifier, Header, Body, End, HoaItem, hoa_items, hoa_tokens, last_line}
-use Rattle.ltl_spec.specs.Hoa.HoaReading.{AcceptanceForm, HoaHeaderItem, StatesItem, StartItem, SetsItem, NamesItem, OtherItem, header_item_tokens, state_tokens, HoaDocument, MarkedAutomaton, edges_at, states_in, sets_in, names_in, is_read, HoaReadsWithin}
+use Rattle.ltl_spec.specs.Hoa.HoaReading.{AcceptanceForm, HoaHeaderItem, StatesItem, SetsItem, NamesItem, header_item_tokens, state_tokens, HoaDocument, MarkedAutomaton, edges_at, states_in, sets_in, names_in, is_read, HoaReadsWithin}
 use Rattle.ltl_spec.specs.Hoa.HoaFaultKind.{NotHoaVersion1, LimitPassed}
-use Rattle.ltl_spec.specs.Hoa.HoaPlace.{PlainItem, Place, AtFormat, AtVersion, AtStates, AtStart, AtCount, AtSets, AtNames, InAcceptance, AtItem, InBody, AtEnd, Before, before_all, no_header}
+use Rattle.ltl_spec.specs.Hoa.HoaPlace.{PlainItem, Place, AtFormat, AtVersion, AtItem, AtEnd, Before, before_all, no_header}
 use Rattle.ltl_spec.specs.Hoa.HoaStep.{step}
 use Rattle.ltl_spec.specs.Hoa.HoaFault.{HoaFault, take_item, with_line, fault_after, end_fault, fault_at, hoa_fault}
 use Rattle.ltl_spec.proofs.Collections.SetLaws.{append_left, append_right}
@@ -67,43 +67,25 @@ module _ (l : Limits) (form : AcceptanceForm) where
 
   states_picked : (i : HoaHeaderItem) (x : ℕ) → states_in i ≡ Some x → IsChecked l form i → x ≤ l.hoa_states
   states_picked (StatesItem n) x q c = subst (λ m. m ≤ l.hoa_states) (same_Some n x q) c
-  states_picked (StartItem n) x q c = cc
-  states_picked (SetsItem n) x q c = cc
-  states_picked (NamesItem names) x q c = cc
-  states_picked (OtherItem name tokens) x q c = cc
+  states_picked _ x q c = cc
 
   sets_picked : (i : HoaHeaderItem) (x : ℕ) → sets_in i ≡ Some x → IsChecked l form i → is_read form x ≡ true
   sets_picked (SetsItem n) x q c = subst (λ m. is_read form m ≡ true) (same_Some n x q) c
-  sets_picked (StatesItem n) x q c = cc
-  sets_picked (StartItem n) x q c = cc
-  sets_picked (NamesItem names) x q c = cc
-  sets_picked (OtherItem name tokens) x q c = cc
+  sets_picked _ x q c = cc
 
   abbrev FineNames : List Name → Type 0
   FineNames names = (length names ≤ l.propositions) × NewNames [] names
 
   names_picked : (i : HoaHeaderItem) (x : List Name) → names_in i ≡ Some x → IsChecked l form i → FineNames x
   names_picked (NamesItem names) x q c = subst FineNames (same_Some names x q) c
-  names_picked (StatesItem n) x q c = cc
-  names_picked (StartItem n) x q c = cc
-  names_picked (SetsItem n) x q c = cc
-  names_picked (OtherItem name tokens) x q c = cc
+  names_picked _ x q c = cc
 
   ended_items : (text : List ℕ) (items : List HoaItem) (b : Before) → fault_after l form text (fold (take_item l form text) (Ok b) items) ≡ None → Ended (run l form (Ok b) (map (λ i. i.token) items))
   ended_items text [] b e = (b, refl, ended b.place e)
     where
       ended : (place : Place) → end_fault place (last_line text) ≡ None → place ≡ AtEnd
       ended AtEnd q = refl
-      ended AtFormat q = cc
-      ended AtVersion q = cc
-      ended AtStates q = cc
-      ended AtStart q = cc
-      ended AtCount q = cc
-      ended AtSets q = cc
-      ended (AtNames left) q = cc
-      ended (InAcceptance ts) q = cc
-      ended (AtItem before) q = cc
-      ended (InBody place) q = cc
+      ended _ q = cc
   ended_items text (i ∷ items) b e =
       elim (step l form b.place b i.token) as (λ o. fault_after l form text (fold (take_item l form text) (with_line l form text b.place i o) items) ≡ None → Ended (run l form o (map (λ j. j.token) items))) [
         | Ok d ↦ λ h. ended_items text items d h
@@ -172,13 +154,10 @@ module _ (l : Limits) (form : AcceptanceForm) where
             states = picked states_in (λ n. n ≤ l.hoa_states) states_picked A.states r.items r.checked states;
             names = fine.0;
             labels = r.body.narrow;
-            edges = from_zero _ _ r.body.count;
+            edges = (omega (arith, r.body.count));
           },
         ),
       )
-    where
-      from_zero : (n k : ℕ) → 0 + n ≤ k → n ≤ k
-      from_zero n k h = omega (arith, h)
 
   -- a text without a fault reads as an automaton within the limits
   pub no_fault_reads : (text : List ℕ) → hoa_fault l form text ≡ None → (A : MarkedAutomaton) × HoaReadsWithin l form text A

@@ -35,10 +35,7 @@ module _ (l : Limits) (form : AcceptanceForm) where
   run_err kind (t ∷ ts) = run_err kind ts
 
   pub no_end : {P : Type 0} (kind : HoaFaultKind) (ts : List HoaToken) → Ended (run l form (Err kind) ts) → P
-  no_end {P} kind ts e = absurd (differ (sym (run_err kind ts) ∙ e.1))
-    where
-      differ : Err kind ≡ Ok e.0 → ⊥
-      differ d = cc
+  no_end {P} kind ts e = absurd (let h0 = sym (run_err kind ts) ∙ e.1 in cc)
 
   -- a test that decides between a step and a fault
   pub if_ended : (c : Bool) (o : Step) (kind : HoaFaultKind) (ts : List HoaToken) → Ended (run l form (if c then o else Err kind) ts) → (c ≡ true) × Ended (run l form o ts)
@@ -198,10 +195,7 @@ module _ (l : Limits) (form : AcceptanceForm) where
 
     -- no edge, and then a state
     no_edges : (numbers : List ℕ) (edges : ℕ) (ts : List HoaToken) → StatesRest numbers edges ts → EdgesRest numbers edges ts
-    no_edges numbers edges ts r = record { written = []; rest = ts; spelled = refl; inside = refl; narrow = refl; more = subst (λ n. StatesRest numbers n ts) (plus_zero edges) r }
-      where
-        plus_zero : (n : ℕ) → n ≡ n + 0
-        plus_zero n = omega arith
+    no_edges numbers edges ts r = record { written = []; rest = ts; spelled = refl; inside = refl; narrow = refl; more = subst (λ n. StatesRest numbers n ts) (omega arith) r }
 
     -- an edge and those behind it
     with_edge : (numbers : List ℕ) (edges : ℕ) (ts : List HoaToken) → LabelRest [] numbers edges ts → EdgesRest numbers edges (OpenLabel ∷ ts)

@@ -195,7 +195,7 @@ module _ (l : Limits) (form : AcceptanceForm) (A : MarkedAutomaton) where
   states_lead [] place numbers edges p i w d f m = (place, numbers, edges, p, refl)
   states_lead (s ∷ ss) place numbers edges p i w d f m =
       let count = sum_by-cons (λ t. length (state_edges t)) s ss in
-      let first = state_leads s place numbers edges p (left_true _ _ i) (left_true _ _ w) (fresh s.number numbers (f s.number (inl refl))) (at_most _ (length (state_edges s)) (count_edges ss) _ _ count m) in
+      let first = state_leads s place numbers edges p (left_true _ _ i) (left_true _ _ w) (fresh s.number numbers (f s.number (inl refl))) (omega (arith, count, m)) in
       let rest = states_lead ss first.0 (s.number ∷ numbers) (edges + length (state_edges s)) (edge_begins_state first.0 first.1) (right_true (is_state_inside A s) _ i)
       (right_true (is_narrow s) _ w) d.1
       (λ n h k. elim k [ inl e ↦ d.0 (subst (Has (map (λ t. t.number) ss)) e h) | inr g ↦ f n (inr h) g ])
@@ -209,8 +209,5 @@ module _ (l : Limits) (form : AcceptanceForm) (A : MarkedAutomaton) where
             ∙ rest.4,
       )
     where
-      at_most : (a b c k n : ℕ) → n ≡ b + c → a + n ≤ k → a + b ≤ k
-      at_most a b c k n e q = omega (arith, e, q)
-
       regroup : (a b c k n : ℕ) → n ≡ b + c → a + n ≤ k → a + b + c ≤ k
       regroup a b c k n e q = omega (arith, e, q)

@@ -69,10 +69,7 @@ module _ (l : Limits) (form : AcceptanceForm) where
   begin_back (Some s) (Some t) (Some n) None ts e = no_end l form _ ts e
 
   stands_before : {K : Type 0} (x y : K) (o : Option K) (ys : List K) → o ≡ None → Stands (Some x) y ys → Stands o y (x ∷ ys)
-  stands_before {K} x y o ys n (inl (q, e)) = absurd (no q)
-    where
-      no : Some x ≡ None → ⊥
-      no d = cc
+  stands_before {K} x y o ys n (inl (q, e)) = absurd (cc)
   stands_before {K} x y o ys n (inr (q, e)) = let same = ap value q in inl (n, λ i. same i ∷ e i)
     where
       value : Option K → K

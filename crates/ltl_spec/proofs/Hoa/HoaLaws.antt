@@ -1,5 +1,5 @@
 -- A text that reads as an automaton within the limits has no fault.
-use Rattle.std.proofs.Common.{◌≡◌, ℕ, ◌+◌, ◌≤◌, inl, List, [], ◌∷◌, ◌++◌, length, refl, ◌∙◌, ap, arith, None}
+use Rattle.std.proofs.Common.{◌≡◌, ℕ, inl, List, [], ◌∷◌, ◌++◌, length, refl, ◌∙◌, ap, arith, None}
 use Rattle.std.specs.Prelude.{if◌then◌else◌, fold, map, flat_map, take, Result, Ok, Err}
 use Rattle.std.proofs.lemmas.Bool.{lt-ltb, le-ltb}
 use Rattle.ltl_spec.specs.Tools.Limits.{Limits}
@@ -21,7 +21,7 @@ module _ (l : Limits) (form : AcceptanceForm) where
       let header : IsHeader l form A = record { states = w.states; count = w.names; reads = f.reads; new = new_names [] A.names f.propositions f.differ (λ n h k. k) } in
       let fits : Fits A no_header d.items = record { states = inl (refl, f.states); start = inl (refl, f.start); sets = inl (refl, f.sets); names = inl (refl, f.names) } in
       let items = items_run l form A d.items PlainItem no_header header f.items fits in
-      let states = states_lead l form A d.states AtState [] 0 refl f.inside w.labels f.once (λ n h k. k) (from_zero _ _ w.edges) in
+      let states = states_lead l form A d.states AtState [] 0 refl f.inside w.labels f.once (λ n h k. k) (omega (arith, w.edges)) in
       let item_tokens = flat_map header_item_tokens d.items in
       let states_tokens = flat_map state_tokens d.states in (
         states.1,
@@ -34,9 +34,6 @@ module _ (l : Limits) (form : AcceptanceForm) where
             ∙ states.4)
             ∙ ends l form A states.0 states.1 states.2 states.3,
       )
-    where
-      from_zero : (n k : ℕ) → n ≤ k → 0 + n ≤ k
-      from_zero n k m = omega (arith, m)
 
   -- where the tokens are taken to the end, so are the items
   items_taken : (text : List ℕ) (items : List HoaItem) (b c : Before) → run l form (Ok b) (map (λ i. i.token) items) ≡ Ok c → fold (take_item l form text) (Ok b) items ≡ Ok c

@@ -83,10 +83,7 @@ pub string_first : (l : ℕ) (rest : List ℕ) → hoa_items_from 0 l (34 ∷ re
 string_first l rest = opened (string_rest false rest)
   where
     opened : (o : Option (List ℕ × ℕ)) → (let f = string_found o in hoa_item_before f.token l (hoa_items_from (f.size - 1) l rest)) ≡ string_items l l [] o rest
-    opened (Some s) = ap (λ k. record { token = StringToken s.0; line = l } ∷ hoa_items_from k l rest) (one s.1)
-      where
-        one : (k : ℕ) → k + 1 - 1 ≡ k
-        one k = omega arith
+    opened (Some s) = ap (λ k. record { token = StringToken s.0; line = l } ∷ hoa_items_from k l rest) (omega arith)
     opened None = refl
 
 -- a byte of the content
@@ -162,21 +159,9 @@ decimal_written = decimal_by_steps IsWritten one more
       leads = λ p. grind (arith, nat_tests, p);
     }
 
-    digit_of : (d : ℕ) → d < 10 → is_digit (48 + d) ≡ true
-    digit_of d l = grind (arith, nat_tests, l)
-
-    last_small : (n : ℕ) → n % 10 < 10
-    last_small n = omega arith
-
     all_more : (xs : List ℕ) (b : ℕ) → list_all is_digit xs ≡ true → is_digit b ≡ true → list_all is_digit (xs ++ b ∷ []) ≡ true
     all_more [] b e f = ap (λ c. c && true) f
     all_more (x ∷ xs) b e f = ap (λ c. c && list_all is_digit (xs ++ b ∷ [])) (left_true (is_digit x) _ e) ∙ all_more xs b (right_true (is_digit x) _ e) f
-
-    join : (n q : ℕ) → q ≡ n / 10 → 10 * q + (48 + n % 10 - 48) ≡ n
-    join n q e = omega (arith, e)
-
-    some : (n : ℕ) → 10 ≤ n → 0 < n / 10
-    some n l = omega (arith, l)
 
     more : (n : ℕ) (ds : List ℕ) → 10 ≤ n → IsWritten (n / 10) ds → IsWritten n (ds ++ ((48 + n % 10) ∷ []))
     more n ds l w = record {
@@ -184,9 +169,9 @@ decimal_written = decimal_by_steps IsWritten one more
       rest = w.rest ++ (48 + n % 10) ∷ [];
       spelled = ap (λ xs. xs ++ (48 + n % 10) ∷ []) w.spelled;
       digit = w.digit;
-      digits = all_more w.rest (48 + n % 10) w.digits (digit_of (n % 10) (last_small n));
-      value = fold-append (λ m d. 10 * m + (d - 48)) 0 ds ((48 + n % 10) ∷ []) ∙ join n (number_of ds) w.value;
-      leads = λ p. w.leads (some n l);
+      digits = all_more w.rest (48 + n % 10) w.digits (let low : n % 10 < 10 = omega arith in grind (arith, nat_tests, low));
+      value = fold-append (λ m d. 10 * m + (d - 48)) 0 ds ((48 + n % 10) ∷ []) ∙ (omega (arith, w.value));
+      leads = λ p. w.leads (omega (arith, l));
     }
 
 -- a number is spelled by itself where no digit comes behind it
@@ -194,11 +179,8 @@ pub number_spelled : (n : ℕ) (rest : List ℕ) → n < 2 ^ 64 → StopsAt is_d
 number_spelled zero rest l s = ap (λ ds. hoa_tokens (ds ++ rest)) (decimal_digit 0 (omega arith))
 number_spelled (suc n) rest l s =
     let w = decimal_written (suc n) l in
-    ap (λ ds. hoa_tokens (ds ++ rest)) w.spelled ∙ ap toks (number_ends 1 w.first w.rest rest w.digit (w.leads (some n)) w.digits s)
+    ap (λ ds. hoa_tokens (ds ++ rest)) w.spelled ∙ ap toks (number_ends 1 w.first w.rest rest w.digit (w.leads (omega arith)) w.digits s)
     ∙ ap (λ m. Int m ∷ hoa_tokens rest) (ap number_of (sym w.spelled) ∙ w.value)
-  where
-    some : (n : ℕ) → 0 < suc n
-    some n = omega arith
 
 -- an end of a line behind a number
 pub number_line : (n : ℕ) → n < 2 ^ 64 → Spells (decimal n ++ 10 ∷ []) (Int n ∷ [])

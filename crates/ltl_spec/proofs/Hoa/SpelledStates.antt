@@ -87,13 +87,7 @@ more_sets : (a n : ℕ) → a + n < 2 ^ 64 → Spells (flat_map (λ k. codes "&"
 more_sets a zero l = λ rest. refl
 more_sets a (suc n) l =
     spells_both (codes "&" ++ set_text a) (flat_map (λ k. codes "&" ++ set_text k) (range_with_len (a + 1) n)) (AndSign ∷ set_tokens a) (flat_map (λ k. AndSign ∷ set_tokens k) (range_with_len (a + 1) n))
-    (λ rest. ap (λ ts. AndSign ∷ ts) (set_spelled a (below a n l) rest)) (more_sets (a + 1) n (later a n l))
-  where
-    below : (a n : ℕ) → a + suc n < 2 ^ 64 → a < 2 ^ 64
-    below a n l = omega (arith, l)
-
-    later : (a n : ℕ) → a + suc n < 2 ^ 64 → a + 1 + n < 2 ^ 64
-    later a n l = omega (arith, l)
+    (λ rest. ap (λ ts. AndSign ∷ ts) (set_spelled a (omega (arith, l)) rest)) (more_sets (a + 1) n (omega (arith, l)))
 
 all_sets : (n : ℕ) → suc n < 2 ^ 64 → Spells (joined_by (codes "&") (map set_text (range_with_len 0 (suc n)))) (set_tokens 0 ++ flat_map (λ k. AndSign ∷ set_tokens k) (range_with_len 1 n))
 all_sets n l rest =
@@ -168,7 +162,7 @@ more_spelled (m ∷ ls) rest n =
     ∙ ap (λ ts. label_tokens (literal_label m) ++ ts) (more_spelled ls rest (λ l h. n l (inr h)))
     ∙ sym (append_assoc (label_tokens (literal_label m)) (more_tokens ls) (CloseLabel ∷ hoa_tokens rest)))
 
-label_spelled : (c : Cube) (rest : List ℕ) → ((l : Literal) → Has c l → l.proposition < 2 ^ 64) → hoa_tokens (label_text c ++ 93 ∷ rest) ≡ label_tokens (cube_label c) ++ CloseLabel ∷ hoa_tokens rest
+pub label_spelled : (c : Cube) (rest : List ℕ) → ((l : Literal) → Has c l → l.proposition < 2 ^ 64) → hoa_tokens (label_text c ++ 93 ∷ rest) ≡ label_tokens (cube_label c) ++ CloseLabel ∷ hoa_tokens rest
 label_spelled [] rest n = refl
 label_spelled (l ∷ ls) rest n =
     ap (λ t. hoa_tokens (t ++ 93 ∷ rest)) (joined_text (codes "&") label_literal l ls) ∙ ap hoa_tokens (append_assoc (label_literal l) (more_text ls) (93 ∷ rest))
@@ -224,12 +218,9 @@ stops_line (k ∷ ks) rest = refl
 
 -- the pieces of an edge in a row
 edge_text : (label target marks rest : List ℕ) → ((codes "[" ++ label ++ codes "] " ++ target ++ marks) ++ 10 ∷ []) ++ rest ≡ 91 ∷ (label ++ 93 ∷ 32 ∷ (target ++ (marks ++ 10 ∷ rest)))
-edge_text label target marks rest =
-    ap (λ t. 91 ∷ t) (
-    line_of (label ++ 93 ∷ 32 ∷ [] ++ target ++ marks) rest ∙ append_assoc (label ++ 93 ∷ 32 ∷ [] ++ target) marks (10 ∷ rest)
-    ∙ append_assoc (label ++ 93 ∷ 32 ∷ []) target (marks ++ 10 ∷ rest) ∙ append_assoc label (93 ∷ 32 ∷ []) (target ++ (marks ++ 10 ∷ rest)))
+edge_text label target marks rest = simp append_assoc
 
-edge_spelled : (e : Edge) → IsSmallEdge e → Spells (marked_edge_line e) (edge_tokens (written_edge e))
+pub edge_spelled : (e : Edge) → IsSmallEdge e → Spells (marked_edge_line e) (edge_tokens (written_edge e))
 edge_spelled e s rest =
     ap hoa_tokens (edge_text (label_text e.cube) (decimal e.target) (marks_text e.marks) rest)
     ∙ ap (λ ts. OpenLabel ∷ ts) (

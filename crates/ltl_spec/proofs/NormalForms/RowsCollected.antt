@@ -4,7 +4,7 @@ use Rattle.std.specs.Prelude.{All, slice_index_or, slice_set, replicate, fold, f
 use Rattle.std.specs.Bool.{Decides}
 use Rattle.std.specs.List.{list_any}
 use Rattle.std.proofs.lemmas.Bool.Decides.{Decides-eqb}
-use Rattle.std.proofs.lemmas.List.{append-nil, map_push}
+use Rattle.std.proofs.lemmas.List.{append-nil, map_push, length-set, get_or-set_same, get_or-set_other}
 use Rattle.std.proofs.lemmas.List.Sums.{fold-append, sum_by_push}
 use Rattle.ltl_spec.specs.Collections.Sets.{Has}
 use Rattle.ltl_spec.specs.Collections.Lists.{HasNoRepeats, with_new}
@@ -15,7 +15,7 @@ use Rattle.std.proofs.lemmas.List.Elements.{All-push}
 use Rattle.std.proofs.lemmas.Bool.{false≢true, cases_eq}
 use Rattle.ltl_spec.proofs.Collections.ListLaws.{Has-at, any_Decides, HasNoRepeats-first_occurrences, fold_cases, fold_old, fold_new, All-at_has}
 use Rattle.ltl_spec.proofs.NormalForms.NormalLaws.{same_Decides}
-use Rattle.ltl_spec.proofs.Collections.MemberLaws.{Has-flat_map, flat_map_cases}
+use Rattle.ltl_spec.proofs.Collections.MemberLaws.{Has-map, Has-flat_map, flat_map_cases}
 pub use Rattle.ltl_spec.specs.NormalForms.RowsCollected.{size, collect, Task, Enter, Leave, task_number, after_task, after_tasks, task_work, work, IsTaskDone, AreFlags}
 
 -- nodes and their operands
@@ -158,13 +158,7 @@ fold_within (y ∷ ys) xs h =
 -- the walk in terms of the operands
 collect_cases : (seen : List Normal) (F : Normal) → collect seen F ≡ cond (list_any (same F) seen) seen (fold collect seen (operands F) ++ F ∷ [])
 collect_cases seen Top = refl
-collect_cases seen Bottom = refl
-collect_cases seen (Leaf l) = refl
-collect_cases seen (Next a) = refl
-collect_cases seen (And a b) = refl
-collect_cases seen (Or a b) = refl
-collect_cases seen (Until a b) = refl
-collect_cases seen (Release a b) = refl
+collect_cases seen _ = refl
 
 -- where the list has F it stays
 pub collect_seen : (seen : List Normal) (F : Normal) → Has seen F → collect seen F ≡ seen
@@ -256,12 +250,6 @@ pub record IsGraph (tree : ℕ → Normal) (parts : ℕ → List ℕ) (n : ℕ) 
 abbrev pub AllInside : ℕ → List ℕ → Type 0
 AllInside n ks = (k : ℕ) → Has ks k → k < n
 
--- the tree of a number among others is among theirs
-pub Has-map_tree : (tree : ℕ → Normal) (ks : List ℕ) (k : ℕ) → Has ks k → Has (map tree ks) (tree k)
-Has-map_tree tree [] k h = absurd h
-Has-map_tree tree (x ∷ ks) k (inl e) = inl (ap tree e)
-Has-map_tree tree (x ∷ ks) k (inr h) = inr (Has-map_tree tree ks k h)
-
 module _ (tree : ℕ → Normal) (parts : ℕ → List ℕ) (n : ℕ) (graph : IsGraph tree parts n) where
   -- a number is among others exactly where its tree is among theirs
   pub number_seen : (ks : List ℕ) (k : ℕ) → AllInside n ks → k < n → Has (map tree ks) (tree k) → Has ks k
@@ -272,7 +260,7 @@ module _ (tree : ℕ → Normal) (parts : ℕ → List ℕ) (n : ℕ) (graph : I
   -- so different numbers stand for different trees
   pub numbers_no_repeats : (ks : List ℕ) → AllInside n ks → HasNoRepeats (map tree ks) → HasNoRepeats ks
   numbers_no_repeats [] inside d = tt
-  numbers_no_repeats (x ∷ ks) inside d = ((λ h. d.0 (Has-map_tree tree ks x h)), numbers_no_repeats ks (λ j m. inside j (inr m)) d.1)
+  numbers_no_repeats (x ∷ ks) inside d = ((λ h. d.0 (Has-map tree ks x h)), numbers_no_repeats ks (λ j m. inside j (inr m)) d.1)
 
 module _ (tree : ℕ → Normal) (parts : ℕ → List ℕ) (n : ℕ) (graph : IsGraph tree parts n) where
   -- two trees are the same exactly where their numbers are
@@ -366,7 +354,7 @@ module _ (tree : ℕ → Normal) (parts : ℕ → List ℕ) (n : ℕ) (graph : I
   done_listed h = record {
     tasks = tasks;
     numbers = numbers;
-    result = ap (after_tasks tree stack) (sym (collect_seen (map tree listed) (tree k) (Has-map_tree tree listed k h)));
+    result = ap (after_tasks tree stack) (sym (collect_seen (map tree listed) (tree k) (Has-map tree listed k h)));
     less = let l = size_above tree (tree k) in omega arith;
   }
 
@@ -454,32 +442,13 @@ pub flags_set : (flags : List Bool) (listed new_listed : List ℕ) (k : ℕ) →
 flags_set flags listed new_listed k l f e = subst (AreFlags (slice_set flags k true)) (sym e) (record {
   yes = λ j d m t. elim (cases_eq j k) [
     | inl s ↦ append_right listed (k ∷ []) j (inl s)
-    | inr o ↦ append_left listed (k ∷ []) j (f.yes j d (subst (λ x. j < x) (set_length flags k) m) (sym (set_other flags k j d o) ∙ t))
+    | inr o ↦ append_left listed (k ∷ []) j (f.yes j d (subst (λ x. j < x) (length-set flags k true) m) (sym (get_or-set_other flags k j true d o) ∙ t))
   ];
   no = λ j d m t h. elim (cases_eq j k) [
-    | inl s ↦ false≢true (sym t ∙ ap (λ x. slice_index_or (slice_set flags k true) x d) s ∙ set_here flags k d l)
+    | inl s ↦ false≢true (sym t ∙ ap (λ x. slice_index_or (slice_set flags k true) x d) s ∙ get_or-set_same flags k true d l)
     | inr o ↦ elim (append_cases listed (k ∷ []) j h) [
-      | inl p ↦ f.no j d (subst (λ x. j < x) (set_length flags k) m) (sym (set_other flags k j d o) ∙ t) p
+      | inl p ↦ f.no j d (subst (λ x. j < x) (length-set flags k true) m) (sym (get_or-set_other flags k j true d o) ∙ t) p
       | inr p ↦ elim p [ inl s ↦ o s | inr z ↦ z ]
     ]
   ];
 })
-  where
-    set_length : (xs : List Bool) (i : ℕ) → length (slice_set xs i true) ≡ length xs
-    set_length [] zero = refl
-    set_length [] (suc i) = refl
-    set_length (x ∷ xs) zero = refl
-    set_length (x ∷ xs) (suc i) = ap suc (set_length xs i)
-
-    set_here : (xs : List Bool) (i : ℕ) (d : Bool) → i < length xs → slice_index_or (slice_set xs i true) i d ≡ true
-    set_here [] i d m = absurd (omega arith)
-    set_here (x ∷ xs) zero d m = refl
-    set_here (x ∷ xs) (suc i) d m = set_here xs i d (omega arith)
-
-    set_other : (xs : List Bool) (i j : ℕ) (d : Bool) → (j ≡ i → ⊥) → slice_index_or (slice_set xs i true) j d ≡ slice_index_or xs j d
-    set_other [] zero j d o = refl
-    set_other [] (suc i) j d o = refl
-    set_other (x ∷ xs) zero zero d o = absurd (o refl)
-    set_other (x ∷ xs) zero (suc j) d o = refl
-    set_other (x ∷ xs) (suc i) zero d o = refl
-    set_other (x ∷ xs) (suc i) (suc j) d o = set_other xs i j d (λ e. o (ap suc e))

@@ -61,13 +61,14 @@ tree_of_old nodes v w before = tree_of_alike (tree_at (nodes ++ v ∷ [])) (tree
 -- the operands of a node's tree are the trees of its operands
 pub tree_operands : (f : ℕ → Normal) (v : Node) → operands (tree_of f v) ≡ map f (parts_of v)
 tree_operands f TopNode = refl
-tree_operands f BottomNode = refl
-tree_operands f (LeafNode l) = refl
-tree_operands f (NextNode i) = refl
-tree_operands f (AndNode i j) = refl
-tree_operands f (OrNode i j) = refl
-tree_operands f (UntilNode i j) = refl
-tree_operands f (ReleaseNode i j) = refl
+tree_operands f _ = refl
+
+both : (f : ℕ → Normal) (n : ℕ) → ((i j : ℕ) → i < n → j < n → f i ≡ f j → i ≡ j) → (node : ℕ → ℕ → Node) (i j k l : ℕ)
+    → ((m : ℕ) → Has (i ∷ j ∷ []) m → m < n) → ((m : ℕ) → Has (k ∷ l ∷ []) m → m < n) → f i ≡ f k → f j ≡ f l → node i j ≡ node k l
+both f n apart node i j k l a b p q =
+    let r = apart i k (a i (inl refl)) (b k (inl refl)) p in
+    let s = apart j l (a j (inr (inl refl))) (b l (inr (inl refl))) q in
+    λ t. node (r t) (s t)
 
 -- where no two numbers stand for one tree, no two nodes do
 pub tree_of_apart : (f : ℕ → Normal) (n : ℕ) → ((i j : ℕ) → i < n → j < n → f i ≡ f j → i ≡ j) → (u v : Node) → AllBefore n u → AllBefore n v → tree_of f u ≡ tree_of f v → u ≡ v
@@ -78,27 +79,19 @@ tree_of_apart f n apart (NextNode i) (NextNode j) a b e = let p : f i ≡ f j = 
 tree_of_apart f n apart (AndNode i j) (AndNode k l) a b e =
     let p : f i ≡ f k = cc in
     let q : f j ≡ f l = cc in
-    let r = apart i k (a i (inl refl)) (b k (inl refl)) p in
-    let s = apart j l (a j (inr (inl refl))) (b l (inr (inl refl))) q in
-    λ t. AndNode (r t) (s t)
+    both f n apart AndNode i j k l a b p q
 tree_of_apart f n apart (OrNode i j) (OrNode k l) a b e =
     let p : f i ≡ f k = cc in
     let q : f j ≡ f l = cc in
-    let r = apart i k (a i (inl refl)) (b k (inl refl)) p in
-    let s = apart j l (a j (inr (inl refl))) (b l (inr (inl refl))) q in
-    λ t. OrNode (r t) (s t)
+    both f n apart OrNode i j k l a b p q
 tree_of_apart f n apart (UntilNode i j) (UntilNode k l) a b e =
     let p : f i ≡ f k = cc in
     let q : f j ≡ f l = cc in
-    let r = apart i k (a i (inl refl)) (b k (inl refl)) p in
-    let s = apart j l (a j (inr (inl refl))) (b l (inr (inl refl))) q in
-    λ t. UntilNode (r t) (s t)
+    both f n apart UntilNode i j k l a b p q
 tree_of_apart f n apart (ReleaseNode i j) (ReleaseNode k l) a b e =
     let p : f i ≡ f k = cc in
     let q : f j ≡ f l = cc in
-    let r = apart i k (a i (inl refl)) (b k (inl refl)) p in
-    let s = apart j l (a j (inr (inl refl))) (b l (inr (inl refl))) q in
-    λ t. ReleaseNode (r t) (s t)
+    both f n apart ReleaseNode i j k l a b p q
 tree_of_apart f n apart _ _ a b e = cc
 
 -- sharing

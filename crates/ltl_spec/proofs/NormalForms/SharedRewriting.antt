@@ -2,11 +2,10 @@
 use Rattle.std.proofs.Common.{◌≡◌, ℕ, suc, ◌<◌, Bool, true, false, cond, eqb, ◌⊎◌, inl, inr, List, [], ◌∷◌, ◌++◌, map, length, refl, sym, ◌∙◌, ap, subst, arith, length-append}
 use Rattle.std.specs.Prelude.{◌==◌, ◌||◌, ◌&&◌, if◌then◌else◌, slice_index_or}
 use Rattle.std.proofs.lemmas.List.{get_or-map, get_or_append_left, map_push}
-use Rattle.ltl_spec.specs.NormalForms.Normal.{Normal, Top, Bottom, Leaf, Next, And, Or, Until, Release, same}
-use Rattle.ltl_spec.specs.NormalForms.NormalForm.{is_eventually, is_always, simple_and, simple_or, simple_until, simple_release}
+use Rattle.ltl_spec.specs.NormalForms.Normal.{Normal, Top, Bottom, And, Or, Until, Release, same}
+use Rattle.ltl_spec.specs.NormalForms.NormalForm.{is_eventually, is_always, simple_and, simple_or, simple_until, simple_release, core}
 use Rattle.ltl_spec.proofs.NormalForms.RowsCollected.{same_number}
-use Rattle.ltl_spec.proofs.NormalForms.SharedNodes.{Node, TopNode, BottomNode, LeafNode, NextNode, AndNode, OrNode, UntilNode, ReleaseNode, parts_of, tree_of, tree_at, node_at, AllBefore, IsShared, index_last, tree_old, shared_graph, nodes_before}
-use Rattle.ltl_spec.specs.NormalForms.NormalForm.{core}
+use Rattle.ltl_spec.proofs.NormalForms.SharedNodes.{Node, AndNode, OrNode, UntilNode, ReleaseNode, parts_of, tree_of, tree_at, node_at, AllBefore, IsShared, index_last, tree_old, shared_graph, nodes_before}
 use Rattle.ltl_spec.proofs.NormalForms.BothPolarities.{Both, FlatNode, made_and, made_or, made_until, made_release, both_in, both_of, both_forms, formula_in, formulas, formulas_length, built, built_is, built_push, built_core}
 use Rattle.ltl_spec.proofs.Collections.MemberLaws.{map_length}
 use Rattle.ltl_spec.proofs.Collections.CaseLaws.{last_or_below}
@@ -48,24 +47,12 @@ constants_more nodes more top bottom c m s =
 -- the test looks at the left operand
 until_top : (a b : Normal) → is_eventually (Until a b) ≡ same a Top
 until_top Top b = refl
-until_top Bottom b = refl
-until_top (Leaf l) b = refl
-until_top (Next a) b = refl
-until_top (And a c) b = refl
-until_top (Or a c) b = refl
-until_top (Until a c) b = refl
-until_top (Release a c) b = refl
+until_top _ b = refl
 
 -- and so does the other
 release_bottom : (a b : Normal) → is_always (Release a b) ≡ same a Bottom
 release_bottom Top b = refl
-release_bottom Bottom b = refl
-release_bottom (Leaf l) b = refl
-release_bottom (Next a) b = refl
-release_bottom (And a c) b = refl
-release_bottom (Or a c) b = refl
-release_bottom (Until a c) b = refl
-release_bottom (Release a c) b = refl
+release_bottom _ b = refl
 
 module _ (nodes : List Node) (top bottom : ℕ) (c : HasConstants nodes top bottom) where
   -- the tree of a number
@@ -86,25 +73,13 @@ module _ (nodes : List Node) (top bottom : ℕ) (c : HasConstants nodes top bott
 
   -- the test on a node is that on its tree
   eventually_of : (v : Node) → AllBefore (length nodes) v → is_eventually_node top v ≡ is_eventually (tree_of (tree_at nodes) v)
-  eventually_of TopNode b = refl
-  eventually_of BottomNode b = refl
-  eventually_of (LeafNode l) b = refl
-  eventually_of (NextNode i) b = refl
-  eventually_of (AndNode i j) b = refl
-  eventually_of (OrNode i j) b = refl
   eventually_of (UntilNode i j) b = top_test i (b i (inl refl)) ∙ sym (until_top (tree i) (tree j))
-  eventually_of (ReleaseNode i j) b = refl
+  eventually_of _ b = refl
 
   -- the same for the other
   always_of : (v : Node) → AllBefore (length nodes) v → is_always_node bottom v ≡ is_always (tree_of (tree_at nodes) v)
-  always_of TopNode b = refl
-  always_of BottomNode b = refl
-  always_of (LeafNode l) b = refl
-  always_of (NextNode i) b = refl
-  always_of (AndNode i j) b = refl
-  always_of (OrNode i j) b = refl
-  always_of (UntilNode i j) b = refl
   always_of (ReleaseNode i j) b = bottom_test i (b i (inl refl)) ∙ sym (release_bottom (tree i) (tree j))
+  always_of _ b = refl
 
   -- the test on the node of a number is that on its tree
   pub eventually_test : (j : ℕ) → j < length nodes → is_eventually_node top (node_at nodes j) ≡ is_eventually (tree j)

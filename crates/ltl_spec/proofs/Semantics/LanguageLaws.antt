@@ -75,19 +75,20 @@ translation_language N o B t names w cycles =
       λ h. walks.1 (buchi_run o A closed sets all (is_true_at names w) (next w) (formula.1 h)),
     )
 
+-- what has the language of a formula's normal form accepts exactly its models, and with that of its negation exactly its violations
+models_of : (F : Formula) (rewrite : Bool) (A : Automaton) → HasLanguageOf A (core F false rewrite) → AcceptsModels A F
+models_of F rewrite A l names w cycles = let c = core_holds names w cycles F rewrite 0 in let a = l names w cycles in (λ h. c.1 (a.0 h), λ h. a.1 (c.0 h))
+
+violations_of : (F : Formula) (rewrite : Bool) (A : Automaton) → HasLanguageOf A (core F true rewrite) → AcceptsViolations A F
+violations_of F rewrite A l names w cycles = let c = negated_core_holds names w cycles F rewrite 0 in let a = l names w cycles in (λ h. c.1 (a.0 h), λ h. a.1 (c.0 h))
+
 -- the automaton of a formula accepts exactly its models
 pub translation_models : (F : Formula) (rewrite : Bool) (o : Options) (B : Automaton) → IsTranslation (core F false rewrite) o B → AcceptsModels B F
-translation_models F rewrite o B t names w cycles =
-    let l = translation_language (core F false rewrite) o B t names w cycles in
-    let c = core_holds names w cycles F rewrite 0 in
-    (λ a. c.1 (l.0 a), λ h. l.1 (c.0 h))
+translation_models F rewrite o B t = models_of F rewrite B (translation_language (core F false rewrite) o B t)
 
 -- the automaton of the negation accepts exactly the violations
 pub translation_violations : (F : Formula) (rewrite : Bool) (o : Options) (B : Automaton) → IsTranslation (core F true rewrite) o B → AcceptsViolations B F
-translation_violations F rewrite o B t names w cycles =
-    let l = translation_language (core F true rewrite) o B t names w cycles in
-    let c = negated_core_holds names w cycles F rewrite 0 in
-    (λ a. c.1 (l.0 a), λ h. l.1 (c.0 h))
+translation_violations F rewrite o B t = violations_of F rewrite B (translation_language (core F true rewrite) o B t)
 
 -- the generalized automaton, merged and numbered, has the language of the normal form too
 pub generalized_language : (N : Normal) (o : Options) (A : Automaton) → IsGeneralizedTranslation N o A → HasLanguageOf A N
@@ -107,14 +108,8 @@ generalized_language N o A t names w cycles =
 
 -- so that of a formula accepts exactly its models
 pub generalized_models : (F : Formula) (rewrite : Bool) (o : Options) (A : Automaton) → IsGeneralizedTranslation (core F false rewrite) o A → AcceptsModels A F
-generalized_models F rewrite o A t names w cycles =
-    let l = generalized_language (core F false rewrite) o A t names w cycles in
-    let c = core_holds names w cycles F rewrite 0 in
-    (λ a. c.1 (l.0 a), λ h. l.1 (c.0 h))
+generalized_models F rewrite o A t = models_of F rewrite A (generalized_language (core F false rewrite) o A t)
 
 -- and that of the negation exactly its violations
 pub generalized_violations : (F : Formula) (rewrite : Bool) (o : Options) (A : Automaton) → IsGeneralizedTranslation (core F true rewrite) o A → AcceptsViolations A F
-generalized_violations F rewrite o A t names w cycles =
-    let l = generalized_language (core F true rewrite) o A t names w cycles in
-    let c = negated_core_holds names w cycles F rewrite 0 in
-    (λ a. c.1 (l.0 a), λ h. l.1 (c.0 h))
+generalized_violations F rewrite o A t = violations_of F rewrite A (generalized_language (core F true rewrite) o A t)

@@ -1,4 +1,4 @@
--- On a lasso every position comes back, so satisfaction is decided.
+-- On a lasso only finitely many positions differ, so satisfaction is decided.
 use Rattle.std.proofs.Common.{◌≡◌, ℕ, zero, suc, ◌+◌, ◌-◌, ◌<◌, ◌≤◌, cond, inl, inr, ◌++◌, length, sym, ◌∙◌, ap, subst, arith, length-append, lt-ltb}
 use Rattle.std.proofs.lemmas.Bool.{cases_lt, le-ltb}
 use Rattle.ltl_spec.specs.Semantics.Word.{Lasso, next, after_steps}

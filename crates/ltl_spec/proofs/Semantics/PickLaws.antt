@@ -1,4 +1,4 @@
--- Where a formula holds one of its pairs is met: its literals now, its targets next. An until row isn't put off where its second part holds.
+-- If a formula holds, one of its pairs is met: its literals now, its targets next. An until row isn't postponed if its second operand holds.
 use Rattle.std.proofs.Common.{◌≡◌, ℕ, Bool, inl, inr, List, [], ◌∷◌, ◌++◌, map, refl, sym, ◌∙◌, ap, subst, Some}
 use Rattle.std.specs.Prelude.{option_map, ⊤}
 use Rattle.std.specs.Ordering.{nat_cmp}

@@ -1,4 +1,4 @@
--- What a sequence of pairs supports holds, if each pair's targets are supported next and no until row is put off for ever.
+-- What a sequence of pairs supports holds, if the targets of each pair are supported next and no until row is postponed forever.
 use Rattle.std.proofs.Common.{◌≡◌, ℕ, zero, suc, ◌+◌, Bool, true, false, not, ◌&&◌, ◌||◌, inl, inr, [], ◌∷◌, ◌++◌, map, refl, sym, subst, arith}
 use Rattle.std.specs.List.{list_any}
 use Rattle.std.specs.Ordering.{nat_cmp}

@@ -1,5 +1,5 @@
 -- The targets of a formula's pairs are places of its parts, so an until row is no target of a pair of its second part.
-use Rattle.std.proofs.Common.{◌≡◌, ℕ, suc, ◌+◌, ◌≤◌, true, inl, inr, List, [], ◌∷◌, ◌++◌, map, refl, sym, ap, subst, arith}
+use Rattle.std.proofs.Common.{◌≡◌, ℕ, ◌≤◌, true, inl, inr, List, [], ◌∷◌, ◌++◌, map, refl, sym, ap, subst, arith}
 use Rattle.std.specs.Ordering.{nat_cmp}
 use Rattle.ltl_spec.specs.Collections.Sets.{Has, union}
 use Rattle.ltl_spec.specs.NormalForms.Normal.{Normal, Top, Bottom, Leaf, Next, And, Or, Until, Release, same}
@@ -9,59 +9,28 @@ use Rattle.ltl_spec.specs.Transitions.RowTransitions.{table_of, place}
 use Rattle.ltl_spec.proofs.Collections.SetLaws.{append_cases, union_cases}
 use Rattle.ltl_spec.proofs.Collections.ListLaws.{place_same}
 use Rattle.ltl_spec.proofs.NormalForms.NormalLaws.{same_Decides}
+use Rattle.ltl_spec.proofs.NormalForms.RowsCollected.{size, by_operands, postorder_cases, operand_smaller}
 use Rattle.ltl_spec.proofs.Collections.Orders.{nat_linear}
 use Rattle.ltl_spec.proofs.Collections.MemberLaws.{map_cases, flat_map_cases}
 use Rattle.ltl_spec.proofs.Transitions.JoinLaws.{join_cases}
 use Rattle.ltl_spec.proofs.Transitions.PartLaws.{AllParts, all_parts, part_parts, IsRow, elementary_has}
 
--- how many operators and leaves
-abbrev weight : Normal → ℕ
-weight Top = 1
-weight Bottom = 1
-weight (Leaf l) = 1
-weight (Next a) = suc (weight a)
-weight (And a b) = suc (weight a + weight b)
-weight (Or a b) = suc (weight a + weight b)
-weight (Until a b) = suc (weight a + weight b)
-weight (Release a b) = suc (weight a + weight b)
-
--- no part weighs more than the formula
-one_weight : (n x : Normal) → Has (n ∷ []) x → weight x ≤ weight n
-one_weight n x (inl e) = subst (λ y. weight y ≤ weight n) (sym e) (omega arith)
-one_weight n x (inr z) = absurd z
-
-pub weight_part : (F x : Normal) → Has (postorder F) x → weight x ≤ weight F
-weight_part Top x h = one_weight Top x h
-weight_part Bottom x h = one_weight Bottom x h
-weight_part (Leaf l) x h = one_weight (Leaf l) x h
-weight_part (Next a) x h = elim (append_cases (postorder a) (Next a ∷ []) x h) [ inl k ↦ (let l = weight_part a x k in omega arith) | inr k ↦ one_weight (Next a) x k ]
-weight_part (And a b) x h = elim (append_cases (postorder a ++ postorder b) (And a b ∷ []) x h) [
-  | inl m ↦ elim (append_cases (postorder a) (postorder b) x m) [ inl k ↦ (let l = weight_part a x k in omega arith) | inr k ↦ (let l = weight_part b x k in omega arith) ]
-  | inr k ↦ one_weight (And a b) x k
-]
-weight_part (Or a b) x h = elim (append_cases (postorder a ++ postorder b) (Or a b ∷ []) x h) [
-  | inl m ↦ elim (append_cases (postorder a) (postorder b) x m) [ inl k ↦ (let l = weight_part a x k in omega arith) | inr k ↦ (let l = weight_part b x k in omega arith) ]
-  | inr k ↦ one_weight (Or a b) x k
-]
-weight_part (Until a b) x h = elim (append_cases (postorder a ++ postorder b) (Until a b ∷ []) x h) [
-  | inl m ↦ elim (append_cases (postorder a) (postorder b) x m) [ inl k ↦ (let l = weight_part a x k in omega arith) | inr k ↦ (let l = weight_part b x k in omega arith) ]
-  | inr k ↦ one_weight (Until a b) x k
-]
-weight_part (Release a b) x h = elim (append_cases (postorder a ++ postorder b) (Release a b ∷ []) x h) [
-  | inl m ↦ elim (append_cases (postorder a) (postorder b) x m) [ inl k ↦ (let l = weight_part a x k in omega arith) | inr k ↦ (let l = weight_part b x k in omega arith) ]
-  | inr k ↦ one_weight (Release a b) x k
-]
+-- no part is greater than the formula
+part_size : (F x : Normal) → Has (postorder F) x → size x ≤ size F
+part_size = by_operands (λ F. (x : Normal) → Has (postorder F) x → size x ≤ size F) (λ F below x h.
+    elim (postorder_cases F x h) [
+      | inl e ↦ subst (λ y. size y ≤ size F) (sym e) (omega arith)
+      | inr (a, m, k) ↦ let l = below a m x k in let less = operand_smaller F a m in omega arith
+    ])
 
 -- what holds of all parts holds of the formula
 pub of_itself : (P : Normal → Type 0) (F : Normal) → AllParts P F → P F
-of_itself P Top w = w
-of_itself P Bottom w = w
-of_itself P (Leaf l) w = w
 of_itself P (Next a) w = w.1
 of_itself P (And a b) w = w.2
 of_itself P (Or a b) w = w.2
 of_itself P (Until a b) w = w.2
 of_itself P (Release a b) w = w.2
+of_itself P _ w = w
 
 -- each target is the place of an elementary part, and has what these have
 module _ (place : Normal → ℕ) (Q : ℕ → Type 0) where
@@ -138,6 +107,7 @@ second_not_later core a b w q h m = pair_targets (place (table_of core)) Other b
         let same_row : x ≡ Until a b = place_same same same_Decides x (Until a b) (elementary_rows core)
         (elementary_has core x (of_itself (IsRow core) x (part_parts (IsRow core) b x w.1 k)) e)
         (elementary_has core (Until a b) w.2 refl) d in
-        let l = weight_part b x k in
-        let g : weight x ≡ suc (weight a + weight b) = ap weight same_row in
+        let l = part_size b x k in
+        let g : size x ≡ size (Until a b) = ap size same_row in
+        let less = operand_smaller (Until a b) b (inr (inl refl)) in
         omega arith

@@ -13,7 +13,7 @@ use Rattle.ltl_spec.specs.Construction.Translation.{Options}
 use Rattle.ltl_spec.specs.Hoa.HoaReading.{AcceptanceForm, MarkedAutomaton}
 use Rattle.ltl_spec.specs.Semantics.Word.{Name, Lasso}
 use Rattle.ltl_spec.specs.Tools.Limits.{Limits}
-use Rattle.ltl_spec.specs.Tools.Refusal.{Refusal, Tool, Translator, Checker, Evaluator, Usage, CannotOpen, CannotRead, CannotWrite, OutOfMemory, LongFormula, TooManyPropositions, TooManyRows, TooManyElementaryRows, LargeAutomaton, LongWord, LargeProduct, BadFormula, BadWord, BadAutomaton, status_of}
+use Rattle.ltl_spec.specs.Tools.Refusal.{Refusal, Tool, Translator, Checker, Evaluator, CannotOpen, CannotRead, CannotWrite, status_of}
 use Rattle.ltl_spec.specs.Tools.Stage.{Broken}
 use Rattle.ltl_spec.specs.Tools.Outcome.{Answer, Input, Text, NotOpened, Ended, Failed, IsAtFault, IsPromised, Seen, Then, answer_by, input_of, printed, taken}
 use Rattle.ltl_spec.specs.Tools.Programs.{CheckerFinds, CheckerPlan, EvaluatorFinds, EvaluatorPlan, Evaluates, InputReads, Judges, KeepsRows, Layout, Claim, Hoa, Generalized, Prints, ReadsFormula, ReadsHoa, ReadsWord, Translates, TranslatesGeneralized, TranslatorPlan, TranslatorPrints, plain_options, truth_answer, verdict_answer}
@@ -30,18 +30,7 @@ of_status : (e : Refusal) → status_of e ≡ 5 → OfStreams e
 of_status CannotOpen h = opening
 of_status CannotRead h = reading
 of_status CannotWrite h = writing
-of_status Usage h = absurd (omega (arith, h))
-of_status OutOfMemory h = absurd (omega (arith, h))
-of_status LongFormula h = absurd (omega (arith, h))
-of_status TooManyPropositions h = absurd (omega (arith, h))
-of_status TooManyRows h = absurd (omega (arith, h))
-of_status TooManyElementaryRows h = absurd (omega (arith, h))
-of_status LargeAutomaton h = absurd (omega (arith, h))
-of_status LongWord h = absurd (omega (arith, h))
-of_status LargeProduct h = absurd (omega (arith, h))
-of_status (BadFormula place kind) h = absurd (omega (arith, h))
-of_status (BadWord place) h = absurd (omega (arith, h))
-of_status (BadAutomaton number kind) h = absurd (omega (arith, h))
+of_status _ h = absurd (omega (arith, h))
 
 same_err : {A : Type 0} (x y : Refusal) → ◌≡◌ {A = Result A Refusal} (Err x) (Err y) → y ≡ x
 same_err x y p = cc

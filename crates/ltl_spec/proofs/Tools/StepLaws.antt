@@ -5,7 +5,7 @@ use Rattle.ltl_spec.specs.Formulas.Formula.{Reading}
 use Rattle.ltl_spec.specs.Formulas.Grammar.{IsTextOf}
 use Rattle.ltl_spec.specs.Formulas.Tokens.{tokens}
 use Rattle.ltl_spec.specs.Tools.Limits.{Limits}
-use Rattle.ltl_spec.specs.Tools.Refusal.{Refusal, Tool, Usage, CannotOpen, CannotRead, CannotWrite, OutOfMemory, LongFormula, TooManyPropositions, TooManyRows, TooManyElementaryRows, LargeAutomaton, LongWord, LargeProduct, BadFormula, BadWord, BadAutomaton, status_of}
+use Rattle.ltl_spec.specs.Tools.Refusal.{Refusal, Tool, Usage, status_of}
 use Rattle.ltl_spec.specs.Tools.Outcome.{Answer, Input, IsPromised, Seen, Then}
 use Rattle.ltl_spec.specs.Tools.Programs.{InputReads}
 use Rattle.ltl_spec.proofs.Formulas.BeginningLaws.{reads_once}
@@ -27,20 +27,7 @@ then_ok First Second b (inr w) = w
 -- no refusal has the status of a result
 pub refusals_high : (e : Refusal) → 2 ≤ status_of e
 refusals_high Usage = omega arith
-refusals_high CannotOpen = omega arith
-refusals_high CannotRead = omega arith
-refusals_high CannotWrite = omega arith
-refusals_high OutOfMemory = omega arith
-refusals_high LongFormula = omega arith
-refusals_high TooManyPropositions = omega arith
-refusals_high TooManyRows = omega arith
-refusals_high TooManyElementaryRows = omega arith
-refusals_high LargeAutomaton = omega arith
-refusals_high LongWord = omega arith
-refusals_high LargeProduct = omega arith
-refusals_high (BadFormula place kind) = omega arith
-refusals_high (BadWord place) = omega arith
-refusals_high (BadAutomaton number kind) = omega arith
+refusals_high _ = omega arith
 
 -- what holds of each right answer, by its output and its status, and where the status is a refusal's, holds of each run
 pub promise_holds : (l : Limits) (tool : Tool) (Answers : Answer → Type 0) (Tells : Seen → Type 0) (seen : Seen)

@@ -1,4 +1,4 @@
--- The codes of two pairs tell whether they pass a test with the same of what comes.
+-- Codes of a pair for tests: the pair passes the test, can still pass it, or never will.
 use Rattle.std.proofs.Common.{◌≡◌, ℕ, ◌≤◌, min, max, Bool, true, false, nat_eq, ◌⊎◌, inl, inr, refl, sym, ◌∙◌, ap, arith}
 use Rattle.std.specs.Bool.{Decides}
 use Rattle.std.specs.Ordering.{nat_cmp}

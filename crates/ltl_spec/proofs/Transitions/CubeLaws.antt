@@ -49,7 +49,4 @@ join_cubes_is a b c e = at (is_contradictory (union literal_cmp a b)) e
   where
     at : (t : Bool) → cond t None (Some (union literal_cmp a b)) ≡ Some c → c ≡ union literal_cmp a b
     at true d = cc
-    at false d = inside d
-      where
-        inside : Some (union literal_cmp a b) ≡ Some c → c ≡ union literal_cmp a b
-        inside q = cc
+    at false d = cc

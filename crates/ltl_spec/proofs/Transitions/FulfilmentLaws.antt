@@ -1,4 +1,4 @@
--- A pair passes the test of a formula exactly where it asks for all that one of the pairs of the formula asks for. So tests tell the marks.
+-- A pair passes the test of a formula if and only if it needs everything that some pair of the formula needs. So tests decide the marks.
 use Rattle.std.proofs.Common.{◌≡◌, ℕ, Bool, true, false, not, ◌||◌, ◌⊎◌, inl, inr, List, [], ◌∷◌, ◌++◌, map, refl, sym, ◌∙◌, ap, subst}
 use Rattle.std.specs.Bool.{Decides}
 use Rattle.std.specs.List.{list_any}
@@ -196,13 +196,7 @@ module _ (place : Normal → ℕ) where
 -- an until row by its operands
 pub until_parts : (f : Normal) → is_until f ≡ true → (a : Normal) × (b : Normal) × (f ≡ Until a b)
 until_parts (Until a b) e = (a, b, refl)
-until_parts Top e = false_is_true e
-until_parts Bottom e = false_is_true e
-until_parts (Leaf l) e = false_is_true e
-until_parts (Next a) e = false_is_true e
-until_parts (And a b) e = false_is_true e
-until_parts (Or a b) e = false_is_true e
-until_parts (Release a b) e = false_is_true e
+until_parts _ e = false_is_true e
 
 module _ (core : Normal) where
   -- all parts of an until row of the table are rows

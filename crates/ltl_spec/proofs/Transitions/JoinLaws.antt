@@ -1,7 +1,8 @@
--- Pairs that ask for no more than others, and joins of pairs.
+-- Pairs that need no more than others, and joins of pairs.
 use Rattle.std.proofs.Common.{◌≡◌, ℕ, Bool, true, false, cond, ◌⊎◌, inl, inr, List, [], ◌∷◌, ◌++◌, map, refl, sym, subst, Some, None, ap}
 use Rattle.std.specs.Prelude.{filter_map, option_map}
 use Rattle.std.specs.Ordering.{nat_cmp}
+use Rattle.std.proofs.lemmas.Option.{none-some}
 use Rattle.ltl_spec.specs.Collections.Sets.{Has, IsRising, union}
 use Rattle.ltl_spec.specs.Transitions.Cubes.{literal_cmp, is_contradictory, Cube}
 use Rattle.ltl_spec.specs.NormalForms.Normal.{Normal, Top, Bottom, Leaf, Next, And, Or, Until, Release}
@@ -44,14 +45,8 @@ join_pair_is p q r e = at (is_contradictory (union literal_cmp p.cube q.cube)) r
     at : (t : Bool) → is_contradictory (union literal_cmp p.cube q.cube) ≡ t
         → option_map (λ (c : Cube). record { cube = c; targets = union nat_cmp p.targets q.targets }) (cond t None (Some (union literal_cmp p.cube q.cube))) ≡ Some r
         → (r ≡ united p q) × (is_contradictory (union literal_cmp p.cube q.cube) ≡ false)
-    at true n d = absurd (differ d)
-      where
-        differ : None ≡ Some r → ⊥
-        differ c = cc
-    at false n d = (inside d, n)
-      where
-        inside : Some (united p q) ≡ Some r → r ≡ united p q
-        inside c = cc
+    at true n d = absurd (none-some r d)
+    at false n d = (cc, n)
 
 -- consistent pairs join
 pub joined_from : (p q : Pair) → IsConsistent (united p q) → join_pair p q ≡ Some (united p q)

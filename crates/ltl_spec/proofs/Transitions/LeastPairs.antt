@@ -1,4 +1,4 @@
--- Pairs within others, pairs that are enough, and the marks of a pair by some that are enough.
+-- Inclusion of pairs, lists that have a smaller pair for each pair, and the marks of a pair by such lists of fulfilling pairs.
 use Rattle.std.proofs.Common.{◌≡◌, Bool, true, false, not, ◌&&◌, ◌||◌, ◌⊎◌, inl, inr, List, refl, sym, ◌∙◌, ap}
 use Rattle.std.specs.Bool.{Decides}
 use Rattle.std.specs.List.{list_any, filter}

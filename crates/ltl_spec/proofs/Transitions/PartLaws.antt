@@ -1,4 +1,4 @@
--- The parts of a formula, and the rows of its table.
+-- The subformulas of a formula, and the rows of its table.
 use Rattle.std.proofs.Common.{◌≡◌, ℕ, ◌<◌, true, ◌||◌, ◌⊎◌, inl, inr, [], ◌∷◌, ◌++◌, length, refl, sym, ap, subst}
 use Rattle.std.specs.Prelude.{slice_index_or}
 use Rattle.std.proofs.lemmas.Bool.{cases_lt, or_right}

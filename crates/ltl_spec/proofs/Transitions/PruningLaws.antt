@@ -1,4 +1,4 @@
--- A program may drop pairs before the join is whole, as long as others stand for them.
+-- A program may drop pairs before a join is complete, if other pairs replace them.
 use Rattle.std.proofs.Common.{◌≡◌, ◌+◌, ◌-◌, true, inl, inr, List, [], ◌∷◌, map, refl, sym, subst, arith}
 use Rattle.std.specs.Prelude.{slice_index_or}
 use Rattle.std.specs.declared.cmp.Ordering.TheVariants.{Less}

@@ -1,4 +1,4 @@
--- Which pairs are safe to drop where only some literals and targets can still come.
+-- Pairs that are safe to drop if only some literals and targets can still be joined.
 use Rattle.std.proofs.Common.{◌≡◌, ℕ, true, false, ◌⊎◌, inl, inr, refl, sym, ◌∙◌}
 use Rattle.std.specs.List.{filter}
 use Rattle.std.specs.Ordering.{nat_cmp}

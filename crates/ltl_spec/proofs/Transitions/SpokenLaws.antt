@@ -1,4 +1,4 @@
--- The pairs of a formula ask for nothing that its test doesn't speak of.
+-- The test of a formula looks for everything that the pairs of the formula need.
 use Rattle.std.proofs.Common.{ℕ, inl, inr, List, [], ◌∷◌, ◌++◌, map, sym, subst}
 use Rattle.std.specs.Ordering.{nat_cmp}
 use Rattle.ltl_spec.specs.Collections.Sets.{Has, union}

@@ -1,4 +1,4 @@
--- Tests as lists of steps, each from steps before it.
+-- Tests as lists of steps, whose operands are earlier steps.
 use Rattle.std.specs.Prelude.{◌≡◌, ℕ, min, max, Bool, true, false, ◌&&◌, ◌||◌, ◌⊎◌, ◌≢◌, ◌<◌, length, List, [], ◌∷◌, ◌++◌, slice_index_or}
 use Rattle.std.specs.Ordering.{nat_cmp}
 use Rattle.ltl_spec.specs.Collections.Sets.{has}

@@ -5,6 +5,7 @@ use Rattle.std.specs.List.{list_all}
 use Rattle.std.proofs.lemmas.Bool.{eqb-true, false_from_ne_true, false≢true}
 use Rattle.std.proofs.lemmas.List.{append-nil}
 use Rattle.std.proofs.lemmas.List.Sums.{fold-append}
+use Rattle.std.proofs.lemmas.Option.{none-some}
 use Rattle.ltl_spec.specs.Collections.Lists.{joined_by}
 use Rattle.ltl_spec.specs.Semantics.Word.{Name, Lasso}
 use Rattle.ltl_spec.specs.Formulas.Tokens.{is_lower, is_name_byte}
@@ -38,10 +39,7 @@ lower_isnt_close : (b : ℕ) → IsTrue (is_lower b) → (b == 125) ≡ false
 lower_isnt_close b e = ap (λ t. t) (false_from_ne_true (b == 125) (λ d. contra (eqb-true b 125 d)))
   where
     contra : b ≡ 125 → ⊥
-    contra d = no (subst (λ n. IsTrue (is_lower n)) d e)
-      where
-        no : IsTrue (is_lower 125) → ⊥
-        no f = cc
+    contra d = (let h0 = subst (λ n. IsTrue (is_lower n)) d e in cc)
 
 -- a whole name, where the letter has these names before
 name_run : (n : Name) (c : Bool) (u v : List (List Name)) (l : List Name) → IsTrue (is_proposition n)
@@ -169,10 +167,7 @@ is_whole (Some b) = is_finished b.place b.in_cycle
 pub no_beginning : (bytes : List ℕ) → run (Some start) bytes ≡ None → ¬ (IsLassoBeginning bytes)
 no_beginning bytes e (rest, w, t) =
     let stopped = ap (λ o. run o rest) e ∙ run_none rest in
-    none (sym stopped ∙ sym (fold-append one_byte (Some start) bytes rest) ∙ text_run (bytes ++ rest) w t)
-  where
-    none : {b : WordBefore} → None ≡ Some b → ⊥
-    none d = cc
+    none-some _ (sym stopped ∙ sym (fold-append one_byte (Some start) bytes rest) ∙ text_run (bytes ++ rest) w t)
 
 pub no_word : (text : List ℕ) → is_whole (run (Some start) text) ≡ false → (w : Lasso) → ¬ (IsLassoText text w)
 no_word text e w t = false≢true (sym e ∙ ap is_whole (text_run text w t))

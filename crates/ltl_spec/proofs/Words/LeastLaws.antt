@@ -201,19 +201,13 @@ turned_shortest a c h (suc n) [] l e =
     let bad : a ∷ c ≡ no_letters = e ∙ none in
     cc
 turned_shortest a c h (suc n) (z ∷ zs) l e =
-    let first : a ≡ z = heads e in
+    let first : a ≡ z = cc in
     let here : a ∷ c ≡ repeated (suc n) (a ∷ zs) = e ∙ ap (λ b. repeated (suc n) (b ∷ zs)) (sym first) in
     let turned : a ∷ (c ++ a ∷ []) ≡ a ∷ repeated (suc n) (zs ++ a ∷ []) = ap (λ m. m ++ a ∷ []) here ∙ repeated_turned (suc n) a zs in
     let long = length-append zs (a ∷ []) in
     let wide = length-append c (a ∷ []) in
     let less : length (zs ++ a ∷ []) < length (c ++ a ∷ []) = omega (arith, l, long, wide) in
-    h (suc n) (zs ++ a ∷ []) less (tails turned)
-  where
-    heads : {x y : Letter} {xs ys : List Letter} → x ∷ xs ≡ y ∷ ys → x ≡ y
-    heads q = cc
-
-    tails : {x y : Letter} {xs ys : List Letter} → x ∷ xs ≡ y ∷ ys → xs ≡ ys
-    tails q = cc
+    h (suc n) (zs ++ a ∷ []) less (cc)
 
 -- both answers of putting a letter before a word without stem
 abbrev taken_over : Letter → List Letter → Lasso

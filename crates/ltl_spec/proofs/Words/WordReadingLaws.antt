@@ -12,7 +12,7 @@ use Rattle.ltl_spec.specs.Formulas.Names.{is_constant, is_proposition}
 use Rattle.ltl_spec.specs.Words.LassoText.{letter_text, lasso_text, with_sets, IsLassoText, IsLassoBeginning, StopsAt, IsBadWord}
 use Rattle.ltl_spec.proofs.Words.LassoTextLaws.{WordPlace, AtLetter, AtFirstName, AtName, AfterLetter, AtBlank, InName, InWord, WordBefore, closed, closed_with, go, begin_name, in_name, in_word, expect_word, at_letter, word_step, run, start, letters_text, run_none, no_beginning, no_word, one_byte, is_finished, is_whole}
 use Rattle.std.proofs.lemmas.List.Sums.{fold-append}
-use Rattle.std.proofs.lemmas.Option.{same_Some}
+use Rattle.std.proofs.lemmas.Option.{same_Some, none-some}
 use Rattle.ltl_spec.proofs.Formulas.NameLaws.{same_exact}
 use Rattle.ltl_spec.proofs.Collections.CaseLaws.{left_true, right_true}
 use Rattle.ltl_spec.proofs.Collections.ListLaws.{get_done, get_end}
@@ -81,11 +81,8 @@ no_constant n = or_from (same_name (n ++ codes "a") (codes "true")) (same_name (
     last_push (b ∷ []) = refl
     last_push (b ∷ c ∷ cs) = last_push (c ∷ cs)
 
-    no_true : ◌≡◌ {A = ℕ} 97 101 → ⊥
-    no_true e = omega (arith, e)
-
     differs : (c : Name) → final c ≡ 101 → same_name (n ++ codes "a") c ≡ false
-    differs c d = false_from_ne_true (same_name (n ++ codes "a") c) (λ e. no_true (sym (last_push n) ∙ ap final (same_exact (n ++ codes "a") c e) ∙ d))
+    differs c d = false_from_ne_true (same_name (n ++ codes "a") c) (λ e. (let h0 = sym (last_push n) ∙ ap final (same_exact (n ++ codes "a") c e) ∙ d in omega (arith, h0)))
 
 more_name : (n : Name) → IsTrue (is_begun n) → IsTrue (is_proposition (n ++ codes "a"))
 more_name [] e = cc
@@ -241,10 +238,7 @@ when_taken true x y c e = inl (refl, e)
 when_taken false x y c e = inr (refl, e)
 
 none_some : {K : Type 0} {P : Type 0} (c : K) → None ≡ Some c → P
-none_some {K} {P} c e = absurd (no e)
-  where
-    no : None ≡ Some c → ⊥
-    no d = cc
+none_some c e = absurd (none-some c e)
 
 extend : (bytes text : List ℕ) (byte k : ℕ) → (byte == k) ≡ true → bytes ≡ text → bytes ++ byte ∷ [] ≡ text ++ k ∷ []
 extend bytes text byte k e t = let same = eqb-true byte k e in λ i. t i ++ same i ∷ []
@@ -310,19 +304,10 @@ module _ (b : WordBefore) (bytes : List ℕ) (byte : ℕ) (c : WordBefore) (g : 
       ]
     where
       comma_text : (byte == 44) ≡ true → now ≡ text_before ++ codes "{" ++ names_text (b.letter ++ m ∷ [])
-      comma_text x =
-          extend bytes (text_before ++ codes "{" ++ names_text b.letter ++ m) byte 44 x t.1
-          ∙ append_assoc (text_before ++ codes "{" ++ names_text b.letter) m (codes ",")
-          ∙ append_assoc (text_before ++ codes "{") (names_text b.letter) (m ++ codes ",")
-          ∙ ap (λ z. text_before ++ codes "{" ++ z) (sym (names_push b.letter m))
+      comma_text x = extend bytes (text_before ++ codes "{" ++ names_text b.letter ++ m) byte 44 x t.1 ∙ simp (append_assoc, names_push)
 
       close_text : (byte == 125) ≡ true → now ≡ text_before ++ letter_text (b.letter ++ m ∷ [])
-      close_text x =
-          extend bytes (text_before ++ codes "{" ++ names_text b.letter ++ m) byte 125 x t.1
-          ∙ ap (λ z. z ++ m ++ codes "}") (append_assoc text_before (codes "{") (names_text b.letter))
-          ∙ ap (λ z. z ++ codes "}") (append_assoc text_before (codes "{" ++ names_text b.letter) m)
-          ∙ append_assoc text_before (codes "{" ++ names_text b.letter ++ m) (codes "}")
-          ∙ ap (λ z. text_before ++ z) (sym (letter_push b.letter m))
+      close_text x = extend bytes (text_before ++ codes "{" ++ names_text b.letter ++ m) byte 125 x t.1 ∙ simp (append_assoc, letter_push)
   name_held false false m q f t e = none_some c e
 
   word_goes_on : (w : ℕ) (ws : List ℕ) → byte ≡ w → HeldText (InWord (w ∷ ws)) b bytes → in_word b ws ≡ Some c → Held c now
@@ -403,12 +388,7 @@ whole_word AfterLetter true b text g h q f (u, v, a, l, d, t) =
       read = refl;
     }
 whole_word AfterLetter false b text g h q f t = cc
-whole_word AtLetter ic b text g h q f t = cc
-whole_word AtFirstName ic b text g h q f t = cc
-whole_word AtName ic b text g h q f t = cc
-whole_word AtBlank ic b text g h q f t = cc
-whole_word (InName n) ic b text g h q f t = cc
-whole_word (InWord ws) ic b text g h q f t = cc
+whole_word _ ic b text g h q f t = cc
 
 pub run_word : (text : List ℕ) (b : WordBefore) → run (Some start) text ≡ Some b → is_finished b.place b.in_cycle ≡ true → IsLassoText text (with_sets (record { stem = b.stem; cycle = b.cycle }))
 run_word text b e f = let k = held_text text b e in whole_word b.place b.in_cycle b text k.stem k.cycle refl f k.text

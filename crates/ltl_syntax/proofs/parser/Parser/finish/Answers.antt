@@ -1,7 +1,8 @@
 use Rattle.std.proofs.Common.{rules, ◌≡◌, ◌∙◌, ◌==◌, ap, sym, subst, true, false, [], length, arith, refl}
 use Rattle.ltl_syntax.specs.ParserView.{AreUsedOnce}
-use Rattle.ltl_syntax.proofs.StateLemmas.{closed_kept, empty_list, zero_from_test, finish_closed, finish_open, expects_open}
+use Rattle.ltl_syntax.proofs.StateLemmas.{closed_kept, zero_from_test, finish_closed, finish_open, expects_open}
 use Rattle.ltl_syntax.proofs.parser.Parser.finish.Goals as goal
+use Rattle.std.proofs.lemmas.List.{nil_from_length}
 
 pub invariant_of-self : goal.invariant_of-self
 invariant_of-self g c =
@@ -34,7 +35,7 @@ returns g c =
     let tested : (length c.close.new.frames.items == 0) ≡ true = search rules in
     let none : length c.close.new.frames.items ≡ 0 = zero_from_test _ tested in
     let some = c.self.invariant.some has in
-    let empty : c.close.new.frames.items ≡ [] = empty_list c.close.new.frames.items none in
+    let empty : c.close.new.frames.items ≡ [] = nil_from_length c.close.new.frames.items none in
     let longer = c.in_ok-close.ensures.longer in (
       finish_closed c.args.self.now _ c.close.new.nodes.items _ c.close.new.frames.items _ _ 5 c.self.view_is now_has c.in_ok-close.ensures.closed refl
           empty,

@@ -4,9 +4,10 @@ use Rattle.ltl_spec.proofs.Collections.MemberLaws.{map_length}
 use Rattle.std.specs.Ordering.{nat_cmp}
 use Rattle.ltl_spec.specs.Collections.Sets.{has}
 use Rattle.ltl_word.specs.Rows.{IsRowFrom}
-use Rattle.ltl_word.proofs.BitLemmas.{row_more, any_default}
+use Rattle.ltl_word.proofs.BitLemmas.{row_more}
 use Rattle.ltl_word.proofs.LetterLaws.{name_row}
 use Rattle.ltl_word.proofs.lasso.Lasso.row_of_name.Goals as goal
+use Rattle.std.proofs.lemmas.List.{get_or_default}
 
 pub positions-preserved : goal.positions-preserved
 positions-preserved g c =
@@ -20,7 +21,7 @@ positions-preserved g c =
       bits = row_more (λ j. has nat_cmp place (slice_index_or letters j [])) (c.positions.i - 1) (length letters) c.positions.row _ _ one
           (subst (λ i. IsRowFrom (λ j. has nat_cmp place (slice_index_or letters j [])) i (length letters) c.positions.row) again c.positions.invariant.bits)
           c.put.ensures.long c.put.ensures.here c.put.ensures.others
-          (c.holds.ensures ∙ ap (has nat_cmp place) (c.index.ensures ∙ any_default letters (c.positions.i - 1) c.index.result.now [] (omega (arith, one))));
+          (c.holds.ensures ∙ ap (has nat_cmp place) (c.index.ensures ∙ get_or_default letters (c.positions.i - 1) c.index.result.now [] (omega (arith, one))));
     }
 
 pub returns : goal.returns
