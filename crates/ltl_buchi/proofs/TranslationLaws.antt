@@ -1,13 +1,13 @@
 -- The translation by its steps.
 use Rattle.std.proofs.Common.{◌≡◌, ℕ, Bool, true, false, inl, inr, sym, ◌∙◌, ap, subst, Result, Ok, Err}
-use Rattle.std.specs.Prelude.{IfOk, All}
+use Rattle.std.specs.Prelude.{IfOk}
 use Rattle.ltl_spec.specs.Formulas.Formula.{Formula}
 use Rattle.ltl_spec.specs.NormalForms.Normal.{Normal}
 use Rattle.ltl_spec.specs.NormalForms.NormalForm.{core}
-use Rattle.ltl_spec.specs.Automata.Automaton.{Automaton, State}
+use Rattle.ltl_spec.specs.Automata.Automaton.{Automaton}
 use Rattle.ltl_spec.specs.Automata.Generalized.{IsGeneralized, IsTooLarge}
 use Rattle.ltl_spec.specs.Automata.GeneralizedText.{IsGeneralizedTranslation}
-use Rattle.ltl_spec.specs.Construction.Merging.{merged_automaton, unimplied_edges}
+use Rattle.ltl_spec.specs.Construction.Merging.{merged_automaton}
 use Rattle.ltl_spec.specs.Construction.Levels.{level_automaton, HasTooManyLevelStates}
 use Rattle.ltl_spec.specs.Construction.Renumbered.{renumbered_automaton}
 use Rattle.ltl_spec.specs.Construction.Translation.{Options, IsTranslation, IsTranslationTooLarge}
@@ -15,25 +15,12 @@ use Rattle.ltl_spec.specs.Semantics.Language.{HasLanguageOf, AcceptsModels, Acce
 use Rattle.ltl_spec.proofs.Checking.BelowLaws.{HasLeavesBelow, core_below, translation_is_buchi}
 use Rattle.ltl_spec.proofs.Construction.GeneralizedBounds.{one_generalized, translation_below}
 use Rattle.ltl_spec.proofs.Semantics.LanguageLaws.{translation_language, translation_models, translation_violations}
-use Rattle.ltl_spec.proofs.Construction.MergingRuns.{merged_closed}
-use Rattle.ltl_spec.proofs.Semantics.GeneralizedLaws.{generalized_closed}
-use Rattle.ltl_spec.proofs.Semantics.Runs.{IsClosed}
-use Rattle.ltl_passes.specs.MarksFollowTarget.{DoMarksFollowTargets}
 use Rattle.ltl_models.specs.Named.{HasNamesOf}
-use Rattle.ltl_passes.proofs.IrredundantLaws.{generalized_irredundant, levels_irredundant, merged_irredundant}
 
 -- A is the generalized automaton, S its merging
 module _ (F : Normal) (o : Options) (keep : Bool) (same : keep ≡ o.keep_implied) (A S : Automaton) (generalized : IsGeneralized F keep A) (small : S ≡ merged_automaton o.keep_implied o.keep_equal A) where
   found : IsGeneralized F o.keep_implied A
   found = subst (λ k. IsGeneralized F k A) same generalized
-
-  -- where edges with one target are in the same sets, the levels have no implied edges, if these are to go
-  pub copies_irredundant : (b : Bool) → (b ≡ true → All (λ s. DoMarksFollowTargets s.edges) S.states) → (b ≡ true → keep ≡ false) → b ≡ true → (L : Automaton) → L ≡ level_automaton S → All (λ s. unimplied_edges s.edges ≡ s.edges) L.states
-  copies_irredundant b agreed goes found_so L levels =
-      let P : State → Type 0 = λ s. unimplied_edges s.edges ≡ s.edges in
-      let closed = subst IsClosed (sym small) (merged_closed A o.keep_implied o.keep_equal (generalized_closed F o.keep_implied A found)) in
-      let merged = subst (λ k. All P (merged_automaton k o.keep_equal A).states) (sym (sym same ∙ goes found_so)) (merged_irredundant o.keep_equal A) in
-      subst (λ (B : Automaton). All P B.states) (sym levels) (levels_irredundant S closed (subst (λ (B : Automaton). All P B.states) (sym small) merged) (agreed found_so))
 
   -- L are the levels, M their merging; what is answered is that numbered
   pub translated : {E : Type 0} (L M : Automaton) (r : Result Automaton E) → L ≡ level_automaton S → M ≡ merged_automaton o.keep_implied o.keep_equal L → IfOk r (λ B. B ≡ renumbered_automaton M) → IfOk r (IsTranslation F o)
@@ -86,7 +73,3 @@ module _ (N : Normal) (o : Options) where
   pub generalized_named : {E : Type 0} (r : Result Automaton E) → IfOk r (IsGeneralizedTranslation N o) → IfOk r (HasNamesOf N)
   generalized_named (Err f) translation = tt
   generalized_named (Ok A) translation = λ n F negate rewrite h e. translation_below N o A translation n (subst (HasLeavesBelow n) (sym e) (core_below n F negate rewrite h))
-
--- what merging is handed has no implied edges, if these are to go
-pub reached_irredundant : (N : Normal) (keep o : Bool) (A : Automaton) → keep ≡ o → IsGeneralized N keep A → o ≡ false → All (λ s. unimplied_edges s.edges ≡ s.edges) A.states
-reached_irredundant N keep o A same generalized goes = generalized_irredundant N A (subst (λ k. IsGeneralized N k A) (same ∙ goes) generalized)

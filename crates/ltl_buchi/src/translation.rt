@@ -15,10 +15,7 @@ ghost use Rattle.ltl_models.specs.Named.{HasNamesOf};
 use ltl_alt::Reach;
 use ltl_formula::Table;
 use ltl_models::{Ba, BaFault, Gba, Gen, Options};
-use ltl_passes::{
-    are_copies_irredundant, level_states, numbered_states, renumber_generalized, smaller_gba,
-    smaller_states,
-};
+use ltl_passes::{level_states, merge, merged_states, renumber_generalized, renumbered_states};
 use std::alloc::Allocator;
 
 /// The Büchi automaton of a table's formula: the words that it accepts are those that satisfy the formula, whatever the options. Each
@@ -44,12 +41,13 @@ pub fn translate<'a, A: Allocator>(
     ensures large { IsErrOf result BaFault.TooLarge → IsTranslationTooLarge (core_of table.now) options.now stated_limits.states stated_limits.edges }
 {
     let generalized = Gba::reach(alloc, table, options.keep_implied)?;
-    let small = smaller_gba(alloc, generalized, options)?;
-    let irredundant = are_copies_irredundant(alloc, &small, options.keep_implied)?;
+    let small = merge(alloc, &generalized, options)?;
+    drop(generalized);
     let copies = level_states(alloc, &small)?;
     drop(small);
-    let smaller = smaller_states(alloc, copies, options, irredundant)?;
-    let numbered = numbered_states(alloc, smaller)?;
+    let smaller = merged_states(alloc, &copies, options)?;
+    drop(copies);
+    let numbered = renumbered_states(alloc, &smaller)?;
     Ok(Ba::new(alloc, numbered)?)
 }
 
@@ -76,6 +74,7 @@ pub fn generalized<'a, A: Allocator>(
     ensures large { IsErrOf result BaFault.TooLarge → IsTooLarge (core_of table.now) options.now.keep_implied stated_limits.states stated_limits.edges }
 {
     let reached = Gba::reach(alloc, table, options.keep_implied)?;
-    let merged = smaller_gba(alloc, reached, options)?;
+    let merged = merge(alloc, &reached, options)?;
+    drop(reached);
     renumber_generalized(alloc, &merged)
 }

@@ -1,6 +1,6 @@
 -- The copies that were listed are those of the definitions.
-use Rattle.std.proofs.Common.{◌≡◌, ℕ, ◌<◌, ◌≤◌, Bool, true, false, ◌&&◌, List, [], ◌∷◌, ◌++◌, length, map, refl, sym, ◌∙◌, ap, subst, arith, Some}
-use Rattle.std.specs.Prelude.{◌-◌, slice_get, slice_index_or, ◌==◌, All}
+use Rattle.std.proofs.Common.{◌≡◌, ℕ, ◌<◌, ◌≤◌, Bool, true, false, ◌&&◌, List, [], ◌∷◌, ◌++◌, length, map, refl, sym, ◌∙◌, ap, subst, arith}
+use Rattle.std.specs.Prelude.{slice_index_or, ◌==◌, All}
 use Rattle.std.specs.Bool.{Decides}
 use Rattle.std.specs.Ordering.{nat_cmp}
 use Rattle.std.specs.Cmp.{first_so, second_so}
@@ -10,7 +10,7 @@ use Rattle.ltl_spec.specs.Collections.Sets.{Has, IsRising, set_of}
 use Rattle.ltl_spec.specs.Collections.Lists.{place_of}
 use Rattle.ltl_spec.specs.Automata.Automaton.{Automaton, State, Edge, edge_cmp, state_at}
 use Rattle.ltl_spec.specs.Automata.Listing.{listing, IsComplete, PassesLimits}
-use Rattle.ltl_spec.specs.Construction.Levels.{LevelState, LevelEdge, same_level_state, start_copy, climb, level_edge, level_edge_cmp, level_edges, level_targets, edge_to_level_state, copy_state, level_automaton, HasTooManyLevelStates}
+use Rattle.ltl_spec.specs.Construction.Levels.{LevelState, LevelEdge, same_level_state, start_copy, level_edge, level_edge_cmp, level_edges, level_targets, edge_to_level_state, copy_state, level_automaton, HasTooManyLevelStates}
 use Rattle.ltl_spec.specs.Construction.ImpliedEdges.{IsSetEdge}
 use Rattle.ltl_spec.specs.Transitions.Cubes.{Cube, literal_cmp, is_contradictory}
 use Rattle.ltl_spec.specs.Tools.Limits.{stated_limits}
@@ -23,13 +23,12 @@ use Rattle.ltl_spec.proofs.Semantics.Runs.{IsClosed}
 use Rattle.ltl_sets.specs.CubeEq.{same_cube, cube_Decides}
 use Rattle.ltl_automaton.specs.Bounds.{IsBounded}
 use Rattle.ltl_automaton.specs.Net.{key_of, targets_of, edge_in, state_of, IsReachable}
-use Rattle.ltl_automaton.specs.SharedView.{Shared, automaton_of}
 use Rattle.ltl_automaton.specs.declared.successor.Successor.{Successor}
 use Rattle.ltl_automaton.specs.declared.edge.Edge as plain
 use Rattle.ltl_automaton.proofs.EdgeLaws.{map_pushed}
 use Rattle.ltl_models.specs.GbaView as gba
 use Rattle.ltl_models.specs.BaView.{IsBa, IsPlain, IsReached}
-use Rattle.ltl_passes.specs.Degeneralize.{IsListOf, successor_of, level_edge_of, from_level, level_net, lifted_edge}
+use Rattle.ltl_passes.specs.Degeneralize.{successor_of, level_edge_of, level_net, lifted_edge}
 use Rattle.ltl_passes.specs.declared.degeneralize.LevelEdge as code
 use Rattle.ltl_passes.proofs.MergedLaws.{gba_within, of_all}
 use Rattle.ltl_passes.proofs.ReachedLaws.{listed_reached}
@@ -70,21 +69,6 @@ pub made_successors : (A : Automaton) (sets : ℕ) (p : LevelState) (edges : Lis
     → xs ≡ map successor_of (set_of level_edge_cmp (map (lifted_edge sets p.level) (map gba.edge_of edges))) → xs ≡ map successor_of (level_edges A p)
 made_successors A sets p edges xs n e h =
     h ∙ ap (map successor_of) (ap (λ m. set_of level_edge_cmp (map (lifted_edge m p.level) (map gba.edge_of edges))) n ∙ ap (λ es. set_of level_edge_cmp (map (lifted_edge A.sets p.level) es)) e)
-
--- copies with the same list on the same level have the same edges
-pub same_successors : (A : Automaton) (s : Shared) (p q l m : LevelState) → automaton_of s ≡ A → IsListOf s p l → IsListOf s q m → m ≡ l → map successor_of (level_edges A q) ≡ map successor_of (level_edges A p)
-same_successors A s p q l m a v w e =
-    let B = automaton_of s in
-    let edges : (state_at B q.state).edges ≡ (state_at B p.state).edges = one_thing _ _ (sym w.list ∙ ap (λ (c : LevelState). slice_get s.lists c.state) e ∙ v.list) in
-    let levels : from_level s.sets q.level ≡ from_level s.sets p.level = sym w.level ∙ ap (λ (c : LevelState). c.level) e ∙ v.level in
-    let here : map successor_of (level_edges B q) ≡ map successor_of (level_edges B p) = λ i. map successor_of (set_of level_edge_cmp (map (climbing s.sets (levels i)) (edges i))) in
-    ap (λ X. map successor_of (level_edges X q)) (sym a) ∙ here ∙ ap (λ X. map successor_of (level_edges X p)) a
-  where
-    climbing : ℕ → ℕ → Edge → LevelEdge
-    climbing sets from e = record { cube = e.cube; copy = record { state = e.target; level = climb (sets - from) e.marks from } }
-
-    one_thing : (x y : List Edge) → Some x ≡ Some y → x ≡ y
-    one_thing x y h = cc
 
 module _ (A : Automaton) where
   all_targets : targets_of (level_net A) ≡ level_targets A

@@ -1,12 +1,7 @@
-pub mod MarksFollowTargetLaws
-pub mod InjectiveLaws
-pub mod AskedLaws
-pub mod ChainLaws
 pub mod ClassLaws
 pub mod SignatureLaws
 pub mod LevelStateLaws
-pub mod LightestLaws
-pub mod ListedLaws
+pub mod FirstRoundLaws
 pub mod MergeLaws
 pub mod MergedLaws
 pub mod NumberLaws
@@ -14,8 +9,6 @@ pub mod QuotientLaws
 pub mod ReachedLaws
 pub mod RenumberLaws
 pub mod RiseLaws
-pub mod OwnQuotientLaws
+pub mod RunLaws
 pub mod Sums
 pub mod TargetLaws
-pub mod IrredundantLaws
-pub mod WeightLaws

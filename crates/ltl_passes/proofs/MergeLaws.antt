@@ -1,16 +1,13 @@
 -- The steps of reading and making the states of automata that are merged.
-use Rattle.std.proofs.Common.{◌≡◌, ℕ, zero, suc, ◌+◌, ◌<◌, Bool, true, false, cond, List, [], ◌∷◌, ◌++◌, map, length, refl, sym, ◌∙◌, ap, subst, arith}
+use Rattle.std.proofs.Common.{◌≡◌, ℕ, zero, suc, ◌+◌, ◌<◌, Bool, true, false, List, [], ◌∷◌, ◌++◌, map, length, refl, sym, ◌∙◌, ap, subst, arith}
 use Rattle.std.specs.Prelude.{slice_index, slice_index_or}
 use Rattle.std.specs.Ordering.{nat_cmp}
 use Rattle.std.specs.Prelude.{nat_eq}
-use Rattle.std.specs.List.{filter}
 use Rattle.std.specs.Cmp.Lexicographic.{pointwise, pointwise_decides}
-use Rattle.ltl_automaton.specs.EdgeView.{edge_of}
 use Rattle.ltl_automaton.specs.SharedView.{Shared, IsShared, automaton_of, with_state}
-use Rattle.ltl_automaton.specs.declared.edge.Edge as made
 use Rattle.ltl_automaton.proofs.EdgeLaws.{map_pushed}
 use Rattle.std.proofs.lemmas.Bool.Decides.{Decides-eqb}
-use Rattle.std.proofs.lemmas.List.{get_or-map, append-nil}
+use Rattle.std.proofs.lemmas.List.{get_or-map}
 use Rattle.ltl_spec.specs.Collections.Sets.{Has, set_of}
 use Rattle.ltl_spec.specs.Automata.Automaton.{Automaton, State, Edge}
 use Rattle.ltl_spec.specs.Construction.Merging.{retargeted_state, without_implied, class_names}
@@ -54,27 +51,6 @@ pub class_pushed : (B C : Automaton) (sets : ℕ) (h : ℕ → State) (taken mor
 class_pushed B C sets h taken more_taken class accepting es b c s t =
     c ∙ ap (λ X. with_state X accepting es) b ∙ (λ i. let X : Automaton = record { sets = sets; states = map h taken ++ s i ∷ [] } in X)
     ∙ sym (ap (λ ss. let X : Automaton = record { sets = sets; states = ss } in X) (map_pushed h taken more_taken class t))
-
--- one more that stays, or goes
-filter_append : (q : Edge → Bool) (xs : List Edge) (x : Edge) → filter q (xs ++ x ∷ []) ≡ filter q xs ++ cond (q x) (x ∷ []) []
-filter_append q [] x = refl
-filter_append q (y ∷ ys) x =
-    elim (q y) as (λ b. cond b (y ∷ filter q (ys ++ x ∷ [])) (filter q (ys ++ x ∷ [])) ≡ cond b (y ∷ filter q ys) (filter q ys) ++ cond (q x) (x ∷ []) []) [
-      | true ↦ ap (λ l. y ∷ l) (filter_append q ys x)
-      | false ↦ filter_append q ys x
-    ]
-
-pub kept_next : (q : Edge → Bool) (kept more_kept taken more_taken : List made.Edge) (x : made.Edge) → map edge_of kept ≡ filter q (map edge_of taken) → q (edge_of x) ≡ true
-    → more_kept ≡ kept ++ x ∷ [] → more_taken ≡ taken ++ x ∷ [] → map edge_of more_kept ≡ filter q (map edge_of more_taken)
-kept_next q kept more_kept taken more_taken x w t k e =
-    map_pushed edge_of kept more_kept x k ∙ (λ i. w i ++ cond (sym t i) (edge_of x ∷ []) [])
-    ∙ sym (filter_append q (map edge_of taken) (edge_of x)) ∙ sym (ap (filter q) (map_pushed edge_of taken more_taken x e))
-
-pub dropped_next : (q : Edge → Bool) (kept taken more_taken : List made.Edge) (x : made.Edge) → map edge_of kept ≡ filter q (map edge_of taken) → q (edge_of x) ≡ false
-    → more_taken ≡ taken ++ x ∷ [] → map edge_of kept ≡ filter q (map edge_of more_taken)
-dropped_next q kept taken more_taken x w t e =
-    w ∙ sym (append-nil (filter q (map edge_of taken))) ∙ ap (λ b. filter q (map edge_of taken) ++ cond b (edge_of x ∷ []) []) (sym t)
-    ∙ sym (filter_append q (map edge_of taken) (edge_of x)) ∙ sym (ap (filter q) (map_pushed edge_of taken more_taken x e))
 
 -- rounds
 module _ (S : Shared) (shared : IsShared S.lists S.states) where

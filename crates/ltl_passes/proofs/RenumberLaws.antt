@@ -1,6 +1,6 @@
 -- An automaton that is listed from its own states is the renumbered one, and what an automaton keeps when it is numbered.
-use Rattle.std.proofs.Common.{◌≡◌, ℕ, ◌<◌, ◌≤◌, true, false, inl, inr, List, [], ◌∷◌, length, map, refl, sym, ◌∙◌, ap, subst, arith, Some}
-use Rattle.std.specs.Prelude.{slice_get, slice_index_or, sum_by, take, ◌==◌, All}
+use Rattle.std.proofs.Common.{◌≡◌, ℕ, ◌<◌, ◌≤◌, true, false, inl, inr, List, [], ◌∷◌, length, map, refl, sym, ◌∙◌, ap, subst, arith}
+use Rattle.std.specs.Prelude.{slice_index_or, sum_by, take, ◌==◌, All}
 use Rattle.std.proofs.lemmas.Bool.Decides.{Decides-eqb}
 use Rattle.std.proofs.lemmas.List.{length-map, get_or_past}
 use Rattle.std.proofs.lemmas.List.Sums.{sum_by-cons}
@@ -25,7 +25,6 @@ use Rattle.ltl_spec.proofs.Construction.RenumberedRuns.{ordered_targets_cases, c
 use Rattle.ltl_spec.proofs.Semantics.Runs.{IsClosed}
 use Rattle.ltl_spec.proofs.Collections.SumLaws.{taken_sum}
 use Rattle.ltl_automaton.specs.Net.{Net, key_of, targets_of, edge_in, state_of, IsReachable}
-use Rattle.ltl_automaton.specs.SharedView.{Shared, automaton_of}
 use Rattle.ltl_automaton.proofs.NetLaws.{map_agree}
 use Rattle.ltl_automaton.proofs.WayLaws.{Has_taken_at, take_whole}
 use Rattle.ltl_models.specs.GbaView as gba
@@ -43,14 +42,6 @@ accepts_past A s l = ap (λ (t : State). t.accepting) (sym (get_or_past A.states
 
 pub no_successors_past : (A : Automaton) (s : ℕ) → length A.states ≤ s → [] ≡ map successor_of (state_at A s).edges
 no_successors_past A s l = ap (λ (t : State). map successor_of t.edges) (sym (get_or_past A.states s (record { accepting = true; edges = [] }) l))
-
--- states with one list have the same edges
-pub same_successors : (s : Shared) (p q l m : ℕ) → slice_get s.lists l ≡ Some (state_at (automaton_of s) p).edges → slice_get s.lists m ≡ Some (state_at (automaton_of s) q).edges → m ≡ l
-    → (net_of (automaton_of s)).successors q ≡ (net_of (automaton_of s)).successors p
-same_successors s p q l m v w e = ap (map successor_of) (one_thing _ _ (sym w ∙ ap (slice_get s.lists) e ∙ v))
-  where
-    one_thing : (x y : List Edge) → Some x ≡ Some y → x ≡ y
-    one_thing x y h = cc
 
 targets_plain : (es : List Edge) → map key_of (map successor_of es) ≡ map (λ (e : Edge). e.target) es
 targets_plain [] = refl

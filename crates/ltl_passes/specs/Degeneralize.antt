@@ -1,37 +1,18 @@
 -- The copies of an automaton's states as things that are listed.
-use Rattle.std.specs.Prelude.{◌≡◌, ◌==◌, ◌<◌, ◌≤◌, ℕ, if◌then◌else◌, List, [], length, map, slice_get, slice_index_or, Some}
-use Rattle.std.specs.declared.cmp.Ordering.TheVariants.{Less}
-use Rattle.ltl_spec.specs.Collections.Sets.{IsRising, set_of}
-use Rattle.ltl_spec.specs.Automata.Automaton.{Automaton, Edge, state_at}
+use Rattle.std.specs.Prelude.{◌≡◌, ◌==◌, ◌<◌, ◌≤◌, ℕ, List, [], length, map, slice_get, slice_index_or, Some}
+use Rattle.ltl_spec.specs.Collections.Sets.{set_of}
+use Rattle.ltl_spec.specs.Automata.Automaton.{Automaton, Edge}
 use Rattle.ltl_spec.specs.Construction.Levels.{LevelState, LevelEdge, level_edge_cmp, level_edges, next_level}
 use Rattle.ltl_automaton.specs.Net.{Net}
-use Rattle.ltl_automaton.specs.SharedView.{Shared, automaton_of}
 use Rattle.ltl_automaton.specs.declared.successor.Successor.{Successor}
 use Rattle.ltl_passes.specs.declared.degeneralize.LevelEdge as code
 
 abbrev pub level_edge_of : code.LevelEdge → LevelEdge
 level_edge_of e = record { cube = e.cube; copy = e.copy }
 
--- the level from which the edges of a copy climb: from the last one as from the first
-abbrev pub from_level : ℕ → ℕ → ℕ
-from_level sets level = if level == sets then 0 else level
-
--- the number of the list of a copy's state, on the level from which its edges climb
-pub record IsListOf (s : Shared) (p l : LevelState) : Type 0 where
-  pub list : slice_get s.lists l.state ≡ Some (state_at (automaton_of s) p.state).edges
-  pub level : l.level ≡ from_level s.sets p.level
-
 -- the edge of a copy on this level, with so many acceptance sets
 abbrev pub lifted_edge : ℕ → ℕ → Edge → LevelEdge
 lifted_edge sets level e = record { cube = e.cube; copy = record { state = e.target; level = next_level sets e.marks level } }
-
--- with any number of sets and on each level the first edge is below the second
-abbrev pub IsBelowLifted : Edge → Edge → Type 0
-IsBelowLifted e f = (sets level : ℕ) → level_edge_cmp (lifted_edge sets level e) (lifted_edge sets level f) ≡ Less
-
--- with any number of sets and on each level these edges rise
-abbrev pub RiseLifted : List Edge → Type 0
-RiseLifted es = (sets level : ℕ) → IsRising level_edge_cmp (map (lifted_edge sets level) es)
 
 -- without marks
 abbrev pub successor_of : LevelEdge → Successor LevelState

@@ -1,10 +1,5 @@
-pub mod MarksFollowTarget
-pub mod Injective
-pub mod Chains
 pub mod Partition
 pub mod Degeneralize
 pub mod LevelCodes
-pub mod IndexedEdge
-pub mod Lightest
-pub mod Listed
 pub mod Numbered
+pub mod Runs

@@ -1,18 +1,17 @@
 //! Levels: from acceptance sets on edges to accepting states. Each state has a copy for each number of sets met in turn.
 
-ghost use Rattle.std.specs.Prelude.{◌≡◌, map, true, IfOk, IfSome, OnOk, IsErrOf};
+ghost use Rattle.std.specs.Prelude.{◌≡◌, map, IfOk, OnOk, IsErrOf};
 ghost use Rattle.ltl_spec.specs.Collections.Sets.{set_of};
 ghost use Rattle.ltl_spec.specs.Construction.Levels as levels_of;
 ghost use Rattle.ltl_spec.specs.Tools.Limits.{stated_limits};
 ghost use Rattle.ltl_automaton.specs.SharedView.{automaton_of};
 ghost use Rattle.ltl_models.specs.GbaView as gba;
 ghost use Rattle.ltl_models.specs.BaView.{IsBa};
-ghost use Rattle.ltl_passes.specs.Degeneralize.{HaveAtLeast, IsBelowLifted, IsListOf, RiseLifted, successor_of, level_edge_of, level_net, lifted_edge};
+ghost use Rattle.ltl_passes.specs.Degeneralize.{HaveAtLeast, successor_of, level_edge_of, level_net, lifted_edge};
 
 use crate::rises::{count_rises, counted};
 use ltl_automaton::{
-    AutomatonFault, Interner, Key, Limits, SharedStates, Successor, Successors, explore_from,
-    next_level,
+    AutomatonFault, Key, Limits, SharedStates, Successor, Successors, explore_from, next_level,
 };
 use ltl_models::{Ba, BaFault, Gba, GbaEdge, MOST_EDGES, MOST_STATES};
 use ltl_sets::{Cube, RowSet};
@@ -157,53 +156,6 @@ fn sort_dedup<'a, A: Allocator>(edges: &mut Vec<LevelEdge, &'a A>)
     edges.dedup();
 }
 
-/// Whether an edge is below the other one by its literals and its target, so that it is on each level.
-#[inline(always)]
-fn is_below(edge: &GbaEdge, other: &GbaEdge) -> bool
-    ensures { result ≡ true → IsBelowLifted (gba.edge_of edge.now) (gba.edge_of other.now) }
-{
-    match edge.cube.cmp_list(&other.cube) {
-        Ordering::Less => true,
-        Ordering::Equal => edge.target < other.target,
-        Ordering::Greater => false,
-    }
-}
-
-/// Whether each edge is below the next one by its literals and its target. Then on each level the edges are sorted and distinct.
-fn rise_lifted(edges: &[GbaEdge]) -> bool
-    ensures { result ≡ true → RiseLifted (map gba.edge_of edges.now) }
-{
-    for place in 1..edges.len() {
-        if !is_below(&edges[place - 1], &edges[place]) {
-            return false;
-        }
-    }
-    true
-}
-
-/// The edges of a copy without marks, in the order of the automaton's.
-fn lifted_successors<'c, B: Allocator>(
-    alloc: &'c B,
-    sets: usize,
-    edges: &[GbaEdge],
-    level: usize,
-) -> Result<Vec<Successor<LevelState>, &'c B>, AllocError>
-    ensures { IfOk result (λ v. v.items ≡ map successor_of (map (lifted_edge sets level) (map gba.edge_of edges.now))) }
-{
-    let mut successors = Vec::with_capacity(alloc, edges.len())?;
-    for edge in edges {
-        successors.push(Successor {
-            cube: edge.cube,
-            key: LevelState {
-                state: edge.target,
-                level: next_level(sets, &edge.marks, level),
-            },
-            marks: RowSet::empty(),
-        })?;
-    }
-    Ok(successors)
-}
-
 /// The edges without marks.
 fn successors_of<'c, B: Allocator>(
     alloc: &'c B,
@@ -222,7 +174,7 @@ fn successors_of<'c, B: Allocator>(
     Ok(successors)
 }
 
-/// The edges of a copy without marks, sorted and distinct. Mostly they stand so.
+/// The edges of a copy without marks, sorted and distinct.
 fn level_successors<'c, B: Allocator>(
     alloc: &'c B,
     sets: usize,
@@ -231,39 +183,15 @@ fn level_successors<'c, B: Allocator>(
 ) -> Result<Vec<Successor<LevelState>, &'c B>, AllocError>
     ensures { IfOk result (λ v. v.items ≡ map successor_of (set_of levels_of.level_edge_cmp (map (lifted_edge sets level) (map gba.edge_of edges.now)))) }
 {
-    if rise_lifted(edges) {
-        return lifted_successors(alloc, sets, edges, level);
-    }
     let copied = level_edges(alloc, sets, edges, level)?;
     successors_of(alloc, copied.as_slice())
 }
 
-/// Lists on levels, by number.
-type Lists<'a, A> = Interner<'a, LevelState, A>;
-
-/// The number of a copy's list of edges in place of its state, and the level from which these climb. Copies that agree on this have the same
-/// edges.
-fn list_of<A: Allocator>(states: &SharedStates<'_, A>, copy: &LevelState) -> Option<LevelState>
-    ensures { IfSome result (IsListOf states.now copy.now) }
-{
-    if copy.state >= states.len() {
-        return None;
-    }
-    let last = copy.level == states.sets();
-    Some(LevelState {
-        state: states.list(copy.state),
-        level: if last { 0 } else { copy.level },
-    })
-}
-
-/// The copies of an automaton's states as things that are listed, for each list on a level the copy that was first asked for with it, and for each
-/// list how many edges it gives at least, once this was asked.
+/// The copies of an automaton's states as things that are listed, and for each list how many edges it gives at least, once this was asked.
 #[derive(Drop)]
 struct LevelStates<'b, 'g, 'a, A: Allocator> {
     automaton: &'b Gba<'g, A>,
     states: &'b SharedStates<'g, A>,
-    lists: Lists<'a, A>,
-    firsts: Vec<LevelState, &'a A>,
     counts: Vec<usize, &'a A>,
 }
 
@@ -276,23 +204,8 @@ impl<'b, 'g, 'a, A: Allocator> Successors<LevelState> for LevelStates<'b, 'g, 'a
         key.level == self.automaton.sets()
     }
 
-    /// The copy that was first asked for with this list. That it has the list is tested, so nothing has to hold of what is noted.
-    #[tactic(auto, using(crate::proofs::LevelStateLaws::same_successors))]
-    fn same_successors_as(&mut self, key: &LevelState) -> Result<Option<LevelState>, AllocError> {
-        let states = self.states;
-        let Some(list) = list_of(states, key) else {
-            return Ok(None);
-        };
-        let place = self.lists.number(list)?;
-        if place >= self.firsts.len() {
-            self.firsts.push(*key)?;
-            return Ok(None);
-        }
-        let first = self.firsts[place];
-        match list_of(states, &first) {
-            Some(other) if other == list => Ok(Some(first)),
-            _ => Ok(None),
-        }
+    fn same_successors_as(&mut self, _key: &LevelState) -> Result<Option<LevelState>, AllocError> {
+        Ok(None)
     }
 
     /// The lists are counted at the first call.
@@ -343,8 +256,6 @@ pub fn level_states<'a, A: Allocator>(
     let mut copies = LevelStates {
         automaton,
         states: automaton.states(),
-        lists: Interner::new(alloc),
-        firsts: Vec::new(alloc),
         counts: Vec::new(alloc),
     };
     let states = explore_from(alloc, start, 0, &mut copies, true, limits)?;

@@ -1,84 +1,39 @@
 //! Edges that others imply.
+//!
+//! An edge is implied by none but those with its target. So the edges are put into runs of one target, and of each run the least ones stay.
 
-ghost use Rattle.std.specs.Prelude.{◌≡◌, ◌<◌, ◌≤◌, length, map, All, IfOk, true};
+ghost use Rattle.std.specs.Prelude.{◌≡◌, ◌==◌, ◌<◌, ◌≤◌, ◌++◌, true, length, map, All, IfOk, OnOk};
+ghost use Rattle.std.specs.List.{prefix_len};
+ghost use Rattle.ltl_spec.specs.Collections.Sets.{IsRising};
+ghost use Rattle.ltl_spec.specs.Automata.Automaton.{edge_cmp};
 ghost use Rattle.ltl_spec.specs.Construction.Merging as merging;
 ghost use Rattle.ltl_automaton.specs.EdgeView.{edge_of};
-ghost use Rattle.ltl_passes.specs.IndexedEdge.{AreAsked, IsAsked, IsOfWeight, IsWeighedLike};
-ghost use Rattle.ltl_passes.specs.Chains.{AreLinks};
+ghost use Rattle.ltl_passes.specs.Runs.{AllLeadTo, IsByTarget, IsFirstLike, IsKept, IsOfWeight, IsWeighedLike, run_edge, target_of};
 
-use crate::chains::{linked, unimplied_of_few};
-use crate::lightest::without_lightest;
-use least::{Below, Counting, Lookup};
-use ltl_automaton::Edge;
-use ltl_models::elements::{LITERALS, count, has_literal, tally_literals};
-use ltl_sets::{Cube, RowSet};
-use smallvec::SmallVec;
+use least::{Below, Counting, least};
+use ltl_automaton::{Edge, sort_dedup};
+use ltl_models::elements::{has_literal, tally_literals};
+use ltl_sets::RowSet;
 use std::alloc::{AllocError, Allocator};
 
-/// So many edges with one target are looked at one by one where they don't ask for as much as one another.
-const FEW: usize = 32;
-
-/// An edge, with the ones and the zeros of its target's number, each as the bits of a word. What two edges have in common is such a thing too: it has
-/// those digits that both targets have, and the target of its edge plays no part.
+/// An edge among those with its target.
 #[derive(Clone, Copy)]
-struct IndexedEdge {
-    ones: usize,
-    zeros: usize,
+struct RunEdge {
     edge: Edge,
 }
 
-/// Edges with the digits of their targets. Most lists are short.
-type IndexedEdges<'a, A> = SmallVec<IndexedEdge, 4, &'a A>;
-
-impl Default for IndexedEdge {
-    fn default() -> IndexedEdge {
-        IndexedEdge {
-            ones: 0,
-            zeros: 0,
-            edge: Edge {
-                cube: Cube::empty(),
-                target: 0,
-                marks: RowSet::empty(),
-            },
-        }
-    }
-}
-
-impl IndexedEdge {
-    fn of(edge: &Edge) -> IndexedEdge
-        ensures asked { IsAsked result }
-        ensures edge { result.edge ≡ edge.now }
-    {
-        IndexedEdge {
-            ones: edge.target,
-            zeros: !edge.target,
-            edge: *edge,
-        }
-    }
-
-    /// Whether the target has a one at that place.
-    fn has_one(&self, place: usize) -> bool {
-        place < 64 && (self.ones >> (place % 64)) & 1 == 1
-    }
-}
-
-/// An edge is below those that it implies: it has the same target, asks for no more, and is in each set that the other one is in.
-impl Below for IndexedEdge {
-    ghost use Rattle.ltl_passes.specs.IndexedEdge.{is_below, below_transitive};
+/// An edge is below those with its target that it implies: it asks for no more, and is in each set that the other one is in.
+impl Below for RunEdge {
+    ghost use Rattle.ltl_passes.specs.Runs.{is_below, below_transitive};
 
     ghost below = { is_below };
 
-    fn is_below(&self, other: &IndexedEdge) -> bool {
-        self.ones | other.ones == other.ones
-            && self.zeros | other.zeros == other.zeros
-            && self.edge.cube.implies_of(&other.edge.cube)
-            && other.edge.marks.is_subset(&self.edge.marks)
+    fn is_below(&self, other: &RunEdge) -> bool {
+        self.edge.cube.implies_of(&other.edge.cube) && other.edge.marks.is_subset(&self.edge.marks)
     }
 
-    fn common(&self, other: &IndexedEdge) -> IndexedEdge {
-        IndexedEdge {
-            ones: self.ones & other.ones,
-            zeros: self.zeros & other.zeros,
+    fn common(&self, other: &RunEdge) -> RunEdge {
+        RunEdge {
             edge: Edge {
                 cube: self.edge.cube.common(&other.edge.cube),
                 target: self.edge.target,
@@ -88,21 +43,11 @@ impl Below for IndexedEdge {
     }
 
     fn has(&self, element: usize) -> bool {
-        if element < LITERALS {
-            has_literal(&self.edge.cube, element)
-        } else {
-            self.has_one(element - LITERALS)
-        }
+        has_literal(&self.edge.cube, element)
     }
 
     fn tally(&self, counts: &mut [u32]) {
         tally_literals(&self.edge.cube, counts);
-        let unused = self.ones.leading_zeros() as usize;
-        for place in 0..64usize.saturating_sub(unused) {
-            if self.has_one(place) {
-                count(counts, LITERALS + place);
-            }
-        }
     }
 
     ghost transitive = { below_transitive };
@@ -111,34 +56,46 @@ impl Below for IndexedEdge {
 /// Another edge counts.
 struct Differing;
 
-impl Counting<IndexedEdge> for Differing {
-    ghost use Rattle.ltl_passes.specs.IndexedEdge.{is_other};
+impl Counting<RunEdge> for Differing {
+    ghost use Rattle.ltl_passes.specs.Runs.{is_other};
 
     ghost counts = { λ _ k l. is_other k l };
 
-    #[tactic(auto, using(crate::proofs::AskedLaws::same_test))]
-    fn counts(&self, other: &IndexedEdge, item: &IndexedEdge) -> bool {
+    #[tactic(auto, using(crate::proofs::RunLaws::same_test))]
+    fn counts(&self, other: &RunEdge, item: &RunEdge) -> bool {
         !(other.edge == item.edge)
     }
 }
 
-/// The edges with the digits of their targets.
-fn ask_all<'a, A: Allocator>(
+/// The edges, those with one target one behind the other.
+fn by_target<'a, A: Allocator>(
     alloc: &'a A,
     edges: &[Edge],
-) -> Result<IndexedEdges<'a, A>, AllocError>
-    ensures { IfOk result (λ v. AreAsked (map edge_of edges.now) v.items) }
+) -> Result<Vec<RunEdge, &'a A>, AllocError>
+    ensures { IfOk result (λ v. IsByTarget (map edge_of edges.now) v.items) }
 {
-    let mut all: IndexedEdges<'a, A> = SmallVec::with_capacity(alloc, edges.len())?;
-    'edges: for edge in edges {
-        all.push(IndexedEdge::of(edge))?;
+    let mut order = Vec::with_capacity(alloc, edges.len())?;
+    for edge in edges {
+        order.push(RunEdge { edge: *edge })?;
     }
-    Ok(all)
+    order.sort_unstable_by_key(|item| item.edge.target);
+    Ok(order)
+}
+
+/// How many edges at the beginning lead to that target.
+fn run_len(order: &[RunEdge], target: usize) -> usize
+    ensures { result ≡ prefix_len (λ k. target_of k == target) order.now }
+{
+    let mut len = 0;
+    'run: while len < order.len() && order[len].edge.target == target {
+        len += 1;
+    }
+    len
 }
 
 /// How much an edge asks for: how many literals it has, and how many of as many sets as there may be it isn't in.
 #[inline(always)]
-pub(crate) fn weight(edge: &Edge) -> usize
+fn weight(edge: &Edge) -> usize
     ensures { IsOfWeight result (edge_of edge.now) }
 {
     edge.cube.invariant();
@@ -148,85 +105,120 @@ pub(crate) fn weight(edge: &Edge) -> usize
     literals + (RowSet::LIMIT - marks)
 }
 
-/// Whether the edge at a place asks for as much as the one at the other place, which is counted from 1, and 0 for none.
-fn weighs_like(edges: &[Edge], place: usize, link: usize) -> bool
-    requires place { place < length edges.now }
-    requires link { link ≤ place }
-    ensures { result ≡ true → IsWeighedLike edges.now place link }
+/// Whether each edge asks for as much.
+fn weigh_alike(run: &[RunEdge], asked: usize) -> bool
+    ensures { result ≡ true → All (λ k. IsOfWeight asked (run_edge k)) run.now }
 {
-    if link == 0 {
-        return true;
-    }
-    weight(&edges[place]) == weight(&edges[link - 1])
-}
-
-/// Whether each edge asks for as much as the latest one before it with its target, so that all with one target do.
-#[tactic(auto, using(crate::proofs::WeightLaws::alike_next))]
-fn weigh_alike(edges: &[Edge], links: &[usize]) -> bool
-    requires links { AreLinks edges.now links.now (length edges.now) }
-    ensures { result ≡ true → merging.unimplied_edges (map edge_of edges.now) ≡ map edge_of edges.now }
-{
-    for place in 0..edges.len() {
-        if !weighs_like(edges, place, links[place]) {
+    for item in run {
+        if weight(&item.edge) != asked {
             return false;
         }
     }
     true
 }
 
-/// The edges without those that another one with the same target implies, by one look for each among all of them.
-fn unimplied_of_many<'a, A: Allocator>(
+/// Puts the edges behind those that are kept.
+fn put_all<'a, A: Allocator>(run: &[RunEdge], kept: &mut Vec<Edge, &'a A>) -> Result<(), AllocError>
+    ensures { OnOk result (map edge_of kept.new.items ≡ map edge_of kept.old.items ++ map run_edge run.now) }
+{
+    for item in run {
+        kept.push(item.edge)?;
+    }
+    Ok(())
+}
+
+/// Puts the edges of a run that no other one of it implies. Where all ask for as much as the first one, these are all.
+fn put_least<'a, A: Allocator>(
+    alloc: &'a A,
+    run: &[RunEdge],
+    first: &RunEdge,
+    kept: &mut Vec<Edge, &'a A>,
+) -> Result<(), AllocError>
+    requires { AllLeadTo (target_of first.now) run.now }
+    ensures { OnOk result (map edge_of kept.new.items ≡ map edge_of kept.old.items ++ merging.unimplied_edges (map run_edge run.now)) }
+{
+    if weigh_alike(run, weight(&first.edge)) {
+        return put_all(run, kept);
+    }
+    let left = least(alloc, &Differing, run)?;
+    put_all(left.as_slice(), kept)
+}
+
+/// The noted place if an edge with the target of the one at a place stands there before it, else this place.
+#[inline(always)]
+fn first_like(edges: &[Edge], place: usize, noted: usize) -> usize
+    requires { place < length edges.now }
+    ensures { IsFirstLike edges.now place noted result }
+{
+    if noted < place && edges[noted].target == edges[place].target {
+        return noted;
+    }
+    place
+}
+
+/// Whether the edge at the first place is the one at the other place, or asks for as much.
+fn weighs_like(edges: &[Edge], first: usize, place: usize) -> bool
+    requires place { place < length edges.now }
+    requires first { first ≤ place }
+    ensures { result ≡ true → IsWeighedLike edges.now first place }
+{
+    first == place || weight(&edges[first]) == weight(&edges[place])
+}
+
+/// Whether edges with one target ask for as much, so that none is implied. For each target the place of an edge is noted. What is noted at first plays no part.
+fn are_alike(edges: &[Edge], noted: &mut [usize]) -> bool
+    requires within { All (λ e. e.target < length noted.old) edges.now }
+    ensures wide { length noted.new ≡ length noted.old }
+    ensures alike { result ≡ true → merging.unimplied_edges (map edge_of edges.now) ≡ map edge_of edges.now }
+{
+    for place in 0..edges.len() {
+        let target = edges[place].target;
+        let first = first_like(edges, place, noted[target]);
+        if !weighs_like(edges, first, place) {
+            return false;
+        }
+        noted[target] = first;
+    }
+    true
+}
+
+/// The edges of all runs that no other one implies, run by run.
+#[tactic(auto, using(crate::proofs::RunLaws::first_run, crate::proofs::RunLaws::last_run))]
+fn least_of_runs<'a, A: Allocator>(
     alloc: &'a A,
     edges: &[Edge],
 ) -> Result<Vec<Edge, &'a A>, AllocError>
-    ensures { IfOk result (λ es. map edge_of es.items ≡ merging.unimplied_edges (map edge_of edges.now)) }
+    ensures { IfOk result (λ es. IsKept (map edge_of edges.now) es.items) }
 {
-    let asked = ask_all(alloc, edges)?;
-    let lookup = Lookup::new(alloc, asked.as_slice())?;
-    let mut kept = Vec::with_capacity(alloc, edges.len())?;
-    for edge in edges {
-        if !lookup.has_lesser(&Differing, &IndexedEdge::of(edge)) {
-            kept.push(*edge)?;
-        }
+    let order = by_target(alloc, edges)?;
+    let mut kept = Vec::new(alloc);
+    let mut rest = order.as_slice();
+    'runs: while let Some((first, _)) = rest.split_first() {
+        let (run, others) = rest.split_at(run_len(rest, first.edge.target));
+        put_least(alloc, run, first, &mut kept)?;
+        rest = others;
     }
-    if kept.len() == edges.len() {
-        return Ok(kept);
-    }
-    let exact = Vec::from_slice(alloc, kept.as_slice())?;
-    Ok(exact)
+    Ok(kept)
 }
 
-/// Whether it is found of each edge that no other one implies it. The heads are room for the latest edge to each target.
-pub(crate) fn are_found_unimplied<'a, A: Allocator>(
-    alloc: &'a A,
-    edges: &[Edge],
-    heads: &mut [usize],
-) -> Result<bool, AllocError>
-    requires within { All (λ e. e.target < length heads.old) edges.now }
-    ensures wide { length heads.new ≡ length heads.old }
-    ensures found { IfOk result (λ b. b ≡ true → merging.unimplied_edges (map edge_of edges.now) ≡ map edge_of edges.now) }
-{
-    let links = linked(alloc, edges, heads)?;
-    Ok(weigh_alike(edges, links.as_slice()))
-}
-
-/// The edges without those that another one with the same target implies. The heads are room for the latest edge to each target.
+/// The edges without those that another one with the same target implies. Each target has room for the place of an edge.
 pub(crate) fn unimplied<'a, A: Allocator>(
     alloc: &'a A,
     edges: Vec<Edge, &'a A>,
-    heads: &mut [usize],
+    noted: &mut [usize],
 ) -> Result<Vec<Edge, &'a A>, AllocError>
-    requires within { All (λ e. e.target < length heads.old) edges.items }
-    ensures wide { length heads.new ≡ length heads.old }
+    requires rising { IsRising edge_cmp (map edge_of edges.items) }
+    requires within { All (λ e. e.target < length noted.old) edges.items }
+    ensures wide { length noted.new ≡ length noted.old }
     ensures edges { IfOk result (λ es. map edge_of es.items ≡ merging.unimplied_edges (map edge_of edges.entry.items)) }
 {
-    let links = linked(alloc, edges.as_slice(), heads)?;
-    if weigh_alike(edges.as_slice(), links.as_slice()) {
+    if are_alike(edges.as_slice(), noted) {
         return Ok(edges);
     }
-    if let Some(kept) = unimplied_of_few(alloc, edges.as_slice(), heads, links.as_slice(), FEW)? {
-        return Ok(kept);
+    let mut kept = least_of_runs(alloc, edges.as_slice())?;
+    if kept.len() == edges.len() {
+        return Ok(edges);
     }
-    let left = without_lightest(alloc, edges.as_slice(), heads)?;
-    unimplied_of_many(alloc, left.as_slice())
+    sort_dedup(&mut kept);
+    Ok(kept)
 }

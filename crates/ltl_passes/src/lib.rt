@@ -5,12 +5,13 @@
 //! automaton to automaton that knows no formula.
 //!
 //! What flows: a `Gba`, merged; its copies on levels, whose accepting states are those of the last level; merged again and numbered: a `Ba`. A `Gba`
-//! that is numbered without levels is a `Gen`. Behind `merge`, `levels` and `renumber` stand the same passes over states that no `Ba` holds yet
-//! (`smaller_states`, `level_states`, `numbered_states`), and those that hand on what they leave as it is.
-//! An automaton that merging leaves as it is (`own_quotient`) is handed on without a copy (`smaller`), and so is one that is numbered as it
-//! stands (`listed`). Where names tell all targets apart (`injective`), merging is done. Implied edges are sought where edges with one target
-//! differ in weight, along chains of these (`chains`), and by an index where chains are long (`implied`); where it is sure that there are none
-//! (`marks_follow_target`, `irredundant`), they are not sought.
+//! that is numbered without levels is a `Gen`. Behind `levels`, `merge_ba` and `renumber` stand the same passes over states that no `Ba` holds yet
+//! (`level_states`, `merged_states`, `renumbered_states`), of which the translation is composed. A `Ba` knows the order of its edges by target, which
+//! is needed once, at the end.
+//!
+//! Each round of merging compares all lists of edges, up to the classes of their targets. Where the edges of all lists rise (`rising`), the first round
+//! compares the lists' numbers in place of the lists. A list is searched for implied edges if two of its edges with one target ask for differently
+//! much; then its edges are sorted by target, and of each run of one target the least ones stay (`implied`).
 //!
 //! The generalized automaton of `[]<>p` has, merged, one state, with `[t]` in no set and `[p]` in set 0. On levels it has two copies with one list:
 //!
@@ -20,25 +21,16 @@
 //! ```
 #![tactic(auto)]
 
-mod chains;
 mod degeneralize;
 mod implied;
-mod injective;
-mod irredundant;
-mod lightest;
-mod listed;
-mod marks_follow_target;
 pub mod merging;
 pub mod numbering;
-mod own_quotient;
 mod partition;
 mod quotient;
 mod retargeting;
 mod rises;
-mod smaller;
+mod rising;
 
 pub use degeneralize::{level_states, levels};
-pub use marks_follow_target::are_copies_irredundant;
-pub use merging::{merge, merge_ba};
-pub use numbering::{numbered_states, renumber, renumber_generalized};
-pub use smaller::{smaller_gba, smaller_states};
+pub use merging::{merge, merge_ba, merged_states};
+pub use numbering::{renumber, renumber_generalized, renumbered_states};

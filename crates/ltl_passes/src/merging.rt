@@ -1,38 +1,31 @@
 //! Merging: states that are equal up to the classes of their targets become one.
 
-ghost use Rattle.std.specs.Prelude.{◌≡◌, if◌then◌else◌, true, length, map, All, IfOk, IfErr};
-ghost use Rattle.ltl_spec.specs.Collections.Sets.{IsRising};
-ghost use Rattle.ltl_spec.specs.Automata.Automaton.{edge_cmp};
+ghost use Rattle.std.specs.Prelude.{◌≡◌, if◌then◌else◌, length, IfOk, IfErr};
 ghost use Rattle.ltl_spec.specs.Construction.Merging as merging;
 ghost use Rattle.ltl_spec.specs.Construction.Merging.{merged_automaton};
-ghost use Rattle.ltl_spec.specs.Construction.ImpliedEdges.{IsSetEdge};
-ghost use Rattle.ltl_automaton.specs.EdgeView.{edge_of};
 ghost use Rattle.ltl_automaton.specs.SharedView.{automaton_of};
 ghost use Rattle.ltl_models.specs.BaView.{IsBa};
 ghost use Rattle.ltl_passes.specs.Partition.{IsWithinStates};
 
-use crate::own_quotient::all_rise;
 use crate::partition::{class_names, own_names};
 use crate::quotient::quotient;
-use ltl_automaton::{Edge, SharedStates};
+use ltl_automaton::SharedStates;
 use ltl_models::{Ba, BaFault, Gba, Options};
 use std::alloc::{AllocError, Allocator};
 
 /// The names of the classes that are merged: each state alone where equal states are kept.
-pub(crate) fn names<'a, A: Allocator>(
+fn names<'a, A: Allocator>(
     alloc: &'a A,
     states: &SharedStates<'_, A>,
     keep_equal: bool,
-    rise: bool,
 ) -> Result<Vec<usize, &'a A>, AllocError>
     requires within { IsWithinStates (automaton_of states.now).states }
-    requires rise { rise ≡ true → All (λ es. IsRising edge_cmp es) states.now.lists }
     ensures { IfOk result (λ v. v.items ≡ merging.class_names (automaton_of states.now) (if keep_equal then 0 else length (automaton_of states.now).states)) }
 {
     if keep_equal {
         return own_names(alloc, states.len());
     }
-    class_names(alloc, states, rise)
+    class_names(alloc, states)
 }
 
 /// The automaton after merging, of either kind.
@@ -44,18 +37,8 @@ fn merged<'a, A: Allocator>(
     requires within { IsWithinStates (automaton_of states.now).states }
     ensures { IfOk result (λ m. automaton_of m ≡ merged_automaton options.now.keep_implied options.now.keep_equal (automaton_of states.now)) }
 {
-    let names = names(alloc, states, options.keep_equal, all_rise(states))?;
+    let names = names(alloc, states, options.keep_equal)?;
     quotient(alloc, states, names.as_slice(), options.keep_implied)
-}
-
-/// Hands to callers that the literals and the marks of each edge are sets.
-pub(crate) fn are_sets(edges: &[Edge])
-    ensures { All IsSetEdge (map edge_of edges.now) }
-{
-    for edge in edges {
-        edge.cube.invariant();
-        edge.marks.invariant();
-    }
 }
 
 /// The automaton with equal states merged and the transitions left out that another one with the same target implies, as the options ask.
@@ -75,7 +58,7 @@ pub fn merge<'a, A: Allocator>(
 
 /// The states of the automaton with equal ones merged and the edges left out that another one with the same target implies, as the options
 /// ask. Only want of memory is refused.
-pub(crate) fn merged_states<'a, A: Allocator>(
+pub fn merged_states<'a, A: Allocator>(
     alloc: &'a A,
     states: &SharedStates<'_, A>,
     options: &Options,

@@ -1,6 +1,6 @@
 //! Numbering breadth first.
 
-ghost use Rattle.std.specs.Prelude.{◌≡◌, length, map, All, IfOk, IsErrOf};
+ghost use Rattle.std.specs.Prelude.{◌≡◌, ⊤, map, All, IfOk, IsErrOf};
 ghost use Rattle.ltl_spec.specs.Collections.Sets.{IsRising};
 ghost use Rattle.ltl_spec.specs.Automata.Automaton.{edge_cmp};
 ghost use Rattle.ltl_spec.specs.Construction.Renumbered.{renumbered_automaton};
@@ -9,18 +9,16 @@ ghost use Rattle.ltl_automaton.specs.SharedView.{automaton_of};
 ghost use Rattle.ltl_models.specs.BaView.{IsBa};
 ghost use Rattle.ltl_passes.specs.Numbered.{IsNumberable, successor_of, net_of};
 
-use crate::listed::are_listed;
 use ltl_automaton::{
     AutomatonFault, Edge, Limits, SharedStates, Successor, Successors, explore_from,
 };
 use ltl_models::{Ba, BaFault, Gba, Gen, MOST_EDGES, MOST_STATES};
 use std::alloc::{AllocError, Allocator};
 
-/// The states of an automaton as things that are listed, and for each list of edges a state: the first that was asked for with it.
+/// The states of an automaton as things that are listed.
 #[derive(Drop)]
-struct Numbers<'b, 's, 'a, A: Allocator> {
+struct Numbers<'b, 's, A: Allocator> {
     states: &'b SharedStates<'s, A>,
-    firsts: Vec<usize, &'a A>,
 }
 
 /// The edges by the numbers of their targets.
@@ -41,10 +39,10 @@ fn successors_of<'c, B: Allocator>(
     Ok(successors)
 }
 
-impl<'b, 's, 'a, A: Allocator> Successors<usize> for Numbers<'b, 's, 'a, A> {
+impl<'b, 's, A: Allocator> Successors<usize> for Numbers<'b, 's, A> {
     ghost net = { λ n. net_of (automaton_of n.states.now) };
 
-    ghost ready = { λ n. length n.firsts.items ≡ length n.states.now.lists };
+    ghost ready = { λ _. ⊤ };
 
     #[tactic(auto, using(crate::proofs::RenumberLaws::accepts_past))]
     fn accepting(&self, key: &usize) -> bool {
@@ -55,19 +53,7 @@ impl<'b, 's, 'a, A: Allocator> Successors<usize> for Numbers<'b, 's, 'a, A> {
         }
     }
 
-    /// The state that was first asked for with this list. That it has the list is tested, since 0 stands where none was asked for.
-    #[tactic(auto, using(crate::proofs::RenumberLaws::same_successors))]
-    fn same_successors_as(&mut self, key: &usize) -> Result<Option<usize>, AllocError> {
-        let states = self.states;
-        if *key >= states.len() {
-            return Ok(None);
-        }
-        let list = states.list(*key);
-        let first = self.firsts[list];
-        if first < states.len() && states.list(first) == list {
-            return Ok(Some(first));
-        }
-        self.firsts[list] = *key;
+    fn same_successors_as(&mut self, _key: &usize) -> Result<Option<usize>, AllocError> {
         Ok(None)
     }
 
@@ -100,9 +86,7 @@ fn renumbered<'a, A: Allocator>(
     ensures renumbered { IfOk result (λ s. automaton_of s ≡ renumbered_automaton (automaton_of states.now)) }
     ensures fits { ¬ IsErrOf result BaFault.TooLarge }
 {
-    let mut firsts = Vec::new(alloc);
-    firsts.resize(states.list_count(), 0)?;
-    let mut numbers = Numbers { states, firsts };
+    let mut numbers = Numbers { states };
     let limits = Limits {
         states: MOST_STATES,
         edges: MOST_EDGES,
@@ -111,7 +95,7 @@ fn renumbered<'a, A: Allocator>(
 }
 
 /// The states of the same automaton, numbered breadth first.
-pub(crate) fn renumbered_states<'a, A: Allocator>(
+pub fn renumbered_states<'a, A: Allocator>(
     alloc: &'a A,
     states: &SharedStates<'_, A>,
 ) -> Result<SharedStates<'a, A>, BaFault>
@@ -122,22 +106,6 @@ pub(crate) fn renumbered_states<'a, A: Allocator>(
 {
     let numbered = renumbered(alloc, states)?;
     Ok(numbered)
-}
-
-/// The states numbered breadth first, as they are where they are found to stand in that order.
-pub fn numbered_states<'a, A: Allocator>(
-    alloc: &'a A,
-    states: SharedStates<'a, A>,
-) -> Result<SharedStates<'a, A>, BaFault>
-    requires inside { IsBa (automaton_of states) }
-    ensures renumbered { IfOk result (λ s. automaton_of s ≡ renumbered_automaton (automaton_of states.entry)) }
-    ensures inside { IfOk result (λ s. IsBa (automaton_of s)) }
-    ensures fits { ¬ IsErrOf result BaFault.TooLarge }
-{
-    if are_listed(&states) {
-        return Ok(states);
-    }
-    renumbered_states(alloc, &states)
 }
 
 /// The same automaton with its states numbered breadth first.

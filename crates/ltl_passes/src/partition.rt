@@ -1,18 +1,16 @@
 //! The classes of states that are merged.
 
-ghost use Rattle.std.specs.Prelude.{◌≡◌, ◌<◌, true, List, ◌++◌, length, map, slice_get, slice_index, Some, All, IfOk, OnOk};
+ghost use Rattle.std.specs.Prelude.{◌≡◌, ◌<◌, List, ◌++◌, length, map, slice_get, slice_index, Some, All, IfOk, OnOk};
 ghost use Rattle.std.specs.List.{range_with_len};
 ghost use Rattle.ltl_spec.specs.Collections.Lists.{HasNoRepeats};
-ghost use Rattle.ltl_spec.specs.Collections.Sets.{IsRising};
 ghost use Rattle.ltl_spec.specs.Automata.Automaton as spec;
-ghost use Rattle.ltl_spec.specs.Automata.Automaton.{edge_cmp};
 ghost use Rattle.ltl_spec.specs.Construction.Merging as merging;
 ghost use Rattle.ltl_automaton.specs.EdgeView.{edge_of};
 ghost use Rattle.ltl_automaton.specs.SharedView.{automaton_of};
 ghost use Rattle.ltl_passes.specs.Partition.{AreListsWithin, AreSignatures, IsFirstPlaces, IsLeastAlike, IsLeastPlaces, IsWithinStates, place_signature, list_view};
 
-use crate::injective::are_injective;
 use crate::retargeting::retargeted;
+use crate::rising::all_rise;
 use ltl_automaton::{Edge, EdgeList, Interner, SharedState, SharedStates};
 use std::alloc::{AllocError, Allocator};
 
@@ -180,30 +178,23 @@ fn refined<'a, A: Allocator>(
 }
 
 /// The name of each state's class, its least state. Two states are of one class where both or neither is accepting and their edges are equal
-/// up to the classes of the targets. Where the edges rise, other lists are other sets of edges, and the first round needs no look at them; and it
-/// is the last one where its names tell all targets apart.
+/// up to the classes of the targets. Where the edges rise, other lists are other sets of edges, and the first round needs no look at them.
 pub(crate) fn class_names<'a, A: Allocator>(
     alloc: &'a A,
     states: &SharedStates<'_, A>,
-    rise: bool,
 ) -> Result<Vec<usize, &'a A>, AllocError>
     requires within { IsWithinStates (automaton_of states.now).states }
-    requires rise { rise ≡ true → All (λ es. IsRising edge_cmp es) states.now.lists }
     ensures { IfOk result (λ v. v.items ≡ merging.class_names (automaton_of states.now) (length (automaton_of states.now).states)) }
 {
     states.invariant();
     let names = own_names(alloc, states.len())?;
-    if !rise {
+    if !all_rise(states) {
         return refined(alloc, states, names, 0);
     }
     let signatures = own_names(alloc, states.list_count())?;
     let next = least_alike(alloc, states, signatures.as_slice())?;
     if next.as_slice() == names.as_slice() {
         return Ok(names);
-    }
-    let injective = are_injective(alloc, states, next.as_slice())?;
-    if injective {
-        return Ok(next);
     }
     refined(alloc, states, next, 1)
 }

@@ -6,7 +6,6 @@ ghost use Rattle.ltl_automaton.specs.EdgeView.{edge_of};
 ghost use Rattle.ltl_automaton.specs.SharedView.{automaton_of};
 ghost use Rattle.ltl_passes.specs.Partition.{AreNames, IsNumbering, IsWithinStates, retargeted_list, thinned};
 
-use crate::chains::Heads;
 use crate::implied::unimplied;
 use crate::retargeting::retargeted;
 use ltl_automaton::{Edge, SharedStates};
@@ -43,24 +42,27 @@ fn number_classes<'a, A: Allocator>(
     Ok(Numbering { classes, numbers })
 }
 
-/// The edges of a class, from those of the state that names it. The heads are room for the latest edge to each class.
+/// The place of an edge for each class. Small automata have few.
+type Places<'a, A> = SmallVec<usize, 8, &'a A>;
+
+/// The edges of a class, from those of the state that names it. Each class has room for the place of an edge.
 fn class_edges<'a, A: Allocator>(
     alloc: &'a A,
     edges: &[Edge],
     numbers: &[usize],
     keep_implied: bool,
-    heads: &mut [usize],
+    noted: &mut [usize],
 ) -> Result<Vec<Edge, &'a A>, AllocError>
     requires within { All (λ e. e.target < length numbers.now) edges.now }
-    requires heads { All (λ n. n < length heads.old) numbers.now }
-    ensures wide { length heads.new ≡ length heads.old }
+    requires noted { All (λ n. n < length noted.old) numbers.now }
+    ensures wide { length noted.new ≡ length noted.old }
     ensures edges { IfOk result (λ es. map edge_of es.items ≡ thinned keep_implied (retargeted_list (slice_index numbers.now) (map edge_of edges.now))) }
 {
     let made = retargeted(alloc, edges, numbers)?;
     if keep_implied {
         return Ok(made);
     }
-    unimplied(alloc, made, heads)
+    unimplied(alloc, made, noted)
 }
 
 /// The automaton of the classes, in the order of the classes' names.
@@ -77,8 +79,8 @@ pub(crate) fn quotient<'a, A: Allocator>(
 {
     let numbering = number_classes(alloc, names)?;
     let mut made = SharedStates::new(alloc, states.sets());
-    let mut heads: Heads<'a, A> = SmallVec::new(alloc);
-    heads.resize(names.len(), 0)?;
+    let mut noted: Places<'a, A> = SmallVec::new(alloc);
+    noted.resize(names.len(), 0)?;
     for class in numbering.classes.as_slice() {
         let numbers = numbering.numbers.as_slice();
         let edges = class_edges(
@@ -86,7 +88,7 @@ pub(crate) fn quotient<'a, A: Allocator>(
             states.edges(*class),
             numbers,
             keep_implied,
-            heads.as_mut_slice(),
+            noted.as_mut_slice(),
         )?;
         made.push(states.accepting(*class), edges)?;
     }

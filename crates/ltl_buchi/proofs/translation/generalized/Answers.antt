@@ -14,7 +14,7 @@ use Rattle.ltl_spec.specs.Semantics.Language.{HasLanguageOf, AcceptsModels, Acce
 use Rattle.ltl_spec.proofs.Semantics.LanguageLaws.{generalized_language, generalized_models, generalized_violations}
 use Rattle.ltl_formula.specs.TableView.{core_of}
 use Rattle.ltl_passes.proofs.MergedLaws.{merged_rising}
-use Rattle.ltl_buchi.proofs.TranslationLaws.{numbered, reached_irredundant, generalized_named}
+use Rattle.ltl_buchi.proofs.TranslationLaws.{numbered, generalized_named}
 use Rattle.ltl_buchi.proofs.translation.generalized.Goals as goal
 
 pub renumber_generalized-requires : goal.renumber_generalized-requires
@@ -55,6 +55,3 @@ returns-clause-violations g c =
 
 pub returns-clause-named : goal.returns-clause-named
 returns-clause-named g c = generalized_named (core_of c.args.table.now) c.args.options.now c.renumber_generalized.result (returns-clause-definition g c)
-
-pub smaller_gba-requires : goal.smaller_gba-requires
-smaller_gba-requires g c = record { irredundant = λ goes. reached_irredundant (core_of c.args.table.now) c.options.inside.keep_implied c.args.options.now.keep_implied _ (ap (λ o. o.keep_implied) c.options.view_is) c.in_ok-reached.ensures.generalized goes }

@@ -3,7 +3,7 @@ use Rattle.ltl_spec.specs.Automata.Automaton.{Automaton}
 use Rattle.ltl_spec.specs.Tools.Limits.{stated_limits}
 use Rattle.ltl_formula.specs.TableView.{core_of}
 use Rattle.ltl_automaton.specs.declared.fault.AutomatonFault.{AutomatonFault}
-use Rattle.ltl_buchi.proofs.TranslationLaws.{reached_irredundant, copies_irredundant, translated, fitting, copies_too_large, language, models, violations, named}
+use Rattle.ltl_buchi.proofs.TranslationLaws.{translated, fitting, copies_too_large, language, models, violations, named}
 use Rattle.ltl_buchi.proofs.translation.translate.Goals as goal
 
 pub returns-in_err-copies-clause-large : goal.returns-in_err-copies-clause-large
@@ -42,11 +42,3 @@ pub returns-clause-named : goal.returns-clause-named
 returns-clause-named g c =
     let made : Result Automaton AutomatonFault = Ok c.in_ok-new.field-0 in
     named (core_of c.args.table.now) c.args.options.now made (returns-clause-definition g c)
-
-pub smaller_gba-requires : goal.smaller_gba-requires
-smaller_gba-requires g c = record { irredundant = λ goes. reached_irredundant (core_of c.args.table.now) c.options.inside.keep_implied c.args.options.now.keep_implied _ (ap (λ o. o.keep_implied) c.options.view_is) c.in_ok-generalized.ensures.generalized goes }
-
-pub smaller_states-requires-clause-irredundant : goal.smaller_states-requires-clause-irredundant
-smaller_states-requires-clause-irredundant g c = λ sure.
-    copies_irredundant (core_of c.args.table.now) c.args.options.now c.options.inside.keep_implied (ap (λ o. o.keep_implied) c.options.view_is) _ _ c.in_ok-generalized.ensures.generalized c.in_ok-small.ensures.merged
-    c.in_ok-irredundant.irredundant c.in_ok-irredundant.ensures.agreed c.in_ok-irredundant.ensures.go sure _ c.in_ok-copies.ensures.copies

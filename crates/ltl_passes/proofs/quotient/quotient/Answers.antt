@@ -31,12 +31,12 @@ class_edges-requires g c =
     let count : length c.as_slice-numbers.result.now ≡ length A.states =
     ap length c.as_slice-numbers.ensures.value ∙ ap length c.in_ok-numbering.ensures.numbered ∙ length-map c.args.names.now (number_in c.in_ok-numbering.numbering.classes.items) ∙ c.requires.long in
     let wide = c.loop-class.invariant.wide in
-    let numbers : All (λ k. k < length c.loop-class.heads.items) c.as_slice-numbers.result.now =
-    subst (All (λ k. k < length c.loop-class.heads.items)) (sym c.as_slice-numbers.ensures.value)
+    let numbers : All (λ k. k < length c.loop-class.noted.items) c.as_slice-numbers.result.now =
+    subst (All (λ k. k < length c.loop-class.noted.items)) (sym c.as_slice-numbers.ensures.value)
     (subst (λ n. All (λ k. k < n) c.in_ok-numbering.numbering.numbers.items) (sym wide) (numbers_within c.args.names.now c.in_ok-numbering.numbering.classes.items c.in_ok-numbering.numbering.numbers.items c.in_ok-numbering.ensures)) in
     record {
       within = subst (λ m. All (λ (e : code.Edge). e.target < m) c.edges.result.now) (sym count) (seen_within edge_of A (λ (e : Edge). e.target < length A.states) class c.edges.result.now c.edges.ensures c.requires.within);
-      heads = subst (λ (hs : List ℕ). All (λ k. k < length hs) c.as_slice-numbers.result.now) (sym c.as_mut_slice.ensures.value) numbers;
+      noted = subst (λ (hs : List ℕ). All (λ k. k < length hs) c.as_slice-numbers.result.now) (sym c.as_mut_slice.ensures.value) numbers;
     }
 
 pub accepting-requires : goal.accepting-requires
@@ -63,5 +63,5 @@ loop-class-preserved g c =
     record {
       made = class_pushed (automaton_of c.loop-class.made) (automaton_of c.push.new.self) A.sets h (take c.loop-class.class-index items) _ class c.accepting.result (map edge_of c.in_ok-edges.edges.items) c.loop-class.invariant.made c.in_ok-push.ensures.ok same
           (took items c.loop-class.class-index class c.loop-class-test.true (index_own items c.loop-class.class-index 0 c.loop-class-test.true));
-      wide = sym (length_refill (length c.loop-class.heads.items) c.loop-class.heads.items c.class_edges.new.heads refl) ∙ c.loop-class.invariant.wide;
+      wide = sym (length_refill (length c.loop-class.noted.items) c.loop-class.noted.items c.class_edges.new.noted refl) ∙ c.loop-class.invariant.wide;
     }

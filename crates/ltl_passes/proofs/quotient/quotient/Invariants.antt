@@ -14,5 +14,5 @@ invariant-loop-class g l = record {
     sets = (automaton_of l.states).sets;
     states = map (λ c. without_implied l.keep_implied (retargeted_state (λ s. number_in (set_of nat_cmp l.names) (slice_index l.names s)) (state_at (automaton_of l.states) c))) (take l.class-index l.class-items);
   };
-  wide : length l.heads.items ≡ length l.names;
+  wide : length l.noted.items ≡ length l.names;
 }

@@ -1,0 +1,474 @@
+-- Edges that others imply, found by runs of one target.
+use Rattle.std.proofs.Common.{◌≡◌, ℕ, zero, suc, ◌+◌, ◌<◌, ◌≤◌, ◌⊎◌, inl, inr, Bool, true, false, not, ◌&&◌, ◌||◌, cond, List, [], ◌∷◌, ◌++◌, map, length, take, drop, refl, sym, ◌∙◌, ap, subst, arith}
+use Rattle.std.specs.Prelude.{◌==◌, slice_index, slice_index_or, slice_set, All}
+use Rattle.std.specs.List.{list_any, filter, prefix_len}
+use Rattle.std.specs.List.Sorted.{IsPermutation, IsNonDecreasingBy}
+use Rattle.std.specs.Ordering.{nat_cmp}
+use Rattle.std.proofs.lemmas.Bool.Decides.{same_from_decides}
+use Rattle.std.proofs.lemmas.List.{append-nil, append_assoc, length-drop, length-map, map-append, take-append-drop, get_or-set_same, get_or-set_other}
+use Rattle.std.proofs.lemmas.List.Elements.{filter-append}
+use Rattle.std.proofs.lemmas.List.Sums.{prefix_len_is}
+use Rattle.std.proofs.lemmas.List.Sorted.{Contains-permutation, IsPermutation-sym, IsNonDecreasingBy-drop, IsPermutation-map, length_permutation}
+use Rattle.ltl_spec.specs.Collections.Sets.{Has, IsRising, union, has, is_subset, set_of}
+use Rattle.ltl_spec.specs.Transitions.Cubes.{literal_cmp}
+use Rattle.ltl_spec.specs.Automata.Automaton.{Edge, edge_cmp}
+use Rattle.ltl_spec.specs.Construction.Merging.{same_edge, unimplied_edges}
+use Rattle.ltl_spec.proofs.Collections.CaseLaws.{below_equal_above, false_is_true, left_true, nat_eq_is, nat_eq_other, nat_eq_same, right_true}
+use Rattle.ltl_spec.proofs.Collections.ListLaws.{All-at_has, All-from_has, Contains-from_has, Has-from_contains}
+use Rattle.ltl_spec.proofs.Collections.MemberLaws.{Has-map, any_cases, any_true, filter_all, map_cases}
+use Rattle.ltl_spec.proofs.Collections.Orders.{edge_linear, literal_linear, nat_linear}
+use Rattle.ltl_spec.proofs.Collections.SetLaws.{Has-filter, Has-set_of, IsRising-filter, IsRising-set_of, append_cases, append_left, append_right, common_first, common_second, filter_cases, same_members, set_of_cases, union_first, union_second}
+use Rattle.ltl_spec.proofs.Construction.ImpliedEdges.{implies_edge_Decides, implies_other}
+use Rattle.ltl_spec.proofs.Construction.RoundLaws.{same_edge_Decides}
+use Rattle.ltl_spec.proofs.Transitions.TransitionLaws.{subset_length}
+use Rattle.ltl_spec.proofs.Transitions.UnimpliedLaws.{not_cases, not_from}
+use Rattle.ltl_automaton.specs.EdgeView.{edge_of}
+use Rattle.ltl_automaton.specs.declared.edge.Edge as plain
+use Rattle.ltl_automaton.proofs.EdgeLaws.{same_code, edge_Decides, edge_exact, map_pushed}
+use Rattle.ltl_passes.specs.declared.implied.RunEdge as made
+use Rattle.ltl_passes.specs.Runs.{AllLeadTo, IsByTarget, IsFirstLike, IsKept, IsOfWeight, IsWeighedLike, edge_at, is_below, is_other, run_edge, target_at, target_of}
+
+-- ---- the calls
+
+pub same_test : (e f : plain.Edge) → same_code e f ≡ same_edge (edge_of e) (edge_of f)
+same_test e f =
+    same_from_decides (same_code e f) (same_edge (edge_of e) (edge_of f)) (edge_Decides e f)
+    ((λ t. edge_exact e f ((same_edge_Decides (edge_of e) (edge_of f)).0 t)), λ i. (same_edge_Decides (edge_of e) (edge_of f)).1 (ap edge_of i))
+
+module _ (c k l : made.RunEdge) (cube : c.edge.cube ≡ filter (λ x. has literal_cmp x l.edge.cube) k.edge.cube) (marks : c.edge.marks ≡ union nat_cmp k.edge.marks l.edge.marks) where
+  both : (a b : Bool) → a ≡ true → b ≡ true → (a && b) ≡ true
+  both a b e f = ap (λ x. x && b) e ∙ f
+
+  pub common_first_below : is_below c k ≡ true
+  common_first_below =
+      both _ _ (ap (λ x. is_subset literal_cmp x k.edge.cube) cube ∙ common_first literal_linear k.edge.cube l.edge.cube)
+      (ap (is_subset nat_cmp k.edge.marks) marks ∙ union_first nat_linear k.edge.marks l.edge.marks)
+
+  pub common_second_below : is_below c l ≡ true
+  common_second_below =
+      both _ _ (ap (λ x. is_subset literal_cmp x l.edge.cube) cube ∙ common_second literal_linear k.edge.cube l.edge.cube)
+      (ap (is_subset nat_cmp l.edge.marks) marks ∙ union_second nat_linear k.edge.marks l.edge.marks)
+
+-- ---- one run
+
+-- what is left where no other edge implies it
+abbrev stays : List Edge → Edge → Bool
+stays es e = not (list_any (λ f. implies_other f e) es)
+
+-- two that ask for as much don't imply each other
+not_above : (w : ℕ) (f e : Edge) → IsOfWeight w f → IsOfWeight w e → implies_other f e ≡ true → ⊥
+not_above w f e v u t =
+    let c = (implies_edge_Decides f e).0 (right_true (not (same_edge f e)) _ t) in
+    let cubes = subset_length literal_linear f.cube e.cube v.sets.cube u.sets.cube c.cube in
+    let marks = subset_length nat_linear e.marks f.marks u.sets.marks v.sets.marks c.marks in
+    let p = cubes.1 (omega (arith, cubes.0, marks.0, v.weight, u.weight, v.few, u.few)) in
+    let m = marks.1 (omega (arith, cubes.0, marks.0, v.weight, u.weight, v.few, u.few)) in
+    let equal : f ≡ e = λ i. let g : Edge = record { cube = p i; target = c.target i; marks = sym m i } in g in
+    not_cases (same_edge f e) (left_true (not (same_edge f e)) _ t) ((same_edge_Decides f e).1 equal)
+
+-- where no edge implies another one all stay
+all_stay : (es : List Edge) → ((f e : Edge) → Has es f → Has es e → implies_other f e ≡ true → ⊥) → unimplied_edges es ≡ es
+all_stay es none = filter_all (stays es) es (λ e h. not_from _ (λ t. let (f, k, a) = any_cases (λ f. implies_other f e) es t in none f e k h a))
+
+-- so where all ask for as much all stay
+pub alike_stay : (w : ℕ) (ks : List made.RunEdge) → All (λ k. IsOfWeight w (run_edge k)) ks → map run_edge ks ≡ unimplied_edges (map run_edge ks)
+alike_stay w ks all = sym (all_stay (map run_edge ks) (λ f e h k t. not_above w f e (of f h) (of e k) t))
+  where
+    of : (e : Edge) → Has (map run_edge ks) e → IsOfWeight w e
+    of e h = let (k, i, c) = map_cases run_edge ks e h in subst (IsOfWeight w) (sym c) (All-at_has (λ (x : made.RunEdge). IsOfWeight w (run_edge x)) ks all k i)
+
+-- to one target, to be below is to imply
+run_test : (t : ℕ) (k l : made.RunEdge) → target_of k ≡ t → target_of l ≡ t → (is_other k l && is_below k l) ≡ implies_other (run_edge k) (run_edge l)
+run_test t k l e f =
+    sym (ap (λ b. is_other k l && (b && is_subset literal_cmp k.edge.cube l.edge.cube && is_subset nat_cmp l.edge.marks k.edge.marks)) (nat_eq_same (target_of k) (target_of l) (e ∙ sym f)))
+
+module _ (p : made.RunEdge → Bool) (q : Edge → Bool) where
+  any_same : (ks : List made.RunEdge) → ((k : made.RunEdge) → Has ks k → p k ≡ q (run_edge k)) → list_any p ks ≡ list_any q (map run_edge ks)
+  any_same [] h = refl
+  any_same (k ∷ ks) h = λ i. h k (inl refl) i || any_same ks (λ l m. h l (inr m)) i
+
+  filter_same : (ks : List made.RunEdge) → ((k : made.RunEdge) → Has ks k → p k ≡ q (run_edge k)) → map run_edge (filter p ks) ≡ filter q (map run_edge ks)
+  filter_same [] h = refl
+  filter_same (k ∷ ks) h =
+      let rest = filter_same ks (λ l m. h l (inr m)) in
+      ap (λ b. map run_edge (cond b (k ∷ filter p ks) (filter p ks))) (h k (inl refl)) ∙ here (q (run_edge k)) rest
+    where
+      here : (b : Bool) → map run_edge (filter p ks) ≡ filter q (map run_edge ks) → map run_edge (cond b (k ∷ filter p ks) (filter p ks)) ≡ cond b (run_edge k ∷ filter q (map run_edge ks)) (filter q (map run_edge ks))
+      here true e = ap (λ l. run_edge k ∷ l) e
+      here false e = e
+
+-- the least ones of a run are those that stay
+pub least_stay : (t : ℕ) (ks left : List made.RunEdge) → AllLeadTo t ks → left ≡ filter (λ l. not (list_any (λ k. is_other k l && is_below k l) ks)) ks → map run_edge left ≡ unimplied_edges (map run_edge ks)
+least_stay t ks left all e =
+    ap (map run_edge) e ∙ filter_same (λ l. not (list_any (λ k. is_other k l && is_below k l) ks)) (stays (map run_edge ks)) ks (λ l h. ap not (any_same (λ k. is_other k l && is_below k l) (λ f. implies_other f (run_edge l)) ks (λ k m.
+    run_test t k l (All-at_has (λ (x : made.RunEdge). target_of x ≡ t) ks all k m) (All-at_has (λ (x : made.RunEdge). target_of x ≡ t) ks all l h))))
+
+-- ---- all runs
+
+-- what a list has stands at a place
+place_in : (ks : List made.RunEdge) (k d : made.RunEdge) → Has ks k → (j : ℕ) × (j < length ks) × (slice_index_or ks j d ≡ k)
+place_in [] k d h = absurd h
+place_in (x ∷ ks) k d (inl e) = (0, omega arith, sym e)
+place_in (x ∷ ks) k d (inr h) = let w = place_in ks k d h in let l = w.1 in (suc w.0, omega (arith, l), w.2)
+
+first_least : (x : made.RunEdge) (ks : List made.RunEdge) → IsNonDecreasingBy target_of (x ∷ ks) → (k : made.RunEdge) → Has (x ∷ ks) k → target_of x ≤ target_of k
+first_least x ks sorted k h =
+    let w = place_in (x ∷ ks) k x h in
+    let l = sorted 0 w.0 x (omega arith) w.1 in
+    subst (λ (y : made.RunEdge). target_of x ≤ target_of y) w.2 l
+
+module _ (t : ℕ) where
+  abbrev pub leads : made.RunEdge → Bool
+  leads k = target_of k == t
+
+  -- those of the run lead to its target
+  run_leads : (ks : List made.RunEdge) (k : made.RunEdge) → Has (take (prefix_len leads ks) ks) k → target_of k ≡ t
+  run_leads [] k h = absurd h
+  run_leads (x ∷ ks) k h = at (λ m. run_leads ks k m) (leads x) refl h
+    where
+      front : (Has (take (prefix_len leads ks) ks) k → target_of k ≡ t) → leads x ≡ true → Has (x ∷ take (prefix_len leads ks) ks) k → target_of k ≡ t
+      front rest e (inl q) = ap target_of q ∙ nat_eq_is (target_of x) t e
+      front rest e (inr m) = rest m
+
+      at : (Has (take (prefix_len leads ks) ks) k → target_of k ≡ t) → (b : Bool) → leads x ≡ b → Has (take (cond b (1 + prefix_len leads ks) 0) (x ∷ ks)) k → target_of k ≡ t
+      at rest true e m = let z : 1 + prefix_len leads ks ≡ suc (prefix_len leads ks) = omega arith in front rest e (subst (λ n. Has (take n (x ∷ ks)) k) z m)
+      at rest false e m = absurd m
+
+  -- those behind it lead further
+  behind_leads : (ks : List made.RunEdge) → ((k : made.RunEdge) → Has ks k → t ≤ target_of k) → IsNonDecreasingBy target_of ks → (k : made.RunEdge) → Has (drop (prefix_len leads ks) ks) k → t < target_of k
+  behind_leads [] least sorted k h = absurd h
+  behind_leads (x ∷ ks) least sorted k h = at (λ m. behind_leads ks (λ l n. least l (inr n)) (IsNonDecreasingBy-drop target_of 1 (x ∷ ks) sorted) k m) (leads x) refl h
+    where
+      above : t < target_of x → Has (x ∷ ks) k → t < target_of k
+      above l m = let n = first_least x ks sorted k m in omega arith
+
+      first : leads x ≡ false → t < target_of x
+      first e = elim (below_equal_above t (target_of x)) [
+        | inl l ↦ l
+        | inr r ↦ elim r [
+          | inl q ↦ false_is_true (sym e ∙ nat_eq_same (target_of x) t (sym q))
+          | inr l ↦ let m = least x (inl refl) in absurd (omega arith)
+        ]
+      ]
+
+      at : (Has (drop (prefix_len leads ks) ks) k → t < target_of k) → (b : Bool) → leads x ≡ b → Has (drop (cond b (1 + prefix_len leads ks) 0) (x ∷ ks)) k → t < target_of k
+      at rest true e m = let z : 1 + prefix_len leads ks ≡ suc (prefix_len leads ks) = omega arith in rest (subst (λ n. Has (drop n (x ∷ ks)) k) z m)
+      at rest false e m = above (first e) m
+
+module _ {K : Type 0} where
+  -- tests that agree on a list leave the same of it
+  filter_agree : (p q : K → Bool) (xs : List K) → ((x : K) → Has xs x → p x ≡ q x) → filter p xs ≡ filter q xs
+  filter_agree p q [] h = refl
+  filter_agree p q (x ∷ xs) h = λ i. cond (h x (inl refl) i) (x ∷ filter_agree p q xs (λ y m. h y (inr m)) i) (filter_agree p q xs (λ y m. h y (inr m)) i)
+
+  filter_short : (p : K → Bool) (xs : List K) → length (filter p xs) ≤ length xs
+  filter_short p [] = omega arith
+  filter_short p (x ∷ xs) = at (p x) (filter_short p xs)
+    where
+      at : (b : Bool) → length (filter p xs) ≤ length xs → length (cond b (x ∷ filter p xs) (filter p xs)) ≤ suc (length xs)
+      at true l = omega (arith, l)
+      at false l = omega (arith, l)
+
+  -- a test that leaves a list as long as it was holds of all
+  whole_filter : (p : K → Bool) (xs : List K) → length xs ≤ length (filter p xs) → (x : K) → Has xs x → p x ≡ true
+  whole_filter p [] l x h = absurd h
+  whole_filter p (y ∷ ys) l x h = at (λ m k. whole_filter p ys m x k) (p y) refl l h
+    where
+      at : (length ys ≤ length (filter p ys) → Has ys x → p x ≡ true) → (b : Bool) → p y ≡ b → suc (length ys) ≤ length (cond b (y ∷ filter p ys) (filter p ys)) → Has (y ∷ ys) x → p x ≡ true
+      at rest true e m (inl q) = ap p q ∙ e
+      at rest true e m (inr k) = rest (omega (arith, m)) k
+      at rest false e m k = let n = filter_short p ys in absurd (omega (arith, m, n))
+
+-- the runs before the rest are done: what is kept are those of their edges that stay
+pub record IsDone (es : List Edge) (order rest : List made.RunEdge) (left : List plain.Edge) : Type 0 where
+  pub done : List made.RunEdge
+  pub whole : done ++ rest ≡ order
+  pub below : (k l : made.RunEdge) → Has done k → Has rest l → target_of k < target_of l
+  pub sorted : IsNonDecreasingBy target_of rest
+  pub kept : map edge_of left ≡ filter (stays es) (map run_edge done)
+
+pub none_done : (es : List Edge) (order rest : List made.RunEdge) → IsByTarget es order → rest ≡ order → IsDone es order rest []
+none_done es order rest w e = record {
+  done = [];
+  whole = e;
+  below = λ k l h m. absurd h;
+  sorted = subst (IsNonDecreasingBy target_of) (sym e) w.sorted;
+  kept = refl;
+}
+
+same_bool : (a b : Bool) → (a ≡ true → b ≡ true) → (b ≡ true → a ≡ true) → a ≡ b
+same_bool true b f g = sym (f refl)
+same_bool false true f g = g refl
+same_bool false false f g = refl
+
+-- what the list has and its permutation
+module _ (es : List Edge) (order : List made.RunEdge) (moved : IsPermutation es (map run_edge order)) where
+  there : (e : Edge) → Has es e → Has (map run_edge order) e
+  there e h = Has-from_contains (map run_edge order) e (Contains-permutation es (map run_edge order) e moved (Contains-from_has es e h))
+
+  back : (e : Edge) → Has (map run_edge order) e → Has es e
+  back e h = Has-from_contains es e (Contains-permutation (map run_edge order) es e (IsPermutation-sym es (map run_edge order) moved) (Contains-from_has (map run_edge order) e h))
+
+  module _ (rest : List made.RunEdge) (kept : List plain.Edge) (d : IsDone es order rest kept) (t : ℕ) (run others : List made.RunEdge) (leads_on : (k : made.RunEdge) → Has rest k → t ≤ target_of k)
+      (front : run ≡ take (prefix_len (leads t) rest) rest) (behind : others ≡ drop (prefix_len (leads t) rest) rest) where
+    whole : run ++ others ≡ rest
+    whole = (λ i. front i ++ behind i) ∙ take-append-drop (prefix_len (leads t) rest) rest
+
+    leads_to : (k : made.RunEdge) → Has run k → target_of k ≡ t
+    leads_to k h = run_leads t rest k (subst (λ ks. Has ks k) front h)
+
+    leads_past : (k : made.RunEdge) → Has others k → t < target_of k
+    leads_past k h = behind_leads t rest leads_on d.sorted k (subst (λ ks. Has ks k) behind h)
+
+    in_rest : (k : made.RunEdge) → Has others k → Has rest k
+    in_rest k h = subst (λ ks. Has ks k) whole (append_right run others k h)
+
+    run_in_rest : (k : made.RunEdge) → Has run k → Has rest k
+    run_in_rest k h = subst (λ ks. Has ks k) whole (append_left run others k h)
+
+    -- what implies an edge of the run is of the run
+    in_run : (k : made.RunEdge) → Has run k → (f : Edge) → Has es f → implies_other f (run_edge k) ≡ true → Has (map run_edge run) f
+    in_run k h f m q =
+        let (x, i, c) = map_cases run_edge order f (there f m) in
+        let covers = (implies_edge_Decides f (run_edge k)).0 (right_true (not (same_edge f (run_edge k))) _ q) in
+        let target : target_of x ≡ t = sym (ap (λ (e : Edge). e.target) c) ∙ covers.target ∙ leads_to k h in
+        subst (Has (map run_edge run)) (sym c) (Has-map run_edge run x (cases x target (append_cases d.done rest x (subst (λ ks. Has ks x) (sym d.whole) i))))
+      where
+        last : (x : made.RunEdge) → target_of x ≡ t → Has run x ⊎ Has others x → Has run x
+        last x e (inl m) = m
+        last x e (inr m) = let l = leads_past x m in absurd (omega (arith, l, e))
+
+        cases : (x : made.RunEdge) → target_of x ≡ t → Has d.done x ⊎ Has rest x → Has run x
+        cases x e (inl m) = let l = d.below x k m (run_in_rest k h) in let s = leads_to k h in absurd (omega (arith, l, e, s))
+        cases x e (inr m) = last x e (append_cases run others x (subst (λ ks. Has ks x) (sym whole) m))
+
+    of_run : (f : Edge) → Has (map run_edge run) f → Has es f
+    of_run f h =
+        let (x, i, c) = map_cases run_edge run f h in
+        back f (subst (Has (map run_edge order)) (sym c) (Has-map run_edge order x (subst (λ ks. Has ks x) d.whole (append_right d.done rest x (run_in_rest x i)))))
+
+    -- so those that stay of the run are those that stay of all
+    stay_alike : (k : made.RunEdge) → Has run k → stays (map run_edge run) (run_edge k) ≡ stays es (run_edge k)
+    stay_alike k h =
+        let q : Edge → Bool = λ f. implies_other f (run_edge k) in
+        ap not (same_bool (list_any q (map run_edge run)) (list_any q es)
+        (λ a. let (f, i, s) = any_cases q (map run_edge run) a in any_true q es f (of_run f i) s)
+        (λ a. let (f, i, s) = any_cases q es a in any_true q (map run_edge run) f (in_run k h f i s) s))
+
+    run_stays : unimplied_edges (map run_edge run) ≡ filter (stays es) (map run_edge run)
+    run_stays = filter_agree (stays (map run_edge run)) (stays es) (map run_edge run) (λ e h. let (k, i, c) = map_cases run_edge run e h in
+        ap (stays (map run_edge run)) c ∙ stay_alike k i ∙ sym (ap (stays es) c))
+
+    pub run_done : (more : List plain.Edge) → map edge_of more ≡ map edge_of kept ++ unimplied_edges (map run_edge run) → IsDone es order others more
+    run_done more e = record {
+      done = d.done ++ run;
+      whole = append_assoc d.done run others ∙ ap (λ ks. d.done ++ ks) whole ∙ d.whole;
+      below = λ k l h m. passed k l m (append_cases d.done run k h);
+      sorted = subst (IsNonDecreasingBy target_of) (sym behind) (IsNonDecreasingBy-drop target_of (prefix_len (leads t) rest) rest d.sorted);
+      kept = e ∙ (λ i. d.kept i ++ run_stays i) ∙ sym (filter-append (stays es) (map run_edge d.done) (map run_edge run)) ∙ sym (ap (filter (stays es)) (map-append run_edge d.done run));
+    }
+      where
+        passed : (k l : made.RunEdge) → Has others l → Has d.done k ⊎ Has run k → target_of k < target_of l
+        passed k l m (inl h) = d.below k l h (in_rest l m)
+        passed k l m (inr h) = let a = leads_past l m in let b = leads_to k h in omega (arith, a, b)
+
+  -- when nothing is left, those that stay are kept
+  pub all_done : (rest : List made.RunEdge) (kept : List plain.Edge) → IsDone es order rest kept → rest ≡ [] → IsKept es kept
+  all_done rest kept d e = record {
+    order = order;
+    moved = moved;
+    kept = d.kept ∙ ap (λ ks. filter (stays es) (map run_edge ks)) (sym (append-nil d.done) ∙ ap (λ ks. d.done ++ ks) (sym e) ∙ d.whole);
+  }
+
+  -- and sorted they are those of the list
+  pub sorted_stay : IsRising edge_cmp es → set_of edge_cmp (filter (stays es) (map run_edge order)) ≡ unimplied_edges es
+  sorted_stay rising =
+      same_members edge_linear (set_of edge_cmp (filter (stays es) (map run_edge order))) (unimplied_edges es) (IsRising-set_of edge_linear (filter (stays es) (map run_edge order))) (IsRising-filter edge_cmp (stays es) es rising)
+      (λ e h. let (i, s) = filter_cases (stays es) (map run_edge order) e (set_of_cases edge_linear (filter (stays es) (map run_edge order)) e h) in Has-filter (stays es) es e (back e i) s)
+      (λ e h. let (i, s) = filter_cases (stays es) es e h in Has-set_of edge_linear (filter (stays es) (map run_edge order)) e (Has-filter (stays es) (map run_edge order) e (there e i) s))
+
+  -- where as many are kept as there are, all stay
+  pub none_goes : (kept edges : List plain.Edge) → map edge_of kept ≡ filter (stays es) (map run_edge order) → es ≡ map edge_of edges → length kept ≡ length edges → unimplied_edges es ≡ es
+  none_goes kept edges e f n = filter_all (stays es) es (λ x h. whole_filter (stays es) (map run_edge order) long x (there x h))
+    where
+      long : length (map run_edge order) ≤ length (filter (stays es) (map run_edge order))
+      long =
+          let a = ap length e in
+          let b = length-map kept edge_of in
+          let c = length_permutation es (map run_edge order) moved in
+          let g = ap length f in
+          let h = length-map edges edge_of in
+          omega (arith, a, b, c, g, h, n)
+
+-- the same, whatever the order
+pub record AreDone (es : List Edge) (rest : List made.RunEdge) (left : List plain.Edge) : Type 0 where
+  pub order : List made.RunEdge
+  pub moved : IsPermutation es (map run_edge order)
+  pub done : IsDone es order rest left
+
+-- the first run
+pub first_run : (es : List Edge) (rest : List made.RunEdge) → IsByTarget es rest → AreDone es rest []
+first_run es rest w = record { order = rest; moved = w.moved; done = none_done es rest rest w refl }
+
+-- what begins the rest leads no further than the rest
+module _ (es : List Edge) (rest : List made.RunEdge) (kept : List plain.Edge) (w : AreDone es rest kept) (first : made.RunEdge) (tail run others : List made.RunEdge) (begins : rest ≡ first ∷ tail)
+    (front : run ≡ take (prefix_len (leads (target_of first)) rest) rest) (behind : others ≡ drop (prefix_len (leads (target_of first)) rest) rest) where
+  leads_on : (k : made.RunEdge) → Has rest k → target_of first ≤ target_of k
+  leads_on k h = first_least first tail (subst (IsNonDecreasingBy target_of) begins w.done.sorted) k (subst (λ ks. Has ks k) begins h)
+
+  -- its run has one target
+  pub run_target : AllLeadTo (target_of first) run
+  run_target = All-from_has (λ (k : made.RunEdge). target_of k ≡ target_of first) run (λ k h. run_leads (target_of first) rest k (subst (λ ks. Has ks k) front h))
+
+  -- one more run
+  pub next_run : (more : List plain.Edge) → map edge_of more ≡ map edge_of kept ++ unimplied_edges (map run_edge run) → AreDone es others more
+  next_run more e = record { order = w.order; moved = w.moved; done = run_done es w.order w.moved rest kept w.done (target_of first) run others leads_on front behind more e }
+
+  -- and the rest is shorter
+  pub rest_falls : length others < length rest
+  rest_falls =
+      let long = length-drop (prefix_len (leads (target_of first)) rest) rest in
+      let some : 0 < prefix_len (leads (target_of first)) rest =
+      subst (λ n. 0 < n) (sym (ap (prefix_len (leads (target_of first))) begins ∙ ap (λ b. cond b (1 + prefix_len (leads (target_of first)) tail) 0) (nat_eq_same (target_of first) (target_of first) refl))) (omega arith) in
+      let there : 0 < length rest = subst (λ ks. 0 < length ks) (sym begins) (omega arith) in
+      let e = ap length behind in
+      omega (arith, long, some, there, e)
+
+-- the last run
+pub last_run : (es : List Edge) (rest : List made.RunEdge) (kept : List plain.Edge) → AreDone es rest kept → rest ≡ [] → IsKept es kept
+last_run es rest kept w e = all_done es w.order w.moved rest kept w.done e
+
+-- what is kept, sorted
+pub sorted_kept : (es : List Edge) (kept : List plain.Edge) → IsKept es kept → IsRising edge_cmp es → set_of edge_cmp (map edge_of kept) ≡ unimplied_edges es
+sorted_kept es kept w rising = ap (set_of edge_cmp) w.kept ∙ sorted_stay es w.order w.moved rising
+
+-- as many as there are
+pub all_kept : (es : List Edge) (kept edges : List plain.Edge) → IsKept es kept → es ≡ map edge_of edges → length kept ≡ length edges → unimplied_edges es ≡ es
+all_kept es kept edges w e n = none_goes es w.order w.moved kept edges w.kept e n
+
+-- ---- lists in which edges with one target ask for as much
+
+-- the edge at each of the first n places asks for as much as the one that is noted for its target
+pub record IsNotedLike (es : List plain.Edge) (noted : List ℕ) (k : ℕ) : Type 0 where
+  pub low : slice_index noted (target_at es k) ≤ k
+  pub same : target_at es (slice_index noted (target_at es k)) ≡ target_at es k
+  pub weight : IsWeighedLike es (slice_index noted (target_at es k)) k
+
+abbrev pub AreNoted : List plain.Edge → List ℕ → ℕ → Type 0
+AreNoted es noted n = (k : ℕ) → k < n → IsNotedLike es noted k
+
+-- one more
+pub noted_next : (es : List plain.Edge) (noted : List ℕ) (n f : ℕ) → AreNoted es noted n → target_at es n < length noted → IsFirstLike es n (slice_index noted (target_at es n)) f → IsWeighedLike es f n
+    → AreNoted es (slice_set noted (target_at es n) f) (n + 1)
+noted_next es noted n f before inside like weighed k l = elim (below_equal_above k n) [
+  | inl b ↦ old b
+  | inr r ↦ elim r [ inl q ↦ subst (IsNotedLike es more) (sym q) last | inr b ↦ absurd (omega (arith, l, b)) ]
+]
+  where
+    t : ℕ
+    t = target_at es n
+
+    more : List ℕ
+    more = slice_set noted t f
+
+    here : slice_index more t ≡ f
+    here = get_or-set_same noted t f 0 inside
+
+    last : IsNotedLike es more n
+    last = record {
+      low = let m = like.low in subst (λ p. p ≤ n) (sym here) m;
+      same = ap (target_at es) here ∙ like.same;
+      weight = subst (λ p. IsWeighedLike es p n) (sym here) weighed;
+    }
+
+    kept : (b : k < n) → slice_index more (target_at es k) ≡ slice_index noted (target_at es k) → IsNotedLike es more k
+    kept b e =
+        let u = before k b in
+        record {
+          low = subst (λ p. p ≤ k) (sym e) u.low;
+          same = ap (target_at es) e ∙ u.same;
+          weight = subst (λ p. IsWeighedLike es p k) (sym e) u.weight;
+        }
+
+    old : k < n → IsNotedLike es more k
+    old b = elim (below_equal_above (target_at es k) t) [
+      | inl c ↦ kept b (get_or-set_other noted t (target_at es k) f 0 (λ q. omega (arith, q, c)))
+      | inr r ↦ elim r [
+        | inl q ↦
+            let u = before k b in
+            let m = u.low in
+            let z : slice_index noted (target_at es k) ≡ slice_index noted t = ap (slice_index noted) q in
+            let e : f ≡ slice_index noted t = like.stays (omega (arith, m, b, z)) (sym (ap (target_at es) z) ∙ u.same ∙ q) in
+            kept b (ap (slice_index more) q ∙ here ∙ e ∙ sym z)
+        | inr c ↦ kept b (get_or-set_other noted t (target_at es k) f 0 (λ q. omega (arith, q, c)))
+      ]
+    ]
+
+-- two that are weighed like a third don't imply each other
+weighed_stay : (es : List plain.Edge) (q p r : ℕ) → IsWeighedLike es q p → IsWeighedLike es q r → implies_other (edge_of (edge_at es p)) (edge_of (edge_at es r)) ≡ true → ⊥
+weighed_stay es q p r (inl a) (inl b) t =
+    not_cases (same_edge (edge_of (edge_at es p)) (edge_of (edge_at es r))) (left_true (not (same_edge (edge_of (edge_at es p)) (edge_of (edge_at es r)))) _ t)
+    ((same_edge_Decides (edge_of (edge_at es p)) (edge_of (edge_at es r))).1 (ap (λ n. edge_of (edge_at es n)) (sym a ∙ b)))
+weighed_stay es q p r (inl a) (inr (w, u, v)) t = not_above w (edge_of (edge_at es p)) (edge_of (edge_at es r)) (subst (λ n. IsOfWeight w (edge_of (edge_at es n))) a u) v t
+weighed_stay es q p r (inr (w, u, v)) (inl b) t = not_above w (edge_of (edge_at es p)) (edge_of (edge_at es r)) v (subst (λ n. IsOfWeight w (edge_of (edge_at es n))) b u) t
+weighed_stay es q p r (inr (w, u, v)) (inr (x, y, z)) t =
+    let one : x ≡ w = y.weight ∙ sym u.weight in
+    not_above w (edge_of (edge_at es p)) (edge_of (edge_at es r)) v (subst (λ n. IsOfWeight n (edge_of (edge_at es r))) one z) t
+
+-- an edge of the list stands at a place
+edge_in : (es : List plain.Edge) (g : plain.Edge) → Has es g → (j : ℕ) × (j < length es) × (edge_at es j ≡ g)
+edge_in [] g h = absurd h
+edge_in (x ∷ xs) g (inl e) = (0, omega arith, sym e)
+edge_in (x ∷ xs) g (inr h) = let w = edge_in xs g h in let l = w.1 in (suc w.0, omega (arith, l), w.2)
+
+pub noted_stay : (es : List plain.Edge) (noted : List ℕ) → AreNoted es noted (length es) → unimplied_edges (map edge_of es) ≡ map edge_of es
+noted_stay es noted all = all_stay (map edge_of es) (λ f e h k t.
+    let (x, i, c) = map_cases edge_of es f h in
+    let (y, j, d) = map_cases edge_of es e k in
+    let (p, l, q) = edge_in es x i in
+    let (r, m, s) = edge_in es y j in
+    let at : f ≡ edge_of (edge_at es p) = c ∙ ap edge_of (sym q) in
+    let here : e ≡ edge_of (edge_at es r) = d ∙ ap edge_of (sym s) in
+    let covers = (implies_edge_Decides f e).0 (right_true (not (same_edge f e)) _ t) in
+    let target : target_at es p ≡ target_at es r = sym (ap (λ (z : Edge). z.target) at) ∙ covers.target ∙ ap (λ (z : Edge). z.target) here in
+    weighed_stay es (slice_index noted (target_at es p)) p r (all p l).weight (subst (λ n. IsWeighedLike es (slice_index noted n) r) (sym target) (all r m).weight)
+    (ap (λ z. implies_other z (edge_of (edge_at es r))) (sym at) ∙ ap (implies_other f) (sym here) ∙ t))
+
+-- ---- the steps of the code
+
+pub ordered_next : (order more : List made.RunEdge) (taken more_taken : List plain.Edge) (e : plain.Edge) → map run_edge order ≡ map edge_of taken → more ≡ order ++ (let k : made.RunEdge = record { edge = e } in k) ∷ []
+    → more_taken ≡ taken ++ e ∷ [] → map run_edge more ≡ map edge_of more_taken
+ordered_next order more taken more_taken e w m t =
+    map_pushed run_edge order more (record { edge = e }) m ∙ ap (λ l. l ++ edge_of e ∷ []) w ∙ sym (map_pushed edge_of taken more_taken e t)
+
+pub ordered : (es : List plain.Edge) (order sorted : List made.RunEdge) → map run_edge order ≡ map edge_of es → IsPermutation order sorted → IsNonDecreasingBy target_of sorted → IsByTarget (map edge_of es) sorted
+ordered es order sorted w p s = record { moved = subst (λ l. IsPermutation l (map run_edge sorted)) w (IsPermutation-map run_edge order sorted p); sorted = s }
+
+pub put_next : (old : List Edge) (kept more : List plain.Edge) (taken more_taken : List made.RunEdge) (k : made.RunEdge) → map edge_of kept ≡ old ++ map run_edge taken → more ≡ kept ++ k.edge ∷ [] → more_taken ≡ taken ++ k ∷ []
+    → map edge_of more ≡ old ++ map run_edge more_taken
+put_next old kept more taken more_taken k w m t =
+    map_pushed edge_of kept more k.edge m ∙ ap (λ l. l ++ run_edge k ∷ []) w ∙ append_assoc old (map run_edge taken) (run_edge k ∷ []) ∙ ap (λ l. old ++ l) (sym (map_pushed run_edge taken more_taken k t))
+
+pub run_is_len : (t : ℕ) (order : List made.RunEdge) (n : ℕ) → n ≤ length order → ((k : ℕ) (d : made.RunEdge) → k < n → (target_of (slice_index_or order k d) == t) ≡ true) → (n < length order → (d : made.RunEdge) → (target_of (slice_index_or order n d) == t) ≡ false)
+    → n ≡ prefix_len (λ k. target_of k == t) order
+run_is_len t order n l same stops =
+    let none : made.RunEdge = record { edge = record { cube = []; target = 0; marks = [] } } in
+    sym (prefix_len_is (λ (k : made.RunEdge). target_of k == t) order n none l (λ k m. same k none m) (λ m. stops m none))
+
+-- the edge that was looked at leads elsewhere
+pub other_target : (t : ℕ) (order : List made.RunEdge) (n : ℕ) (x : made.RunEdge) → n < length order → ¬ (target_of (slice_index_or order n x) ≡ t) → (d : made.RunEdge) → (target_of (slice_index_or order n d) == t) ≡ false
+other_target t order n x l other d = nat_eq_other (target_of (slice_index_or order n d)) t (λ q. other (ap target_of (any order n x d l) ∙ q))
+  where
+    any : (ks : List made.RunEdge) (k : ℕ) (c d : made.RunEdge) → k < length ks → slice_index_or ks k c ≡ slice_index_or ks k d
+    any [] k c d m = absurd (omega arith)
+    any (y ∷ ks) zero c d m = refl
+    any (y ∷ ks) (suc k) c d m = any ks k c d (omega arith)
+
+-- the target of an edge that was read
+pub target_seen : (es : List plain.Edge) (k : ℕ) (e : plain.Edge) → k < length es → (slice_index_or es k e).target ≡ target_at es k
+target_seen es k e l = ap (λ (x : plain.Edge). x.target) (any es k e _ l)
+  where
+    any : (es : List plain.Edge) (k : ℕ) (c d : plain.Edge) → k < length es → slice_index_or es k c ≡ slice_index_or es k d
+    any [] k c d l = absurd (omega arith)
+    any (x ∷ xs) zero c d l = refl
+    any (x ∷ xs) (suc k) c d l = any xs k c d (omega arith)

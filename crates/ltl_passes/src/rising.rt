@@ -1,0 +1,35 @@
+//! Lists of edges that rise, as those of a set of edges do.
+
+ghost use Rattle.std.specs.Prelude.{◌≡◌, map, true, All};
+ghost use Rattle.ltl_spec.specs.Collections.Sets.{IsRising};
+ghost use Rattle.ltl_spec.specs.Automata.Automaton.{edge_cmp};
+ghost use Rattle.ltl_automaton.specs.EdgeView.{edge_of};
+
+use ltl_automaton::{Edge, SharedStates};
+use std::alloc::Allocator;
+use std::cmp::Ordering;
+
+/// Whether each edge is below the next one.
+fn are_rising(edges: &[Edge]) -> bool
+    ensures { result ≡ true → IsRising edge_cmp (map edge_of edges.now) }
+{
+    for place in 1..edges.len() {
+        match edges[place - 1].cmp_list(&edges[place]) {
+            Ordering::Less => {}
+            _ => return false,
+        }
+    }
+    true
+}
+
+/// Whether the edges of each list rise.
+pub(crate) fn all_rise<A: Allocator>(states: &SharedStates<'_, A>) -> bool
+    ensures { result ≡ true → All (λ es. IsRising edge_cmp es) states.now.lists }
+{
+    for list in 0..states.list_count() {
+        if !are_rising(states.list_edges(list)) {
+            return false;
+        }
+    }
+    true
+}
