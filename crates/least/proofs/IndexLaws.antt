@@ -1,7 +1,7 @@
 -- Nodes that stand below others, and the items among them.
 use Rattle.std.proofs.Common.{◌≡◌, ℕ, zero, suc, ◌+◌, ◌-◌, ◌<◌, ◌≤◌, Bool, true, false, ◌&&◌, ◌||◌, ◌⊎◌, inl, inr, List, [], ◌∷◌, ◌++◌, length, map, take, drop, get_or, refl, sym, ◌∙◌, ap, subst, arith}
 use Rattle.std.specs.Prelude.{Option, Some, None, IfSome}
-use Rattle.std.specs.List.{list_any, All}
+use Rattle.std.specs.List.{Contains, list_any, All}
 use Rattle.std.specs.List.Sorted.{IsPermutation}
 use borrow.Rule.Slice.PartMut.{put_mid}
 use Rattle.std.proofs.lemmas.List.Sorted.{IsPermutation-put_mid}
@@ -235,3 +235,19 @@ partly_closed below order listed ns ms partly covered e = record { inside = part
 pub partly_same : {T : Type 0} (below : T → T → Bool) (order order' : List T) (listed listed' : ℕ) (ns ns' : List (Node T)) → order' ≡ order → listed' ≡ listed → ns' ≡ ns → IsPartly below order listed ns → IsPartly below order' listed' ns'
 partly_same below order order' listed listed' ns ns' e f h p =
     subst (λ xs. IsPartly below xs listed' ns') (sym e) (subst (λ n. IsPartly below order n ns') (sym f) (subst (IsPartly below order listed) (sym h) p))
+
+-- the item of a node is among the items
+pub item_among : {T : Type 0} (ns : List (Node T)) (i : ℕ) (n : Node T) (u : T) → i < length ns → n ≡ get_or ns i n → n ≡ Item u → Contains (items_of ns) u
+item_among {T} ns i n u h e is = found ns i h (sym (sym is ∙ e ∙ same_at ns i n (Item u) h))
+  where
+    same_at : (ns : List (Node T)) (i : ℕ) (d e : Node T) → i < length ns → get_or ns i d ≡ get_or ns i e
+    same_at [] i d e h = absurd (omega arith)
+    same_at (x ∷ ns) zero d e h = refl
+    same_at (x ∷ ns) (suc i) d e h = same_at ns i d e (omega arith)
+
+    found : (ns : List (Node T)) (i : ℕ) → i < length ns → get_or ns i (Item u) ≡ Item u → Contains (items_of ns) u
+    found [] i h e = absurd (omega arith)
+    found (Item v ∷ ns) zero h e = (0, omega arith, cc)
+    found (Item v ∷ ns) (suc i) h e = let (k, l, f) = found ns i (omega arith) e in (suc k, omega arith, f)
+    found (Common c n ∷ ns) zero h e = absurd (cc)
+    found (Common c n ∷ ns) (suc i) h e = found ns i (omega arith) e

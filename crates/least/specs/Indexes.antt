@@ -1,6 +1,6 @@
 -- Indexes of items by lower bounds of runs of them.
 use Rattle.std.specs.Prelude.{◌≡◌, ℕ, ◌-◌, ◌<◌, ◌≤◌, Bool, true, ◌&&◌, List, [], ◌∷◌, length, take, slice_index_or}
-use Rattle.std.specs.List.{list_any}
+use Rattle.std.specs.List.{Contains, list_any}
 use Rattle.std.specs.List.Sorted.{IsPermutation}
 use Rattle.least.specs.declared.node.Node.{Node}
 use Rattle.least.specs.declared.node.Node.TheVariants.{Item, Common}
@@ -43,3 +43,7 @@ is_above below counts ts t = list_any (λ u. counts u t && below u t) ts
 -- there is no index, or it has the items
 abbrev pub IsIndexed : {T : Type 0} → (T → T → Bool) → List T → List (Node T) → Type 0
 IsIndexed below items ns = 0 < length ns → IsIndex below items ns
+
+-- one of the list that is below t
+abbrev pub IsFound : {T : Type 0} → (T → T → Bool) → List T → T → T → Type 0
+IsFound below ts t u = Contains ts u × (below u t ≡ true)

@@ -11,7 +11,7 @@ ghost use Rattle.std.specs.Prelude.{◌≡◌, ◌++◌, ◌≤◌, length, map,
 ghost use Rattle.std.specs.List.{All};
 ghost use Rattle.std.specs.List.Sorted.{IsPermutation};
 ghost use Rattle.least.specs.declared.node.Node.TheVariants.{Item};
-ghost use Rattle.least.specs.Indexes.{IsUnder, IsCovered, items_of, IsPartly, IsIndex, is_above};
+ghost use Rattle.least.specs.Indexes.{IsUnder, IsCovered, items_of, IsFound, IsPartly, IsIndex, is_above};
 
 use crate::below::Below;
 use crate::counting::Counting;
@@ -145,6 +145,31 @@ pub(crate) fn index_of<'a, T: Below, A: Allocator>(
     }
     list_piece(&mut nodes, &order[listed..])?;
     Ok(nodes)
+}
+
+/// The next item below this one, where so many nodes are left to look at. Afterwards as many are left as stand before it, or none.
+pub(crate) fn next_below<T: Below>(nodes: &[Node<T>], left: &mut usize, item: &T) -> Option<T>
+    ensures { IfSome result (IsFound T.below (items_of nodes.now) item.now) }
+{
+    let mut at = (*left).min(nodes.len());
+    'nodes: while at > 0 {
+        at -= 1;
+        match &nodes[at] {
+            Node::Item(other) => {
+                if other.is_below(item) {
+                    *left = at;
+                    return Some(*other);
+                }
+            }
+            Node::Common(shared, run) => {
+                if !shared.is_below(item) {
+                    at = at.saturating_sub(*run);
+                }
+            }
+        }
+    }
+    *left = 0;
+    None
 }
 
 /// Whether an item of the index is below this one and is taken into account.

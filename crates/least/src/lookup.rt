@@ -1,17 +1,18 @@
 //! Lookup of an item below a given one.
 
-ghost use Rattle.std.specs.Prelude.{◌≡◌, ◌&&◌, IfOk};
+ghost use Rattle.std.specs.Prelude.{◌≡◌, ◌&&◌, IfOk, IfSome};
 ghost use Rattle.std.specs.List.{list_any};
+ghost use Rattle.least.specs.Indexes.{IsFound};
 
 use crate::below::Below;
 use crate::counting::Counting;
-use crate::index::{index_of, is_above_one};
+use crate::index::{index_of, is_above_one, next_below};
 use crate::node::Node;
 use std::alloc::{AllocError, Allocator};
 use std::marker::Model;
 
 /// The largest number of items that are compared one by one, without an index.
-const FEW: usize = 48;
+const FEW: usize = 96;
 
 /// Items, with an index if there are more than `FEW`. Contracts see it as the list of the items.
 #[derive(Drop)]
@@ -44,6 +45,17 @@ impl<'b, 'a, T: Below, A: Allocator> Lookup<'b, 'a, T, A> {
         Ok(Lookup { items, index })
     }
 
+    /// The next item below this one, where so many places are left to look at: `usize::MAX` at first, fewer afterwards. Each one comes once. `None` where
+    /// none is left.
+    pub fn next_lesser(&self, left: &mut usize, item: &T) -> Option<T>
+        ensures { IfSome result (IsFound T.below self.now item.now) }
+    {
+        if self.index.len() == 0 {
+            return next_among(self.items, left, item);
+        }
+        next_below(self.index.as_slice(), left, item)
+    }
+
     /// Whether one of the items is below this one and is taken into account.
     pub fn has_lesser<C: Counting<T>>(&self, counting: &C, item: &T) -> bool
         ensures { result ≡ list_any (λ u. C.counts counting.now u item.now && T.below u item.now) self.now }
@@ -53,6 +65,23 @@ impl<'b, 'a, T: Below, A: Allocator> Lookup<'b, 'a, T, A> {
         }
         is_above_one(self.index.as_slice(), counting, item)
     }
+}
+
+/// The next item below this one, where so many items are left to look at.
+fn next_among<T: Below>(items: &[T], left: &mut usize, item: &T) -> Option<T>
+    ensures { IfSome result (IsFound T.below items.now item.now) }
+{
+    let mut at = (*left).min(items.len());
+    'items: while at > 0 {
+        at -= 1;
+        let other = &items[at];
+        if other.is_below(item) {
+            *left = at;
+            return Some(*other);
+        }
+    }
+    *left = 0;
+    None
 }
 
 /// The same by a comparison with each item.

@@ -10,13 +10,13 @@ use std::alloc::{AllocError, Allocator};
 const ELEMENTS: usize = 768;
 
 /// The number of items in a sample.
-const SAMPLE: usize = 16;
+const SAMPLE: usize = 8;
 
 /// A division is good enough if at least this many items of the sample are on either side.
-const HALF: u32 = 6;
+const HALF: u32 = 3;
 
 /// Up to this many items aren't divided.
-const FEW: usize = 12;
+const FEW: usize = 40;
 
 /// A copy of the items.
 pub(crate) fn copied<'a, T: Below, A: Allocator>(

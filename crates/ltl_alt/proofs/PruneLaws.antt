@@ -1,22 +1,18 @@
 -- The least of some pairs, each other one of which has smaller ones that stand for it.
-use Rattle.std.proofs.Common.{◌≡◌, ℕ, zero, suc, ◌<◌, Bool, true, false, not, cond, nat_lt, ◌&&◌, List, [], ◌∷◌, ◌++◌, map, refl, sym, ◌∙◌, ap, subst, arith}
-use Rattle.std.specs.Prelude.{slice_index_or}
-use Rattle.std.specs.List.{list_any, filter}
+use Rattle.std.proofs.Common.{◌≡◌, ℕ, zero, suc, ◌<◌, Bool, true, false, not, inl, inr, List, [], ◌∷◌, ◌++◌, length, map, take, get_or, refl, sym, ◌∙◌, ap, subst, arith}
 use Rattle.std.specs.declared.cmp.Ordering.TheVariants.{Less}
-use Rattle.std.proofs.lemmas.Bool.Decides.{nat_tests}
-use Rattle.std.proofs.lemmas.List.{append-nil}
 use Rattle.ltl_spec.specs.Collections.Sets.{Has, IsRising, set_of}
 use Rattle.ltl_spec.specs.Transitions.Pairs.{Pair, pair_cmp}
-use Rattle.ltl_spec.specs.Transitions.Pruning.{is_within, IsSafeToDrop}
+use Rattle.ltl_spec.specs.Transitions.Pruning.{IsSafeToDrop}
 use Rattle.ltl_spec.specs.Transitions.RowTransitions.{Table}
-use Rattle.ltl_spec.proofs.Collections.CaseLaws.{left_true, right_true}
-use Rattle.ltl_spec.proofs.Collections.MemberLaws.{Has-map, map_cases, any_cases}
+use Rattle.ltl_spec.proofs.Collections.ListLaws.{Has-at}
+use Rattle.ltl_spec.proofs.Collections.MemberLaws.{Has-map, map_cases}
 use Rattle.ltl_spec.proofs.Collections.Orders.{pair_linear}
-use Rattle.ltl_spec.proofs.Collections.SetLaws.{all_at, all_from, filter_cases, Has-filter, set_of_same, IsRising-set_of}
-use Rattle.ltl_spec.proofs.Transitions.IndependenceTests.{Support, no_support, support_of, shares_some}
+use Rattle.ltl_spec.proofs.Collections.SetLaws.{all_at, all_from, append_cases, append_left, append_right, set_of_same, IsRising-set_of}
+use Rattle.ltl_spec.proofs.Transitions.JoinLaws.{within_refl}
 use Rattle.ltl_spec.proofs.Transitions.LeastPairs.{is_within_Decides}
-use Rattle.ltl_alt.specs.CodeView.{AreOpenSteps, AreSpares}
-use Rattle.ltl_alt.specs.StandIns.{IsFit, asks_less, has_spare, is_asked, is_spare, least_of, IsListed, IsPruned, IsPrunedSafely, StandsFor, pair_of}
+use Rattle.ltl_alt.specs.CodeView.{AreLeft, AreOpenSteps, HasSpare}
+use Rattle.ltl_alt.specs.StandIns.{AreAmong, IsFit, IsListed, IsPruned, IsPrunedSafely, StandsFor, pair_of}
 use Rattle.ltl_alt.specs.Tests.{AreTests}
 use Rattle.ltl_alt.specs.declared.fulfilment.Fulfilment.{Fulfilment}
 use Rattle.ltl_alt.specs.declared.prune.Measured as made
@@ -25,31 +21,29 @@ use Rattle.ltl_alt.specs.declared.rule.Rule.TheVariants as rule
 use Rattle.ltl_alt.proofs.CodedLaws.{lack_safe}
 use Rattle.ltl_alt.proofs.StandInLaws.{kept_all, kept_on, kept_same, stands_in}
 
-smaller : (m n : ℕ) → nat_lt m n ≡ true → m < n
-smaller m n e = grind (arith, nat_tests)
-
-not_true : (a : Bool) → not a ≡ true → a ≡ false
+pub not_true : (a : Bool) → not a ≡ true → a ≡ false
 not_true true e = cc
 not_true false e = refl
 
--- for which of all there is no spare
-abbrev pub stays_among : List Support → ℕ → List made.Measured → made.Measured → Bool
-stays_among lacks least all n = not (has_spare lacks least all n)
+-- a pair above those of a set behind them
+rising_push : (qs : List Pair) (p : Pair) → IsRising pair_cmp qs → ((q : Pair) → Has qs q → pair_cmp q p ≡ Less) → IsRising pair_cmp (qs ++ p ∷ [])
+rising_push [] p up above = (tt, tt)
+rising_push (q ∷ qs) p up above = (
+  all_from (λ y. pair_cmp q y ≡ Less) (qs ++ p ∷ []) (λ z h. elim (append_cases qs (p ∷ []) z h) [
+    | inl k ↦ all_at (λ y. pair_cmp q y ≡ Less) qs z up.0 k
+    | inr k ↦ elim k [ inl e ↦ subst (λ y. pair_cmp q y ≡ Less) (sym e) (above q (inl refl)) | inr x ↦ absurd x ]
+  ]),
+  rising_push qs p up.1 (λ z h. above z (inr h)),
+)
 
--- what stays of a rising list rises
-rising_kept : (q : made.Measured → Bool) (ms : List made.Measured) → IsRising pair_cmp (map pair_of ms) → IsRising pair_cmp (map pair_of (filter q ms))
-rising_kept q [] up = tt
-rising_kept q (m ∷ ms) up =
-    let rest = rising_kept q ms up.1 in
-    elim (q m) as (λ b. IsRising pair_cmp (map pair_of (cond b (m ∷ filter q ms) (filter q ms)))) [
-      | true ↦ (
-        all_from (λ p. pair_cmp m.pair p ≡ Less) (map pair_of (filter q ms)) (λ p h.
-            let (n, k, e) = map_cases pair_of (filter q ms) p h in
-            all_at (λ p. pair_cmp m.pair p ≡ Less) (map pair_of ms) p up.0 (subst (Has (map pair_of ms)) (sym e) (Has-map pair_of ms n (filter_cases q ms n k).0))),
-        rest,
-      )
-      | false ↦ rest
-    ]
+-- a pair of a set is above those before it
+pub before_at : (ms : List made.Measured) (i : ℕ) (m : made.Measured) (q : Pair) → IsRising pair_cmp (map pair_of ms) → i < length ms → m ≡ get_or ms i m → Has (map pair_of (take i ms)) q → pair_cmp q m.pair ≡ Less
+before_at [] i m q up l e h = absurd (omega arith)
+before_at (n ∷ ms) zero m q up l e h = absurd h
+before_at (n ∷ ms) (suc i) m q up l e (inl s) =
+    let there : Has ms m = subst (Has ms) (sym e) (Has-at ms i m (omega arith)) in
+    subst (λ y. pair_cmp y m.pair ≡ Less) (sym s) (all_at (λ y. pair_cmp n.pair y ≡ Less) (map pair_of ms) m.pair up.0 (Has-map pair_of ms m there))
+before_at (n ∷ ms) (suc i) m q up l e (inr h) = before_at ms i m q up.1 (omega arith) e h
 
 -- repeated ones alone are dropped
 pub pruned_equal : {A : Type 0} (r : Rule) (f : Fulfilment A) (ps qs : List Pair) → qs ≡ set_of pair_cmp ps → IsPruned r f ps qs
@@ -70,75 +64,75 @@ pruned_safely r f ps ds qs n e w T fit =
 pub nothing_pruned : {A : Type 0} (f : Fulfilment A) (ps : List Pair) → IsRising pair_cmp ps → IsPrunedSafely f ps ps
 nothing_pruned f ps up T tests = record { kept = kept_all (stands_in T rule.SafelySubsumed) ps; rising = up }
 
-module _ {A : Type 0} (T : Table) (f : Fulfilment A) (tests : AreTests T f) (roots : List ℕ) (lacks : List Support) (least : ℕ) (all ms : List made.Measured)
-    (opens : AreOpenSteps f.untils.items f.leaves.items (map pair_of ms) roots) (spares : AreSpares f roots ms all lacks) where
-  -- what is found is safe to put in place of another one
-  spare_safe : (m t : made.Measured) → Has all m → Has ms t → is_spare lacks m t ≡ true → is_within m.pair t.pair ≡ true → IsSafeToDrop T t.pair m.pair
-  spare_safe m t h k e w =
-      let x = spares m h in
-      let v = slice_index_or lacks m.number no_support in
-      lack_safe T f tests (map pair_of ms) roots opens t.pair m.pair x.core (Has-map pair_of ms t k) v x.lack.1
-      (not_true (shares_some v (support_of t.pair)) (right_true (nat_lt m.size t.size) (not (shares_some v (support_of t.pair))) e)) ((is_within_Decides m.pair t.pair).0 w) x.smaller
+-- one more is among them
+pub among_added : (ms all new : List made.Measured) (m : made.Measured) → Has ms m → new ≡ all ++ m ∷ [] → AreAmong ms all → AreAmong ms new
+among_added ms all new m there e w n h = elim (append_cases all (m ∷ []) n (subst (λ xs. Has xs n) e h)) [
+  | inl k ↦ w n k
+  | inr k ↦ elim k [ inl s ↦ subst (Has ms) (sym s) there | inr x ↦ absurd x ]
+]
 
+earlier : (taken : List made.Measured) (m : made.Measured) (q : Pair) → Has (map pair_of taken) q → Has (map pair_of (taken ++ m ∷ [])) q
+earlier taken m q h =
+    let (n, j, s) = map_cases pair_of taken q h in
+    subst (Has (map pair_of (taken ++ m ∷ []))) (sym s) (Has-map pair_of (taken ++ m ∷ []) n (append_left taken (m ∷ []) n j))
+
+module _ {A : Type 0} (f : Fulfilment A) (roots : List ℕ) (all : List made.Measured) where
+  -- one more was looked at, and stays
+  pub one_stays : (taken more : List made.Measured) (m : made.Measured) (qs new : List Pair) → more ≡ taken ++ m ∷ [] → new ≡ qs ++ m.pair ∷ [] → ((q : Pair) → Has (map pair_of taken) q → pair_cmp q m.pair ≡ Less)
+      → AreLeft f roots all taken qs → AreLeft f roots all more new
+  one_stays taken more m qs new e g above w = record {
+    from = λ q h. subst (λ xs. Has (map pair_of xs) q) (sym e) (elim (append_cases qs (m.pair ∷ []) q (subst (λ xs. Has xs q) g h)) [
+      | inl k ↦ earlier taken m q (w.from q k)
+      | inr k ↦ elim k [ inl s ↦ subst (Has (map pair_of (taken ++ m ∷ []))) (sym s) (Has-map pair_of (taken ++ m ∷ []) m (append_right taken (m ∷ []) m (inl refl))) | inr x ↦ absurd x ]
+    ]);
+    left = λ n h. elim (append_cases taken (m ∷ []) n (subst (λ xs. Has xs n) e h)) [
+      | inl k ↦ elim (w.left n k) [ inl j ↦ inl (subst (λ xs. Has xs n.pair) (sym g) (append_left qs (m.pair ∷ []) n.pair j)) | inr j ↦ inr j ]
+      | inr k ↦ elim k [ inl s ↦ inl (subst (λ (x : made.Measured). Has new x.pair) (sym s) (subst (λ xs. Has xs m.pair) (sym g) (append_right qs (m.pair ∷ []) m.pair (inl refl)))) | inr x ↦ absurd x ]
+    ];
+    rising = subst (IsRising pair_cmp) (sym g) (rising_push qs m.pair w.rising (λ q h. above q (w.from q h)));
+  }
+
+  -- or goes
+  pub one_goes : (taken more : List made.Measured) (m : made.Measured) (qs new : List Pair) → more ≡ taken ++ m ∷ [] → new ≡ qs → HasSpare f roots all m → AreLeft f roots all taken qs → AreLeft f roots all more new
+  one_goes taken more m qs new e g spare w = record {
+    from = λ q h. subst (λ xs. Has (map pair_of xs) q) (sym e) (earlier taken m q (w.from q (subst (λ xs. Has xs q) g h)));
+    left = λ n h. elim (append_cases taken (m ∷ []) n (subst (λ xs. Has xs n) e h)) [
+      | inl k ↦ elim (w.left n k) [ inl j ↦ inl (subst (λ xs. Has xs n.pair) (sym g) j) | inr j ↦ inr j ]
+      | inr k ↦ elim k [ inl s ↦ inr (subst (HasSpare f roots all) (sym s) spare) | inr x ↦ absurd x ]
+    ];
+    rising = subst (IsRising pair_cmp) (sym g) w.rising;
+  }
+
+module _ {A : Type 0} (T : Table) (f : Fulfilment A) (tests : AreTests T f) (roots : List ℕ) (all ms : List made.Measured) (qs : List Pair)
+    (opens : AreOpenSteps f.untils.items f.leaves.items (map pair_of ms) roots) (among : AreAmong ms all) (w : AreLeft f roots all ms qs) where
   -- a pair that goes has a smaller one, which stays or has one
-  climb : (fuel : ℕ) (t : made.Measured) → t.size < fuel → Has ms t → (v : Pair) × Has (map pair_of (least_of lacks least all ms)) v × IsSafeToDrop T t.pair v
+  climb : (fuel : ℕ) (t : made.Measured) → t.size < fuel → Has ms t → (v : Pair) × Has qs v × IsSafeToDrop T t.pair v
   climb zero t l h = absurd (omega arith)
-  climb (suc fuel) t l h =
-      elim (has_spare lacks least all t) as (λ b. has_spare lacks least all t ≡ b → (v : Pair) × Has (map pair_of (least_of lacks least all ms)) v × IsSafeToDrop T t.pair v) [
-        | false ↦ λ e. (t.pair, Has-map pair_of (least_of lacks least all ms) t (Has-filter (stays_among lacks least all) ms t h (ap not e)), (stands_in T rule.SafelySubsumed).itself t.pair)
-        | true ↦ λ e.
-            let found = right_true (is_asked least t) (list_any (λ m. is_spare lacks m t && asks_less m t) all) e in
-            let (m, k, g) = any_cases (λ m. is_spare lacks m t && asks_less m t) all found in
-            let spare = left_true (is_spare lacks m t) (asks_less m t) g in
-            let less = smaller m.size t.size (left_true (nat_lt m.size t.size) (not (shares_some (slice_index_or lacks m.number no_support) (support_of t.pair))) spare) in
-            let x = spares m k in
-            let size = x.size in
-            let (v, j, s) = climb fuel x.origin (omega arith) x.there in
-            let first = subst (IsSafeToDrop T t.pair) x.pair (spare_safe m t k h spare (right_true (is_spare lacks m t) (asks_less m t) g)) in
-            (v, j, (stands_in T rule.SafelySubsumed).on t.pair x.origin.pair v first s)
-      ] refl
+  climb (suc fuel) t l h = elim (w.left t h) [
+    | inl k ↦ (t.pair, k, (stands_in T rule.SafelySubsumed).itself t.pair)
+    | inr x ↦
+        let u = x.other in
+        let s = x.spare in
+        let less = s.size in
+        let safe = lack_safe T f tests (map pair_of ms) roots opens t.pair u.pair u.pair (Has-map pair_of ms t h) s.lacking s.lack s.nothing ((is_within_Decides u.pair t.pair).0 x.within) (within_refl u.pair) in
+        let (v, j, y) = climb fuel u (omega arith) (among u x.there) in
+        (v, j, (stands_in T rule.SafelySubsumed).on t.pair u.pair v safe y)
+  ]
 
   -- those are left that none of some of them may stand in for
-  least_listed : (ps : List Pair) → IsRising pair_cmp ps → map pair_of ms ≡ ps → IsListed (IsSafeToDrop T) ps (map pair_of (least_of lacks least all ms))
-  least_listed ps up e = record {
+  left_listed : (ps : List Pair) → map pair_of ms ≡ ps → IsListed (IsSafeToDrop T) ps qs
+  left_listed ps e = record {
     kept = record {
-      from = λ p h.
-          let (m, k, i) = map_cases pair_of (least_of lacks least all ms) p h in
-          subst (λ xs. Has xs p) e (subst (Has (map pair_of ms)) (sym i) (Has-map pair_of ms m (filter_cases (stays_among lacks least all) ms m k).0));
+      from = λ p h. subst (λ xs. Has xs p) e (w.from p h);
       covers = λ p h.
           let (m, k, i) = map_cases pair_of ms p (subst (λ xs. Has xs p) (sym e) h) in
           let (v, j, s) = climb (suc m.size) m (omega arith) k in
           (v, j, subst (λ x. IsSafeToDrop T x v) (sym i) s);
     };
-    rising = rising_kept (stays_among lacks least all) ms (subst (IsRising pair_cmp) (sym e) up);
+    rising = w.rising;
   }
 
-pub least_pruned : {A : Type 0} (f : Fulfilment A) (roots : List ℕ) (lacks : List Support) (least : ℕ) (all ms : List made.Measured) (ps qs : List Pair) → IsRising pair_cmp ps → map pair_of ms ≡ ps
-    → AreOpenSteps f.untils.items f.leaves.items ps roots → AreSpares f roots ms all lacks → qs ≡ map pair_of (least_of lacks least all ms) → IsPrunedSafely f ps qs
-least_pruned f roots lacks least all ms ps qs up e opens spares g T tests = subst (IsListed (IsSafeToDrop T) ps) (sym g)
-    (least_listed T f tests roots lacks least all ms (subst (λ xs. AreOpenSteps f.untils.items f.leaves.items xs roots) (sym e) opens) spares ps up e)
-
--- one more was looked at
-least_append : (lacks : List Support) (least : ℕ) (all ms : List made.Measured) (m : made.Measured) → map pair_of (least_of lacks least all (ms ++ m ∷ [])) ≡ map pair_of (least_of lacks least all ms) ++ cond (stays_among lacks least all m) (m.pair ∷ []) []
-least_append lacks least all [] m = by (stays_among lacks least all m)
-  where
-    by : (b : Bool) → map pair_of (cond b (m ∷ []) []) ≡ cond b (m.pair ∷ []) []
-    by true = refl
-    by false = refl
-least_append lacks least all (n ∷ ms) m =
-    elim (stays_among lacks least all n) as (λ b. map pair_of (cond b (n ∷ least_of lacks least all (ms ++ m ∷ [])) (least_of lacks least all (ms ++ m ∷ []))) ≡ map pair_of (cond b (n ∷ least_of lacks least all ms) (least_of lacks least all ms)) ++ cond (stays_among lacks least all m) (m.pair ∷ []) []) [
-      | true ↦ ap (λ l. n.pair ∷ l) (least_append lacks least all ms m)
-      | false ↦ least_append lacks least all ms m
-    ]
-
-pub least_stays : (lacks : List Support) (least : ℕ) (all taken more : List made.Measured) (m : made.Measured) (ps qs : List Pair) → more ≡ taken ++ m ∷ [] → has_spare lacks least all m ≡ false → qs ≡ ps ++ m.pair ∷ []
-    → ps ≡ map pair_of (least_of lacks least all taken) → qs ≡ map pair_of (least_of lacks least all more)
-least_stays lacks least all taken more m ps qs e f g h =
-    g ∙ ap (λ l. l ++ m.pair ∷ []) h ∙ ap (λ b. map pair_of (least_of lacks least all taken) ++ cond (not b) (m.pair ∷ []) []) (sym f)
-    ∙ sym (least_append lacks least all taken m) ∙ ap (λ l. map pair_of (least_of lacks least all l)) (sym e)
-
-pub least_goes : (lacks : List Support) (least : ℕ) (all taken more : List made.Measured) (m : made.Measured) (ps qs : List Pair) → more ≡ taken ++ m ∷ [] → has_spare lacks least all m ≡ true → qs ≡ ps
-    → ps ≡ map pair_of (least_of lacks least all taken) → qs ≡ map pair_of (least_of lacks least all more)
-least_goes lacks least all taken more m ps qs e f g h =
-    g ∙ h ∙ sym (append-nil (map pair_of (least_of lacks least all taken))) ∙ ap (λ b. map pair_of (least_of lacks least all taken) ++ cond (not b) (m.pair ∷ []) []) (sym f)
-    ∙ sym (least_append lacks least all taken m) ∙ ap (λ l. map pair_of (least_of lacks least all l)) (sym e)
+pub left_pruned : {A : Type 0} (f : Fulfilment A) (roots : List ℕ) (all ms : List made.Measured) (ps qs : List Pair) → map pair_of ms ≡ ps → AreOpenSteps f.untils.items f.leaves.items ps roots → AreAmong ms all
+    → AreLeft f roots all ms qs → IsPrunedSafely f ps qs
+left_pruned f roots all ms ps qs e opens among w T tests =
+    left_listed T f tests roots all ms qs (subst (λ xs. AreOpenSteps f.untils.items f.leaves.items xs roots) (sym e) opens) among w ps e

@@ -1,27 +1,15 @@
--- Pairs that may be listed in place of others, and until rows that they can differ in, one by one.
-use Rattle.std.proofs.Common.{◌≡◌, ℕ, zero, suc, ◌+◌, ◌<◌, true, false, ◌⊎◌, inl, inr, List, [], ◌∷◌, ◌++◌, length, refl, sym, ◌∙◌, ap, subst, arith, cond, nat_lt, Some, None}
+-- Until rows that pairs can differ in, and what pairs lack, one by one.
+use Rattle.std.proofs.Common.{◌≡◌, ℕ, ◌+◌, ◌<◌, false, ◌⊎◌, inl, inr, List, [], ◌∷◌, ◌++◌, length, sym, ◌∙◌, ap, subst, arith, Some}
 use Rattle.std.specs.Prelude.{slice_get, slice_index_or}
-use Rattle.std.proofs.lemmas.List.{length-append}
-use Rattle.std.proofs.lemmas.Bool.{false_from_ne_true}
-use Rattle.std.proofs.lemmas.Bool.Decides.{nat_tests}
-use Rattle.std.proofs.lemmas.List.Quantifiers.{position-Some}
-use Rattle.std.proofs.lemmas.Option.{slice_get-get_or, slice_get_within}
-use Rattle.std.specs.List.{filter, list_any, position}
-use Rattle.std.specs.Ordering.{eq_by_cmp, nat_cmp}
-use Rattle.ltl_spec.specs.Collections.Lists.{place_of, with_new}
-use Rattle.ltl_spec.proofs.Collections.ListLaws.{place_below}
-use Rattle.ltl_spec.proofs.Collections.MemberLaws.{any_cases}
-use Rattle.ltl_alt.specs.ListHash.{pair_Decides}
-use Rattle.ltl_spec.specs.Collections.Sets.{Has, has}
-use Rattle.ltl_spec.specs.Transitions.Pairs.{Pair, Within, pair_cmp}
-use Rattle.ltl_spec.proofs.Collections.SetLaws.{append_cases, append_left, append_right, filter_cases}
+use Rattle.std.proofs.lemmas.Option.{slice_get_within}
+use Rattle.ltl_spec.specs.Collections.Sets.{Has}
+use Rattle.ltl_spec.specs.Transitions.Pairs.{Pair}
+use Rattle.ltl_spec.proofs.Collections.SetLaws.{append_cases, append_left, append_right}
 use Rattle.ltl_spec.proofs.Transitions.IndependenceTests.{Support, Covers, no_support, shares_some}
-use Rattle.ltl_alt.specs.CodeView.{AreLacks, AreMoreLacks, AreOpenSteps, AreSpares, HasLack, IsLack, IsSpareOf, IsUntouched}
+use Rattle.ltl_alt.specs.CodeView.{AreLacks, AreOpenSteps, IsKnown, IsLack, IsUntouched}
 use Rattle.ltl_alt.specs.declared.fulfilment.Fulfilment.{Fulfilment}
 use Rattle.ltl_alt.specs.declared.fulfilment.UntilTest.{UntilTest}
-use Rattle.ltl_alt.specs.declared.lacks.Lacks.{Lacks}
-use Rattle.ltl_alt.specs.declared.prune.Measured as made
-use Rattle.ltl_alt.proofs.MapLaws.{at_before, at_last}
+use Rattle.ltl_alt.specs.declared.lacks.Lack as known
 use Rattle.ltl_alt.proofs.NeedsLaws.{same_or_other}
 
 -- ---- until rows
@@ -54,84 +42,13 @@ open_end us ls ps n roots e w i u f = let l = slice_get_within us i u f in w i u
 
 -- ---- what pairs lack
 
-below_true : (m n : ℕ) → m < n → nat_lt m n ≡ true
-below_true m n l = grind (arith, nat_tests)
+-- of one more it is known
+pub lacks_added : {A : Type 0} (f : Fulfilment A) (roots : List ℕ) (ks new : List known.Lack) (k : known.Lack) → new ≡ ks ++ k ∷ [] → IsLack f roots k.pair k.asked → AreLacks f roots ks → AreLacks f roots new
+lacks_added f roots ks new k e this w n h = elim (append_cases ks (k ∷ []) n (subst (λ xs. Has xs n) e h)) [
+  | inl j ↦ w n j
+  | inr j ↦ elim j [ inl s ↦ subst (λ (x : known.Lack). IsLack f roots x.pair x.asked) (sym s) this | inr x ↦ absurd x ]
+]
 
--- a pair that isn't found stands behind the others then
-pub not_placed : (ps : List Pair) (p : Pair) → position (eq_by_cmp pair_cmp p) ps ≡ None → with_new (eq_by_cmp pair_cmp) ps p ≡ ps ++ p ∷ []
-not_placed ps p e = ap (λ b. cond b ps (ps ++ p ∷ [])) (false_from_ne_true (list_any (eq_by_cmp pair_cmp p) ps) (λ h.
-    let (q, k, f) = any_cases (eq_by_cmp pair_cmp p) ps h in
-    let there : Has ps p = subst (Has ps) (sym ((pair_Decides p q).0 f)) k in
-    let place = place_of (eq_by_cmp pair_cmp) p ps in
-    let below = below_true place (length ps) (place_below (eq_by_cmp pair_cmp) pair_Decides p ps there) in
-    never place (sym (ap (λ b. cond b (Some place) None) below) ∙ e)))
-  where
-    never : (i : ℕ) → Some i ≡ None → ⊥
-    never i q = cc
-
--- and one that is found stands under its number
-pub placed : (ps : List Pair) (p : Pair) (i : ℕ) → position (eq_by_cmp pair_cmp p) ps ≡ Some i → (q : Pair) × (slice_get ps i ≡ Some q) × (p ≡ q)
-placed ps p i e =
-    let (l, f, g) = position-Some (eq_by_cmp pair_cmp p) ps i p e in
-    (slice_index_or ps i p, slice_get-get_or ps i p l, (pair_Decides p (slice_index_or ps i p)).0 f)
-
--- as far as a pair asks for some rows it is within the pair
-pub core_within : (p : Pair) (rows targets : List ℕ) → targets ≡ filter (λ k. has nat_cmp k rows) p.targets → Within (record { cube = p.cube; targets = targets }) p
-core_within p rows targets e = record { cube = λ l h. h; targets = λ k h. (filter_cases (λ x. has nat_cmp x rows) p.targets k (subst (λ xs. Has xs k) e h)).0 }
-
-module _ {A : Type 0} (f : Fulfilment A) (roots : List ℕ) where
-  -- what stands under a number still does where more is known
-  lack_stays : (old new : List Support) → AreMoreLacks old new → (p : Pair) (k : ℕ) → HasLack f roots old p k → HasLack f roots new p k
-  lack_stays old new (more, e) p k (l, w) =
-      let long = ap length e ∙ length-append old more in
-      (omega (arith, l, long), subst (IsLack f roots p) (sym (ap (λ xs. slice_index_or xs k no_support) e ∙ at_before old more no_support k l)) w)
-
-  -- what is known of a pair
-  pub lack_known : (cores : List Pair) (lacks : List Support) (p q : Pair) (k : ℕ) → slice_get cores k ≡ Some q → p ≡ q → AreLacks f roots cores lacks → HasLack f roots lacks p k
-  lack_known cores lacks p q k found e w =
-      let l = slice_get_within cores k q found in
-      let c = w.count in
-      (omega arith, subst (λ x. IsLack f roots x (slice_index_or lacks k no_support)) (sym e) (w.each k q found))
-
-  -- and of one more
-  pub lacks_next : (cores more_cores : List Pair) (lacks more : List Support) (p : Pair) (v : Support) → more_cores ≡ cores ++ p ∷ [] → more ≡ lacks ++ v ∷ [] → IsLack f roots p v → AreLacks f roots cores lacks → AreLacks f roots more_cores more
-  lacks_next cores more_cores lacks more p v e g new w = record {
-    count = let a = ap length e in let b = length-append cores (p ∷ []) in let c = ap length g in let d = length-append lacks (v ∷ []) in let n = w.count in omega arith;
-    each = λ k q found. elim (at_end cores p q k (ap (λ xs. slice_get xs k) (sym e) ∙ found)) [
-      | inl (old, l) ↦
-          let n = w.count in
-          subst (IsLack f roots q) (sym (ap (λ xs. slice_index_or xs k no_support) g ∙ at_before lacks (v ∷ []) no_support k (omega arith))) (w.each k q old)
-      | inr (last, same) ↦
-          let n = w.count in
-          subst (λ x. IsLack f roots x (slice_index_or more k no_support)) (sym same) (subst (IsLack f roots p) (sym (ap (λ xs. slice_index_or xs k no_support) g ∙ at_last lacks v no_support k (last ∙ n))) new)
-    ];
-  }
-    where
-      at_end : (xs : List Pair) (y z : Pair) (i : ℕ) → slice_get (xs ++ y ∷ []) i ≡ Some z → (slice_get xs i ≡ Some z) × (i < length xs) ⊎ ((i ≡ length xs) × (z ≡ y))
-      at_end [] y z zero h = inr (refl, cc)
-      at_end [] y z (suc i) h = cc
-      at_end (x ∷ xs) y z zero h = inl (h, omega arith)
-      at_end (x ∷ xs) y z (suc i) h = elim (at_end xs y z i h) [ inl (g, l) ↦ inl (g, omega arith) | inr (d, s) ↦ inr (ap suc d, s) ]
-
-  -- ---- pairs
-
-  module _ (ms : List made.Measured) where
-    spare_stays : (old new : List Support) → AreMoreLacks old new → (m : made.Measured) → IsSpareOf f roots ms old m → IsSpareOf f roots ms new m
-    spare_stays old new more m w = record { origin = w.origin; there = w.there; pair = w.pair; size = w.size; core = w.core; smaller = w.smaller; lack = lack_stays old new more w.core m.number w.lack }
-
-    pub spare_added : (all new : List made.Measured) (old lacks : List Support) (m n : made.Measured) (core : Pair) → new ≡ all ++ n ∷ [] → AreMoreLacks old lacks → Has ms m → n.pair ≡ m.pair → n.size ≡ m.size
-        → Within core m.pair → HasLack f roots lacks core n.number → AreSpares f roots ms all old → AreSpares f roots ms new lacks
-    spare_added all new old lacks m n core e more there pair size smaller lack w x h = elim (append_cases all (n ∷ []) x (subst (λ xs. Has xs x) e h)) [
-      | inl k ↦ spare_stays old lacks more x (w x k)
-      | inr k ↦ elim k [
-        | inl d ↦ subst (IsSpareOf f roots ms lacks) (sym d) (record { origin = m; there = there; pair = pair; size = size; core = core; smaller = subst (Within core) (sym pair) smaller; lack = lack })
-        | inr z ↦ absurd z
-      ]
-    ]
-
--- the same of what is the same
-pub lacks_same : {A : Type 0} (f : Fulfilment A) (roots : List ℕ) (x y : Lacks A) → x ≡ y → AreLacks f roots y.cores.keys y.lacks.items → AreLacks f roots x.cores.keys x.lacks.items
-lacks_same {A} f roots x y e w = subst (λ (z : Lacks A). AreLacks f roots z.cores.keys z.lacks.items) (sym e) w
-
-pub spares_same : {A : Type 0} (f : Fulfilment A) (roots : List ℕ) (ms all : List made.Measured) (x y : Lacks A) → x ≡ y → AreSpares f roots ms all y.lacks.items → AreSpares f roots ms all x.lacks.items
-spares_same {A} f roots ms all x y e w = subst (λ (z : Lacks A). AreSpares f roots ms all z.lacks.items) (sym e) w
+-- what is known of a pair
+pub known_lack : {A : Type 0} (f : Fulfilment A) (roots : List ℕ) (ks : List known.Lack) (p : Pair) (v : Support) → IsKnown ks p v → AreLacks f roots ks → IsLack f roots p v
+known_lack f roots ks p v (k, h, e, g) w = subst (IsLack f roots p) g (subst (λ q. IsLack f roots q k.asked) e (w k h))

@@ -1,16 +1,18 @@
 -- What pairs lack to fulfil until rows, by the codes of steps.
-use Rattle.std.specs.Prelude.{◌≡◌, ◌≢◌, ◌⊎◌, ℕ, ◌<◌, ◌≤◌, not, ◌&&◌, false, List, ◌++◌, length, slice_get, slice_index_or, Some}
-use Rattle.ltl_spec.specs.Collections.Sets.{Has, has}
+use Rattle.std.specs.Prelude.{◌≡◌, ◌≢◌, ◌⊎◌, ℕ, ◌<◌, ◌≤◌, not, ◌&&◌, false, List, length, map, slice_get, slice_index_or, true, Some}
+use Rattle.ltl_spec.specs.Collections.Sets.{Has, IsRising, has}
 use Rattle.ltl_spec.specs.Transitions.Cubes.{literal_cmp, opposite}
-use Rattle.ltl_spec.specs.Transitions.Pairs.{Pair, Within}
-use Rattle.ltl_spec.proofs.Transitions.IndependenceTests.{Support, Covers, IsWithinSupport, no_support, of_sign, shares_some}
+use Rattle.ltl_spec.specs.Transitions.Pairs.{Pair, pair_cmp}
+use Rattle.ltl_spec.proofs.Transitions.IndependenceTests.{Support, Covers, IsWithinSupport, no_support, support_of, of_sign, shares_some}
 use Rattle.ltl_spec.proofs.Transitions.AskedSteps.{AreAskedFrom, AreCodes}
 use Rattle.ltl_spec.proofs.Transitions.Fulfilment.{Coming, anything}
 use Rattle.ltl_spec.proofs.Transitions.Steps as steps
 use Rattle.ltl_spec.proofs.Transitions.Steps.{AreAsked}
 use Rattle.ltl_alt.specs.declared.fulfilment.Fulfilment.{Fulfilment}
 use Rattle.ltl_alt.specs.declared.fulfilment.UntilTest.{UntilTest}
+use Rattle.ltl_alt.specs.declared.lacks.Lack as known
 use Rattle.ltl_alt.specs.declared.prune.Measured as made
+use Rattle.ltl_alt.specs.StandIns.{asks_less, pair_of}
 use Rattle.ltl_alt.specs.Tests.{AreEarlier, AreLeaves, steps_of}
 
 -- what of this can come to a pair: no literal that it contradicts
@@ -75,28 +77,30 @@ IsUntouched ls ps k = (a : Support) × Covers a ps × (shares_some (slice_index_
 abbrev pub AreOpenSteps : List UntilTest → List Support → List Pair → List ℕ → Type 0
 AreOpenSteps us ls ps roots = (i : ℕ) (u : UntilTest) → slice_get us i ≡ Some u → Has roots u.step ⊎ IsUntouched ls ps u.step
 
--- what a pair lacks stands under the number
-abbrev pub HasLack : {A : Type 0} → Fulfilment A → List ℕ → List Support → Pair → ℕ → Type 0
-HasLack f roots lacks p k = (k < length lacks) × IsLack f roots p (slice_index_or lacks k no_support)
+-- what a pair lacks is known
+abbrev pub IsKnown : List known.Lack → Pair → Support → Type 0
+IsKnown ks p v = (k : known.Lack) × Has ks k × (k.pair ≡ p) × (k.asked ≡ v)
 
--- so does that of each of these
-pub record AreLacks {A : Type 0} (f : Fulfilment A) (roots : List ℕ) (cores : List Pair) (lacks : List Support) : Type 0 where
-  pub count : length cores ≡ length lacks
-  pub each : (k : ℕ) (p : Pair) → slice_get cores k ≡ Some p → IsLack f roots p (slice_index_or lacks k no_support)
+-- each pair lacks what is said
+abbrev pub AreLacks : {A : Type 0} → Fulfilment A → List ℕ → List known.Lack → Type 0
+AreLacks f roots ks = (k : known.Lack) → Has ks k → IsLack f roots k.pair k.asked
 
--- some more stand behind the others
-abbrev pub AreMoreLacks : List Support → List Support → Type 0
-AreMoreLacks old new = (more : List Support) × (new ≡ old ++ more)
+-- a pair within another one that may be listed in its place: it is smaller, and lacks nothing that the other one asks for
+pub record IsSpare {A : Type 0} (f : Fulfilment A) (roots : List ℕ) (m n : made.Measured) : Type 0 where
+  pub size : m.size < n.size
+  pub lacking : Support
+  pub lack : IsLack f roots m.pair lacking
+  pub nothing : shares_some lacking (support_of n.pair) ≡ false
 
--- one of the pairs. What a pair within it lacks stands under its number
-pub record IsSpareOf {A : Type 0} (f : Fulfilment A) (roots : List ℕ) (ms : List made.Measured) (lacks : List Support) (m : made.Measured) : Type 0 where
-  pub origin : made.Measured
-  pub there : Has ms origin
-  pub pair : m.pair ≡ origin.pair
-  pub size : m.size ≡ origin.size
-  pub core : Pair
-  pub smaller : Within core m.pair
-  pub lack : HasLack f roots lacks core m.number
+-- among all there is one
+pub record HasSpare {A : Type 0} (f : Fulfilment A) (roots : List ℕ) (all : List made.Measured) (n : made.Measured) : Type 0 where
+  pub other : made.Measured
+  pub there : Has all other
+  pub within : asks_less other n ≡ true
+  pub spare : IsSpare f roots other n
 
-abbrev pub AreSpares : {A : Type 0} → Fulfilment A → List ℕ → List made.Measured → List made.Measured → List Support → Type 0
-AreSpares f roots ms all lacks = (m : made.Measured) → Has all m → IsSpareOf f roots ms lacks m
+-- these are left of some pairs, a set: each other one has one in whose place it may be listed
+pub record AreLeft {A : Type 0} (f : Fulfilment A) (roots : List ℕ) (all ms : List made.Measured) (qs : List Pair) : Type 0 where
+  pub from : (q : Pair) → Has qs q → Has (map pair_of ms) q
+  pub left : (m : made.Measured) → Has ms m → Has qs m.pair ⊎ HasSpare f roots all m
+  pub rising : IsRising pair_cmp qs

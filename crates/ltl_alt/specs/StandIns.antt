@@ -1,13 +1,12 @@
 -- Pairs that may be listed in place of others.
-use Rattle.std.specs.Prelude.{◌≡◌, ℕ, Bool, true, false, not, ◌&&◌, nat_lt, List, slice_index_or, flat_map, filter_map}
-use Rattle.std.specs.List.{list_any, filter}
+use Rattle.std.specs.Prelude.{◌≡◌, Bool, true, false, List, flat_map, filter_map}
+use Rattle.std.specs.List.{filter}
 use Rattle.std.specs.Ordering.{nat_cmp}
 use Rattle.ltl_spec.specs.Collections.Sets.{Has, IsRising, has}
 use Rattle.ltl_spec.specs.Transitions.Cubes.{literal_cmp}
 use Rattle.ltl_spec.specs.Transitions.Pairs.{Pair, pair_cmp, join_pair}
 use Rattle.ltl_spec.specs.Transitions.RowTransitions.{Table}
 use Rattle.ltl_spec.specs.Transitions.Pruning.{is_within, IsSafeToDrop}
-use Rattle.ltl_spec.proofs.Transitions.IndependenceTests.{Support, no_support, support_of, shares_some}
 use Rattle.ltl_alt.specs.declared.fulfilment.Fulfilment.{Fulfilment}
 use Rattle.ltl_alt.specs.declared.prune.Measured as made
 use Rattle.ltl_alt.specs.declared.rule.Rule.{Rule}
@@ -63,18 +62,6 @@ common_pair t u = record { cube = filter (λ l. has literal_cmp l u.cube) t.cube
 abbrev pub asks_less : made.Measured → made.Measured → Bool
 asks_less m n = is_within m.pair n.pair
 
--- m is smaller, and lacks nothing that n asks for
-abbrev pub is_spare : List Support → made.Measured → made.Measured → Bool
-is_spare lacks m n = nat_lt m.size n.size && not (shares_some (slice_index_or lacks m.number no_support) (support_of n.pair))
-
--- it is new, and not of the least size
-abbrev pub is_asked : ℕ → made.Measured → Bool
-is_asked least n = not n.is_old && nat_lt least n.size
-
--- it is, and a smaller one among all may be listed in its place
-abbrev pub has_spare : List Support → ℕ → List made.Measured → made.Measured → Bool
-has_spare lacks least all n = is_asked least n && list_any (λ m. is_spare lacks m n && asks_less m n) all
-
--- those of the pairs that have none
-abbrev pub least_of : List Support → ℕ → List made.Measured → List made.Measured → List made.Measured
-least_of lacks least all ms = filter (λ n. not (has_spare lacks least all n)) ms
+-- all of these are among those
+abbrev pub AreAmong : List made.Measured → List made.Measured → Type 0
+AreAmong ms all = (m : made.Measured) → Has all m → Has ms m

@@ -1,77 +1,96 @@
 //! What pairs lack to fulfil until rows, each looked at once.
 
-ghost use Rattle.std.specs.Prelude.{◌≡◌, ℕ, [], List, IfOk, OnOk};
-ghost use Rattle.ltl_spec.specs.Transitions.Pairs.{Within};
-ghost use Rattle.ltl_alt.specs.CodeView.{AreLacks, AreMoreLacks, HasLack};
+ghost use Rattle.std.specs.Prelude.{◌≡◌, [], slice_get, IfOk, IfSome, OnOk};
+ghost use Rattle.ltl_alt.specs.CodeView.{AreLacks, IsKnown, IsLack};
 
 use crate::codes::lack;
 use crate::fulfilment::Fulfilment;
 use crate::pair::Pair;
 use crate::support::Support;
-use ltl_automaton::Interner;
-use ltl_sets::RowSet;
 use std::alloc::{AllocError, Allocator};
 
-/// Pairs that were looked at, and for each of them what it lacks.
+/// A pair, and what it lacks.
+#[derive(Clone, Copy)]
+pub(crate) struct Lack {
+    pub(crate) pair: Pair,
+    pub(crate) asked: Support,
+}
+
+/// What pairs lack that were looked at.
 #[derive(Drop)]
 pub(crate) struct Lacks<'a, A: Allocator> {
-    pub(crate) cores: Interner<'a, Pair, A>,
-    pub(crate) lacks: Vec<Support, &'a A>,
+    pub(crate) known: Vec<Lack, &'a A>,
+    /// For pairs by number where theirs stands, if they were looked at.
+    places: Vec<usize, &'a A>,
     codes: Vec<u8, &'a A>,
     asked: Vec<u8, &'a A>,
 }
 
-/// The rows that these steps speak of.
-pub(crate) fn rows_of<A: Allocator>(fulfilment: &Fulfilment<'_, A>, roots: &[usize]) -> RowSet {
-    let mut rows = RowSet::empty();
-    for root in roots {
-        rows = rows.union(&fulfilment.leaves(*root).targets());
-    }
-    rows
+/// Where what the pair with a number lacks stands, if it was looked at.
+fn place_of(places: &[usize], number: usize) -> usize {
+    places.get(number).copied().unwrap_or(usize::MAX)
 }
 
-/// The pair as far as it asks for these rows. It lacks no less.
-pub(crate) fn core_of(pair: &Pair, rows: &RowSet) -> Pair
-    ensures { Within result pair.now }
-{
-    Pair {
-        cube: pair.cube,
-        targets: pair.targets.common(rows),
+/// Puts where it stands.
+fn put_place(places: &mut [usize], number: usize, place: usize) {
+    if number < places.len() {
+        places[number] = place;
     }
 }
 
 impl<'a, A: Allocator> Lacks<'a, A> {
-    /// None was looked at yet.
-    pub(crate) fn new(alloc: &'a A) -> Self
-        ensures cores { result.cores.keys ≡ [] }
-        ensures lacks { result.lacks.items ≡ [] }
+    /// None of so many pairs was looked at yet.
+    pub(crate) fn new(alloc: &'a A, count: usize) -> Result<Self, AllocError>
+        ensures { IfOk result (λ l. l.known.items ≡ []) }
     {
-        Lacks {
-            cores: Interner::new(alloc),
-            lacks: Vec::new(alloc),
+        let mut places = Vec::new(alloc);
+        places.resize(count, usize::MAX)?;
+        Ok(Lacks {
+            known: Vec::new(alloc),
+            places,
             codes: Vec::new(alloc),
             asked: Vec::new(alloc),
-        }
+        })
     }
 
-    /// The number of what a pair lacks of these steps.
-    pub(crate) fn number(
+    /// What stands at a place.
+    fn at(&self, place: usize) -> Option<Lack>
+        ensures { result ≡ slice_get self.now.known.items place }
+    {
+        self.known.get(place).copied()
+    }
+
+    /// What the pair with a number lacks, if it was looked at.
+    fn known(&self, number: usize, pair: &Pair) -> Option<Support>
+        ensures { IfSome result (IsKnown self.now.known.items pair.now) }
+    {
+        let place = place_of(self.places.as_slice(), number);
+        if let Some(lack) = self.at(place) {
+            if lack.pair.is_same(pair) {
+                return Some(lack.asked);
+            }
+        }
+        None
+    }
+
+    /// What the pair with a number lacks of these steps.
+    pub(crate) fn lack(
         &mut self,
         fulfilment: &Fulfilment<'_, A>,
         roots: &[usize],
-        pair: Pair,
-    ) -> Result<usize, AllocError>
-        requires { AreLacks fulfilment.now roots.now self.old.cores.keys self.old.lacks.items }
-        ensures lacks { OnOk result (AreLacks fulfilment.now roots.now self.new.cores.keys self.new.lacks.items) }
-        ensures more { OnOk result (AreMoreLacks self.old.lacks.items self.new.lacks.items) }
-        ensures number { IfOk result (HasLack fulfilment.now roots.now self.new.lacks.items pair) }
+        number: usize,
+        pair: &Pair,
+    ) -> Result<Support, AllocError>
+        requires { AreLacks fulfilment.now roots.now self.old.known.items }
+        ensures lacks { OnOk result (AreLacks fulfilment.now roots.now self.new.known.items) }
+        ensures lack { IfOk result (IsLack fulfilment.now roots.now pair.now) }
     {
-        if let Some(known) = self.cores.place(&pair) {
+        if let Some(known) = self.known(number, pair) {
             return Ok(known);
         }
-        let lack = lack(fulfilment, roots, &pair, &mut self.codes, &mut self.asked)?;
-        let number = self.cores.number(pair)?;
-        self.lacks.push(lack)?;
-        Ok(number)
+        let asked = lack(fulfilment, roots, pair, &mut self.codes, &mut self.asked)?;
+        put_place(self.places.as_mut_slice(), number, self.known.len());
+        self.known.push(Lack { pair: *pair, asked })?;
+        Ok(asked)
     }
 }

@@ -1,20 +1,19 @@
 //! Lists of pairs without those that need not stand there.
 
-ghost use Rattle.std.specs.Prelude.{◌≡◌, IfOk, OnOk, map};
+ghost use Rattle.std.specs.Prelude.{◌≡◌, true, IfOk, OnOk, map};
 ghost use Rattle.ltl_spec.specs.Collections.Sets.{IsRising};
 ghost use Rattle.ltl_spec.specs.Transitions.Pairs.{pair_cmp};
-ghost use Rattle.ltl_alt.specs.CodeView.{AreLacks, AreSpares};
-ghost use Rattle.ltl_alt.specs.StandIns.{IsPruned, IsPrunedSafely, has_spare, is_asked, least_of, pair_of};
+ghost use Rattle.ltl_alt.specs.CodeView.{AreLacks, AreLeft, HasSpare, IsSpare};
+ghost use Rattle.ltl_alt.specs.StandIns.{AreAmong, IsPruned, IsPrunedSafely, pair_of};
 
 use crate::fulfilment::Fulfilment;
-use crate::lacks::{Lacks, core_of, rows_of};
-use crate::leaves::leaves_at;
+use crate::lacks::Lacks;
 use crate::lists::sort_dedup;
 use crate::pair::Pair;
 use crate::roots::open_steps;
 use crate::rule::{Pruning, Rule};
 use crate::support::Support;
-use least::{Below, Counting, Lookup};
+use least::{Below, Lookup};
 use ltl_models::elements::{has_literal, has_row, tally_literals, tally_rows};
 use smallvec::SmallVec;
 use std::alloc::{AllocError, Allocator};
@@ -28,7 +27,7 @@ const SAMPLE: usize = 64;
 /// So far apart, where the list is thought of as a ring: a prime, so that no order of the list is met.
 const STRIDE: usize = 2_654_435_761;
 
-/// A pair, how many literals and rows it asks for, its number if it may stand in for others, and whether it stood on the left side of a join already.
+/// A pair, how many literals and rows it asks for, its number, and whether it stood on the left side of a join already.
 #[derive(Clone, Copy)]
 struct Measured {
     size: usize,
@@ -85,23 +84,11 @@ impl Below for Measured {
     ghost transitive = { λ m n o. is_within_transitive m.pair n.pair o.pair };
 }
 
-/// What pairs lack to fulfil until rows, by their numbers.
+/// Pairs that may be listed in place of others, and the least size of one.
 #[derive(Drop)]
-struct Lacking<'b> {
-    lacks: &'b [Support],
-}
-
-/// A smaller pair counts that lacks nothing that the other one asks for.
-impl<'b> Counting<Measured> for Lacking<'b> {
-    ghost use Rattle.ltl_alt.specs.StandIns.{is_spare};
-
-    ghost counts = { λ l m n. is_spare l.lacks.now m n };
-
-    #[inline(always)]
-    fn counts(&self, other: &Measured, item: &Measured) -> bool {
-        other.size < item.size
-            && !leaves_at(self.lacks, other.number).shares_some(&Support::by(&item.pair))
-    }
+struct Spares<'b, 'a, A: Allocator> {
+    lookup: Lookup<'b, 'a, Measured, A>,
+    least: usize,
 }
 
 /// The place of the first pair that isn't less, from that place on.
@@ -133,7 +120,7 @@ fn measure<'a, A: Allocator>(
         at = place_from(left, at, pair);
         measured.push(Measured {
             size: pair.size(),
-            number: 0,
+            number: measured.len(),
             is_old: at < left.len() && left[at].is_same(pair),
             pair: *pair,
         })?;
@@ -164,88 +151,116 @@ fn largest(measured: &[Measured]) -> usize {
     most
 }
 
-/// Those of less than the greatest size, with the numbers of what they lack of these steps. No other one is smaller than one of the pairs.
-fn spares<'a, A: Allocator>(
+/// Those of less than the greatest size. No other one is smaller than one of the pairs.
+fn smaller<'a, A: Allocator>(
     alloc: &'a A,
-    fulfilment: &Fulfilment<'_, A>,
-    roots: &[usize],
     measured: &[Measured],
     only_old: bool,
-    lacks: &mut Lacks<'a, A>,
 ) -> Result<MeasuredPairs<'a, A>, AllocError>
-    requires { AreLacks fulfilment.now roots.now lacks.old.cores.keys lacks.old.lacks.items }
-    ensures { IfOk result (λ v. AreSpares fulfilment.now roots.now measured.now v.items lacks.new.lacks.items) }
+    ensures { IfOk result (λ v. AreAmong measured.now v.items) }
 {
     let most = largest(measured);
-    let rows = rows_of(fulfilment, roots);
-    let mut spares: MeasuredPairs<'a, A> = SmallVec::new(alloc);
+    let mut smaller: MeasuredPairs<'a, A> = SmallVec::new(alloc);
     'measured: for m in measured {
         if may_stand_in(m, most, only_old) {
-            let number = lacks.number(fulfilment, roots, core_of(&m.pair, &rows))?;
-            spares.push(Measured {
-                size: m.size,
-                number,
-                is_old: m.is_old,
-                pair: m.pair,
-            })?;
+            smaller.push(*m)?;
         }
     }
-    Ok(spares)
+    Ok(smaller)
 }
 
 /// Whether it is looked for a smaller one: old ones had none, and none is smaller than the least.
-fn is_asked(m: &Measured, least: usize) -> bool
-    ensures { result ≡ is_asked least m.now }
-{
+fn is_asked(m: &Measured, least: usize) -> bool {
     !m.is_old && least < m.size
+}
+
+/// Whether a pair within another one may be listed in its place: it is smaller, and lacks nothing that the other one asks for.
+fn is_spare<A: Allocator>(
+    lacks: &mut Lacks<'_, A>,
+    fulfilment: &Fulfilment<'_, A>,
+    roots: &[usize],
+    other: &Measured,
+    m: &Measured,
+) -> Result<bool, AllocError>
+    requires { AreLacks fulfilment.now roots.now lacks.old.known.items }
+    ensures lacks { OnOk result (AreLacks fulfilment.now roots.now lacks.new.known.items) }
+    ensures spare { IfOk result (λ b. b ≡ true → IsSpare fulfilment.now roots.now other.now m.now) }
+{
+    if m.size <= other.size {
+        return Ok(false);
+    }
+    let lack = lacks.lack(fulfilment, roots, other.number, &other.pair)?;
+    Ok(!lack.shares_some(&Support::by(&m.pair)))
 }
 
 /// Whether a smaller one is found that may be listed in place of this one.
 fn has_spare<A: Allocator>(
-    lookup: &Lookup<'_, '_, Measured, A>,
-    lacks: &Lacking<'_>,
-    least: usize,
+    spares: &Spares<'_, '_, A>,
+    lacks: &mut Lacks<'_, A>,
+    fulfilment: &Fulfilment<'_, A>,
+    roots: &[usize],
     m: &Measured,
-) -> bool
-    ensures { result ≡ has_spare lacks.now.lacks.now least lookup.now m.now }
+) -> Result<bool, AllocError>
+    requires { AreLacks fulfilment.now roots.now lacks.old.known.items }
+    ensures lacks { OnOk result (AreLacks fulfilment.now roots.now lacks.new.known.items) }
+    ensures spare { IfOk result (λ b. b ≡ true → HasSpare fulfilment.now roots.now spares.now.lookup m.now) }
 {
-    is_asked(m, least) && lookup.has_lesser(lacks, m)
+    if !is_asked(m, spares.least) {
+        return Ok(false);
+    }
+    let mut left = usize::MAX;
+    'looks: for _ in 0..u64::MAX {
+        let Some(other) = spares.lookup.next_lesser(&mut left, m) else {
+            return Ok(false);
+        };
+        if is_spare(lacks, fulfilment, roots, &other, m)? {
+            return Ok(true);
+        }
+    }
+    Ok(false)
 }
 
 /// Whether there are many pairs, and none of some of them has a smaller one in its place. Then few have one or none has, and to ask each costs more than it
 /// leaves out.
 fn seem_least<A: Allocator>(
-    lookup: &Lookup<'_, '_, Measured, A>,
-    lacks: &Lacking<'_>,
-    least: usize,
+    spares: &Spares<'_, '_, A>,
+    lacks: &mut Lacks<'_, A>,
+    fulfilment: &Fulfilment<'_, A>,
+    roots: &[usize],
     measured: &[Measured],
-) -> bool {
+) -> Result<bool, AllocError>
+    requires { AreLacks fulfilment.now roots.now lacks.old.known.items }
+    ensures { OnOk result (AreLacks fulfilment.now roots.now lacks.new.known.items) }
+{
     if measured.len() <= MANY {
-        return false;
+        return Ok(false);
     }
-    for k in 0..SAMPLE {
+    'sample: for k in 0..SAMPLE {
         if let Some(m) = measured.get(k.wrapping_mul(STRIDE) % measured.len()) {
-            if has_spare(lookup, lacks, least, m) {
-                return false;
+            if has_spare(spares, lacks, fulfilment, roots, m)? {
+                return Ok(false);
             }
         }
     }
-    true
+    Ok(true)
 }
 
-/// Puts those of the pairs where others stood in whose place no smaller one may be listed.
+/// Puts those of the pairs where others stood in whose place no smaller one is found that may be listed.
 fn put_least<A: Allocator>(
     pairs: &mut Vec<Pair, &A>,
-    lookup: &Lookup<'_, '_, Measured, A>,
-    lacks: &Lacking<'_>,
-    least: usize,
+    spares: &Spares<'_, '_, A>,
+    lacks: &mut Lacks<'_, A>,
+    fulfilment: &Fulfilment<'_, A>,
+    roots: &[usize],
     measured: &[Measured],
 ) -> Result<(), AllocError>
-    ensures { OnOk result (pairs.new.items ≡ map pair_of (least_of lacks.now.lacks.now least lookup.now measured.now)) }
+    requires lacks { AreLacks fulfilment.now roots.now lacks.old.known.items }
+    requires rising { IsRising pair_cmp (map pair_of measured.now) }
+    ensures { OnOk result (AreLeft fulfilment.now roots.now spares.now.lookup measured.now pairs.new.items) }
 {
     pairs.clear();
     'measured: for m in measured {
-        if !has_spare(lookup, lacks, least, m) {
+        if !has_spare(spares, lacks, fulfilment, roots, m)? {
             pairs.push(m.pair)?;
         }
     }
@@ -264,29 +279,34 @@ fn prune_safely<'a, A: Allocator>(
     ensures { OnOk result (IsPrunedSafely fulfilment.now pairs.old.items pairs.new.items) }
 {
     let measured = measure(alloc, left, pairs.as_slice())?;
-    let roots = open_steps(alloc, fulfilment, pairs.as_slice())?;
     let only_old = !left.is_empty() && are_single(right);
-    let mut lacks = Lacks::new(alloc);
-    let spares = spares(
-        alloc,
+    let smaller = smaller(alloc, measured.as_slice(), only_old)?;
+    if smaller.is_empty() {
+        return Ok(());
+    }
+    let roots = open_steps(alloc, fulfilment, pairs.as_slice())?;
+    let mut lacks = Lacks::new(alloc, measured.len())?;
+    let spares = Spares {
+        lookup: Lookup::new(alloc, smaller.as_slice())?,
+        least: least_size(smaller.as_slice()),
+    };
+    if seem_least(
+        &spares,
+        &mut lacks,
         fulfilment,
         roots.as_slice(),
         measured.as_slice(),
-        only_old,
+    )? {
+        return Ok(());
+    }
+    put_least(
+        pairs,
+        &spares,
         &mut lacks,
+        fulfilment,
+        roots.as_slice(),
+        measured.as_slice(),
     )?;
-    if spares.is_empty() {
-        return Ok(());
-    }
-    let lookup = Lookup::new(alloc, spares.as_slice())?;
-    let least = least_size(spares.as_slice());
-    let by = Lacking {
-        lacks: lacks.lacks.as_slice(),
-    };
-    if seem_least(&lookup, &by, least, measured.as_slice()) {
-        return Ok(());
-    }
-    put_least(pairs, &lookup, &by, least, measured.as_slice())?;
     Ok(())
 }
 
