@@ -1,28 +1,30 @@
 -- The transitions of components by number, where more are listed.
-use Rattle.std.proofs.Common.{◌≡◌, ℕ, Bool, true, inl, inr, List, [], ◌∷◌, map, refl, sym, ◌∙◌, ap, subst, Option, Some, None}
+use Rattle.std.proofs.Common.{◌≡◌, ℕ, Bool, true, inl, inr, List, [], ◌∷◌, map, refl, sym, ◌∙◌, subst, Option, Some, None}
 use Rattle.std.specs.Prelude.{IfSome, nat_eq}
 use Rattle.std.specs.Cmp.Lexicographic.{pointwise, bytes_decides}
-use Rattle.std.proofs.lemmas.Bool.Decides.{Decides-eqb}
 use Rattle.std.specs.Map.{lookup}
 use Rattle.indexmap.specs.IndexMap.{insert_entry}
-use Rattle.ltl_spec.specs.Collections.Sets.{Has}
-use Rattle.ltl_spec.specs.Transitions.Pairs.{RowSet, Pair}
+use Rattle.ltl_spec.specs.Collections.Sets.{Has, set_of}
+use Rattle.ltl_spec.specs.Transitions.Pairs.{RowSet, Pair, pair_cmp, join}
 use Rattle.ltl_spec.specs.Transitions.RowTransitions.{Table, Transition}
 use Rattle.ltl_spec.proofs.Transitions.ProductTransitions.{transitions_of}
 use Rattle.ltl_alt.specs.declared.finals.Factor.{Factor}
 use Rattle.ltl_alt.specs.declared.finals.Factor.TheVariants as factor
 use Rattle.ltl_alt.specs.FinalView.{AreFinals, AreWithin, IsFinal, IsListOf, IsLonger, IsWithin, list_of}
+use Rattle.ltl_alt.specs.declared.memo.JoinKey.{JoinKey}
 use Rattle.ltl_alt.specs.ConjunctTableView as conjuncts
-use Rattle.ltl_alt.specs.ConjunctTableView.{conjunct_of}
+use Rattle.ltl_alt.proofs.JoinLaws.{same_key, key_exact}
 use Rattle.ltl_alt.proofs.MapLaws.{exact_cases, map_known, longer_within, longer_there}
 
 -- ---- where more is listed
 
-list_longer : (T : Table) (keep : Bool) (pairs more : List (List Pair)) (lists new : List (List Transition)) (list n : ℕ) → conjuncts.IsLonger pairs more → IsLonger lists new → IsListOf T keep pairs lists list n → IsListOf T keep more new list n
-list_longer T keep pairs more lists new list n g h w = record {
-  list = longer_within pairs more g list w.list;
+list_longer : (T : Table) (keep : Bool) (pairs more : List (List Pair)) (lists new : List (List Transition)) (key : JoinKey) (n : ℕ) → conjuncts.IsLonger pairs more → IsLonger lists new → IsListOf T keep pairs lists key n → IsListOf T keep more new key n
+list_longer T keep pairs more lists new key n g h w = record {
+  left = longer_within pairs more g key.left w.left;
+  right = longer_within pairs more g key.right w.right;
   number = longer_within lists new h n w.number;
-  made = longer_there [] lists new h n w.number ∙ w.made ∙ ap (transitions_of T keep) (sym (longer_there [] pairs more g list w.list));
+  made = longer_there [] lists new h n w.number ∙ w.made
+      ∙ (λ i. transitions_of T keep (set_of pair_cmp (join (sym (longer_there [] pairs more g key.left w.left) i) (sym (longer_there [] pairs more g key.right w.right) i))));
 }
 
 pub final_longer : (T : Table) (keep : Bool) (ps : List (List Pair)) (lists new : List (List Transition)) (component : RowSet) (n : ℕ) → IsLonger lists new → IsFinal T keep ps lists component n → IsFinal T keep ps new component n
@@ -32,10 +34,10 @@ some_longer : (T : Table) (keep : Bool) (ps : List (List Pair)) (lists new : Lis
 some_longer T keep ps lists new component None h w = tt
 some_longer T keep ps lists new component (Some n) h w = final_longer T keep ps lists new component n h w
 
-pub finals_longer : (T : Table) (keep : Bool) (ps pairs more : List (List Pair)) (lists new : List (List Transition)) (of_lists : List (ℕ × ℕ)) (of_components : List (RowSet × Option ℕ)) → conjuncts.IsLonger pairs more → IsLonger lists new
-    → AreFinals T keep ps pairs lists of_lists of_components → AreFinals T keep ps more new of_lists of_components
-finals_longer T keep ps pairs more lists new of_lists of_components g h w = record {
-  of_lists = λ list n k. list_longer T keep pairs more lists new list n g h (w.of_lists list n k);
+pub finals_longer : (T : Table) (keep : Bool) (ps pairs more : List (List Pair)) (lists new : List (List Transition)) (of_joins : List (JoinKey × ℕ)) (of_components : List (RowSet × Option ℕ)) → conjuncts.IsLonger pairs more → IsLonger lists new
+    → AreFinals T keep ps pairs lists of_joins of_components → AreFinals T keep ps more new of_joins of_components
+finals_longer T keep ps pairs more lists new of_joins of_components g h w = record {
+  of_joins = λ key n k. list_longer T keep pairs more lists new key n g h (w.of_joins key n k);
   of_components = λ component o k. some_longer T keep ps lists new component o h (w.of_components component o k);
 }
 
@@ -57,26 +59,23 @@ factors_longer lists new (f ∷ fs) h w =
 
 -- ---- one more
 
-pub nat_exact : (x y : ℕ) → nat_eq x y ≡ true → x ≡ y
-nat_exact x y e = (Decides-eqb x y).0 e
-
 pub set_exact : (x y : RowSet) → pointwise nat_eq x y ≡ true → x ≡ y
 set_exact x y e = (bytes_decides x y).0 e
 
-pub lists_more : (T : Table) (keep : Bool) (ps pairs : List (List Pair)) (lists : List (List Transition)) (of_lists more : List (ℕ × ℕ)) (of_components : List (RowSet × Option ℕ)) (list n : ℕ) → AreFinals T keep ps pairs lists of_lists of_components
-    → IsListOf T keep pairs lists list n → more ≡ insert_entry nat_eq of_lists list n → AreFinals T keep ps pairs lists more of_components
-lists_more T keep ps pairs lists of_lists more of_components list n w is e = record {
-  of_lists = λ l m h. elim (exact_cases nat_eq nat_exact of_lists list l n m (subst (λ es. Has es (l, m)) e h)) [
-    | inl k ↦ w.of_lists l m k
-    | inr k ↦ subst (λ x. IsListOf T keep pairs lists x m) (sym k.0) (subst (IsListOf T keep pairs lists list) (sym k.1) is)
+pub lists_more : (T : Table) (keep : Bool) (ps pairs : List (List Pair)) (lists : List (List Transition)) (of_joins more : List (JoinKey × ℕ)) (of_components : List (RowSet × Option ℕ)) (key : JoinKey) (n : ℕ) → AreFinals T keep ps pairs lists of_joins of_components
+    → IsListOf T keep pairs lists key n → more ≡ insert_entry same_key of_joins key n → AreFinals T keep ps pairs lists more of_components
+lists_more T keep ps pairs lists of_joins more of_components key n w is e = record {
+  of_joins = λ l m h. elim (exact_cases same_key key_exact of_joins key l n m (subst (λ es. Has es (l, m)) e h)) [
+    | inl k ↦ w.of_joins l m k
+    | inr k ↦ subst (λ x. IsListOf T keep pairs lists x m) (sym k.0) (subst (IsListOf T keep pairs lists key) (sym k.1) is)
   ];
   of_components = w.of_components;
 }
 
-pub components_more : (T : Table) (keep : Bool) (ps pairs : List (List Pair)) (lists : List (List Transition)) (of_lists : List (ℕ × ℕ)) (of_components more : List (RowSet × Option ℕ)) (component : RowSet) (o : Option ℕ) → AreFinals T keep ps pairs lists of_lists of_components
-    → IfSome o (IsFinal T keep ps lists component) → more ≡ insert_entry (pointwise nat_eq) of_components component o → AreFinals T keep ps pairs lists of_lists more
-components_more T keep ps pairs lists of_lists of_components more component o w is e = record {
-  of_lists = w.of_lists;
+pub components_more : (T : Table) (keep : Bool) (ps pairs : List (List Pair)) (lists : List (List Transition)) (of_joins : List (JoinKey × ℕ)) (of_components more : List (RowSet × Option ℕ)) (component : RowSet) (o : Option ℕ) → AreFinals T keep ps pairs lists of_joins of_components
+    → IfSome o (IsFinal T keep ps lists component) → more ≡ insert_entry (pointwise nat_eq) of_components component o → AreFinals T keep ps pairs lists of_joins more
+components_more T keep ps pairs lists of_joins of_components more component o w is e = record {
+  of_joins = w.of_joins;
   of_components = λ g p h. elim (exact_cases (pointwise nat_eq) set_exact of_components component g o p (subst (λ es. Has es (g, p)) e h)) [
     | inl k ↦ w.of_components g p k
     | inr k ↦ subst (λ x. IfSome p (IsFinal T keep ps lists x)) (sym k.0) (subst (λ q. IfSome q (IsFinal T keep ps lists component)) (sym k.1) is)
@@ -84,11 +83,11 @@ components_more T keep ps pairs lists of_lists of_components more component o w 
 }
 
 -- what is found
-pub list_known : (T : Table) (keep : Bool) (ps pairs : List (List Pair)) (lists : List (List Transition)) (of_lists : List (ℕ × ℕ)) (of_components : List (RowSet × Option ℕ)) (list n : ℕ) → AreFinals T keep ps pairs lists of_lists of_components
-    → Some n ≡ lookup (nat_eq list) of_lists → IsListOf T keep pairs lists list n
-list_known T keep ps pairs lists of_lists of_components list n w e = map_known nat_eq nat_exact (IsListOf T keep pairs lists list) list of_lists (Some n) e (λ m h. w.of_lists list m h)
+pub list_known : (T : Table) (keep : Bool) (ps pairs : List (List Pair)) (lists : List (List Transition)) (of_joins : List (JoinKey × ℕ)) (of_components : List (RowSet × Option ℕ)) (key : JoinKey) (n : ℕ) → AreFinals T keep ps pairs lists of_joins of_components
+    → Some n ≡ lookup (same_key key) of_joins → IsListOf T keep pairs lists key n
+list_known T keep ps pairs lists of_joins of_components key n w e = map_known same_key key_exact (IsListOf T keep pairs lists key) key of_joins (Some n) e (λ m h. w.of_joins key m h)
 
-pub component_known : (T : Table) (keep : Bool) (ps pairs : List (List Pair)) (lists : List (List Transition)) (of_lists : List (ℕ × ℕ)) (of_components : List (RowSet × Option ℕ)) (component : RowSet) (o : Option ℕ) → AreFinals T keep ps pairs lists of_lists of_components
+pub component_known : (T : Table) (keep : Bool) (ps pairs : List (List Pair)) (lists : List (List Transition)) (of_joins : List (JoinKey × ℕ)) (of_components : List (RowSet × Option ℕ)) (component : RowSet) (o : Option ℕ) → AreFinals T keep ps pairs lists of_joins of_components
     → Some o ≡ lookup (pointwise nat_eq component) of_components → IfSome o (IsFinal T keep ps lists component)
-component_known T keep ps pairs lists of_lists of_components component o w e =
+component_known T keep ps pairs lists of_joins of_components component o w e =
     map_known (pointwise nat_eq) set_exact (λ p. IfSome p (IsFinal T keep ps lists component)) component of_components (Some o) e (λ p h. w.of_components component p h)

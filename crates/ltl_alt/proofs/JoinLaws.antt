@@ -82,14 +82,6 @@ module _ (T : Table) (r : Rule) where
         | inr m ↦ subst (λ k. IsJoin T r lists k n) (sym m.0) (subst (IsJoin T r lists key) (sym m.1) is)
       ]
 
-  -- what it lists
-  pub join_lists : (old new : List (List Pair)) (left right joined : ℕ) (xs : List Pair) → IsLonger old new → left < length old → IsListAt old xs right → IsJoin T r new (record { left = left; right = right }) joined
-      → IsListed (StandsFor T r) (join (conjunct_of old left) xs) (conjunct_of new joined)
-  join_lists old new left right joined xs g l at w =
-      let first = longer_there [] old new g left l in
-      let second = longer_there [] old new g right at.0 ∙ at.1 in
-      subst (λ ps. IsListed (StandsFor T r) ps (conjunct_of new joined)) (λ i. join (first i) (second i)) w.listed
-
 -- a list keeps its number
 pub list_at_longer : (old new : List (List Pair)) (ps : List Pair) (k : ℕ) → IsLonger old new → IsListAt old ps k → IsListAt new ps k
 list_at_longer old new ps k g at = (longer_within old new g k at.0, longer_there [] old new g k at.0 ∙ at.1)

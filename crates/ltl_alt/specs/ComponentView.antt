@@ -6,7 +6,7 @@ use Rattle.ltl_alt.specs.declared.basis.Basis.{Basis}
 use Rattle.ltl_alt.specs.declared.components.Components.{Components}
 use Rattle.ltl_alt.specs.declared.memo.JoinKey.{JoinKey}
 use Rattle.ltl_alt.specs.declared.rule.Rule.{Rule}
-use Rattle.ltl_alt.specs.MemoView.{AreJoins, IsListAt}
+use Rattle.ltl_alt.specs.MemoView.{AreJoins, IsListAt, last_list}
 use Rattle.ltl_alt.specs.ConjunctTableView.{conjunct_of}
 use Rattle.ltl_alt.specs.StandIns.{IsListed, StandsFor}
 use Rattle.ltl_alt.specs.TransitionView.{table_at}
@@ -29,6 +29,7 @@ pub record AreComponents (T : Table) (r : Rule) (conjuncts lists : List (List Pa
 abbrev pub HasComponents : {A : Type 0} → Basis A → Components A → Type 0
 HasComponents b g = AreComponents (table_at b.table.now) b.pruning.rule b.conjuncts.lists.items g.memo.lists.keys g.memo.joins.entries g.nothing g.starts.items
 
--- what is kept of all these conjuncts at once stands under the number
-abbrev pub IsJoinOf : Table → Rule → List (List Pair) → List (List Pair) → RowSet → ℕ → Type 0
-IsJoinOf T r conjuncts lists component k = (k < length lists) × IsListed (StandsFor T r) (fold (λ ps i. join ps (conjunct_of conjuncts i)) (empty_pair ∷ []) component) (conjunct_of lists k)
+-- joins of two lists have what is kept of all these conjuncts at once
+abbrev pub IsLastOf : Table → Rule → List (List Pair) → List (List Pair) → RowSet → JoinKey → Type 0
+IsLastOf T r conjuncts lists component key =
+    ((key.left < length lists) × (key.right < length lists)) × IsListed (StandsFor T r) (fold (λ ps i. join ps (conjunct_of conjuncts i)) (empty_pair ∷ []) component) (last_list lists key)

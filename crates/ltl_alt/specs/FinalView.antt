@@ -11,7 +11,9 @@ use Rattle.ltl_alt.specs.declared.basis.Basis.{Basis}
 use Rattle.ltl_alt.specs.declared.finals.Factor.{Factor}
 use Rattle.ltl_alt.specs.declared.finals.Factor.TheVariants as factor
 use Rattle.ltl_alt.specs.declared.finals.Finals.{Finals}
+use Rattle.ltl_alt.specs.declared.memo.JoinKey.{JoinKey}
 use Rattle.ltl_alt.specs.ComponentView.{HasComponents}
+use Rattle.ltl_alt.specs.MemoView.{last_list}
 use Rattle.ltl_alt.specs.ConjunctTableView.{conjunct_of}
 use Rattle.ltl_alt.specs.TransitionView.{table_at}
 
@@ -34,11 +36,12 @@ AreWithin {A} lists factors = (f : Factor A) → Has factors f → IsWithin list
 abbrev pub IsLonger : List (List Transition) → List (List Transition) → Type 0
 IsLonger old new = (more : List (List Transition)) × (new ≡ old ++ more)
 
--- the transitions of a list of pairs, and those of a component, stand under the number
-pub record IsListOf (T : Table) (keep : Bool) (pairs : List (List Pair)) (lists : List (List Transition)) (k n : ℕ) : Type 0 where
-  pub list : k < length pairs
+-- the transitions of the joins of two lists, and those of a component, stand under the number
+pub record IsListOf (T : Table) (keep : Bool) (pairs : List (List Pair)) (lists : List (List Transition)) (key : JoinKey) (n : ℕ) : Type 0 where
+  pub left : key.left < length pairs
+  pub right : key.right < length pairs
   pub number : n < length lists
-  pub made : made_of lists n ≡ transitions_of T keep (conjunct_of pairs k)
+  pub made : made_of lists n ≡ transitions_of T keep (last_list pairs key)
 
 abbrev pub IsFinal : Table → Bool → List (List Pair) → List (List Transition) → RowSet → ℕ → Type 0
 IsFinal T keep conjuncts lists component n = (n < length lists) × (made_of lists n ≡ transitions_of T keep (join_of (conjunct_of conjuncts) component))
@@ -48,12 +51,12 @@ abbrev pub IsFactorOf : {A : Type 0} → Table → Bool → List (List Pair) →
 IsFactorOf T keep conjuncts lists component f = IsWithin lists f × (list_of lists f ≡ transitions_of T keep (join_of (conjunct_of conjuncts) component))
 
 -- so it is with what is remembered
-pub record AreFinals (T : Table) (keep : Bool) (conjuncts pairs : List (List Pair)) (lists : List (List Transition)) (ns : List (ℕ × ℕ)) (os : List (RowSet × Option ℕ)) : Type 0 where
-  pub of_lists : (k n : ℕ) → Has ns (k, n) → IsListOf T keep pairs lists k n
+pub record AreFinals (T : Table) (keep : Bool) (conjuncts pairs : List (List Pair)) (lists : List (List Transition)) (ns : List (JoinKey × ℕ)) (os : List (RowSet × Option ℕ)) : Type 0 where
+  pub of_joins : (key : JoinKey) (n : ℕ) → Has ns (key, n) → IsListOf T keep pairs lists key n
   pub of_components : (component : RowSet) (o : Option ℕ) → Has os (component, o) → IfSome o (IsFinal T keep conjuncts lists component)
 
 abbrev pub HasFinals : {A : Type 0} → Basis A → Finals A → Type 0
-HasFinals b f = HasComponents b f.components × AreFinals (table_at b.table.now) b.keep_implied b.conjuncts.lists.items f.components.memo.lists.keys f.lists.keys f.of_lists.entries f.of_components.entries
+HasFinals b f = HasComponents b f.components × AreFinals (table_at b.table.now) b.keep_implied b.conjuncts.lists.items f.components.memo.lists.keys f.lists.keys f.of_joins.entries f.of_components.entries
 
 -- components were taken out of all conjuncts one after another, each independent of what was then left, these are the transitions of each, and the rest is left
 pub record AreLists (T : Table) (keep : Bool) (conjuncts : List (List Pair)) (all : RowSet) (tss : List (List Transition)) (rest : RowSet) : Type 0 where

@@ -1,7 +1,7 @@
 -- Lists of pairs by number, and joins of them that are remembered.
 use Rattle.std.specs.Prelude.{◌≡◌, ℕ, ◌<◌, List, length}
-use Rattle.ltl_spec.specs.Collections.Sets.{Has}
-use Rattle.ltl_spec.specs.Transitions.Pairs.{Pair, join}
+use Rattle.ltl_spec.specs.Collections.Sets.{Has, set_of}
+use Rattle.ltl_spec.specs.Transitions.Pairs.{Pair, pair_cmp, join}
 use Rattle.ltl_spec.specs.Transitions.RowTransitions.{Table}
 use Rattle.ltl_alt.specs.declared.memo.JoinKey.{JoinKey}
 use Rattle.ltl_alt.specs.declared.rule.Rule.{Rule}
@@ -18,6 +18,10 @@ pub record IsJoin (T : Table) (r : Rule) (lists : List (List Pair)) (key : JoinK
   pub right : key.right < length lists
   pub both : joined < length lists
   pub listed : IsListed (StandsFor T r) (join (conjunct_of lists key.left) (conjunct_of lists key.right)) (conjunct_of lists joined)
+
+-- all joins of two lists
+abbrev pub last_list : List (List Pair) → JoinKey → List Pair
+last_list lists key = set_of pair_cmp (join (conjunct_of lists key.left) (conjunct_of lists key.right))
 
 -- each remembered join is one
 abbrev pub AreJoins : Table → Rule → List (List Pair) → List (JoinKey × ℕ) → Type 0

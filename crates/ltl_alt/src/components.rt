@@ -6,7 +6,7 @@ ghost use Rattle.ltl_spec.specs.Transitions.Pairs as spec_pairs;
 ghost use Rattle.ltl_spec.specs.Transitions.RowTransitions as spec;
 ghost use Rattle.ltl_alt.specs.declared.rule.Rule as made_rule;
 ghost use Rattle.ltl_alt.specs.BasisView.{IsBasis};
-ghost use Rattle.ltl_alt.specs.ComponentView.{AreComponents, AreStarts, HasComponents, IsJoinOf};
+ghost use Rattle.ltl_alt.specs.ComponentView.{AreComponents, AreStarts, HasComponents, IsLastOf};
 ghost use Rattle.ltl_alt.specs.ConjunctTableView.{IsLonger, conjunct_of};
 ghost use Rattle.ltl_alt.specs.StandIns.{IsListed, StandsFor};
 ghost use Rattle.ltl_alt.specs.TransitionView.{table_at};
@@ -14,7 +14,7 @@ ghost use Rattle.ltl_alt.specs.TransitionView.{table_at};
 use crate::basis::Basis;
 use crate::conjunct_table::ConjunctTable;
 use crate::lists::join;
-use crate::memo::Memo;
+use crate::memo::{JoinKey, Memo};
 use crate::pair::Pair;
 use crate::pair_set::PairSet;
 use crate::prune::prune;
@@ -102,29 +102,31 @@ impl<'a, A: Allocator> Components<'a, A> {
         })
     }
 
-    /// The number of the list of what is kept of a component's conjuncts at once, unless there is no room for it.
-    pub(crate) fn list(
+    /// The last join of a component's conjuncts: that of what is kept of all conjuncts but the last one with this one. None, if there is no room for the others.
+    pub(crate) fn last(
         &mut self,
         basis: &Basis<'_, '_, '_, 'a, A>,
         component: &RowSet,
-    ) -> Result<Option<usize>, AllocError>
+    ) -> Result<Option<JoinKey>, AllocError>
         requires basis { IsBasis basis.now }
         requires components { HasComponents basis.now self.old }
         requires inside { (k : ℕ) → Has component.now k → k < length basis.now.conjuncts.lists.items }
         ensures components { OnOk result (HasComponents basis.now self.new) }
-        ensures list { IfOk result (λ o. IfSome o (IsJoinOf
+        ensures last { IfOk result (λ o. IfSome o (IsLastOf
             (table_at basis.now.table.now) basis.now.pruning.rule basis.now.conjuncts.lists.items self.new.memo.lists.keys component.now)) }
         ensures longer { OnOk result (IsLonger self.old.memo.lists.keys self.new.memo.lists.keys) }
     {
-        let mut list = self.nothing;
+        let mut left = self.nothing;
+        let mut right = self.nothing;
         let mut rest = component.iter();
         'members: while let Some(conjunct) = rest.next() {
             let start = self.starts[conjunct];
-            let Some(joined) = self.memo.join(basis.alloc, &basis.pruning, list, start)? else {
+            let Some(joined) = self.memo.join(basis.alloc, &basis.pruning, left, right)? else {
                 return Ok(None);
             };
-            list = joined;
+            left = joined;
+            right = start;
         }
-        Ok(Some(list))
+        Ok(Some(JoinKey { left, right }))
     }
 }

@@ -9,6 +9,7 @@ ghost use Rattle.ltl_spec.proofs.Transitions.ProductTransitions.{transitions_of}
 ghost use Rattle.ltl_alt.specs.BasisView.{IsBasis};
 ghost use Rattle.ltl_alt.specs.FinalView.{HasFinals, IsFactorOf, IsFinal, IsListOf, IsLonger, IsWithin, list_of, made_of};
 ghost use Rattle.ltl_alt.specs.ComponentView.{HasComponents};
+ghost use Rattle.ltl_alt.specs.MemoView.{last_list};
 ghost use Rattle.ltl_alt.specs.ConjunctTableView.{conjunct_of};
 ghost use Rattle.ltl_alt.specs.TransitionView.{AllSets, table_at};
 
@@ -16,6 +17,7 @@ use crate::basis::Basis;
 use crate::components::{Components, component_pairs};
 use crate::implied::unimplied;
 use crate::marks::marked;
+use crate::memo::JoinKey;
 use crate::pair::Pair;
 use crate::transition::Transition;
 use crate::transition_list::TransitionList;
@@ -30,8 +32,8 @@ use std::hash::{BuildHasherDefault, FoldHasher};
 pub(crate) struct Finals<'a, A: Allocator> {
     pub(crate) components: Components<'a, A>,
     pub(crate) lists: Interner<'a, TransitionList<'a, A>, A>,
-    /// For lists of pairs the numbers of their transitions.
-    pub(crate) of_lists: IndexMap<usize, usize, BuildHasherDefault<FoldHasher>, &'a A>,
+    /// For the last joins of components the numbers of their transitions.
+    pub(crate) of_joins: IndexMap<JoinKey, usize, BuildHasherDefault<FoldHasher>, &'a A>,
     /// For the components that were met the numbers of their transitions, unless there was no room.
     pub(crate) of_components: IndexMap<
         RowSet,
@@ -84,13 +86,13 @@ impl<'a, A: Allocator> Finals<'a, A> {
     /// No component was met yet.
     pub(crate) fn new(alloc: &'a A, components: Components<'a, A>) -> Self
         ensures components { result.components ≡ components.entry }
-        ensures lists { result.of_lists.entries ≡ [] }
+        ensures joins { result.of_joins.entries ≡ [] }
         ensures met { result.of_components.entries ≡ [] }
     {
         Finals {
             components,
             lists: Interner::new(alloc),
-            of_lists: IndexMap::new(alloc),
+            of_joins: IndexMap::new(alloc),
             of_components: IndexMap::new(alloc),
         }
     }
@@ -114,29 +116,34 @@ impl<'a, A: Allocator> Finals<'a, A> {
         }
     }
 
-    /// The number of the transitions of a list of pairs.
-    fn of_list(
+    /// The number of the transitions of a last join, unless there is no room for its pairs. None of these is dropped before they have their marks.
+    fn of_join(
         &mut self,
         basis: &Basis<'_, '_, '_, 'a, A>,
-        list: usize,
-    ) -> Result<usize, AllocError>
+        key: JoinKey,
+    ) -> Result<Option<usize>, AllocError>
         requires basis { IsBasis basis.now }
         requires finals { HasFinals basis.now self.old }
-        requires within { list < length self.old.components.memo.lists.keys }
-        requires sets { AllSets (map (spec.with_marks (table_at basis.now.table.now)) (conjunct_of self.old.components.memo.lists.keys list)) }
-        requires rising { IsRising spec_pairs.pair_cmp (conjunct_of self.old.components.memo.lists.keys list) }
+        requires within { key.left < length self.old.components.memo.lists.keys × key.right < length self.old.components.memo.lists.keys }
+        requires sets { AllSets (map (spec.with_marks (table_at basis.now.table.now)) (last_list self.old.components.memo.lists.keys key)) }
+        requires rising { IsRising spec_pairs.pair_cmp (last_list self.old.components.memo.lists.keys key) }
         ensures finals { OnOk result (HasFinals basis.now self.new) }
-        ensures number { IfOk result (λ n. IsListOf
-            (table_at basis.now.table.now) basis.now.keep_implied self.old.components.memo.lists.keys self.new.lists.keys list n) }
+        ensures number { IfOk result (λ o. IfSome o (IsListOf
+            (table_at basis.now.table.now) basis.now.keep_implied self.old.components.memo.lists.keys self.new.lists.keys key)) }
         ensures longer { OnOk result (IsLonger self.old.lists.keys self.new.lists.keys) }
     {
-        if let Some(number) = self.of_lists.get(&list).copied() {
-            return Ok(number);
+        if let Some(number) = self.of_joins.get(&key).copied() {
+            return Ok(Some(number));
         }
-        let transitions = pair_transitions(basis, self.components.memo.pairs(list))?;
+        if !self.components.memo.has_room(&key) {
+            return Ok(None);
+        }
+        let pairs = self.components.memo.joined(basis.alloc, &key)?;
+        let transitions = pair_transitions(basis, pairs.as_slice())?;
+        self.components.memo.take_room(transitions.as_slice().len());
         let number = self.lists.number(transitions)?;
-        self.of_lists.insert(list, number)?;
-        Ok(number)
+        self.of_joins.insert(key, number)?;
+        Ok(Some(number))
     }
 
     /// The number of the transitions of a component that wasn't met before, unless there is no room for its list.
@@ -153,11 +160,11 @@ impl<'a, A: Allocator> Finals<'a, A> {
             (table_at basis.now.table.now) basis.now.keep_implied basis.now.conjuncts.lists.items self.new.lists.keys component.now)) }
         ensures longer { OnOk result (IsLonger self.old.lists.keys self.new.lists.keys) }
     {
-        let Some(list) = self.components.list(basis, component)? else {
+        let Some(key) = self.components.last(basis, component)? else {
             return Ok(None);
         };
-        let number = self.of_list(basis, list)?;
-        Ok(Some(number))
+        let number = self.of_join(basis, key)?;
+        Ok(number)
     }
 
     /// The number of the transitions of a component, unless there is no room for its list.

@@ -10,8 +10,8 @@
 //! with what they ask for and what fulfils the until rows that they put off (`support`, `leaves`). Conjuncts that may have to do with each other are linked. All this
 //! is made before the first set of rows, and never changes (`basis`).
 //! The conjuncts of a set of rows fall into components that are closed under links. The conjuncts of a component are joined (`lists`, `repeats`), where pairs that stay
-//! implied whatever comes are dropped on the way (`prune`, `rule`, `roots`, `lacks`, `codes`); each join is made once (`memo`, `components`). What is kept gets its marks
-//! (`marks`), by steps of tests that tell which until rows a pair fulfils (`program`, `fulfilment`); implied transitions go (`implied`), and what is left
+//! implied whatever comes are dropped on the way (`prune`, `rule`, `roots`, `lacks`, `codes`), but none of the last join; each join is made once (`memo`, `components`).
+//! What is kept gets its marks (`marks`), by steps of tests that tell which until rows a pair fulfils (`program`, `fulfilment`); implied transitions go (`implied`), and what is left
 //! is the component's (`finals`).
 //! The transitions of the set are the products, one transition of each component at once; they are counted before they are made, then made and sorted
 //! (`factors`, `product`). A set that has the transitions of an earlier one, which is seen by the numbers of its components' transitions, isn't asked for

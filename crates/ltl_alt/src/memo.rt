@@ -4,11 +4,11 @@ ghost use Rattle.std.specs.Prelude.{◌≡◌, ℕ, ◌<◌, [], length, IfOk, I
 ghost use Rattle.ltl_spec.specs.Transitions.Pairs.{join};
 ghost use Rattle.ltl_spec.specs.Transitions.RowTransitions as spec;
 ghost use Rattle.ltl_alt.specs.declared.rule.Rule as made_rule;
-ghost use Rattle.ltl_alt.specs.MemoView.{AreJoins, IsJoin, IsListAt};
+ghost use Rattle.ltl_alt.specs.MemoView.{AreJoins, IsJoin, IsListAt, last_list};
 ghost use Rattle.ltl_alt.specs.ConjunctTableView.{IsLonger, conjunct_of};
 ghost use Rattle.ltl_alt.specs.StandIns.{IsFit, IsListed, StandsFor};
 
-use crate::lists::join;
+use crate::lists::{join, sort_dedup};
 use crate::pair::Pair;
 use crate::pair_set::PairSet;
 use crate::prune::prune;
@@ -18,7 +18,7 @@ use ltl_automaton::Interner;
 use std::alloc::{AllocError, Allocator};
 use std::hash::{BuildHasherDefault, FoldHasher};
 
-/// So many pairs and joins are remembered at most.
+/// So many pairs, joins, and transitions of last joins are remembered at most.
 const ROOM: usize = 1_048_576;
 
 /// What is joined: two lists by their numbers.
@@ -34,7 +34,7 @@ pub(crate) struct Memo<'a, A: Allocator> {
     pub(crate) lists: Interner<'a, PairSet<'a, A>, A>,
     /// For what was joined the number of the list that was kept.
     pub(crate) joins: IndexMap<JoinKey, usize, BuildHasherDefault<FoldHasher>, &'a A>,
-    /// For so many pairs and joins more there is room.
+    /// For so many of them more there is room.
     room: usize,
 }
 
@@ -100,6 +100,35 @@ impl<'a, A: Allocator> Memo<'a, A> {
         Ok(PairSet { pairs })
     }
 
+    /// One pair of each of two lists at once, in every way, where each stands once.
+    pub(crate) fn joined(&self, alloc: &'a A, key: &JoinKey) -> Result<Vec<Pair, &'a A>, AllocError>
+        requires within { key.now.left < length self.now.lists.keys × key.now.right < length self.now.lists.keys }
+        ensures { IfOk result (λ v. v.items ≡ last_list self.now.lists.keys key.now) }
+    {
+        let mut joined = join(alloc, self.pairs(key.left), self.pairs(key.right))?;
+        sort_dedup(&mut joined)?;
+        Ok(joined)
+    }
+
+    /// Whether there is room for each of these joins.
+    pub(crate) fn has_room(&self, key: &JoinKey) -> bool
+        requires within { key.now.left < length self.now.lists.keys × key.now.right < length self.now.lists.keys }
+    {
+        let ways = self
+            .pairs(key.left)
+            .len()
+            .saturating_mul(self.pairs(key.right).len());
+        ways < self.room
+    }
+
+    /// Takes the room of so many things that are remembered elsewhere.
+    pub(crate) fn take_room(&mut self, count: usize)
+        ensures lists { self.new.lists.keys ≡ self.old.lists.keys }
+        ensures joins { self.new.joins.entries ≡ self.old.joins.entries }
+    {
+        self.room = self.room.saturating_sub(count);
+    }
+
     /// The number of what is kept of two lists at once, unless there is no room for it.
     pub(crate) fn join(
         &mut self,
@@ -121,11 +150,7 @@ impl<'a, A: Allocator> Memo<'a, A> {
         if let Some(joined) = self.known(&key) {
             return Ok(Some(joined));
         }
-        let most = self
-            .pairs(left)
-            .len()
-            .saturating_mul(self.pairs(right).len());
-        if most >= self.room {
+        if !self.has_room(&key) {
             return Ok(None);
         }
         let kept = self.kept(alloc, pruning, &key)?;

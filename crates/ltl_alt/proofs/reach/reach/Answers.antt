@@ -45,7 +45,7 @@ explore_from-requires-clause-ready g c =
       (
         components_in T c.of-2.result conjuncts c.new-2.result.components c.in_ok-components.components c.new-2.ensures.components (c.in_ok-components.ensures T c.of-2.result),
         record {
-          of_lists = λ k n h. absurd (subst (λ es. Has es (k, n)) c.new-2.ensures.lists h);
+          of_joins = λ k n h. absurd (subst (λ es. Has es (k, n)) c.new-2.ensures.joins h);
           of_components = λ k o h. absurd (subst (λ es. Has es (k, o)) c.new-2.ensures.met h);
         },
       ),
