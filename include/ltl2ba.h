@@ -33,7 +33,7 @@ extern "C" {
 #define LTL2BA_REFUSED 3       /* a text was refused */
 #define LTL2BA_OUT_OF_MEMORY 4 /* a growth of memory was refused; the call may be made again */
 #define LTL2BA_FAILED 5        /* does not come */
-#define LTL2BA_TOO_SHORT 6     /* the lengths that were answered are what is needed; nothing was written to the buffer */
+#define LTL2BA_TOO_SHORT 6     /* the lengths that were answered are what is needed; nothing was written to a buffer or an array */
 
 /* Why a call was refused: with each status from 2 to 5, and else all are 0. */
 struct ltl2ba_refusal {
@@ -75,6 +75,46 @@ uint8_t ltl2ba_text(const uint8_t *formula, size_t formula_length, const struct 
 /* The names of a formula's propositions go to the buffer, from number 0 on, each with a zero byte behind it, and the length of all to *length. */
 uint8_t ltl2ba_names(const uint8_t *formula, size_t formula_length,
                      uint8_t *buffer, size_t buffer_length, size_t *length, struct ltl2ba_refusal *refusal);
+
+/* An automaton in arrays. State 0 is the start. The edges of state i are those from its first_edge on up to that of state i + 1, or up to the number of edges
+   where it is the last state. An edge may be taken at a position of a word where each proposition of asked_true holds there and none of asked_false does. A
+   word is accepted where an endless way along edges that may be taken passes accepting states again and again, and edges of each acceptance set. In a Büchi
+   automaton there is no acceptance set; in a generalized one all states are accepting. */
+struct ltl2ba_state {
+    size_t first_edge;
+    bool accepting;
+};
+
+/* Number i of a set of propositions, or of acceptance sets, is bit i % 64 of word i / 64. */
+struct ltl2ba_edge {
+    uint64_t asked_true[4];
+    uint64_t asked_false[4];
+    uint64_t sets[4];
+    size_t target;
+};
+
+/* Where the name of a proposition first stands in the formula's text. Propositions are numbered as they first stand there. */
+struct ltl2ba_name {
+    size_t offset;
+    size_t length;
+};
+
+/* How many there are: with status 0 so many were put at the beginnings of the arrays, and with LTL2BA_TOO_SHORT so many have to fit. With any other status
+   all are 0, and the refusal says why. */
+struct ltl2ba_counts {
+    size_t states;
+    size_t edges;
+    size_t names;
+    size_t sets; /* of acceptance, below 257; they have no array of their own */
+    struct ltl2ba_refusal refusal;
+};
+
+/* The automaton of a formula goes to the arrays: with layout LTL2BA_CLAIM or LTL2BA_HOA the Büchi automaton whose text ltl2ba_text hands out for these options,
+   with LTL2BA_GENERALIZED the generalized one. Its states, edges and propositions have the numbers and the order that they have in the text of LTL2BA_HOA or
+   LTL2BA_GENERALIZED. Nothing is kept between two calls: the second one translates again. */
+uint8_t ltl2ba_automaton(const uint8_t *formula, size_t formula_length, const struct ltl2ba_options *options,
+                         struct ltl2ba_state *states, size_t states_length, struct ltl2ba_edge *edges, size_t edges_length,
+                         struct ltl2ba_name *names, size_t names_length, struct ltl2ba_counts *counts);
 
 /* Whether a formula holds at the beginning of a word: with status 0 it does, and with status 1 it doesn't; *holds is true with status 0 alone. */
 uint8_t ltleval_holds(const uint8_t *formula, size_t formula_length, const uint8_t *word, size_t word_length,

@@ -10,6 +10,7 @@ import getopt
 import json
 import os
 import random
+import re
 import shlex
 import shutil
 import subprocess
@@ -69,7 +70,7 @@ def asked(tool, run):
         return None
     layout = 1 if "-H" in values else 2 if "-G" in values else 0
     flags = sum(bit for bit, it in ((1, "-l"), (2, "-o"), (4, "-p")) if it in values)
-    return request(KINDS[tool], formula, layout, flags, -1, b"" if tool == "ltl2ba" else second)
+    return KINDS[tool], formula, layout, flags, -1, b"" if tool == "ltl2ba" else second
 
 
 def output_of(tool, found):
@@ -82,15 +83,53 @@ def output_of(tool, found):
     return handed
 
 
-def try_stored_runs(tally, driver):
+def first_places(formula):
+    """Where each name first stands in a formula's text."""
+    places = {}
+    for it in re.finditer(r"[a-z][a-z0-9_]*", formula.decode(errors="replace")):
+        places.setdefault(it[0], it.start())
+    return places
+
+
+def arrays_of(formula, printed, layout):
+    """What the driver tells of an automaton's arrays, by the text that the program prints of it in HOA format."""
+    head, _, body = printed.decode().partition("--BODY--\n")
+    states, places = body.removesuffix("--END--\n"), first_places(formula)
+    lines = states.split("\n")[:-1]
+    count = sum(it.startswith("State: ") for it in lines)
+    names = [it.strip('"') for it in head.partition("\nAP: ")[2].split("\n")[0].split()[1:]]
+    sets = int(head.partition("\nAcceptance: ")[2].split()[0]) if layout == 2 else 0
+    told = "".join(f' "{it}" at {places[it]}' for it in names)
+    return f"{count} {len(lines) - count} {len(names)} {sets}\nAP: {len(names)}{told}\n{states}".encode()
+
+
+def wanted_arrays(programs, formula, layout, flags):
+    """What the program answers for the automaton of a formula: its status, what the arrays tell, and the message. In the arrays of a claim is what `-H` prints."""
+    words = [word for bit, word in ((1, "-l"), (2, "-o"), (4, "-p")) if flags & bit] + ["-G" if layout == 2 else "-H"]
+    ran = subprocess.run([f"{programs}/ltl2ba", *words, "-F", "/dev/stdin"], input=formula, capture_output=True, timeout=SECONDS, check=False)
+    return ran.returncode, b"0 0 0 0\n" if ran.returncode else arrays_of(formula, ran.stdout, layout), ran.stderr
+
+
+def try_arrays(tally, driver, programs, asked_for):
+    """Compares arrays with texts, for formulas with layouts and flags."""
+    found, status, told = answers([driver], [request("a", formula, layout, flags) for formula, layout, flags in asked_for])
+    tally.expect("arrays: the driver ends", (status, told, len(found)), (0, "", len(asked_for)))
+    for (formula, layout, flags), it in zip(asked_for, found):
+        tally.expect(f"arrays of {formula.decode(errors='replace')}", (it[:3], it[3][2]), (wanted_arrays(programs, formula, layout, flags), 0))
+    print(f"{len(asked_for)} automata in arrays")
+
+
+def try_stored_runs(tally, driver, programs):
     for tool in PROGRAMS:
         runs = [it for it in json.loads((TOP / f"tests/{tool}.json").read_text(encoding="utf-8")) if asked(tool, it)]
-        found, status, told = answers([driver], [asked(tool, it) for it in runs])
+        found, status, told = answers([driver], [request(*asked(tool, it)) for it in runs])
         tally.expect(f"{tool}: the driver ends", (status, told, len(found)), (0, "", len(runs)))
         for run, it in zip(runs, found):
             wanted = run["status"], text(run["stdout"]), text(run["stderr"])
             tally.expect(f"{tool}: {run['about']}", (it[0], output_of(tool, it), it[2]), wanted)
         print(f"{tool}: {len(runs)} stored runs")
+        if tool == "ltl2ba":
+            try_arrays(tally, driver, programs, [asked(tool, it)[1:4] for it in runs])
 
 
 def random_formula(chance, depth):
@@ -103,18 +142,20 @@ def random_formula(chance, depth):
 
 
 def try_random_formulas(tally, driver, folder):
-    chance, requests, wanted = random.Random(53), [], []
+    chance, requests, wanted, asked_for = random.Random(53), [], [], []
     for _ in range(RANDOM_FORMULAS):
         formula, layout, flags = random_formula(chance, chance.choice([2, 3, 4])), chance.choice([0, 1, 2]), chance.choice([0, 0, 1, 2, 4, 7])
         words = [word for bit, word in ((1, "-l"), (2, "-o"), (4, "-p")) if flags & bit] + [[], ["-H"], ["-G"]][layout] + ["-f", formula]
         ran = subprocess.run([f"{folder}/ltl2ba", *words], capture_output=True, timeout=SECONDS, check=False)
         requests.append(request("t", formula.encode(), layout, flags))
+        asked_for.append((formula.encode(), layout, flags))
         wanted.append((formula, ran.returncode, ran.stdout, ran.stderr))
     found, status, told = answers([driver], requests)
     tally.expect("random formulas: the driver ends", (status, told, len(found)), (0, "", len(wanted)))
     for (formula, *it), (code, handed, message, _) in zip(wanted, found):
         tally.expect(formula, (code, handed, message), tuple(it))
     print(f"{RANDOM_FORMULAS} random formulas")
+    try_arrays(tally, driver, folder, asked_for)
 
 
 def try_lengths(tally, driver):
@@ -129,11 +170,26 @@ def try_lengths(tally, driver):
                 tally.expect(f"{formula} with room for {room}", (it[:2], it[3][0], it[3][2]), (wanted, len(handed), 0))
 
 
+def try_array_lengths(tally, driver):
+    """One array of each length up to the needed one, the others of the needed one."""
+    for formula in FORMULAS:
+        for layout in 1, 2:
+            status, whole, _, _ = answers([driver], [request("a", formula.encode(), layout)])[0][0]
+            counts = whole.partition(b"\n")[0] + b"\n"
+            needed = dict(zip("sen", map(int, counts.split())))
+            rooms = [(which, room) for which, most in needed.items() for room in range(most + 2)]
+            found, code, told = answers([driver], [request("a", formula.encode(), layout, 0, room, which.encode()) for which, room in rooms])
+            tally.expect(f"{formula}: the driver ends", (status, code, told, len(found)), (0, 0, "", len(rooms)))
+            for (which, room), it in zip(rooms, found):
+                wanted = (0, whole) if room >= needed[which] else (6, counts)
+                tally.expect(f"arrays of {formula}, {which} with room for {room}", (it[:2], it[3][2]), (wanted, 0))
+
+
 def try_growths(tally, driver, formulas):
     growths = 0
     for formula in formulas:
         hoa = answers([driver], [request("t", b"true", 1)])[0][0][1]
-        requests = [request(kind, formula.encode(), layout, 0, -2, second) for kind, layout, second in (("t", 0, b""), ("t", 1, b""), ("t", 2, b""), ("n", 0, b""), ("e", 0, WORD), ("c", 0, hoa))]
+        requests = [request(kind, formula.encode(), layout, 0, -2, second) for kind, layout, second in (("t", 0, b""), ("t", 1, b""), ("t", 2, b""), ("n", 0, b""), ("a", 1, b""), ("a", 2, b""), ("e", 0, WORD), ("c", 0, hoa))]
         found, code, told = answers([driver], requests)
         tally.expect(f"{formula}: the driver ends", (code, told, len(found)), (0, "", len(requests)))
         for it in found:
@@ -154,6 +210,22 @@ def driver_in(folder, name, archive, *more):
     return where, compiled(words)
 
 
+def dot_of(printed):
+    """What examples/c/dot prints of an automaton whose text in HOA format this is."""
+    head, _, body = printed.partition("--BODY--\n")
+    names = [it.strip('"') for it in head.partition("\nAP: ")[2].split("\n")[0].split()[1:]]
+    lines = ["digraph {", "  start [shape=point]", "  start -> 0"]
+    for line in body.removesuffix("--END--\n").split("\n")[:-1]:
+        if line.startswith("State: "):
+            state = line.split()[1]
+            lines.append(f"  {state} [shape={'doublecircle' if line.endswith(' {0}') else 'circle'}]")
+        else:
+            label, _, target = line[1:].partition("] ")
+            guard = " && ".join(("!" if it[0] == "!" else "") + names[int(it.lstrip("!"))] for it in label.split("&")) if label != "t" else "true"
+            lines.append(f'  {state} -> {target} [label="{guard}"]')
+    return "\n".join([*lines, "}", ""])
+
+
 def try_examples(tally, folder, programs, checker):
     """Builds the examples against an installed library, with one line of pkg-config, and runs them."""
     root = f"{folder}/installed"
@@ -162,16 +234,25 @@ def try_examples(tally, folder, programs, checker):
     shutil.copytree(TOP / "examples/c", f"{folder}/examples")
     made = subprocess.run(["make", f"PKG_CONFIG_PATH={root}/lib/pkgconfig"], cwd=f"{folder}/examples", capture_output=True, text=True, check=False)
     tally.expect("make in examples/c", (made.stderr, made.returncode), ("", 0))
+
+    def ran(*words, given=None):
+        it = subprocess.run([*map(str, words)], input=given, capture_output=True, text=True, check=False)
+        return it.stdout, it.stderr, it.returncode
+
     for formula in FORMULAS:
-        printed = subprocess.run([f"{programs}/ltl2ba", "-H", "-f", formula], capture_output=True, text=True, check=False).stdout
-        names = printed.partition("\nAP: ")[2].split()[0]
-        translated = subprocess.run([*checker, f"{folder}/examples/translate", formula], capture_output=True, text=True, check=False)
-        tally.expect(f"translate {formula}", (translated.stdout, translated.stderr, translated.returncode), (printed, f"{names} propositions\n", 0))
-        verdict = subprocess.run([f"{programs}/ltlcheck", "-f", FORMULAS[0]], input=printed, capture_output=True, text=True, check=False)
-        checked = subprocess.run([*checker, f"{folder}/examples/check", formula, FORMULAS[0]], capture_output=True, text=True, check=False)
-        tally.expect(f"check {formula}", (checked.stdout, checked.stderr, checked.returncode), (verdict.stdout.removeprefix("violated\n"), "", verdict.returncode))
-    refused = subprocess.run([f"{folder}/examples/translate", "p U"], capture_output=True, text=True, check=False)
-    tally.expect("the message of translate", (refused.stderr, refused.returncode), ("ltl2ba: formula: byte 3: expected operand\n", 3))
+        printed = ran(f"{programs}/ltl2ba", "-H", "-f", formula)[0]
+        tally.expect(f"dot {formula}", ran(*checker, f"{folder}/examples/dot", formula), (dot_of(printed), "", 0))
+        verdict = ran(f"{programs}/ltlcheck", "-f", FORMULAS[0], given=printed)
+        checked = ran(*checker, f"{folder}/examples/check", formula, FORMULAS[0])
+        tally.expect(f"check {formula}", checked, (verdict[0].removeprefix("violated\n"), "", verdict[2]))
+        word, told, status = ran(*checker, f"{folder}/examples/word", formula)
+        is_empty = ran(f"{programs}/ltlcheck", "-f", "false", given=printed)[2] == 0
+        wanted = ("no word satisfies it\n", "", 1) if is_empty else (word, "", 0)
+        tally.expect(f"word {formula}", (word, told, status), wanted)
+        if not is_empty:
+            tally.expect(f"{formula} on {word}", ran(f"{programs}/ltleval", "-f", formula, "-w", word[:-1]), ("true\n", "", 0))
+    for name in "dot", "word":
+        tally.expect(f"the message of {name}", ran(f"{folder}/examples/{name}", "p U"), ("", "ltl2ba: formula: byte 3: expected operand\n", 3))
 
 
 def main(words):
@@ -198,12 +279,13 @@ def main(words):
 
 
 def try_all(tally, folder, programs, driver, archive):
-    try_stored_runs(tally, driver)
+    try_stored_runs(tally, driver, programs)
     try_random_formulas(tally, driver, programs)
     try_lengths(tally, driver)
+    try_array_lengths(tally, driver)
     try_growths(tally, driver, FORMULAS)
     sanitized, faults = driver_in(folder, "sanitized", archive, *SANITIZERS)
-    few = [request(kind, it.encode(), layout, 0, -1, second) for it in FORMULAS for kind, layout, second in (("t", 0, b""), ("t", 2, b""), ("n", 0, b""), ("e", 0, WORD), ("c", 0, b"HOA: v2"))]
+    few = [request(kind, it.encode(), layout, 0, -1, second) for it in FORMULAS for kind, layout, second in (("t", 0, b""), ("t", 2, b""), ("n", 0, b""), ("a", 0, b""), ("a", 2, b""), ("e", 0, WORD), ("c", 0, b"HOA: v2"))]
     right = answers([driver], few)[0]
     if faults is None:
         tally.expect("with sanitizers", answers([sanitized], few), (right, 0, ""))

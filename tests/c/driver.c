@@ -1,10 +1,12 @@
 /* Makes the calls of include/ltl2ba.h that its standard input asks for, and writes what they answer.
 
-   A request is a line `KIND LAYOUT FLAGS ROOM FIRST SECOND` and then the bytes of two texts of these lengths. KIND is t (text), n (names), e (evaluation)
-   or c (check), FLAGS has 1, 2 and 4 for no_rewrite, keep_implied and keep_equal. ROOM is the length of the buffer; with -1
+   A request is a line `KIND LAYOUT FLAGS ROOM FIRST SECOND` and then the bytes of two texts of these lengths. KIND is t (text), n (names), e (evaluation),
+   c (check) or a (automaton), FLAGS has 1, 2 and 4 for no_rewrite, keep_implied and keep_equal. ROOM is the length of the buffer; with -1
    a call with no room asks for the length, and a second one has exactly that; with -2 that is done with each growth of memory refused in turn, until none
-   was left to refuse. The answer is a line `STATUS LENGTH MESSAGE COUNTS` and the bytes of the text and of the message; COUNTS are three numbers, and of a text
-   the third is 1 where what stands behind the text was changed.
+   was left to refuse. Of an automaton it is the length of the array that the second text names, s (states), e (edges) or n (names), and the other two have the
+   length that is needed. The answer is a line `STATUS LENGTH MESSAGE COUNTS` and the bytes of the text and of the message; COUNTS are three numbers, and of a
+   text the third is 1 where what stands behind the text was changed. The text of an automaton is a line with its four counts, and behind it, with status 0,
+   what the Hanoi Omega-Automata format says of the names, which have their places beside them, of states and of edges.
 
    It is linked with --wrap for malloc and realloc. */
 #include <ltl2ba.h>
@@ -40,9 +42,15 @@ struct request {
     uint8_t *first, *second;
 };
 
+/* The length of a buffer, or those of three arrays. */
+struct room {
+    size_t bytes, states, edges, names;
+};
+
 struct answer {
     int status;
     size_t length, growths, truth;
+    struct room needed;
     struct ltl2ba_refusal refusal;
     uint8_t *text;
     int is_changed;
@@ -57,13 +65,100 @@ static void *room_for(size_t count, size_t size)
     return room;
 }
 
+/* Whether a byte of an array was changed behind so many elements. */
+static int is_changed_behind(const void *array, size_t count, size_t room, size_t size)
+{
+    const uint8_t *bytes = array;
+    for (size_t i = count * size; i < room * size + 1; i++)
+        if (bytes[i] != 0xa5)
+            return 1;
+    return 0;
+}
+
+static void put_set(FILE *to, const uint64_t *set)
+{
+    const char *before = " {";
+    for (size_t i = 0; i < 256; i++)
+        if (set[i / 64] >> i % 64 & 1) {
+            fprintf(to, "%s%zu", before, i);
+            before = " ";
+        }
+    if (*before == ' ' && !before[1])
+        fputs("}", to);
+}
+
+static void put_edge(FILE *to, const struct ltl2ba_edge *edge)
+{
+    const char *before = "[";
+    for (size_t i = 0; i < 512; i++) {
+        const uint64_t *asked = i % 2 ? edge->asked_false : edge->asked_true;
+        if (asked[i / 128] >> i / 2 % 64 & 1) {
+            fprintf(to, i % 2 ? "%s!%zu" : "%s%zu", before, i / 2);
+            before = "&";
+        }
+    }
+    fprintf(to, *before == '[' ? "[t] %zu" : "] %zu", edge->target);
+    put_set(to, edge->sets);
+    fputs("\n", to);
+}
+
+/* Each state of a generalized automaton is accepting, which its text doesn't tell. */
+static void put_automaton(FILE *to, const struct request *asked, const struct ltl2ba_state *states, const struct ltl2ba_edge *edges, const struct ltl2ba_name *names, const struct ltl2ba_counts *counts)
+{
+    int is_told = asked->layout != LTL2BA_GENERALIZED;
+    fprintf(to, "AP: %zu", counts->names);
+    for (size_t i = 0; i < counts->names; i++)
+        fprintf(to, " \"%.*s\" at %zu", (int)names[i].length, (const char *)asked->first + names[i].offset, names[i].offset);
+    fputs("\n", to);
+    for (size_t i = 0; i < counts->states; i++) {
+        fprintf(to, "State: %zu%s\n", i, states[i].accepting == is_told ? is_told ? " {0}" : " rejects" : "");
+        for (size_t k = states[i].first_edge; k < (i + 1 < counts->states ? states[i + 1].first_edge : counts->edges); k++)
+            put_edge(to, edges + k);
+    }
+}
+
+/* One call, with arrays of these lengths. */
+static struct answer call_automaton(const struct request *asked, const struct ltl2ba_options *options, struct room room)
+{
+    struct answer made = {0};
+    struct ltl2ba_counts counts;
+    struct ltl2ba_state *states = room_for(room.states, sizeof *states);
+    struct ltl2ba_edge *edges = room_for(room.edges, sizeof *edges);
+    struct ltl2ba_name *names = room_for(room.names, sizeof *names);
+    memset(&counts, 0xa5, sizeof counts);
+    made.status = ltl2ba_automaton(asked->first, asked->first_length, options, states, room.states, edges, room.edges, names, room.names, &counts);
+    int is_written = made.status == LTL2BA_DONE;
+    made.is_changed = is_changed_behind(states, is_written ? counts.states : 0, room.states, sizeof *states)
+        || is_changed_behind(edges, is_written ? counts.edges : 0, room.edges, sizeof *edges)
+        || is_changed_behind(names, is_written ? counts.names : 0, room.names, sizeof *names);
+    long held = left_to_refuse;
+    left_to_refuse = 0;
+    FILE *to = open_memstream((char **)&made.text, &made.length);
+    if (!to)
+        exit(9);
+    fprintf(to, "%zu %zu %zu %zu\n", counts.states, counts.edges, counts.names, counts.sets);
+    if (is_written)
+        put_automaton(to, asked, states, edges, names, &counts);
+    fclose(to);
+    left_to_refuse = held;
+    made.needed = (struct room){0, counts.states, counts.edges, counts.names};
+    made.refusal = counts.refusal;
+    free(states);
+    free(edges);
+    free(names);
+    return made;
+}
+
 /* One call, with a buffer of this length. */
-static struct answer call(const struct request *asked, size_t room)
+static struct answer call(const struct request *asked, struct room of)
 {
     struct answer made = {0};
     struct ltl2ba_options options = {asked->flags & 1, asked->flags >> 1 & 1, asked->flags >> 2 & 1, asked->layout};
     struct ltlcheck_found found;
+    size_t room = of.bytes;
     bool holds = false;
+    if (asked->kind == 'a')
+        return call_automaton(asked, &options, of);
     memset(&made.refusal, 0xa5, sizeof made.refusal);
     made.text = room_for(room, 1);
     switch (asked->kind) {
@@ -88,6 +183,7 @@ static struct answer call(const struct request *asked, size_t room)
     size_t written = made.status == LTL2BA_TOO_SHORT || asked->kind == 'e' ? 0 : made.length;
     for (size_t i = written; i < room + 1; i++)
         made.is_changed |= made.text[i] != 0xa5;
+    made.needed.bytes = made.length;
     return made;
 }
 
@@ -99,12 +195,25 @@ static void let_go(struct answer *made)
 /* With room for exactly what is needed. */
 static struct answer call_twice(const struct request *asked)
 {
-    struct answer made = call(asked, 0);
+    struct answer made = call(asked, (struct room){0});
     if (made.status != LTL2BA_TOO_SHORT)
         return made;
-    size_t length = made.length;
+    struct room needed = made.needed;
     let_go(&made);
-    return call(asked, length);
+    return call(asked, needed);
+}
+
+/* With room for so many bytes, or so many elements of the array that is asked for. */
+static struct answer call_within(const struct request *asked, size_t room)
+{
+    struct room of = {room, 0, 0, 0};
+    if (asked->kind != 'a')
+        return call(asked, of);
+    struct answer made = call(asked, of);
+    of = made.needed;
+    let_go(&made);
+    *(asked->second[0] == 's' ? &of.states : asked->second[0] == 'e' ? &of.edges : &of.names) = room;
+    return call(asked, of);
 }
 
 /* With each growth refused in turn: such a call answers that, and the next one what is right. */
@@ -113,13 +222,13 @@ static struct answer call_refused(const struct request *asked)
     struct answer right = call_twice(asked);
     for (long refused = 1;; refused++) {
         left_to_refuse = refused;
-        struct answer made = call(asked, right.length);
+        struct answer made = call(asked, right.needed);
         int was_met = left_to_refuse == 0;
         left_to_refuse = 0;
         if (was_met ? made.status != LTL2BA_OUT_OF_MEMORY || made.refusal.kind != LTL2BA_NO_MEMORY : made.status != right.status)
             right.status = 90;
         let_go(&made);
-        made = call(asked, right.length);
+        made = call(asked, right.needed);
         if (made.status != right.status || made.length != right.length)
             right.status = 91;
         let_go(&made);
@@ -133,7 +242,7 @@ static struct answer call_refused(const struct request *asked)
 static void answer(const struct request *asked, struct answer *made)
 {
     uint8_t line[128];
-    size_t told, length = made->status == LTL2BA_TOO_SHORT || asked->kind == 'e' || asked->room == -2 ? 0 : made->length;
+    size_t told, length = (made->status == LTL2BA_TOO_SHORT && asked->kind != 'a') || asked->kind == 'e' || asked->room == -2 ? 0 : made->length;
     ltl2ba_message(asked->kind == 'c' ? LTL2BA_CHECKER : asked->kind == 'e' ? LTL2BA_EVALUATOR : LTL2BA_TRANSLATOR, &made->refusal, line, sizeof line, &told);
     printf("%d %zu %zu %zu %zu %zu\n", made->status, length, told, made->length, made->growths, asked->kind == 'e' || asked->kind == 'c' ? made->truth : (size_t)made->is_changed);
     fwrite(made->text, 1, length, stdout);
@@ -149,7 +258,7 @@ int main(void)
         asked.second = room_for(asked.second_length, 1);
         if (fread(asked.first, 1, asked.first_length, stdin) != asked.first_length || fread(asked.second, 1, asked.second_length, stdin) != asked.second_length)
             return 8;
-        struct answer made = asked.room == -1 ? call_twice(&asked) : asked.room == -2 ? call_refused(&asked) : call(&asked, asked.room);
+        struct answer made = asked.room == -1 ? call_twice(&asked) : asked.room == -2 ? call_refused(&asked) : call_within(&asked, asked.room);
         answer(&asked, &made);
         free(asked.first);
         free(asked.second);

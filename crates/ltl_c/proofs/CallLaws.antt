@@ -56,7 +56,7 @@ module _ (tool : Tool) (plan : Option (PlanOf tool)) (file : Input) (code : Refu
 
 -- ---- the translator
 
-asked_answers : (plan : Option TranslatorPlan) (r : Result (List ℕ) spec.Refusal) → PrintsAsked plan r → TranslatorAnswers stated_limits plan NotOpened (answer_by stated_limits Translator (λ text. printed text 0) r)
+pub asked_answers : (plan : Option TranslatorPlan) (r : Result (List ℕ) spec.Refusal) → PrintsAsked plan r → TranslatorAnswers stated_limits plan NotOpened (answer_by stated_limits Translator (λ text. printed text 0) r)
 asked_answers None r h = ap (answer_by stated_limits Translator (λ text. printed text 0)) h
 asked_answers (Some p) r h = (r, h, refl)
 

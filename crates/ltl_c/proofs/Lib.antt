@@ -1,3 +1,7 @@
+pub mod ArrayLaws
 pub mod CallLaws
+pub mod FoundLaws
+pub mod HandLaws
 pub mod LineLaws
+pub mod PlaceLaws
 pub mod StepLaws

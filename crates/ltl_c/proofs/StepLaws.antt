@@ -74,7 +74,7 @@ module _ {A B C : Type 0} (First : Result A spec.Refusal → Type 0) (Second : A
   moved : (x y : spec.Refusal) → ◌≡◌ {A = Result B spec.Refusal} (Err x) (Err y) → ◌≡◌ {A = Result C spec.Refusal} (Err x) (Err y)
   moved x y p = cc
 
-  then_refused : (e : spec.Refusal) → Then First Second (Err e) → Then First (λ a. Then (Second a) Third) (Err e)
+  pub then_refused : (e : spec.Refusal) → Then First Second (Err e) → Then First (λ a. Then (Second a) Third) (Err e)
   then_refused e (inl (x, h, q)) = inl (x, h, moved e x q)
   then_refused e (inr (a, h, k)) = inr (a, h, inl (e, k, refl))
 

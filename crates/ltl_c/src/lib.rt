@@ -8,13 +8,19 @@
 //! C sees (`refusal_code`), and from these to the line that the program prints (`message`).
 #![tactic(auto)]
 
+mod arrays;
+pub mod automaton;
 mod buffer;
 pub mod checking;
 pub mod evaluation;
 mod line;
 pub mod message;
 pub mod names;
+mod places;
 pub mod refusal_code;
+pub mod rows;
+mod set_words;
+mod shown;
 mod steps;
 #[cfg(test)]
 mod tests;

@@ -1,10 +1,12 @@
 //! The exports, each once.
 
+use crate::automaton::ltl2ba_automaton;
 use crate::checking::{Found, ltlcheck_verdict};
 use crate::evaluation::ltleval_holds;
 use crate::message::ltl2ba_message;
 use crate::names::ltl2ba_names;
 use crate::refusal_code::{RefusalCode, no_refusal};
+use crate::rows::{Counts, EdgeRow, NameRow, StateRow};
 use crate::text::ltl2ba_text;
 use crate::text_options::TextOptions;
 use std::alloc::Global;
@@ -126,4 +128,51 @@ fn names_of_a_formula(rt: HostRuntime) {
     );
     assert_eq!(rt; status, 0);
     assert!(rt; &buffer[..count] == b"q\0p\0".as_slice());
+}
+
+#[test]
+fn automaton_of_a_formula(rt: HostRuntime) {
+    let mut states = [StateRow {
+        first_edge: 9,
+        accepting: true,
+    }; 3];
+    let mut edges = [EdgeRow {
+        asked_true: [0; 4],
+        asked_false: [0; 4],
+        sets: [9; 4],
+        target: 9,
+    }; 5];
+    let mut names = [NameRow {
+        offset: 9,
+        count: 9,
+    }; 2];
+    let mut counts = Counts {
+        states: 9,
+        edges: 9,
+        names: 9,
+        sets: 9,
+        refusal: no_refusal(),
+    };
+    let status = ltl2ba_automaton(
+        rt.alloc(),
+        b"[]<>p",
+        &options(1),
+        &mut states,
+        &mut edges,
+        &mut names,
+        &mut counts,
+    );
+    assert_eq!(rt; status, 0);
+    assert_eq!(rt;
+        (counts.states, counts.edges, counts.names, counts.sets),
+        (2, 4, 1, 0)
+    );
+    assert_eq!(rt; (states[0].first_edge, states[0].accepting), (0, false));
+    assert_eq!(rt; (states[1].first_edge, states[1].accepting), (2, true));
+    assert_eq!(rt; states[2].first_edge, 9);
+    assert_eq!(rt; (edges[0].asked_true[0], edges[0].target), (0, 0));
+    assert_eq!(rt; (edges[1].asked_true[0], edges[1].target), (1, 1));
+    assert_eq!(rt; (edges[3].asked_false[0], edges[3].sets[0]), (0, 0));
+    assert_eq!(rt; edges[4].target, 9);
+    assert_eq!(rt; (names[0].offset, names[0].count), (4, 1));
 }

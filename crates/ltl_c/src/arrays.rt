@@ -1,0 +1,68 @@
+//! States and edges into the caller's arrays.
+
+ghost use Rattle.std.specs.Prelude.{◌≡◌, ◌+◌, ◌≤◌, length, map};
+ghost use Rattle.ltl_automaton.specs.EdgeView.{edge_of};
+ghost use Rattle.ltl_c.specs.Arrays.{automaton_in, edge_row, edge_rows, put_at, put_over, state_rows};
+
+use crate::rows::{EdgeRow, StateRow};
+use crate::set_words::words_of;
+use crate::shown::Shown;
+use ltl_automaton::Edge;
+use std::alloc::Allocator;
+
+/// How many edges there are.
+pub(crate) fn edge_count<A: Allocator>(automaton: &Shown<'_, A>) -> usize
+    ensures { result ≡ length (edge_rows (automaton_in automaton.now).states) }
+{
+    automaton.invariant();
+    let mut count = 0;
+    for k in 0..automaton.len() {
+        count += automaton.edges(k).len();
+    }
+    count
+}
+
+fn edge_row(edge: &Edge) -> EdgeRow
+    ensures { result ≡ edge_row (edge_of edge.now) }
+{
+    EdgeRow {
+        asked_true: words_of(&edge.cube.letter()),
+        asked_false: words_of(&edge.cube.forbidden()),
+        sets: words_of(&edge.marks),
+        target: edge.target,
+    }
+}
+
+/// Puts the rows of edges from a place on, and answers the place behind them.
+#[tactic(auto, using(crate::proofs::ArrayLaws::none_over))]
+fn put_edges(list: &[Edge], rows: &mut [EdgeRow], at: usize) -> usize
+    requires { at + length list.now ≤ length rows.old }
+    ensures end { result ≡ at + length list.now }
+    ensures rows { rows.new ≡ put_at at (map (λ e. edge_row (edge_of e)) list.now) rows.old }
+{
+    for i in 0..list.len() {
+        rows[at + i] = edge_row(&list[i]);
+    }
+    at + list.len()
+}
+
+/// Puts the rows of all states and of their edges.
+pub(crate) fn put_states<A: Allocator>(
+    automaton: &Shown<'_, A>,
+    states: &mut [StateRow],
+    edges: &mut [EdgeRow],
+)
+    requires states_fit { length (automaton_in automaton.now).states ≤ length states.old }
+    requires edges_fit { length (edge_rows (automaton_in automaton.now).states) ≤ length edges.old }
+    ensures states { states.new ≡ put_over (state_rows (automaton_in automaton.now).states) states.old }
+    ensures edges { edges.new ≡ put_over (edge_rows (automaton_in automaton.now).states) edges.old }
+{
+    let mut at = 0;
+    for k in 0..automaton.len() {
+        states[k] = StateRow {
+            first_edge: at,
+            accepting: automaton.accepting(k),
+        };
+        at = put_edges(automaton.edges(k), edges, at);
+    }
+}
