@@ -293,6 +293,9 @@ def try_pictures(page, count, has_drawer):
         count.expect("a picture", len(svg), 1)
         nodes = re.findall(r'<g class="node">', svg[0]) if svg else []
         count.expect("its states, and the arrow from nowhere", len(nodes) in (3, 4))
+        for word, wanted in ("cycle {p}; {}", (True, False)), ("{p}; cycle {}", (False, True)), ("{p}; cycle", (False, False)), ("{}; " * 40_000 + "cycle {}", (False, False)):
+            svg = re.findall(r"<svg.*?</svg>", page.ask("[]<>p", "", word), re.S)
+            count.expect(f"the run on {word[:40]}", [("var(--run)" in it, "no run on this word is accepting" in seen(it)) for it in svg], [wanted])
 
 
 def try_browser(page, count):

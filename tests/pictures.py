@@ -1,7 +1,9 @@
 #!/usr/bin/env python3
 """Draws the automata of 200 random formulas with the built programs, and has `dot` of Graphviz read each picture. It counts the states, the arrows and
-their lines in the image, and compares them with the text of the automaton. It also draws the pictures of docs/pictures anew, as docs/pictures.py does: each
-has to be there byte by byte, and a page has to show it. An image is compared if this `dot`, with its font, is the one that made it.
+their lines in the image, and compares them with the text of the automaton. It draws a run of each automaton on a random word: there has to be one if and only
+if ltleval says that the formula holds, the coloured edges have to be those of an accepting run, and the other ones all others. It also draws the pictures of
+docs/pictures anew, as docs/pictures.py does: each has to be there byte by byte, and a page has to show it. An image is compared if this `dot`, with its font,
+is the one that made it.
 
 Usage: tests/pictures.py [-p FOLDER]; the programs are those of the folder, or those that the gate built. What isn't compared, or isn't drawn without `dot`,
 is reported in a line that begins with 'skipped: '. The last line is 'N passed, M failed'."""
@@ -95,6 +97,76 @@ def fault_of(words, programs):
     return None
 
 
+def letters_of(dice):
+    """A random word: the letters of its stem and those of its cycle."""
+    stem, cycle = ([{it for it in "pqr" if dice.random() < 0.5} for _ in range(count)] for count in (dice.randrange(4), dice.randrange(1, 4)))
+    return stem, cycle
+
+
+def word_of(stem, cycle):
+    texts = [["{" + ",".join(sorted(letter)) + "}" for letter in letters] for letters in (stem, cycle)]
+    return "".join(f"{it}; " for it in texts[0]) + "cycle " + "; ".join(texts[1])
+
+
+def is_met(label, letter):
+    return label == "1" or all((it.lstrip("!") in letter) != it.startswith("!") for it in label.split(" && "))
+
+
+def reached(steps, start):
+    """What steps lead to, from one or more of them on."""
+    seen, left = set(), [start]
+    while left:
+        for target, _ in steps.get(left.pop(), []):
+            if target not in seen:
+                seen.add(target)
+                left.append(target)
+    return seen
+
+
+def judged(edges, sets, stem, cycle):
+    """Whether an accepting run on the word takes these edges alone, and which of them runs of them can take at all."""
+    letters, steps = stem + cycle, {}
+    for k, letter in enumerate(letters):
+        behind = k + 1 if k + 1 < len(letters) else len(stem)
+        for edge in edges:
+            if is_met(edge[2], letter):
+                steps.setdefault((edge[0], k), []).append(((edge[1], behind), edge))
+    there = {("0", 0)} | reached(steps, ("0", 0))
+    taken = {edge for place in there for _, edge in steps.get(place, [])}
+    ahead = {place: reached(steps, place) for place in there}
+    for place in there:
+        round_ = {it for it in ahead[place] if place in ahead[it]}
+        marks = {mark for it in round_ for target, edge in steps[it] if target in round_ for mark in edge[3].split()}
+        if round_ and len(marks) == sets:
+            return True, taken
+    return False, taken
+
+
+def run_fault(words, programs, dice):
+    """What is wrong with the picture of the same automaton with a run on a random word."""
+    stem, cycle = letters_of(dice)
+    word = word_of(stem, cycle)
+    text = subprocess.run([programs("ltl2ba"), *words], capture_output=True, text=True, timeout=SECONDS, check=True).stdout
+    picture = subprocess.run([programs("ltldraw"), "-w", word], input=text, capture_output=True, text=True, timeout=SECONDS, check=True).stdout
+    holds = subprocess.run([programs("ltleval"), *words[1:], "-w", word], capture_output=True, timeout=SECONDS, check=False).returncode == 0
+    _, sets, edges = edges_of(text)
+    marks = {state: {it[3] for it in edges if it[0] == state} for state, *_ in edges}
+    by_states = sets == 1 and all(len(it) == 1 for it in marks.values())
+    arrows = re.findall(r'^  (\d+) -> (\d+) \[label="([^"]*)"(, color=red, fontcolor=red, penwidth=2)?\]$', picture, re.M)
+    lines = [(source, target, *with_sets(line), bool(colour)) for source, target, label, colour in arrows for line in label.split("\\n")]
+    if sorted(it[:4] for it in lines) != sorted((*it[:3], "" if by_states else it[3]) for it in edges):
+        return f"on {word} has other edges with a run than without"
+    own = [it for it in edges if (*it[:3], "" if by_states else it[3], True) in lines]
+    states = set(re.findall(r"^  (\d+) \[(?:peripheries=2, )?color=red, penwidth=2\]$", picture, re.M))
+    if bool(own) != holds or ("no run on this word is accepting" in picture) == holds or judged(edges, sets, stem, cycle)[0] != holds:
+        return f"on {word}: the formula {'holds' if holds else 'fails'}, and the run has {len(own)} edges"
+    if own and judged(own, sets, stem, cycle) != (True, set(own)):
+        return f"on {word}: {own} are not the edges of an accepting run"
+    if states != {it[0] for it in own}:
+        return f"on {word}: the states {sorted(states)} are in colour"
+    return None
+
+
 def last_line(image):
     """The version of dot and the font that an image names."""
     return image.read_text(encoding="utf-8").rstrip("\n").rpartition("\n")[2].removeprefix("<!-- ").removesuffix(" -->")
@@ -134,15 +206,16 @@ def main(words):
         passed, failed = passed + (not fault and not reason), failed + bool(fault)
         if fault or reason:
             print(f"docs/pictures/{name} {fault}" if fault else f"skipped: docs/pictures/{name}, {reason}")
-    dice, count = random.Random(SEED), COUNT if shutil.which("dot") else 0
-    if not count:
+    dice, can_draw = random.Random(SEED), shutil.which("dot")
+    if not can_draw:
         print("skipped: pictures of random formulas, for want of Graphviz' dot")
-    for k in range(count):
+    for k in range(COUNT):
         tried = ["-G" if k % 2 else "-H", "-f", formula(dice, 3)]
-        fault = fault_of(tried, programs)
-        passed, failed = passed + (not fault), failed + bool(fault)
-        if fault:
-            print(f"{tried}: {fault}")
+        faults = ([fault_of(tried, programs)] if can_draw else []) + [run_fault(tried, programs, dice)]
+        for fault in faults:
+            passed, failed = passed + (not fault), failed + bool(fault)
+            if fault:
+                print(f"{tried}: {fault}")
     print(f"{passed} passed, {failed} failed")
     return 1 if failed else 0
 

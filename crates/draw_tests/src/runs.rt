@@ -41,21 +41,21 @@ fn whole(text: &str) -> Given<'_> {
 }
 
 /// Words, input, output, message and status.
-const RUNS: [(&[&str], &str, &str, &str, u8); 14] = [
+const RUNS: [(&[&str], &str, &str, &str, u8); 18] = [
     (&["ltldraw"], AUTOMATON, PICTURE, "", 0),
     (&["x"], AUTOMATON, PICTURE, "", 0),
     (
         &["ltldraw", "-h"],
         AUTOMATON,
         "",
-        "ltldraw: usage: ltldraw [-t lasso [-f formula]]\n",
+        "ltldraw: usage: ltldraw [-w lasso | -t lasso [-f formula]]\n",
         2,
     ),
     (
         &["ltldraw", "x"],
         AUTOMATON,
         "",
-        "ltldraw: usage: ltldraw [-t lasso [-f formula]]\n",
+        "ltldraw: usage: ltldraw [-w lasso | -t lasso [-f formula]]\n",
         2,
     ),
     (&[], AUTOMATON, PICTURE, "", 0),
@@ -91,14 +91,14 @@ const RUNS: [(&[&str], &str, &str, &str, u8); 14] = [
         &["ltldraw", "-f", "p"],
         AUTOMATON,
         "",
-        "ltldraw: usage: ltldraw [-t lasso [-f formula]]\n",
+        "ltldraw: usage: ltldraw [-w lasso | -t lasso [-f formula]]\n",
         2,
     ),
     (
         &["ltldraw", "-t", "cycle {p}", "-t", "cycle {}"],
         "",
         "",
-        "ltldraw: usage: ltldraw [-t lasso [-f formula]]\n",
+        "ltldraw: usage: ltldraw [-w lasso | -t lasso [-f formula]]\n",
         2,
     ),
     (
@@ -122,7 +122,35 @@ const RUNS: [(&[&str], &str, &str, &str, u8); 14] = [
         "ltldraw: word: byte 0: bad word\n",
         3,
     ),
+    (&RUN, AUTOMATON, RUN_PICTURE, "", 0),
+    (
+        &["ltldraw", "-w", "{p}; cycle {}"],
+        AUTOMATON,
+        "digraph automaton {\n  rankdir=LR\n  labelloc=t\n  label=\"Buchi\\nno run on this word is accepting\"\n  node [shape=circle]\n  I [label=\"\", style=invis, width=0]\n  I -> 0\n  0\n  0 -> 0 [label=\"1\\np\"]\n  0 -> 1 [label=\"p\\n!p\\np\\np\"]\n  1 [peripheries=2]\n  1 -> 1 [label=\"p\"]\n}\n",
+        "",
+        0,
+    ),
+    (
+        &["ltldraw", "-w", "{p"],
+        AUTOMATON,
+        "",
+        "ltldraw: word: byte 2: bad word\n",
+        3,
+    ),
+    (
+        &["ltldraw", "-w", "cycle {}", "-t", "cycle {}"],
+        AUTOMATON,
+        "",
+        "ltldraw: usage: ltldraw [-w lasso | -t lasso [-f formula]]\n",
+        2,
+    ),
 ];
+
+/// An accepting run on this word takes one of several edges that have the same label and the same target.
+const RUN: [&str; 3] = ["ltldraw", "-w", "cycle {p}"];
+
+const RUN_PICTURE: &str =
+    "digraph automaton {\n  rankdir=LR\n  labelloc=t\n  label=\"Buchi\"\n  node [shape=circle]\n  I [label=\"\", style=invis, width=0]\n  I -> 0\n  0 [color=red, penwidth=2]\n  0 -> 0 [label=\"1\\np\"]\n  0 -> 1 [label=\"!p\\np\\np\"]\n  0 -> 1 [label=\"p\", color=red, fontcolor=red, penwidth=2]\n  1 [peripheries=2, color=red, penwidth=2]\n  1 -> 1 [label=\"p\", color=red, fontcolor=red, penwidth=2]\n}\n";
 
 const TABLE: &str = "        0 | 1 2\np       * | . .\nq       . | * .\n(p U q) * | * .\n";
 
@@ -298,6 +326,54 @@ fn each_byte_of_input(rt: HostRuntime) {
         assert_eq!(rt;
             message.held.as_slice(),
             "ltldraw: cannot read\n".as_bytes()
+        );
+    }
+}
+
+#[test]
+fn each_growth_of_a_run(rt: HostRuntime) {
+    let mut growths = 0;
+    for n in 1..MOST_GROWTHS {
+        let alloc = Refusing::new(rt.alloc(), n);
+        let mut output = Taken::new(rt.alloc(), usize::MAX);
+        let mut message = Taken::new(rt.alloc(), usize::MAX);
+        let input = whole(AUTOMATON);
+        let status = ended(rt.alloc(), &alloc, &RUN, input, &mut output, &mut message);
+        if !alloc.has_refused() {
+            assert_eq!(rt; status, 0);
+            assert_eq!(rt; output.held.as_slice(), RUN_PICTURE.as_bytes());
+            growths = n;
+            break;
+        }
+        assert_eq!(rt; status, 4, "growth {n}");
+        assert!(rt; output.held.is_empty() && output.flushes == 0);
+        assert_eq!(rt;
+            message.held.as_slice(),
+            "ltldraw: out of memory\n".as_bytes()
+        );
+    }
+    assert!(rt; growths > 15);
+}
+
+#[test]
+fn each_byte_of_a_run(rt: HostRuntime) {
+    for room in 0..RUN_PICTURE.len() {
+        let mut output = Taken::new(rt.alloc(), room);
+        let mut message = Taken::new(rt.alloc(), usize::MAX);
+        let input = whole(AUTOMATON);
+        let status = ended(
+            rt.alloc(),
+            &rt.alloc(),
+            &RUN,
+            input,
+            &mut output,
+            &mut message,
+        );
+        assert_eq!(rt; status, 5);
+        assert_eq!(rt; output.held.as_slice(), &RUN_PICTURE.as_bytes()[..room]);
+        assert_eq!(rt;
+            message.held.as_slice(),
+            "ltldraw: cannot write\n".as_bytes()
         );
     }
 }

@@ -132,9 +132,9 @@ links_tell T lists dependencies links all w f i j h k e =
     let di = w.demanded i (f i h) in
     let dj = w.demanded j (f j k) in
     elim (w.linked i j (f i h) (f j k) e) [
-      | inl t ↦ independent_by_test T (fulfilling_pairs T) (dependency_of dependencies i).support (dependency_of dependencies i).fulfilling (dependency_of dependencies j).support (dependency_of dependencies j).fulfilling (conjunct_of lists i) (conjunct_of lists j) di.asked di.fulfilling dj.asked dj.fulfilling t
+      | inl t ↦ independent_by_test T (fulfilling_pairs T) (dependency_of dependencies i).support (dependency_of dependencies i).fulfilling (dependency_of dependencies j).support (dependency_of dependencies j).fulfilling (conjunct_of lists i) (conjunct_of lists j) di.support di.fulfilling dj.support dj.fulfilling t
       | inr t ↦ independent_sym T (fulfilling_pairs T) (conjunct_of lists j) (conjunct_of lists i)
-          (independent_by_test T (fulfilling_pairs T) (dependency_of dependencies j).support (dependency_of dependencies j).fulfilling (dependency_of dependencies i).support (dependency_of dependencies i).fulfilling (conjunct_of lists j) (conjunct_of lists i) dj.asked dj.fulfilling di.asked di.fulfilling t)
+          (independent_by_test T (fulfilling_pairs T) (dependency_of dependencies j).support (dependency_of dependencies j).fulfilling (dependency_of dependencies i).support (dependency_of dependencies i).fulfilling (conjunct_of lists j) (conjunct_of lists i) dj.support dj.fulfilling di.support di.fulfilling t)
     ]
 
 -- one component more is taken out, and its transitions stand behind those of the others

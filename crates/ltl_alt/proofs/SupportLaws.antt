@@ -109,5 +109,5 @@ awaits_each T w ps each f h l =
     subst (λ g. Covers w (fulfilling_pairs T g)) at (each (place_of same f T.untils) (place_below same same_Decides f T.untils h) (subst (λ g. Leads ps (place T g)) (sym at) l))
 
 -- the demand of a list
-pub dependencies : (T : Table) (ps : List Pair) (a w : Support) → Covers a ps → CoversAllFulfilling T a.targets (length T.untils) w → AreDependencies T ps (record { asked = a; fulfilling = w })
-dependencies T ps a w c all = record { asked = c; fulfilling = awaits_each T w ps (λ i l h. all i l (c.rows (place T (slice_index_or T.untils i Bottom)) h)) }
+pub dependencies : (T : Table) (ps : List Pair) (a w : Support) → Covers a ps → CoversAllFulfilling T a.targets (length T.untils) w → AreDependencies T ps (record { support = a; fulfilling = w })
+dependencies T ps a w c all = record { support = c; fulfilling = awaits_each T w ps (λ i l h. all i l (c.rows (place T (slice_index_or T.untils i Bottom)) h)) }

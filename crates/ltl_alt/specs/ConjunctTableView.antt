@@ -21,7 +21,7 @@ abbrev pub conjunct_of : List (List Pair) → ℕ → List Pair
 conjunct_of lists k = slice_index_or lists k []
 
 abbrev pub dependency_of : List Dependencies → ℕ → Dependencies
-dependency_of dependencies k = slice_index_or dependencies k (record { asked = no_support; fulfilling = no_support })
+dependency_of dependencies k = slice_index_or dependencies k (record { support = no_support; fulfilling = no_support })
 
 abbrev pub links_of : List RowSet → ℕ → RowSet
 links_of links k = slice_index_or links k []

@@ -19,7 +19,7 @@ use Rattle.ltl_sets.specs.PlaceLaws.{IsRising-range, Has-range}
 use Rattle.ltl_text.specs.Options.{edge_at}
 use Rattle.ltl_text.proofs.OptionLaws.{at_target, entries, entries_step, filter-map, flat_map_same, place_cmp, range_below, rise_alone, rising_step, same_test, test_same}
 use Rattle.ltl_dot.specs.Picture.{arrow_to, arrows}
-use Rattle.ltl_dot.specs.DotText.{arrow_text, edge_text}
+use Rattle.ltl_dot.specs.DotText.{arrow_end, arrow_text, edge_text}
 use Rattle.ltl_dot.specs.Pieces.{front_text, lines_text, placed_text}
 use Rattle.ltl_dot.proofs.PutLaws.{flat_mapped}
 
@@ -76,38 +76,38 @@ module _ (es : List Edge) (ps : List ℕ) (o : IsTargetOrder es ps) where
           (Has-map (target_at es) ps k.0 (o.whole k.0 (let lt = range_below 0 (length es) k.0 k.1 in omega (arith, lt)))))
 
   -- the entries of the places are the arrows
-  module _ (names : List Name) (shown : Bool) (k : ℕ) where
-    arrow_is : (t : ℕ) → placed_text names shown k es t (filter (at_target (target_at es) t) ps) ≡ arrow_text names shown (arrow_to k es t)
+  module _ (names : List Name) (shown colour : Bool) (k : ℕ) where
+    arrow_is : (t : ℕ) → placed_text names shown colour k es t (filter (at_target (target_at es) t) ps) ≡ arrow_text names shown colour (arrow_to k es t)
     arrow_is t =
-        ap (λ ls. front_text k t ++ (joined_by (codes "\\n") ls ++ codes "\"]\n")) (same_lines (edge_text names shown) t)
-        ∙ regroup (codes "  ") (decimal k) (codes " -> ") (decimal t) (codes " [label=\"") (joined_by (codes "\\n") (map (edge_text names shown) (filter (λ (e : Edge). e.target == t) es))) (codes "\"]\n")
+        ap (λ ls. front_text k t ++ (joined_by (codes "\\n") ls ++ arrow_end colour)) (same_lines (edge_text names shown) t)
+        ∙ regroup (codes "  ") (decimal k) (codes " -> ") (decimal t) (codes " [label=\"") (joined_by (codes "\\n") (map (edge_text names shown) (filter (λ (e : Edge). e.target == t) es))) (arrow_end colour)
       where
         regroup : (a b c d e f g : List ℕ) → (a ++ (b ++ (c ++ (d ++ e)))) ++ (f ++ g) ≡ (((((a ++ b) ++ c) ++ d) ++ e) ++ f) ++ g
         regroup a b c d e f g = simp append_assoc
 
-    pub entries_whole : entries (target_at es) (placed_text names shown k es) ps ≡ flat_map (arrow_text names shown) (arrows k es)
+    pub entries_whole : entries (target_at es) (placed_text names shown colour k es) ps ≡ flat_map (arrow_text names shown colour) (arrows k es)
     entries_whole =
-        ap (flat_map (λ t. placed_text names shown k es t (filter (at_target (target_at es) t) ps))) same_targets
-        ∙ flat_map_same (λ t. placed_text names shown k es t (filter (at_target (target_at es) t) ps)) (λ t. arrow_text names shown (arrow_to k es t)) (set_of nat_cmp (map (λ (x : Edge). x.target) es)) (λ t h. arrow_is t)
-        ∙ sym (flat_mapped (arrow_text names shown) (arrow_to k es) (set_of nat_cmp (map (λ (x : Edge). x.target) es)))
+        ap (flat_map (λ t. placed_text names shown colour k es t (filter (at_target (target_at es) t) ps))) same_targets
+        ∙ flat_map_same (λ t. placed_text names shown colour k es t (filter (at_target (target_at es) t) ps)) (λ t. arrow_text names shown colour (arrow_to k es t)) (set_of nat_cmp (map (λ (x : Edge). x.target) es)) (λ t h. arrow_is t)
+        ∙ sym (flat_mapped (arrow_text names shown colour) (arrow_to k es) (set_of nat_cmp (map (λ (x : Edge). x.target) es)))
 
 -- ---- the first arrow, and the others
-module _ (names : List Name) (shown : Bool) (k : ℕ) (es : List Edge) (p n t : ℕ) (tail rest group others : List ℕ) (e : rest ≡ p ∷ tail) (f : target_at es p ≡ t)
+module _ (names : List Name) (shown colour : Bool) (k : ℕ) (es : List Edge) (p n t : ℕ) (tail rest group others : List ℕ) (e : rest ≡ p ∷ tail) (f : target_at es p ≡ t)
     (is : n ≡ prefix_len (at_target (target_at es) t) rest) (rising : IsRising (place_cmp (target_at es)) rest) (front : group ≡ take n rest) (back : others ≡ drop n rest) where
   abbrev pub what_is_left : List ℕ → List ℕ
-  what_is_left ps = entries (target_at es) (placed_text names shown k es) ps
+  what_is_left ps = entries (target_at es) (placed_text names shown colour k es) ps
 
-  pub arrows_step : what_is_left rest ≡ front_text k t ++ (lines_text names shown es group ++ (codes "\"]\n" ++ what_is_left others))
+  pub arrows_step : what_is_left rest ≡ front_text k t ++ (lines_text names shown es group ++ (arrow_end colour ++ what_is_left others))
   arrows_step =
-      entries_step (target_at es) t (placed_text names shown k es) p n tail rest e f is rising
-      ∙ ap₂ (λ a b. placed_text names shown k es t a ++ what_is_left b) (sym front) (sym back)
-      ∙ regroup (front_text k t) (lines_text names shown es group) (codes "\"]\n") (what_is_left others)
+      entries_step (target_at es) t (placed_text names shown colour k es) p n tail rest e f is rising
+      ∙ ap₂ (λ a b. placed_text names shown colour k es t a ++ what_is_left b) (sym front) (sym back)
+      ∙ regroup (front_text k t) (lines_text names shown es group) (arrow_end colour) (what_is_left others)
     where
       regroup : (a b c d : List ℕ) → (a ++ (b ++ c)) ++ d ≡ a ++ (b ++ (c ++ d))
       regroup a b c d = simp append_assoc
 
   pub arrows_rise : IsRising (place_cmp (target_at es)) others
-  arrows_rise = subst (IsRising (place_cmp (target_at es))) (sym back) (rising_step (target_at es) t (placed_text names shown k es) p n tail rest e f is rising)
+  arrows_rise = subst (IsRising (place_cmp (target_at es))) (sym back) (rising_step (target_at es) t (placed_text names shown colour k es) p n tail rest e f is rising)
 
   first_length : n ≡ 1 + prefix_len (at_target (target_at es) t) tail
   first_length = is ∙ ap (prefix_len (at_target (target_at es) t)) e ∙ ap (λ (b : Bool). cond b (1 + prefix_len (at_target (target_at es) t) tail) 0) (same_test (target_at es p) t f)

@@ -20,27 +20,38 @@ placed_here edges k e l h = ap (λ t. key_of t k) (ap (λ (f : MarkedEdge). f.ta
 pub map_pushed : {X Y : Type 0} (f : X → Y) (xs ys : List X) (x : X) → ys ≡ xs ++ x ∷ [] → map f ys ≡ map f xs ++ f x ∷ []
 map_pushed f xs ys x e = ap (map f) e ∙ map_push f xs x
 
--- those of the first n states
-pub record Ordered (A : MarkedAutomaton) (n : ℕ) (places : List (List ℕ)) : Type 0 where
-  pub long : length places ≡ n
-  pub orders : (k : ℕ) → k < n → IsTargetOrder (edges_at A k) (slice_index_or places k [])
+-- a fact of each of the first n rows
+pub record Rows {X : Type 0} (P : ℕ → X → Type 0) (d : X) (n : ℕ) (xs : List X) : Type 0 where
+  pub long : length xs ≡ n
+  pub each : (k : ℕ) → k < n → P k (slice_index_or xs k d)
 
-pub ordered_none : (A : MarkedAutomaton) → Ordered A 0 []
-ordered_none A = record { long = omega arith; orders = λ k lt. absurd (omega (arith, lt)) }
+module _ {X : Type 0} (P : ℕ → X → Type 0) (d : X) where
+  pub rows_none : Rows P d 0 []
+  rows_none = record { long = omega arith; each = λ k lt. absurd (omega (arith, lt)) }
+
+  pub rows_next : (n : ℕ) (xs more : List X) (x : X) → Rows P d n xs → P n x → more ≡ xs ++ x ∷ [] → Rows P d (n + 1) more
+  rows_next n xs more x w o q = subst (Rows P d (n + 1)) (sym q) (record {
+    long = let a = length-append xs (x ∷ []) in let b = w.long in let c = one x in omega arith;
+    each = λ k lt. elim (below_or_last k n lt) [
+      | inl l ↦ let m = w.long in subst (P k) (sym (index_append xs (x ∷ []) k d (omega (arith, l, m)))) (w.each k l)
+      | inr i ↦
+          let at : slice_index_or (xs ++ x ∷ []) k d ≡ x = ap (λ j. slice_index_or (xs ++ x ∷ []) j d) (i ∙ sym w.long) ∙ index_done xs [] x d in
+          subst (P k) (sym at) (subst (λ j. P j x) (sym i) o)
+    ];
+  })
+    where
+      one : {Y : Type 0} (y : Y) → length (y ∷ []) ≡ 1
+      one y = omega arith
+
+-- the places of the edges of each state
+abbrev pub OrderedAt : MarkedAutomaton → ℕ → List ℕ → Type 0
+OrderedAt A k places = IsTargetOrder (edges_at A k) places
+
+abbrev pub Ordered : MarkedAutomaton → ℕ → List (List ℕ) → Type 0
+Ordered A n places = Rows (OrderedAt A) [] n places
 
 pub ordered_next : (A : MarkedAutomaton) (n : ℕ) (orders more : List (List ℕ)) (es : List spec.Edge) (ps : List ℕ) → Ordered A n orders → es ≡ edges_at A n → IsTargetOrder es ps → more ≡ orders ++ ps ∷ [] → Ordered A (n + 1) more
-ordered_next A n orders more es ps w e o q = subst (Ordered A (n + 1)) (sym q) (record {
-  long = let a = length-append orders (ps ∷ []) in let b = w.long in let c = one ps in omega arith;
-  orders = λ k lt. elim (below_or_last k n lt) [
-    | inl l ↦ let m = w.long in subst (IsTargetOrder (edges_at A k)) (sym (index_append orders (ps ∷ []) k [] (omega (arith, l, m)))) (w.orders k l)
-    | inr i ↦
-        let at : slice_index_or (orders ++ ps ∷ []) k [] ≡ ps = ap (λ j. slice_index_or (orders ++ ps ∷ []) j []) (i ∙ sym w.long) ∙ index_done orders [] ps [] in
-        subst (IsTargetOrder (edges_at A k)) (sym at) (subst (λ j. IsTargetOrder (edges_at A j) ps) (sym i) (subst (λ xs. IsTargetOrder xs ps) e o))
-  ];
-})
-  where
-    one : {X : Type 0} (x : X) → length (x ∷ []) ≡ 1
-    one x = omega arith
+ordered_next A n orders more es ps w e o q = rows_next (OrderedAt A) [] n orders more ps w (subst (λ xs. IsTargetOrder xs ps) e o) q
 
 pub ordered_all : (A : MarkedAutomaton) (n : ℕ) (orders : List (List ℕ)) → n ≡ A.states → Ordered A n orders → HaveOrders A orders
-ordered_all A n orders e w = record { long = w.long ∙ e; orders = λ k lt. w.orders k (subst (λ m. k < m) (sym e) lt) }
+ordered_all A n orders e w = record { long = w.long ∙ e; orders = λ k lt. w.each k (subst (λ m. k < m) (sym e) lt) }

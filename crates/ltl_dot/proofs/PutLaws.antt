@@ -16,7 +16,7 @@ use Rattle.ltl_sets.specs.Literals.{literal_of, cube_of}
 use Rattle.ltl_text.proofs.HoaLaws.{states_from}
 use Rattle.ltl_text.proofs.TextLaws.{joined_led, led}
 use Rattle.ltl_dot.specs.Picture.{arrows, edges_at, is_accepting, is_state_based}
-use Rattle.ltl_dot.specs.DotText.{acceptance_name, arrow_text, disc, dot_text, edge_text, escaped, formula_text, head_text, literal_text, node_text, state_text}
+use Rattle.ltl_dot.specs.DotText.{acceptance_name, arrow_text, disc, dot_text, edge_text, escaped, formula_text, head_text, literal_text, node_end, node_text, state_text}
 use Rattle.ltl_dot.specs.Pieces.{states_text}
 
 -- ---- element by element
@@ -93,11 +93,11 @@ disc_bracketed k h = rw (not_zero k h, above_ten k h, above_twenty k h) (append_
     above_twenty k h = grind (arith, nat_tests)
 
 -- ---- a state
-pub node_pieces : (accepting : Bool) (k : ℕ) (end : List ℕ) → end ≡ (if accepting then codes " [peripheries=2]\n" else codes "\n") → node_text accepting k ≡ codes "  " ++ (decimal k ++ end)
-node_pieces accepting k end e = append_assoc (codes "  ") (decimal k) (if accepting then codes " [peripheries=2]\n" else codes "\n") ∙ ap (λ t. codes "  " ++ (decimal k ++ t)) (sym e)
+pub node_pieces : (accepting colour : Bool) (k : ℕ) (end : List ℕ) → end ≡ node_end accepting colour → node_text accepting colour k ≡ codes "  " ++ (decimal k ++ end)
+node_pieces accepting colour k end e = append_assoc (codes "  ") (decimal k) (node_end accepting colour) ∙ ap (λ t. codes "  " ++ (decimal k ++ t)) (sym e)
 
 pub state_pieces : (A : MarkedAutomaton) (k : ℕ) (by double : Bool) (es : List Edge) (names : List Name) → by ≡ is_state_based A → es ≡ edges_at A k → names ≡ A.names → double ≡ (by && is_accepting es)
-    → state_text A k ≡ node_text double k ++ flat_map (arrow_text names (not by)) (arrows k es)
+    → state_text A k ≡ node_text double false k ++ flat_map (arrow_text names (not by) false) (arrows k es)
 state_pieces A k by double es names b e n d = rw (d, b, e, n) refl
 
 -- ---- the head
@@ -110,18 +110,19 @@ many_sets (suc (suc n)) h = refl
 abbrev pub name_end : List ℕ
 name_end = codes "\"\n  node [shape=circle]\n  I [label=\"\", style=invis, width=0]\n  I -> "
 
-pub head_pieces : (A : MarkedAutomaton) → head_text A ≡ codes "digraph automaton {\n  rankdir=LR\n  labelloc=t\n  label=\"" ++ (acceptance_name A.sets ++ (name_end ++ (decimal A.start ++ codes "\n")))
-head_pieces A = regroup (codes "digraph automaton {\n  rankdir=LR\n  labelloc=t\n  label=\"") (acceptance_name A.sets) name_end (decimal A.start) (codes "\n")
+pub head_pieces : (A : MarkedAutomaton) (note : List ℕ)
+    → head_text A note ≡ codes "digraph automaton {\n  rankdir=LR\n  labelloc=t\n  label=\"" ++ (acceptance_name A.sets ++ (note ++ (name_end ++ (decimal A.start ++ codes "\n"))))
+head_pieces A note = regroup (codes "digraph automaton {\n  rankdir=LR\n  labelloc=t\n  label=\"") (acceptance_name A.sets) note name_end (decimal A.start) (codes "\n")
   where
-    regroup : (a b c d e : List ℕ) → (((a ++ b) ++ c) ++ d) ++ e ≡ a ++ (b ++ (c ++ (d ++ e)))
-    regroup a b c d e = simp append_assoc
+    regroup : (a b n c d e : List ℕ) → ((((a ++ b) ++ n) ++ c) ++ d) ++ e ≡ a ++ (b ++ (n ++ (c ++ (d ++ e))))
+    regroup a b n c d e = simp append_assoc
 
 -- ---- the whole text
 pub states_begin : (A : MarkedAutomaton) → states_text A ≡ states_from (state_text A) A.states 0
 states_begin A = let e : A.states ≡ A.states - 0 = omega arith in ap (λ n. flat_map (state_text A) (range_with_len 0 n)) e
 
-pub dot_pieces : (A : MarkedAutomaton) → dot_text A ≡ head_text A ++ (states_text A ++ codes "}\n")
-dot_pieces A = append_assoc (head_text A) (states_text A) (codes "}\n")
+pub dot_pieces : (A : MarkedAutomaton) → dot_text A ≡ head_text A [] ++ (states_text A ++ codes "}\n")
+dot_pieces A = append_assoc (head_text A []) (states_text A) (codes "}\n")
 
 -- ---- all of a list pass
 module _ {X : Type 0} (p : X → Bool) (d : X) where

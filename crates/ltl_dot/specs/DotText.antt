@@ -1,5 +1,5 @@
 -- The text of a picture in the language of Graphviz' dot.
-use Rattle.std.specs.Prelude.{ℕ, zero, suc, ◌+◌, Bool, not, ◌&&◌, ◌||◌, ◌==◌, nat_le, if◌then◌else◌, List, [], ◌∷◌, ◌++◌, map, flat_map, slice_index_or, codes, decimal}
+use Rattle.std.specs.Prelude.{ℕ, zero, suc, ◌+◌, Bool, true, false, not, ◌&&◌, ◌||◌, ◌==◌, nat_le, if◌then◌else◌, List, [], ◌∷◌, ◌++◌, map, flat_map, slice_index_or, codes, decimal}
 use Rattle.std.specs.List.{range_with_len}
 use Rattle.ltl_spec.specs.Collections.Lists.{joined_by}
 use Rattle.ltl_spec.specs.Semantics.Word.{Name}
@@ -35,21 +35,31 @@ formula_text names (l ∷ ls) = joined_by (codes " && ") (map (literal_text name
 abbrev pub edge_text : List Name → Bool → Edge → List ℕ
 edge_text names shown e = formula_text names e.cube ++ (if shown then flat_map disc e.marks else [])
 
--- an arrow with a line for each of its edges
-abbrev pub arrow_text : List Name → Bool → Arrow → List ℕ
-arrow_text names shown a =
-    codes "  " ++ decimal a.from ++ codes " -> " ++ decimal a.to ++ codes " [label=\"" ++ joined_by (codes "\\n") (map (edge_text names shown) a.edges) ++ codes "\"]\n"
+-- what stands behind the label of an arrow
+abbrev pub arrow_end : Bool → List ℕ
+arrow_end colour = if colour then codes "\", color=red, fontcolor=red, penwidth=2]\n" else codes "\"]\n"
 
--- a state, with a double line where it is accepting
-abbrev pub node_text : Bool → ℕ → List ℕ
-node_text accepting k = codes "  " ++ decimal k ++ (if accepting then codes " [peripheries=2]\n" else codes "\n")
+-- an arrow with a line for each of its edges, in colour or not
+abbrev pub arrow_text : List Name → Bool → Bool → Arrow → List ℕ
+arrow_text names shown colour a =
+    codes "  " ++ decimal a.from ++ codes " -> " ++ decimal a.to ++ codes " [label=\"" ++ joined_by (codes "\\n") (map (edge_text names shown) a.edges) ++ arrow_end colour
+
+-- what stands behind the number of a state: a double line where it is accepting, and the colour
+abbrev pub node_end : Bool → Bool → List ℕ
+node_end false false = codes "\n"
+node_end true false = codes " [peripheries=2]\n"
+node_end false true = codes " [color=red, penwidth=2]\n"
+node_end true true = codes " [peripheries=2, color=red, penwidth=2]\n"
+
+abbrev pub node_text : Bool → Bool → ℕ → List ℕ
+node_text accepting colour k = codes "  " ++ decimal k ++ node_end accepting colour
 
 -- a state and the arrows from it
 abbrev pub state_text : MarkedAutomaton → ℕ → List ℕ
 state_text A k =
     let es = edges_at A k in
     let by_states = is_state_based A in
-    node_text (by_states && is_accepting es) k ++ flat_map (arrow_text A.names (not by_states)) (arrows k es)
+    node_text (by_states && is_accepting es) false k ++ flat_map (arrow_text A.names (not by_states) false) (arrows k es)
 
 -- what the condition of so many sets is called
 abbrev pub acceptance_name : ℕ → List ℕ
@@ -57,12 +67,12 @@ acceptance_name zero = codes "all"
 acceptance_name (suc zero) = codes "Buchi"
 acceptance_name n = codes "generalized-Buchi " ++ decimal n
 
--- the condition above the picture, and an arrow from nowhere to the start
-abbrev pub head_text : MarkedAutomaton → List ℕ
-head_text A =
-    codes "digraph automaton {\n  rankdir=LR\n  labelloc=t\n  label=\"" ++ acceptance_name A.sets
+-- the condition above the picture with a note behind it, and an arrow from nowhere to the start
+abbrev pub head_text : MarkedAutomaton → List ℕ → List ℕ
+head_text A note =
+    codes "digraph automaton {\n  rankdir=LR\n  labelloc=t\n  label=\"" ++ acceptance_name A.sets ++ note
     ++ codes "\"\n  node [shape=circle]\n  I [label=\"\", style=invis, width=0]\n  I -> " ++ decimal A.start ++ codes "\n"
 
 -- the whole text
 abbrev pub dot_text : MarkedAutomaton → List ℕ
-dot_text A = head_text A ++ flat_map (state_text A) (range_with_len 0 A.states) ++ codes "}\n"
+dot_text A = head_text A [] ++ flat_map (state_text A) (range_with_len 0 A.states) ++ codes "}\n"

@@ -5,10 +5,8 @@ use Rattle.std.specs.Ordering.{nat_cmp}
 use Rattle.ltl_spec.specs.Collections.Sets.{set_of}
 use Rattle.ltl_spec.specs.Automata.Automaton.{Edge}
 use Rattle.ltl_spec.specs.Hoa.HoaReading.{MarkedAutomaton}
-
 -- the edges of a state
-abbrev pub edges_at : MarkedAutomaton → ℕ → List Edge
-edges_at A k = slice_index_or A.edges k []
+pub use Rattle.ltl_run.specs.Edges.{edges_at}
 
 -- whether the edge is in an acceptance set
 abbrev pub has_some : List ℕ → Bool

@@ -6,7 +6,7 @@ use Rattle.ltl_spec.specs.Semantics.Word.{Name}
 use Rattle.ltl_spec.specs.Automata.Automaton.{Edge}
 use Rattle.ltl_spec.specs.Hoa.HoaReading.{MarkedAutomaton}
 use Rattle.ltl_text.specs.Options.{edge_at}
-use Rattle.ltl_dot.specs.DotText.{edge_text, state_text}
+use Rattle.ltl_dot.specs.DotText.{arrow_end, edge_text, state_text}
 
 -- an arrow up to its label
 abbrev pub front_text : ℕ → ℕ → List ℕ
@@ -17,8 +17,8 @@ abbrev pub lines_text : List Name → Bool → List Edge → List ℕ → List �
 lines_text names shown es ps = joined_by (codes "\\n") (map (λ p. edge_text names shown (edge_at es p)) ps)
 
 -- the arrow to a target with the edges at these places
-abbrev pub placed_text : List Name → Bool → ℕ → List Edge → ℕ → List ℕ → List ℕ
-placed_text names shown k es t ps = front_text k t ++ (lines_text names shown es ps ++ codes "\"]\n")
+abbrev pub placed_text : List Name → Bool → Bool → ℕ → List Edge → ℕ → List ℕ → List ℕ
+placed_text names shown colour k es t ps = front_text k t ++ (lines_text names shown es ps ++ arrow_end colour)
 
 abbrev pub states_text : MarkedAutomaton → List ℕ
 states_text A = flat_map (state_text A) (range_with_len 0 A.states)

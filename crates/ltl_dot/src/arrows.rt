@@ -6,7 +6,7 @@ ghost use Rattle.std.specs.List.{prefix_len};
 ghost use Rattle.ltl_models.specs.BaView.{IsTargetOrder, target_at};
 ghost use Rattle.ltl_streams.specs.Sending.{Puts};
 ghost use Rattle.ltl_hoa.specs.MarkedView.{edge_of};
-ghost use Rattle.ltl_dot.specs.DotText.{arrow_text};
+ghost use Rattle.ltl_dot.specs.DotText as text;
 ghost use Rattle.ltl_dot.specs.Drawn.{AreNamed};
 ghost use Rattle.ltl_dot.specs.Picture.{arrows};
 ghost use Rattle.ltl_dot.specs.Pieces.{front_text, lines_text};
@@ -70,14 +70,26 @@ fn put_lines<A: Allocator, S: ByteSink>(
     Ok(())
 }
 
-/// The edges of a state, and their places by target and then by place.
+/// What stands behind the label of an arrow.
+fn arrow_end(colour: bool) -> &'static [u8]
+    ensures { result.now ≡ text.arrow_end colour }
+{
+    if colour {
+        b"\", color=red, fontcolor=red, penwidth=2]\n"
+    } else {
+        b"\"]\n"
+    }
+}
+
+/// Edges of a state, their places by target and then by place, and whether they are drawn in colour.
 #[derive(Clone, Copy)]
 pub(crate) struct Ordered<'e> {
     pub edges: &'e [MarkedEdge],
     pub places: &'e [usize],
+    pub colour: bool,
 }
 
-/// Puts the arrows from state `k`, whose edges these are.
+/// Puts the arrows from state `k` for these edges of it.
 pub(crate) fn put_arrows<A: Allocator, S: ByteSink>(
     names: &[String<&A>],
     shown: bool,
@@ -89,7 +101,7 @@ pub(crate) fn put_arrows<A: Allocator, S: ByteSink>(
     requires order { IsTargetOrder (map edge_of ordered.edges.now) ordered.places.now }
     requires named { AreNamed (length names.now) (map edge_of ordered.edges.now) }
     ensures { Puts result (S.state sink.old) buffer.old (S.state sink.new) buffer.new
-        (flat_map (arrow_text (map string_bytes names.now) shown) (arrows k (map edge_of ordered.entry.edges.now))) }
+        (flat_map (text.arrow_text (map string_bytes names.now) shown ordered.entry.colour) (arrows k (map edge_of ordered.entry.edges.now))) }
 {
     let edges = ordered.edges;
     let mut rest = ordered.places;
@@ -98,7 +110,7 @@ pub(crate) fn put_arrows<A: Allocator, S: ByteSink>(
         let (group, others) = rest.split_at(group_len(edges, rest, target));
         put_front(k, target, buffer, sink)?;
         put_lines(names, shown, edges, group, buffer, sink)?;
-        buffer.put(b"\"]\n", sink)?;
+        buffer.put(arrow_end(ordered.colour), sink)?;
         rest = others;
     }
     Ok(())

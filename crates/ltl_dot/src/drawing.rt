@@ -57,7 +57,7 @@ impl<'a, A: Allocator> Drawing<'a, A> {
         ensures err { OnErr result (Breaks (S.state sink.old) (S.state sink.new) (dot_text self.now)) }
     {
         let mut buffer = OutputBuffer::new();
-        put_head(&self.automaton, &mut buffer, sink)?;
+        put_head(&self.automaton, b"", &mut buffer, sink)?;
         put_states(
             &self.automaton,
             self.orders.as_slice(),

@@ -2,9 +2,17 @@
 
 ghost use Rattle.std.specs.Prelude.{ℕ, List};
 ghost use Rattle.ltl_spec.specs.Automata.Automaton.{Edge};
+ghost use Rattle.ltl_spec.specs.Hoa.HoaReading.{MarkedAutomaton};
+ghost use Rattle.ltl_run.specs.declared.pick.Pick.{Pick};
 ghost use Rattle.ltl_dot.specs.Drawn.{AreDrawn};
+ghost use Rattle.ltl_dot.specs.RunText.{AreShown};
 
 /// The arrows from a state stand for each of its edges, as often as it is there, and for no other; no two of them lead to one target.
 pub fn each_edge_is_drawn()
     ensures { (k : ℕ) (es : List Edge) → AreDrawn k es }
+{}
+
+/// The arrows in colour from a state stand for each of its edges that is picked, and for no other; those without colour for each of its other edges.
+pub fn each_edge_is_shown()
+    ensures { (picks : List Pick) (A : MarkedAutomaton) (k : ℕ) → AreShown picks A k }
 {}

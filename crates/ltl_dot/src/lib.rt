@@ -15,10 +15,14 @@ mod acceptance;
 mod arrows;
 pub mod drawing;
 mod escape;
+mod flags;
 mod label;
 pub mod laws;
 mod order;
 mod picture;
+pub mod run_drawing;
+mod share;
 
 pub use drawing::Drawing;
 pub use escape::put_escaped;
+pub use run_drawing::RunDrawing;

@@ -16,7 +16,7 @@ pub(crate) type Places<'a, A> = SmallVec<usize, 4, &'a A>;
 const PLACES: u128 = 18_446_744_073_709_551_616;
 
 /// The places of the edges, by target and then by place. A target and a place are sorted as one number.
-fn places_by_target<'a, A: Allocator>(
+pub(crate) fn places_by_target<'a, A: Allocator>(
     alloc: &'a A,
     edges: &[MarkedEdge],
 ) -> Result<Places<'a, A>, AllocError>

@@ -1,6 +1,6 @@
 //! The whole text.
 
-ghost use Rattle.std.specs.Prelude.{◌≡◌, ◌<◌, ◌&&◌, map, codes, if◌then◌else◌};
+ghost use Rattle.std.specs.Prelude.{◌≡◌, ◌<◌, ◌&&◌, map};
 ghost use Rattle.ltl_streams.specs.Sending.{Puts};
 ghost use Rattle.ltl_hoa.specs.MarkedView.{edge_of};
 ghost use Rattle.ltl_dot.specs.DotText as text;
@@ -34,19 +34,21 @@ fn put_acceptance_name<S: ByteSink>(
     put_number(sets, buffer, sink)
 }
 
-/// Puts the condition above the picture, and an arrow from nowhere to the start.
+/// Puts the condition above the picture with a note behind it, and an arrow from nowhere to the start.
 pub(crate) fn put_head<A: Allocator, S: ByteSink>(
     automaton: &Marked<'_, A>,
+    note: &[u8],
     buffer: &mut OutputBuffer,
     sink: &mut S,
 ) -> Result<(), WriteFault>
-    ensures { Puts result (S.state sink.old) buffer.old (S.state sink.new) buffer.new (text.head_text automaton.now) }
+    ensures { Puts result (S.state sink.old) buffer.old (S.state sink.new) buffer.new (text.head_text automaton.now note.now) }
 {
     buffer.put(
         b"digraph automaton {\n  rankdir=LR\n  labelloc=t\n  label=\"",
         sink,
     )?;
     put_acceptance_name(automaton.sets(), buffer, sink)?;
+    buffer.put(note, sink)?;
     buffer.put(
         b"\"\n  node [shape=circle]\n  I [label=\"\", style=invis, width=0]\n  I -> ",
         sink,
@@ -56,35 +58,37 @@ pub(crate) fn put_head<A: Allocator, S: ByteSink>(
 }
 
 /// Whether a state has a double line.
-fn is_double(by_states: bool, edges: &[MarkedEdge]) -> bool
+pub(crate) fn is_double(by_states: bool, edges: &[MarkedEdge]) -> bool
     ensures { result ≡ (by_states && picture.is_accepting (map edge_of edges.now)) }
 {
     by_states && is_accepting(edges)
 }
 
 /// What stands behind the number of a state.
-fn node_end(accepting: bool) -> &'static [u8]
-    ensures { result.now ≡ (if accepting then codes " [peripheries=2]\n" else codes "\n") }
+fn node_end(accepting: bool, colour: bool) -> &'static [u8]
+    ensures { result.now ≡ text.node_end accepting colour }
 {
-    if accepting {
-        b" [peripheries=2]\n"
-    } else {
-        b"\n"
+    match (accepting, colour) {
+        (false, false) => b"\n",
+        (true, false) => b" [peripheries=2]\n",
+        (false, true) => b" [color=red, penwidth=2]\n",
+        (true, true) => b" [peripheries=2, color=red, penwidth=2]\n",
     }
 }
 
-/// Puts a state, with a double line where it is accepting.
-fn put_node<S: ByteSink>(
+/// Puts a state, with a double line where it is accepting, and in colour where it is said so.
+pub(crate) fn put_node<S: ByteSink>(
     accepting: bool,
+    colour: bool,
     k: usize,
     buffer: &mut OutputBuffer,
     sink: &mut S,
 ) -> Result<(), WriteFault>
-    ensures { Puts result (S.state sink.old) buffer.old (S.state sink.new) buffer.new (text.node_text accepting k) }
+    ensures { Puts result (S.state sink.old) buffer.old (S.state sink.new) buffer.new (text.node_text accepting colour k) }
 {
     buffer.put(b"  ", sink)?;
     put_number(k, buffer, sink)?;
-    buffer.put(node_end(accepting), sink)
+    buffer.put(node_end(accepting, colour), sink)
 }
 
 /// Puts a state and the arrows from it.
@@ -102,10 +106,11 @@ fn put_state<A: Allocator, S: ByteSink>(
 {
     automaton.invariant();
     let edges = automaton.edges(k);
-    put_node(is_double(by_states, edges), k, buffer, sink)?;
+    put_node(is_double(by_states, edges), false, k, buffer, sink)?;
     let ordered = Ordered {
         edges,
         places: orders[k].as_slice(),
+        colour: false,
     };
     put_arrows(automaton.names(), !by_states, ordered, k, buffer, sink)
 }

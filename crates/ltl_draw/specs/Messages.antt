@@ -6,7 +6,7 @@ use Rattle.ltl_spec.specs.Tools.Refusal.{Checker, Refusal, Usage, refusal_text}
 use Rattle.ltl_cli.specs.Messages as cli
 
 abbrev pub draw_usage : List ℕ
-draw_usage = codes "usage: ltldraw [-t lasso [-f formula]]"
+draw_usage = codes "usage: ltldraw [-w lasso | -t lasso [-f formula]]"
 
 abbrev pub draw_text : Refusal → List ℕ
 draw_text Usage = draw_usage

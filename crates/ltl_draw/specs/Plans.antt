@@ -8,23 +8,28 @@ use Rattle.ltl_words.specs.declared.request.PlanFault.TheVariants.{Usage, OutOfM
 use Rattle.ltl_draw.specs.declared.request.Plan.{Plan}
 use Rattle.ltl_draw.specs.declared.request.Plan.TheVariants as plan
 
--- a picture of the automaton that is read, or a timeline of the word of a text, and of the formula of another one, where there is one
+-- a picture of the automaton that is read, the same with a run on the word of a text, or a timeline of the word of a text, and of the formula of another one, where there is one
 pub data Request : Type 0 where
   Picture : Request
+  Run : Text → Request
   Timeline : Text → Option Text → Request
 
--- `-t lasso` and `-f formula`
+-- `-w lasso`, `-t lasso` and `-f formula`
 abbrev pub draw_app : App
-draw_app = with_rule (with_rule (new_app (codes "ltldraw")) (value_rule (codes "t") 116)) (value_rule (codes "f") 102)
+draw_app = with_rule (with_rule (with_rule (new_app (codes "ltldraw")) (value_rule (codes "w") 119)) (value_rule (codes "t") 116)) (value_rule (codes "f") 102)
 
--- with a word a timeline, with nothing a picture; a formula alone asks for nothing
-abbrev pub request_for : Option Text → Option Text → Option Request
-request_for (Some word) formula = Some (Timeline word formula)
-request_for None None = Some Picture
-request_for None (Some formula) = None
+-- by the words behind `-w`, `-t` and `-f`: a picture with a run, a timeline, or a picture. A word for each of both asks for nothing, nor does a formula without
+-- a timeline
+abbrev pub request_for : Option Text → Option Text → Option Text → Option Request
+request_for (Some run) None None = Some (Run run)
+request_for None (Some word) formula = Some (Timeline word formula)
+request_for None None None = Some Picture
+request_for (Some run) (Some word) formula = None
+request_for (Some run) None (Some formula) = None
+request_for None None (Some formula) = None
 
 abbrev pub request_of_rows : List Row → Option Request
-request_of_rows rows = request_for (first_of (codes "t") rows) (first_of (codes "f") rows)
+request_of_rows rows = request_for (first_of (codes "w") rows) (first_of (codes "t") rows) (first_of (codes "f") rows)
 
 abbrev pub request_if : Kinds → List Row → Option Request
 request_if [] rows = request_of_rows rows
@@ -59,6 +64,7 @@ Matches words r = MatchResult r (IsMatched words) (RefusesWords words)
 
 abbrev pub request_in : Plan → Request
 request_in plan.Picture = Picture
+request_in (plan.Run word) = Run word.now
 request_in (plan.Timeline word formula) = Timeline word.now (option_map (λ s. s.now) formula)
 
 abbrev pub requested : Result Plan PlanFault → Result Request PlanFault

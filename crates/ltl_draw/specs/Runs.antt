@@ -1,5 +1,5 @@
 -- What a run of `ltldraw` shows.
-use Rattle.std.specs.Prelude.{◌≡◌, ◌⊎◌, ℕ, List, [], Some, None, Result, Ok, Err, MatchResult, ⊤}
+use Rattle.std.specs.Prelude.{◌≡◌, ◌⊎◌, ◌<◌, ◌≤◌, ℕ, List, [], Some, None, Result, Ok, Err, MatchResult, ⊤}
 use Rattle.std.specs.Io.KnownBytes.{Appends}
 use Rattle.clap.specs.Words.{Text}
 use Rattle.ltl_spec.specs.Formulas.Formula.{Reading}
@@ -13,16 +13,20 @@ use Rattle.ltl_streams.specs.Streams.{SinkState}
 use Rattle.ltl_syntax.specs.FormulaView.{FormulaView, IsFormula, reading_of}
 use Rattle.ltl_words.specs.declared.request.PlanFault.{PlanFault}
 use Rattle.ltl_cli.specs.declared.refusal.Refusal.{Refusal}
-use Rattle.ltl_cli.specs.declared.refusal.Refusal.TheVariants.{CannotWrite, OutOfMemory}
+use Rattle.ltl_cli.specs.declared.refusal.Refusal.TheVariants.{CannotWrite, LargeProduct, OutOfMemory}
 use Rattle.ltl_cli.specs.Checks.{ReadsAutomaton}
 use Rattle.ltl_cli.specs.Refusals.{of_plan, refusal_of}
 use Rattle.ltl_cli.specs.Runs.{Finishes}
+use Rattle.ltl_spec.specs.Hoa.HoaReading.{MarkedAutomaton}
 use Rattle.ltl_dot.specs.DotText.{dot_text}
+use Rattle.ltl_dot.specs.RunText.{RunPicture, run_text}
+use Rattle.ltl_run.specs.Runs.{IsRunOf, run_size}
+use Rattle.ltl_run.specs.declared.fault.RunFault as run
 use Rattle.ltl_timeline.specs.Timeline.{word_timeline}
 use Rattle.ltl_timeline.specs.TimelineView.{FailsToShow, HasTrueMarks}
 use Rattle.ltl_timeline.specs.declared.fault.TimelineFault as timeline
 use Rattle.ltl_draw.specs.Messages.{draw_message}
-use Rattle.ltl_draw.specs.Plans.{PlansFor, Request, Picture, Timeline}
+use Rattle.ltl_draw.specs.Plans.{PlansFor, Request, Picture, Run, Timeline}
 
 -- no output, the message and the status of the refusal
 abbrev pub draw_refused : spec.Refusal → Answer
@@ -37,10 +41,17 @@ draw_answer (Err r) = draw_refused r
 abbrev pub ShowsTruth : Reading → Lasso → Result (List ℕ) spec.Refusal → Type 0
 ShowsTruth R w r = (f : FormulaView) × IsFormula f.nodes f.names × (reading_of f ≡ R) × HasTrueMarks f w (λ text. r ≡ Ok text)
 
--- What is printed for a request: the picture of the automaton that the input's text reads as; the table of the word that the words' text reads as,
+-- the automaton with an accepting run of it on the word, or with none where it doesn't accept the word; refused just where the search is too large
+abbrev pub RunsOn : MarkedAutomaton → Lasso → Result RunPicture spec.Refusal → Type 0
+RunsOn A w (Ok P) = (P.automaton ≡ A) × IsRunOf A w P.run × (run_size A w ≤ stated_limits.product)
+RunsOn A w (Err e) = (e ≡ spec.LargeProduct) × (stated_limits.product < run_size A w)
+
+-- What is printed for a request: the picture of the automaton that the input's text reads as; the same with a run on the word of the words' text, which is
+-- read first; the table of the word that the words' text reads as,
 -- with no formula; or that of both, where the formula is read first, and the word beside its names. Or the refusal
 abbrev pub Prints : Request → Input → Result (List ℕ) spec.Refusal → Type 0
 Prints Picture input = Then (ReadsAutomaton input) (λ A r. r ≡ Ok (dot_text A))
+Prints (Run text) input = Then (ReadsWord stated_limits [] text) (λ w. Then (ReadsAutomaton input) (λ A. Then (RunsOn A w) (λ P r. r ≡ Ok (run_text P))))
 Prints (Timeline text None) input = Then (ReadsWord stated_limits [] text) (λ w r. r ≡ Ok (word_timeline w))
 Prints (Timeline text (Some formula)) input = Then (ReadsFormula stated_limits formula) (λ R. Then (ReadsWord stated_limits R.names text) (λ w. ShowsTruth R w))
 
@@ -63,9 +74,10 @@ MayDraw request input seen = ((a : Answer) × DrawAnswers request input a × IsG
 abbrev pub WordsMayDraw : Result (List Text) PlanFault → Seen → Type 0
 WordsMayDraw words seen = (request : Result Request PlanFault) × PlansFor words request × (input : Input) × MayDraw request input seen
 
--- all but a picture is made of the words alone
+-- all but pictures are made of the words alone
 abbrev pub NeedsNoInput : Result Request PlanFault → Type 0
 NeedsNoInput (Ok Picture) = ⊥
+NeedsNoInput (Ok (Run text)) = ⊥
 NeedsNoInput request = ⊤
 
 -- ---- before the message
@@ -87,6 +99,11 @@ pub record IsOutcome {T : Type 0} (request : Result Request PlanFault) (input : 
   pub same : new.through ≡ old.through
   pub ends : (seen : Seen) → seen.output ≡ output → seen.output_stage ≡ new.stage → seen.status ≡ status_with result
       → TellsMessage (message_with result) seen → MayDraw request input seen
+
+-- a search for a run that doesn't end
+abbrev pub of_run : run.RunFault → Refusal
+of_run run.TheVariants.TooLarge = LargeProduct
+of_run run.TheVariants.OutOfMemory = OutOfMemory
 
 -- ---- timelines on their way out
 

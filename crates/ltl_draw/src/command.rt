@@ -23,6 +23,7 @@ fn command<'a>(alloc: Global) -> Result<Command<'a>, AllocError>
     ensures { IfOk result (λ c. app_of c ≡ draw_app) }
 {
     Command::new(alloc, "ltldraw")
+        .arg(value(alloc, "w", 'w'))?
         .arg(value(alloc, "t", 't'))?
         .arg(value(alloc, "f", 'f'))
 }
@@ -41,21 +42,32 @@ fn matched<'a>(alloc: Global, words: &'a [&'a str]) -> Result<ArgMatches<'a>, Pl
     }
 }
 
-/// A timeline where there is a word, and a picture where there is neither. A formula alone asks for nothing.
-fn one_plan<'a>(word: Option<&'a str>, formula: Option<&'a str>) -> Option<Plan<'a>>
-    ensures { option_map request_in result ≡ request_for (option_map (λ s. s.now) word.entry) (option_map (λ s. s.now) formula.entry) }
+/// A picture with a run where there is a word to run on, a timeline where there is a word for it, and a picture where there is nothing. Both words together,
+/// and a formula without a timeline, ask for nothing.
+fn one_plan<'a>(
+    run: Option<&'a str>,
+    word: Option<&'a str>,
+    formula: Option<&'a str>,
+) -> Option<Plan<'a>>
+    ensures { option_map request_in result
+        ≡ request_for (option_map (λ s. s.now) run.entry) (option_map (λ s. s.now) word.entry) (option_map (λ s. s.now) formula.entry) }
 {
-    match (word, formula) {
-        (Some(word), formula) => Some(Plan::Timeline(word, formula)),
-        (None, None) => Some(Plan::Picture),
-        (None, Some(_)) => None,
+    match (run, word, formula) {
+        (Some(run), None, None) => Some(Plan::Run(run)),
+        (None, Some(word), formula) => Some(Plan::Timeline(word, formula)),
+        (None, None, None) => Some(Plan::Picture),
+        _ => None,
     }
 }
 
 fn planned<'a>(matches: &ArgMatches<'a>) -> Option<Plan<'a>>
     ensures { option_map request_in result ≡ request_of_rows (rows_of (found_of matches.now)) }
 {
-    one_plan(matches.get_str("t"), matches.get_str("f"))
+    one_plan(
+        matches.get_str("w"),
+        matches.get_str("t"),
+        matches.get_str("f"),
+    )
 }
 
 /// What the words ask for. The first of them is the program's name and plays no part.

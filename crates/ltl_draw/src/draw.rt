@@ -14,13 +14,27 @@ ghost use Rattle.ltl_draw.specs.Runs.{IsOutcome, MayDraw, NeedsNoInput};
 
 use crate::finish::finish;
 use crate::request::Plan;
+use crate::run_picture::run_shown;
 use crate::timeline::shown;
 use ltl_cli::Refusal;
 use ltl_dot::Drawing;
-use ltl_hoa::hoa_read_from;
+use ltl_hoa::{Marked, hoa_read_from};
 use ltl_streams::{ByteSink, ByteSource, WriteFault};
 use ltl_words::PlanFault;
 use std::alloc::Allocator;
+
+/// The automaton that the source gives.
+pub(crate) fn automaton_of<'a, A: Allocator, R: ByteSource>(
+    alloc: &'a A,
+    source: &mut R,
+) -> Result<Marked<'a, A>, Refusal>
+    requires { (R.state source.old).stage ≡ Open }
+    ensures { (input : spec.Input) × WasStream most_of_automaton (R.state source.old) (R.state source.new) input
+        × TakesStep (ReadsAutomaton input) (λ A. A) result }
+{
+    let automaton = hoa_read_from(alloc, source)?;
+    Ok(automaton)
+}
 
 /// The drawing of the automaton that the source gives.
 fn drawing_of<'a, A: Allocator, R: ByteSource>(
@@ -31,7 +45,7 @@ fn drawing_of<'a, A: Allocator, R: ByteSource>(
     ensures { (input : spec.Input) × WasStream most_of_automaton (R.state source.old) (R.state source.new) input
         × TakesStep (ReadsAutomaton input) (λ A. A) result }
 {
-    let automaton = hoa_read_from(alloc, source)?;
+    let automaton = automaton_of(alloc, source)?;
     let drawing = Drawing::new(alloc, automaton)?;
     Ok(drawing)
 }
@@ -81,6 +95,7 @@ fn asked<A: Allocator, R: ByteSource, S: ByteSink>(
 {
     match plan {
         Plan::Picture => printed(alloc, source, output),
+        Plan::Run(text) => run_shown(alloc, *text, source, output),
         Plan::Timeline(text, formula) => shown(alloc, *text, *formula, output),
     }
 }

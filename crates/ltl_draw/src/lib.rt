@@ -17,6 +17,7 @@ mod finish;
 mod message;
 pub mod process;
 pub mod request;
+mod run_picture;
 mod timeline;
 
 pub use command::plan;

@@ -54,7 +54,7 @@ fn front(refusal: Refusal) -> &'static [u8]
     ensures { result.now ≡ front_text (refusal_of refusal) }
 {
     match refusal {
-        Refusal::Usage => b"usage: ltldraw [-t lasso [-f formula]]",
+        Refusal::Usage => b"usage: ltldraw [-w lasso | -t lasso [-f formula]]",
         Refusal::CannotOpen => b"cannot open",
         Refusal::CannotRead => b"cannot read",
         Refusal::CannotWrite => b"cannot write",

@@ -52,6 +52,17 @@ fn word_of<'a, A: Allocator>(
     Ok(word)
 }
 
+/// The word of this text alone.
+pub(crate) fn word_alone<'a, A: Allocator>(
+    alloc: &'a A,
+    text: &str,
+) -> Result<Lasso<'a, A>, Refusal>
+    ensures { TakesStep (ReadsWord stated_limits [] text.now) (λ w. w) result }
+{
+    let formula = no_propositions(alloc)?;
+    word_of(alloc, text, &formula)
+}
+
 /// The refusal for a timeline that isn't written whole.
 fn refused(fault: TimelineFault) -> Refusal
     ensures { result ≡ of_timeline fault }
@@ -98,8 +109,7 @@ fn word_shown<A: Allocator, S: ByteSink>(
     requires { (S.state output.old).stage ≡ Open }
     ensures { (input : spec.Input) → IsOutcome (Ok (Timeline text.now None)) input (S.state output.old) (S.state output.new) result }
 {
-    let formula = no_propositions(alloc)?;
-    let word = word_of(alloc, text, &formula)?;
+    let word = word_alone(alloc, text)?;
     match send_word(alloc, &word, output) {
         Ok(()) => Ok(()),
         Err(fault) => Err(refused(fault)),

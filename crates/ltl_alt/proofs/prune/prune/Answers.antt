@@ -17,5 +17,5 @@ prune_safely-requires g c = subst (IsRising pair_cmp) (sym c.in_ok-sort_dedup.en
 
 pub returns-in_ok-prune_safely-in-SafelySubsumed : goal.returns-in_ok-prune_safely-in-SafelySubsumed
 returns-in_ok-prune_safely-in-SafelySubsumed g c =
-    pruned_safely c.args.pruning.now.rule c.args.pruning.now.fulfilment.now c.args.pairs.items c.sort_dedup.new.pairs.items c.prune_safely.new.pairs.items c.in-Safe.is
+    pruned_safely c.args.pruning.now.rule c.args.pruning.now.fulfilment.now c.args.pairs.items c.sort_dedup.new.pairs.items c.prune_safely.new.pairs.items c.in-SafelySubsumed.is
     c.in_ok-sort_dedup.ensures c.in_ok-prune_safely-in-SafelySubsumed.ensures

@@ -1,9 +1,12 @@
-use Rattle.std.proofs.Common.{◌<◌, ℕ, length, map, refl, string_bytes, subst, sym}
+use Rattle.std.proofs.Common.{◌<◌, ◌++◌, ap, ℕ, length, map, refl, string_bytes, subst, sym}
 use Rattle.ltl_hoa.specs.MarkedView.{edge_of}
 use Rattle.ltl_spec.proofs.Collections.MemberLaws.{map_length}
 use Rattle.std.specs.Prelude.{All}
 use Rattle.ltl_streams.proofs.SendLaws.{leaves_all, leaves_fails, leaves_step, sends_nothing}
 use Rattle.ltl_text.proofs.TextLaws.{first_all}
+use Rattle.ltl_models.specs.BaView.{target_at}
+use Rattle.ltl_text.proofs.OptionLaws.{entries}
+use Rattle.ltl_dot.specs.Pieces.{placed_text}
 use Rattle.ltl_dot.proofs.EdgeLaws.{target_there}
 use Rattle.ltl_dot.proofs.ArrowLaws.{arrows_fall, arrows_rise, arrows_step, arrows_within, entries_whole}
 use Rattle.ltl_dot.proofs.arrows.put_arrows.Goals as goal
@@ -15,7 +18,7 @@ arrows-init g c =
     record {
       within = subst (λ n. All (λ p. p < n) ps) (map_length edge_of c.args.ordered.edges.now) c.requires.order.within;
       rising = c.requires.order.rising;
-      text = leaves_step (leaves_all _ _ _) _ (sym (entries_whole es ps c.requires.order (map string_bytes c.args.names.now) c.args.shown c.args.k)) (sends_nothing _ _);
+      text = leaves_step (leaves_all _ _ _) _ (sym (entries_whole es ps c.requires.order (map string_bytes c.args.names.now) c.args.shown c.args.ordered.colour c.args.k)) (sends_nothing _ _);
     }
 
 pub returns-in_err-put_front : goal.returns-in_err-put_front
@@ -23,7 +26,7 @@ returns-in_err-put_front g c =
     let P : ℕ → Type 0 = λ p. p < length c.args.ordered.edges.now in
     let within = first_all P _ _ _ c.in-Some.ensures.cases.0 c.arrows.invariant.within in
     let f = target_there c.args.ordered.edges.now _ c.index-edges-place.result within in
-    let e = arrows_step (map string_bytes c.args.names.now) c.args.shown c.args.k (map edge_of c.args.ordered.edges.now) _ _ _ _ _ _ _ c.in-Some.ensures.cases.0 f c.group_len.ensures.group c.arrows.invariant.rising c.split_at.ensures.front c.split_at.ensures.back in
+    let e = arrows_step (map string_bytes c.args.names.now) c.args.shown c.args.ordered.colour c.args.k (map edge_of c.args.ordered.edges.now) _ _ _ _ _ _ _ c.in-Some.ensures.cases.0 f c.group_len.ensures.group c.arrows.invariant.rising c.split_at.ensures.front c.split_at.ensures.back in
     leaves_fails c.arrows.invariant.text _ _ _ c.from_residual.ensures.0 e c.in_err-put_front.ensures
 
 pub returns-in_err-put_lines : goal.returns-in_err-put_lines
@@ -31,7 +34,7 @@ returns-in_err-put_lines g c =
     let P : ℕ → Type 0 = λ p. p < length c.args.ordered.edges.now in
     let within = first_all P _ _ _ c.in-Some.ensures.cases.0 c.arrows.invariant.within in
     let f = target_there c.args.ordered.edges.now _ c.index-edges-place.result within in
-    let e = arrows_step (map string_bytes c.args.names.now) c.args.shown c.args.k (map edge_of c.args.ordered.edges.now) _ _ _ _ _ _ _ c.in-Some.ensures.cases.0 f c.group_len.ensures.group c.arrows.invariant.rising c.split_at.ensures.front c.split_at.ensures.back in
+    let e = arrows_step (map string_bytes c.args.names.now) c.args.shown c.args.ordered.colour c.args.k (map edge_of c.args.ordered.edges.now) _ _ _ _ _ _ _ c.in-Some.ensures.cases.0 f c.group_len.ensures.group c.arrows.invariant.rising c.split_at.ensures.front c.split_at.ensures.back in
     let first = leaves_step c.arrows.invariant.text _ e c.in_ok-put_front.ensures in
     leaves_fails first _ _ _ c.from_residual-in_err-put_lines.ensures.0 refl c.in_err-put_lines.ensures
 
@@ -40,28 +43,28 @@ returns-in_err-put g c =
     let P : ℕ → Type 0 = λ p. p < length c.args.ordered.edges.now in
     let within = first_all P _ _ _ c.in-Some.ensures.cases.0 c.arrows.invariant.within in
     let f = target_there c.args.ordered.edges.now _ c.index-edges-place.result within in
-    let e = arrows_step (map string_bytes c.args.names.now) c.args.shown c.args.k (map edge_of c.args.ordered.edges.now) _ _ _ _ _ _ _ c.in-Some.ensures.cases.0 f c.group_len.ensures.group c.arrows.invariant.rising c.split_at.ensures.front c.split_at.ensures.back in
+    let e = arrows_step (map string_bytes c.args.names.now) c.args.shown c.args.ordered.colour c.args.k (map edge_of c.args.ordered.edges.now) _ _ _ _ _ _ _ c.in-Some.ensures.cases.0 f c.group_len.ensures.group c.arrows.invariant.rising c.split_at.ensures.front c.split_at.ensures.back in
     let first = leaves_step c.arrows.invariant.text _ e c.in_ok-put_front.ensures in
     let second = leaves_step first _ refl c.in_ok-put_lines.ensures in
-    leaves_fails second _ _ _ c.from_residual-in_err-put.ensures.0 refl c.in_err-put.ensures
+    leaves_fails second _ _ _ c.from_residual-in_err-put.ensures.0 (ap (λ t. t ++ entries (target_at (map edge_of c.args.ordered.edges.now)) (placed_text (map string_bytes c.args.names.now) c.args.shown c.args.ordered.colour c.args.k (map edge_of c.args.ordered.edges.now)) c.split_at.result.1.now) (sym c.arrow_end.ensures)) c.in_err-put.ensures
 
 pub arrows-smaller : goal.arrows-smaller
 arrows-smaller g c =
     let P : ℕ → Type 0 = λ p. p < length c.args.ordered.edges.now in
     let within = first_all P _ _ _ c.in-Some.ensures.cases.0 c.arrows.invariant.within in
     let f = target_there c.args.ordered.edges.now _ c.index-edges-place.result within in
-    arrows_fall (map string_bytes c.args.names.now) c.args.shown c.args.k (map edge_of c.args.ordered.edges.now) _ _ _ _ _ _ _ c.in-Some.ensures.cases.0 f c.group_len.ensures.group c.arrows.invariant.rising c.split_at.ensures.front c.split_at.ensures.back c.group_len.ensures.within
+    arrows_fall (map string_bytes c.args.names.now) c.args.shown c.args.ordered.colour c.args.k (map edge_of c.args.ordered.edges.now) _ _ _ _ _ _ _ c.in-Some.ensures.cases.0 f c.group_len.ensures.group c.arrows.invariant.rising c.split_at.ensures.front c.split_at.ensures.back c.group_len.ensures.within
 
 pub arrows-preserved : goal.arrows-preserved
 arrows-preserved g c =
     let P : ℕ → Type 0 = λ p. p < length c.args.ordered.edges.now in
     let within = first_all P _ _ _ c.in-Some.ensures.cases.0 c.arrows.invariant.within in
     let f = target_there c.args.ordered.edges.now _ c.index-edges-place.result within in
-    let e = arrows_step (map string_bytes c.args.names.now) c.args.shown c.args.k (map edge_of c.args.ordered.edges.now) _ _ _ _ _ _ _ c.in-Some.ensures.cases.0 f c.group_len.ensures.group c.arrows.invariant.rising c.split_at.ensures.front c.split_at.ensures.back in
+    let e = arrows_step (map string_bytes c.args.names.now) c.args.shown c.args.ordered.colour c.args.k (map edge_of c.args.ordered.edges.now) _ _ _ _ _ _ _ c.in-Some.ensures.cases.0 f c.group_len.ensures.group c.arrows.invariant.rising c.split_at.ensures.front c.split_at.ensures.back in
     let first = leaves_step c.arrows.invariant.text _ e c.in_ok-put_front.ensures in
     let second = leaves_step first _ refl c.in_ok-put_lines.ensures in
     record {
-      within = arrows_within (map string_bytes c.args.names.now) c.args.shown c.args.k (map edge_of c.args.ordered.edges.now) _ _ _ _ _ _ _ c.in-Some.ensures.cases.0 f c.group_len.ensures.group c.arrows.invariant.rising c.split_at.ensures.front c.split_at.ensures.back P c.arrows.invariant.within;
-      rising = arrows_rise (map string_bytes c.args.names.now) c.args.shown c.args.k (map edge_of c.args.ordered.edges.now) _ _ _ _ _ _ _ c.in-Some.ensures.cases.0 f c.group_len.ensures.group c.arrows.invariant.rising c.split_at.ensures.front c.split_at.ensures.back;
-      text = leaves_step second _ refl c.in_ok-put.ensures;
+      within = arrows_within (map string_bytes c.args.names.now) c.args.shown c.args.ordered.colour c.args.k (map edge_of c.args.ordered.edges.now) _ _ _ _ _ _ _ c.in-Some.ensures.cases.0 f c.group_len.ensures.group c.arrows.invariant.rising c.split_at.ensures.front c.split_at.ensures.back P c.arrows.invariant.within;
+      rising = arrows_rise (map string_bytes c.args.names.now) c.args.shown c.args.ordered.colour c.args.k (map edge_of c.args.ordered.edges.now) _ _ _ _ _ _ _ c.in-Some.ensures.cases.0 f c.group_len.ensures.group c.arrows.invariant.rising c.split_at.ensures.front c.split_at.ensures.back;
+      text = leaves_step second _ (ap (λ t. t ++ entries (target_at (map edge_of c.args.ordered.edges.now)) (placed_text (map string_bytes c.args.names.now) c.args.shown c.args.ordered.colour c.args.k (map edge_of c.args.ordered.edges.now)) c.split_at.result.1.now) (sym c.arrow_end.ensures)) c.in_ok-put.ensures;
     }

@@ -15,8 +15,8 @@ invariant-arrows g l = record {
   within : All (λ p. p < length l.edges) l.rest;
   rising : IsRising (place_cmp (target_at (map edge_of l.edges))) l.rest;
   text : Leaves (g.S.ByteSink.state l.fn.sink) l.fn.buffer (g.S.ByteSink.state l.sink) l.buffer
-      (entries (target_at (map edge_of l.edges)) (placed_text (map string_bytes l.names) l.shown l.k (map edge_of l.edges)) l.rest)
-      (flat_map (arrow_text (map string_bytes l.names) l.shown) (arrows l.k (map edge_of l.edges)));
+      (entries (target_at (map edge_of l.edges)) (placed_text (map string_bytes l.names) l.shown l.ordered.colour l.k (map edge_of l.edges)) l.rest)
+      (flat_map (arrow_text (map string_bytes l.names) l.shown l.ordered.colour) (arrows l.k (map edge_of l.edges)));
 }
 
 abbrev pub decreases-arrows : goal.decreases-arrows

@@ -1,10 +1,10 @@
-use Rattle.std.proofs.Common.{arith, map, subst, sym}
+use Rattle.std.proofs.Common.{arith, map, subst, sym, []}
 use Rattle.ltl_hoa.specs.MarkedView.{edge_of}
-use Rattle.ltl_dot.proofs.OrderLaws.{Ordered, map_pushed, ordered_all, ordered_next, ordered_none}
+use Rattle.ltl_dot.proofs.OrderLaws.{Ordered, OrderedAt, map_pushed, ordered_all, ordered_next, rows_none}
 use Rattle.ltl_dot.proofs.order.orders.Goals as goal
 
 pub loop-k-init : goal.loop-k-init
-loop-k-init g c = subst (λ xs. Ordered c.args.automaton.now 0 (map (λ p. p.items) xs)) (sym c.new-orders.ensures.items) (ordered_none c.args.automaton.now)
+loop-k-init g c = subst (λ xs. Ordered c.args.automaton.now 0 (map (λ p. p.items) xs)) (sym c.new-orders.ensures.items) (rows_none (OrderedAt c.args.automaton.now) [])
 
 pub loop-k-preserved : goal.loop-k-preserved
 loop-k-preserved g c =

@@ -16,3 +16,8 @@ returns-in-Timeline-clause-shown g c =
       subst (λ (p : Plan). IsOutcome (Ok (request_in p)) input (g.S.ByteSink.state c.args.output.now) (g.S.ByteSink.state c.shown.new.output) c.shown.result)
           (sym c.in-Timeline.is) (c.shown.ensures input),
     )
+
+pub returns-in-Run-clause-shown : goal.returns-in-Run-clause-shown
+returns-in-Run-clause-shown g c =
+    let (input, s, h) = c.run_shown.ensures in
+    (input, s, subst (λ (p : Plan). IsOutcome (Ok (request_in p)) input (g.S.ByteSink.state c.args.output.now) (g.S.ByteSink.state c.run_shown.new.output) c.run_shown.result) (sym c.in-Run.is) h)

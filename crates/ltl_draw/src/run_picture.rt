@@ -1,0 +1,82 @@
+//! The picture of an automaton with a run on a word.
+
+ghost use Rattle.std.specs.Prelude.{◌≡◌, OnOk, OnErr, Ok};
+ghost use Rattle.ltl_spec.specs.Tools.Stage.{Open};
+ghost use Rattle.ltl_spec.specs.Tools.Outcome as spec;
+ghost use Rattle.ltl_streams.specs.Streams.{Breaks};
+ghost use Rattle.ltl_cli.specs.Inputs.{WasStream, most_of_automaton};
+ghost use Rattle.ltl_cli.specs.Refusals.{TakesStep};
+ghost use Rattle.ltl_cli.specs.Runs.{Finishes};
+ghost use Rattle.ltl_dot.specs.RunText.{run_text};
+ghost use Rattle.ltl_draw.specs.Plans.{Run};
+ghost use Rattle.ltl_draw.specs.Runs.{IsOutcome, RunsOn, of_run};
+
+use crate::draw::automaton_of;
+use crate::timeline::word_alone;
+use ltl_cli::Refusal;
+use ltl_dot::RunDrawing;
+use ltl_hoa::Marked;
+use ltl_run::{RunFault, accepting_run};
+use ltl_streams::{ByteSink, ByteSource, WriteFault};
+use ltl_word::Lasso;
+use std::alloc::Allocator;
+
+/// The refusal where no run is looked for to the end.
+fn refused(fault: RunFault) -> Refusal
+    ensures { result ≡ of_run fault }
+{
+    match fault {
+        RunFault::TooLarge => Refusal::LargeProduct,
+        RunFault::OutOfMemory => Refusal::OutOfMemory,
+    }
+}
+
+/// The drawing of the automaton with an accepting run on the word, where there is one.
+fn run_drawing<'a, A: Allocator>(
+    alloc: &'a A,
+    automaton: Marked<'a, A>,
+    word: &Lasso<'_, A>,
+) -> Result<RunDrawing<'a, A>, Refusal>
+    ensures { TakesStep (RunsOn automaton.entry word.now) (λ d. d) result }
+{
+    let run = match accepting_run(alloc, &automaton, word) {
+        Ok(run) => run,
+        Err(fault) => return Err(refused(fault)),
+    };
+    automaton.invariant();
+    let drawing = RunDrawing::new(alloc, automaton, run)?;
+    Ok(drawing)
+}
+
+/// Writes the picture, and flushes.
+fn print<A: Allocator, S: ByteSink>(
+    drawing: &RunDrawing<'_, A>,
+    output: &mut S,
+) -> Result<(), WriteFault>
+    ensures ok { OnOk result (Finishes (S.state output.old) (S.state output.new) (run_text drawing.now)) }
+    ensures err { OnErr result (Breaks (S.state output.old) (S.state output.new) (run_text drawing.now)) }
+{
+    drawing.put_dot(output)?;
+    output.flush()
+}
+
+/// Prints the picture of the automaton that the source gives, with a run on the word of this text. The word is read first.
+pub(crate) fn run_shown<A: Allocator, R: ByteSource, S: ByteSink>(
+    alloc: &A,
+    text: &str,
+    source: &mut R,
+    output: &mut S,
+) -> Result<(), Refusal>
+    requires source { (R.state source.old).stage ≡ Open }
+    requires output { (S.state output.old).stage ≡ Open }
+    ensures { (input : spec.Input) × WasStream most_of_automaton (R.state source.old) (R.state source.new) input
+        × IsOutcome (Ok (Run text.now)) input (S.state output.old) (S.state output.new) result }
+{
+    let word = word_alone(alloc, text)?;
+    let automaton = automaton_of(alloc, source)?;
+    let drawing = run_drawing(alloc, automaton, &word)?;
+    let printed = print(&drawing, output);
+    drop(drawing);
+    printed?;
+    Ok(())
+}

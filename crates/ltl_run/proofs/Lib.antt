@@ -1,0 +1,4 @@
+pub mod LetterLaws
+pub mod PickLaws
+pub mod StepLaws
+pub mod WalkLaws

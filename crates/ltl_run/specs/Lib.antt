@@ -1,0 +1,5 @@
+pub mod Edges
+pub mod Letters
+pub mod PlaceLaws
+pub mod PlaceView
+pub mod Runs

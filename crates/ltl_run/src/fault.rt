@@ -1,0 +1,27 @@
+//! Why there is no answer.
+
+use ltl_check::CheckFault;
+use std::alloc::AllocError;
+use thiserror::Error;
+
+/// Why it isn't known whether there is an accepting run.
+#[derive(Clone, Copy, Debug, PartialEq, Eq, Error)]
+pub enum RunFault {
+    /// The states at the positions of the word, on the levels of the search, are more than [`PRODUCT_LIMIT`](ltl_check::PRODUCT_LIMIT).
+    #[error("limit: product too large")]
+    TooLarge,
+    /// A growth was refused.
+    #[error("out of memory")]
+    OutOfMemory,
+}
+
+impl From<AllocError> for RunFault {
+    ghost use Rattle.std.specs.Prelude.{◌≡◌};
+    ghost use Rattle.ltl_run.specs.declared.fault.RunFault.TheVariants.{OutOfMemory};
+
+    ghost from_gives = { λ _ e. e ≡ OutOfMemory };
+
+    fn from(_: AllocError) -> RunFault {
+        RunFault::OutOfMemory
+    }
+}
