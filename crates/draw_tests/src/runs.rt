@@ -15,7 +15,7 @@ const PICTURE: &str =
 /// More allocations than a run makes.
 const MOST_GROWTHS: u64 = 1_000;
 
-/// Runs the program with these words, and answers its status.
+/// Runs the program with this command line, and returns its exit status.
 fn ended<A: Allocator>(
     memory: Global,
     alloc: &A,
@@ -40,7 +40,7 @@ fn whole(text: &str) -> Given<'_> {
     }
 }
 
-/// Words, input, output, message and status.
+/// Command lines and inputs, and the output, message and exit status of each.
 const RUNS: [(&[&str], &str, &str, &str, u8); 18] = [
     (&["ltldraw"], AUTOMATON, PICTURE, "", 0),
     (&["x"], AUTOMATON, PICTURE, "", 0),

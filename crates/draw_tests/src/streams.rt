@@ -1,4 +1,4 @@
-//! Readers and writers that fail at a given place.
+//! Readers and writers that fail after a given number of bytes.
 
 use std::alloc::Global;
 use std::io;

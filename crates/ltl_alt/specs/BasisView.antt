@@ -1,4 +1,4 @@
--- What the transitions of sets of rows are made of.
+-- What every set of rows of one exploration shares.
 use Rattle.std.specs.Prelude.{◌≡◌, ℕ, ◌<◌, Bool, List, length}
 use Rattle.ltl_spec.specs.Collections.Sets.{Has}
 use Rattle.ltl_spec.specs.Transitions.Pairs.{RowSet, Pair}

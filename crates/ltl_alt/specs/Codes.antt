@@ -1,4 +1,4 @@
--- Pairs and transitions as the tuples of their fields.
+-- Pairs and transitions coded as the tuples of their fields.
 use Rattle.std.specs.Prelude.{ℕ, List, refl}
 use Rattle.std.specs.Coded.{Coded, code_by, coded×, coded_ℕ, coded_list}
 use Rattle.ltl_spec.specs.Transitions.Cubes.{Literal}

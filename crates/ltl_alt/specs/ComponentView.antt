@@ -1,4 +1,4 @@
--- Components of conjuncts, and the lists of pairs that are made of them.
+-- The memo table of joins with the lists of all conjuncts, and the last join of a component.
 use Rattle.std.specs.Prelude.{◌≡◌, ℕ, ◌<◌, List, [], ◌∷◌, length, fold, slice_index_or}
 use Rattle.ltl_spec.specs.Transitions.Pairs.{RowSet, Pair, join, empty_pair}
 use Rattle.ltl_spec.specs.Transitions.RowTransitions.{Table}
@@ -11,16 +11,16 @@ use Rattle.ltl_alt.specs.ConjunctTableView.{conjunct_of}
 use Rattle.ltl_alt.specs.StandIns.{IsListed, StandsFor}
 use Rattle.ltl_alt.specs.TransitionView.{table_at}
 
--- the number of a conjunct's list
+-- the list number of a conjunct
 abbrev pub start_of : List ℕ → ℕ → ℕ
 start_of starts k = slice_index_or starts k 0
 
--- the list of each conjunct stands under its number
+-- the memo table has the list of each conjunct under its number
 pub record AreStarts (conjuncts lists : List (List Pair)) (starts : List ℕ) : Type 0 where
   pub count : length starts ≡ length conjuncts
   pub each : (k : ℕ) → k < length conjuncts → IsListAt lists (conjunct_of conjuncts k) (start_of starts k)
 
--- so does that of the pair that asks for nothing, and joins are remembered
+-- the table also has the list whose only pair needs nothing, and each remembered join is right
 pub record AreComponents (T : Table) (r : Rule) (conjuncts lists : List (List Pair)) (made : List (JoinKey × ℕ)) (none : ℕ) (firsts : List ℕ) : Type 0 where
   pub joins : AreJoins T r lists made
   pub nothing : IsListAt lists (empty_pair ∷ []) none
@@ -29,7 +29,7 @@ pub record AreComponents (T : Table) (r : Rule) (conjuncts lists : List (List Pa
 abbrev pub HasComponents : {A : Type 0} → Basis A → Components A → Type 0
 HasComponents b g = AreComponents (table_at b.table.now) b.pruning.rule b.conjuncts.lists.items g.memo.lists.keys g.memo.joins.entries g.nothing g.starts.items
 
--- joins of two lists have what is kept of all these conjuncts at once
+-- the joins of the two lists with these numbers are the joins of a component's conjuncts, pruned by the rule
 abbrev pub IsLastOf : Table → Rule → List (List Pair) → List (List Pair) → RowSet → JoinKey → Type 0
 IsLastOf T r conjuncts lists component key =
     ((key.left < length lists) × (key.right < length lists)) × IsListed (StandsFor T r) (fold (λ ps i. join ps (conjunct_of conjuncts i)) (empty_pair ∷ []) component) (last_list lists key)

@@ -1,4 +1,4 @@
--- Rows taken apart into conjuncts, and which conjuncts have to do with each other.
+-- The conjuncts of all elementary rows, and the graph of their dependencies.
 use Rattle.std.specs.Prelude.{◌≡◌, ℕ, ◌+◌, ◌<◌, ◌≤◌, ◌⊎◌, Bool, true, false, List, [], ◌∷◌, ◌++◌, length, map, slice_index_or, nat_eq}
 use Rattle.std.specs.Ordering.{nat_cmp}
 use Rattle.ltl_spec.specs.Collections.Sets.{Has, has}
@@ -16,7 +16,7 @@ use Rattle.ltl_alt.specs.StandIns.{IsKeptBy, StandsFor}
 use Rattle.ltl_alt.specs.TransitionView.{table_at}
 use Rattle.ltl_formula.specs.TableView.{TableView}
 
--- the pairs of the conjunct with that number, what they ask for, and the conjuncts that have to do with it
+-- the pairs, the dependencies and the links of the conjunct with this number
 abbrev pub conjunct_of : List (List Pair) → ℕ → List Pair
 conjunct_of lists k = slice_index_or lists k []
 
@@ -26,7 +26,7 @@ dependency_of dependencies k = slice_index_or dependencies k (record { support =
 abbrev pub links_of : List RowSet → ℕ → RowSet
 links_of links k = slice_index_or links k []
 
--- the test says that two conjuncts have nothing to do with each other
+-- the test finds that two conjuncts are independent
 abbrev pub tells_independent : Dependencies → Dependencies → Bool
 tells_independent d e = is_independent d.support d.fulfilling e.support e.fulfilling
 
@@ -37,7 +37,7 @@ numbers_of owners i = places_where (λ o. nat_eq o i) owners
 abbrev pub numbers_in : List ℕ → RowSet → RowSet
 numbers_in owners state = places_where (λ o. has nat_cmp o state) owners
 
--- one conjunct more was linked with those that have to do with it
+-- a conjunct was linked with each of the first k of which it isn't independent
 pub record IsLinked (dependencies : List Dependencies) (d : Dependencies) (n k : ℕ) (old new : List RowSet) (own : RowSet) : Type 0 where
   pub count : length new ≡ length old
   pub kept : (i j : ℕ) → has nat_cmp j (links_of new i) ≡ false → has nat_cmp j (links_of old i) ≡ false
@@ -45,7 +45,7 @@ pub record IsLinked (dependencies : List Dependencies) (d : Dependencies) (n k :
   pub own_told : (i : ℕ) → i < k → has nat_cmp i own ≡ false → tells_independent d (dependency_of dependencies i) ≡ true
   pub itself : has nat_cmp n own ≡ true
 
--- conjuncts that aren't linked have nothing to do with each other
+-- conjuncts that aren't linked are independent
 pub record AreLinked (T : Table) (lists : List (List Pair)) (dependencies : List Dependencies) (links : List RowSet) : Type 0 where
   pub dependency_count : length dependencies ≡ length lists
   pub link_count : length links ≡ length lists
@@ -54,14 +54,14 @@ pub record AreLinked (T : Table) (lists : List (List Pair)) (dependencies : List
   pub linked : (i j : ℕ) → i < length lists → j < length lists → has nat_cmp j (links_of links i) ≡ false
       → (tells_independent (dependency_of dependencies i) (dependency_of dependencies j) ≡ true) ⊎ (tells_independent (dependency_of dependencies j) (dependency_of dependencies i) ≡ true)
 
--- these rows were taken apart
+-- these rows have been split into conjuncts
 pub record AreMade (T : Table) (r : Rule) (made owners : List ℕ) (lists : List (List Pair)) : Type 0 where
   pub owner_count : length owners ≡ length lists
   pub owned : (o : ℕ) → Has owners o → Has made o
   pub few : length owners ≤ 256
   pub listed : (i : ℕ) → Has made i → IsKeptBy (StandsFor T r) (pairs_at T i) (join_of (conjunct_of lists) (numbers_of owners i))
 
--- both
+-- the table is linked, and its rows are split
 pub record IsConjunctTable (T : Table) (r : Rule) (made owners : List ℕ) (lists : List (List Pair)) (dependencies : List Dependencies) (links : List RowSet) : Type 0 where
   pub linked : AreLinked T lists dependencies links
   pub rows : AreMade T r made owners lists
@@ -69,40 +69,40 @@ pub record IsConjunctTable (T : Table) (r : Rule) (made owners : List ℕ) (list
 abbrev pub HasConjuncts : {A : Type 0} → Table → Rule → ConjunctTable A → Type 0
 HasConjuncts T r conjuncts = IsConjunctTable T r conjuncts.made conjuncts.owners.items conjuncts.lists.items conjuncts.dependencies.items conjuncts.links.items
 
--- and all elementary rows of the table were
+-- all elementary rows of the table are split
 abbrev pub HasAllParts : {A : Type 0} → TableView → Rule → ConjunctTable A → Type 0
 HasAllParts t r conjuncts = HasConjuncts (table_at t) r conjuncts × ((i : ℕ) → i < length t.elementary → Has conjuncts.made i)
 
--- each row of a set was taken apart, or one of them wasn't
+-- each row of a set has been split; one of its rows hasn't
 abbrev pub HasEach : RowSet → RowSet → Type 0
 HasEach made state = (i : ℕ) → Has state i → Has made i
 
 abbrev pub HasNoConjunct : RowSet → RowSet → Type 0
 HasNoConjunct made state = (i : ℕ) × Has state i × (Has made i → ⊥)
 
--- of each of these lists some pairs were kept
+-- each of these lists has been pruned
 abbrev pub AreKeptBy : (Pair → Pair → Type 0) → List (List Pair) → List (List Pair) → Type 0
 AreKeptBy S [] [] = Unit {0}
 AreKeptBy S [] (qs ∷ qss) = ⊥
 AreKeptBy S (ps ∷ pss) [] = ⊥
 AreKeptBy S (ps ∷ pss) (qs ∷ qss) = IsKeptBy S ps qs × AreKeptBy S pss qss
 
--- what was kept of each of these lists stands behind the others, as conjuncts of the row at a place
+-- the pruned lists were appended, as conjuncts of the row at a place
 pub record AreAdded (T : Table) (r : Rule) (place : ℕ) (pss : List (List Pair)) (owners new_owners : List ℕ) (lists new_lists : List (List Pair)) : Type 0 where
   pub conjuncts : List (List Pair)
   pub kept : AreKeptBy (StandsFor T r) pss conjuncts
   pub lists_are : new_lists ≡ lists ++ conjuncts
   pub owners_are : new_owners ≡ owners ++ map (λ (qs : List Pair). place) conjuncts
 
--- some conjuncts more stand behind the others
+-- some conjuncts were appended
 abbrev pub IsLonger : List (List Pair) → List (List Pair) → Type 0
 IsLonger old new = (more : List (List Pair)) × (new ≡ old ++ more)
 
--- the row at a place may get so many numbers
+-- the row at a place may get `most` numbers
 abbrev pub IsRoom : ℕ → ℕ → List (List Pair) → Type 0
 IsRoom place most lists = (place < 256) × (0 < most) × (length lists + most ≤ 256)
 
--- of the rest, the conjuncts that have to do with the first one, with those that have to do with them, and so on
+-- a connected component of the links: the one of the first conjunct within the rest
 pub record IsComponent (links : List RowSet) (first : ℕ) (rest inside : RowSet) : Type 0 where
   pub there : Has inside first
   pub some : (i : ℕ) → Has inside i → Has rest i

@@ -1,4 +1,4 @@
--- Rows as lists of conjuncts whose pairs at once are theirs.
+-- Splitting of a row into conjuncts: the joins of one pair of each are the pairs of the row.
 use Rattle.std.specs.Prelude.{◌≡◌, ◌+◌, ◌<◌, ◌≤◌, ℕ, List, [], ◌∷◌, ◌++◌, length}
 use Rattle.ltl_spec.specs.Collections.Sets.{Has}
 use Rattle.ltl_spec.specs.Transitions.Pairs.{Pair, join, later_pair, pairs}
@@ -13,7 +13,7 @@ conjunct_pairs t conjunct.Never = []
 conjunct_pairs t (conjunct.Whole k) = pairs (row_place t) (row_tree t k)
 conjunct_pairs t (conjunct.Released i k) = pairs (row_place t) (row_tree t i) ++ later_pair (row_place t (row_tree t k)) ∷ []
 
--- its rows are among those of the table, and one that is asked for later is elementary
+-- its rows are rows of the table, and a target is elementary
 abbrev pub IsConjunct : TableView → Conjunct → Type 0
 IsConjunct t conjunct.Never = Unit {0}
 IsConjunct t (conjunct.Whole k) = k < length t.rows
@@ -22,12 +22,12 @@ IsConjunct t (conjunct.Released i k) = (i < length t.rows) × (k < length t.rows
 abbrev pub AreConjuncts : TableView → List Conjunct → Type 0
 AreConjuncts t ps = (p : Conjunct) → Has ps p → IsConjunct t p
 
--- and there is a number for each, behind so many others
+-- there is a number for each of them after the first n
 pub record AreFew (t : TableView) (ps : List Conjunct) (n : ℕ) : Type 0 where
   pub fitting : AreConjuncts t ps
   pub few : n + length ps ≤ 256
 
--- the two whose pairs at once are those of a conjunct
+-- the joins of the pairs of these two are the pairs of the conjunct
 pub record AreTwoConjuncts (t : TableView) (p : Conjunct) (two : Conjunct × Conjunct) : Type 0 where
   pub first : IsConjunct t two.0
   pub second : IsConjunct t two.1

@@ -1,4 +1,4 @@
--- The transitions of components of conjuncts, by number, and those of a set's components.
+-- The memo table of the transitions of components, and the factors of a set of rows.
 use Rattle.std.specs.Prelude.{◌≡◌, ℕ, ◌<◌, Bool, List, [], ◌++◌, length, map, Option, IfSome, slice_index_or}
 use Rattle.ltl_spec.specs.Collections.Sets.{Has}
 use Rattle.ltl_spec.specs.Transitions.Pairs.{RowSet, Pair}
@@ -17,7 +17,7 @@ use Rattle.ltl_alt.specs.MemoView.{last_list}
 use Rattle.ltl_alt.specs.ConjunctTableView.{conjunct_of}
 use Rattle.ltl_alt.specs.TransitionView.{table_at}
 
--- the transitions with that number, and those that a factor stands for
+-- the stored list with a number, and the transitions of a factor
 abbrev pub made_of : List (List Transition) → ℕ → List Transition
 made_of lists k = slice_index_or lists k []
 
@@ -32,11 +32,11 @@ IsWithin lists (factor.Made ts) = Unit {0}
 abbrev pub AreWithin : {A : Type 0} → List (List Transition) → List (Factor A) → Type 0
 AreWithin {A} lists factors = (f : Factor A) → Has factors f → IsWithin lists f
 
--- some lists more stand behind the others
+-- some lists were appended
 abbrev pub IsLonger : List (List Transition) → List (List Transition) → Type 0
 IsLonger old new = (more : List (List Transition)) × (new ≡ old ++ more)
 
--- the transitions of the joins of two lists, and those of a component, stand under the number
+-- the list with this number has the transitions of the joins of two lists; it has those of a component
 pub record IsListOf (T : Table) (keep : Bool) (pairs : List (List Pair)) (lists : List (List Transition)) (key : JoinKey) (n : ℕ) : Type 0 where
   pub left : key.left < length pairs
   pub right : key.right < length pairs
@@ -46,11 +46,11 @@ pub record IsListOf (T : Table) (keep : Bool) (pairs : List (List Pair)) (lists 
 abbrev pub IsFinal : Table → Bool → List (List Pair) → List (List Transition) → RowSet → ℕ → Type 0
 IsFinal T keep conjuncts lists component n = (n < length lists) × (made_of lists n ≡ transitions_of T keep (join_of (conjunct_of conjuncts) component))
 
--- a factor is the transitions of a component
+-- the factor has the transitions of this component
 abbrev pub IsFactorOf : {A : Type 0} → Table → Bool → List (List Pair) → List (List Transition) → RowSet → Factor A → Type 0
 IsFactorOf T keep conjuncts lists component f = IsWithin lists f × (list_of lists f ≡ transitions_of T keep (join_of (conjunct_of conjuncts) component))
 
--- so it is with what is remembered
+-- each remembered answer is right
 pub record AreFinals (T : Table) (keep : Bool) (conjuncts pairs : List (List Pair)) (lists : List (List Transition)) (ns : List (JoinKey × ℕ)) (os : List (RowSet × Option ℕ)) : Type 0 where
   pub of_joins : (key : JoinKey) (n : ℕ) → Has ns (key, n) → IsListOf T keep pairs lists key n
   pub of_components : (component : RowSet) (o : Option ℕ) → Has os (component, o) → IfSome o (IsFinal T keep conjuncts lists component)
@@ -58,7 +58,7 @@ pub record AreFinals (T : Table) (keep : Bool) (conjuncts pairs : List (List Pai
 abbrev pub HasFinals : {A : Type 0} → Basis A → Finals A → Type 0
 HasFinals b f = HasComponents b f.components × AreFinals (table_at b.table.now) b.keep_implied b.conjuncts.lists.items f.components.memo.lists.keys f.lists.keys f.of_joins.entries f.of_components.entries
 
--- components were taken out of all conjuncts one after another, each independent of what was then left, these are the transitions of each, and the rest is left
+-- these are the transitions of components that were removed from all conjuncts one by one, each independent of what was left then; the rest is left
 pub record AreLists (T : Table) (keep : Bool) (conjuncts : List (List Pair)) (all : RowSet) (tss : List (List Transition)) (rest : RowSet) : Type 0 where
   pub components : List RowSet
   pub taken : AreTakenOut T (fulfilling_pairs T) (conjunct_of conjuncts) all components rest

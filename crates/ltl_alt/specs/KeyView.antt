@@ -1,4 +1,4 @@
--- Sets of rows by the numbers of the transitions of their components.
+-- Sets of rows keyed by the list numbers of their components.
 use Rattle.std.specs.Prelude.{◌≡◌, ℕ, ◌<◌, ◌≤◌, Bool, List, [], ◌∷◌, insert, length, map}
 use Rattle.std.specs.declared.vec.Vec.{Vec}
 use Rattle.ltl_spec.specs.Collections.Sets.{Has}
@@ -9,7 +9,7 @@ use Rattle.ltl_spec.proofs.Transitions.ProductTransitions.{in_order}
 use Rattle.ltl_alt.specs.declared.finals.Factor.{Factor}
 use Rattle.ltl_alt.specs.FinalView.{list_of, made_of}
 
--- the second list has the elements of the first one, each of which was put in at some place
+-- the second list is a permutation of the first one, made by insertions
 abbrev pub IsMoved : {X : Type 0} → List X → List X → Type 0
 IsMoved [] ys = ys ≡ []
 IsMoved {X} (x ∷ xs) ys = (zs : List X) × (i : ℕ) × IsMoved xs zs × (i ≤ length zs) × (ys ≡ insert zs i x)
@@ -19,12 +19,12 @@ pub record AreNumbersOf {A : Type 0} (lists : List (List Transition)) (factors :
   pub within : (k : ℕ) → Has numbers k → k < length lists
   pub moved : IsMoved (map (list_of lists) factors) (map (made_of lists) numbers)
 
--- the transitions of a set of rows are one of each of the lists with these numbers at once, in every way
+-- the transitions of a set of rows are the product of the lists with these numbers
 pub record IsKeyOf (T : Table) (keep : Bool) (lists : List (List Transition)) (numbers : List ℕ) (state : RowSet) : Type 0 where
   pub within : (k : ℕ) → Has numbers k → k < length lists
   pub transitions : transitions T keep state ≡ in_order (all_products T (map (made_of lists) numbers))
 
--- so it is with each of these
+-- each of these sets has its key
 abbrev pub AreKeys : {A : Type 0} → Table → Bool → List (List Transition) → List (Vec ℕ A × RowSet) → Type 0
 AreKeys {A} T keep lists states = (key : Vec ℕ A) (state : RowSet) → Has states (key, state) → IsKeyOf T keep lists key.items state
 

@@ -1,4 +1,4 @@
--- Lists of pairs and lists of transitions are equal when all that stands in them is, and what one feeds a hasher.
+-- Equality and hashing of lists of pairs and of transitions, element by element.
 use Rattle.std.specs.Prelude.{◌≡◌, Bool, List, ℕ, IsTrue, refl}
 use Rattle.std.proofs.Common.{ap, sym, ◌∙◌}
 use Rattle.std.specs.Bool.{Decides}

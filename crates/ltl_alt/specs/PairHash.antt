@@ -1,4 +1,4 @@
--- What a pair feeds a hasher.
+-- What a pair feeds to a hasher.
 use Rattle.std.specs.Prelude.{◌≡◌, ◌++◌, true, refl, List, ℕ, IsTrue}
 use Rattle.std.proofs.Common.{ap}
 use Rattle.std.specs.Ordering.{eq_by_cmp, is_eq}

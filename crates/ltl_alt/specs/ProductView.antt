@@ -1,4 +1,4 @@
--- Transitions at once.
+-- Products of transitions of independent components.
 use Rattle.std.specs.Prelude.{◌≡◌, false, List, Option, option_map, flat_map, filter_map}
 use Rattle.std.specs.Ordering.{nat_cmp}
 use Rattle.ltl_spec.specs.Collections.Sets.{Has, union}
@@ -6,14 +6,14 @@ use Rattle.ltl_spec.specs.Transitions.Cubes.{Cube, join_cubes, is_contradictory}
 use Rattle.ltl_spec.specs.Transitions.RowTransitions.{Transition}
 use Rattle.ltl_spec.proofs.Transitions.IndependentMarks.{common}
 
--- both transitions at once, unless their literals contradict each other
+-- the union of two transitions, unless their literals contradict each other
 abbrev pub join_transitions : Transition → Transition → Option Transition
 join_transitions a b = option_map (λ (c : Cube). record { cube = c; targets = union nat_cmp a.targets b.targets; marks = common nat_cmp a.marks b.marks }) (join_cubes a.cube b.cube)
 
--- one of each list, in every way
+-- the unions of one transition of each list
 abbrev pub joined_products : List Transition → List Transition → List Transition
 joined_products ts us = flat_map (λ a. filter_map (join_transitions a) us) ts
 
--- none contradicts itself
+-- no transition contradicts itself
 abbrev pub AreConsistent : List Transition → Type 0
 AreConsistent ts = (t : Transition) → Has ts t → is_contradictory t.cube ≡ false

@@ -1,4 +1,4 @@
--- The automaton of a formula as one whose states are listed.
+-- The implicit graph of a formula's automaton, whose nodes are sets of rows.
 use Rattle.std.specs.Prelude.{Bool, true, map}
 use Rattle.ltl_spec.specs.NormalForms.Normal.{Normal}
 use Rattle.ltl_spec.specs.Transitions.Pairs.{RowSet}
@@ -10,6 +10,6 @@ use Rattle.ltl_automaton.specs.declared.successor.Successor.{Successor}
 abbrev pub successor_of : Transition → Successor RowSet
 successor_of t = record { cube = t.cube; key = t.targets; marks = t.marks }
 
--- each set of rows with its transitions; all are accepting
+-- the transitions of each set of rows; all are accepting
 abbrev pub net_of : Normal → Bool → Net RowSet
 net_of F keep = record { successors = λ e. map successor_of (transitions (table_of F) keep e); accepts = λ e. true }

@@ -1,4 +1,4 @@
--- Lists that rows of a table have.
+-- The lists of pairs and of sets that belong to the rows of a table.
 use Rattle.std.specs.Prelude.{◌≡◌, ℕ, ◌<◌, Bool, true, false, List, [], ◌∷◌, ◌++◌, length, map, slice_get, slice_set, Option, Some, None}
 use Rattle.ltl_spec.specs.Collections.Sets.{set_of}
 use Rattle.ltl_spec.specs.NormalForms.Normal.{Normal}
@@ -13,7 +13,7 @@ use Rattle.ltl_formula.specs.TableView.{TableView, row_tree, core_of}
 use Rattle.ltl_formula.specs.declared.row.Row.{Row}
 use Rattle.ltl_formula.specs.declared.row.Row.TheVariants as row
 
--- the pair that asks for these rows next
+-- the pair that needs these rows next
 abbrev pub next_pair : spec.RowSet → spec.Pair
 next_pair e = record { cube = []; targets = e }
 
@@ -25,7 +25,7 @@ row_place t = place (table_of (core_of t))
 abbrev pub row_pairs : TableView → ℕ → List spec.Pair
 row_pairs t k = set_of spec.pair_cmp (spec.pairs (row_place t) (row_tree t k))
 
--- the pairs of a row at a place, by the lists of its operands
+-- the pairs of a row with a place, from the lists of its operands
 abbrev pub pairs_from : (ℕ → List spec.Pair) → (ℕ → List spec.Pair) → ℕ → Row → List spec.Pair
 pairs_from ps es at row.True = spec.empty_pair ∷ []
 pairs_from ps es at row.False = []
@@ -36,7 +36,7 @@ pairs_from ps es at (row.Or i j) = ps i ++ ps j
 pairs_from ps es at (row.Until i j) = ps j ++ spec.join (ps i) (spec.later_pair at ∷ [])
 pairs_from ps es at (row.Release i j) = spec.join (ps j) (ps i ++ spec.later_pair at ∷ [])
 
--- the sets of a row at a place, as pairs that ask for them next
+-- the sets of a row with a place, as pairs without literals
 abbrev pub sets_from : (ℕ → List spec.Pair) → ℕ → Row → List spec.Pair
 sets_from es at row.True = spec.empty_pair ∷ []
 sets_from es at row.False = []
@@ -65,14 +65,14 @@ list_at lists k = list_or_none (slice_get lists k)
 abbrev pub is_made : {X : Type 0} → List (Option (List X)) → ℕ → Bool
 is_made lists k = was_made (slice_get lists k)
 
--- by a rule this was listed of the pairs of a row, and of its sets
+-- these are the pruned pairs of a row by a rule; these are its pruned sets
 abbrev pub IsListedRow : TableView → Rule → ℕ → List spec.Pair → Type 0
 IsListedRow t r k qs = IsListed (StandsFor (table_of (core_of t)) r) (spec.pairs (row_place t) (row_tree t k)) qs
 
 abbrev pub IsListedSet : TableView → Rule → ℕ → List spec.Pair → Type 0
 IsListedSet t r k qs = IsListed (StandsFor (table_of (core_of t)) r) (map next_pair (spec.conj (row_place t) (row_tree t k))) qs
 
--- the lists of the operands are as they should be, as far as the pairs of a row take them
+-- the lists of the operands from which a row's pairs are made are right
 abbrev pub HavePairs : TableView → Rule → (ℕ → List spec.Pair) → (ℕ → List spec.Pair) → Row → Type 0
 HavePairs t q ps es row.True = Unit {0}
 HavePairs t q ps es row.False = Unit {0}
@@ -83,7 +83,7 @@ HavePairs t q ps es (row.Or i j) = IsListedRow t q i (ps i) × IsListedRow t q j
 HavePairs t q ps es (row.Until i j) = IsListedRow t q i (ps i) × IsListedRow t q j (ps j)
 HavePairs t q ps es (row.Release i j) = IsListedRow t q i (ps i) × IsListedRow t q j (ps j)
 
--- and as far as its sets do
+-- the lists of the operands from which its sets are made are right
 abbrev pub HaveSets : TableView → Rule → (ℕ → List spec.Pair) → Row → Type 0
 HaveSets t q es row.True = Unit {0}
 HaveSets t q es row.False = Unit {0}
@@ -94,21 +94,21 @@ HaveSets t q es (row.Next i) = Unit {0}
 HaveSets t q es (row.Until i j) = Unit {0}
 HaveSets t q es (row.Release i j) = Unit {0}
 
--- what was listed stands as it should
+-- each list that was made is right
 pub record AreLists (t : TableView) (q : Rule) (ps es : List (Option (List spec.Pair))) : Type 0 where
   pub pair_count : length ps ≡ length t.rows
   pub set_count : length es ≡ length t.rows
   pub pairs : (k : ℕ) → is_made ps k ≡ true → IsListedRow t q k (list_at ps k)
   pub sets : (k : ℕ) → is_made es k ≡ true → IsListedSet t q k (list_at es k)
 
--- one more list was made, which is as it should be
+-- one more list was made, and it has the property
 abbrev pub HasAdded : (List spec.Pair → Type 0) → ℕ → List (Option (List spec.Pair)) → List (Option (List spec.Pair)) → Type 0
 HasAdded P k old new = (xs : List spec.Pair) × P xs × (new ≡ slice_set old k (Some xs))
 
--- what is needed of the first rows was listed
+-- the needed lists of the first rows were made
 abbrev pub MadeBelow : List Need → ℕ → List (Option (List spec.Pair)) → List (Option (List spec.Pair)) → Type 0
 MadeBelow ns n ps es = (k : ℕ) → k < n → ((need_at ns k).pairs ≡ true → is_made ps k ≡ true) × ((need_at ns k).sets ≡ true → is_made es k ≡ true)
 
--- what was listed before still is
+-- each list that was made before is still there
 abbrev pub IsMore : {X : Type 0} → List (Option (List X)) → List (Option (List X)) → Type 0
 IsMore old new = (k : ℕ) → is_made old k ≡ true → is_made new k ≡ true

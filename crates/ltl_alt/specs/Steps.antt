@@ -1,4 +1,4 @@
--- Steps of the tests of rows, as they are numbered.
+-- The straight-line program of the rows' tests.
 use Rattle.std.specs.Prelude.{◌≡◌, ℕ, ◌<◌, Bool, true, List, length, slice_get, slice_index_or, Some}
 use Rattle.ltl_sets.specs.Literals.{literal_of}
 use Rattle.ltl_spec.proofs.Transitions.Fulfilment as test
@@ -14,22 +14,22 @@ use Rattle.ltl_alt.specs.declared.needs.Need.{Need}
 use Rattle.ltl_alt.specs.declared.program.RowSteps.{RowSteps}
 use Rattle.ltl_alt.specs.declared.program.Step.{Step}
 
--- the step of that number is the test
+-- the step with this number is the test
 pub record IsStepOf (ss : List Step) (k : ℕ) (a : Test) : Type 0 where
   pub below : k < length ss
   pub test : test_of ss k ≡ a
 
--- the test of a step, by those before it
+-- the test of a step, from earlier steps
 abbrev pub test_by : List Step → Step → Test
 test_by ss s = step_test (tests_of (steps_of ss)) (step_of s)
 
--- steps that were there are still there
+-- steps were appended
 pub record IsGrown (old new : List Step) : Type 0 where
   pub earlier : AreEarlier (steps_of new)
   pub small : AreSmall new
   pub stays : (k : ℕ) (a : Test) → IsStepOf old k a → IsStepOf new k a
 
--- steps came, and if it is asked the one of that number is the test
+-- steps were appended, and if it is wanted, the one with this number is the test
 pub record IsNumberedIf (is_asked : Bool) (old new : List Step) (k : ℕ) (a : Test) : Type 0 where
   pub grown : IsGrown old new
   pub step : is_asked ≡ true → IsStepOf new k a
@@ -37,7 +37,7 @@ pub record IsNumberedIf (is_asked : Bool) (old new : List Step) (k : ℕ) (a : T
 abbrev pub IsNumbered : List Step → List Step → ℕ → Test → Type 0
 IsNumbered old new k a = IsNumberedIf true old new k a
 
--- the test of the pairs of a row at a place, by those of its operands
+-- the test of the pairs of a row with a place, from those of its operands
 abbrev pub pair_test_from : (ℕ → Test) → (ℕ → Test) → ℕ → Row → Test
 pair_test_from ps es at row.True = test.Always
 pair_test_from ps es at row.False = test.Never
@@ -48,7 +48,7 @@ pair_test_from ps es at (row.Or i j) = test.Either (ps i) (ps j)
 pair_test_from ps es at (row.Until i j) = test.Either (ps j) (test.Both (ps i) (test.Leads at))
 pair_test_from ps es at (row.Release i j) = test.Both (ps j) (test.Either (ps i) (test.Leads at))
 
--- that of its sets
+-- the test of its sets
 abbrev pub set_test_from : (ℕ → Test) → ℕ → Row → Test
 set_test_from es at row.True = test.Always
 set_test_from es at row.False = test.Never
@@ -59,7 +59,7 @@ set_test_from es at (row.Next i) = test.Leads at
 set_test_from es at (row.Until i j) = test.Leads at
 set_test_from es at (row.Release i j) = test.Leads at
 
--- steps in their order, of which each is small
+-- each step has earlier operands and small numbers
 pub record AreOrdered (ss : List Step) : Type 0 where
   pub earlier : AreEarlier (steps_of ss)
   pub small : AreSmall ss
@@ -68,7 +68,7 @@ pub record AreOrdered (ss : List Step) : Type 0 where
 abbrev pub steps_at : List RowSteps → ℕ → RowSteps
 steps_at rs k = slice_index_or rs k (record { pairs = 0; sets = 0 })
 
--- the steps of the operands are there, as far as the test of a row's pairs takes them
+-- the operands' steps from which the test of a row's pairs is made are right
 abbrev pub HavePairSteps : List Step → List RowSteps → (ℕ → Test) → (ℕ → Test) → Row → Type 0
 HavePairSteps ss rs ps es row.True = Unit {0}
 HavePairSteps ss rs ps es row.False = Unit {0}
@@ -79,7 +79,7 @@ HavePairSteps ss rs ps es (row.Or i j) = IsStepOf ss (steps_at rs i).pairs (ps i
 HavePairSteps ss rs ps es (row.Until i j) = IsStepOf ss (steps_at rs i).pairs (ps i) × IsStepOf ss (steps_at rs j).pairs (ps j)
 HavePairSteps ss rs ps es (row.Release i j) = IsStepOf ss (steps_at rs i).pairs (ps i) × IsStepOf ss (steps_at rs j).pairs (ps j)
 
--- and as far as that of its sets does
+-- the operands' steps from which the test of its sets is made are right
 abbrev pub HaveSetSteps : List Step → List RowSteps → (ℕ → Test) → Row → Type 0
 HaveSetSteps ss rs es row.True = Unit {0}
 HaveSetSteps ss rs es row.False = Unit {0}
@@ -90,7 +90,7 @@ HaveSetSteps ss rs es (row.Next i) = Unit {0}
 HaveSetSteps ss rs es (row.Until i j) = Unit {0}
 HaveSetSteps ss rs es (row.Release i j) = Unit {0}
 
--- the numbers of the tests of a row, as far as they are needed
+-- the numbers of the needed tests of a row
 pub record AreRowSteps (t : TableView) (ss : List Step) (n : Need) (k : ℕ) (r : RowSteps) : Type 0 where
   pub pairs : n.pairs ≡ true → IsStepOf ss r.pairs (pair_test (row_place t) (row_tree t k))
   pub sets : n.sets ≡ true → IsStepOf ss r.sets (set_test (row_place t) (row_tree t k))
@@ -106,14 +106,14 @@ until_step rs (row.Or i j) = 0
 until_step rs (row.Until i j) = (steps_at rs j).pairs
 until_step rs (row.Release i j) = 0
 
--- there is one for each until row
+-- each until row has its test
 pub record AreUntilSteps (t : TableView) (ss : List Step) (rs : List RowSteps) : Type 0 where
   pub earlier : AreEarlier (steps_of ss)
   pub small : AreSmall ss
   pub count : length rs ≡ length t.rows
   pub untils : (i k : ℕ) (r : Row) → slice_get t.untils i ≡ Some k → slice_get t.rows k ≡ Some r → IsStepOf ss (until_step rs r) (until_test (row_place t) (row_tree t k))
 
--- those of the first rows
+-- the needed steps of the first rows are right
 pub record IsProgram (t : TableView) (ns : List Need) (ss : List Step) (rs : List RowSteps) : Type 0 where
   pub earlier : AreEarlier (steps_of ss)
   pub small : AreSmall ss

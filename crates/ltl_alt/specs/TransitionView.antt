@@ -14,15 +14,15 @@ table_at t = table_of (core_of t)
 abbrev pub AllSets : List Transition → Type 0
 AllSets ts = (t : Transition) → Has ts t → HasSets t
 
--- how many literals and rows a transition asks for
+-- the number of a transition's literals and targets
 abbrev pub weight : Transition → ℕ
 weight t = length t.cube + length t.targets
 
--- none asks for more
+-- no transition has a greater weight
 abbrev pub AreUpTo : ℕ → List Transition → Type 0
 AreUpTo most ts = (t : Transition) → Has ts t → weight t ≤ most
 
--- it asks for no fewer
+-- the transition's weight is at least this
 abbrev pub is_heavy : ℕ → Transition → Bool
 is_heavy most t = not (nat_lt (weight t) most)
 

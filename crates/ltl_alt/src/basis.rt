@@ -1,11 +1,12 @@
-//! What the transitions of sets of rows are made of.
+//! What every set of rows of one exploration shares.
 
 use crate::conjunct_table::ConjunctTable;
 use crate::rule::Pruning;
 use ltl_formula::Table;
 use std::alloc::Allocator;
 
-/// A table of rows, the conjuncts of its elementary rows, and the rule by which pairs are dropped with the tests of until rows.
+/// A table of rows, the conjuncts of its elementary rows, and the pruning rule with the tests of until rows. It is made before the first set of rows, and
+/// doesn't change.
 #[derive(Drop)]
 pub(crate) struct Basis<'b, 't, 's, 'a, A: Allocator> {
     pub(crate) alloc: &'a A,

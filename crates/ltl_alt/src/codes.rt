@@ -1,4 +1,4 @@
-//! What a pair passes, can still pass and never passes, by code.
+//! Three-valued evaluation of the fulfilment tests for a pair: it passes a step, can still pass it after a join, or never passes it.
 
 ghost use Rattle.std.specs.Prelude.{◌≡◌, map, length, slice_index_or, IfOk, OnOk};
 ghost use Rattle.ltl_spec.proofs.Transitions.AskedSteps.{ask_operands, ask_step};
@@ -13,19 +13,19 @@ use crate::program::Step;
 use crate::support::Support;
 use std::alloc::{AllocError, Allocator};
 
-/// The pair passes.
+/// The pair passes the step.
 const PASSES: u8 = 2;
 
-/// The pair can still pass, with what it is joined with.
+/// The pair doesn't pass the step, but may after a join.
 const OPEN: u8 = 1;
 
-/// The pair never passes.
+/// The pair never passes the step, whatever it is joined with.
 const NEVER: u8 = 0;
 
-/// Nothing is asked of a step.
+/// The code of a step that isn't wanted.
 const NOTHING: u8 = 3;
 
-/// The code of the step of that number, if there is one.
+/// The code of the step with this number, or `NEVER` if there is no such step.
 #[inline(always)]
 fn code_at(codes: &[u8], number: usize) -> u8
     ensures { result ≡ slice_index_or codes.now number 0 }
@@ -37,7 +37,7 @@ fn code_at(codes: &[u8], number: usize) -> u8
     }
 }
 
-/// The code of a step that looks for a literal or a target.
+/// The code of a step that looks for a literal or a target, from whether the pair has it and whether it can still get it.
 #[inline(always)]
 fn leaf_code(is_there: bool, can_come: bool) -> u8
     ensures { result ≡ leaf_code is_there can_come }
@@ -51,7 +51,7 @@ fn leaf_code(is_there: bool, can_come: bool) -> u8
     }
 }
 
-/// The code of a step for a pair, by the codes of the steps before it. Each row can come, and each literal that the pair doesn't contradict.
+/// The code of a step for a pair, from the codes of earlier steps. A join can add each row, and each literal that the pair doesn't contradict.
 #[inline(always)]
 fn step_code(pair: &Pair, codes: &[u8], step: Step) -> u8
     ensures { result ≡ step_code (coming_to anything pair.now) pair.now codes.now (step_of step) }
@@ -66,7 +66,7 @@ fn step_code(pair: &Pair, codes: &[u8], step: Step) -> u8
     }
 }
 
-/// Puts the code of each step.
+/// Computes the code of each step for a pair, in place of the old contents of `codes`.
 fn put_codes<A: Allocator>(
     fulfilment: &Fulfilment<'_, A>,
     pair: &Pair,
@@ -83,7 +83,7 @@ fn put_codes<A: Allocator>(
     Ok(())
 }
 
-/// Asks for the code of a step.
+/// Marks a step as wanted, by its code.
 #[inline(always)]
 fn ask<A: Allocator>(asked: &mut Vec<u8, &A>, codes: &[u8], number: usize)
     ensures { asked.new.items ≡ ask_step codes.now asked.old.items number }
@@ -93,7 +93,7 @@ fn ask<A: Allocator>(asked: &mut Vec<u8, &A>, codes: &[u8], number: usize)
     }
 }
 
-/// Asks for the codes of the operands of a step.
+/// Marks the operands of a step as wanted.
 #[inline(always)]
 fn ask_operands<A: Allocator>(asked: &mut Vec<u8, &A>, codes: &[u8], step: Step)
     ensures { asked.new.items ≡ ask_operands codes.now asked.old.items (step_of step) }
@@ -107,7 +107,7 @@ fn ask_operands<A: Allocator>(asked: &mut Vec<u8, &A>, codes: &[u8], step: Step)
     }
 }
 
-/// With what a step speaks of that looks for a literal or a row.
+/// Adds the literal or row of a step that looks for one. Other steps add nothing.
 #[inline(always)]
 fn with_leaf(lack: Support, leaves: &Support, step: Step) -> Support
     ensures { IsWithLeaf lack leaves.now (step_of step) result }
@@ -118,7 +118,7 @@ fn with_leaf(lack: Support, leaves: &Support, step: Step) -> Support
     }
 }
 
-/// Asks back from the last step for the codes of the operands of each asked step that is open. Answers the literals and rows that open steps look for.
+/// Goes through the steps backwards, and marks the operands of each wanted step that is open. Returns the literals and rows that wanted open steps look for.
 fn ask_below<A: Allocator>(
     fulfilment: &Fulfilment<'_, A>,
     asked: &mut Vec<u8, &A>,
@@ -140,7 +140,7 @@ fn ask_below<A: Allocator>(
     lack
 }
 
-/// What a pair lacks of these steps: the literals and the rows that decide, if they come, whether it passes.
+/// The literals and rows that a pair lacks of these steps: those that decide, if a join adds them, whether the pair passes a step.
 pub(crate) fn lack<A: Allocator>(
     fulfilment: &Fulfilment<'_, A>,
     roots: &[usize],

@@ -1,4 +1,4 @@
-//! Components of conjuncts, and what is kept of each at once.
+//! The pruned joins of a component's conjuncts, by way of the memo table.
 
 ghost use Rattle.std.specs.Prelude.{◌≡◌, ℕ, ◌<◌, ◌∷◌, [], fold, length, IfOk, IfSome, OnOk};
 ghost use Rattle.ltl_spec.specs.Collections.Sets.{Has};
@@ -21,17 +21,17 @@ use crate::prune::prune;
 use ltl_sets::RowSet;
 use std::alloc::{AllocError, Allocator};
 
-/// Lists of pairs, those of the conjuncts among them.
+/// The memo table of joins, with the lists of all conjuncts in it.
 #[derive(Drop)]
 pub(crate) struct Components<'a, A: Allocator> {
     pub(crate) memo: Memo<'a, A>,
-    /// The number of the list that has the pair that asks for nothing.
+    /// The number of the list whose only pair needs nothing.
     pub(crate) nothing: usize,
-    /// For each conjunct the number of its list.
+    /// The list number of each conjunct.
     pub(crate) starts: Vec<usize, &'a A>,
 }
 
-/// For each conjunct the number of its list, which is remembered.
+/// Puts the list of each conjunct into the memo table. Returns the list number of each conjunct.
 fn starts<'a, A: Allocator>(
     alloc: &'a A,
     conjuncts: &ConjunctTable<'a, A>,
@@ -50,7 +50,7 @@ fn starts<'a, A: Allocator>(
     Ok(starts)
 }
 
-/// The pairs with those of one conjunct more at once.
+/// The pruned join of some pairs with the pairs of one more conjunct.
 fn with_conjunct<'a, A: Allocator>(
     basis: &Basis<'_, '_, '_, 'a, A>,
     pairs: &[Pair],
@@ -67,7 +67,7 @@ fn with_conjunct<'a, A: Allocator>(
     Ok(pruned)
 }
 
-/// What is kept of a component's conjuncts at once.
+/// The pruned join of all conjuncts of a component. Nothing of it is remembered.
 pub(crate) fn component_pairs<'a, A: Allocator>(
     basis: &Basis<'_, '_, '_, 'a, A>,
     component: &RowSet,
@@ -86,7 +86,7 @@ pub(crate) fn component_pairs<'a, A: Allocator>(
 }
 
 impl<'a, A: Allocator> Components<'a, A> {
-    /// The lists of the conjuncts alone.
+    /// A memo table that holds only the lists of the conjuncts.
     pub(crate) fn new(alloc: &'a A, conjuncts: &ConjunctTable<'a, A>) -> Result<Self, AllocError>
         ensures { IfOk result (λ g. (T : spec.Table) → (r : made_rule.Rule)
             → AreComponents T r conjuncts.now.lists.items g.memo.lists.keys g.memo.joins.entries g.nothing g.starts.items) }
@@ -102,7 +102,8 @@ impl<'a, A: Allocator> Components<'a, A> {
         })
     }
 
-    /// The last join of a component's conjuncts: that of what is kept of all conjuncts but the last one with this one. None, if there is no room for the others.
+    /// The last join of a component: the number of the pruned join of all its conjuncts but the last one, and the number of the last one's list. `None` if
+    /// there is no room for one of the joins before it.
     pub(crate) fn last(
         &mut self,
         basis: &Basis<'_, '_, '_, 'a, A>,

@@ -1,4 +1,4 @@
-//! The rows of a table taken apart into conjuncts, and which conjuncts have to do with each other.
+//! The conjuncts of all elementary rows, and the graph of their dependencies.
 
 ghost use Rattle.std.specs.Prelude.{◌≡◌, slice_get, ℕ, ◌+◌, ◌<◌, ◌≤◌, ◌++◌, ◌∷◌, [], List, length, map, MatchOption, OnOk, IfOk};
 ghost use Rattle.std.specs.Ordering.{nat_cmp};
@@ -30,20 +30,20 @@ use ltl_formula::{Row, Table};
 use ltl_sets::RowSet;
 use std::alloc::{AllocError, Allocator};
 
-/// Conjuncts of rows by number. The pairs of a row are those of its conjuncts at once.
+/// The conjuncts of elementary rows, numbered. The pairs of a row are the joins of one pair of each of its conjuncts.
 #[derive(Drop)]
 pub(crate) struct ConjunctTable<'a, A: Allocator> {
-    /// The place of the row that a conjunct belongs to.
+    /// For each conjunct the place of its row.
     pub(crate) owners: Vec<usize, &'a A>,
     pub(crate) lists: Vec<PairSet<'a, A>, &'a A>,
     pub(crate) dependencies: Vec<Dependencies, &'a A>,
-    /// The conjuncts that may have to do with a conjunct.
+    /// For each conjunct the conjuncts that may depend on it, itself among them.
     pub(crate) links: Vec<RowSet, &'a A>,
-    /// The places of the rows that were taken apart.
+    /// The places of the rows that have been split into conjuncts.
     pub(crate) made: RowSet,
 }
 
-/// Links a new conjunct with those that may have to do with it. Answers its own links.
+/// Links a new conjunct with each earlier one of which it isn't independent, and with itself. Returns the links of the new one.
 fn link<A: Allocator>(
     links: &mut Vec<RowSet, &A>,
     dependencies: &[Dependencies],
@@ -64,7 +64,7 @@ fn link<A: Allocator>(
 }
 
 impl<'a, A: Allocator> ConjunctTable<'a, A> {
-    /// No row was taken apart yet.
+    /// An empty table.
     pub(crate) fn new(alloc: &'a A) -> Self
         ensures linked { (T : spec.Table) → AreLinked T result.lists.items result.dependencies.items result.links.items }
         ensures rows { (T : spec.Table) → (r : made_rule.Rule) → AreMade T r result.made result.owners.items result.lists.items }
@@ -80,14 +80,14 @@ impl<'a, A: Allocator> ConjunctTable<'a, A> {
         }
     }
 
-    /// How many conjuncts there are.
+    /// The number of conjuncts.
     pub(crate) fn len(&self) -> usize
         ensures { result ≡ length self.now.lists.items }
     {
         self.lists.len()
     }
 
-    /// One conjunct more, of the row at a place.
+    /// Appends a conjunct of the row at a place, and links it.
     fn push(
         &mut self,
         table: &Table<'_, A>,
@@ -113,7 +113,7 @@ impl<'a, A: Allocator> ConjunctTable<'a, A> {
         Ok(())
     }
 
-    /// Puts the conjuncts of the row at a place behind the others.
+    /// Appends these conjuncts of the row at a place.
     fn push_conjuncts(
         &mut self,
         alloc: &'a A,
@@ -140,7 +140,7 @@ impl<'a, A: Allocator> ConjunctTable<'a, A> {
         Ok(())
     }
 
-    /// Takes the row at a place apart, into no more than `most` conjuncts.
+    /// Splits the row at a place into at most `most` conjuncts, and appends these.
     fn add(
         &mut self,
         alloc: &'a A,
@@ -166,7 +166,8 @@ impl<'a, A: Allocator> ConjunctTable<'a, A> {
         Ok(())
     }
 
-    /// All elementary rows of a table taken apart. Each has a number, and those that are left go to the first rows that are made of more conjuncts.
+    /// Splits all elementary rows of a table into conjuncts. A table has at most `RowSet::LIMIT` conjuncts. Each row gets at least one; of the numbers beyond
+    /// that, each row takes what it can use before the next row does.
     pub(crate) fn of(
         alloc: &'a A,
         table: &Table<'_, A>,
@@ -188,7 +189,7 @@ impl<'a, A: Allocator> ConjunctTable<'a, A> {
         Ok(conjuncts)
     }
 
-    /// The pairs of the conjunct with that number.
+    /// The pairs of the conjunct with this number.
     pub(crate) fn pairs(&self, number: usize) -> &[Pair]
         requires { number < length self.now.lists.items }
         ensures { result.now ≡ conjunct_of self.now.lists.items number }
@@ -196,7 +197,7 @@ impl<'a, A: Allocator> ConjunctTable<'a, A> {
         self.lists[number].as_slice()
     }
 
-    /// The numbers of the conjuncts of the rows of a set, unless there is no row at one of its places.
+    /// The conjuncts of all rows of a set, or `None` if the set has a place without a row.
     pub(crate) fn numbers(&self, state: &RowSet) -> Option<RowSet>
         requires owned { (o : ℕ) → Has self.now.owners.items o → Has self.now.made o }
         requires few { length self.now.owners.items ≤ RowSet.LIMIT }
@@ -214,14 +215,14 @@ impl<'a, A: Allocator> ConjunctTable<'a, A> {
         Some(numbers)
     }
 
-    /// The conjuncts that may have to do with the one of that number.
+    /// The conjuncts that are linked with the one of this number.
     fn links(&self, number: usize) -> Option<RowSet>
         ensures { result ≡ slice_get self.now.links.items number }
     {
         self.links.get(number).copied()
     }
 
-    /// The conjuncts that may have to do with one of these.
+    /// The conjuncts that are linked with at least one of these.
     fn linked_with(&self, inside: &RowSet) -> RowSet
         ensures { (i j : ℕ) → Has inside.now i → Has (links_of self.now.links.items i) j → Has result j }
     {
@@ -235,7 +236,7 @@ impl<'a, A: Allocator> ConjunctTable<'a, A> {
         linked
     }
 
-    /// Of the rest, the conjuncts that may have to do with the first one, with those that may have to do with them, and so on.
+    /// The connected component of the conjunct `first` within `rest`, by a fixpoint iteration over the links.
     pub(crate) fn component(&self, first: usize, rest: &RowSet) -> RowSet
         requires first { first < RowSet.LIMIT }
         requires there { Has rest.now first }
@@ -254,7 +255,7 @@ impl<'a, A: Allocator> ConjunctTable<'a, A> {
     }
 }
 
-/// How many members a set has.
+/// The number of members of a set.
 fn count(rows: &RowSet) -> usize
     ensures { result ≡ length rows.now }
 {
@@ -266,7 +267,7 @@ fn count(rows: &RowSet) -> usize
     count
 }
 
-/// Whether a release row stands at a place among the elementary rows.
+/// Whether the elementary row at a place is a release row.
 fn is_release<A: Allocator>(table: &Table<'_, A>, place: usize) -> bool {
     match elementary_row(table, place) {
         Some(row) => {
@@ -277,8 +278,8 @@ fn is_release<A: Allocator>(table: &Table<'_, A>, place: usize) -> bool {
     }
 }
 
-/// Of these places the next whose row is taken apart. Conjuncts are joined in the order of their numbers. Release rows come first: they stay in the sets of
-/// rows that follow, so that their joins are made once.
+/// The next of these places whose row is to be split: one of a release row if there is one, else the first place. Conjuncts are joined in the order of their
+/// numbers. Release rows stay in the sets of rows that follow, so their joins come first and are made once.
 fn next_row<A: Allocator>(table: &Table<'_, A>, rest: &RowSet) -> Option<usize>
     ensures { MatchOption result (rest.now ≡ []) (λ i. Has rest.now i) }
 {
@@ -291,7 +292,7 @@ fn next_row<A: Allocator>(table: &Table<'_, A>, rest: &RowSet) -> Option<usize>
     first(rest)
 }
 
-/// The pairs of a row, as far as they are needed.
+/// The pruned pairs of a row.
 fn row_pairs<'a, A: Allocator>(
     alloc: &'a A,
     table: &Table<'_, A>,
@@ -310,7 +311,7 @@ fn row_pairs<'a, A: Allocator>(
     Ok(PairSet { pairs })
 }
 
-/// The pairs of a row, with the one that asks for another row later, as far as they are needed.
+/// The pruned pairs of the left operand of a release row, and the pair that has the release row as its target and needs nothing else.
 fn released_pairs<'a, A: Allocator>(
     alloc: &'a A,
     table: &Table<'_, A>,
@@ -332,7 +333,7 @@ fn released_pairs<'a, A: Allocator>(
     Ok(PairSet { pairs })
 }
 
-/// The pairs of a conjunct, as far as they are needed.
+/// The pruned pairs of a conjunct.
 fn conjunct_pairs<'a, A: Allocator>(
     alloc: &'a A,
     table: &Table<'_, A>,

@@ -1,4 +1,4 @@
-//! Rows as lists of conjuncts whose pairs at once are theirs.
+//! Splitting of a row into conjuncts: the joins of one pair of each are the pairs of the row.
 
 ghost use Rattle.std.specs.Prelude.{◌≡◌, ◌<◌, ◌≤◌, length, map, true, IfOk, IfSome};
 ghost use Rattle.ltl_spec.specs.Transitions.Pairs as spec_pairs;
@@ -13,22 +13,22 @@ use ltl_formula::{Row, Table};
 use smallvec::SmallVec;
 use std::alloc::{AllocError, Allocator};
 
-/// What a row is made of.
+/// A conjunct of a row.
 #[derive(Clone, Copy, Default)]
 pub(crate) enum Conjunct {
-    /// Nothing fulfils it.
+    /// The conjunct without pairs, which nothing fulfils.
     #[default]
     Never,
-    /// The row of that number.
+    /// The row with this number, whole.
     Whole(usize),
-    /// The row of the first number now, or the release row of the second number later.
+    /// The left operand of a release row, by its number, or the release row itself at the next step, by its number: what `a R b` needs beside `b`.
     Released(usize, usize),
 }
 
-/// Conjuncts in their order. Most rows have few.
+/// A list of conjuncts. Most rows have few.
 pub(crate) type Conjuncts<'a, A> = SmallVec<Conjunct, 8, &'a A>;
 
-/// What stands at a place among the elementary rows, as one conjunct.
+/// The elementary row at a place as one conjunct; `Never` if there is none.
 pub(crate) fn conjunct_at<A: Allocator>(table: &Table<'_, A>, place: usize) -> Conjunct
     ensures conjunct { IsConjunct table.now result }
     ensures pairs { spec.pairs_at (table_at table.now) place ≡ conjunct_pairs table.now result }
@@ -40,15 +40,14 @@ pub(crate) fn conjunct_at<A: Allocator>(table: &Table<'_, A>, place: usize) -> C
     }
 }
 
-/// Whether it may be of use to take a release row with this right operand apart: where that can be taken apart too. The pair that asks for the row
-/// again is in all of its transitions.
+/// Whether splitting a release row with this right operand may be of use: only if the operand can be split as well.
 fn is_release_open<A: Allocator>(table: &Table<'_, A>, right: usize) -> bool
     requires { right < length table.now.rows }
 {
     matches!(table.row(right), Row::And(_, _) | Row::Release(_, _))
 }
 
-/// Two conjuncts that a conjunct is made of, if this is asked.
+/// The two conjuncts into which a conjunct splits, if `is_asked` and if it can be split.
 fn opened<A: Allocator>(
     table: &Table<'_, A>,
     conjunct: Conjunct,
@@ -78,7 +77,7 @@ fn opened<A: Allocator>(
     }
 }
 
-/// The conjuncts that a conjunct is made of, as long as they are no more than `most`.
+/// Splits a conjunct into at most `most` conjuncts, the leftmost first.
 pub(crate) fn conjuncts<'a, A: Allocator>(
     alloc: &'a A,
     table: &Table<'_, A>,

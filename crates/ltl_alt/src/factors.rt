@@ -1,4 +1,4 @@
-//! The transitions of sets of rows, by components of conjuncts that have nothing to do with each other.
+//! The transitions of a set of rows, as products over its independent components.
 
 ghost use Rattle.std.specs.Prelude.{◌≡◌, ℕ, ◌<◌, ◌≤◌, [], true, length, IsSome, OnOk, IfOk, IfSome, IsErrOf};
 ghost use Rattle.ltl_spec.specs.Collections.Sets.{Has};
@@ -17,7 +17,8 @@ use ltl_sets::RowSet;
 use std::alloc::{AllocError, Allocator};
 
 impl<'a, A: Allocator> Finals<'a, A> {
-    /// The transitions of each of the components of these conjuncts. If this isn't asked, none are made that aren't remembered.
+    /// The factors of these conjuncts: the transitions of each of their components. If `is_asked` is false and there is no room for the list of a component,
+    /// the result is `None`.
     pub(crate) fn factors(
         &mut self,
         basis: &Basis<'_, '_, '_, 'a, A>,
@@ -47,7 +48,7 @@ impl<'a, A: Allocator> Finals<'a, A> {
         Ok(Some(factors))
     }
 
-    /// So many transitions a set of rows has at least: how many it has, unless one of its components is too large to be remembered, else 0.
+    /// A lower bound on the number of transitions of a set of rows. It is their number, unless there is no room for the list of a component; then it is 0.
     pub(crate) fn transitions_at_least(
         &mut self,
         basis: &Basis<'_, '_, '_, 'a, A>,
@@ -69,8 +70,8 @@ impl<'a, A: Allocator> Finals<'a, A> {
         }
     }
 
-    /// The transitions of a set of rows, rising by literals and then by targets. Where they are more than `most` they may be refused, which is known
-    /// before they are made.
+    /// The transitions of a set of rows, sorted by literals and then by targets. If there are more than `most`, the result is `TooLarge`. They are counted
+    /// before any is made.
     pub(crate) fn set_transitions(
         &mut self,
         basis: &Basis<'_, '_, '_, 'a, A>,

@@ -1,4 +1,4 @@
-//! The transitions of components of conjuncts, by number.
+//! The memo table of the transitions of components.
 
 ghost use Rattle.std.specs.Prelude.{◌≡◌, ℕ, ◌<◌, [], true, Bool, map, length, IsSome, IfOk, IfSome, OnOk};
 ghost use Rattle.ltl_spec.specs.Collections.Sets.{Has, IsRising};
@@ -27,14 +27,14 @@ use ltl_sets::RowSet;
 use std::alloc::{AllocError, Allocator};
 use std::hash::{BuildHasherDefault, FoldHasher};
 
-/// The transitions of components, each list of which stands once.
+/// The lists of transitions that components have, each stored once, with a number.
 #[derive(Drop)]
 pub(crate) struct Finals<'a, A: Allocator> {
     pub(crate) components: Components<'a, A>,
     pub(crate) lists: Interner<'a, TransitionList<'a, A>, A>,
-    /// For the last joins of components the numbers of their transitions.
+    /// For each last join that was made the number of its transitions.
     pub(crate) of_joins: IndexMap<JoinKey, usize, BuildHasherDefault<FoldHasher>, &'a A>,
-    /// For the components that were met the numbers of their transitions, unless there was no room.
+    /// For each component that was met the number of its transitions, or `None` if there was no room for them.
     pub(crate) of_components: IndexMap<
         RowSet,
         Option<usize>,
@@ -43,14 +43,14 @@ pub(crate) struct Finals<'a, A: Allocator> {
     >,
 }
 
-/// The transitions of a component: those with a number, or others.
+/// The transitions of one component of a set: a stored list by its number, or a list that isn't stored.
 #[derive(Drop)]
 pub(crate) enum Factor<'a, A: Allocator> {
     Known(usize),
     Made(TransitionList<'a, A>),
 }
 
-/// The transitions of pairs.
+/// The transitions of pairs: each with its marks, and without those that another one implies unless these are to be kept.
 fn pair_transitions<'a, A: Allocator>(
     basis: &Basis<'_, '_, '_, 'a, A>,
     pairs: &[Pair],
@@ -68,7 +68,7 @@ fn pair_transitions<'a, A: Allocator>(
     Ok(TransitionList { transitions })
 }
 
-/// The transitions of a component, which are not remembered.
+/// The transitions of a component, made without the memo table.
 fn made_transitions<'a, A: Allocator>(
     basis: &Basis<'_, '_, '_, 'a, A>,
     component: &RowSet,
@@ -83,7 +83,7 @@ fn made_transitions<'a, A: Allocator>(
 }
 
 impl<'a, A: Allocator> Finals<'a, A> {
-    /// No component was met yet.
+    /// A memo table without transitions.
     pub(crate) fn new(alloc: &'a A, components: Components<'a, A>) -> Self
         ensures components { result.components ≡ components.entry }
         ensures joins { result.of_joins.entries ≡ [] }
@@ -97,7 +97,7 @@ impl<'a, A: Allocator> Finals<'a, A> {
         }
     }
 
-    /// The transitions with that number.
+    /// The stored list with this number.
     fn transitions(&self, number: usize) -> &[Transition]
         requires { number < length self.now.lists.keys }
         ensures { result.now ≡ made_of self.now.lists.keys number }
@@ -105,7 +105,7 @@ impl<'a, A: Allocator> Finals<'a, A> {
         self.lists.get(number).as_slice()
     }
 
-    /// The transitions that a factor stands for.
+    /// The transitions of a factor.
     pub(crate) fn of_factor<'f>(&'f self, factor: &'f Factor<'a, A>) -> &'f [Transition]
         requires { IsWithin self.now.lists.keys factor.now }
         ensures { result.now ≡ list_of self.now.lists.keys factor.now }
@@ -116,7 +116,7 @@ impl<'a, A: Allocator> Finals<'a, A> {
         }
     }
 
-    /// The number of the transitions of a last join, unless there is no room for its pairs. None of these is dropped before they have their marks.
+    /// The number of the transitions of a last join, or `None` if there is no room for its pairs. These pairs aren't pruned before they get their marks.
     fn of_join(
         &mut self,
         basis: &Basis<'_, '_, '_, 'a, A>,
@@ -146,7 +146,7 @@ impl<'a, A: Allocator> Finals<'a, A> {
         Ok(Some(number))
     }
 
-    /// The number of the transitions of a component that wasn't met before, unless there is no room for its list.
+    /// The number of the transitions of a component that wasn't met before, or `None` if there is no room for one of its joins.
     fn new_number(
         &mut self,
         basis: &Basis<'_, '_, '_, 'a, A>,
@@ -167,7 +167,7 @@ impl<'a, A: Allocator> Finals<'a, A> {
         Ok(number)
     }
 
-    /// The number of the transitions of a component, unless there is no room for its list.
+    /// The number of the transitions of a component, or `None` if there is no room for one of its joins. The answer is remembered.
     fn number(
         &mut self,
         basis: &Basis<'_, '_, '_, 'a, A>,
@@ -189,7 +189,8 @@ impl<'a, A: Allocator> Finals<'a, A> {
         Ok(number)
     }
 
-    /// The transitions of a component. If this isn't asked, none are made that aren't remembered.
+    /// The transitions of a component. If there is no room for them in the memo table, they are made for this call alone if `is_asked`, and the result is
+    /// `None` otherwise.
     pub(crate) fn factor(
         &mut self,
         basis: &Basis<'_, '_, '_, 'a, A>,

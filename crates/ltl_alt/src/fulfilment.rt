@@ -1,4 +1,4 @@
-//! Which until rows pairs fulfil, by evaluation of the formula.
+//! The test of each until row of a table: whether a pair fulfils the row.
 
 ghost use Rattle.std.specs.Prelude.{◌≡◌, ◌<◌, length, map, slice_get, slice_index_or, Some, IfOk, OnOk, false};
 ghost use Rattle.ltl_formula.specs.SharedNodesView.{IsBelow};
@@ -18,23 +18,23 @@ use crate::support::Support;
 use ltl_formula::{Row, Table};
 use std::alloc::{AllocError, Allocator};
 
-/// An until row: its place, and the step of its test.
+/// An until row's place, and the number of the step that is its test.
 #[derive(Clone, Copy)]
 pub(crate) struct UntilTest {
     pub(crate) place: usize,
     pub(crate) step: usize,
 }
 
-/// The tests of the until rows of a table, by number.
+/// The tests of the until rows of a table, as a program of steps.
 #[derive(Drop)]
 pub(crate) struct Fulfilment<'a, A: Allocator> {
     pub(crate) steps: Vec<Step, &'a A>,
-    /// The literals and the rows that each step speaks of.
+    /// The literals and rows on which each step depends.
     pub(crate) leaves: Vec<Support, &'a A>,
     pub(crate) untils: Vec<UntilTest, &'a A>,
 }
 
-/// Whether the step of that number is passed, if there is one.
+/// Whether the step with this number is passed; false if there is no such step.
 #[inline(always)]
 pub(crate) fn answer_at(answers: &[bool], number: usize) -> bool
     ensures { result ≡ slice_index_or answers.now number false }
@@ -46,7 +46,7 @@ pub(crate) fn answer_at(answers: &[bool], number: usize) -> bool
     }
 }
 
-/// Whether a pair passes a step, by the answers of the steps before it.
+/// Whether a pair passes a step, from the answers of earlier steps.
 #[inline(always)]
 fn step_passes(pair: &Pair, answers: &[bool], step: Step) -> bool
     ensures { result ≡ step_passes pair.now answers.now (step_of step) }
@@ -61,7 +61,7 @@ fn step_passes(pair: &Pair, answers: &[bool], step: Step) -> bool
     }
 }
 
-/// The steps as a list.
+/// The steps of a program in their order.
 fn listed_steps<'a, A: Allocator>(
     alloc: &'a A,
     program: &Program<'a, A>,
@@ -75,7 +75,7 @@ fn listed_steps<'a, A: Allocator>(
     Ok(steps)
 }
 
-/// The number of the step that is the test of an until row, or 0 for another row.
+/// The number of the step that is an until row's test, or 0 for another row. A pair fulfils an until row if it passes the right operand's test.
 fn test_step<A: Allocator>(program: &Program<'_, A>, row: Row) -> usize
     requires { IsBelow (length program.now.rows.items) row }
     ensures { result ≡ until_step program.now.rows.items row }
@@ -86,7 +86,7 @@ fn test_step<A: Allocator>(program: &Program<'_, A>, row: Row) -> usize
     }
 }
 
-/// The test of the until row of that number.
+/// The test of the until row with this number.
 fn until_test<A: Allocator>(
     table: &Table<'_, A>,
     program: &Program<'_, A>,
@@ -105,7 +105,7 @@ fn until_test<A: Allocator>(
 }
 
 impl<'a, A: Allocator> Fulfilment<'a, A> {
-    /// There are no until rows.
+    /// The tests of a table without until rows.
     pub(crate) fn nothing(alloc: &'a A) -> Self {
         Fulfilment {
             steps: Vec::new(alloc),
@@ -114,7 +114,7 @@ impl<'a, A: Allocator> Fulfilment<'a, A> {
         }
     }
 
-    /// That of a table's until rows.
+    /// The tests of all until rows of a table.
     pub(crate) fn of(alloc: &'a A, table: &Table<'_, A>) -> Result<Self, AllocError>
         ensures { IfOk result (AreTests (table_at table.now)) }
     {
@@ -133,7 +133,7 @@ impl<'a, A: Allocator> Fulfilment<'a, A> {
         })
     }
 
-    /// The test of the until row of that number.
+    /// The test of the until row with this number.
     #[inline(always)]
     pub(crate) fn until(&self, number: usize) -> UntilTest
         requires { number < length self.now.untils.items }
@@ -142,14 +142,14 @@ impl<'a, A: Allocator> Fulfilment<'a, A> {
         self.untils[number]
     }
 
-    /// The literals and the rows that the step of that number speaks of.
+    /// The literals and rows on which the step with this number depends.
     pub(crate) fn leaves(&self, number: usize) -> Support
         ensures { result ≡ slice_index_or self.now.leaves.items number no_support }
     {
         leaves_at(self.leaves.as_slice(), number)
     }
 
-    /// Puts for each step whether a pair passes it.
+    /// Computes for each step whether a pair passes it, in place of the old contents of `answers`.
     pub(crate) fn put_answers(
         &self,
         pair: &Pair,

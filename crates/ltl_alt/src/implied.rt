@@ -1,4 +1,4 @@
-//! Transitions that no other one implies.
+//! Removal of implied (subsumed) transitions.
 
 ghost use Rattle.std.specs.Prelude.{◌≡◌, IfOk, not};
 ghost use Rattle.std.specs.List.{filter};
@@ -9,7 +9,7 @@ use crate::transition::{Differing, Transition};
 use least::Lookup;
 use std::alloc::{AllocError, Allocator};
 
-/// The greatest weight. A transition that implies another one asks for fewer literals and rows.
+/// The greatest weight of these transitions, 0 if there are none. A transition that implies another one has a smaller weight.
 fn heaviest(transitions: &[Transition]) -> usize
     ensures { AreUpTo result transitions.now }
 {
@@ -23,7 +23,7 @@ fn heaviest(transitions: &[Transition]) -> usize
     most
 }
 
-/// Those of less than the greatest weight. No other one implies one of the transitions.
+/// The transitions of less than the weight `most`. If that is the greatest weight, no others imply one of the transitions.
 fn lighter<'a, A: Allocator>(
     alloc: &'a A,
     transitions: &[Transition],
@@ -40,7 +40,7 @@ fn lighter<'a, A: Allocator>(
     Ok(lighter)
 }
 
-/// Those that none of the others implies.
+/// The transitions that none of the others implies.
 fn left<'a, A: Allocator>(
     alloc: &'a A,
     others: &Lookup<'_, '_, Transition, A>,
@@ -57,7 +57,7 @@ fn left<'a, A: Allocator>(
     Ok(rest)
 }
 
-/// Those transitions that no other one implies.
+/// The transitions that no other one implies, in their order.
 pub(crate) fn unimplied<'a, A: Allocator>(
     alloc: &'a A,
     transitions: Vec<Transition, &'a A>,

@@ -1,4 +1,4 @@
-//! Sets of rows that have the transitions of one that was asked for before.
+//! Recognition of sets of rows with equal transitions, by the numbers of their components' lists.
 
 ghost use Rattle.std.specs.Prelude.{◌≡◌, ◌≤◌, List, [], Bool, length, IfOk, IfSome, OnOk};
 ghost use Rattle.ltl_spec.specs.Transitions.RowTransitions as spec;
@@ -14,16 +14,16 @@ use ltl_sets::RowSet;
 use std::alloc::{AllocError, Allocator};
 use std::hash::{BuildHasherDefault, FoldHasher};
 
-/// The sorted numbers of the transitions of the components of a set of rows.
+/// The sorted list numbers of the components of a set of rows. Sets with one key have the same transitions.
 type Key<'a, A> = Vec<usize, &'a A>;
 
-/// For each key that was met the first set of rows that has it.
+/// For each key the first set of rows that has it.
 #[derive(Drop)]
 pub(crate) struct Keys<'a, A: Allocator> {
     pub(crate) states: IndexMap<Key<'a, A>, RowSet, BuildHasherDefault<FoldHasher>, &'a A>,
 }
 
-/// The place of a number among sorted ones.
+/// The index at which a number is inserted among sorted ones.
 fn place_in(numbers: &[usize], number: usize) -> usize
     ensures { result ≤ length numbers.now }
 {
@@ -35,7 +35,7 @@ fn place_in(numbers: &[usize], number: usize) -> usize
     numbers.len()
 }
 
-/// The sorted numbers of factors, unless one has none.
+/// The sorted numbers of factors, or `None` if the list of one of them isn't stored.
 fn key<'a, A: Allocator>(
     alloc: &'a A,
     factors: &[Factor<'a, A>],
@@ -56,7 +56,7 @@ fn key<'a, A: Allocator>(
 }
 
 impl<'a, A: Allocator> Keys<'a, A> {
-    /// None was met yet.
+    /// No key is known.
     pub(crate) fn new(alloc: &'a A) -> Self
         ensures { result.states.entries ≡ [] }
     {
@@ -65,7 +65,7 @@ impl<'a, A: Allocator> Keys<'a, A> {
         }
     }
 
-    /// The first set of rows with this key, if there is one. Else it is this one.
+    /// The first set of rows with this key. If there is none, the result is `None`, and this set becomes the first one.
     fn first(&mut self, key: Key<'a, A>, state: &RowSet) -> Result<Option<RowSet>, AllocError>
         ensures keys { (T : spec.Table) → (keep : Bool) → (lists : List (List spec.Transition)) → IsKeyOf T keep lists key.entry.items state.now
             → AreKeys T keep lists self.old.states.entries → OnOk result (AreKeys T keep lists self.new.states.entries) }
@@ -79,8 +79,8 @@ impl<'a, A: Allocator> Keys<'a, A> {
         Ok(None)
     }
 
-    /// A set of rows that was asked for before and has the transitions of this one, if one is remembered. Else this one is, unless one of its components is
-    /// too large.
+    /// A set of rows that was met before and has the transitions of this one. If none is known, the result is `None`, and this set is remembered, unless
+    /// there is no room for the list of one of its components.
     pub(crate) fn same_successors_as(
         &mut self,
         basis: &Basis<'_, '_, '_, 'a, A>,

@@ -1,4 +1,4 @@
-//! What pairs lack to fulfil until rows, each looked at once.
+//! What pairs lack to fulfil until rows, computed once for each pair.
 
 ghost use Rattle.std.specs.Prelude.{◌≡◌, [], slice_get, IfOk, IfSome, OnOk};
 ghost use Rattle.ltl_alt.specs.CodeView.{AreLacks, IsKnown, IsLack};
@@ -9,29 +9,29 @@ use crate::pair::Pair;
 use crate::support::Support;
 use std::alloc::{AllocError, Allocator};
 
-/// A pair, and what it lacks.
+/// A pair, and the literals and rows that it lacks.
 #[derive(Clone, Copy)]
 pub(crate) struct Lack {
     pub(crate) pair: Pair,
     pub(crate) asked: Support,
 }
 
-/// What pairs lack that were looked at.
+/// A memo table of what the pairs of one list lack.
 #[derive(Drop)]
 pub(crate) struct Lacks<'a, A: Allocator> {
     pub(crate) known: Vec<Lack, &'a A>,
-    /// For pairs by number where theirs stands, if they were looked at.
+    /// For each pair of the list the index of its entry in `known`, or `usize::MAX`.
     places: Vec<usize, &'a A>,
     codes: Vec<u8, &'a A>,
     asked: Vec<u8, &'a A>,
 }
 
-/// Where what the pair with a number lacks stands, if it was looked at.
+/// The index of the entry of the pair with a number, or `usize::MAX` if it has none.
 fn place_of(places: &[usize], number: usize) -> usize {
     places.get(number).copied().unwrap_or(usize::MAX)
 }
 
-/// Puts where it stands.
+/// Sets the index of the entry of the pair with a number, if it is in range.
 fn put_place(places: &mut [usize], number: usize, place: usize) {
     if number < places.len() {
         places[number] = place;
@@ -39,7 +39,7 @@ fn put_place(places: &mut [usize], number: usize, place: usize) {
 }
 
 impl<'a, A: Allocator> Lacks<'a, A> {
-    /// None of so many pairs was looked at yet.
+    /// An empty table for `count` pairs.
     pub(crate) fn new(alloc: &'a A, count: usize) -> Result<Self, AllocError>
         ensures { IfOk result (λ l. l.known.items ≡ []) }
     {
@@ -53,14 +53,14 @@ impl<'a, A: Allocator> Lacks<'a, A> {
         })
     }
 
-    /// What stands at a place.
+    /// The entry at an index.
     fn at(&self, place: usize) -> Option<Lack>
         ensures { result ≡ slice_get self.now.known.items place }
     {
         self.known.get(place).copied()
     }
 
-    /// What the pair with a number lacks, if it was looked at.
+    /// What the pair with this number lacks, if that was computed before.
     fn known(&self, number: usize, pair: &Pair) -> Option<Support>
         ensures { IfSome result (IsKnown self.now.known.items pair.now) }
     {
@@ -73,7 +73,7 @@ impl<'a, A: Allocator> Lacks<'a, A> {
         None
     }
 
-    /// What the pair with a number lacks of these steps.
+    /// What the pair with this number lacks of these steps.
     pub(crate) fn lack(
         &mut self,
         fulfilment: &Fulfilment<'_, A>,

@@ -1,4 +1,4 @@
-//! The literals and the rows that steps of tests speak of.
+//! The literals and rows on which the steps of tests depend.
 
 ghost use Rattle.std.specs.Prelude.{◌≡◌, ℕ, slice_get, slice_index_or, Some, IfOk};
 ghost use Rattle.ltl_spec.proofs.Transitions.IndependenceTests.{no_support};
@@ -11,7 +11,7 @@ use crate::support::Support;
 use ltl_sets::RowSet;
 use std::alloc::{AllocError, Allocator};
 
-/// What the step of that number speaks of, if there is one.
+/// The literals and rows of the step with this number; none if there is no such step.
 pub(crate) fn leaves_at(leaves: &[Support], number: usize) -> Support
     ensures { result ≡ slice_index_or leaves.now number no_support }
 {
@@ -22,7 +22,7 @@ pub(crate) fn leaves_at(leaves: &[Support], number: usize) -> Support
     }
 }
 
-/// What a step speaks of, by what those before it do.
+/// The literals and rows of a step, from those of earlier steps.
 fn step_leaves(before: &[Support], step: Step) -> Support
     requires { IsSmall step }
     ensures { result ≡ step_leaves before.now (step_of step) }
@@ -37,7 +37,7 @@ fn step_leaves(before: &[Support], step: Step) -> Support
     }
 }
 
-/// What each step speaks of.
+/// The literals and rows of each step.
 pub(crate) fn leaves<'a, A: Allocator>(
     alloc: &'a A,
     steps: &[Step],

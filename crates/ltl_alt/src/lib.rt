@@ -1,31 +1,36 @@
-//! Generalized Büchi automata of formulas: pairs of rows, transitions of sets of rows, and the automaton that they reach.
+//! Translation of a formula into a transition-based generalized Büchi automaton (TGBA), by way of its very weak alternating automaton, after Gastin and
+//! Oddoux.
 //!
-//! In the field's words: the very weak alternating automaton of a formula, and the transition-based generalized Büchi automaton (TGBA) that Gastin
-//! and Oddoux make of it. A pair is a transition of the alternating automaton: a label, and a set of rows that all have to hold next. A state of the
-//! generalized automaton is a set of rows; its transitions are the joins of one pair of each row. A transition is in the acceptance set of an until
-//! row unless it puts the row off, which is to promise it again without a pair that fulfils it. A transition that another one implies goes, unless it
-//! is asked to stay: the other's literals and targets are among its own, and the other is in every set that it is in.
+//! A *pair* is a transition of the alternating automaton: a label, and a set of rows that all have to hold next. A state of the generalized automaton is a
+//! set of rows. Its transitions are the joins of one pair of each row. A transition is in the acceptance set of an until row unless it postpones the row: it
+//! has the row as a target, and doesn't need all of a pair that fulfils it. A transition that another one implies is removed, unless the caller keeps implied
+//! ones: the other's literals and targets are among its own, and the other is in every acceptance set that it is in.
 //!
-//! What flows: a table of rows; for each elementary row the conjuncts that it is made of (`conjuncts`), each with its pairs (`row_lists`) and a number (`conjunct_table`),
-//! with what they ask for and what fulfils the until rows that they put off (`support`, `leaves`). Conjuncts that may have to do with each other are linked. All this
-//! is made before the first set of rows, and never changes (`basis`).
-//! The conjuncts of a set of rows fall into components that are closed under links. The conjuncts of a component are joined (`lists`, `repeats`), where pairs that stay
-//! implied whatever comes are dropped on the way (`prune`, `rule`, `roots`, `lacks`, `codes`), but none of the last join; each join is made once (`memo`, `components`).
-//! What is kept gets its marks (`marks`), by steps of tests that tell which until rows a pair fulfils (`program`, `fulfilment`); implied transitions go (`implied`), and what is left
-//! is the component's (`finals`).
-//! The transitions of the set are the products, one transition of each component at once; they are counted before they are made, then made and sorted
-//! (`factors`, `product`). A set that has the transitions of an earlier one, which is seen by the numbers of its components' transitions, isn't asked for
-//! its own (`keys`). The sets that are targets are numbered as they are met (`reach`): a `Gba`,
-//! whose type stands below, in `ltl_models`, and which is asked for as `Gba::reach` (`of_table`).
+//! `Gba::reach` (`of_table`) explores the sets of rows that are reachable from the root, breadth first (`reach`). What all sets share is made before the
+//! first one, and doesn't change (`basis`): the tests that tell which until rows a pair fulfils (`program`, `fulfilment`, `leaves`), and the conjuncts of
+//! each elementary row (`conjuncts`), which have numbers and lists of pairs (`conjunct_table`, `row_lists`). Two conjuncts are linked if they share a
+//! proposition or a target, or if one may fulfil an until row that the other one postpones (`support`).
 //!
-//! Two things here are subtle. To ask for less isn't enough to drop a pair early, since the pair that asks for less may put off an until row that the
-//! other one fulfils. And products need no test for implied ones across components only because components are independent: no proposition and no target is in two
-//! of them, and none asks for what could fulfil an until row that another one puts off. docs/PRUNING.md has the rule, and examples of both.
+//! The transitions of a set of rows are made in three steps:
 //!
-//! The rows of `p U q` are `p`, `q` and `p U q`. `pairs` of the last one are `q`, with nothing left to hold, and `p` with itself as target. So
+//! - The conjuncts of its rows are divided into connected components of the links.
+//! - The pairs of a component's conjuncts are joined (`lists`, `repeats`). Each join but the last one is pruned of pairs that would stay implied whatever is
+//!   joined later (`prune`, `rule`, `roots`, `lacks`, `codes`). Joins are remembered (`memo`, `components`). The pairs of the last join get their marks
+//!   (`marks`), and implied transitions are removed (`implied`). The result is remembered for the component (`finals`). If there is no room for one of the
+//!   joins, the component is joined for its set of rows alone, and its last join is pruned too.
+//! - The transitions of the set are the products of one transition of each component. They are counted first, then made and sorted (`factors`, `product`).
+//!
+//! A set whose components have the same lists of transitions as those of an earlier set shares that set's edges (`keys`).
+//!
+//! Two points are subtle. A pair that needs less than another one may postpone an until row that the other one fulfils, so needing less isn't enough to
+//! replace it. And implied transitions need not be sought across components only because components are independent: no two share a proposition or a target,
+//! and none needs what could fulfil an until row that another one postpones. docs/PRUNING.md has both rules, with examples.
+//!
+//! The formula `p U q` has the rows `p`, `q` and `p U q`. The last one has two pairs: `q` without a target, and `p` with the row itself as its target. So its
+//! automaton is
 //!
 //! ```
-//! state 0 = {p U q}:  [p] to 0, put off    [q] to 1, in set 0
+//! state 0 = {p U q}:  [p] to 0, postponed  [q] to 1, in set 0
 //! state 1 = {}:       [t] to 1, in set 0
 //! ```
 #![tactic(auto)]

@@ -1,4 +1,4 @@
-//! Lists of pairs that stand for sets.
+//! Joins and unions of lists of pairs.
 
 ghost use Rattle.std.specs.Prelude.{◌≡◌, ◌++◌, IfOk, OnOk, filter_map};
 ghost use Rattle.ltl_spec.specs.Collections.Sets as spec_sets;
@@ -9,10 +9,10 @@ use crate::pair::Pair;
 use crate::repeats::join_once;
 use std::alloc::{AllocError, Allocator};
 
-/// Of more joins than these the repeated ones are left out as they come.
+/// If the product of two lists has more pairs than this, duplicates are removed while the joins are made.
 const MANY: usize = 1024;
 
-/// Puts what each of a list and a pair are at once behind the others.
+/// Appends the joins of each pair of a list with one pair.
 fn join_one<A: Allocator>(
     joined: &mut Vec<Pair, &A>,
     left: &[Pair],
@@ -28,7 +28,7 @@ fn join_one<A: Allocator>(
     Ok(())
 }
 
-/// One pair of each side at once, in every way. What is joined with one of the right side stands in a row, most of it in order where the left side is.
+/// All joins of a pair of each side, with duplicates. Those with one pair of the right side are adjacent, and mostly sorted if the left side is.
 fn join_all<'a, A: Allocator>(
     alloc: &'a A,
     left: &[Pair],
@@ -43,7 +43,7 @@ fn join_all<'a, A: Allocator>(
     Ok(joined)
 }
 
-/// One pair of each side at once, in every way, some of them perhaps more than once.
+/// All joins of a pair of each side, in some order. There may be duplicates.
 #[tactic(auto, using(crate::proofs::RepeatLaws::by_right))]
 pub(crate) fn join<'a, A: Allocator>(
     alloc: &'a A,
@@ -58,7 +58,7 @@ pub(crate) fn join<'a, A: Allocator>(
     join_all(alloc, left, right)
 }
 
-/// The pairs of both lists.
+/// The pairs of both lists, those of the left one first.
 pub(crate) fn both<'a, A: Allocator>(
     alloc: &'a A,
     left: &[Pair],
@@ -72,7 +72,7 @@ pub(crate) fn both<'a, A: Allocator>(
     Ok(pairs)
 }
 
-/// Sorts the pairs, and keeps each once. Lists that are joined or put one behind the other have long runs in order, and a stable sort keeps these.
+/// Sorts the pairs and removes duplicates. The sort is stable, since the lists of joins and unions have long sorted runs.
 pub(crate) fn sort_dedup<A: Allocator>(pairs: &mut Vec<Pair, &A>) -> Result<(), AllocError>
     ensures { OnOk result (pairs.new.items ≡ spec_sets.set_of spec_pairs.pair_cmp pairs.old.items) }
 {

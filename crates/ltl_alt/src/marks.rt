@@ -1,4 +1,4 @@
-//! The until rows that pairs don't put off.
+//! The acceptance marks of pairs.
 
 ghost use Rattle.std.specs.Prelude.{◌≡◌, ◌||◌, false, not, map, slice_index_or, IfOk};
 ghost use Rattle.std.specs.Ordering.{nat_cmp};
@@ -17,7 +17,7 @@ use ltl_formula::Table;
 use ltl_sets::RowSet;
 use std::alloc::{AllocError, Allocator};
 
-/// Whether the pair does not put off an until row, by the answers of all steps.
+/// Whether the pair is marked for an until row, from the answers of all steps: it doesn't have the row as a target, or it fulfils the row.
 #[inline(always)]
 fn is_kept_up(until: &UntilTest, pair: &Pair, answers: &[bool]) -> bool
     ensures { result ≡ (not (has nat_cmp until.now.place pair.now.targets) || slice_index_or answers.now until.now.step false) }
@@ -25,7 +25,7 @@ fn is_kept_up(until: &UntilTest, pair: &Pair, answers: &[bool]) -> bool
     !pair.targets.holds(until.place) || answer_at(answers, until.step)
 }
 
-/// The places of the until rows that the pair does not put off, by the answers of all steps.
+/// The numbers, among the until rows, of those for which the pair is marked, from the answers of all steps.
 fn marks<A: Allocator>(
     table: &Table<'_, A>,
     fulfilment: &Fulfilment<'_, A>,
@@ -45,7 +45,7 @@ fn marks<A: Allocator>(
     marks
 }
 
-/// The pairs as transitions.
+/// The pairs as transitions with their marks, in the same order.
 pub(crate) fn marked<'a, A: Allocator>(
     alloc: &'a A,
     table: &Table<'_, A>,

@@ -1,4 +1,4 @@
-//! Lists of pairs by number, and joins of them, which are remembered.
+//! A memo table of joins: lists of pairs have numbers, and a join is remembered by the numbers of both sides.
 
 ghost use Rattle.std.specs.Prelude.{◌≡◌, ℕ, ◌<◌, [], length, IfOk, IfSome, OnOk};
 ghost use Rattle.ltl_spec.specs.Transitions.Pairs.{join};
@@ -18,28 +18,28 @@ use ltl_automaton::Interner;
 use std::alloc::{AllocError, Allocator};
 use std::hash::{BuildHasherDefault, FoldHasher};
 
-/// So many pairs, joins, and transitions of last joins are remembered at most.
+/// The initial room: how many pairs, joins, and transitions of last joins are remembered. The conjuncts' own lists are remembered even if they exceed it.
 const ROOM: usize = 1_048_576;
 
-/// What is joined: two lists by their numbers.
+/// The two sides of a join, by the numbers of their lists.
 #[derive(Clone, Copy, PartialEq, Eq, Hash)]
 pub(crate) struct JoinKey {
     pub(crate) left: usize,
     pub(crate) right: usize,
 }
 
-/// Lists of pairs, each of which stands once, and joins of them.
+/// Lists of pairs, each stored once, and joins of these lists.
 #[derive(Drop)]
 pub(crate) struct Memo<'a, A: Allocator> {
     pub(crate) lists: Interner<'a, PairSet<'a, A>, A>,
-    /// For what was joined the number of the list that was kept.
+    /// For each join that was made the number of the resulting list.
     pub(crate) joins: IndexMap<JoinKey, usize, BuildHasherDefault<FoldHasher>, &'a A>,
-    /// For so many of them more there is room.
+    /// How many more pairs, joins and transitions may be remembered.
     room: usize,
 }
 
 impl<'a, A: Allocator> Memo<'a, A> {
-    /// Nothing is remembered yet.
+    /// An empty memo table.
     pub(crate) fn new(alloc: &'a A) -> Self
         ensures lists { result.lists.keys ≡ [] }
         ensures joins { result.joins.entries ≡ [] }
@@ -51,7 +51,7 @@ impl<'a, A: Allocator> Memo<'a, A> {
         }
     }
 
-    /// The list with that number.
+    /// The list with this number.
     pub(crate) fn pairs(&self, list: usize) -> &[Pair]
         requires { list < length self.now.lists.keys }
         ensures { result.now ≡ conjunct_of self.now.lists.keys list }
@@ -59,7 +59,7 @@ impl<'a, A: Allocator> Memo<'a, A> {
         self.lists.get(list).as_slice()
     }
 
-    /// The number of a list, which is remembered.
+    /// The number of a list. A list that is new is stored.
     pub(crate) fn number(&mut self, pairs: PairSet<'a, A>) -> Result<usize, AllocError>
         ensures number { IfOk result (IsListAt self.new.lists.keys pairs.entry) }
         ensures longer { OnOk result (IsLonger self.old.lists.keys self.new.lists.keys) }
@@ -74,7 +74,7 @@ impl<'a, A: Allocator> Memo<'a, A> {
         Ok(number)
     }
 
-    /// The number of a remembered join.
+    /// The list number of a join, if it was made before.
     fn known(&self, key: &JoinKey) -> Option<usize>
         ensures { (T : spec.Table) → (r : made_rule.Rule) → AreJoins T r self.now.lists.keys self.now.joins.entries
             → IfSome result (IsJoin T r self.now.lists.keys key.now) }
@@ -82,7 +82,7 @@ impl<'a, A: Allocator> Memo<'a, A> {
         self.joins.get(key).copied()
     }
 
-    /// What is kept of two lists at once.
+    /// The pruned join of two lists.
     fn kept(
         &self,
         alloc: &'a A,
@@ -100,7 +100,7 @@ impl<'a, A: Allocator> Memo<'a, A> {
         Ok(PairSet { pairs })
     }
 
-    /// One pair of each of two lists at once, in every way, where each stands once.
+    /// All joins of two lists, sorted and without duplicates, but not pruned.
     pub(crate) fn joined(&self, alloc: &'a A, key: &JoinKey) -> Result<Vec<Pair, &'a A>, AllocError>
         requires within { key.now.left < length self.now.lists.keys × key.now.right < length self.now.lists.keys }
         ensures { IfOk result (λ v. v.items ≡ last_list self.now.lists.keys key.now) }
@@ -110,7 +110,7 @@ impl<'a, A: Allocator> Memo<'a, A> {
         Ok(joined)
     }
 
-    /// Whether there is room for each of these joins.
+    /// Whether there is room for all joins of a pair of each side.
     pub(crate) fn has_room(&self, key: &JoinKey) -> bool
         requires within { key.now.left < length self.now.lists.keys × key.now.right < length self.now.lists.keys }
     {
@@ -121,7 +121,7 @@ impl<'a, A: Allocator> Memo<'a, A> {
         ways < self.room
     }
 
-    /// Takes the room of so many things that are remembered elsewhere.
+    /// Gives up room for `count` items that are stored elsewhere.
     pub(crate) fn take_room(&mut self, count: usize)
         ensures lists { self.new.lists.keys ≡ self.old.lists.keys }
         ensures joins { self.new.joins.entries ≡ self.old.joins.entries }
@@ -129,7 +129,7 @@ impl<'a, A: Allocator> Memo<'a, A> {
         self.room = self.room.saturating_sub(count);
     }
 
-    /// The number of what is kept of two lists at once, unless there is no room for it.
+    /// The list number of the pruned join of two lists, or `None` if there is no room for it.
     pub(crate) fn join(
         &mut self,
         alloc: &'a A,

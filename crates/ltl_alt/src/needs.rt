@@ -1,4 +1,4 @@
-//! Which lists of rows are needed to list the pairs of a row.
+//! Which lists of rows are needed to list the pairs of a row, by a backward pass over the rows.
 
 ghost use Rattle.std.specs.Prelude.{◌≡◌, ℕ, ◌<◌, ◌≤◌, ◌+◌, length, slice_get, Some, IfOk, vec_len, true};
 ghost use Rattle.ltl_formula.specs.SharedNodesView.{IsBelow};
@@ -9,23 +9,23 @@ use crate::place::{until_count, until_row};
 use ltl_formula::{Row, Table};
 use std::alloc::{AllocError, Allocator};
 
-/// What of a row is needed.
+/// Which lists of a row are needed.
 #[derive(Clone, Copy)]
 pub(crate) struct Need {
     /// Its pairs.
     pub pairs: bool,
-    /// The sets of rows of which one has to hold for it to hold.
+    /// Its sets of rows: the row holds if all rows of one of these sets hold.
     pub sets: bool,
 }
 
-/// Nothing of it is needed.
+/// Neither list is needed.
 const NOTHING: Need = Need {
     pairs: false,
     sets: false,
 };
 
 impl Need {
-    /// What either needs.
+    /// The lists that one of the two needs has.
     fn or(&self, other: Need) -> Need
         ensures { result ≡ join_needs self.now other }
     {
@@ -36,7 +36,7 @@ impl Need {
     }
 }
 
-/// Needs this of a row besides.
+/// Adds a need of a row.
 fn ask_one<A: Allocator>(needs: &mut Vec<Need, &A>, i: usize, need: Need)
     requires { i < length needs.old.items }
     ensures { needs.new.items ≡ asked_one needs.old.items i need }
@@ -45,7 +45,7 @@ fn ask_one<A: Allocator>(needs: &mut Vec<Need, &A>, i: usize, need: Need)
     needs[i] = more;
 }
 
-/// Needs of the operands of a row what this need of the row takes.
+/// Adds the needs of a row's operands that follow from a need of the row.
 fn ask<A: Allocator>(needs: &mut Vec<Need, &A>, row: Row, need: Need)
     requires { IsBelow (length needs.old.items) row }
     ensures { needs.new.items ≡ asked_of needs.old.items row need }
@@ -74,7 +74,7 @@ fn ask<A: Allocator>(needs: &mut Vec<Need, &A>, row: Row, need: Need)
     }
 }
 
-/// Needs of the rows below what the needs of each take.
+/// Goes through the rows from the last one down, and adds the needs of operands that follow from the needs of each row.
 fn ask_below<A: Allocator>(needs: &mut Vec<Need, &A>, table: &Table<'_, A>)
     requires { length needs.old.items ≤ length table.now.rows }
     ensures count { length needs.new.items ≡ length needs.old.items }
@@ -90,7 +90,7 @@ fn ask_below<A: Allocator>(needs: &mut Vec<Need, &A>, table: &Table<'_, A>)
     }
 }
 
-/// What is needed of the rows up to this one to list its pairs.
+/// The needs of the rows up to this one that follow from the need of its pairs.
 pub(crate) fn needs<'a, A: Allocator>(
     alloc: &'a A,
     table: &Table<'_, A>,
@@ -109,7 +109,7 @@ pub(crate) fn needs<'a, A: Allocator>(
     Ok(needs)
 }
 
-/// Needs the pairs of the second operand of an until row besides.
+/// Adds the need of the pairs of an until row's right operand.
 fn ask_second<A: Allocator>(needs: &mut Vec<Need, &A>, row: Row)
     requires { IsBelow (length needs.old.items) row }
     ensures { needs.new.items ≡ asked_second needs.old.items row }
@@ -123,7 +123,7 @@ fn ask_second<A: Allocator>(needs: &mut Vec<Need, &A>, row: Row)
     }
 }
 
-/// What is needed of a row.
+/// The need of a row.
 pub(crate) fn need_of(needs: &[Need], row: usize) -> Need
     requires { row < length needs.now }
     ensures { result ≡ need_at needs.now row }
@@ -131,7 +131,7 @@ pub(crate) fn need_of(needs: &[Need], row: usize) -> Need
     needs[row]
 }
 
-/// What is needed of the rows of a table to list the pairs of the second operand of each until row.
+/// The needs of all rows of a table that follow from the need of the pairs of each until row's right operand.
 pub(crate) fn until_needs<'a, A: Allocator>(
     alloc: &'a A,
     table: &Table<'_, A>,

@@ -1,4 +1,4 @@
-//! The generalized automaton of a table's formula, as a call of its type.
+//! `Gba::reach`: the generalized automaton of a table's formula.
 
 ghost use Rattle.std.specs.Prelude.{IfOk, IsErrOf};
 ghost use Rattle.ltl_spec.specs.Automata.Generalized.{IsGeneralized, IsTooLarge};
@@ -10,10 +10,11 @@ use ltl_formula::Table;
 use ltl_models::{AltFault, Gba};
 use std::alloc::Allocator;
 
-/// What is made of a table. The type of what is made stands in a crate below, which knows no tables.
+/// The construction of the automaton from a table. It is a trait because the type `Gba` belongs to `ltl_models`, which doesn't know tables.
 pub trait Reach<A: Allocator> {
-    /// The automaton of a table's formula. Its states are the sets of rows that are reached from the root alone; with `keep_implied` the
-    /// transitions that another one implies stay.
+    /// The automaton of a table's formula. Its states are the sets of rows that are reachable from the set of the root alone, numbered breadth first. With
+    /// `keep_implied`, transitions that another one implies are kept. The result is `TooLarge` if there are more than `MOST_STATES` states or `MOST_EDGES`
+    /// edges.
     fn reach<'a>(
         alloc: &'a A,
         table: &Table<'_, A>,

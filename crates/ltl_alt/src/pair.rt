@@ -1,4 +1,4 @@
-//! Pairs: what has to be true now, and what has to hold next.
+//! Pairs: the transitions of the very weak alternating automaton.
 
 ghost use Rattle.std.specs.Prelude.{◌≡◌, ◌<◌, [], ◌∷◌, true};
 ghost use Rattle.ltl_sets.specs.Literals.{literal_of};
@@ -14,10 +14,12 @@ use std::cmp::Ordering;
 use std::hash::{Hash, Hasher};
 use std::marker::Model;
 
-/// Literals that have to be true now, and the rows that have to hold next, by their places among the elementary rows.
+/// The literals that have to be true now, and the rows that have to hold next. Rows are given by their places among the elementary rows.
 #[derive(Debug)]
 pub struct Pair {
+    /// The literals, which don't contradict each other.
     pub cube: Cube,
+    /// The places of the rows.
     pub targets: RowSet,
 }
 
@@ -35,7 +37,7 @@ impl Model for Pair {
 }
 
 impl Pair {
-    /// The pair that asks for nothing.
+    /// The pair that needs nothing.
     pub fn empty() -> Pair
         ensures { result ≡ empty_pair }
     {
@@ -45,7 +47,7 @@ impl Pair {
         }
     }
 
-    /// The pair that asks for a literal now.
+    /// The pair that needs one literal now and has no targets.
     pub fn now(literal: Literal) -> Pair
         requires { literal.proposition < RowSet.LIMIT }
         ensures { result ≡ record { cube = literal_of literal ∷ []; targets = [] } }
@@ -56,7 +58,7 @@ impl Pair {
         }
     }
 
-    /// The pair that asks for these rows next.
+    /// The pair that needs these rows next and no literal.
     pub fn later(targets: RowSet) -> Pair
         ensures { result ≡ record { cube = []; targets = targets } }
     {
@@ -66,7 +68,7 @@ impl Pair {
         }
     }
 
-    /// Both at once, unless their literals contradict each other.
+    /// The union of both pairs' literals and targets, or `None` if their literals contradict each other.
     pub fn join(&self, other: &Pair) -> Option<Pair>
         ensures { result ≡ join_pair self.now other.now }
     {
@@ -77,7 +79,7 @@ impl Pair {
         })
     }
 
-    /// Whether it asks for the literal.
+    /// Whether the pair needs the literal.
     #[inline(always)]
     pub(crate) fn reads(&self, literal: Literal) -> bool
         ensures { result ≡ has literal_cmp (literal_of literal) self.now.cube }
@@ -89,7 +91,7 @@ impl Pair {
         }
     }
 
-    /// Whether it asks for the opposite of the literal.
+    /// Whether the pair needs the opposite of the literal.
     #[inline(always)]
     pub(crate) fn contradicts(&self, literal: Literal) -> bool
         ensures { result ≡ has literal_cmp (opposite (literal_of literal)) self.now.cube }
@@ -100,7 +102,7 @@ impl Pair {
         })
     }
 
-    /// What both ask for.
+    /// The literals and targets that both pairs need.
     #[inline(always)]
     pub(crate) fn common(&self, other: &Pair) -> Pair
         ensures { result ≡ common_pair self.now other.now }
@@ -111,7 +113,7 @@ impl Pair {
         }
     }
 
-    /// Whether this pair asks for no more than the other one.
+    /// Whether this pair's literals and targets are among the other's.
     #[inline(always)]
     pub(crate) fn is_within(&self, other: &Pair) -> bool
         ensures { result ≡ is_within self.now other.now }
@@ -119,7 +121,7 @@ impl Pair {
         self.cube.implies_of(&other.cube) && self.targets.is_subset(&other.targets)
     }
 
-    /// Whether the two are equal.
+    /// Whether both pairs are equal.
     #[tactic(auto, using(crate::proofs::JoinLaws::same_pair))]
     pub(crate) fn is_same(&self, other: &Pair) -> bool
         ensures { result ≡ true → self.now ≡ other.now }
@@ -127,13 +129,13 @@ impl Pair {
         self.cube == other.cube && self.targets == other.targets
     }
 
-    /// How many literals and rows it asks for.
+    /// The number of its literals and targets.
     #[inline(always)]
     pub(crate) fn size(&self) -> usize {
         self.cube.iter().count() + self.targets.iter().count()
     }
 
-    /// By the literals, then by the targets, each compared as a sorted list.
+    /// Compares by the literals, then by the targets, each as a sorted list.
     #[inline(always)]
     pub fn cmp_list(&self, other: &Pair) -> Ordering
         ensures { result ≡ pair_cmp self.now other.now }

@@ -1,4 +1,4 @@
-//! The pairs of a row.
+//! Sets of pairs as sorted lists.
 
 ghost use Rattle.std.specs.Prelude.{◌≡◌, ◌<◌, length, IfOk};
 ghost use Rattle.ltl_alt.specs.RowLists.{row_pairs};
@@ -12,7 +12,7 @@ use std::alloc::{AllocError, Allocator};
 use std::hash::{Hash, Hasher};
 use std::marker::Model;
 
-/// The pairs of a row, by literals and then by targets, each once.
+/// A set of pairs, sorted by literals and then by targets. It has no duplicates.
 #[derive(Drop)]
 pub struct PairSet<'a, A: Allocator> {
     pub(crate) pairs: Vec<Pair, &'a A>,
@@ -71,7 +71,7 @@ impl<'a, A: Allocator> PairSet<'a, A> {
     }
 }
 
-/// The pairs of a row. Their targets are places among the elementary rows.
+/// All pairs of a row, none of them pruned. Their targets are places among the elementary rows.
 pub fn pairs<'a, A: Allocator>(
     alloc: &'a A,
     table: &Table<'_, A>,

@@ -1,4 +1,4 @@
-//! Rows of a table, and their places among the elementary rows.
+//! Lookup of elementary rows and until rows in a table.
 
 ghost use Rattle.ltl_alt.specs.RowLists.{row_place};
 ghost use Rattle.ltl_spec.specs.Tools.Limits.{stated_limits};
@@ -12,14 +12,14 @@ use ltl_formula::Table;
 use ltl_sets::RowSet;
 use std::alloc::Allocator;
 
-/// Where a number first stands in a list.
+/// The index of the first occurrence of a number.
 fn index_of(numbers: &[usize], number: usize) -> Option<usize>
     ensures { result ≡ position (λ k. k == number) numbers.now }
 {
     numbers.iter().position(|k| *k == number)
 }
 
-/// The place of a row among the elementary rows, or their number where it is none of them.
+/// The place of a row among the elementary rows, or the number of elementary rows if it is none of them.
 pub(crate) fn place<A: Allocator>(table: &Table<'_, A>, row: usize) -> usize
     requires { row < length table.now.rows }
     ensures place { result ≡ row_place table.now (row_tree table.now row) }
@@ -30,7 +30,7 @@ pub(crate) fn place<A: Allocator>(table: &Table<'_, A>, row: usize) -> usize
     index_of(elementary, row).unwrap_or(elementary.len())
 }
 
-/// How many until rows there are.
+/// The number of until rows.
 #[tactic(auto, using(crate::proofs::RowLaws::untils_few))]
 pub(crate) fn until_count<A: Allocator>(table: &Table<'_, A>) -> usize
     ensures count { result ≡ length table.now.untils }
@@ -40,7 +40,7 @@ pub(crate) fn until_count<A: Allocator>(table: &Table<'_, A>) -> usize
     table.untils().len()
 }
 
-/// The until row of that number among the until rows.
+/// The row of the table that is the until row with this number.
 #[tactic(auto, using(crate::proofs::RowLaws::until_below))]
 pub(crate) fn until_row<A: Allocator>(table: &Table<'_, A>, number: usize) -> usize
     requires { number < length table.now.untils }
@@ -52,7 +52,7 @@ pub(crate) fn until_row<A: Allocator>(table: &Table<'_, A>, number: usize) -> us
     table.untils()[number]
 }
 
-/// The first member of a set.
+/// The least member of a set.
 pub(crate) fn first(rows: &RowSet) -> Option<usize>
     ensures { MatchOption result (rows.now ≡ []) (λ i. Has rows.now i) }
 {
@@ -74,14 +74,14 @@ pub(crate) fn elementary_places<A: Allocator>(table: &Table<'_, A>) -> RowSet
     places
 }
 
-/// What stands at a place among the elementary rows.
+/// The elementary row at a place, if there is one.
 fn elementary_at<A: Allocator>(table: &Table<'_, A>, place: usize) -> Option<usize>
     ensures { result ≡ slice_get table.now.elementary place }
 {
     table.elementary().get(place).copied()
 }
 
-/// The elementary row at a place.
+/// The elementary row at a place, or `None` if there are fewer.
 #[tactic(auto, using(crate::proofs::RowLaws::elementary_below))]
 pub(crate) fn elementary_row<A: Allocator>(table: &Table<'_, A>, place: usize) -> Option<usize>
     ensures found { result ≡ slice_get table.now.elementary place }
@@ -91,7 +91,7 @@ pub(crate) fn elementary_row<A: Allocator>(table: &Table<'_, A>, place: usize) -
     elementary_at(table, place)
 }
 
-/// Puts a number among others, if this is asked.
+/// Inserts a number into a set if `is_asked`.
 pub(crate) fn put_if(numbers: &mut RowSet, number: usize, is_asked: bool)
     requires { number < RowSet.LIMIT }
     ensures { numbers.new ≡ (if is_asked then put nat_cmp number numbers.old else numbers.old) }

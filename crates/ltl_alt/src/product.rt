@@ -1,4 +1,4 @@
-//! One transition of each of some components at once, in every way.
+//! The Cartesian product of the transitions of independent components.
 
 ghost use Rattle.std.specs.Prelude.{◌≡◌, ℕ, ◌≤◌, ◌++◌, filter_map, map, drop, IfOk, OnOk};
 ghost use Rattle.std.specs.List.Sorted.{IsPermutation, IsSorted};
@@ -16,7 +16,7 @@ use crate::pair::Pair;
 use crate::transition::Transition;
 use std::alloc::{AllocError, Allocator};
 
-/// Puts what a transition and each of a list are at once behind the others.
+/// Appends the unions of a transition with each of a list.
 fn product_one<A: Allocator>(
     products: &mut Vec<Transition, &A>,
     left: &Transition,
@@ -32,7 +32,7 @@ fn product_one<A: Allocator>(
     Ok(())
 }
 
-/// One transition of each side at once, in every way.
+/// The unions of a transition of each side, in every combination.
 fn product<'a, A: Allocator>(
     alloc: &'a A,
     left: &[Transition],
@@ -47,7 +47,7 @@ fn product<'a, A: Allocator>(
     Ok(products)
 }
 
-/// Sorts transitions by literals, and then by targets. Products have long runs in order, and a stable sort keeps these.
+/// Sorts transitions by literals and then by targets. The sort is stable, since products have long sorted runs.
 pub(crate) fn sort<A: Allocator>(transitions: &mut Vec<Transition, &A>) -> Result<(), AllocError>
     ensures permutation { OnOk result (IsPermutation transitions.old.items transitions.new.items) }
     ensures sorted { OnOk result (IsSorted spec.transition_cmp transitions.new.items) }
@@ -56,7 +56,7 @@ pub(crate) fn sort<A: Allocator>(transitions: &mut Vec<Transition, &A>) -> Resul
     Ok(())
 }
 
-/// One transition of each of these factors at once, in every way, in some order. What goes into a product is sorted before, so that each has few runs.
+/// The product of these factors, in some order. The product of the later factors is sorted before the next one is made, so each product has few sorted runs.
 pub(crate) fn all_products<'a, A: Allocator>(
     basis: &Basis<'_, '_, '_, 'a, A>,
     finals: &Finals<'a, A>,
@@ -84,7 +84,7 @@ pub(crate) fn all_products<'a, A: Allocator>(
     Ok(products)
 }
 
-/// How many combinations of one transition of each of these factors there are, or `usize::MAX` where they are more.
+/// The number of combinations of one transition of each factor, or `usize::MAX` if it is larger than that.
 pub(crate) fn combinations<'a, A: Allocator>(
     finals: &Finals<'a, A>,
     factors: &[Factor<'a, A>],

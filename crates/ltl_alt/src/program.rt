@@ -1,7 +1,7 @@
-//! The tests of until rows as steps by number.
+//! The fulfilment tests of until rows as a straight-line program.
 //!
-//! Whether a pair fulfils an until row is a test of the formula: literals and targets are looked for in the pair, `&&` is both and `||` is either. Each
-//! step is made of earlier ones, so that one pass tells all of them, and equal ones are one step.
+//! Whether a pair fulfils an until row is a Boolean function of its literals and targets, read off the formula. A step combines earlier steps, so one pass
+//! evaluates all of them. Equal steps have one number.
 
 ghost use Rattle.std.specs.Prelude.{◌≡◌, ℕ, ◌+◌, ◌<◌, ◌≤◌, length, slice_get, Some, IfOk, OnOk, true};
 ghost use Rattle.ltl_formula.specs.SharedNodesView.{IsBelow};
@@ -18,38 +18,38 @@ use ltl_formula::{Row, Table};
 use ltl_sets::{Literal, RowSet};
 use std::alloc::{AllocError, Allocator};
 
-/// A step of a test.
+/// A step of a test, with the numbers of its operands.
 #[derive(Clone, Copy, Debug, PartialEq, Eq, Hash)]
 pub(crate) enum Step {
-    /// Each pair passes.
+    /// Every pair passes.
     Always,
     /// No pair passes.
     Never,
-    /// Passed by a pair that asks for the literal.
+    /// A pair passes if it needs the literal.
     Reads(Literal),
-    /// Passed by a pair that has the row at that place among its targets.
+    /// A pair passes if the row at this place is among its targets.
     Leads(usize),
-    /// Passed where both steps are.
+    /// A pair passes if it passes both steps.
     Both(usize, usize),
-    /// Passed where one of the steps is.
+    /// A pair passes if it passes at least one of the steps.
     Either(usize, usize),
 }
 
-/// The numbers of the steps of a row, as far as they are needed: that of its pairs, and that of its sets.
+/// The steps of a row: the test of its pairs, and the test of its sets of rows. A number is 0 if the test isn't needed.
 #[derive(Clone, Copy)]
 pub(crate) struct RowSteps {
     pub(crate) pairs: usize,
     pub(crate) sets: usize,
 }
 
-/// Steps of the rows of a table.
+/// A program, and the steps of each row of a table.
 #[derive(Drop)]
 pub(crate) struct Program<'a, A: Allocator> {
     pub(crate) steps: Interner<'a, Step, A>,
     pub(crate) rows: Vec<RowSteps, &'a A>,
 }
 
-/// The number of a step.
+/// The number of a step. A step that is new is appended.
 fn number<A: Allocator>(steps: &mut Interner<'_, Step, A>, step: Step) -> Result<usize, AllocError>
     ensures { IfOk result (λ k. AreOrdered steps.old.keys → IsSmall step → HasOperands (length steps.old.keys) (step_of step)
         → IsNumbered steps.old.keys steps.new.keys k (test_by steps.old.keys step)) }
@@ -59,14 +59,14 @@ fn number<A: Allocator>(steps: &mut Interner<'_, Step, A>, step: Step) -> Result
 }
 
 impl<'a, A: Allocator> Program<'a, A> {
-    /// How many steps there are.
+    /// The number of steps.
     pub(crate) fn len(&self) -> usize
         ensures { result ≡ length self.now.steps.keys }
     {
         self.steps.len()
     }
 
-    /// The step of that number.
+    /// The step with this number.
     pub(crate) fn step(&self, number: usize) -> Step
         requires { number < length self.now.steps.keys }
         ensures { slice_get self.now.steps.keys number ≡ Some result }
@@ -74,7 +74,7 @@ impl<'a, A: Allocator> Program<'a, A> {
         *self.steps.get(number)
     }
 
-    /// The number of the step that tells whether a pair fulfils a row now.
+    /// The number of the step that tells whether a pair needs all that one of the row's pairs needs.
     pub(crate) fn pair_step(&self, row: usize) -> usize
         requires { row < length self.now.rows.items }
         ensures { result ≡ (steps_at self.now.rows.items row).pairs }
@@ -82,7 +82,7 @@ impl<'a, A: Allocator> Program<'a, A> {
         self.rows[row].pairs
     }
 
-    /// The number of the step that tells whether a pair fulfils a row later.
+    /// The number of the step that tells whether all rows of one of the row's sets are among a pair's targets.
     fn set_step(&self, row: usize) -> usize
         requires { row < length self.now.rows.items }
         ensures { result ≡ (steps_at self.now.rows.items row).sets }
@@ -90,7 +90,7 @@ impl<'a, A: Allocator> Program<'a, A> {
         self.rows[row].sets
     }
 
-    /// The number of a step for the pairs of a row at a place.
+    /// The number of the step for the pairs of a row with this place.
     fn number_pairs(&mut self, row: Row, place: usize) -> Result<usize, AllocError>
         requires rows { IsBelow (length self.old.rows.items) row }
         requires literal { IsNamedBelow RowSet.LIMIT row }
@@ -130,7 +130,7 @@ impl<'a, A: Allocator> Program<'a, A> {
         }
     }
 
-    /// The number of a step for the sets of a row at a place.
+    /// The number of the step for the sets of a row with this place.
     fn number_sets(&mut self, row: Row, place: usize) -> Result<usize, AllocError>
         requires rows { IsBelow (length self.old.rows.items) row }
         requires literal { IsNamedBelow RowSet.LIMIT row }
@@ -158,7 +158,7 @@ impl<'a, A: Allocator> Program<'a, A> {
         }
     }
 
-    /// The number of the step for the pairs of a row, if it is needed.
+    /// The number of the step for the pairs of a row, or 0 if it isn't needed.
     fn needed_pairs(&mut self, row: Row, place: usize, is_needed: bool) -> Result<usize, AllocError>
         requires rows { IsBelow (length self.old.rows.items) row }
         requires literal { IsNamedBelow RowSet.LIMIT row }
@@ -175,7 +175,7 @@ impl<'a, A: Allocator> Program<'a, A> {
         }
     }
 
-    /// The number of the step for the sets of a row, if it is needed.
+    /// The number of the step for the sets of a row, or 0 if it isn't needed.
     fn needed_sets(&mut self, row: Row, place: usize, is_needed: bool) -> Result<usize, AllocError>
         requires rows { IsBelow (length self.old.rows.items) row }
         requires literal { IsNamedBelow RowSet.LIMIT row }
@@ -192,7 +192,7 @@ impl<'a, A: Allocator> Program<'a, A> {
         }
     }
 
-    /// Numbers what is needed of one row more.
+    /// Appends the needed steps of the next row.
     fn add_row(
         &mut self,
         table: &Table<'_, A>,
@@ -218,7 +218,7 @@ impl<'a, A: Allocator> Program<'a, A> {
     }
 }
 
-/// The steps of what is needed of the rows of a table to tell which until rows a pair fulfils.
+/// The program that tells which until rows a pair fulfils.
 pub(crate) fn until_steps<'a, A: Allocator>(
     alloc: &'a A,
     table: &Table<'_, A>,

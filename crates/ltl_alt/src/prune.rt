@@ -1,4 +1,4 @@
-//! Lists of pairs without those that need not stand there.
+//! Pruning of lists of pairs: removal of pairs that a smaller pair may replace.
 
 ghost use Rattle.std.specs.Prelude.{◌≡◌, true, IfOk, OnOk, map};
 ghost use Rattle.ltl_spec.specs.Collections.Sets.{IsRising};
@@ -18,16 +18,17 @@ use ltl_models::elements::{has_literal, has_row, tally_literals, tally_rows};
 use smallvec::SmallVec;
 use std::alloc::{AllocError, Allocator};
 
-/// Of more pairs than these some are looked at first.
+/// Of a list with more pairs than these, a sample is tested first.
 const MANY: usize = 1024;
 
-/// So many of them.
+/// The size of the sample.
 const SAMPLE: usize = 64;
 
-/// So far apart, where the list is thought of as a ring: a prime, so that no order of the list is met.
+/// The step from one pair of the sample to the next one, modulo the length of the list. It is a large prime, so that the sample doesn't follow a period of
+/// the list.
 const STRIDE: usize = 2_654_435_761;
 
-/// A pair, how many literals and rows it asks for, its number, and whether it stood on the left side of a join already.
+/// A pair, how many literals and targets it has, its index in the list, and whether it is *old*: a pair of the left side of the join.
 #[derive(Clone, Copy)]
 struct Measured {
     size: usize,
@@ -50,7 +51,7 @@ impl Default for Measured {
     }
 }
 
-/// A pair is below those that ask for all that it asks for.
+/// A pair is below those that need all that it needs.
 impl Below for Measured {
     ghost use Rattle.ltl_spec.proofs.Transitions.LeastPairs.{is_within_transitive};
     ghost use Rattle.ltl_alt.specs.StandIns.{asks_less};
@@ -84,14 +85,14 @@ impl Below for Measured {
     ghost transitive = { λ m n o. is_within_transitive m.pair n.pair o.pair };
 }
 
-/// Pairs that may be listed in place of others, and the least size of one.
+/// The candidates that may replace a pair, in an index, and the least size of one.
 #[derive(Drop)]
 struct Spares<'b, 'a, A: Allocator> {
     lookup: Lookup<'b, 'a, Measured, A>,
     least: usize,
 }
 
-/// The place of the first pair that isn't less, from that place on.
+/// The index of the first pair that isn't less than `pair`, from the index `start` on.
 fn place_from(pairs: &[Pair], start: usize, pair: &Pair) -> usize {
     for k in start..pairs.len() {
         if !pairs[k].cmp_list(pair).is_lt() {
@@ -101,12 +102,12 @@ fn place_from(pairs: &[Pair], start: usize, pair: &Pair) -> usize {
     pairs.len()
 }
 
-/// Whether none asks for more than one literal or row.
+/// Whether no pair has more than one literal or target.
 fn are_single(pairs: &[Pair]) -> bool {
     pairs.iter().all(|pair| pair.size() < 2)
 }
 
-/// The pairs with their sizes.
+/// The pairs with their sizes. `left` is sorted, or old pairs may be missed.
 fn measure<'a, A: Allocator>(
     alloc: &'a A,
     left: &[Pair],
@@ -128,7 +129,7 @@ fn measure<'a, A: Allocator>(
     Ok(measured)
 }
 
-/// The least size.
+/// The least size of these pairs.
 fn least_size(measured: &[Measured]) -> usize {
     let mut least = usize::MAX;
     for m in measured {
@@ -137,12 +138,12 @@ fn least_size(measured: &[Measured]) -> usize {
     least
 }
 
-/// Whether it is smaller than another one. Where only old ones may be listed in place of others it has to be old too.
+/// Whether a pair is a candidate: it is smaller than the largest pair, and it is old if only old ones are candidates.
 fn may_stand_in(m: &Measured, most: usize, only_old: bool) -> bool {
     m.size < most && (m.is_old || !only_old)
 }
 
-/// The greatest size.
+/// The greatest size of these pairs.
 fn largest(measured: &[Measured]) -> usize {
     let mut most = 0;
     for m in measured {
@@ -151,7 +152,7 @@ fn largest(measured: &[Measured]) -> usize {
     most
 }
 
-/// Those of less than the greatest size. No other one is smaller than one of the pairs.
+/// The candidates that may replace a pair. A pair of the greatest size is none, since only a smaller pair replaces another one.
 fn smaller<'a, A: Allocator>(
     alloc: &'a A,
     measured: &[Measured],
@@ -169,12 +170,12 @@ fn smaller<'a, A: Allocator>(
     Ok(smaller)
 }
 
-/// Whether it is looked for a smaller one: old ones had none, and none is smaller than the least.
+/// Whether a replacement is sought for a pair. Old pairs were kept when the left side was pruned, and stay. No candidate is smaller than the least size.
 fn is_asked(m: &Measured, least: usize) -> bool {
     !m.is_old && least < m.size
 }
 
-/// Whether a pair within another one may be listed in its place: it is smaller, and lacks nothing that the other one asks for.
+/// Whether `other`, which is within `m`, may replace it: it is smaller, and lacks nothing that `m` needs.
 fn is_spare<A: Allocator>(
     lacks: &mut Lacks<'_, A>,
     fulfilment: &Fulfilment<'_, A>,
@@ -193,7 +194,7 @@ fn is_spare<A: Allocator>(
     Ok(!lack.shares_some(&Support::by(&m.pair)))
 }
 
-/// Whether a smaller one is found that may be listed in place of this one.
+/// Whether a candidate is found that may replace this pair.
 fn has_spare<A: Allocator>(
     spares: &Spares<'_, '_, A>,
     lacks: &mut Lacks<'_, A>,
@@ -220,8 +221,8 @@ fn has_spare<A: Allocator>(
     Ok(false)
 }
 
-/// Whether there are many pairs, and none of some of them has a smaller one in its place. Then few have one or none has, and to ask each costs more than it
-/// leaves out.
+/// Whether the list is long and no pair of the sample can be replaced. Then few or none of the others can be, and to test each of them costs more than it
+/// saves.
 fn seem_least<A: Allocator>(
     spares: &Spares<'_, '_, A>,
     lacks: &mut Lacks<'_, A>,
@@ -245,7 +246,7 @@ fn seem_least<A: Allocator>(
     Ok(true)
 }
 
-/// Puts those of the pairs where others stood in whose place no smaller one is found that may be listed.
+/// Fills `pairs` with those for which no replacement is found.
 fn put_least<A: Allocator>(
     pairs: &mut Vec<Pair, &A>,
     spares: &Spares<'_, '_, A>,
@@ -267,7 +268,7 @@ fn put_least<A: Allocator>(
     Ok(())
 }
 
-/// Leaves out some of the pairs in whose place others may be listed.
+/// Removes some pairs that another pair of the list may replace.
 fn prune_safely<'a, A: Allocator>(
     alloc: &'a A,
     fulfilment: &Fulfilment<'_, A>,
@@ -310,7 +311,8 @@ fn prune_safely<'a, A: Allocator>(
     Ok(())
 }
 
-/// The pairs as a sorted list without repetitions, and without some of those in whose place others may be listed.
+/// Sorts the pairs, removes duplicates, and removes some pairs that another, smaller pair may replace by the rule. `left` and `right` are the sides of the
+/// join that made the pairs; they only save tests.
 pub(crate) fn prune<'a, A: Allocator>(
     alloc: &'a A,
     pruning: &Pruning<'_, '_, A>,

@@ -1,4 +1,4 @@
-//! The sets of rows that are reached from the root alone.
+//! Breadth-first exploration of the sets of rows that are reachable from the root.
 
 ghost use Rattle.std.specs.Prelude.{◌≡◌, map, IfOk, IsErrOf};
 ghost use Rattle.ltl_spec.specs.Automata.Generalized.{IsGeneralized, IsTooLarge};
@@ -25,7 +25,7 @@ use ltl_models::{Gba, MOST_EDGES, MOST_STATES};
 use ltl_sets::RowSet;
 use std::alloc::{AllocError, Allocator};
 
-/// The transitions as edges to their sets of rows.
+/// The transitions as edges to sets of rows.
 fn successors_of<'c, B: Allocator>(
     alloc: &'c B,
     transitions: &[Transition],
@@ -43,7 +43,7 @@ fn successors_of<'c, B: Allocator>(
     Ok(successors)
 }
 
-/// Sets of rows as the states of the automaton of a table's formula, with what is remembered of them.
+/// The implicit graph whose nodes are sets of rows, with its memo tables.
 #[derive(Drop)]
 struct RowSets<'b, 't, 's, 'a, A: Allocator> {
     basis: Basis<'b, 't, 's, 'a, A>,
@@ -81,7 +81,7 @@ impl<'b, 't, 's, 'a, A: Allocator> Successors<RowSet> for RowSets<'b, 't, 's, 'a
     }
 }
 
-/// The automaton of a table's formula.
+/// The automaton of a table's formula, or `TooLarge` if it exceeds the limits of `Gba`.
 pub(crate) fn reach<'a, A: Allocator>(
     alloc: &'a A,
     table: &Table<'_, A>,

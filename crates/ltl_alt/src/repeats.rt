@@ -1,7 +1,6 @@
-//! Joins of long lists of pairs, each pair once.
+//! Joins of long lists of pairs, with duplicates removed by hashing.
 //!
-//! Where long lists are joined, most of what comes out comes out many times. Each pair is looked for by an index as it comes, so that the memory is
-//! that of the different ones.
+//! Most joins of long lists are duplicates. Each join is looked up as it is made, so only different ones take memory.
 
 ghost use Rattle.std.specs.Prelude.{◌≡◌, IfOk, OnOk, filter_map, fold};
 ghost use Rattle.std.specs.Ordering.{eq_by_cmp};
@@ -14,7 +13,7 @@ use crate::pair::Pair;
 use ltl_automaton::Interner;
 use std::alloc::{AllocError, Allocator};
 
-/// Adds what each of a list and a pair are at once, where it isn't there.
+/// Adds the joins of each pair of a list with one pair, unless they are there.
 fn note_joins<A: Allocator>(
     once: &mut Interner<'_, Pair, A>,
     left: &[Pair],
@@ -31,7 +30,7 @@ fn note_joins<A: Allocator>(
     Ok(())
 }
 
-/// One pair of each side at once, in every way, in the order in which each first comes.
+/// The different joins of a pair of each side, in the order of their first occurrence.
 fn noted<'a, A: Allocator>(
     alloc: &'a A,
     left: &[Pair],
@@ -46,7 +45,7 @@ fn noted<'a, A: Allocator>(
     Ok(once)
 }
 
-/// The things as a list.
+/// The interned pairs as a list.
 fn listed<'a, A: Allocator>(
     alloc: &'a A,
     once: &Interner<'a, Pair, A>,
@@ -60,7 +59,7 @@ fn listed<'a, A: Allocator>(
     Ok(pairs)
 }
 
-/// One pair of each side at once, in every way, each once.
+/// The different joins of a pair of each side.
 pub(crate) fn join_once<'a, A: Allocator>(
     alloc: &'a A,
     left: &[Pair],

@@ -1,4 +1,4 @@
-//! Which until rows pairs can differ in.
+//! The until rows for which the pairs of a list may differ in their marks.
 
 ghost use Rattle.std.specs.Prelude.{IfOk};
 ghost use Rattle.ltl_alt.specs.CodeView.{AreOpenSteps};
@@ -8,7 +8,7 @@ use crate::pair::Pair;
 use crate::support::Support;
 use std::alloc::{AllocError, Allocator};
 
-/// The steps of the until rows whose tests speak of what these pairs ask for.
+/// The steps of those until rows whose tests depend on a literal or row that one of these pairs needs.
 pub(crate) fn open_steps<'a, A: Allocator>(
     alloc: &'a A,
     fulfilment: &Fulfilment<'_, A>,

@@ -1,4 +1,4 @@
-//! The pairs of rows and the sets of rows that stand for them, each listed when it is first asked for.
+//! The pruned pairs and the sets of rows of each row of a table, listed when they are first needed.
 
 ghost use Rattle.std.specs.Prelude.{◌≡◌, ◌<◌, ◌≤◌, length, IfOk, OnOk, slice_get, slice_set, Some, true};
 ghost use Rattle.ltl_formula.specs.SharedNodesView.{IsBelow};
@@ -22,17 +22,17 @@ use ltl_formula::{Row, Table};
 use ltl_sets::RowSet;
 use std::alloc::{AllocError, Allocator};
 
-/// What has been listed of the rows of a table so far.
+/// The lists of the rows of a table that have been made so far.
 #[derive(Drop)]
 pub(crate) struct RowLists<'a, A: Allocator> {
     /// The pairs of each row.
     pairs: Vec<Option<PairSet<'a, A>>, &'a A>,
-    /// Pairs that ask for nothing now: the sets of rows of which one has to hold next for the row to hold next.
+    /// The sets of rows of each row, as pairs without literals: the row holds next if all targets of one of these pairs hold next.
     sets: Vec<Option<PairSet<'a, A>>, &'a A>,
 }
 
 impl<'a, A: Allocator> RowLists<'a, A> {
-    /// Nothing is listed yet.
+    /// No list has been made.
     pub(crate) fn new(alloc: &'a A, table: &Table<'_, A>) -> Result<RowLists<'a, A>, AllocError>
         ensures { IfOk result (λ l. (r : made_rule.Rule) → AreLists table.now r l.pairs.items l.sets.items) }
     {
@@ -45,7 +45,7 @@ impl<'a, A: Allocator> RowLists<'a, A> {
         Ok(RowLists { pairs, sets })
     }
 
-    /// The pairs that were listed of a row.
+    /// The pairs of a row; none if they haven't been listed.
     pub(crate) fn pairs(&self, row: usize) -> &[Pair]
         requires { row < length self.now.pairs.items }
         ensures { result.now ≡ list_at self.now.pairs.items row }
@@ -56,7 +56,7 @@ impl<'a, A: Allocator> RowLists<'a, A> {
         }
     }
 
-    /// The sets that were listed of a row.
+    /// The sets of a row; none if they haven't been listed.
     fn sets(&self, row: usize) -> &[Pair]
         requires { row < length self.now.sets.items }
         ensures { result.now ≡ list_at self.now.sets.items row }
@@ -67,7 +67,7 @@ impl<'a, A: Allocator> RowLists<'a, A> {
         }
     }
 
-    /// Whether the pairs of a row were listed.
+    /// Whether the pairs of a row have been listed.
     fn has_pairs(&self, row: usize) -> bool
         requires { row < length self.now.pairs.items }
         ensures { result ≡ is_made self.now.pairs.items row }
@@ -75,7 +75,7 @@ impl<'a, A: Allocator> RowLists<'a, A> {
         self.pairs[row].is_some()
     }
 
-    /// Whether the sets of a row were listed.
+    /// Whether the sets of a row have been listed.
     fn has_sets(&self, row: usize) -> bool
         requires { row < length self.now.sets.items }
         ensures { result ≡ is_made self.now.sets.items row }
@@ -83,7 +83,7 @@ impl<'a, A: Allocator> RowLists<'a, A> {
         self.sets[row].is_some()
     }
 
-    /// Lists the pairs of a row, and all that they are made of.
+    /// Lists the pairs of a row, and all lists of which they are made.
     pub(crate) fn prepare(
         &mut self,
         alloc: &'a A,
@@ -110,7 +110,7 @@ impl<'a, A: Allocator> RowLists<'a, A> {
         Ok(())
     }
 
-    /// Lists the pairs of a row, if they are needed and were not listed before.
+    /// Lists the pairs of a row if they are needed and haven't been listed.
     fn list_needed_pairs(
         &mut self,
         alloc: &'a A,
@@ -139,7 +139,7 @@ impl<'a, A: Allocator> RowLists<'a, A> {
         Ok(())
     }
 
-    /// Lists the sets of a row, if they are needed and were not listed before.
+    /// Lists the sets of a row if they are needed and haven't been listed.
     fn list_needed_sets(
         &mut self,
         alloc: &'a A,
@@ -168,7 +168,7 @@ impl<'a, A: Allocator> RowLists<'a, A> {
         Ok(())
     }
 
-    /// Lists the pairs of a row.
+    /// Lists the pairs of a row, and stores them.
     fn add_pairs(
         &mut self,
         alloc: &'a A,
@@ -189,7 +189,7 @@ impl<'a, A: Allocator> RowLists<'a, A> {
         Ok(())
     }
 
-    /// Lists the sets of a row.
+    /// Lists the sets of a row, and stores them.
     fn add_sets(
         &mut self,
         alloc: &'a A,
@@ -209,7 +209,7 @@ impl<'a, A: Allocator> RowLists<'a, A> {
         Ok(())
     }
 
-    /// The pairs of a row, by what was listed of its operands.
+    /// The pruned pairs of a row, from the lists of its operands.
     fn list_pairs(
         &self,
         alloc: &'a A,
@@ -230,7 +230,7 @@ impl<'a, A: Allocator> RowLists<'a, A> {
         Ok(PairSet { pairs })
     }
 
-    /// The pairs of a row at a place, with repetitions.
+    /// The pairs of a row with this place, from the lists of its operands, with duplicates.
     #[tactic(auto, using(crate::proofs::RepeatLaws::same_behind))]
     fn pairs_from(
         &self,
@@ -265,7 +265,7 @@ impl<'a, A: Allocator> RowLists<'a, A> {
         }
     }
 
-    /// The sets of rows of which one has to hold for a row to hold, by what was listed of its operands.
+    /// The pruned sets of a row, from the lists of its operands.
     fn list_sets(
         &self,
         alloc: &'a A,
@@ -285,7 +285,7 @@ impl<'a, A: Allocator> RowLists<'a, A> {
         Ok(PairSet { pairs })
     }
 
-    /// The sets of a row at a place, with repetitions.
+    /// The sets of a row with this place, from the lists of its operands, with duplicates.
     fn sets_from(
         &self,
         alloc: &'a A,

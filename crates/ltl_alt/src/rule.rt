@@ -1,4 +1,4 @@
-//! By which rule pairs are dropped.
+//! The rule by which pairs are pruned.
 
 ghost use Rattle.std.specs.Prelude.{◌≡◌};
 ghost use Rattle.ltl_alt.specs.StandIns.{rule_of};
@@ -6,17 +6,17 @@ ghost use Rattle.ltl_alt.specs.StandIns.{rule_of};
 use crate::fulfilment::Fulfilment;
 use std::alloc::Allocator;
 
-/// A rule by which pairs may be dropped.
+/// A rule by which pairs may be dropped from a list.
 #[derive(Clone, Copy, PartialEq, Eq)]
 pub(crate) enum Rule {
-    /// None but repeated ones.
+    /// Only duplicates are dropped.
     Duplicate,
-    /// Those that ask for all that another one asks for, if both get the same marks, whatever they are joined with.
+    /// A pair may be dropped if another one needs no more, and if that one gets at least the same marks, whatever both are joined with.
     SafelySubsumed,
 }
 
 impl Rule {
-    /// The rule by which the pairs of a set of rows are listed.
+    /// The rule for an automaton: if implied transitions are kept, only duplicates are dropped.
     pub(crate) fn of(keep_implied: bool) -> Rule
         ensures { result ≡ rule_of keep_implied }
     {
@@ -28,7 +28,7 @@ impl Rule {
     }
 }
 
-/// A rule, and what it goes by: the tests of the until rows.
+/// A rule, and the tests of until rows on which it depends.
 #[derive(Drop)]
 pub(crate) struct Pruning<'b, 'a, A: Allocator> {
     pub(crate) rule: Rule,

@@ -1,4 +1,4 @@
-//! What lists of pairs ask for, and a test that two lists have nothing to do with each other.
+//! The support of a list of pairs, and a test that two lists are independent.
 
 ghost use Rattle.std.specs.Prelude.{◌≡◌, length};
 ghost use Rattle.ltl_spec.specs.Transitions.Pairs as spec_pairs;
@@ -14,7 +14,7 @@ use ltl_sets::RowSet;
 use std::alloc::{AllocError, Allocator};
 use std::marker::Model;
 
-/// The propositions of positive and of negative literals, and the places of rows, that pairs ask for.
+/// The literals and rows that pairs need: the propositions of the positive literals, those of the negative ones, and the places of the targets.
 pub(crate) struct Support {
     positive: RowSet,
     negative: RowSet,
@@ -32,7 +32,7 @@ impl Model for Support {
 }
 
 impl Support {
-    /// Nothing is asked for.
+    /// No literal and no row.
     pub(crate) fn nothing() -> Support
         ensures { result ≡ independence.no_support }
     {
@@ -43,7 +43,7 @@ impl Support {
         }
     }
 
-    /// What one pair asks for.
+    /// The literals and targets of one pair.
     pub(crate) fn by(pair: &Pair) -> Support
         ensures { result ≡ independence.support_of pair.now }
     {
@@ -54,7 +54,7 @@ impl Support {
         }
     }
 
-    /// What both ask for.
+    /// The union of both.
     pub(crate) fn together(&self, other: &Support) -> Support
         ensures { result ≡ independence.together self.now other.now }
     {
@@ -65,7 +65,7 @@ impl Support {
         }
     }
 
-    /// What the pairs of a list ask for.
+    /// The literals and targets of all pairs of a list.
     pub(crate) fn of(pairs: &[Pair]) -> Support
         ensures { independence.Covers result pairs.now }
     {
@@ -76,7 +76,7 @@ impl Support {
         support
     }
 
-    /// The rows.
+    /// The places of the rows.
     pub(crate) fn targets(&self) -> RowSet {
         self.targets
     }
@@ -90,7 +90,7 @@ impl Support {
             || self.targets.meets(&other.targets)
     }
 
-    /// Whether a proposition is in both, of whichever sign, or a row.
+    /// Whether a proposition, whatever its sign, or a row is in both.
     fn speaks_of_same(&self, other: &Support) -> bool
         ensures { result ≡ independence.speaks_of_same self.now other.now }
     {
@@ -114,7 +114,7 @@ impl Clone for Support {
 
 impl Copy for Support {}
 
-/// With what the test of a row speaks of, if the row is put off.
+/// Adds the literals and rows of an until row's test, if the row is a target.
 fn with_leaves(fulfilling: Support, leaves: &Support, is_put_off: bool) -> Support
     ensures { IsAdded fulfilling leaves.now is_put_off result }
 {
@@ -125,7 +125,7 @@ fn with_leaves(fulfilling: Support, leaves: &Support, is_put_off: bool) -> Suppo
     }
 }
 
-/// What fulfils the until rows among these.
+/// The literals and rows on which the tests of the until rows among these targets depend. All that the fulfilling pairs of these rows need is among them.
 fn fulfilling_of<A: Allocator>(
     table: &Table<'_, A>,
     fulfilment: &Fulfilment<'_, A>,
@@ -143,7 +143,7 @@ fn fulfilling_of<A: Allocator>(
     fulfilling
 }
 
-/// What the pairs of a list ask for, and what fulfils the until rows that they put off.
+/// What the pairs of a list need, and what can fulfil the until rows that are their targets.
 #[derive(Clone, Copy)]
 pub(crate) struct Dependencies {
     support: Support,
@@ -151,7 +151,7 @@ pub(crate) struct Dependencies {
 }
 
 impl Dependencies {
-    /// That of a list of pairs.
+    /// The dependencies of a list of pairs.
     pub(crate) fn of<A: Allocator>(
         table: &Table<'_, A>,
         fulfilment: &Fulfilment<'_, A>,
@@ -167,7 +167,7 @@ impl Dependencies {
         }
     }
 
-    /// Whether the lists of two demands have nothing to do with each other, as far as this test tells.
+    /// Whether two lists are independent. The test is sufficient, not necessary: `false` says nothing.
     pub(crate) fn is_independent(&self, other: &Dependencies) -> bool
         ensures { result ≡ independence.is_independent self.now.support self.now.fulfilling other.now.support other.now.fulfilling }
     {

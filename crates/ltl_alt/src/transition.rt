@@ -1,4 +1,4 @@
-//! Transitions of sets of rows.
+//! Transitions of the generalized automaton.
 
 ghost use Rattle.std.specs.Prelude.{◌≡◌, ◌+◌, length};
 ghost use Rattle.std.specs.Ordering.{is_ne};
@@ -13,7 +13,7 @@ use std::cmp::Ordering;
 use std::hash::{Hash, Hasher};
 use std::marker::Model;
 
-/// A transition: its literals, its target, and the places of the until rows that it does not put off.
+/// A transition: its literals, its target, which is a set of rows, and its marks: the numbers, among the until rows, of those that it doesn't postpone.
 pub(crate) struct Transition {
     pub(crate) cube: Cube,
     pub(crate) targets: RowSet,
@@ -34,14 +34,14 @@ impl Model for Transition {
 }
 
 impl Transition {
-    /// Its target.
+    /// The set of rows to which it leads.
     pub(crate) fn target(&self) -> RowSet
         ensures { result ≡ self.now.targets }
     {
         self.targets
     }
 
-    /// Both at once, unless their literals contradict each other.
+    /// The union of both transitions' literals and targets, with the marks that both have, or `None` if their literals contradict each other.
     pub(crate) fn at_once(&self, other: &Transition) -> Option<Transition>
         ensures { result ≡ join_transitions self.now other.now }
     {
@@ -53,7 +53,7 @@ impl Transition {
         })
     }
 
-    /// Whether this transition asks for no more than the other, and is in each acceptance set that the other is in.
+    /// Whether this transition's literals and targets are among the other's, and the other's marks among its own.
     fn implies(&self, other: &Transition) -> bool
         ensures { result ≡ implies self.now other.now }
     {
@@ -62,7 +62,7 @@ impl Transition {
             && other.marks.is_subset(&self.marks)
     }
 
-    /// By the literals, then by the targets, each compared as a sorted list.
+    /// Compares by the literals, then by the targets, each as a sorted list.
     #[inline(always)]
     pub(crate) fn cmp_list(&self, other: &Transition) -> Ordering
         ensures { result ≡ transition_cmp self.now other.now }
@@ -73,7 +73,7 @@ impl Transition {
         }
     }
 
-    /// How many literals and rows it asks for.
+    /// The number of its literals and targets.
     #[inline(always)]
     pub(crate) fn weight(&self) -> usize
         ensures { result ≡ length self.now.cube + length self.now.targets }
@@ -81,7 +81,7 @@ impl Transition {
         self.cube.iter().count() + self.targets.iter().count()
     }
 
-    /// Whether the two differ in their literals or in their target.
+    /// Whether the two differ in their literals or in their targets.
     fn differs(&self, other: &Transition) -> bool
         ensures { result ≡ is_ne (transition_cmp self.now other.now) }
     {
@@ -120,7 +120,7 @@ impl Below for Transition {
     ghost transitive = { implies_transitive };
 }
 
-/// Another transition counts.
+/// Of the transitions below an item, only those that differ from it count.
 pub(crate) struct Differing;
 
 impl Counting<Transition> for Differing {

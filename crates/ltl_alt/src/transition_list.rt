@@ -1,4 +1,4 @@
-//! Lists of transitions.
+//! Lists of transitions, as keys of an interner.
 
 ghost use Rattle.std.specs.Prelude.{◌≡◌};
 
@@ -7,7 +7,7 @@ use std::alloc::Allocator;
 use std::hash::{Hash, Hasher};
 use std::marker::Model;
 
-/// Transitions in their order.
+/// A list of transitions.
 #[derive(Drop)]
 pub(crate) struct TransitionList<'a, A: Allocator> {
     pub(crate) transitions: Vec<Transition, &'a A>,

@@ -1,11 +1,11 @@
-//! From a formula's table to its Büchi automaton, or to the generalized one as it is printed.
+//! Translation of a formula's table into its Büchi automaton, or into the generalized one as it is printed.
 //!
-//! In the field's words: the translation of linear temporal logic to Büchi automata by way of a very weak alternating automaton and a generalized
-//! Büchi automaton, each simplified (`translate`); and the same without degeneralization (`generalized`).
+//! In the field's words: the translation of linear temporal logic to Büchi automata by way of a very weak alternating automaton and a generalized Büchi
+//! automaton, each simplified (`translate`); and the same without degeneralization (`generalized`).
 //!
-//! What flows: a `Table`, by `ltl_alt` a `Gba`, merged; its copies on levels, merged again and numbered, by `ltl_passes`: a `Ba`. A `Gen` is a merged
-//! `Gba` in the numbers in which it is printed. Each automaton is let go as soon as the next one stands. The types are those of `ltl_models`; they and
-//! the single passes are handed out here too.
+//! `ltl_alt` makes a `Gba` of a `Table`. The passes of `ltl_passes` merge it, degeneralize it, merge the result and renumber it: that is a `Ba`. A `Gen` is
+//! the merged `Gba`, renumbered. Each automaton is dropped as soon as the next one is made. This crate exports the types of `ltl_models` and the single
+//! passes as well.
 //!
 //! ```
 //! let formula = ltl_formula::read(&alloc, b"[]<>p")?;
@@ -15,7 +15,7 @@
 //! let small = generalized(&alloc, &table, &options)?;         // one state; the edge with `p` is in set 0
 //! ```
 //!
-//! Both accept exactly the words on which `p` comes again and again, which their contracts say for every formula.
+//! Both automata accept exactly the words on which `p` holds infinitely often. Their contracts say so for every formula.
 #![tactic(auto)]
 
 pub mod translation;

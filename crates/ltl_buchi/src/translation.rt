@@ -1,5 +1,5 @@
-//! The translation of a formula: its generalized automaton is merged, its levels are merged again, and what is left is numbered. Without
-//! levels it stays generalized.
+//! The translation of a formula: its generalized automaton is merged, degeneralized, merged again and renumbered. The generalized translation leaves out
+//! degeneralization and the second quotient.
 
 ghost use Rattle.std.specs.Prelude.{◌≡◌, Bool, true, false, IfOk, IsErrOf};
 ghost use Rattle.ltl_spec.specs.Formulas.Formula.{Formula};
@@ -18,8 +18,8 @@ use ltl_models::{Ba, BaFault, Gba, Gen, Options};
 use ltl_passes::{level_states, merge, merged_states, renumber_generalized, renumbered_states};
 use std::alloc::Allocator;
 
-/// The Büchi automaton of a table's formula: the words that it accepts are those that satisfy the formula, whatever the options. Each
-/// automaton on the way is let go as soon as the next one stands.
+/// The Büchi automaton of a table's formula. It accepts exactly the words that satisfy the formula, whatever the options. Each intermediate automaton is
+/// dropped as soon as the next one is made.
 pub fn translate<'a, A: Allocator>(
     alloc: &'a A,
     table: &Table<'_, A>,
@@ -27,16 +27,16 @@ pub fn translate<'a, A: Allocator>(
 ) -> Result<Ba<'a, A>, BaFault>
     ensures definition { IfOk result (IsTranslation (core_of table.now) options.now) }
 
-    // It accepts exactly the ultimately periodic words on which the table's normal form holds. So that of a formula accepts exactly the
-    // words that satisfy it, and that of the negation exactly those that violate it, rewritten or not.
+    // It accepts exactly the ultimately periodic words on which the table's normal form holds. If the table is made of a formula, these are the words that
+    // satisfy it; if it is made of the formula's negation, those that violate it. Rewriting doesn't change that.
     ensures language { IfOk result (λ b. HasLanguageOf b (core_of table.now)) }
     ensures models { IfOk result (λ b. (F : Formula) (rewrite : Bool) → core_of table.now ≡ core F false rewrite → AcceptsModels b F) }
     ensures violations { IfOk result (λ b. (F : Formula) (rewrite : Bool) → core_of table.now ≡ core F true rewrite → AcceptsViolations b F) }
 
-    // Its literals are of the propositions that the formula has.
+    // Its literals use only propositions of the formula.
     ensures named { IfOk result (HasNamesOf (core_of table.now)) }
 
-    // The fault comes exactly where a limit is passed. Memory may be refused at any time.
+    // The result is `TooLarge` only if a limit is exceeded, and is never `Ok` then. Memory may run out at any time.
     ensures fits { IfOk result (λ _. ¬ (IsTranslationTooLarge (core_of table.now) options.now stated_limits.states stated_limits.edges)) }
     ensures large { IsErrOf result BaFault.TooLarge → IsTranslationTooLarge (core_of table.now) options.now stated_limits.states stated_limits.edges }
 {
@@ -51,8 +51,8 @@ pub fn translate<'a, A: Allocator>(
     Ok(Ba::new(alloc, numbered)?)
 }
 
-/// The generalized Büchi automaton of a table's formula, merged and numbered: the words that it accepts are those that satisfy the formula,
-/// whatever the options. Each automaton on the way is let go as soon as the next one stands.
+/// The generalized Büchi automaton of a table's formula, merged and renumbered. It accepts exactly the words that satisfy the formula, whatever the options.
+/// Each intermediate automaton is dropped as soon as the next one is made.
 pub fn generalized<'a, A: Allocator>(
     alloc: &'a A,
     table: &Table<'_, A>,
@@ -60,16 +60,17 @@ pub fn generalized<'a, A: Allocator>(
 ) -> Result<Gen<'a, A>, BaFault>
     ensures definition { IfOk result (IsGeneralizedTranslation (core_of table.now) options.now) }
 
-    // It accepts exactly the ultimately periodic words on which the table's normal form holds. So that of a formula accepts exactly the
-    // words that satisfy it, and that of the negation exactly those that violate it, rewritten or not.
+    // It accepts exactly the ultimately periodic words on which the table's normal form holds. If the table is made of a formula, these are the words that
+    // satisfy it; if it is made of the formula's negation, those that violate it. Rewriting doesn't change that.
     ensures language { IfOk result (λ g. HasLanguageOf g (core_of table.now)) }
     ensures models { IfOk result (λ g. (F : Formula) (rewrite : Bool) → core_of table.now ≡ core F false rewrite → AcceptsModels g F) }
     ensures violations { IfOk result (λ g. (F : Formula) (rewrite : Bool) → core_of table.now ≡ core F true rewrite → AcceptsViolations g F) }
 
-    // Its literals are of the propositions that the formula has.
+    // Its literals use only propositions of the formula.
     ensures named { IfOk result (HasNamesOf (core_of table.now)) }
 
-    // The fault comes exactly where a limit is passed before merging; levels play no part. Memory may be refused at any time.
+    // The result is `TooLarge` only if a limit is exceeded before merging, and is never `Ok` then. Degeneralization plays no part. Memory may run out at any
+    // time.
     ensures fits { IfOk result (λ _. ¬ (IsTooLarge (core_of table.now) options.now.keep_implied stated_limits.states stated_limits.edges)) }
     ensures large { IsErrOf result BaFault.TooLarge → IsTooLarge (core_of table.now) options.now.keep_implied stated_limits.states stated_limits.edges }
 {

@@ -1,4 +1,4 @@
--- The automaton of a formula in the arrays of the caller.
+-- The rows of a formula's automaton in the caller's arrays.
 use Rattle.std.specs.Prelude.{◌≡◌, ◌⊎◌, ℕ, ◌+◌, ◌≤◌, Bool, false, List, [], ◌∷◌, ◌++◌, length, map, take, drop, find, Option, Some, None, Result, Ok, Err}
 use Rattle.std.specs.List.{flat_map}
 use Rattle.std.specs.Option.{option_map_or}
@@ -36,11 +36,11 @@ edge_row e = record { asked_true = words_with (letter_of e.cube); asked_false = 
 abbrev pub edge_rows : List State → List EdgeRow
 edge_rows ss = flat_map (λ s. map edge_row s.edges) ss
 
--- a state whose first edge has this number
+-- the row of a state whose first edge has this number
 abbrev pub state_row : ℕ → State → StateRow
 state_row at s = record { first_edge = at; accepting = s.accepting }
 
--- the states, of which the first one's first edge has this number
+-- the rows of states; the first edge of the first one has this number
 abbrev pub state_rows_from : ℕ → List State → List StateRow
 state_rows_from at [] = []
 state_rows_from at (s ∷ ss) = state_row at s ∷ state_rows_from (at + length s.edges) ss
@@ -48,7 +48,7 @@ state_rows_from at (s ∷ ss) = state_row at s ∷ state_rows_from (at + length 
 abbrev pub state_rows : List State → List StateRow
 state_rows ss = state_rows_from 0 ss
 
--- whether this is the name, as an item of a text
+-- whether the token is this name
 abbrev pub is_word : Name → Token → Bool
 is_word name (NameWord n) = same_name n name
 is_word name _ = false
@@ -56,7 +56,7 @@ is_word name _ = false
 abbrev pub is_named : Name → Item → Bool
 is_named name i = is_word name i.token
 
--- the item that the name first is among the items of a text
+-- the row of a name: its first occurrence among the items of a text
 abbrev pub name_row : List Item → Name → NameRow
 name_row is name = record { offset = option_map_or (λ i. i.start) (find (is_named name) is) 0; count = length name }
 
@@ -65,7 +65,7 @@ name_rows text names = map (name_row (items text)) names
 
 -- ---- arrays
 
--- what three arrays hold
+-- the contents of the three arrays
 pub record Arrays : Type 0 where
   pub states : List StateRow
   pub edges : List EdgeRow
@@ -78,40 +78,40 @@ arrays states edges names = record { states = states; edges = edges; names = nam
 abbrev pub rows_of : List ℕ → Reading → Automaton → Arrays
 rows_of text R B = arrays (state_rows B.states) (edge_rows B.states) (name_rows text R.names)
 
--- these at the beginning, and behind them what stood there
+-- the rows at the beginning, then the old contents
 abbrev pub put_over : {A : Type 0} → List A → List A → List A
 put_over rows old = rows ++ drop (length rows) old
 
--- these from a place on
+-- the rows from an index on
 abbrev pub put_at : {A : Type 0} → ℕ → List A → List A → List A
 put_at at rows old = put_over (take at old ++ rows) old
 
 abbrev pub over : Arrays → Arrays → Arrays
 over rows old = arrays (put_over rows.states old.states) (put_over rows.edges old.edges) (put_over rows.names old.names)
 
--- there is room for so many rows
+-- the arrays have room for these numbers of rows
 abbrev pub Fit : Counts → Arrays → Type 0
 Fit counts old = (counts.states ≤ length old.states) × (counts.edges ≤ length old.edges) × (counts.names ≤ length old.names)
 
--- all rows, of which there are so many, go to the beginnings of the arrays; or some array is too short, and all stay as they were
+-- all rows are written to the beginnings of the arrays; or an array is too short, and all arrays are unchanged
 abbrev pub DeliversRows : Counts → Arrays → Arrays → Arrays → ℕ → Type 0
 DeliversRows counts rows old new status = ((status ≡ 0) × Fit counts old × (new ≡ over rows old)) ⊎ ((status ≡ too_short) × ¬ (Fit counts old) × (new ≡ old))
 
--- so many rows and acceptance sets
+-- the counts for these rows and this number of acceptance sets
 abbrev pub counted : Arrays → ℕ → RefusalCode → Counts
 counted rows sets code = record { states = length rows.states; edges = length rows.edges; names = length rows.names; sets = sets; refusal = code }
 
 abbrev pub no_rows : RefusalCode → Counts
 no_rows code = counted (arrays [] [] []) 0 code
 
--- ---- the automaton that is asked for
+-- ---- the automaton of the options
 
--- the automaton in the code
+-- the automaton that the code has
 abbrev pub automaton_in : {A : Type 0} → Shown A → Automaton
 automaton_in (shown.Buchi B) = B
 automaton_in (shown.Generalized G) = G
 
--- the automaton whose text has this layout
+-- the automaton that this layout prints
 abbrev pub MakesShown : Layout → Reading → Bool → Options → Result Automaton Refusal → Type 0
 MakesShown Claim R rewrite o = MakesAutomaton R false rewrite o
 MakesShown Hoa R rewrite o = MakesAutomaton R false rewrite o
@@ -125,7 +125,7 @@ pub record Found : Type 0 where
 abbrev pub found : Reading → Automaton → Found
 found R B = record { reading = R; automaton = B }
 
--- what is found for a plan of the translator, and usage where there is none
+-- the formula and the automaton for a plan of the translator; a usage error if there is no plan
 abbrev pub FindsPlanned : List ℕ → Option TranslatorPlan → Result Found Refusal → Type 0
 FindsPlanned text None r = r ≡ Err Usage
 FindsPlanned text (Some p) r =
@@ -134,7 +134,7 @@ FindsPlanned text (Some p) r =
 abbrev pub MakesAsked : List ℕ → TextOptions → Result Found Refusal → Type 0
 MakesAsked text o = FindsPlanned text (translator_asked text o)
 
--- ---- what a call hands over
+-- ---- what a call returns
 
 -- There is an automaton. It accepts exactly the models of the formula; the program prints its text for these options, in their layout
 pub record GivesAutomaton (text : List ℕ) (o : TextOptions) (counts : Counts) (old new : Arrays) (status : ℕ) : Type 0 where
@@ -149,7 +149,7 @@ pub record GivesAutomaton (text : List ℕ) (o : TextOptions) (counts : Counts) 
   pub counted : counts ≡ counted (rows_of text reading automaton) automaton.sets counts.refusal
   pub delivered : DeliversRows counts (rows_of text reading automaton) old new status
 
--- There is none, as the program says. The arrays stay as they were
+-- There is no automaton, as the program reports. The arrays are unchanged
 pub record RefusesAutomaton (text : List ℕ) (o : TextOptions) (counts : Counts) (old new : Arrays) (status : ℕ) : Type 0 where
   pub reason : Refusal
   pub shown : MayEnd Translator (translator_asked text o) NotOpened status [] (told Translator counts.refusal)

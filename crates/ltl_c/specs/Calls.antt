@@ -1,4 +1,4 @@
--- What a call from C hands over: what a run of a program shows for the same texts.
+-- What a call from C may return: what a run of the program may show for the same texts.
 use Rattle.std.specs.Prelude.{◌≡◌, ◌⊎◌, ◌<◌, ◌++◌, ℕ, not, List, [], ◌∷◌, length, drop, slice_get, slice_index_or, Option, Some, None, Result, Err, codes, option_map}
 use Rattle.std.specs.Option.{option_map_or}
 use Rattle.ltl_spec.specs.Automata.ClaimText.{line}
@@ -13,7 +13,7 @@ use Rattle.ltl_c.specs.declared.refusal_code.RefusalCode.{RefusalCode}
 use Rattle.ltl_c.specs.declared.text_options.TextOptions.{TextOptions}
 use Rattle.ltl_c.specs.Codes.{refusal_in}
 
--- ---- what the programs would be asked
+-- ---- the plans of the programs
 
 -- the layouts by number
 abbrev pub layout_numbered : ℕ → Option Layout
@@ -27,7 +27,7 @@ plan_with text o layout = record {
   layout = layout;
 }
 
--- the text of a formula's automaton is asked for by these options, or nothing is, where the layout has no such number
+-- the plan of the translator for these options; none if no layout has this number
 abbrev pub translator_asked : List ℕ → TextOptions → Option TranslatorPlan
 translator_asked text o = option_map (plan_with text o) (layout_numbered o.layout)
 
@@ -38,13 +38,13 @@ evaluator_asked text word = record { formula = Given text; word = word }
 abbrev pub checker_asked : List ℕ → CheckerPlan
 checker_asked text = record { formula = Given text; automaton = None }
 
--- ---- what a call hands over
+-- ---- what a call returns
 
--- the line that the program prints for the refusal of this code, and nothing where there is none
+-- the line that the program prints for the refusal with this code; empty if there is no refusal
 abbrev pub told : Tool → RefusalCode → List ℕ
 told tool code = option_map_or (message stated_limits tool) (refusal_in code) []
 
--- a run that ended with this status, of which no write failed
+-- a run that ended with this status, and in which no write failed
 abbrev pub run_with : ℕ → List ℕ → List ℕ → Seen
 run_with status output message = record { output = output; output_stage = stage_behind status; message = message; message_stage = Open; status = status }
 
@@ -56,20 +56,20 @@ MayEnd tool plan file status output message = MayShow stated_limits stated_form 
 abbrev pub too_short : ℕ
 too_short = 6
 
--- The text of a run with that status goes to the buffer's beginning, and the call has the run's status; or the buffer is too short for it, and stays
--- as it was. The count is the text's length in both cases
+-- The text is at the beginning of the buffer, and the call returns the run's status; or the buffer is too short for it, and is unchanged. The count is the
+-- length of the text in both cases
 abbrev pub Delivers : ℕ → List ℕ → List ℕ → List ℕ → ℕ → ℕ → Type 0
 Delivers ended text old new count status = (count ≡ length text) × ((status ≡ ended) × (new ≡ text ++ drop (length text) old)
     ⊎ (status ≡ too_short) × (length old < length text) × (new ≡ old))
 
--- A call with a buffer: the program may end so, with this text in what it prints, and the text is delivered
+-- A call with a buffer: the program may end with this status and this text in its output, and the text is delivered
 pub record HandsOver (tool : Tool) (plan : Option (PlanOf tool)) (file : Input) (printed : ℕ → List ℕ → List ℕ) (code : RefusalCode) (old new : List ℕ) (count status : ℕ) : Type 0 where
   pub text : List ℕ
   pub ended : ℕ
   pub shown : MayEnd tool plan file ended (printed ended text) (told tool code)
   pub delivered : Delivers ended text old new count status
 
--- ---- what the programs print, by their status and the text
+-- ---- the outputs of the programs, by status and text
 
 abbrev pub text_alone : ℕ → List ℕ → List ℕ
 text_alone status text = text
@@ -82,7 +82,7 @@ verdict_lines status text = slice_index_or (line (codes "contained") ∷ (line (
 
 -- ---- on the way there
 
--- the text of the automaton that is asked for, and usage where none is
+-- the text for a plan of the translator; a usage error if there is no plan
 abbrev pub PrintsAsked : Option TranslatorPlan → Result (List ℕ) Refusal → Type 0
 PrintsAsked None r = r ≡ Err Usage
 PrintsAsked (Some p) r = TranslatorPrints stated_limits p NotOpened r

@@ -1,4 +1,4 @@
--- The numbers by which C knows refusals.
+-- The encoding of refusals as numbers for C.
 use Rattle.std.specs.Prelude.{ℕ, List, [], ◌∷◌, Option, Some, None, option_map, slice_get, slice_index_or}
 use Rattle.ltl_spec.specs.Formulas.Fault.{FaultKind, UnexpectedByte, ExpectedOperand, ExpectedOperatorOrEnd, ExpectedCloseOrOperator}
 use Rattle.ltl_spec.specs.Hoa.HoaFaultKind.{HoaFaultKind, NotHoaVersion1, BadToken, ItemTwice, ItemMissing, UnknownItem, Unsupported, NumberOutOfRange, BadPropositionList, StateDefinedTwice, TextAfterEnd, LimitPassed}
@@ -21,7 +21,7 @@ refusals fault place = None ∷ Some Usage ∷ Some OutOfMemory ∷ Some LongFor
     ∷ Some TooManyPropositions ∷ Some TooManyRows ∷ Some TooManyElementaryRows ∷ Some LargeAutomaton ∷ Some LongWord ∷ Some (BadWord place)
     ∷ option_map (BadAutomaton place) (slice_get automaton_faults fault) ∷ Some LargeProduct ∷ Some CannotOpen ∷ Some CannotRead ∷ Some CannotWrite ∷ []
 
--- the refusal that a code stands for, where it stands for one
+-- the refusal with this code, if there is one
 abbrev pub refusal_in : RefusalCode → Option Refusal
 refusal_in c = slice_index_or (refusals c.fault c.place) c.kind None
 
@@ -29,7 +29,7 @@ refusal_in c = slice_index_or (refusals c.fault c.place) c.kind None
 abbrev pub tool_numbered : ℕ → Option Tool
 tool_numbered n = slice_get (Translator ∷ Checker ∷ Evaluator ∷ []) n
 
--- the line that the program of this number prints for the refusal of a code, and nothing where there is no such program or no refusal
+-- the line that the program with this number prints for a refusal; empty if there is no program or no refusal
 abbrev pub line_with : Option Tool → Option Refusal → List ℕ
 line_with (Some tool) (Some refusal) = message stated_limits tool refusal
 line_with _ _ = []

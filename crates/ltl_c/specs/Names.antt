@@ -1,4 +1,4 @@
--- The names of a formula's propositions, as they are handed out.
+-- The names of a formula's propositions, as a call returns them.
 use Rattle.std.specs.Prelude.{◌≡◌, ◌⊎◌, ℕ, List, [], ◌∷◌, ◌++◌, Option, Some, None, Result, Ok, Err}
 use Rattle.std.specs.List.{flat_map}
 use Rattle.ltl_spec.specs.Formulas.Formula.{Reading}
@@ -11,22 +11,22 @@ use Rattle.ltl_c.specs.declared.refusal_code.RefusalCode.{RefusalCode}
 use Rattle.ltl_c.specs.Calls.{Delivers}
 use Rattle.ltl_c.specs.Codes.{refusal_in}
 
--- each with a zero byte behind it
+-- the names, each followed by a zero byte
 abbrev pub names_text : List Name → List ℕ
 names_text names = flat_map (λ n. n ++ 0 ∷ []) names
 
--- of the formula of a text
+-- the names of the formula of a text
 abbrev pub NamesOf : List ℕ → Result (List ℕ) Refusal → Type 0
 NamesOf text = Then (InputReads stated_limits (Text text)) (λ R r. r ≡ Ok (names_text R.names))
 
--- the text has no formula
+-- the text is refused
 pub record RefusesNames (text : List ℕ) (code : RefusalCode) (old new : List ℕ) (count status : ℕ) : Type 0 where
   pub reason : Refusal
   pub right : (reason ≡ OutOfMemory) ⊎ NamesOf text (Err reason)
   pub told : refusal_in code ≡ Some reason
   pub delivered : Delivers (status_of reason) [] old new count status
 
--- it has one, whose names are delivered
+-- the text has a formula, whose names are delivered
 pub record GivesNames (text : List ℕ) (code : RefusalCode) (old new : List ℕ) (count status : ℕ) : Type 0 where
   pub names : List ℕ
   pub right : NamesOf text (Ok names)

@@ -1,4 +1,4 @@
--- What the checker finds for two texts in memory, and how it is handed out.
+-- The checker's verdict on two texts in memory, and how a call returns it.
 use Rattle.std.specs.Prelude.{◌≡◌, ℕ, Bool, true, false, List, [], Result, Ok}
 use Rattle.ltl_spec.specs.Checking.Check.{Verdict, Contained, Violated}
 use Rattle.ltl_spec.specs.Hoa.HoaReading.{stated_form}
@@ -17,12 +17,12 @@ abbrev pub is_contained : Verdict → Bool
 is_contained Contained = true
 is_contained (Violated w) = false
 
--- the text of the violating word, and none where there is no such word
+-- the text of the violating word; empty if there is none
 abbrev pub word_text : Verdict → List ℕ
 word_text Contained = []
 word_text (Violated w) = lasso_text w
 
--- a verdict as it is handed out
+-- the verdict that the caller gets
 pub record Saying : Type 0 where
   pub contained : Bool
   pub text : List ℕ

@@ -1,4 +1,4 @@
-//! States and edges into the caller's arrays.
+//! Writing of states and edges into the caller's arrays.
 
 ghost use Rattle.std.specs.Prelude.{◌≡◌, ◌+◌, ◌≤◌, length, map};
 ghost use Rattle.ltl_automaton.specs.EdgeView.{edge_of};
@@ -10,7 +10,7 @@ use crate::shown::Shown;
 use ltl_automaton::Edge;
 use std::alloc::Allocator;
 
-/// How many edges there are.
+/// The number of edges of an automaton.
 pub(crate) fn edge_count<A: Allocator>(automaton: &Shown<'_, A>) -> usize
     ensures { result ≡ length (edge_rows (automaton_in automaton.now).states) }
 {
@@ -22,6 +22,7 @@ pub(crate) fn edge_count<A: Allocator>(automaton: &Shown<'_, A>) -> usize
     count
 }
 
+/// The row of an edge.
 fn edge_row(edge: &Edge) -> EdgeRow
     ensures { result ≡ edge_row (edge_of edge.now) }
 {
@@ -33,7 +34,7 @@ fn edge_row(edge: &Edge) -> EdgeRow
     }
 }
 
-/// Puts the rows of edges from a place on, and answers the place behind them.
+/// Writes the rows of edges from index `at` on, and returns the index after the last one.
 #[tactic(auto, using(crate::proofs::ArrayLaws::none_over))]
 fn put_edges(list: &[Edge], rows: &mut [EdgeRow], at: usize) -> usize
     requires { at + length list.now ≤ length rows.old }
@@ -46,7 +47,7 @@ fn put_edges(list: &[Edge], rows: &mut [EdgeRow], at: usize) -> usize
     at + list.len()
 }
 
-/// Puts the rows of all states and of their edges.
+/// Writes the rows of all states, and those of all edges, state by state.
 pub(crate) fn put_states<A: Allocator>(
     automaton: &Shown<'_, A>,
     states: &mut [StateRow],

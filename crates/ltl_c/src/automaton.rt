@@ -1,4 +1,4 @@
-//! The automaton of a formula in arrays.
+//! The C call `ltl2ba_automaton`: a formula's automaton in the caller's arrays.
 
 ghost use Rattle.std.specs.Prelude.{◌≡◌, ℕ, List, None, Some};
 ghost use Rattle.std.specs.Bool.{Decides};
@@ -27,7 +27,7 @@ struct Made<'a, A: Allocator> {
     automaton: Shown<'a, A>,
 }
 
-/// The automaton that is asked for, of the formula of a text.
+/// Reads the formula and makes the automaton that the options name.
 #[tactic(auto, using(crate::proofs::FoundLaws::nothing_asked, crate::proofs::FoundLaws::formula_not_found, crate::proofs::FoundLaws::automaton_not_found))]
 fn made_of<'a, A: Allocator>(
     alloc: &'a A,
@@ -48,7 +48,7 @@ fn made_of<'a, A: Allocator>(
     Ok(Made { formula, automaton })
 }
 
-/// How many rows there are.
+/// The number of rows of each kind.
 fn counts_of<A: Allocator>(made: &Made<'_, A>) -> Counts
     ensures counts { (text : List ℕ) → let B = automaton_in made.now.automaton in
         result ≡ counted (rows_of text (reading_of made.now.formula) B) B.sets result.refusal }
@@ -63,14 +63,14 @@ fn counts_of<A: Allocator>(made: &Made<'_, A>) -> Counts
     }
 }
 
-/// Whether there is room for so many rows.
+/// Whether the arrays have room for so many rows.
 fn fits(counts: &Counts, states: &[StateRow], edges: &[EdgeRow], names: &[NameRow]) -> bool
     ensures { Decides result (Fit counts.now (arrays states.now edges.now names.now)) }
 {
     counts.states <= states.len() && counts.edges <= edges.len() && counts.names <= names.len()
 }
 
-/// The counts of a refusal.
+/// The counts for a refusal: all 0, and its code.
 fn refused(reason: Refusal) -> Counts
     ensures counts { result ≡ no_rows result.refusal }
     ensures told { refusal_in result.refusal ≡ Some (refusal_of reason) }
@@ -84,9 +84,9 @@ fn refused(reason: Refusal) -> Counts
     }
 }
 
-/// Puts the automaton of a formula into the arrays, and where the names of its propositions stand in the formula's text. It is the automaton of which
-/// `ltl2ba_text` puts the text for these options: its states and their edges have the same numbers. The answer is the exit status of `ltl2ba`, or 6
-/// where an array is too short. The counts say how many rows there are in both cases; with a refusal they are 0 and have its code.
+/// Writes the automaton of a formula into the arrays, and for each of its propositions the place of its name in the formula's text. It is the automaton whose
+/// text `ltl2ba_text` gives for these options; its states and edges have the same numbers. The result is the exit status of `ltl2ba`, or 6 if an array is too
+/// short; then no array is changed. In both cases `counts` has the number of rows of each kind. For a refusal the numbers are 0, and `counts` has its code.
 #[unsafe(no_mangle)]
 pub extern "C" fn ltl2ba_automaton(
     alloc: Global,

@@ -1,4 +1,4 @@
-//! Whether each word that an automaton accepts satisfies a formula.
+//! The C call `ltlcheck_verdict`: whether all words of an automaton satisfy a formula.
 
 ghost use Rattle.std.specs.Prelude.{◌≡◌, ◌↔◌, ◌<◌, IsTrue, length, Some, MatchResult};
 ghost use Rattle.ltl_spec.specs.Checking.Bounds.{HasNamesBelow};
@@ -23,24 +23,24 @@ use ltl_hoa::{Marked, hoa_read_from};
 use ltl_syntax::Formula;
 use std::alloc::{Allocator, Global};
 
-/// What was found: in C `struct ltlcheck_found`.
+/// The verdict: in C `struct ltlcheck_found`.
 #[derive(Clone, Copy, Debug)]
 #[repr(C)]
 pub struct Found {
-    /// The length of the violating word's text, 0 where there is none.
+    /// The length in bytes of the violating word's text, or 0 if there is none.
     pub count: usize,
-    /// Whether each word satisfies the formula.
+    /// Whether each word that the automaton accepts satisfies the formula. It is false for a refusal.
     pub contained: bool,
 }
 
-/// A verdict as it is handed out: the text of the violating word, where there is one.
+/// The verdict that the caller gets: whether the formula holds, and the text of a violating word, which is empty if it does.
 #[derive(Drop)]
 struct Saying<'a, A: Allocator> {
     contained: bool,
     text: Vec<u8, &'a A>,
 }
 
-/// The automaton of a text.
+/// Reads an automaton.
 #[tactic(auto, using(crate::proofs::StepLaws::automaton_reads))]
 fn read_automaton<'a, A: Allocator>(alloc: &'a A, text: &[u8]) -> Result<Marked<'a, A>, Refusal>
     ensures { TakesStep (ReadsAutomaton (spec.Ended text.now)) (λ A. A) result }
@@ -50,7 +50,7 @@ fn read_automaton<'a, A: Allocator>(alloc: &'a A, text: &[u8]) -> Result<Marked<
     Ok(automaton)
 }
 
-/// Whether a word that the automaton accepts violates the formula.
+/// Searches for a word that the automaton and that of the formula's violations both accept.
 fn judged<'a, A: Allocator>(
     alloc: &'a A,
     automaton: &Marked<'a, A>,
@@ -65,7 +65,7 @@ fn judged<'a, A: Allocator>(
     Ok(verdict)
 }
 
-/// The verdict on the formula of a text and on the automaton of another. The automaton is read behind the translation of the formula's negation.
+/// The verdict for a formula's text and an automaton's text. The automaton is read after the formula's negation has been translated, as in `ltlcheck`.
 fn verdict_on<'a, A: Allocator>(
     alloc: &'a A,
     formula: &[u8],
@@ -83,7 +83,7 @@ fn verdict_on<'a, A: Allocator>(
     judged(alloc, &automaton, &violations, &formula)
 }
 
-/// The text of the violating word, and none where there is no such word.
+/// The text of the violating word, which is empty if there is none.
 fn word_of<'a, A: Allocator>(
     alloc: &'a A,
     outcome: &Outcome<'_, A>,
@@ -110,14 +110,14 @@ fn has_none<A: Allocator>(outcome: &Outcome<'_, A>) -> bool
     }
 }
 
-/// The exit status of the program.
+/// The exit status of `ltlcheck` for this verdict.
 fn status_for(contained: bool) -> u8
     ensures { result ≡ verdict_status contained }
 {
     if contained { 0 } else { 1 }
 }
 
-/// The verdict as it is handed out.
+/// The verdict that the caller gets for these texts.
 fn answer_to<'a, A: Allocator>(
     alloc: &'a A,
     formula: &[u8],
@@ -131,9 +131,9 @@ fn answer_to<'a, A: Allocator>(
     Ok(Saying { contained, text })
 }
 
-/// Tells whether each word that the automaton accepts satisfies the formula, and puts the text of a word that doesn't into the buffer. The answer is the
-/// exit status of `ltlcheck`: 0 where each does, 1 where one doesn't, or 6 where the buffer is too short for that word, and else that of a refusal,
-/// whose code is handed out.
+/// Tells whether each word that the automaton accepts satisfies the formula, and writes the text of a violating word into the buffer if there is one. The
+/// result is the exit status of `ltlcheck`: 0 if each word satisfies the formula, 1 if one doesn't. It is 6 if the buffer is too short for that word's text.
+/// For a refusal it is the refusal's status, and `refusal` has its code.
 #[unsafe(no_mangle)]
 pub extern "C" fn ltlcheck_verdict(
     alloc: Global,

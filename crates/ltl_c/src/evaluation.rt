@@ -1,4 +1,4 @@
-//! Whether a formula holds on a word.
+//! The C call `ltleval_holds`: whether a formula holds on a word.
 
 ghost use Rattle.std.specs.Prelude.{◌≡◌, ◌↔◌, IsTrue, Some};
 ghost use Rattle.ltl_spec.specs.Tools.Limits.{stated_limits};
@@ -14,7 +14,7 @@ use ltl_cli::Refusal;
 use ltl_word::{Lasso, holds};
 use std::alloc::{Allocator, Global};
 
-/// Whether the formula of a text holds at the beginning of the word of another.
+/// Reads the formula and the word, and tells whether the formula holds at the word's first position.
 fn evaluated<A: Allocator>(alloc: &A, formula: &[u8], word: &[u8]) -> Result<bool, Refusal>
     ensures { TakesStep (EvaluatorFinds stated_limits (evaluator_asked formula.now word.now) spec.NotOpened) (λ b. b) result }
 {
@@ -24,8 +24,8 @@ fn evaluated<A: Allocator>(alloc: &A, formula: &[u8], word: &[u8]) -> Result<boo
     Ok(truth)
 }
 
-/// Tells whether a formula holds at the beginning of a word. The answer is the exit status of `ltleval`: 0 where it holds, 1 where it doesn't, and else
-/// that of a refusal, whose code is handed out.
+/// Tells whether a formula holds at the first position of a word. The result is the exit status of `ltleval`: 0 if it holds, 1 if it doesn't. For a refusal
+/// it is the refusal's status, `truth` is false, and `refusal` has its code.
 #[unsafe(no_mangle)]
 pub extern "C" fn ltleval_holds(
     alloc: Global,

@@ -1,11 +1,12 @@
-//! The translator, the checker and the evaluator as a library for C: a static library, whose header is `include/ltl2ba.h`.
+//! The translator, the checker and the evaluator as a static library for C. Its header is `include/ltl2ba.h`.
 //!
-//! Each export is one run of a program, over texts in memory: what it answers is what that program may show for these texts, by the same definitions.
-//! Nothing is kept between calls, nothing is printed, and memory that was taken is given back before a call ends.
+//! `ltl2ba_text`, `ltlcheck_verdict` and `ltleval_holds` each do what one run of a program does, over texts in memory: the result is one that the program may
+//! show for these texts. `ltl2ba_automaton` gives the automaton that `ltl2ba_text` prints, in arrays. `ltl2ba_names` gives the names of its propositions, and
+//! `ltl2ba_message` the line that a program prints for a refusal. No call keeps anything, prints anything, or holds memory after it returns.
 //!
-//! What flows: texts, to a `Formula`, an automaton or a word (`steps`), and to what is asked of them: a text (`text`), names (`names`),
-//! a truth (`evaluation`) or a verdict (`checking`); a text that is answered goes to the caller's buffer (`buffer`). A `Refusal` goes out as numbers that
-//! C sees (`refusal_code`), and from these to the line that the program prints (`message`).
+//! The calls are in `text`, `checking`, `evaluation`, `automaton`, `names` and `message`. They share the reading and translation of formulas (`steps`). A
+//! text is copied to the caller's buffer (`buffer`), an automaton to the caller's arrays (`arrays`, `places`). A `Refusal` is returned as numbers
+//! (`refusal_code`).
 #![tactic(auto)]
 
 mod arrays;

@@ -1,12 +1,13 @@
-//! A line of text with no memory.
+//! A line of text of bounded length, without allocation.
 
 ghost use Rattle.std.specs.Prelude.{◌≡◌, ◌+◌, ◌≤◌, [], ◌++◌, length};
 
 use std::marker::Model;
 
+/// Room for the longest message of a program, in bytes.
 const SIZE: usize = 128;
 
-/// The bytes of a line so far, seen as the list of them.
+/// The bytes of a line so far, at most `SIZE`. Its model is the list of these bytes.
 #[derive(Drop)]
 pub struct Line {
     bytes: [u8; SIZE],
@@ -24,7 +25,7 @@ impl Model for Line {
 }
 
 impl Line {
-    /// There is no byte yet.
+    /// An empty line.
     pub fn new() -> Line
         ensures { result ≡ [] }
     {
@@ -34,7 +35,7 @@ impl Line {
         }
     }
 
-    /// Puts bytes behind those that are there.
+    /// Appends bytes. There is room for them.
     pub fn put(&mut self, bytes: &[u8])
         requires { length bytes.now + length self.old ≤ 128 }
         ensures { self.new ≡ self.old ++ bytes.now }
@@ -44,7 +45,7 @@ impl Line {
         self.len = end;
     }
 
-    /// The bytes.
+    /// The bytes of the line.
     pub fn as_slice(&self) -> &[u8]
         ensures { result.now ≡ self.now }
     {

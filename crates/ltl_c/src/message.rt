@@ -1,4 +1,4 @@
-//! The lines for refusals.
+//! The C call `ltl2ba_message`: the line that a program prints for a refusal.
 
 ghost use Rattle.std.specs.Prelude.{◌≡◌, ◌+◌, ◌≤◌, ◌++◌, codes, length, option_map};
 ghost use Rattle.ltl_spec.specs.Hoa.HoaFaultKind.{hoa_fault_text};
@@ -20,7 +20,7 @@ use ltl_syntax::FaultKind;
 use ltl_text::Digits;
 use ltl_words::Tool;
 
-/// What a line for the tool begins with.
+/// The beginning of each line of the tool.
 fn name(tool: Tool) -> &'static [u8]
     ensures name { result.now ≡ spec.tool_name (tool_of tool) ++ codes ": " }
     ensures short { length result.now ≤ 10 }
@@ -32,7 +32,7 @@ fn name(tool: Tool) -> &'static [u8]
     }
 }
 
-/// The tool's usage.
+/// The tool's line of usage.
 fn usage(tool: Tool) -> &'static [u8]
     ensures usage { result.now ≡ codes "usage: " ++ spec.usage_text (tool_of tool) }
     ensures short { length result.now ≤ 64 }
@@ -44,7 +44,7 @@ fn usage(tool: Tool) -> &'static [u8]
     }
 }
 
-/// What stands behind the place of a fault in a formula.
+/// The text after the offset of a syntax error in a formula.
 fn part(kind: FaultKind) -> &'static [u8]
     ensures part { result.now ≡ codes ": " ++ spec.fault_text (kind_of kind) }
     ensures short { length result.now ≤ 30 }
@@ -57,7 +57,7 @@ fn part(kind: FaultKind) -> &'static [u8]
     }
 }
 
-/// What stands behind the line of a fault in an automaton.
+/// The text after the line number of an error in an automaton.
 fn automaton_part(kind: HoaFaultKind) -> &'static [u8]
     ensures part { result.now ≡ codes ": " ++ hoa_fault_text (hoa.kind_of kind) }
     ensures short { length result.now ≤ 30 }
@@ -77,7 +77,7 @@ fn automaton_part(kind: HoaFaultKind) -> &'static [u8]
     }
 }
 
-/// The text of a refusal up to its number, and all of it where it has none.
+/// The text of a refusal up to its number, or all of it if it has no number.
 fn front(tool: Tool, refusal: Refusal) -> &'static [u8]
     ensures front { result.now ≡ front_text (tool_of tool) (refusal_of refusal) }
     ensures short { length result.now ≤ 64 }
@@ -101,7 +101,7 @@ fn front(tool: Tool, refusal: Refusal) -> &'static [u8]
     }
 }
 
-/// The number in the text of a refusal.
+/// The number in the text of a refusal: a byte offset from 0, or a line from 1.
 fn number(refusal: Refusal) -> Option<usize>
     ensures { result ≡ number_in (refusal_of refusal) }
 {
@@ -113,7 +113,7 @@ fn number(refusal: Refusal) -> Option<usize>
     }
 }
 
-/// What stands behind the number.
+/// The text after the number.
 fn back(refusal: Refusal) -> &'static [u8]
     ensures back { result.now ≡ back_text (refusal_of refusal) }
     ensures short { length result.now ≤ 30 }
@@ -126,7 +126,7 @@ fn back(refusal: Refusal) -> &'static [u8]
     }
 }
 
-/// Puts a number, where there is one.
+/// Appends a number, if there is one.
 fn put_number(number: Option<usize>, line: &mut Line)
     requires { length line.old ≤ 100 }
     ensures put { line.new ≡ line.old ++ number_text number }
@@ -137,7 +137,7 @@ fn put_number(number: Option<usize>, line: &mut Line)
     }
 }
 
-/// The whole line for a refusal.
+/// The whole line for a refusal, with a line feed.
 fn line_of(tool: Tool, refusal: Refusal) -> Line
     ensures { result ≡ line_for tool refusal }
 {
@@ -150,7 +150,7 @@ fn line_of(tool: Tool, refusal: Refusal) -> Line
     line
 }
 
-/// The tool of this number.
+/// The tool with this number.
 fn tool_at(number: u32) -> Option<Tool>
     ensures { option_map tool_of result ≡ tool_numbered number }
 {
@@ -162,9 +162,9 @@ fn tool_at(number: u32) -> Option<Tool>
     }
 }
 
-/// Puts the line that the program of this number prints for a refusal into the buffer: 0 is `ltl2ba`, 1 `ltlcheck`, 2 `ltleval`. Where there is no such
-/// program, or the code stands for no refusal, the text is empty. The answer is 0, or 6 where the buffer is too short; the count is the line's length. No
-/// memory is taken.
+/// Writes the line that a program prints for a refusal into the buffer. The program is 0 for `ltl2ba`, 1 for `ltlcheck`, 2 for `ltleval`. The text is empty
+/// if there is no such program or if the code is that of no refusal. The result is 0, or 6 if the buffer is too short; `count` is the length of the line in
+/// bytes. It allocates nothing.
 #[unsafe(no_mangle)]
 pub extern "C" fn ltl2ba_message(
     program: u32,

@@ -1,4 +1,4 @@
-//! The names of a formula's propositions.
+//! The C call `ltl2ba_names`: the names of a formula's propositions.
 
 ghost use Rattle.std.specs.Prelude.{◌≡◌, IfOk};
 ghost use Rattle.ltl_cli.specs.Refusals.{TakesStep};
@@ -11,7 +11,7 @@ use ltl_cli::Refusal;
 use ltl_syntax::Formula;
 use std::alloc::{AllocError, Allocator, Global};
 
-/// The names, each with a zero byte behind it.
+/// The names in the order of their numbers, each followed by a zero byte.
 fn listed<'a, A: Allocator>(
     alloc: &'a A,
     formula: &Formula<'_, A>,
@@ -26,7 +26,7 @@ fn listed<'a, A: Allocator>(
     Ok(text)
 }
 
-/// The names in the formula of a text.
+/// Reads a formula, and lists the names of its propositions.
 fn names_of<'a, A: Allocator>(alloc: &'a A, text: &[u8]) -> Result<Vec<u8, &'a A>, Refusal>
     ensures { TakesStep (NamesOf text.now) (λ v. v.items) result }
 {
@@ -35,8 +35,9 @@ fn names_of<'a, A: Allocator>(alloc: &'a A, text: &[u8]) -> Result<Vec<u8, &'a A
     Ok(names)
 }
 
-/// Puts the names of a formula's propositions into the buffer, by their numbers, each with a zero byte behind it. The answer is 0, or 6 where the buffer is
-/// too short, or the exit status of `ltl2ba` for a refusal, whose code is handed out; the count is the length of all names with their zero bytes.
+/// Writes the names of a formula's propositions into the buffer, in the order of their numbers, each followed by a zero byte. The result is 0, or 6 if the
+/// buffer is too short; `count` is the length in bytes of all names with their zero bytes. For a refusal the result is the exit status of `ltl2ba`, `count`
+/// is 0, and `refusal` has the code.
 #[unsafe(no_mangle)]
 pub extern "C" fn ltl2ba_names(
     alloc: Global,

@@ -1,4 +1,4 @@
-//! Where the names of propositions stand in the formula's text.
+//! The first occurrence of each proposition's name in the formula's text.
 
 ghost use Rattle.std.specs.Prelude.{◌≡◌, ◌≤◌, length};
 ghost use Rattle.ltl_spec.specs.Formulas.Grammar.{IsTextOf};
@@ -23,7 +23,7 @@ fn is_name(text: &[u8], token: Token, name: &str) -> bool
     }
 }
 
-/// Puts the row of each name. The text is gone over once: names are numbered as they first stand in it, so the next one that is new is the next name.
+/// Writes the row of each name in one pass over the text. The pass looks for one name at a time: names are numbered in the order of their first occurrences.
 #[tactic(auto, using(crate::proofs::PlaceLaws::none_found, crate::proofs::PlaceLaws::all_found))]
 pub(crate) fn put_names<A: Allocator>(text: &[u8], formula: &Formula<'_, A>, names: &mut [NameRow])
     requires text { IsTextOf text.now (reading_of formula.now) }

@@ -1,4 +1,4 @@
-//! Why a call was refused, as numbers that C sees.
+//! The encoding of refusals as numbers for C.
 
 ghost use Rattle.std.specs.Prelude.{◌≡◌, Some, None, option_map, slice_get};
 ghost use Rattle.ltl_syntax.specs.ParserView.{kind_of};
@@ -14,15 +14,15 @@ use ltl_syntax::FaultKind;
 #[derive(Clone, Copy, Debug)]
 #[repr(C)]
 pub struct RefusalCode {
-    /// Which refusal it is, and 0 for none.
+    /// The number of the refusal, or 0 for none.
     pub kind: u32,
-    /// Which fault the text has, where it is refused for one.
+    /// The number of the error in a formula or an automaton; 0 for other refusals.
     pub fault: u32,
-    /// The byte of the fault in a formula or a word, its line in an automaton.
+    /// The offset of the error in a formula or a word, in bytes from 0; or its line in an automaton, from 1. It is 0 for other refusals.
     pub place: usize,
 }
 
-/// The number of a fault in a formula.
+/// The number of a syntax error in a formula.
 fn formula_fault(kind: FaultKind) -> u32
     ensures { slice_get formula_faults result ≡ Some (kind_of kind) }
 {
@@ -34,7 +34,7 @@ fn formula_fault(kind: FaultKind) -> u32
     }
 }
 
-/// The number of a fault in an automaton.
+/// The number of an error in an automaton.
 fn automaton_fault(kind: HoaFaultKind) -> u32
     ensures { slice_get automaton_faults result ≡ Some (hoa.kind_of kind) }
 {
@@ -53,7 +53,7 @@ fn automaton_fault(kind: HoaFaultKind) -> u32
     }
 }
 
-/// The code of this number, with no fault and no place.
+/// The code with this number, without an error and a place.
 fn plain(kind: u32) -> RefusalCode
     ensures { result ≡ record { kind = kind; fault = 0; place = 0 } }
 {
@@ -64,7 +64,7 @@ fn plain(kind: u32) -> RefusalCode
     }
 }
 
-/// The code of no refusal.
+/// The code for no refusal.
 pub(crate) fn no_refusal() -> RefusalCode
     ensures { refusal_in result ≡ None }
 {
@@ -106,7 +106,7 @@ pub(crate) fn code_of(refusal: Refusal) -> RefusalCode
     }
 }
 
-/// The fault of a formula with this number.
+/// The syntax error of a formula with this number.
 fn formula_fault_at(number: u32) -> Option<FaultKind>
     ensures { option_map kind_of result ≡ slice_get formula_faults number }
 {
@@ -119,7 +119,7 @@ fn formula_fault_at(number: u32) -> Option<FaultKind>
     }
 }
 
-/// The fault of an automaton with this number.
+/// The error of an automaton with this number.
 fn automaton_fault_at(number: u32) -> Option<HoaFaultKind>
     ensures { option_map hoa.kind_of result ≡ slice_get automaton_faults number }
 {
@@ -139,7 +139,7 @@ fn automaton_fault_at(number: u32) -> Option<HoaFaultKind>
     }
 }
 
-/// The refusal that a code stands for, where it stands for one.
+/// The refusal with this code, if there is one.
 pub(crate) fn refusal_at(code: &RefusalCode) -> Option<Refusal>
     ensures { option_map refusal_of result ≡ refusal_in code.now }
 {

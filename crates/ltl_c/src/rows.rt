@@ -1,4 +1,4 @@
-//! The rows of the arrays that the caller owns.
+//! The elements of the caller's arrays.
 
 use crate::refusal_code::RefusalCode;
 
@@ -6,13 +6,13 @@ use crate::refusal_code::RefusalCode;
 #[derive(Clone, Copy, Debug)]
 #[repr(C)]
 pub struct StateRow {
-    /// The number of its first edge. Its last one stands before the first edge of the next state.
+    /// The index of its first edge. Its edges end where those of the next state begin, or at the end of all edges.
     pub first_edge: usize,
     /// Whether it is accepting.
     pub accepting: bool,
 }
 
-/// An edge: in C `struct ltl2ba_edge`. Number i of a set is bit i % 64 of word i / 64.
+/// An edge: in C `struct ltl2ba_edge`. A set has the number i if bit i % 64 of word i / 64 is set.
 #[derive(Clone, Copy, Debug)]
 #[repr(C)]
 pub struct EdgeRow {
@@ -22,29 +22,29 @@ pub struct EdgeRow {
     pub asked_false: [u64; 4],
     /// The acceptance sets that the edge is in.
     pub sets: [u64; 4],
-    /// The number of the state to which it leads.
+    /// The index of the state to which it leads.
     pub target: usize,
 }
 
-/// Where a proposition's name first stands in the formula's text: in C `struct ltl2ba_name`.
+/// The first occurrence of a proposition's name in the formula's text: in C `struct ltl2ba_name`.
 #[derive(Clone, Copy, Debug)]
 #[repr(C)]
 pub struct NameRow {
-    /// The byte at which it begins.
+    /// The offset of its first byte, from 0.
     pub offset: usize,
-    /// How many bytes it has.
+    /// Its length in bytes.
     pub count: usize,
 }
 
-/// How many rows there are: in C `struct ltl2ba_counts`.
+/// The number of rows of each kind: in C `struct ltl2ba_counts`.
 #[derive(Clone, Copy, Debug)]
 #[repr(C)]
 pub struct Counts {
     pub states: usize,
     pub edges: usize,
     pub names: usize,
-    /// How many acceptance sets there are.
+    /// The number of acceptance sets. It is 0 for a Büchi automaton.
     pub sets: usize,
-    /// Why there is no automaton.
+    /// Why there is no automaton; the code of no refusal if there is one.
     pub refusal: RefusalCode,
 }

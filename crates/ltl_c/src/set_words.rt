@@ -1,11 +1,11 @@
-//! Sets of numbers as four words of 64 bits.
+//! Sets of numbers below 256 as bit vectors of four 64-bit words.
 
 ghost use Rattle.std.specs.Prelude.{◌≡◌, ℕ, ◌<◌, ◌||◌, nat_eq};
 ghost use Rattle.ltl_sets.specs.Words.{IsWords, bit_in, words_with};
 
 use ltl_sets::RowSet;
 
-/// Sets the bit of that number.
+/// Sets the bit of this number.
 #[inline(always)]
 fn set_bit(words: &mut [u64; 4], i: usize)
     requires { i < 256 }
@@ -15,7 +15,7 @@ fn set_bit(words: &mut [u64; 4], i: usize)
     words[i / 64] |= 1 << (i % 64);
 }
 
-/// The words whose ones are the members.
+/// The bit vector of a set.
 #[tactic(auto, using(crate::proofs::ArrayLaws::part_next))]
 pub(crate) fn words_of(set: &RowSet) -> [u64; 4]
     ensures { result ≡ words_with set.now }

@@ -1,4 +1,4 @@
-//! The automaton that is asked for, of either kind.
+//! An automaton in one of the layouts, state-based or transition-based.
 
 ghost use Rattle.std.specs.Prelude.{◌≡◌, ◌<◌, ◌≤◌, length, map, sum_by};
 ghost use Rattle.ltl_spec.specs.Automata.Automaton.{state_at};
@@ -17,14 +17,14 @@ use ltl_syntax::Formula;
 use ltl_words::Layout;
 use std::alloc::Allocator;
 
-/// An automaton whose accepting states count, or one whose acceptance sets do.
+/// A Büchi automaton with accepting states, or a generalized one with acceptance sets of edges.
 #[derive(Drop)]
 pub(crate) enum Shown<'a, A: Allocator> {
     Buchi(Ba<'a, A>),
     Generalized(Gen<'a, A>),
 }
 
-/// The automaton of which the text in this layout is.
+/// The automaton that this layout prints.
 pub(crate) fn shown_of<'a, A: Allocator>(
     alloc: &'a A,
     formula: &Formula<'_, A>,
@@ -47,7 +47,7 @@ pub(crate) fn shown_of<'a, A: Allocator>(
 }
 
 impl<A: Allocator> Shown<'_, A> {
-    /// How many states there are.
+    /// The number of states.
     pub(crate) fn len(&self) -> usize
         ensures { result ≡ length (automaton_in self.now).states }
     {
@@ -57,7 +57,7 @@ impl<A: Allocator> Shown<'_, A> {
         }
     }
 
-    /// How many acceptance sets there are.
+    /// The number of acceptance sets.
     pub(crate) fn sets(&self) -> usize
         ensures { result ≡ (automaton_in self.now).sets }
     {
@@ -67,7 +67,7 @@ impl<A: Allocator> Shown<'_, A> {
         }
     }
 
-    /// Whether a state is accepting.
+    /// Whether a state is accepting. All states of a generalized automaton are.
     pub(crate) fn accepting(&self, k: usize) -> bool
         requires { k < length (automaton_in self.now).states }
         ensures { result ≡ (state_at (automaton_in self.now) k).accepting }
@@ -92,7 +92,7 @@ impl<A: Allocator> Shown<'_, A> {
         }
     }
 
-    /// Hands to callers that the limit on edges isn't passed.
+    /// States for a caller's proof that the limit on edges isn't exceeded. It does nothing.
     pub(crate) fn invariant(&self)
         ensures { sum_by (λ s. length s.edges) (automaton_in self.now).states ≤ stated_limits.edges }
     {

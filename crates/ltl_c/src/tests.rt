@@ -1,4 +1,4 @@
-//! The exports, each once.
+//! Tests: each call from C at least once.
 
 use crate::automaton::ltl2ba_automaton;
 use crate::checking::{Found, ltlcheck_verdict};

@@ -1,4 +1,4 @@
-//! The text of a formula's automaton.
+//! The C call `ltl2ba_text`: the text of a formula's automaton.
 
 ghost use Rattle.std.specs.Prelude.{◌≡◌, length, List, ℕ, MatchResult};
 ghost use Rattle.ltl_spec.specs.Automata.ClaimText.{never_text};
@@ -71,7 +71,7 @@ fn generalized_hoa<'a, A: Allocator>(
     }
 }
 
-/// The text of a formula's automaton in the layout.
+/// The text of a formula's automaton in this layout.
 #[tactic(auto, using(crate::proofs::StepLaws::claim_refused, crate::proofs::StepLaws::hoa_refused, crate::proofs::StepLaws::sets_refused))]
 fn laid_out<'a, A: Allocator>(
     alloc: &'a A,
@@ -99,7 +99,7 @@ fn laid_out<'a, A: Allocator>(
     }
 }
 
-/// The text that is asked for.
+/// The text that `ltl2ba` prints for this formula and these options.
 #[tactic(auto, using(crate::proofs::StepLaws::nothing_printed, crate::proofs::StepLaws::prints))]
 fn printed<'a, A: Allocator>(
     alloc: &'a A,
@@ -119,8 +119,8 @@ fn printed<'a, A: Allocator>(
     laid_out(alloc, &formula, layout, !options.no_rewrite, &kept)
 }
 
-/// Puts the text of a formula's automaton into the buffer, as `ltl2ba` prints it for these options. The answer is its exit status, or 6 where the buffer
-/// is too short; the count is the length of the text in both cases, and 0 with a refusal, whose code is handed out.
+/// Writes the text of a formula's automaton into the buffer, as `ltl2ba` prints it for these options. The result is the exit status of `ltl2ba`, or 6 if the
+/// buffer is too short. In both cases `count` is the length of the text in bytes. For a refusal `count` is 0, and `refusal` has the code.
 #[unsafe(no_mangle)]
 pub extern "C" fn ltl2ba_text(
     alloc: Global,

@@ -1,11 +1,11 @@
-//! A text in memory as a source of bytes.
+//! A text in memory as a byte source.
 
 ghost use Rattle.std.specs.Prelude.{◌≡◌, ◌≢◌};
 ghost use Rattle.ltl_streams.specs.declared.stage.Stage.TheVariants.{Broken};
 
 use ltl_streams::{ByteSource, SourceFault, Stage};
 
-/// A text in memory, and how the calls on it went. No call on it fails but behind the end.
+/// The rest of a text in memory, and the stage of the stream. A read fails only after the end of the text was reported.
 #[derive(Drop)]
 pub struct TextSource<'t> {
     rest: &'t [u8],
@@ -14,7 +14,7 @@ pub struct TextSource<'t> {
 }
 
 impl<'t> TextSource<'t> {
-    /// There was no call yet.
+    /// A source that has not been read.
     pub fn new(text: &'t [u8]) -> TextSource<'t>
         ensures rest { result.rest.now ≡ text.now }
         ensures stage { result.stage ≡ Stage.Open }

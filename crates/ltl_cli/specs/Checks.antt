@@ -1,4 +1,4 @@
--- What the checker knows before it prints.
+-- The steps of the checker before it prints, as the definitions have them.
 use Rattle.std.specs.Prelude.{true, Result, Ok, MatchResult}
 use Rattle.ltl_spec.specs.Formulas.Formula.{Reading}
 use Rattle.ltl_spec.specs.NormalForms.NormalForm.{core}
@@ -22,11 +22,11 @@ use Rattle.ltl_cli.specs.Inputs.{IsFound, RefusesFor}
 abbrev pub ReadsAutomaton : Input → Result MarkedAutomaton spec.Refusal → Type 0
 ReadsAutomaton = AutomatonReads stated_limits stated_form
 
--- whether a word that the automaton accepts violates the formula, by the automaton of its violations
+-- the verdict on an automaton and a formula, by the automaton of the formula's violations
 abbrev pub JudgesFormula : MarkedAutomaton → Reading → Automaton → Result Verdict spec.Refusal → Type 0
 JudgesFormula A R B = Judges stated_limits A R.names B (IsViolation A R)
 
--- the answer for what was found
+-- the answer for a verdict
 abbrev pub answer_for : {A : Type 0} → Outcome A → Answer
 answer_for outcome = verdict_answer stated_limits (verdict_of outcome)
 

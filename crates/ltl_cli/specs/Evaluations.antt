@@ -1,4 +1,4 @@
--- What the evaluator knows before it prints.
+-- The steps of the evaluator before it prints, as the definitions have them.
 use Rattle.std.specs.Prelude.{Bool, List, ℕ, Result}
 use Rattle.ltl_spec.specs.Tools.Limits.{stated_limits}
 use Rattle.ltl_spec.specs.Tools.Refusal as spec

@@ -1,4 +1,4 @@
--- What a program may show for the words of its command line and for what stands behind the names in them.
+-- What a program may show for its command line, its files and its standard input: the promise of `run`.
 use Rattle.std.specs.Prelude.{List, ℕ, ◌≡◌, ◌⊎◌, Option, Some, None, Result, Ok, Err, ⊤}
 use Rattle.clap.specs.Words.{Text}
 use Rattle.ltl_spec.specs.Hoa.HoaReading.{stated_form}
@@ -22,36 +22,36 @@ abbrev pub map_ok : {A B E : Type 0} → (A → B) → Result A E → Result B E
 map_ok f (Ok a) = Ok (f a)
 map_ok f (Err e) = Err e
 
--- the name of the formula's file, where the words give one
+-- the name of the formula's file, if the command line has one
 abbrev pub file_named : FormulaWord → Option Text
 file_named (Given text) = None
 file_named (File name) = Some name
 
--- In the following, `Stands` says which inputs may stand behind a name, and `Comes` which may come from the standard input
+-- In the following, `Stands` says which inputs the file with a name may give, and `Comes` which inputs the standard input may give
 
--- the input stands behind the name, where there is one
+-- the file with this name may give the input, if there is a name
 abbrev pub IsBehind : (Text → Input → Type 0) → Option Text → Input → Type 0
 IsBehind Stands None input = ⊤
 IsBehind Stands (Some name) input = Stands name input
 
--- it stands behind the name, or comes from the standard input where there is none
+-- the file with this name may give the input; if there is no name, the standard input may
 abbrev pub IsBehindOrComes : (Text → Input → Type 0) → (Input → Type 0) → Option Text → Input → Type 0
 IsBehindOrComes Stands Comes None input = Comes input
 IsBehindOrComes Stands Comes (Some name) input = Stands name input
 
--- the inputs that the program looks at for what its words ask for: only the checker reads an automaton
+-- the inputs that the program reads for its request: only the checker reads an automaton
 abbrev pub AreBehind : (Text → Input → Type 0) → (Input → Type 0) → Tool → Option Request → Input → Input → Type 0
 AreBehind Stands Comes tool None input file = ⊤
 AreBehind Stands Comes Checker (Some r) input file = IsBehind Stands (file_named r.formula) input × IsBehindOrComes Stands Comes r.automaton file
 AreBehind Stands Comes tool (Some r) input file = IsBehind Stands (file_named r.formula) input
 
 module _ (Stands : Text → Input → Type 0) (Comes : Input → Type 0) (tool : Tool) where
-  -- what is asked for decides the right answers and what they tell, for some inputs that stand behind the names; or memory was refused
+  -- the request decides the right answers and their meaning, for some inputs that the named files may give; or memory ran out
   abbrev pub RequestMayShow : Option Request → Seen → Type 0
   RequestMayShow r seen = IsShortOfMemory stated_limits tool seen
       ⊎ ((input : Input) × (file : Input) × AreBehind Stands Comes tool r input file × MayShow stated_limits stated_form tool (plan_of tool r) input file seen)
 
-  -- What the words mean decides what is asked for. Words that can't be had are usage, but where memory was refused for them
+  -- The words decide the request. If they can't be had, that is a usage error, or lack of memory
   abbrev pub WordsMayShow : Result (List Text) PlanFault → Seen → Type 0
   WordsMayShow (Ok words) seen = RequestMayShow (request_of tool words) seen
   WordsMayShow (Err fault.Usage) seen = RequestMayShow None seen
@@ -59,7 +59,7 @@ module _ (Stands : Text → Input → Type 0) (Comes : Input → Type 0) (tool :
 
 -- ---- on the way there
 
--- the plan is that of the words, or there are none
+-- the plan is that of the command line, or there is no command line
 abbrev pub PlansFor : Tool → Result (List Text) PlanFault → Result Plan PlanFault → Type 0
 PlansFor tool (Ok words) plan = Plans tool words plan
 PlansFor tool (Err e) plan = plan ≡ Err e
@@ -72,7 +72,7 @@ request_planned (Err e) = None
 abbrev pub PlanMayShow : (Text → Input → Type 0) → (Input → Type 0) → Tool → Result Plan PlanFault → Seen → Type 0
 PlanMayShow Stands Comes tool plan seen = (input : Input) × (file : Input) × AreBehind Stands Comes tool (request_planned plan) input file × ToolRun tool plan input file seen
 
--- the names of the files, where the plan gives some
+-- the names of the files that the request has
 abbrev pub formula_file : Option Request → Option Text
 formula_file (Some r) = file_named r.formula
 formula_file None = None
@@ -81,7 +81,7 @@ abbrev pub automaton_file : Option Request → Option Text
 automaton_file (Some r) = r.automaton
 automaton_file None = None
 
--- the source is that of the file, and a text where there is none
+-- the source is that of the file, or `Text` if there is none
 abbrev pub IsSourceOf : {R : Type 0} → (R → SourceState) → (Text → Input → Type 0) → Option Text → Source R → Type 0
 IsSourceOf state Stands None s = s ≡ source.Text
 IsSourceOf state Stands (Some name) s = IsFileOf state (Stands name) s

@@ -1,4 +1,4 @@
--- The text of a refusal in three parts: up to its number, the number, and what stands behind it. All of it stands in the first where there is none.
+-- The text of a refusal in three parts: up to its number, the number, and the rest. If there is no number, the first part is all of it.
 use Rattle.std.specs.Prelude.{ℕ, List, [], ◌++◌, Option, Some, None, codes, decimal}
 use Rattle.ltl_spec.specs.Hoa.HoaFaultKind.{hoa_fault_text}
 use Rattle.ltl_spec.specs.Tools.Limits.{stated_limits}

@@ -1,4 +1,4 @@
--- The refusals of the code as those of the definitions.
+-- The refusals of the code as refusals of the definitions.
 use Rattle.std.specs.Prelude.{◌≡◌, Result, MatchResult, Ok, Err, ◌⊎◌}
 use Rattle.ltl_spec.specs.Tools.Refusal as spec
 use Rattle.ltl_syntax.specs.ParserView.{kind_of}

@@ -1,4 +1,4 @@
--- What a run of a program shows: the same words for all three.
+-- The possible outcomes of a run of a program: output, message and exit status.
 use Rattle.std.specs.Prelude.{◌≡◌, ◌⊎◌, ◌<◌, ℕ, List, [], length, Option, Result, Ok, Err, option_map}
 use Rattle.std.specs.Io.KnownBytes.{Appends}
 use Rattle.ltl_spec.specs.Hoa.HoaReading.{stated_form}
@@ -19,25 +19,25 @@ use Rattle.ltl_cli.specs.declared.source.Source.{Source}
 use Rattle.ltl_cli.specs.Inputs.{HoldsText, IsSourceAtFault}
 use Rattle.ltl_words.specs.Plans.{formula_word, planned}
 
--- the formula that a plan of a program is for
+-- the formula of a plan
 abbrev pub formula_asked : (tool : spec.Tool) → PlanOf tool → FormulaWord
 formula_asked spec.Translator p = p.formula
 formula_asked spec.Checker p = p.formula
 formula_asked spec.Evaluator p = p.formula
 
--- where a run is answered before any memory is taken
+-- the run ends before any allocation
 abbrev pub TakesNone : spec.Tool → Result Plan PlanFault → Input → Type 0
 TakesNone tool (Err fault.OutOfMemory) input = ⊥
 TakesNone tool plan input = TakesNoMemory stated_limits.formula_bytes (option_map (formula_asked tool) (planned tool plan)) input
 
--- A run of a program, for what its words gave and for its inputs, of which this was seen: it shows what it may show, memory is wanted only where
--- some is taken, and where it was refused for the words there is no other answer
+-- A run of a program for its plan and its inputs shows what it may show. Lack of memory is reported only if memory is allocated; if there was none for the
+-- command line, nothing else is reported
 pub record ToolRun (tool : spec.Tool) (plan : Result Plan PlanFault) (input file : Input) (seen : Seen) : Type 0 where
   pub shown : MayShow stated_limits stated_form tool (planned tool plan) input file seen
   pub memory : TakesNone tool plan input → ¬ (seen.status ≡ spec.status_of spec.OutOfMemory)
   pub short : plan ≡ Err fault.OutOfMemory → IsShortOfMemory stated_limits tool seen
 
--- a run with this status, and sinks of which one took the output and one the message
+-- a run with this status, whose output and message went to these sinks
 pub record Shows (Promise : Seen → Type 0) (output_old output_new message_old message_new : SinkState) (status : ℕ) : Type 0 where
   pub output : List ℕ
   pub message : List ℕ
@@ -45,7 +45,7 @@ pub record Shows (Promise : Seen → Type 0) (output_old output_new message_old 
   pub told : Appends message_old.bytes message_new.bytes message
   pub promised : Promise (record { output = output; output_stage = output_new.stage; message = message; message_stage = message_new.stage; status = status })
 
--- the same of writers, of which no one knows how the calls on them went, but for the bytes that they took
+-- the same for writers, whose bytes alone are known, not the outcomes of their calls
 pub record ShowsBytes (Promise : Seen → Type 0) (output_old output_new message_old message_new : Option (List ℕ)) (status : ℕ) : Type 0 where
   pub seen : Seen
   pub written : Appends output_old output_new seen.output
@@ -53,16 +53,16 @@ pub record ShowsBytes (Promise : Seen → Type 0) (output_old output_new message
   pub ended : seen.status ≡ status
   pub promised : Promise seen
 
--- the plan is for a formula's file
+-- the plan names a file for the formula
 abbrev pub NamesFile : Result Plan PlanFault → Type 0
 NamesFile (Ok p) = ¬ (HoldsText (formula_word p.formula))
 NamesFile (Err e) = ⊥
 
--- Where a status of 5 may come from: the last call on the output failed, or the formula's file is at fault
+-- The causes of a status of 5: the last call on the output failed, or the formula's file is at fault
 abbrev pub HasCause : {R : Type 0} → (R → SourceState) → Result Plan PlanFault → Source R → SinkState → Type 0
 HasCause state plan source output = (output.stage ≡ Broken) ⊎ NamesFile plan × IsSourceAtFault state source
 
--- the sink hands on to the writer that it handed on to before
+-- the sink still writes to the same writer
 abbrev pub StaysAt : SinkState → SinkState → Type 0
 StaysAt old new = new.through ≡ old.through
 
@@ -74,7 +74,7 @@ pub record Finishes (old new : SinkState) (bytes : List ℕ) : Type 0 where
   pub stage : old.stage ≡ Open → new.stage ≡ Closed
   pub grown : Appends old.bytes new.bytes bytes
 
--- all bytes were taken, or some before a call that failed; where there are none there was no call
+-- all bytes were written, or some before a call failed; if there are none, there was no call
 abbrev pub IsTold : SinkState → SinkState → List ℕ → Type 0
 IsTold old new bytes = Takes old new bytes ⊎ (0 < length bytes) × Breaks old new bytes
 
@@ -88,7 +88,7 @@ abbrev pub message_with : spec.Tool → Result Status Refusal → List ℕ
 message_with tool (Ok s) = []
 message_with tool (Err e) = spec.message stated_limits tool (refusal_of e)
 
--- The promise, the output before and behind, and the result: what went out makes such a run, whatever is told of the message of the result
+-- The output before and after the run makes such a run, whatever part of the message was written
 pub record IsOutcome (tool : spec.Tool) (plan : Result Plan PlanFault) (input file : Input) (old new : SinkState) (result : Result Status Refusal) : Type 0 where
   pub output : List ℕ
   pub written : Appends old.bytes new.bytes output

@@ -1,4 +1,4 @@
--- What the translator knows before it prints.
+-- The steps of the translator before it prints, as the definitions have them.
 use Rattle.std.specs.Prelude.{ℕ, Bool, false, List, Result}
 use Rattle.ltl_syntax.specs.FormulaView.{FormulaView, reading_of}
 use Rattle.ltl_spec.specs.Formulas.Formula.{Reading}

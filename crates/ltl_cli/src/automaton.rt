@@ -1,4 +1,4 @@
-//! From a formula to its automata.
+//! Translation of a formula into its automata, with refusals as errors.
 
 ghost use Rattle.std.specs.Prelude.{◌≡◌, List, ℕ, length, IfOk};
 ghost use Rattle.ltl_spec.specs.Formulas.Grammar.{IsTextOf};
@@ -13,7 +13,7 @@ use ltl_formula::Table;
 use ltl_syntax::Formula;
 use std::alloc::Allocator;
 
-/// The automaton of a formula or, with `negate`, of its negation, whose normal form is rewritten with `rewrite`.
+/// The Büchi automaton of a formula, or of its negation with `negate`. With `rewrite` the normal form is rewritten first.
 pub fn automaton_of<'a, A: Allocator>(
     alloc: &'a A,
     formula: &Formula<'_, A>,
@@ -23,7 +23,7 @@ pub fn automaton_of<'a, A: Allocator>(
 ) -> Result<Ba<'a, A>, Refusal>
     ensures step { TakesStep (MakesAutomaton (reading_of formula.now) negate rewrite options.now) (λ B. B) result }
 
-    // Each proposition in it has a name, as a formula that was read from a text has.
+    // Each proposition of its labels has a name in the formula, if that was read from a text.
     ensures named { IfOk result (λ B. (text : List ℕ) → IsTextOf text (reading_of formula.now) → HasNamesBelow (length formula.now.names) B) }
 {
     let table = Table::build(alloc, formula, negate, rewrite)?;
@@ -31,7 +31,7 @@ pub fn automaton_of<'a, A: Allocator>(
     Ok(automaton)
 }
 
-/// The generalized automaton of a formula, whose normal form is rewritten with `rewrite`.
+/// The generalized automaton of a formula. With `rewrite` the normal form is rewritten first.
 pub fn generalized_of<'a, A: Allocator>(
     alloc: &'a A,
     formula: &Formula<'_, A>,
@@ -40,7 +40,7 @@ pub fn generalized_of<'a, A: Allocator>(
 ) -> Result<Gen<'a, A>, Refusal>
     ensures step { TakesStep (MakesGeneralized (reading_of formula.now) rewrite options.now) (λ G. G) result }
 
-    // Each proposition in it has a name, as a formula that was read from a text has.
+    // Each proposition of its labels has a name in the formula, if that was read from a text.
     ensures named { IfOk result (λ G. (text : List ℕ) → IsTextOf text (reading_of formula.now) → HasNamesBelow (length formula.now.names) G) }
 {
     let table = Table::build(alloc, formula, false, rewrite)?;

@@ -1,4 +1,4 @@
-//! The checker: whether each word that an automaton accepts satisfies a formula.
+//! The checker: language containment of an automaton in a formula, by the product with the automaton of the formula's negation.
 
 ghost use Rattle.std.specs.Prelude.{◌≡◌, ◌⊎◌, ◌<◌, ◌++◌, length, codes, OnOk, OnErr, IfOk, Ok, Some};
 ghost use Rattle.ltl_spec.specs.Automata.ClaimText.{line};
@@ -39,7 +39,7 @@ struct Negation<'a, A: Allocator> {
     violations: Ba<'a, A>,
 }
 
-/// The formula that the plan asks for and the automaton of its negation, which is rewritten and translated with no option.
+/// The formula of the plan and the automaton of its negation. The negation's normal form is rewritten, and nothing is left unsimplified.
 fn negated<'a, A: Allocator, R: ByteSource>(
     alloc: &'a A,
     plan: &Plan<'_>,
@@ -62,7 +62,7 @@ fn negated<'a, A: Allocator, R: ByteSource>(
     })
 }
 
-/// The automaton that the source gives. A text is no source of an automaton and counts as a file that could not be opened.
+/// Reads an automaton from the source. `Source::Text` holds no automaton; it counts as a file that couldn't be opened.
 fn read_automaton<'a, A: Allocator, T: ByteSource>(
     alloc: &'a A,
     source: &mut Source<T>,
@@ -79,7 +79,7 @@ fn read_automaton<'a, A: Allocator, T: ByteSource>(
     }
 }
 
-/// Whether a word that the automaton accepts violates the formula.
+/// Searches for a word that the automaton accepts and that violates the formula.
 fn judged<'a, A: Allocator>(
     alloc: &'a A,
     automaton: &Marked<'a, A>,
@@ -93,7 +93,7 @@ fn judged<'a, A: Allocator>(
     Ok(verdict)
 }
 
-/// The verdict on the formula of a negation and on the automaton that the source gives.
+/// The verdict for this formula and the automaton of the source.
 fn found_by<'a, A: Allocator, T: ByteSource>(
     alloc: &'a A,
     negation: &Negation<'a, A>,
@@ -112,7 +112,7 @@ fn found_by<'a, A: Allocator, T: ByteSource>(
     verdict
 }
 
-/// The verdict on the formula that the plan asks for and on the automaton. The automaton's source is looked at behind the formula's automaton.
+/// The verdict for the formula of the plan and the automaton of its source, which is read after the formula's negation has been translated.
 fn found<'a, A: Allocator, R: ByteSource, T: ByteSource>(
     alloc: &'a A,
     plan: &Plan<'_>,
@@ -131,7 +131,7 @@ fn found<'a, A: Allocator, R: ByteSource, T: ByteSource>(
     verdict
 }
 
-/// Writes the lines for a word.
+/// Writes `violated` and a violating word, each in a line.
 fn put_word<A: Allocator, S: ByteSink>(
     word: &Lasso<'_, A>,
     output: &mut S,
@@ -146,7 +146,7 @@ fn put_word<A: Allocator, S: ByteSink>(
     buffer.send(output)
 }
 
-/// Writes what was found.
+/// Writes the verdict.
 fn put<A: Allocator, S: ByteSink>(
     outcome: &Outcome<'_, A>,
     output: &mut S,
@@ -160,7 +160,7 @@ fn put<A: Allocator, S: ByteSink>(
     }
 }
 
-/// Writes what was found, and flushes.
+/// Writes the verdict and flushes the output.
 fn print<A: Allocator, S: ByteSink>(
     outcome: &Outcome<'_, A>,
     output: &mut S,
@@ -172,7 +172,7 @@ fn print<A: Allocator, S: ByteSink>(
     output.flush()
 }
 
-/// How the program ends with that.
+/// The exit status for this verdict.
 fn status_of<A: Allocator>(outcome: &Outcome<'_, A>) -> Status
     ensures { status_number result ≡ (answer_for outcome.now).status }
 {
@@ -182,7 +182,7 @@ fn status_of<A: Allocator>(outcome: &Outcome<'_, A>) -> Status
     }
 }
 
-/// Prints what the plan asks for.
+/// Carries out a plan.
 fn printed<A: Allocator, R: ByteSource, T: ByteSource, S: ByteSink>(
     alloc: &A,
     plan: &Plan<'_>,
@@ -205,7 +205,7 @@ fn printed<A: Allocator, R: ByteSource, T: ByteSource, S: ByteSink>(
     Ok(status)
 }
 
-/// Prints what the plan asks for, where there is one.
+/// Carries out a plan, or refuses a command line that has none.
 fn answered<A: Allocator, R: ByteSource, T: ByteSource, S: ByteSink>(
     alloc: &A,
     plan: &Result<Plan<'_>, PlanFault>,
@@ -226,10 +226,10 @@ fn answered<A: Allocator, R: ByteSource, T: ByteSource, S: ByteSink>(
     }
 }
 
-/// Checks what the plan asks for: writes `contained`, or `violated` and a word that the automaton accepts and that violates the formula, and flushes, or
-/// writes the message of a refusal, and answers the exit status. The first source is that of the formula's file, and is looked at only where the plan
-/// names one; the second is the automaton's, and is looked at behind the formula and its automaton. Nothing is asked of the output before a refusal.
-/// After a call that failed the stream isn't asked again.
+/// Carries out a plan of `ltlcheck` and returns the exit status. It writes `contained`, or `violated` and a word that the automaton accepts and that violates
+/// the formula, and flushes the output; or it writes the message of a refusal. The first source is the formula's file, and is read only if the plan names
+/// one. The second source is the automaton, and is read after the formula's negation has been translated. Only a refusal because of a failed write leaves
+/// something in the output. A stream isn't used again after one of its calls has failed.
 pub fn check_over<A: Allocator, R: ByteSource, T: ByteSource, S: ByteSink, M: ByteSink>(
     alloc: &A,
     plan: &Result<Plan<'_>, PlanFault>,

@@ -1,4 +1,4 @@
-//! The evaluator: whether a formula holds at the beginning of a word.
+//! The evaluator: whether a formula holds at the first position of a word.
 
 ghost use Rattle.std.specs.Prelude.{◌≡◌, OnOk, OnErr, Ok, Some, option_map};
 ghost use Rattle.ltl_spec.specs.Tools.Limits.{stated_limits};
@@ -20,7 +20,7 @@ use ltl_word::{Lasso, holds};
 use ltl_words::{Plan, PlanFault, Status, Tool};
 use std::alloc::Allocator;
 
-/// Whether the formula that the plan asks for holds at the beginning of the word of this text.
+/// Reads the formula of the plan and the word of this text, and tells whether the formula holds at the word's first position.
 fn evaluated<A: Allocator, R: ByteSource>(
     alloc: &A,
     plan: &Plan<'_>,
@@ -36,14 +36,14 @@ fn evaluated<A: Allocator, R: ByteSource>(
     Ok(truth)
 }
 
-/// The line that says so.
+/// The line of output for a truth value.
 fn line(truth: bool) -> &'static [u8]
     ensures { result.now ≡ (truth_answer stated_limits truth).output }
 {
     if truth { b"true\n" } else { b"false\n" }
 }
 
-/// Writes the line, and flushes.
+/// Writes the line and flushes the output.
 fn print<S: ByteSink>(truth: bool, output: &mut S) -> Result<(), WriteFault>
     ensures ok { OnOk result (Finishes (S.state output.old) (S.state output.new) (truth_answer stated_limits truth).output) }
     ensures err { OnErr result (Breaks (S.state output.old) (S.state output.new) (truth_answer stated_limits truth).output) }
@@ -52,7 +52,7 @@ fn print<S: ByteSink>(truth: bool, output: &mut S) -> Result<(), WriteFault>
     output.flush()
 }
 
-/// Prints what the plan asks for, whose word has this text.
+/// Carries out a plan, whose word has this text.
 fn printed<A: Allocator, R: ByteSource, S: ByteSink>(
     alloc: &A,
     plan: &Plan<'_>,
@@ -74,7 +74,7 @@ fn printed<A: Allocator, R: ByteSource, S: ByteSink>(
     Ok(Status::Violated)
 }
 
-/// Prints what the plan asks for, where there is one, with a word.
+/// Carries out a plan, or refuses a command line that has none or no word.
 fn answered<A: Allocator, R: ByteSource, S: ByteSink>(
     alloc: &A,
     plan: &Result<Plan<'_>, PlanFault>,
@@ -95,9 +95,9 @@ fn answered<A: Allocator, R: ByteSource, S: ByteSink>(
     }
 }
 
-/// Evaluates what the plan asks for: writes `true` or `false` and a line's end, and flushes, or writes the message of a refusal, and answers the exit
-/// status, which is 0 for true and 1 for false. No table of rows and no automaton is built. The source is that of the formula's file, and is looked
-/// at only where the plan names one. Nothing is asked of the output before a refusal. After a call that failed the stream isn't asked again.
+/// Carries out a plan of `ltleval` and returns the exit status: 0 for true, 1 for false. It writes `true` or `false` in a line and flushes the output; or it
+/// writes the message of a refusal. It builds no table of rows and no automaton. The source is the formula's file, and is read only if the plan names one.
+/// Only a refusal because of a failed write leaves something in the output. A stream isn't used again after one of its calls has failed.
 pub fn evaluate_over<A: Allocator, R: ByteSource, S: ByteSink, M: ByteSink>(
     alloc: &A,
     plan: &Result<Plan<'_>, PlanFault>,

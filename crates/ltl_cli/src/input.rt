@@ -1,4 +1,4 @@
-//! Reading the inputs of a program.
+//! Reading of formulas, from the command line or from a file.
 
 ghost use Rattle.std.specs.Prelude.{◌≡◌, [], take, IfOk, IfSome, IsErrOf};
 ghost use Rattle.ltl_spec.specs.Tools.Stage.{Open};
@@ -13,12 +13,13 @@ use ltl_syntax::{Formula, TEXT_LIMIT, read};
 use ltl_words::FormulaWord;
 use std::alloc::{AllocError, AllocFailed, Allocator};
 
-/// How many bytes of a formula's file are taken at most: one more than its text may have.
+/// The most bytes of a formula's file that are read: one more than a formula's text may have.
 const MOST: usize = TEXT_LIMIT + 1;
 
+/// The most bytes that one read asks for.
 const CHUNK: usize = 4096;
 
-/// The bytes of a formula's file to their end, or `MOST` of them, and no read is made behind those.
+/// The bytes of a formula's file up to its end, but at most `MOST` of them. Nothing is read after `MOST` bytes.
 #[tactic(auto, using(crate::proofs::StreamLaws::given_open, crate::proofs::StreamLaws::went_wrong, crate::proofs::StreamLaws::went_so_far))]
 fn read_text<'a, A: Allocator, R: ByteSource>(
     alloc: &'a A,
@@ -45,7 +46,7 @@ fn read_text<'a, A: Allocator, R: ByteSource>(
     Ok(text)
 }
 
-/// The formula of a text.
+/// Reads a formula from a text.
 pub fn read_given<'a, A: Allocator>(alloc: &'a A, text: &[u8]) -> Result<Formula<'a, A>, Refusal>
     ensures { IsReadFrom (spec.Given text.now) spec.NotOpened result }
 {
@@ -53,7 +54,7 @@ pub fn read_given<'a, A: Allocator>(alloc: &'a A, text: &[u8]) -> Result<Formula
     Ok(formula)
 }
 
-/// The formula of a file.
+/// Reads a formula from a file.
 #[tactic(auto, using(crate::proofs::InputLaws::failed_few))]
 pub fn read_file<'a, A: Allocator, R: ByteSource>(
     alloc: &'a A,
@@ -68,8 +69,8 @@ pub fn read_file<'a, A: Allocator, R: ByteSource>(
     read_given(alloc, text.as_slice())
 }
 
-/// Reads the formula that the words ask for: their text, or what the source of the file gives. No read is made where the words hold the text, nor
-/// behind the first byte past `TEXT_LIMIT` of a file. A source that is a text where the words name a file counts as a file that could not be opened.
+/// Reads the formula of a command line: its text, or the contents of its file, which the source gives. The source isn't read if the command line has the
+/// text. Of a file at most `TEXT_LIMIT` + 1 bytes are read. If the command line names a file but the source is `Text`, the result is `CannotOpen`.
 pub fn formula_from<'a, A: Allocator, R: ByteSource>(
     alloc: &'a A,
     word: FormulaWord<'_>,

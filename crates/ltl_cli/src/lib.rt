@@ -1,20 +1,19 @@
-//! The programs, over streams of bytes.
+//! The programs `ltl2ba`, `ltlcheck` and `ltleval` over byte streams.
 //!
-//! `run` is a whole program, from the words of its command line to its exit status, over any files, output and message; its contract is the one that
-//! the three programs are for, and each `main` calls it. Its two halves are `plan` and then `translate_over`, `check_over` or `evaluate_over`, for who
-//! opens the files that the words name otherwise. `run_translate`, `run_check` and `run_eval` are the same over readers and writers of the standard
-//! library.
+//! `run` is a whole program, from the words of its command line to its exit status, over any files, output and message. Its contract is what the three
+//! programs promise; each `main` calls it. A caller that opens the files itself calls `plan`, and then `translate_over`, `check_over` or `evaluate_over`.
+//! `run_translate`, `run_check` and `run_eval` are the same three over readers and writers of the standard library.
 //!
-//! What flows: words, to a `Plan` (by `ltl_words`, which is handed out here); its files, to sources (`files`, `program`); the formula, from the plan
-//! or a `Source` (`input`); for the translator its automaton and the automaton's text, for the checker the
-//! automaton of its negation, the automaton that is read and the verdict, for the evaluator the word and its truth. Each step answers a value or a
-//! `Refusal`, and `?` keeps their order. At the end there is a `Status`, or the line that tells of the refusal (`message`), and the number of the exit
-//! status (`finish`). Nothing goes out before all of the steps were taken.
+//! `plan` (of `ltl_words`, exported here too) parses a command line into a `Plan`. The files that it names are opened as sources (`files`, `program`). The
+//! formula is read from the plan or from a `Source` (`input`). The translator makes its automaton and writes that. The checker translates its negation, reads
+//! an automaton and searches for a violating word. The evaluator reads a word and evaluates the formula on it. Each step returns a value or a `Refusal`; the
+//! first refusal ends the run. `finish` returns the number of the exit `Status`, after it has written the message of a refusal (`message`). Nothing is
+//! written to the output before all steps have succeeded.
 //!
 //! ```
 //! let words = ["ltleval", "-f", "[]<>p", "-w", "cycle {p}; {}"];    // no file is named, so none is opened
 //! run(alloc, Tool::Evaluator, Ok(&words), &files, &mut output, &mut message)
-//! // answers 0, and `output` took "true\n"
+//! // returns 0, and `output` has "true\n"
 //! ```
 #![tactic(auto)]
 

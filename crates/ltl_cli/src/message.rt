@@ -1,4 +1,4 @@
-//! The lines for refusals.
+//! The messages of refusals, one line each.
 
 ghost use Rattle.std.specs.Prelude.{◌≡◌, ◌++◌, List, ℕ, codes, OnOk, OnErr};
 ghost use Rattle.ltl_streams.specs.Streams.{Breaks, Takes};
@@ -18,7 +18,7 @@ use ltl_syntax::FaultKind;
 use ltl_text::Digits;
 use ltl_words::Tool;
 
-/// What a line for the tool begins with.
+/// The beginning of each message of the tool.
 fn name(tool: Tool) -> &'static [u8]
     ensures { result.now ≡ spec.tool_name (tool_of tool) ++ codes ": " }
 {
@@ -29,7 +29,7 @@ fn name(tool: Tool) -> &'static [u8]
     }
 }
 
-/// The tool's usage.
+/// The tool's line of usage.
 fn usage(tool: Tool) -> &'static [u8]
     ensures { result.now ≡ codes "usage: " ++ spec.usage_text (tool_of tool) }
 {
@@ -40,7 +40,7 @@ fn usage(tool: Tool) -> &'static [u8]
     }
 }
 
-/// What stands behind the place of a fault in a formula.
+/// The text after the offset of a syntax error in a formula.
 fn part(kind: FaultKind) -> &'static [u8]
     ensures { result.now ≡ codes ": " ++ spec.fault_text (kind_of kind) }
 {
@@ -52,7 +52,7 @@ fn part(kind: FaultKind) -> &'static [u8]
     }
 }
 
-/// What stands behind the line of a fault in an automaton.
+/// The text after the line number of an error in an automaton.
 fn automaton_part(kind: HoaFaultKind) -> &'static [u8]
     ensures { result.now ≡ codes ": " ++ hoa_fault_text (hoa.kind_of kind) }
 {
@@ -71,7 +71,7 @@ fn automaton_part(kind: HoaFaultKind) -> &'static [u8]
     }
 }
 
-/// The text of a refusal up to its number, and all of it where it has none.
+/// The text of a refusal up to its number, or all of it if it has no number.
 fn front(tool: Tool, refusal: Refusal) -> &'static [u8]
     ensures { result.now ≡ front_text (tool_of tool) (refusal_of refusal) }
 {
@@ -94,7 +94,7 @@ fn front(tool: Tool, refusal: Refusal) -> &'static [u8]
     }
 }
 
-/// The number in the text of a refusal.
+/// The number in the text of a refusal: a byte offset from 0, or a line from 1.
 fn number(refusal: Refusal) -> Option<usize>
     ensures { result ≡ number_in (refusal_of refusal) }
 {
@@ -106,7 +106,7 @@ fn number(refusal: Refusal) -> Option<usize>
     }
 }
 
-/// What stands behind the number.
+/// The text after the number.
 fn back(refusal: Refusal) -> &'static [u8]
     ensures { result.now ≡ back_text (refusal_of refusal) }
 {
@@ -118,7 +118,7 @@ fn back(refusal: Refusal) -> &'static [u8]
     }
 }
 
-/// Puts a number, where there is one.
+/// Writes a number, if there is one.
 fn put_number<M: ByteSink>(number: Option<usize>, message: &mut M) -> Result<(), WriteFault>
     ensures ok { OnOk result (Takes (M.state message.old) (M.state message.new) (number_text number)) }
     ensures err { OnErr result (Breaks (M.state message.old) (M.state message.new) (number_text number)) }
@@ -129,7 +129,7 @@ fn put_number<M: ByteSink>(number: Option<usize>, message: &mut M) -> Result<(),
     }
 }
 
-/// Puts three texts, of which the middle one is a number's, and may be none.
+/// Writes a text, a number if there is one, and another text.
 fn put_parts<M: ByteSink>(
     front: &[u8],
     number: Option<usize>,
@@ -144,7 +144,7 @@ fn put_parts<M: ByteSink>(
     write_whole(message, back)
 }
 
-/// Puts the text of a refusal.
+/// Writes the text of a refusal.
 fn put_text<M: ByteSink>(tool: Tool, refusal: Refusal, message: &mut M) -> Result<(), WriteFault>
     ensures ok { OnOk result (Takes (M.state message.old) (M.state message.new) (text_for tool refusal)) }
     ensures err { OnErr result (Breaks (M.state message.old) (M.state message.new) (text_for tool refusal)) }
@@ -157,7 +157,7 @@ fn put_text<M: ByteSink>(tool: Tool, refusal: Refusal, message: &mut M) -> Resul
     )
 }
 
-/// Puts the whole line.
+/// Writes the tool's name, the text of a refusal and a line feed.
 fn put_line<M: ByteSink>(tool: Tool, refusal: Refusal, message: &mut M) -> Result<(), WriteFault>
     ensures ok { OnOk result (Takes (M.state message.old) (M.state message.new) (line_for tool refusal)) }
     ensures err { OnErr result (Breaks (M.state message.old) (M.state message.new) (line_for tool refusal)) }
@@ -168,7 +168,7 @@ fn put_line<M: ByteSink>(tool: Tool, refusal: Refusal, message: &mut M) -> Resul
     write_whole(message, b"\n")
 }
 
-/// Writes the line for a refusal, or as much of it as is taken before a call fails. No memory is taken.
+/// Writes the message of a refusal, up to the first call that fails. It allocates nothing.
 pub fn write<M: ByteSink>(tool: Tool, refusal: Refusal, message: &mut M)
     ensures { IsTold (M.state message.old) (M.state message.new) (line_for tool refusal) }
 {

@@ -1,4 +1,4 @@
-//! The automaton that a plan asks for.
+//! The automaton of a plan, with the layout in which it is printed.
 
 ghost use Rattle.std.specs.Prelude.{List, ℕ, length, IfOk};
 ghost use Rattle.ltl_spec.specs.Checking.Bounds.{HasNamesBelow};
@@ -16,18 +16,18 @@ use ltl_syntax::Formula;
 use ltl_words::{Layout, Plan};
 use std::alloc::Allocator;
 
-/// An automaton in its layout.
+/// An automaton and its layout.
 #[derive(Drop)]
 pub enum Printable<'a, A: Allocator> {
-    /// A never claim of this.
+    /// Printed as a never claim.
     Claim(Ba<'a, A>),
-    /// The text of this in the Hanoi Omega-Automata format.
+    /// Printed in the Hanoi Omega-Automata format (HOA v1).
     Hoa(Ba<'a, A>),
-    /// The text of this in the Hanoi Omega-Automata format.
+    /// Printed in the Hanoi Omega-Automata format (HOA v1).
     Generalized(Gen<'a, A>),
 }
 
-/// The automaton that the plan asks for, of its formula.
+/// Translates a formula as the plan says.
 pub fn printable_of<'a, A: Allocator>(
     alloc: &'a A,
     formula: &Formula<'_, A>,

@@ -1,4 +1,4 @@
-//! A program from the words of its command line on.
+//! The programs: from the words of a command line to the exit status.
 
 ghost use Rattle.std.specs.Prelude.{◌≡◌, map, option_map};
 ghost use Rattle.ltl_spec.specs.Tools.Stage.{Open};
@@ -16,7 +16,7 @@ use ltl_streams::ByteSink;
 use ltl_words::{FormulaWord, Plan, PlanFault, Tool, plan};
 use std::alloc::Global;
 
-/// What the words ask for, or why there are no words.
+/// The plan of a command line, or why there is no command line.
 fn planned<'a>(
     alloc: Global,
     tool: Tool,
@@ -30,7 +30,7 @@ fn planned<'a>(
     }
 }
 
-/// The source of the formula: its file, where the plan names one.
+/// The source of the formula: its file, if the plan names one.
 fn formula_source<F: Files>(files: &F, plan: &Result<Plan<'_>, PlanFault>) -> Source<F::File>
     ensures { IsSourceOf F.File.state (F.Stands files.now) (formula_file (request_planned plan.now)) result }
 {
@@ -43,7 +43,7 @@ fn formula_source<F: Files>(files: &F, plan: &Result<Plan<'_>, PlanFault>) -> So
     }
 }
 
-/// The name of the automaton's file, where the plan names one.
+/// The name of the automaton's file, if the plan has one.
 fn automaton_name<'a>(plan: &Result<Plan<'a>, PlanFault>) -> Option<&'a str>
     ensures { option_map (λ s. s.now) result ≡ automaton_file (request_planned plan.now) }
 {
@@ -53,7 +53,7 @@ fn automaton_name<'a>(plan: &Result<Plan<'a>, PlanFault>) -> Option<&'a str>
     plan.automaton()
 }
 
-/// Checks the automaton of the file that the plan names, or else of the standard input.
+/// Checks the automaton in the file that the plan names, or else the one in the standard input.
 #[tactic(auto, using(crate::proofs::HeadlineLaws::source_open, crate::proofs::HeadlineLaws::file_open))]
 fn check_by_plan<F: Files, S: ByteSink, M: ByteSink>(
     alloc: Global,
@@ -82,7 +82,7 @@ fn check_by_plan<F: Files, S: ByteSink, M: ByteSink>(
     }
 }
 
-/// Does what was planned for the tool.
+/// Carries out a plan of the tool.
 #[tactic(auto, using(crate::proofs::HeadlineLaws::source_open))]
 fn run_plan<F: Files, S: ByteSink, M: ByteSink>(
     alloc: Global,
@@ -112,9 +112,9 @@ fn run_plan<F: Files, S: ByteSink, M: ByteSink>(
     }
 }
 
-/// Does what the words ask of the program, of which the first is its name and plays no part, and answers the exit status. Where there are no words,
-/// that is told as usage or as want of memory. The files that the words name are opened, and no other; the checker reads the automaton from the
-/// standard input where they name none. The output and the message are handed in before any call on them.
+/// Runs a program with the words of its command line and returns the exit status. The first word is the program's name and isn't looked at. If the words
+/// couldn't be obtained, that is reported as a usage error or as lack of memory. Only files that the words name are opened. The checker reads the automaton
+/// from the standard input if they name no file for it. `output` and `message` are fresh: no call has been made on them.
 pub fn run<'a, F: Files, S: ByteSink, M: ByteSink>(
     alloc: Global,
     tool: Tool,

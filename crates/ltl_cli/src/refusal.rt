@@ -1,4 +1,4 @@
-//! Why a program prints no result.
+//! Refusals: the errors of the programs.
 
 ghost use Rattle.std.specs.Prelude.{◌≡◌};
 ghost use Rattle.ltl_spec.specs.Tools.Refusal.{status_of};
@@ -16,11 +16,11 @@ use ltl_words::{PlanFault, Status};
 use std::alloc::AllocError;
 use thiserror::Error;
 
-/// Why a program prints no result. Each has one exit status, and one line in which a program tells it: its name, and then what stands here,
-/// but of usage the command line too.
+/// Why a program prints no result. Each refusal has one exit status and one message: the program's name and the text given here. The message of `Usage` goes
+/// on with the program's synopsis.
 #[derive(Clone, Copy, Debug, PartialEq, Eq, Error)]
 pub enum Refusal {
-    /// The words of the command line mean nothing.
+    /// The command line has no meaning.
     #[error("usage")]
     Usage,
     /// A file could not be opened.
@@ -32,43 +32,44 @@ pub enum Refusal {
     /// A write or a flush of the output failed.
     #[error("cannot write")]
     CannotWrite,
-    /// A growth was refused.
+    /// The allocator refused an allocation.
     #[error("out of memory")]
     OutOfMemory,
-    /// The formula's text is too long.
+    /// The formula's text is longer than 65,536 bytes.
     #[error("{}", ReadFault::TooLong)]
     LongFormula,
-    /// No formula's text goes on as this one does at the byte of that number.
+    /// Syntax error in the formula: the offset of the wrong token, in bytes from 0, and what is wrong. The text before the token begins some formula; with
+    /// the token it begins none.
     #[error("{}", ReadFault::AtByte(*.0, *.1))]
     BadFormula(usize, FaultKind),
-    /// The formula, or both inputs together, have too many propositions.
+    /// The formula, or the formula and the other input together, have more than 256 propositions.
     #[error("{}", ReadFault::TooManyPropositions)]
     TooManyPropositions,
-    /// The formula has too many rows.
+    /// The formula has more than 4,096 rows.
     #[error("{}", BuildFault::TooManyRows)]
     TooManyRows,
-    /// The formula has too many elementary rows.
+    /// The formula has more than 256 elementary rows.
     #[error("{}", BuildFault::TooManyElementaryRows)]
     TooManyElementaryRows,
-    /// The formula's automaton, or one on the way to it, is too large.
+    /// The formula's automaton, or one from which it is made, has more than 65,536 states or 1,048,576 edges.
     #[error("limit: automaton too large")]
     LargeAutomaton,
-    /// The word's text is too long.
+    /// The word's text is longer than 65,536 bytes.
     #[error("{}", WordFault::TooLong)]
     LongWord,
-    /// No word's text goes on as this one does at the byte of that number.
+    /// Syntax error in the word: the offset of the wrong byte, from 0. The text before the byte begins some word; with the byte it begins none.
     #[error("{}", WordFault::BadWord(*.0))]
     BadWord(usize),
-    /// The text is no automaton, for a fault in the line of that number.
+    /// The text isn't an automaton: the line of the error, from 1, and what is wrong there.
     #[error("{}", HoaFault::AtLine(*.0, *.1))]
     BadAutomaton(usize, HoaFaultKind),
-    /// The search for a word would be too large.
+    /// The product that would be searched for a word has too many states.
     #[error("{}", CheckFault::ProductTooLarge)]
     LargeProduct,
 }
 
 impl Refusal {
-    /// The refusal of words that have no plan.
+    /// The refusal of a command line that has no plan.
     pub fn of_words(fault: PlanFault) -> Refusal
         ensures { result ≡ of_plan fault }
     {
@@ -78,7 +79,7 @@ impl Refusal {
         }
     }
 
-    /// How the program ends.
+    /// The exit status.
     pub fn status(self) -> Status
         ensures { status_number result ≡ status_of (refusal_of self) }
     {

@@ -1,12 +1,12 @@
-//! Where the bytes of a formula or of an automaton come from.
+//! Sources of a formula's or an automaton's text.
 
-/// Where the bytes come from.
+/// Where a text comes from.
 #[derive(Debug, Drop)]
 pub enum Source<R> {
-    /// The words of the command line hold the text.
+    /// The command line has the text.
     Text,
-    /// A reader gives it.
+    /// The reader has the text.
     Input(R),
-    /// Its file could not be opened.
+    /// The file with the text could not be opened.
     NotOpened,
 }

@@ -19,7 +19,7 @@ use ltl_words::{FormulaWord, Plan, PlanFault};
 use std::alloc::Allocator;
 use std::io::{Read, Write};
 
-/// The source, so that it is known how the calls on it go.
+/// The source with its reader as a byte source, which records how its calls went.
 fn asked<R: Read + Drop>(source: Source<R>) -> Source<ReaderSource<R>>
     ensures { GivesBytesOf R.remaining ⟦<ReaderSource<R> as ByteSource>⟧.state source result }
 {
@@ -30,7 +30,7 @@ fn asked<R: Read + Drop>(source: Source<R>) -> Source<ReaderSource<R>>
     }
 }
 
-/// Reads the formula that the words ask for, as `formula_from` does.
+/// Reads the formula of a command line, as `formula_from` does.
 #[tactic(auto, using(crate::proofs::InputLaws::stream_few))]
 pub fn read_formula<'a, A: Allocator, R: Read>(
     alloc: &'a A,
@@ -51,7 +51,7 @@ pub fn read_formula<'a, A: Allocator, R: Read>(
     }
 }
 
-/// Translates what the plan asks for, as `translate_over` does.
+/// Carries out a plan of `ltl2ba`, as `translate_over` does.
 #[tactic(auto, using(crate::proofs::InputLaws::gives_open))]
 pub fn run_translate<A: Allocator, R: Read + Drop, W: Write, E: Write>(
     alloc: &A,
@@ -74,7 +74,7 @@ pub fn run_translate<A: Allocator, R: Read + Drop, W: Write, E: Write>(
     )
 }
 
-/// Checks what the plan asks for, as `check_over` does.
+/// Carries out a plan of `ltlcheck`, as `check_over` does.
 #[tactic(auto, using(crate::proofs::InputLaws::gives_open))]
 pub fn run_check<A: Allocator, R: Read + Drop, S: Read + Drop, W: Write, E: Write>(
     alloc: &A,
@@ -98,7 +98,7 @@ pub fn run_check<A: Allocator, R: Read + Drop, S: Read + Drop, W: Write, E: Writ
     )
 }
 
-/// Evaluates what the plan asks for, as `evaluate_over` does.
+/// Carries out a plan of `ltleval`, as `evaluate_over` does.
 #[tactic(auto, using(crate::proofs::InputLaws::gives_open))]
 pub fn run_eval<A: Allocator, R: Read + Drop, W: Write, E: Write>(
     alloc: &A,

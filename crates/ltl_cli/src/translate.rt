@@ -1,4 +1,4 @@
-//! The translator: from a formula's text to the text of its automaton.
+//! The translator: from a formula's text to the text of its Büchi automaton.
 
 ghost use Rattle.std.specs.Prelude.{◌≡◌, ◌<◌, length, OnOk, OnErr, IfOk, Ok};
 ghost use Rattle.ltl_spec.specs.Checking.Bounds.{HasNamesBelow};
@@ -23,7 +23,7 @@ use ltl_text::{put_claim, put_generalized, put_hoa};
 use ltl_words::{Plan, PlanFault, Status, Tool};
 use std::alloc::Allocator;
 
-/// A formula and its automaton in the layout that is asked for.
+/// A formula, and its automaton with the layout of the plan.
 #[derive(Drop)]
 struct Translation<'a, A: Allocator> {
     formula: Formula<'a, A>,
@@ -47,7 +47,7 @@ fn put<A: Allocator, S: ByteSink>(
     }
 }
 
-/// Writes the automaton and flushes.
+/// Writes the automaton and flushes the output.
 fn print<A: Allocator, S: ByteSink>(
     translated: &Translation<'_, A>,
     output: &mut S,
@@ -60,7 +60,7 @@ fn print<A: Allocator, S: ByteSink>(
     output.flush()
 }
 
-/// The formula that the plan asks for, and its automaton. The automaton accepts exactly the ultimately periodic words that satisfy the formula.
+/// The formula of the plan and its automaton, which accepts exactly the ultimately periodic words that satisfy the formula.
 fn translated<'a, A: Allocator, R: ByteSource>(
     alloc: &'a A,
     plan: &Plan<'_>,
@@ -77,7 +77,7 @@ fn translated<'a, A: Allocator, R: ByteSource>(
     Ok(Translation { formula, automaton })
 }
 
-/// Prints what the plan asks for.
+/// Carries out a plan.
 fn printed<A: Allocator, R: ByteSource, S: ByteSink>(
     alloc: &A,
     plan: &Plan<'_>,
@@ -96,7 +96,7 @@ fn printed<A: Allocator, R: ByteSource, S: ByteSink>(
     Ok(Status::Done)
 }
 
-/// Prints what the plan asks for, where there is one.
+/// Carries out a plan, or refuses a command line that has none.
 fn answered<A: Allocator, R: ByteSource, S: ByteSink>(
     alloc: &A,
     plan: &Result<Plan<'_>, PlanFault>,
@@ -114,9 +114,9 @@ fn answered<A: Allocator, R: ByteSource, S: ByteSink>(
     }
 }
 
-/// Translates what the plan asks for: writes the text of the automaton, and flushes, or writes the message of a refusal, and answers the exit status.
-/// The source is that of the formula's file, and is looked at only where the plan names one; a text is then no source. Nothing is asked of the
-/// output before a refusal. After a call that failed the stream isn't asked again.
+/// Carries out a plan of `ltl2ba` and returns the exit status. It writes the text of the automaton and flushes the output; or it writes the message of a
+/// refusal. The source is the formula's file, and is read only if the plan names one; if the source is `Text` then, the file counts as one that couldn't be
+/// opened. Only a refusal because of a failed write leaves something in the output. A stream isn't used again after one of its calls has failed.
 pub fn translate_over<A: Allocator, R: ByteSource, S: ByteSink, M: ByteSink>(
     alloc: &A,
     plan: &Result<Plan<'_>, PlanFault>,

@@ -1,4 +1,4 @@
--- The text of a picture in the language of Graphviz' dot.
+-- The text of a drawing in Graphviz' DOT language.
 use Rattle.std.specs.Prelude.{ℕ, zero, suc, ◌+◌, Bool, true, false, not, ◌&&◌, ◌||◌, ◌==◌, nat_le, if◌then◌else◌, List, [], ◌∷◌, ◌++◌, map, flat_map, slice_index_or, codes, decimal}
 use Rattle.std.specs.List.{range_with_len}
 use Rattle.ltl_spec.specs.Collections.Lists.{joined_by}
@@ -8,14 +8,14 @@ use Rattle.ltl_spec.specs.Automata.Automaton.{Edge}
 use Rattle.ltl_spec.specs.Hoa.HoaReading.{MarkedAutomaton}
 use Rattle.ltl_dot.specs.Picture.{Arrow, arrows, edges_at, is_accepting, is_state_based}
 
--- a byte between quotes: a quote and a backslash stand behind a backslash
+-- a byte within quotes: a quote or a backslash gets a backslash before it
 abbrev pub escaped_byte : ℕ → List ℕ
 escaped_byte b = if b == 34 || b == 92 then 92 ∷ b ∷ [] else b ∷ []
 
 abbrev pub escaped : List ℕ → List ℕ
 escaped text = flat_map escaped_byte text
 
--- the number of a set behind a blank: as a disc with the number in it (U+24FF, from U+2776, from U+24EB) up to 20, then in brackets
+-- a blank and the number of a set: up to 20 as a character with the number in a black circle (U+24FF, from U+2776, from U+24EB), then in parentheses
 abbrev pub disc : ℕ → List ℕ
 disc k =
     if k == 0 then 32 ∷ 226 ∷ 147 ∷ 191 ∷ [] else
@@ -26,16 +26,16 @@ disc k =
 abbrev pub literal_text : List Name → Literal → List ℕ
 literal_text names l = let name = escaped (slice_index_or names l.proposition []) in if l.positive then name else codes "!" ++ name
 
--- a label as a formula of propositions, `1` where it has no literal
+-- a label as a formula of propositions, `1` if it has no literal
 abbrev pub formula_text : List Name → Cube → List ℕ
 formula_text names [] = codes "1"
 formula_text names (l ∷ ls) = joined_by (codes " && ") (map (literal_text names) (l ∷ ls))
 
--- an edge: its label, and its sets where they are shown
+-- an edge: its label, and its sets if they are shown
 abbrev pub edge_text : List Name → Bool → Edge → List ℕ
 edge_text names shown e = formula_text names e.cube ++ (if shown then flat_map disc e.marks else [])
 
--- what stands behind the label of an arrow
+-- the end of an arrow's statement
 abbrev pub arrow_end : Bool → List ℕ
 arrow_end colour = if colour then codes "\", color=red, fontcolor=red, penwidth=2]\n" else codes "\"]\n"
 
@@ -44,7 +44,7 @@ abbrev pub arrow_text : List Name → Bool → Bool → Arrow → List ℕ
 arrow_text names shown colour a =
     codes "  " ++ decimal a.from ++ codes " -> " ++ decimal a.to ++ codes " [label=\"" ++ joined_by (codes "\\n") (map (edge_text names shown) a.edges) ++ arrow_end colour
 
--- what stands behind the number of a state: a double line where it is accepting, and the colour
+-- the end of a state's statement: a double circle if it is accepting, and the colour
 abbrev pub node_end : Bool → Bool → List ℕ
 node_end false false = codes "\n"
 node_end true false = codes " [peripheries=2]\n"
@@ -61,13 +61,13 @@ state_text A k =
     let by_states = is_state_based A in
     node_text (by_states && is_accepting es) false k ++ flat_map (arrow_text A.names (not by_states) false) (arrows k es)
 
--- what the condition of so many sets is called
+-- the name of the acceptance condition with this number of sets
 abbrev pub acceptance_name : ℕ → List ℕ
 acceptance_name zero = codes "all"
 acceptance_name (suc zero) = codes "Buchi"
 acceptance_name n = codes "generalized-Buchi " ++ decimal n
 
--- the condition above the picture with a note behind it, and an arrow from nowhere to the start
+-- the head: the acceptance condition and a note as title, and an arrow without source to the initial state
 abbrev pub head_text : MarkedAutomaton → List ℕ → List ℕ
 head_text A note =
     codes "digraph automaton {\n  rankdir=LR\n  labelloc=t\n  label=\"" ++ acceptance_name A.sets ++ note

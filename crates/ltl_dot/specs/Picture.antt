@@ -1,4 +1,4 @@
--- An automaton that was read as a picture: its accepting states, and one arrow from a state to each of its targets.
+-- An automaton as a drawing: its accepting states, and one arrow from a state to each of its targets.
 use Rattle.std.specs.Prelude.{ℕ, Bool, true, false, not, ◌&&◌, ◌||◌, ◌==◌, List, [], ◌∷◌, map, filter, slice_index_or}
 use Rattle.std.specs.List.{list_all, list_any}
 use Rattle.std.specs.Ordering.{nat_cmp}
@@ -20,15 +20,15 @@ is_marked e = has_some e.marks
 abbrev pub is_even : List Edge → Bool
 is_even es = list_all is_marked es || not (list_any is_marked es)
 
--- there is one set, and to be in it is a matter of states
+-- there is one acceptance set, and of each state all edges are in it or none is
 abbrev pub is_state_based : MarkedAutomaton → Bool
 is_state_based A = A.sets == 1 && list_all is_even A.edges
 
--- a state that an edge of the set leaves, and no other edge
+-- a state with an edge, each of whose edges is in an acceptance set
 abbrev pub is_accepting : List Edge → Bool
 is_accepting es = list_any is_marked es && list_all is_marked es
 
--- an arrow and the edges that it stands for
+-- an arrow and the edges that it represents
 pub record Arrow : Type 0 where
   pub from : ℕ
   pub to : ℕ

@@ -1,4 +1,4 @@
--- Parts of the text of a picture.
+-- Parts of the text of a drawing.
 use Rattle.std.specs.Prelude.{ℕ, Bool, List, ◌++◌, map, flat_map, codes, decimal}
 use Rattle.std.specs.List.{range_with_len}
 use Rattle.ltl_spec.specs.Collections.Lists.{joined_by}
@@ -12,11 +12,11 @@ use Rattle.ltl_dot.specs.DotText.{arrow_end, edge_text, state_text}
 abbrev pub front_text : ℕ → ℕ → List ℕ
 front_text from to = codes "  " ++ (decimal from ++ (codes " -> " ++ (decimal to ++ codes " [label=\"")))
 
--- the edges at these places
+-- the edges with these indices, as lines of a label
 abbrev pub lines_text : List Name → Bool → List Edge → List ℕ → List ℕ
 lines_text names shown es ps = joined_by (codes "\\n") (map (λ p. edge_text names shown (edge_at es p)) ps)
 
--- the arrow to a target with the edges at these places
+-- the arrow to a target with the edges with these indices
 abbrev pub placed_text : List Name → Bool → Bool → ℕ → List Edge → ℕ → List ℕ → List ℕ
 placed_text names shown colour k es t ps = front_text k t ++ (lines_text names shown es ps ++ arrow_end colour)
 

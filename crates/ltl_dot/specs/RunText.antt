@@ -1,4 +1,4 @@
--- The text of a picture of an automaton in which the edges of a run are in colour.
+-- The text of a drawing of an automaton with a run in colour.
 use Rattle.std.specs.Prelude.{◌≡◌, ℕ, ◌+◌, ◌<◌, ◌↔◌, Bool, true, false, not, ◌&&◌, ◌==◌, List, [], ◌++◌, length, flat_map, codes, Option, Some, None}
 use Rattle.std.specs.List.{range_with_len}
 use Rattle.ltl_spec.specs.Collections.Sets.{Has}
@@ -11,7 +11,7 @@ use Rattle.ltl_dot.specs.Picked.{other_edges, picked_edges}
 use Rattle.ltl_dot.specs.Picture.{arrows, edges_at, is_accepting, is_state_based}
 use Rattle.ltl_dot.specs.DotText.{arrow_text, head_text, node_text}
 
--- an automaton and the edges of a run, or none where no run is drawn
+-- an automaton and the edges of a run, or none if there is no accepting run
 pub record RunPicture : Type 0 where
   pub automaton : MarkedAutomaton
   pub run : Option (List Pick)
@@ -20,12 +20,12 @@ abbrev pub picks_in : Option (List Pick) → List Pick
 picks_in None = []
 picks_in (Some picks) = picks
 
--- what is noted below the name of the condition
+-- the note below the name of the acceptance condition
 abbrev pub note_of : Option (List Pick) → List ℕ
 note_of None = codes "\\nno run on this word is accepting"
 note_of (Some picks) = []
 
--- A state, in colour where an edge of the run leaves it. Then the arrows of other edges, and those of the run's edges, in colour
+-- A state, in colour if the run has an edge from it, then the arrows of its other edges, then those of the run's edges, in colour
 abbrev pub run_state_text : RunPicture → ℕ → List ℕ
 run_state_text P k =
     let A = P.automaton in
@@ -43,8 +43,8 @@ run_states_text P = flat_map (run_state_text P) (range_with_len 0 P.automaton.st
 abbrev pub run_text : RunPicture → List ℕ
 run_text P = head_text P.automaton (note_of P.run) ++ run_states_text P ++ codes "}\n"
 
--- With these picks: each edge that is picked is drawn in colour, from its state, and no other edge; each edge at any other place is drawn without, and no edge
--- twice
+-- With these picks, each picked edge of a state is drawn in colour and no other edge is. Each edge with another index is drawn without colour, and none
+-- twice.
 pub record AreShown (picks : List Pick) (A : MarkedAutomaton) (k : ℕ) : Type 0 where
   pub own : (e : Edge) → Has (picked_edges picks A k) e ↔ ((place : ℕ) × (place < length (edges_at A k)) × Has picks (record { state = k; place = place }) × (edge_at (edges_at A k) place ≡ e))
   pub others : (e : Edge) → Has (other_edges picks A k) e ↔ ((place : ℕ) × (place < length (edges_at A k)) × (¬ (Has picks (record { state = k; place = place }))) × (edge_at (edges_at A k) place ≡ e))

@@ -1,4 +1,4 @@
-//! Whether acceptance is a matter of states.
+//! Whether acceptance is state-based.
 
 ghost use Rattle.std.specs.Prelude.{◌≡◌, map};
 ghost use Rattle.std.specs.List.{list_all, list_any};
@@ -8,6 +8,7 @@ ghost use Rattle.ltl_dot.specs.Picture as picture;
 use ltl_hoa::{Marked, MarkedEdge};
 use std::alloc::Allocator;
 
+/// Whether an edge is in an acceptance set.
 fn is_marked(edge: &MarkedEdge) -> bool
     ensures { result ≡ picture.is_marked (edge_of edge.now) }
 {
@@ -40,19 +41,21 @@ fn any_marked(edges: &[MarkedEdge]) -> bool
     is_one_marked(edges)
 }
 
-/// Whether an edge of the set leaves the state, and no other edge.
+/// Whether a state is accepting: it has an edge, and each of its edges is in an acceptance set.
 pub(crate) fn is_accepting(edges: &[MarkedEdge]) -> bool
     ensures { result ≡ picture.is_accepting (map edge_of edges.now) }
 {
     any_marked(edges) && all_marked(edges)
 }
 
+/// Whether all edges of a state are in an acceptance set, or none is.
 fn is_even(edges: &[MarkedEdge]) -> bool
     ensures { result ≡ picture.is_even (map edge_of edges.now) }
 {
     all_marked(edges) || !any_marked(edges)
 }
 
+/// Whether of each state all edges are in an acceptance set, or none is.
 fn are_even<A: Allocator>(automaton: &Marked<'_, A>) -> bool
     ensures { result ≡ list_all picture.is_even automaton.now.edges }
 {
@@ -64,7 +67,7 @@ fn are_even<A: Allocator>(automaton: &Marked<'_, A>) -> bool
     true
 }
 
-/// Whether there is one set, and to be in it is a matter of states.
+/// Whether there is one acceptance set, and of each state all edges are in it or none is.
 pub(crate) fn is_state_based<A: Allocator>(automaton: &Marked<'_, A>) -> bool
     ensures { result ≡ picture.is_state_based automaton.now }
 {

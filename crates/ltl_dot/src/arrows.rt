@@ -1,4 +1,4 @@
-//! The arrows from a state, one to each target.
+//! The arrows from a state, one for each target.
 
 ghost use Rattle.std.specs.Prelude.{◌≡◌, ◌<◌, ◌≤◌, ◌==◌, ◌++◌, length, map, flat_map, string_bytes, codes, All};
 ghost use Rattle.std.specs.Fmt.{decimal};
@@ -16,7 +16,7 @@ use ltl_hoa::MarkedEdge;
 use ltl_streams::{ByteSink, OutputBuffer, WriteFault};
 use std::alloc::Allocator;
 
-/// How many places at the beginning have edges to this target.
+/// The number of indices at the beginning whose edges have this target.
 fn group_len(edges: &[MarkedEdge], places: &[usize], target: usize) -> usize
     requires { All (λ p. p < length edges.now) places.now }
     ensures within { result ≤ length places.now }
@@ -29,7 +29,7 @@ fn group_len(edges: &[MarkedEdge], places: &[usize], target: usize) -> usize
     len
 }
 
-/// Puts an arrow up to its label.
+/// Writes an arrow up to its label.
 fn put_front<S: ByteSink>(
     from: usize,
     to: usize,
@@ -45,7 +45,7 @@ fn put_front<S: ByteSink>(
     buffer.put(b" [label=\"", sink)
 }
 
-/// Puts the edges at these places, each in a line of its own.
+/// Writes the edges with these indices as the lines of a label.
 fn put_lines<A: Allocator, S: ByteSink>(
     names: &[String<&A>],
     shown: bool,
@@ -70,7 +70,7 @@ fn put_lines<A: Allocator, S: ByteSink>(
     Ok(())
 }
 
-/// What stands behind the label of an arrow.
+/// The end of an arrow's statement, after the text of its label.
 fn arrow_end(colour: bool) -> &'static [u8]
     ensures { result.now ≡ text.arrow_end colour }
 {
@@ -81,7 +81,7 @@ fn arrow_end(colour: bool) -> &'static [u8]
     }
 }
 
-/// Edges of a state, their places by target and then by place, and whether they are drawn in colour.
+/// Edges of a state, their indices sorted by target and then by index, and whether they are drawn in colour.
 #[derive(Clone, Copy)]
 pub(crate) struct Ordered<'e> {
     pub edges: &'e [MarkedEdge],
@@ -89,7 +89,7 @@ pub(crate) struct Ordered<'e> {
     pub colour: bool,
 }
 
-/// Puts the arrows from state `k` for these edges of it.
+/// Writes the arrows from state `k` for these edges of it.
 pub(crate) fn put_arrows<A: Allocator, S: ByteSink>(
     names: &[String<&A>],
     shown: bool,

@@ -1,4 +1,4 @@
-//! An automaton, ready to be drawn.
+//! An automaton, prepared for drawing.
 
 ghost use Rattle.std.specs.Prelude.{◌≡◌, IfOk, OnOk, OnErr};
 ghost use Rattle.std.specs.Io.KnownBytes.{Appends};
@@ -14,7 +14,7 @@ use std::alloc::{AllocError, Allocator};
 use std::io::Write;
 use std::marker::Model;
 
-/// An automaton, the edges of each of its states in the order of their targets, and whether acceptance is a matter of states.
+/// An automaton, the order of each state's edges by target, and whether acceptance is state-based.
 #[derive(Drop)]
 pub struct Drawing<'a, A: Allocator> {
     automaton: Marked<'a, A>,
@@ -38,7 +38,7 @@ impl<'a, A: Allocator> Model for Drawing<'a, A> {
 }
 
 impl<'a, A: Allocator> Drawing<'a, A> {
-    /// Puts the edges in order.
+    /// Sorts the edges of each state by target.
     pub fn new(alloc: &'a A, automaton: Marked<'a, A>) -> Result<Drawing<'a, A>, AllocError>
         ensures { IfOk result (λ d. d ≡ automaton.entry) }
     {
@@ -51,7 +51,7 @@ impl<'a, A: Allocator> Drawing<'a, A> {
         })
     }
 
-    /// Writes the picture in the language of Graphviz' dot. No memory is taken, and after a fault nothing more is written.
+    /// Writes the automaton as a graph in Graphviz' DOT language. It allocates nothing. After an error of the sink it writes nothing more.
     pub fn put_dot<S: ByteSink>(&self, sink: &mut S) -> Result<(), WriteFault>
         ensures ok { OnOk result (Takes (S.state sink.old) (S.state sink.new) (dot_text self.now)) }
         ensures err { OnErr result (Breaks (S.state sink.old) (S.state sink.new) (dot_text self.now)) }
@@ -69,7 +69,7 @@ impl<'a, A: Allocator> Drawing<'a, A> {
         buffer.send(sink)
     }
 
-    /// The same to a standard writer, which isn't flushed.
+    /// Like `put_dot`, to a standard writer, which isn't flushed.
     pub fn dot_to<W: Write>(&self, writer: &mut W) -> Result<(), WriteFault>
         ensures ok { OnOk result (Appends (W.contents writer.old) (W.contents writer.new) (dot_text self.now)) }
         ensures err { OnErr result (AppendsBeginning (W.contents writer.old) (W.contents writer.new) (dot_text self.now)) }

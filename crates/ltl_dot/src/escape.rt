@@ -1,10 +1,11 @@
-//! Texts between quotes.
+//! Text within the quoted strings of the DOT language.
 
 ghost use Rattle.ltl_streams.specs.Sending.{Puts};
 ghost use Rattle.ltl_dot.specs.DotText.{escaped, escaped_byte};
 
 use ltl_streams::{ByteSink, OutputBuffer, WriteFault};
 
+/// Writes a byte, with a backslash before it if it is a quote or a backslash.
 fn put_byte<S: ByteSink>(
     byte: u8,
     buffer: &mut OutputBuffer,
@@ -18,7 +19,7 @@ fn put_byte<S: ByteSink>(
     buffer.put(&[byte], sink)
 }
 
-/// Puts a text between quotes: a backslash before each quote and each backslash.
+/// Writes a text for use within quotes: each quote and each backslash gets a backslash before it. The quotes themselves aren't written.
 pub fn put_escaped<S: ByteSink>(
     text: &[u8],
     buffer: &mut OutputBuffer,

@@ -1,4 +1,4 @@
-//! Which edges are picked.
+//! Flags that say which edges a run takes.
 
 ghost use Rattle.std.specs.Prelude.{◌≡◌, ℕ, ◌<◌, true, false, length, All, IfOk, slice_index_or, slice_set};
 ghost use Rattle.ltl_dot.specs.Picked.{AreFlags, IsPick, is_picked};
@@ -23,7 +23,7 @@ impl<'a, A: Allocator> Model for Flags<'a, A> {
 }
 
 impl<'a, A: Allocator> Flags<'a, A> {
-    /// So many, none of them set.
+    /// A list of `count` flags, none of them set.
     fn new(alloc: &'a A, count: usize) -> Result<Flags<'a, A>, AllocError>
         ensures long { IfOk result (λ fs. length fs ≡ count) }
         ensures none { IfOk result (λ fs. (p : ℕ) → slice_index_or fs p false ≡ false) }
@@ -63,7 +63,7 @@ fn all_unset<'a, A: Allocator>(
     Ok(flags)
 }
 
-/// A flag for each edge of each state, which says whether it is among the picks.
+/// A flag for each edge of each state. It is set if the edge is one of the picks.
 pub(crate) fn set_flags<'a, A: Allocator>(
     alloc: &'a A,
     automaton: &Marked<'_, A>,

@@ -1,4 +1,4 @@
-//! Labels of edges.
+//! Labels of edges, as formulas of propositions.
 
 ghost use Rattle.std.specs.Prelude.{◌<◌, length, map, flat_map, string_bytes, All};
 ghost use Rattle.std.specs.Fmt.{decimal};
@@ -14,6 +14,7 @@ use ltl_streams::{ByteSink, OutputBuffer, WriteFault};
 use ltl_text::Digits;
 use std::alloc::Allocator;
 
+/// Writes a number in decimal.
 pub(crate) fn put_number<S: ByteSink>(
     number: usize,
     buffer: &mut OutputBuffer,
@@ -24,6 +25,7 @@ pub(crate) fn put_number<S: ByteSink>(
     buffer.put(Digits::of(number as u64).as_slice(), sink)
 }
 
+/// Writes the name of a literal's proposition, with `!` before it if the literal is negative.
 fn put_literal<A: Allocator, S: ByteSink>(
     names: &[String<&A>],
     literal: Literal,
@@ -41,7 +43,7 @@ fn put_literal<A: Allocator, S: ByteSink>(
     put_escaped(name, buffer, sink)
 }
 
-/// Puts the literals with `&&` between them, and `1` where there is none.
+/// Writes the literals with `&&` between them, or `1` if there are none.
 fn put_formula<A: Allocator, S: ByteSink>(
     names: &[String<&A>],
     cube: &Cube,
@@ -63,7 +65,8 @@ fn put_formula<A: Allocator, S: ByteSink>(
     Ok(())
 }
 
-/// Puts the number of a set as a disc behind a blank.
+/// Writes a blank and the number of an acceptance set: as a character with the number in a black circle up to 20 (U+24FF, from U+2776 and from U+24EB on),
+/// beyond that in parentheses.
 fn put_disc<S: ByteSink>(
     k: usize,
     buffer: &mut OutputBuffer,
@@ -85,6 +88,7 @@ fn put_disc<S: ByteSink>(
     buffer.put(b")", sink)
 }
 
+/// Writes the numbers of all these acceptance sets.
 fn put_discs<S: ByteSink>(
     sets: &RowSet,
     buffer: &mut OutputBuffer,
@@ -98,7 +102,7 @@ fn put_discs<S: ByteSink>(
     Ok(())
 }
 
-/// Puts the label of an edge, and its sets where they are shown.
+/// Writes the label of an edge, and its acceptance sets if they are shown.
 pub(crate) fn put_edge<A: Allocator, S: ByteSink>(
     names: &[String<&A>],
     shown: bool,

@@ -1,4 +1,4 @@
-//! Laws of pictures. These functions do nothing: their contracts are the laws.
+//! Laws of pictures. The functions do nothing; their contracts are the laws.
 
 ghost use Rattle.std.specs.Prelude.{ℕ, List};
 ghost use Rattle.ltl_spec.specs.Automata.Automaton.{Edge};
@@ -7,12 +7,13 @@ ghost use Rattle.ltl_run.specs.declared.pick.Pick.{Pick};
 ghost use Rattle.ltl_dot.specs.Drawn.{AreDrawn};
 ghost use Rattle.ltl_dot.specs.RunText.{AreShown};
 
-/// The arrows from a state stand for each of its edges, as often as it is there, and for no other; no two of them lead to one target.
+/// The arrows from a state represent each of its edges as often as it occurs, and no other edge. No two of them have the same target.
 pub fn each_edge_is_drawn()
     ensures { (k : ℕ) (es : List Edge) → AreDrawn k es }
 {}
 
-/// The arrows in colour from a state stand for each of its edges that is picked, and for no other; those without colour for each of its other edges.
+/// The coloured arrows from a state represent each of its edges that is picked, and no other edge. The arrows without colour represent each of its other
+/// edges.
 pub fn each_edge_is_shown()
     ensures { (picks : List Pick) (A : MarkedAutomaton) (k : ℕ) → AreShown picks A k }
 {}

@@ -1,8 +1,9 @@
-//! Automata as pictures: the language of Graphviz' dot.
+//! Drawings of automata in Graphviz' DOT language (graphviz.org/doc/info/lang.html).
 //!
-//! What flows: an automaton that was read (`ltl_hoa`), to a `Drawing`, which puts the edges of each state in the order of their targets; that to a sink
-//! (`put_dot`) or a standard writer (`dot_to`), with no memory taken. States are circles, and accepting ones double circles where acceptance is a
-//! matter of states; else each edge has its sets as numbered discs behind its label. Edges between the same two states share an arrow.
+//! `ltl_hoa` reads an automaton. `Drawing` sorts the edges of each state by target, and writes the graph to a sink (`put_dot`) or to a standard writer
+//! (`dot_to`) without allocation. `RunDrawing` draws a run of the automaton in colour. States are circles. If acceptance is state-based, accepting states are
+//! double circles; else each edge has the numbers of its acceptance sets after its label, in black circles. Edges with the same source and target share an
+//! arrow.
 //!
 //! ```
 //! let automaton = hoa_read(&alloc, &mut text)?;

@@ -1,4 +1,4 @@
-//! The edges of each state by their targets.
+//! The order of a state's edges by target.
 
 ghost use Rattle.std.specs.Prelude.{◌≡◌, ◌%◌, map, IfOk};
 ghost use Rattle.ltl_models.specs.BaView.{IsTargetOrder};
@@ -9,13 +9,13 @@ use ltl_hoa::{Marked, MarkedEdge};
 use smallvec::SmallVec;
 use std::alloc::{AllocError, Allocator};
 
-/// Places of edges. Most states have few edges.
+/// Indices of edges. Most states have few edges.
 pub(crate) type Places<'a, A> = SmallVec<usize, 4, &'a A>;
 
-/// No place of an edge reaches this.
+/// 2^64, which is greater than every index.
 const PLACES: u128 = 18_446_744_073_709_551_616;
 
-/// The places of the edges, by target and then by place. A target and a place are sorted as one number.
+/// The indices of the edges, sorted by target and then by index. The sort key is one number made of both.
 pub(crate) fn places_by_target<'a, A: Allocator>(
     alloc: &'a A,
     edges: &[MarkedEdge],
@@ -31,7 +31,7 @@ pub(crate) fn places_by_target<'a, A: Allocator>(
     Ok(places)
 }
 
-/// The places alone.
+/// The indices in the sorted keys.
 fn places<'a, A: Allocator>(alloc: &'a A, keys: &[u128]) -> Result<Places<'a, A>, AllocError>
     ensures { IfOk result (λ ps. ps.items ≡ map (λ k. k % PLACES) keys.now) }
 {
@@ -42,7 +42,7 @@ fn places<'a, A: Allocator>(alloc: &'a A, keys: &[u128]) -> Result<Places<'a, A>
     Ok(places)
 }
 
-/// The places of the edges of each state.
+/// For each state the order of its edges.
 pub(crate) fn orders<'a, A: Allocator>(
     alloc: &'a A,
     automaton: &Marked<'_, A>,

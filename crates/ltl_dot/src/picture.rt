@@ -1,4 +1,4 @@
-//! The whole text.
+//! The whole text of a drawing.
 
 ghost use Rattle.std.specs.Prelude.{◌≡◌, ◌<◌, ◌&&◌, map};
 ghost use Rattle.ltl_streams.specs.Sending.{Puts};
@@ -16,7 +16,7 @@ use ltl_hoa::{Marked, MarkedEdge};
 use ltl_streams::{ByteSink, OutputBuffer, WriteFault};
 use std::alloc::Allocator;
 
-/// Puts what the condition of so many sets is called.
+/// Writes the name of the acceptance condition with this number of sets, as HOA has it.
 fn put_acceptance_name<S: ByteSink>(
     sets: usize,
     buffer: &mut OutputBuffer,
@@ -34,7 +34,7 @@ fn put_acceptance_name<S: ByteSink>(
     put_number(sets, buffer, sink)
 }
 
-/// Puts the condition above the picture with a note behind it, and an arrow from nowhere to the start.
+/// Writes the head: the acceptance condition and a note as the title of the graph, and an arrow without source to the initial state.
 pub(crate) fn put_head<A: Allocator, S: ByteSink>(
     automaton: &Marked<'_, A>,
     note: &[u8],
@@ -57,14 +57,14 @@ pub(crate) fn put_head<A: Allocator, S: ByteSink>(
     buffer.put(b"\n", sink)
 }
 
-/// Whether a state has a double line.
+/// Whether a state is drawn as a double circle.
 pub(crate) fn is_double(by_states: bool, edges: &[MarkedEdge]) -> bool
     ensures { result ≡ (by_states && picture.is_accepting (map edge_of edges.now)) }
 {
     by_states && is_accepting(edges)
 }
 
-/// What stands behind the number of a state.
+/// The end of a state's statement, after its number.
 fn node_end(accepting: bool, colour: bool) -> &'static [u8]
     ensures { result.now ≡ text.node_end accepting colour }
 {
@@ -76,7 +76,7 @@ fn node_end(accepting: bool, colour: bool) -> &'static [u8]
     }
 }
 
-/// Puts a state, with a double line where it is accepting, and in colour where it is said so.
+/// Writes a state, as a double circle if it is accepting, and in colour if `colour`.
 pub(crate) fn put_node<S: ByteSink>(
     accepting: bool,
     colour: bool,
@@ -91,7 +91,7 @@ pub(crate) fn put_node<S: ByteSink>(
     buffer.put(node_end(accepting, colour), sink)
 }
 
-/// Puts a state and the arrows from it.
+/// Writes a state and the arrows from it.
 fn put_state<A: Allocator, S: ByteSink>(
     automaton: &Marked<'_, A>,
     orders: &[Places<'_, A>],
@@ -115,7 +115,7 @@ fn put_state<A: Allocator, S: ByteSink>(
     put_arrows(automaton.names(), !by_states, ordered, k, buffer, sink)
 }
 
-/// Puts all states.
+/// Writes all states.
 pub(crate) fn put_states<A: Allocator, S: ByteSink>(
     automaton: &Marked<'_, A>,
     orders: &[Places<'_, A>],

@@ -1,4 +1,4 @@
-//! An automaton and a run, ready to be drawn.
+//! An automaton and a run of it, prepared for drawing.
 
 ghost use Rattle.std.specs.Prelude.{◌≡◌, ◌<◌, option_map, All, IfOk, OnOk, OnErr};
 ghost use Rattle.std.specs.Io.KnownBytes.{Appends};
@@ -19,7 +19,7 @@ use std::alloc::{AllocError, Allocator};
 use std::io::Write;
 use std::marker::Model;
 
-/// An automaton and the edges of a run, or none where there is no run to be drawn. Of each state the edges of the run and the others stand apart.
+/// An automaton and the edges of a run, or `None` if there is no accepting run. For each state, the edges that the run takes are kept apart from the others.
 #[derive(Drop)]
 pub struct RunDrawing<'a, A: Allocator> {
     automaton: Marked<'a, A>,
@@ -41,7 +41,7 @@ impl<'a, A: Allocator> Model for RunDrawing<'a, A> {
     ghost invariant = { λ d. IsRunDrawing (picks_in (option_map (λ v. v.items) d.run)) d.automaton d.own.items d.others.items d.by_states };
 }
 
-/// The edges of the run.
+/// The edges of the run; none if there is no run.
 fn picks<'r, 'a, A: Allocator>(run: &'r Option<Vec<Pick, &'a A>>) -> &'r [Pick]
     ensures { result.now ≡ picks_in (option_map (λ v. v.items) run.now) }
 {
@@ -51,7 +51,7 @@ fn picks<'r, 'a, A: Allocator>(run: &'r Option<Vec<Pick, &'a A>>) -> &'r [Pick]
     }
 }
 
-/// What is noted above a picture.
+/// The note in the title of the graph.
 fn note<'a, A: Allocator>(run: &Option<Vec<Pick, &'a A>>) -> &'static [u8]
     ensures { result.now ≡ note_of (option_map (λ v. v.items) run.now) }
 {
@@ -62,7 +62,7 @@ fn note<'a, A: Allocator>(run: &Option<Vec<Pick, &'a A>>) -> &'static [u8]
 }
 
 impl<'a, A: Allocator> RunDrawing<'a, A> {
-    /// Puts the edges of the run and the others in order.
+    /// Separates the edges of the run from the others, and sorts both by target. Each pick is an edge of the automaton.
     pub fn new(
         alloc: &'a A,
         automaton: Marked<'a, A>,
@@ -84,7 +84,7 @@ impl<'a, A: Allocator> RunDrawing<'a, A> {
         })
     }
 
-    /// Puts a state and the arrows from it, those of other edges first.
+    /// Writes a state and the arrows from it, those of the run last.
     fn put_state<S: ByteSink>(
         &self,
         k: usize,
@@ -104,7 +104,7 @@ impl<'a, A: Allocator> RunDrawing<'a, A> {
         put_arrows(names, !self.by_states, own.ordered(true), k, buffer, sink)
     }
 
-    /// Puts all states.
+    /// Writes all states.
     fn put_states<S: ByteSink>(
         &self,
         buffer: &mut OutputBuffer,
@@ -118,7 +118,7 @@ impl<'a, A: Allocator> RunDrawing<'a, A> {
         Ok(())
     }
 
-    /// Writes the picture in the language of Graphviz' dot. No memory is taken, and after a fault nothing more is written.
+    /// Writes the automaton as a graph in Graphviz' DOT language, the run in colour. It allocates nothing. After an error of the sink it writes nothing more.
     pub fn put_dot<S: ByteSink>(&self, sink: &mut S) -> Result<(), WriteFault>
         ensures ok { OnOk result (Takes (S.state sink.old) (S.state sink.new) (run_text self.now)) }
         ensures err { OnErr result (Breaks (S.state sink.old) (S.state sink.new) (run_text self.now)) }
@@ -130,7 +130,7 @@ impl<'a, A: Allocator> RunDrawing<'a, A> {
         buffer.send(sink)
     }
 
-    /// The same to a standard writer, which isn't flushed.
+    /// Like `put_dot`, to a standard writer, which isn't flushed.
     pub fn dot_to<W: Write>(&self, writer: &mut W) -> Result<(), WriteFault>
         ensures ok { OnOk result (Appends (W.contents writer.old) (W.contents writer.new) (run_text self.now)) }
         ensures err { OnErr result (AppendsBeginning (W.contents writer.old) (W.contents writer.new) (run_text self.now)) }

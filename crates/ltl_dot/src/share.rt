@@ -1,4 +1,4 @@
-//! A part of a state's edges, in order.
+//! A part of a state's edges, sorted by target.
 
 ghost use Rattle.std.specs.Prelude.{◌≡◌, ◌==◌, ◌++◌, [], ◌∷◌, length, map, IfOk, OnOk, if◌then◌else◌, slice_index_or};
 ghost use Rattle.ltl_models.specs.BaView.{IsTargetOrder};
@@ -13,7 +13,7 @@ use ltl_hoa::{Marked, MarkedEdge};
 use std::alloc::{AllocError, Allocator};
 use std::marker::Model;
 
-/// Some edges of a state, and their places by target and then by place.
+/// Some edges of a state, and their indices sorted by target and then by index.
 #[derive(Drop)]
 pub(crate) struct Share<'a, A: Allocator> {
     edges: Vec<MarkedEdge, &'a A>,
@@ -40,7 +40,7 @@ fn turned(set: bool, flag: bool) -> bool
     if set { flag } else { !flag }
 }
 
-/// Puts the edge if it is wanted.
+/// Appends the edge if it is wanted.
 fn push_if<A: Allocator>(
     is_wanted: bool,
     edge: &MarkedEdge,
@@ -54,7 +54,7 @@ fn push_if<A: Allocator>(
     Ok(())
 }
 
-/// The edges whose flags are set, or the others.
+/// The edges whose flags are set, or the others if `set` is false.
 fn chosen<'a, A: Allocator>(
     alloc: &'a A,
     edges: &[MarkedEdge],
@@ -72,7 +72,7 @@ fn chosen<'a, A: Allocator>(
 }
 
 impl<'a, A: Allocator> Share<'a, A> {
-    /// The edges whose flags are set, or the others.
+    /// The edges whose flags are set, or the others if `set` is false.
     pub(crate) fn of(
         alloc: &'a A,
         edges: &[MarkedEdge],
@@ -94,7 +94,7 @@ impl<'a, A: Allocator> Share<'a, A> {
         self.edges.is_empty()
     }
 
-    /// The edges and their order, in colour or not.
+    /// The edges with their order, for drawing in colour or without.
     pub(crate) fn ordered(&self, colour: bool) -> Ordered<'_>
         ensures edges { map edge_of result.edges.now ≡ self.now }
         ensures order { IsTargetOrder (map edge_of result.edges.now) result.places.now }
@@ -108,7 +108,7 @@ impl<'a, A: Allocator> Share<'a, A> {
     }
 }
 
-/// Of each state the edges whose flags are set, or the others.
+/// For each state the edges whose flags are set, or the others if `set` is false.
 pub(crate) fn shares<'a, A: Allocator>(
     alloc: &'a A,
     automaton: &Marked<'_, A>,

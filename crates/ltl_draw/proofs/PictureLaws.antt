@@ -76,7 +76,7 @@ module _ (A : MarkedAutomaton) (w : Lasso) (counted : length A.edges ≡ A.state
 
   pub picks_there : (run : Option (List Pick)) → IsRunOf A w run → All (IsPick A) (picks_in run)
   picks_there None h = All-from_has (IsPick A) [] (λ q m. absurd m)
-  picks_there (Some run) h = All-from_has (IsPick A) run (λ q m. elim (append_cases h.way h.turn q (subst (λ qs. Has qs q) h.whole m)) [
-    | inl k ↦ in_run A.start 0 h.way h.state h.position h.arrives q k
-    | inr k ↦ in_run h.state h.position h.turn h.state h.position h.turns q k
+  picks_there (Some run) h = All-from_has (IsPick A) run (λ q m. elim (append_cases h.prefix h.cycle q (subst (λ qs. Has qs q) h.whole m)) [
+    | inl k ↦ in_run A.start 0 h.prefix h.state h.position h.arrives q k
+    | inr k ↦ in_run h.state h.position h.cycle h.state h.position h.cycles q k
   ])

@@ -1,4 +1,4 @@
--- The messages of `ltldraw`: those of the checker, but for the name and the usage.
+-- The messages of `ltldraw`. They are those of the checker, but for the name and the usage.
 use Rattle.std.specs.Prelude.{ℕ, List, ◌++◌, codes}
 use Rattle.ltl_spec.specs.Automata.ClaimText.{line}
 use Rattle.ltl_spec.specs.Tools.Limits.{stated_limits}
@@ -15,7 +15,7 @@ draw_text r = refusal_text stated_limits Checker r
 abbrev pub draw_message : Refusal → List ℕ
 draw_message r = line (codes "ltldraw: " ++ draw_text r)
 
--- the text up to its number, and all of it where it has none
+-- the text up to its number, or all of it if it has no number
 abbrev pub front_text : Refusal → List ℕ
 front_text Usage = draw_usage
 front_text r = cli.front_text Checker r

@@ -1,4 +1,4 @@
--- The command line of `ltldraw`, as the library for command lines documents it, and what its words ask for.
+-- The command line of `ltldraw`, as `clap` documents its parsing, and the request that it makes.
 use Rattle.std.specs.Prelude.{◌≡◌, List, [], Option, Some, None, Result, Ok, Err, MatchResult, codes, option_map}
 use Rattle.clap.specs.Words.{App, Kinds, Row, Text, fault_of, first_of, found_of, matches_of, new_app, rows_of, with_rule}
 use Rattle.clap.specs.declared.parser.matches.ArgMatches.{ArgMatches}
@@ -8,7 +8,7 @@ use Rattle.ltl_words.specs.declared.request.PlanFault.TheVariants.{Usage, OutOfM
 use Rattle.ltl_draw.specs.declared.request.Plan.{Plan}
 use Rattle.ltl_draw.specs.declared.request.Plan.TheVariants as plan
 
--- a picture of the automaton that is read, the same with a run on the word of a text, or a timeline of the word of a text, and of the formula of another one, where there is one
+-- what a command line asks for: a drawing of the automaton that is read, one with a run on a word, or the timeline of a word, with or without a formula
 pub data Request : Type 0 where
   Picture : Request
   Run : Text → Request
@@ -18,8 +18,7 @@ pub data Request : Type 0 where
 abbrev pub draw_app : App
 draw_app = with_rule (with_rule (with_rule (new_app (codes "ltldraw")) (value_rule (codes "w") 119)) (value_rule (codes "t") 116)) (value_rule (codes "f") 102)
 
--- by the words behind `-w`, `-t` and `-f`: a picture with a run, a timeline, or a picture. A word for each of both asks for nothing, nor does a formula without
--- a timeline
+-- the request for the values of `-w`, `-t` and `-f`, if they have a meaning: `-w` with another option, and `-f` without `-t`, have none
 abbrev pub request_for : Option Text → Option Text → Option Text → Option Request
 request_for (Some run) None None = Some (Run run)
 request_for None (Some word) formula = Some (Timeline word formula)
@@ -35,11 +34,11 @@ abbrev pub request_if : Kinds → List Row → Option Request
 request_if [] rows = request_of_rows rows
 request_if _ rows = None
 
--- what the words ask for, of which the first is the program's name; none where they are usage
+-- the request of a command line, whose first word is the program's name; none if it is a usage error
 abbrev pub request_of : List Text → Option Request
 request_of words = request_if (fault_of draw_app words) (matches_of draw_app words)
 
--- usage only where the words mean nothing; memory may be refused for any words
+-- a usage error only if the words have no meaning; lack of memory for any words
 abbrev pub RefusesWords : List Text → PlanFault → Type 0
 RefusesWords words Usage = request_of words ≡ None
 RefusesWords words OutOfMemory = Unit {0}
@@ -47,12 +46,12 @@ RefusesWords words OutOfMemory = Unit {0}
 abbrev pub Plans : List Text → Result Request PlanFault → Type 0
 Plans words r = MatchResult r (λ p. request_of words ≡ Some p) (RefusesWords words)
 
--- the request is that of the words, or there are none
+-- the request is that of the command line, or there is no command line
 abbrev pub PlansFor : Result (List Text) PlanFault → Result Request PlanFault → Type 0
 PlansFor (Ok words) r = Plans words r
 PlansFor (Err e) r = r ≡ Err e
 
--- the matches are those that the library gives the words, or the words are refused
+-- the matches are those that `clap` documents for the words, or the words are refused
 pub record IsMatched (words : List Text) (m : ArgMatches) : Type 0 where
   pub passes : fault_of draw_app words ≡ []
   pub rows : rows_of (found_of m) ≡ matches_of draw_app words

@@ -1,4 +1,4 @@
--- What a run of `ltldraw` shows.
+-- The possible outcomes of a run of `ltldraw`: output, message and exit status.
 use Rattle.std.specs.Prelude.{◌≡◌, ◌⊎◌, ◌<◌, ◌≤◌, ℕ, List, [], Some, None, Result, Ok, Err, MatchResult, ⊤}
 use Rattle.std.specs.Io.KnownBytes.{Appends}
 use Rattle.clap.specs.Words.{Text}
@@ -32,49 +32,48 @@ use Rattle.ltl_draw.specs.Plans.{PlansFor, Request, Picture, Run, Timeline}
 abbrev pub draw_refused : spec.Refusal → Answer
 draw_refused r = record { output = []; message = draw_message r; status = spec.status_of r }
 
--- what is printed, or why nothing is
+-- the output, or the refusal
 abbrev pub draw_answer : Result (List ℕ) spec.Refusal → Answer
 draw_answer (Ok text) = printed text 0
 draw_answer (Err r) = draw_refused r
 
--- the table of a word and a formula, with a line for each node of the formula's tree and marks that are the truth
+-- the timeline of a word and a formula: a line for each node of the formula's tree, whose marks are the truth
 abbrev pub ShowsTruth : Reading → Lasso → Result (List ℕ) spec.Refusal → Type 0
 ShowsTruth R w r = (f : FormulaView) × IsFormula f.nodes f.names × (reading_of f ≡ R) × HasTrueMarks f w (λ text. r ≡ Ok text)
 
--- the automaton with an accepting run of it on the word, or with none where it doesn't accept the word; refused just where the search is too large
+-- the automaton with an accepting run on the word, or with none if it doesn't accept the word; refused exactly if the search is too large
 abbrev pub RunsOn : MarkedAutomaton → Lasso → Result RunPicture spec.Refusal → Type 0
 RunsOn A w (Ok P) = (P.automaton ≡ A) × IsRunOf A w P.run × (run_size A w ≤ stated_limits.product)
 RunsOn A w (Err e) = (e ≡ spec.LargeProduct) × (stated_limits.product < run_size A w)
 
--- What is printed for a request: the picture of the automaton that the input's text reads as; the same with a run on the word of the words' text, which is
--- read first; the table of the word that the words' text reads as,
--- with no formula; or that of both, where the formula is read first, and the word beside its names. Or the refusal
+-- The output for a request, or the refusal: the drawing of the automaton in the input; the same with a run on a word, whose text is read first; the timeline
+-- of a word; or that of a word and a formula, whose text is read first and whose names count together with the word's
 abbrev pub Prints : Request → Input → Result (List ℕ) spec.Refusal → Type 0
 Prints Picture input = Then (ReadsAutomaton input) (λ A r. r ≡ Ok (dot_text A))
 Prints (Run text) input = Then (ReadsWord stated_limits [] text) (λ w. Then (ReadsAutomaton input) (λ A. Then (RunsOn A w) (λ P r. r ≡ Ok (run_text P))))
 Prints (Timeline text None) input = Then (ReadsWord stated_limits [] text) (λ w r. r ≡ Ok (word_timeline w))
 Prints (Timeline text (Some formula)) input = Then (ReadsFormula stated_limits formula) (λ R. Then (ReadsWord stated_limits R.names text) (λ w. ShowsTruth R w))
 
--- the right answers for what is asked for and for the input
+-- the right answers for a request and an input
 abbrev pub DrawAnswers : Result Request PlanFault → Input → Answer → Type 0
 DrawAnswers (Ok request) input a = (r : Result (List ℕ) spec.Refusal) × Prints request input r × (a ≡ draw_answer r)
 DrawAnswers (Err e) input a = a ≡ draw_refused (refusal_of (of_plan e))
 
--- a write of the output or the flush failed, behind which there was no call, and a beginning went out
+-- a write of the output or the flush failed, no call followed, and a prefix was written
 abbrev pub IsCutOff : Result Request PlanFault → Input → Seen → Type 0
 IsCutOff request input seen =
     (a : Answer) × DrawAnswers request input a × (a.message ≡ []) × (seen.status ≡ spec.status_of spec.CannotWrite) × IsBeginningOf seen.output a.output
     × (seen.output_stage ≡ Broken) × TellsMessage (draw_message spec.CannotWrite) seen
 
--- what a run may show: a right answer, want of memory before the first byte of output, or a beginning of what is right and a failure that is told
+-- what a run may show: a right answer, lack of memory before the first byte of output, or a prefix of the right output and a report of the failure
 abbrev pub MayDraw : Result Request PlanFault → Input → Seen → Type 0
 MayDraw request input seen = ((a : Answer) × DrawAnswers request input a × IsGiven seen a) ⊎ IsGiven seen (draw_refused spec.OutOfMemory) ⊎ IsCutOff request input seen
 
--- the same for the words of the command line, or for want of them
+-- the same for a command line, or for the lack of one
 abbrev pub WordsMayDraw : Result (List Text) PlanFault → Seen → Type 0
 WordsMayDraw words seen = (request : Result Request PlanFault) × PlansFor words request × (input : Input) × MayDraw request input seen
 
--- all but pictures are made of the words alone
+-- only drawings read the input
 abbrev pub NeedsNoInput : Result Request PlanFault → Type 0
 NeedsNoInput (Ok Picture) = ⊥
 NeedsNoInput (Ok (Run text)) = ⊥
@@ -92,7 +91,7 @@ abbrev pub message_with : {T : Type 0} → Result T Refusal → List ℕ
 message_with (Ok x) = []
 message_with (Err e) = draw_message (refusal_of e)
 
--- what went out makes such a run, whatever is told of the message of the result
+-- the output makes such a run, whatever part of the message was written
 pub record IsOutcome {T : Type 0} (request : Result Request PlanFault) (input : Input) (old new : SinkState) (result : Result T Refusal) : Type 0 where
   pub output : List ℕ
   pub written : Appends old.bytes new.bytes output
@@ -100,7 +99,7 @@ pub record IsOutcome {T : Type 0} (request : Result Request PlanFault) (input : 
   pub ends : (seen : Seen) → seen.output ≡ output → seen.output_stage ≡ new.stage → seen.status ≡ status_with result
       → TellsMessage (message_with result) seen → MayDraw request input seen
 
--- a search for a run that doesn't end
+-- the refusal for a search that doesn't finish
 abbrev pub of_run : run.RunFault → Refusal
 of_run run.TheVariants.TooLarge = LargeProduct
 of_run run.TheVariants.OutOfMemory = OutOfMemory
@@ -111,6 +110,6 @@ abbrev pub of_timeline : timeline.TimelineFault → Refusal
 of_timeline timeline.TheVariants.CannotWrite = CannotWrite
 of_timeline timeline.TheVariants.OutOfMemory = OutOfMemory
 
--- such a text was written and flushed, or a beginning of one until a call failed, or nothing for want of memory
+-- such a text was written and flushed, or a prefix of one until a call failed, or nothing because memory ran out
 abbrev pub IsSent : {T : Type 0} → ((List ℕ → Type 0) → Type 0) → SinkState → SinkState → Result T timeline.TimelineFault → Type 0
 IsSent IsText old new r = MatchResult r (λ _. IsText (Finishes old new)) (FailsToShow old new IsText)

@@ -1,4 +1,4 @@
-//! The command line, by the library for them.
+//! The command line of `ltldraw`, parsed by `clap`.
 
 ghost use Rattle.std.specs.Prelude.{◌≡◌, map, option_map, false, IfOk};
 ghost use Rattle.clap.specs.Words.{app_of, found_of, rows_of, rule_of};
@@ -11,7 +11,7 @@ use clap::{Arg, ArgAction, ArgMatches, Command};
 use ltl_words::PlanFault;
 use std::alloc::{AllocError, Global};
 
-/// A word with a value behind it.
+/// An option with a value.
 fn value<'a>(alloc: Global, id: &'a str, short: char) -> Arg<'a>
     ensures rule { rule_of result ≡ value_rule id.entry.now short }
     ensures local { result.global ≡ false }
@@ -19,6 +19,7 @@ fn value<'a>(alloc: Global, id: &'a str, short: char) -> Arg<'a>
     Arg::new(alloc, id).short(short).action(ArgAction::Set)
 }
 
+/// The command: `-w`, `-t` and `-f`, each with a value.
 fn command<'a>(alloc: Global) -> Result<Command<'a>, AllocError>
     ensures { IfOk result (λ c. app_of c ≡ draw_app) }
 {
@@ -28,7 +29,7 @@ fn command<'a>(alloc: Global) -> Result<Command<'a>, AllocError>
         .arg(value(alloc, "f", 'f'))
 }
 
-/// What was given of each argument.
+/// The values of the options. Words that don't fit are usage errors.
 fn matched<'a>(alloc: Global, words: &'a [&'a str]) -> Result<ArgMatches<'a>, PlanFault>
     ensures { Matches (map (λ w. w.now) words.entry.now) result }
 {
@@ -42,8 +43,7 @@ fn matched<'a>(alloc: Global, words: &'a [&'a str]) -> Result<ArgMatches<'a>, Pl
     }
 }
 
-/// A picture with a run where there is a word to run on, a timeline where there is a word for it, and a picture where there is nothing. Both words together,
-/// and a formula without a timeline, ask for nothing.
+/// The plan for the values of `-w`, `-t` and `-f`. `-w` together with another option, and `-f` without `-t`, mean nothing: the result is `None`.
 fn one_plan<'a>(
     run: Option<&'a str>,
     word: Option<&'a str>,
@@ -60,6 +60,7 @@ fn one_plan<'a>(
     }
 }
 
+/// The plan for the parsed command line.
 fn planned<'a>(matches: &ArgMatches<'a>) -> Option<Plan<'a>>
     ensures { option_map request_in result ≡ request_of_rows (rows_of (found_of matches.now)) }
 {
@@ -70,7 +71,7 @@ fn planned<'a>(matches: &ArgMatches<'a>) -> Option<Plan<'a>>
     )
 }
 
-/// What the words ask for. The first of them is the program's name and plays no part.
+/// The plan of a command line. The first word is the program's name and isn't looked at. The errors are `Usage` and `OutOfMemory`.
 pub fn plan<'a>(alloc: Global, words: &'a [&'a str]) -> Result<Plan<'a>, PlanFault>
     ensures { Plans (map (λ w. w.now) words.entry.now) (requested result) }
 {

@@ -1,4 +1,4 @@
-//! What the words ask for: from an automaton's text to the text of its picture, or a timeline.
+//! The program over byte streams: from an automaton's text to its drawing, or a timeline.
 
 ghost use Rattle.std.specs.Prelude.{◌≡◌, OnOk, OnErr, Ok};
 ghost use Rattle.ltl_spec.specs.Tools.Stage.{Open};
@@ -23,7 +23,7 @@ use ltl_streams::{ByteSink, ByteSource, WriteFault};
 use ltl_words::PlanFault;
 use std::alloc::Allocator;
 
-/// The automaton that the source gives.
+/// Reads an automaton from the source.
 pub(crate) fn automaton_of<'a, A: Allocator, R: ByteSource>(
     alloc: &'a A,
     source: &mut R,
@@ -36,7 +36,7 @@ pub(crate) fn automaton_of<'a, A: Allocator, R: ByteSource>(
     Ok(automaton)
 }
 
-/// The drawing of the automaton that the source gives.
+/// Reads an automaton from the source, and prepares its drawing.
 fn drawing_of<'a, A: Allocator, R: ByteSource>(
     alloc: &'a A,
     source: &mut R,
@@ -50,7 +50,7 @@ fn drawing_of<'a, A: Allocator, R: ByteSource>(
     Ok(drawing)
 }
 
-/// Writes the picture, and flushes.
+/// Writes the drawing and flushes the output.
 fn print<A: Allocator, S: ByteSink>(
     drawing: &Drawing<'_, A>,
     output: &mut S,
@@ -62,7 +62,7 @@ fn print<A: Allocator, S: ByteSink>(
     output.flush()
 }
 
-/// Prints the picture of the automaton that the source gives.
+/// Reads an automaton from the source, and writes its drawing.
 fn printed<A: Allocator, R: ByteSource, S: ByteSink>(
     alloc: &A,
     source: &mut R,
@@ -80,7 +80,7 @@ fn printed<A: Allocator, R: ByteSource, S: ByteSink>(
     Ok(())
 }
 
-/// Prints what the plan asks for.
+/// Carries out a plan.
 fn asked<A: Allocator, R: ByteSource, S: ByteSink>(
     alloc: &A,
     plan: &Plan<'_>,
@@ -100,7 +100,7 @@ fn asked<A: Allocator, R: ByteSource, S: ByteSink>(
     }
 }
 
-/// Prints what the plan asks for, where there is one.
+/// Carries out a plan, or refuses a command line that has none.
 fn answered<A: Allocator, R: ByteSource, S: ByteSink>(
     alloc: &A,
     plan: &Result<Plan<'_>, PlanFault>,
@@ -119,9 +119,9 @@ fn answered<A: Allocator, R: ByteSource, S: ByteSink>(
     }
 }
 
-/// Draws what the plan asks for: writes the picture of the automaton that the source gives, or the timeline of a word, and flushes, or writes the message
-/// of a refusal, and answers the exit status. Of the source nothing is asked but for a picture, and nothing of the output before a refusal. After a call
-/// that failed the stream isn't asked again.
+/// Carries out a plan and returns the exit status. It writes the drawing of the automaton that the source holds, or the timeline of a word, and flushes the
+/// output; or it writes the message of a refusal. Only a drawing reads the source. Only a refusal because of a failed write leaves something in the output. A
+/// stream isn't used again after one of its calls has failed.
 pub fn draw_over<A: Allocator, R: ByteSource, S: ByteSink, M: ByteSink>(
     alloc: &A,
     plan: &Result<Plan<'_>, PlanFault>,

@@ -1,4 +1,4 @@
-//! The end of a run: the message and the status.
+//! The end of a run: the message of a refusal and the exit status.
 
 ghost use Rattle.std.specs.Prelude.{◌≡◌};
 ghost use Rattle.ltl_cli.specs.Runs.{IsTold};
@@ -8,7 +8,7 @@ use crate::message;
 use ltl_cli::Refusal;
 use ltl_streams::ByteSink;
 
-/// Writes the message of a refusal, or as much of it as is taken, and answers the exit status.
+/// Writes the message of a refusal, as far as the stream takes it, and returns the exit status.
 pub(crate) fn finish<M: ByteSink>(outcome: Result<(), Refusal>, message: &mut M) -> u8
     ensures status { result ≡ status_with outcome }
     ensures message { IsTold (M.state message.old) (M.state message.new) (message_with outcome) }

@@ -1,12 +1,12 @@
-//! `ltldraw`, over streams of bytes: an automaton as a picture, or a word as a timeline.
+//! The program `ltldraw` over byte streams: an automaton as a drawing, or a word as a timeline.
 //!
-//! What flows: words, to a `Plan` (`plan`); a source, to the automaton that its text reads as and to its drawing (`draw`), or the words' texts, to a word
-//! and a formula (`timeline`); the text of the picture or of the table, to the output. Each step answers a value or a refusal as those of `ltlcheck` and
-//! `ltleval` are, with its status; the line that tells of it (`message`) begins with the program's name. Nothing goes out before the drawing is made, or
-//! all memory of the table is taken.
+//! `plan` parses a command line into a `Plan`. For a drawing, `draw_over` reads an automaton from its source and writes its graph; with `-w`, an accepting
+//! run on a word is in colour. For a timeline (`timeline`), the command line has the text of a word and, with `-f`, that of a formula. Each step returns a
+//! value, or a refusal with the exit status that `ltlcheck` and `ltleval` have for it. The message of a refusal (`message`) begins with the program's name.
+//! Nothing is written before the drawing is complete in memory, or before all memory for the timeline has been allocated.
 //!
 //! ```
-//! draw_over(&alloc, &plan(alloc, &["ltldraw"]), &mut source, &mut output, &mut message)    // answers the exit status
+//! draw_over(&alloc, &plan(alloc, &["ltldraw"]), &mut source, &mut output, &mut message)    // returns the exit status
 //! plan(alloc, &["ltldraw", "-t", "{p}; cycle {}", "-f", "<>p"])    // `Ok(Plan::Timeline("{p}; cycle {}", Some("<>p")))`
 //! ```
 #![tactic(auto)]

@@ -1,4 +1,4 @@
-//! The lines for refusals: those of the checker, with this program's name and usage.
+//! The messages of refusals. They are those of the checker, with this program's name and usage.
 
 ghost use Rattle.std.specs.Prelude.{◌≡◌, ◌++◌, codes, OnOk, OnErr};
 ghost use Rattle.ltl_streams.specs.Streams.{Breaks, Takes};
@@ -18,7 +18,7 @@ use ltl_streams::{ByteSink, WriteFault, write_whole};
 use ltl_syntax::FaultKind;
 use ltl_text::Digits;
 
-/// What stands behind the place of a fault in a formula.
+/// The text after the offset of a syntax error in a formula.
 fn part(kind: FaultKind) -> &'static [u8]
     ensures { result.now ≡ codes ": " ++ fault_text (kind_of kind) }
 {
@@ -30,7 +30,7 @@ fn part(kind: FaultKind) -> &'static [u8]
     }
 }
 
-/// What stands behind the line of a fault in an automaton.
+/// The text after the line number of an error in an automaton.
 fn automaton_part(kind: HoaFaultKind) -> &'static [u8]
     ensures { result.now ≡ codes ": " ++ hoa_fault_text (hoa.kind_of kind) }
 {
@@ -49,7 +49,7 @@ fn automaton_part(kind: HoaFaultKind) -> &'static [u8]
     }
 }
 
-/// The text of a refusal up to its number, and all of it where it has none.
+/// The text of a refusal up to its number, or all of it if it has no number.
 fn front(refusal: Refusal) -> &'static [u8]
     ensures { result.now ≡ front_text (refusal_of refusal) }
 {
@@ -72,7 +72,7 @@ fn front(refusal: Refusal) -> &'static [u8]
     }
 }
 
-/// The number in the text of a refusal.
+/// The number in the text of a refusal: a byte offset from 0, or a line from 1.
 fn number(refusal: Refusal) -> Option<usize>
     ensures { result ≡ number_in (refusal_of refusal) }
 {
@@ -84,7 +84,7 @@ fn number(refusal: Refusal) -> Option<usize>
     }
 }
 
-/// What stands behind the number.
+/// The text after the number.
 fn back(refusal: Refusal) -> &'static [u8]
     ensures { result.now ≡ back_text (refusal_of refusal) }
 {
@@ -96,7 +96,7 @@ fn back(refusal: Refusal) -> &'static [u8]
     }
 }
 
-/// Puts a number, where there is one.
+/// Writes a number, if there is one.
 fn put_number<M: ByteSink>(number: Option<usize>, message: &mut M) -> Result<(), WriteFault>
     ensures ok { OnOk result (Takes (M.state message.old) (M.state message.new) (number_text number)) }
     ensures err { OnErr result (Breaks (M.state message.old) (M.state message.new) (number_text number)) }
@@ -107,7 +107,7 @@ fn put_number<M: ByteSink>(number: Option<usize>, message: &mut M) -> Result<(),
     }
 }
 
-/// Puts the text of a refusal.
+/// Writes the text of a refusal.
 fn put_text<M: ByteSink>(refusal: Refusal, message: &mut M) -> Result<(), WriteFault>
     ensures ok { OnOk result (Takes (M.state message.old) (M.state message.new) (draw_text (refusal_of refusal))) }
     ensures err { OnErr result (Breaks (M.state message.old) (M.state message.new) (draw_text (refusal_of refusal))) }
@@ -117,7 +117,7 @@ fn put_text<M: ByteSink>(refusal: Refusal, message: &mut M) -> Result<(), WriteF
     write_whole(message, back(refusal))
 }
 
-/// Puts the whole line.
+/// Writes the program's name, the text of a refusal and a line feed.
 fn put_line<M: ByteSink>(refusal: Refusal, message: &mut M) -> Result<(), WriteFault>
     ensures ok { OnOk result (Takes (M.state message.old) (M.state message.new) (draw_message (refusal_of refusal))) }
     ensures err { OnErr result (Breaks (M.state message.old) (M.state message.new) (draw_message (refusal_of refusal))) }
@@ -127,7 +127,7 @@ fn put_line<M: ByteSink>(refusal: Refusal, message: &mut M) -> Result<(), WriteF
     write_whole(message, b"\n")
 }
 
-/// Writes the line for a refusal, or as much of it as is taken before a call fails. No memory is taken.
+/// Writes the message of a refusal, up to the first call that fails. It allocates nothing.
 pub(crate) fn write<M: ByteSink>(refusal: Refusal, message: &mut M)
     ensures { IsTold (M.state message.old) (M.state message.new) (draw_message (refusal_of refusal)) }
 {

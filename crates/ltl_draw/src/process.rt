@@ -1,4 +1,4 @@
-//! The program, in a process: the words that the system hands over, and its streams.
+//! The program as a process: its command line and its standard streams.
 
 ghost use Rattle.std.specs.Prelude.{◌≡◌, List, ℕ, Result};
 ghost use Rattle.ltl_spec.specs.Tools.Stage.{Open};
@@ -15,7 +15,7 @@ use std::env;
 use std::io::{Read, Write};
 use std::rt::Env;
 
-/// Draws what the words of the runtime ask for, and answers the exit status.
+/// Carries out the command line of the process over these byte streams, and returns the exit status.
 fn draw_words<R, I, S, M>(rt: &R, source: &mut I, output: &mut S, message: &mut M) -> u8
 where
     R: Env + Alloc<A = Global>,
@@ -42,7 +42,7 @@ where
     draw_over(&rt.alloc(), &plan, source, output, message)
 }
 
-/// Runs the program for the words of the runtime, over this standard input, and answers the exit status.
+/// Runs the program with the command line of the process and these standard streams, and returns the exit status.
 pub fn run<R, I, W, E>(rt: &R, input: I, output: &mut W, message: &mut E) -> u8
 where
     R: Env + Alloc<A = Global>,

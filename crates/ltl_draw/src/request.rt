@@ -1,12 +1,12 @@
-//! What the words of a command line ask for.
+//! Plans: the parsed command line.
 
-/// What the words ask for.
+/// What a command line asks for.
 #[derive(Clone, Copy, Debug, PartialEq, Eq)]
 pub enum Plan<'a> {
-    /// A picture of the automaton that is read.
+    /// A drawing of the automaton that is read.
     Picture,
-    /// A picture of the automaton that is read, and of a run of it on the word of this text.
+    /// A drawing of the automaton that is read, with an accepting run on the word that this text gives.
     Run(&'a str),
-    /// A timeline of the word of this text, and of the formula of the other text, where there is one.
+    /// A timeline of the word that the first text gives, with the formula that the second text gives, if there is one.
     Timeline(&'a str, Option<&'a str>),
 }

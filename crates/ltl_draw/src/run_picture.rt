@@ -1,4 +1,4 @@
-//! The picture of an automaton with a run on a word.
+//! The drawing of an automaton with an accepting run on a word.
 
 ghost use Rattle.std.specs.Prelude.{◌≡◌, OnOk, OnErr, Ok};
 ghost use Rattle.ltl_spec.specs.Tools.Stage.{Open};
@@ -21,7 +21,7 @@ use ltl_streams::{ByteSink, ByteSource, WriteFault};
 use ltl_word::Lasso;
 use std::alloc::Allocator;
 
-/// The refusal where no run is looked for to the end.
+/// The refusal for a search that doesn't finish.
 fn refused(fault: RunFault) -> Refusal
     ensures { result ≡ of_run fault }
 {
@@ -31,7 +31,7 @@ fn refused(fault: RunFault) -> Refusal
     }
 }
 
-/// The drawing of the automaton with an accepting run on the word, where there is one.
+/// The drawing of the automaton with an accepting run on the word, if there is one.
 fn run_drawing<'a, A: Allocator>(
     alloc: &'a A,
     automaton: Marked<'a, A>,
@@ -48,7 +48,7 @@ fn run_drawing<'a, A: Allocator>(
     Ok(drawing)
 }
 
-/// Writes the picture, and flushes.
+/// Writes the drawing and flushes the output.
 fn print<A: Allocator, S: ByteSink>(
     drawing: &RunDrawing<'_, A>,
     output: &mut S,
@@ -60,7 +60,7 @@ fn print<A: Allocator, S: ByteSink>(
     output.flush()
 }
 
-/// Prints the picture of the automaton that the source gives, with a run on the word of this text. The word is read first.
+/// Reads a word from the text, then an automaton from the source, and writes the automaton's drawing with an accepting run on the word.
 pub(crate) fn run_shown<A: Allocator, R: ByteSource, S: ByteSink>(
     alloc: &A,
     text: &str,

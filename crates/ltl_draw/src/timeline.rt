@@ -1,4 +1,4 @@
-//! From the texts of a word and of a formula to the text of their timeline.
+//! From the texts of a word and of a formula to their timeline.
 
 ghost use Rattle.std.specs.Prelude.{◌≡◌, [], option_map, Ok, Some, None, IfOk, IfErr};
 ghost use Rattle.ltl_spec.specs.Tools.Limits.{stated_limits};
@@ -19,7 +19,7 @@ use ltl_timeline::{TimelineFault, timeline_to, word_timeline_to};
 use ltl_word::Lasso;
 use std::alloc::Allocator;
 
-/// The formula of this text.
+/// Reads a formula.
 fn formula_of<'a, A: Allocator>(alloc: &'a A, text: &str) -> Result<Formula<'a, A>, Refusal>
     ensures step { TakesStep (ReadsFormula stated_limits text.now) reading_of result }
     ensures formula { IfOk result (λ f. IsFormula f.nodes f.names) }
@@ -29,7 +29,7 @@ fn formula_of<'a, A: Allocator>(alloc: &'a A, text: &str) -> Result<Formula<'a, 
     Ok(formula)
 }
 
-/// A formula of no propositions. Its text is refused for want of memory alone.
+/// The formula `true`, which has no propositions. The only error is `OutOfMemory`.
 fn no_propositions<'a, A: Allocator>(alloc: &'a A) -> Result<Formula<'a, A>, Refusal>
     ensures names { IfOk result (λ f. f.names ≡ []) }
     ensures memory { IfErr result (λ e. e ≡ Refusal.OutOfMemory) }
@@ -40,7 +40,7 @@ fn no_propositions<'a, A: Allocator>(alloc: &'a A) -> Result<Formula<'a, A>, Ref
     }
 }
 
-/// The word of this text, to be looked at with the formula.
+/// Reads a word. Its propositions and those of the formula are counted together.
 fn word_of<'a, A: Allocator>(
     alloc: &'a A,
     text: &str,
@@ -52,7 +52,7 @@ fn word_of<'a, A: Allocator>(
     Ok(word)
 }
 
-/// The word of this text alone.
+/// Reads a word without a formula.
 pub(crate) fn word_alone<'a, A: Allocator>(
     alloc: &'a A,
     text: &str,
@@ -63,7 +63,7 @@ pub(crate) fn word_alone<'a, A: Allocator>(
     word_of(alloc, text, &formula)
 }
 
-/// The refusal for a timeline that isn't written whole.
+/// The refusal for a timeline that isn't written completely.
 fn refused(fault: TimelineFault) -> Refusal
     ensures { result ≡ of_timeline fault }
 {
@@ -73,7 +73,7 @@ fn refused(fault: TimelineFault) -> Refusal
     }
 }
 
-/// Writes the timeline of the word, and flushes.
+/// Writes the timeline of the word and flushes the output.
 fn send_word<A: Allocator, S: ByteSink>(
     alloc: &A,
     word: &Lasso<'_, A>,
@@ -86,7 +86,7 @@ fn send_word<A: Allocator, S: ByteSink>(
     Ok(())
 }
 
-/// Writes the timeline of the word and the formula, and flushes.
+/// Writes the timeline of the word and the formula and flushes the output.
 fn send_both<A: Allocator, S: ByteSink>(
     alloc: &A,
     formula: &Formula<'_, A>,
@@ -100,7 +100,7 @@ fn send_both<A: Allocator, S: ByteSink>(
     Ok(())
 }
 
-/// Prints the timeline of the word of this text.
+/// Reads a word and writes its timeline.
 fn word_shown<A: Allocator, S: ByteSink>(
     alloc: &A,
     text: &str,
@@ -116,7 +116,7 @@ fn word_shown<A: Allocator, S: ByteSink>(
     }
 }
 
-/// Prints the timeline of the word of this text and of the formula of the other one.
+/// Reads a formula and a word for it, and writes their timeline.
 fn both_shown<A: Allocator, S: ByteSink>(
     alloc: &A,
     text: &str,
@@ -134,7 +134,7 @@ fn both_shown<A: Allocator, S: ByteSink>(
     }
 }
 
-/// Prints the timeline of the word of this text, and of the formula, where there is one. The formula is read first, as the evaluator does.
+/// Reads a word, and a formula if its text is given, and writes the timeline. The formula is read first, as in `ltleval`.
 pub(crate) fn shown<A: Allocator, S: ByteSink>(
     alloc: &A,
     text: &str,

@@ -1,4 +1,4 @@
--- Copies as pairs, equal ones, and what is fed to a hasher of one.
+-- Copies coded as pairs; their equality and hash.
 use Rattle.std.specs.Prelude.{◌≡◌, ℕ, ◌+◌, ◌*◌, ◌%◌, ◌^◌, List, IsTrue, refl}
 use Rattle.std.proofs.Common.{ap, sym}
 use Rattle.std.specs.Coded.{Coded, code_by, coded×, coded_ℕ}
@@ -18,7 +18,7 @@ same_equiv = record {
   congr = λ p q r e. ap (λ x. same_level_state x r) ((same_level_state_Decides p q).0 e);
 }
 
--- what `hash` feeds a hasher
+-- what `hash` feeds to a hasher
 abbrev pub hash_of_level_state : LevelState → List (List ℕ)
 hash_of_level_state p = fed.usize ((p.state * 256 % 2 ^ 64 + p.level) % 2 ^ 64)
 

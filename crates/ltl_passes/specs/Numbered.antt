@@ -1,4 +1,4 @@
--- The states of an automaton as things that are listed.
+-- An automaton as an implicit graph whose nodes are state numbers.
 use Rattle.std.specs.Prelude.{ℕ, map, All}
 use Rattle.ltl_spec.specs.Collections.Sets.{IsRising}
 use Rattle.ltl_spec.specs.Automata.Automaton.{Automaton, Edge, edge_cmp, state_at}
@@ -13,7 +13,7 @@ successor_of e = record { cube = e.cube; key = e.target; marks = e.marks }
 abbrev pub net_of : Automaton → Net ℕ
 net_of A = record { successors = λ s. map successor_of (state_at A s).edges; accepts = λ s. (state_at A s).accepting }
 
--- it is within the limits, and the edges of a state rise
+-- the automaton is within the limits, and the edges of each state are strictly sorted
 pub record IsNumberable (A : Automaton) : Type 0 where
   pub bounded : IsBounded stated_limits.states stated_limits.edges A
   pub rising : All (λ s. IsRising edge_cmp s.edges) A.states

@@ -1,4 +1,4 @@
--- Runs of edges with one target.
+-- Runs of edges with one target, and their minimal edges.
 use Rattle.std.specs.Prelude.{◌≡◌, ℕ, ◌+◌, ◌-◌, ◌<◌, ◌≤◌, ◌⊎◌, Bool, true, not, ◌&&◌, List, [], All, length, map, slice_index_or}
 use Rattle.std.specs.List.{filter, list_any}
 use Rattle.std.specs.List.Sorted.{IsPermutation, IsNonDecreasingBy}
@@ -23,16 +23,16 @@ run_edge k = edge_of k.edge
 abbrev pub target_of : made.RunEdge → ℕ
 target_of k = k.edge.target
 
--- these are the edges, by target
+-- these are the edges sorted by target
 pub record IsByTarget (es : List Edge) (ks : List made.RunEdge) : Type 0 where
   pub moved : IsPermutation es (map run_edge ks)
   pub sorted : IsNonDecreasingBy target_of ks
 
--- all lead to this target
+-- all edges lead to this target
 abbrev pub AllLeadTo : ℕ → List made.RunEdge → Type 0
 AllLeadTo t ks = All (λ k. target_of k ≡ t) ks
 
--- the edge has as many literals and lacks as many sets, and its literals and marks are sets
+-- the number of the edge's literals and of sets that it isn't in; its literals and marks are sets
 pub record IsOfWeight (w : ℕ) (e : Edge) : Type 0 where
   pub weight : w ≡ length e.cube + (LIMIT - length e.marks)
   pub sets : IsSetEdge e
@@ -44,23 +44,23 @@ edge_at es k = slice_index_or es k (record { cube = []; target = 0; marks = [] }
 abbrev pub target_at : List plain.Edge → ℕ → ℕ
 target_at es k = (edge_at es k).target
 
--- the edge at the place f has the target of the one at the place k; f is the noted place, if this is so there
+-- the edge at index f has the target of the one at index k; f is the noted index if the edge there has it too
 pub record IsFirstLike (es : List plain.Edge) (k noted f : ℕ) : Type 0 where
   pub low : f ≤ k
   pub same : target_at es f ≡ target_at es k
   pub stays : noted < k → target_at es noted ≡ target_at es k → f ≡ noted
 
--- the places are one, or the edges there ask for as much
+-- the indices are equal, or the edges have the same weight
 abbrev pub IsWeighedLike : List plain.Edge → ℕ → ℕ → Type 0
 IsWeighedLike es f k = (f ≡ k) ⊎ ((w : ℕ) × IsOfWeight w (edge_of (edge_at es f)) × IsOfWeight w (edge_of (edge_at es k)))
 
--- these are the edges that no other one implies, in some order by target
+-- these are the edges that no other one implies, sorted by target only
 pub record IsKept (es : List Edge) (left : List plain.Edge) : Type 0 where
   pub order : List made.RunEdge
   pub moved : IsPermutation es (map run_edge order)
   pub kept : map edge_of left ≡ filter (λ e. not (list_any (λ f. implies_other f e) es)) (map run_edge order)
 
--- where the two lead to one target, k implies l
+-- if both edges have one target, k implies l
 abbrev pub is_below : made.RunEdge → made.RunEdge → Bool
 is_below k l = is_subset literal_cmp k.edge.cube l.edge.cube && is_subset nat_cmp l.edge.marks k.edge.marks
 

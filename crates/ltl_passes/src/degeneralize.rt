@@ -1,4 +1,5 @@
-//! Levels: from acceptance sets on edges to accepting states. Each state has a copy for each number of sets met in turn.
+//! Degeneralization: a state has a copy for each level, which is the number of acceptance sets that were met in turn. Acceptance sets of edges become
+//! accepting states.
 
 ghost use Rattle.std.specs.Prelude.{◌≡◌, map, IfOk, OnOk, IsErrOf};
 ghost use Rattle.ltl_spec.specs.Collections.Sets.{set_of};
@@ -20,9 +21,11 @@ use std::cmp::Ordering;
 use std::hash::{Hash, Hasher};
 use std::marker::Model;
 
-/// A state on a level.
+/// A copy of a state: the state and its level.
 pub struct LevelState {
+    /// The number of the state.
     pub state: usize,
+    /// The level, from 0 to the number of acceptance sets.
     pub level: usize,
 }
 
@@ -94,7 +97,7 @@ impl Key for LevelState {
     ghost exact = { λ p q. (same_level_state_Decides p q).0 };
 }
 
-/// An edge to a copy.
+/// An edge to a copy, without marks.
 #[derive(Clone, Copy, PartialEq, Eq)]
 pub(crate) struct LevelEdge {
     pub cube: Cube,
@@ -102,7 +105,7 @@ pub(crate) struct LevelEdge {
 }
 
 impl LevelEdge {
-    /// By the literals, then by the state, then by the level.
+    /// Compares by the literals, then by the state, then by the level.
     #[inline(always)]
     pub(crate) fn cmp_list(&self, other: &LevelEdge) -> Ordering
         ensures { result ≡ levels_of.level_edge_cmp (level_edge_of self.now) (level_edge_of other.now) }
@@ -117,7 +120,7 @@ impl LevelEdge {
     }
 }
 
-/// An edge of a copy on a level.
+/// The edge of a copy on this level that an edge of the generalized automaton with `sets` acceptance sets becomes.
 #[inline(always)]
 pub(crate) fn level_edge(sets: usize, edge: &GbaEdge, level: usize) -> LevelEdge
     ensures lifted { level_edge_of result ≡ lifted_edge sets level (gba.edge_of edge.now) }
@@ -131,7 +134,7 @@ pub(crate) fn level_edge(sets: usize, edge: &GbaEdge, level: usize) -> LevelEdge
     }
 }
 
-/// The edges of a copy, sorted and distinct.
+/// The edges of a copy, sorted and without duplicates.
 fn level_edges<'a, A: Allocator>(
     alloc: &'a A,
     sets: usize,
@@ -148,7 +151,7 @@ fn level_edges<'a, A: Allocator>(
     Ok(copied)
 }
 
-/// Sorts the edges, and keeps each once.
+/// Sorts the edges and removes duplicates.
 fn sort_dedup<'a, A: Allocator>(edges: &mut Vec<LevelEdge, &'a A>)
     ensures set { map level_edge_of edges.new.items ≡ set_of levels_of.level_edge_cmp (map level_edge_of edges.old.items) }
 {
@@ -156,7 +159,7 @@ fn sort_dedup<'a, A: Allocator>(edges: &mut Vec<LevelEdge, &'a A>)
     edges.dedup();
 }
 
-/// The edges without marks.
+/// The edges as successors without marks.
 fn successors_of<'c, B: Allocator>(
     alloc: &'c B,
     edges: &[LevelEdge],
@@ -174,7 +177,7 @@ fn successors_of<'c, B: Allocator>(
     Ok(successors)
 }
 
-/// The edges of a copy without marks, sorted and distinct.
+/// The successors of a copy without marks, sorted and without duplicates.
 fn level_successors<'c, B: Allocator>(
     alloc: &'c B,
     sets: usize,
@@ -187,7 +190,7 @@ fn level_successors<'c, B: Allocator>(
     successors_of(alloc, copied.as_slice())
 }
 
-/// The copies of an automaton's states as things that are listed, and for each list how many edges it gives at least, once this was asked.
+/// The implicit graph of the copies of an automaton's states, and for each edge list a lower bound on the number of a copy's edges, once one was asked for.
 #[derive(Drop)]
 struct LevelStates<'b, 'g, 'a, A: Allocator> {
     automaton: &'b Gba<'g, A>,
@@ -208,7 +211,7 @@ impl<'b, 'g, 'a, A: Allocator> Successors<LevelState> for LevelStates<'b, 'g, 'a
         Ok(None)
     }
 
-    /// The lists are counted at the first call.
+    /// The first call computes the bounds of all lists.
     #[tactic(auto, using(crate::proofs::RiseLaws::at_least))]
     fn edges_at_least(&mut self, key: &LevelState) -> Result<usize, AllocError> {
         if self.counts.is_empty() {
@@ -235,7 +238,8 @@ impl<'b, 'g, 'a, A: Allocator> Successors<LevelState> for LevelStates<'b, 'g, 'a
     }
 }
 
-/// The states of the Büchi automaton of the copies that are reached from the start on level 0; those on the last level are accepting.
+/// Degeneralizes an automaton: the states of the Büchi automaton whose states are the copies that are reachable from state 0 on level 0. Copies on the last
+/// level are accepting. The result is `TooLarge` if there are more than `MOST_STATES` copies or `MOST_EDGES` edges.
 pub fn level_states<'a, A: Allocator>(
     alloc: &'a A,
     automaton: &Gba<'_, A>,
@@ -243,7 +247,7 @@ pub fn level_states<'a, A: Allocator>(
     ensures copies { IfOk result (λ s. automaton_of s ≡ levels_of.level_automaton automaton.now) }
     ensures inside { IfOk result (λ s. IsBa (automaton_of s)) }
 
-    // The fault comes exactly where a limit is passed. Memory may be refused at any time.
+    // The result is `TooLarge` only if a limit is exceeded, and is never `Ok` then. Memory may run out at any time.
     ensures few { OnOk result (¬ levels_of.HasTooManyLevelStates automaton.now stated_limits.states stated_limits.edges) }
     ensures many { IsErrOf result BaFault.TooLarge → levels_of.HasTooManyLevelStates automaton.now stated_limits.states stated_limits.edges }
 {
@@ -262,11 +266,11 @@ pub fn level_states<'a, A: Allocator>(
     Ok(states)
 }
 
-/// The Büchi automaton of the copies that are reached from the start on level 0; those on the last level are accepting.
+/// Degeneralizes an automaton, as `level_states` does, into a Büchi automaton.
 pub fn levels<'a, A: Allocator>(alloc: &'a A, automaton: &Gba<'_, A>) -> Result<Ba<'a, A>, BaFault>
     ensures copies { IfOk result (λ b. b ≡ levels_of.level_automaton automaton.now) }
 
-    // The fault comes exactly where a limit is passed. Memory may be refused at any time.
+    // The result is `TooLarge` only if a limit is exceeded, and is never `Ok` then. Memory may run out at any time.
     ensures few { OnOk result (¬ levels_of.HasTooManyLevelStates automaton.now stated_limits.states stated_limits.edges) }
     ensures many { IsErrOf result BaFault.TooLarge → levels_of.HasTooManyLevelStates automaton.now stated_limits.states stated_limits.edges }
 {

@@ -1,6 +1,6 @@
-//! Edges that others imply.
+//! Removal of implied (subsumed) edges.
 //!
-//! An edge is implied by none but those with its target. So the edges are put into runs of one target, and of each run the least ones stay.
+//! Only edges with the same target imply each other. So the edges are sorted by target, and the minimal ones of each run of one target are kept.
 
 ghost use Rattle.std.specs.Prelude.{◌≡◌, ◌==◌, ◌<◌, ◌≤◌, ◌++◌, true, length, map, All, IfOk, OnOk};
 ghost use Rattle.std.specs.List.{prefix_len};
@@ -16,13 +16,13 @@ use ltl_models::elements::{has_literal, tally_literals};
 use ltl_sets::RowSet;
 use std::alloc::{AllocError, Allocator};
 
-/// An edge among those with its target.
+/// An edge of a run of edges with one target.
 #[derive(Clone, Copy)]
 struct RunEdge {
     edge: Edge,
 }
 
-/// An edge is below those with its target that it implies: it asks for no more, and is in each set that the other one is in.
+/// An edge is below those with its target that it implies: its literals are among theirs, and it is in each acceptance set that they are in.
 impl Below for RunEdge {
     ghost use Rattle.ltl_passes.specs.Runs.{is_below, below_transitive};
 
@@ -53,7 +53,7 @@ impl Below for RunEdge {
     ghost transitive = { below_transitive };
 }
 
-/// Another edge counts.
+/// Of the edges below an item, only those that differ from it count.
 struct Differing;
 
 impl Counting<RunEdge> for Differing {
@@ -67,7 +67,7 @@ impl Counting<RunEdge> for Differing {
     }
 }
 
-/// The edges, those with one target one behind the other.
+/// The edges sorted by target.
 fn by_target<'a, A: Allocator>(
     alloc: &'a A,
     edges: &[Edge],
@@ -82,7 +82,7 @@ fn by_target<'a, A: Allocator>(
     Ok(order)
 }
 
-/// How many edges at the beginning lead to that target.
+/// The number of edges at the beginning that lead to this target.
 fn run_len(order: &[RunEdge], target: usize) -> usize
     ensures { result ≡ prefix_len (λ k. target_of k == target) order.now }
 {
@@ -93,7 +93,8 @@ fn run_len(order: &[RunEdge], target: usize) -> usize
     len
 }
 
-/// How much an edge asks for: how many literals it has, and how many of as many sets as there may be it isn't in.
+/// The weight of an edge: the number of its literals, and the number of sets, of `RowSet::LIMIT`, that it isn't in. An edge that implies another one with its
+/// target weighs less.
 #[inline(always)]
 fn weight(edge: &Edge) -> usize
     ensures { IsOfWeight result (edge_of edge.now) }
@@ -105,7 +106,7 @@ fn weight(edge: &Edge) -> usize
     literals + (RowSet::LIMIT - marks)
 }
 
-/// Whether each edge asks for as much.
+/// Whether each edge of a run has this weight.
 fn weigh_alike(run: &[RunEdge], asked: usize) -> bool
     ensures { result ≡ true → All (λ k. IsOfWeight asked (run_edge k)) run.now }
 {
@@ -117,7 +118,7 @@ fn weigh_alike(run: &[RunEdge], asked: usize) -> bool
     true
 }
 
-/// Puts the edges behind those that are kept.
+/// Appends the edges to those that are kept.
 fn put_all<'a, A: Allocator>(run: &[RunEdge], kept: &mut Vec<Edge, &'a A>) -> Result<(), AllocError>
     ensures { OnOk result (map edge_of kept.new.items ≡ map edge_of kept.old.items ++ map run_edge run.now) }
 {
@@ -127,7 +128,7 @@ fn put_all<'a, A: Allocator>(run: &[RunEdge], kept: &mut Vec<Edge, &'a A>) -> Re
     Ok(())
 }
 
-/// Puts the edges of a run that no other one of it implies. Where all ask for as much as the first one, these are all.
+/// Appends the edges of a run that no other one implies. If all weigh as much as the first one, these are all edges of the run.
 fn put_least<'a, A: Allocator>(
     alloc: &'a A,
     run: &[RunEdge],
@@ -144,7 +145,7 @@ fn put_least<'a, A: Allocator>(
     put_all(left.as_slice(), kept)
 }
 
-/// The noted place if an edge with the target of the one at a place stands there before it, else this place.
+/// The index of the representative of an edge's target: the noted index, if it is less than `place` and its edge has the same target, else `place`.
 #[inline(always)]
 fn first_like(edges: &[Edge], place: usize, noted: usize) -> usize
     requires { place < length edges.now }
@@ -156,7 +157,7 @@ fn first_like(edges: &[Edge], place: usize, noted: usize) -> usize
     place
 }
 
-/// Whether the edge at the first place is the one at the other place, or asks for as much.
+/// Whether the two indices are equal or the two edges have the same weight.
 fn weighs_like(edges: &[Edge], first: usize, place: usize) -> bool
     requires place { place < length edges.now }
     requires first { first ≤ place }
@@ -165,7 +166,8 @@ fn weighs_like(edges: &[Edge], first: usize, place: usize) -> bool
     first == place || weight(&edges[first]) == weight(&edges[place])
 }
 
-/// Whether edges with one target ask for as much, so that none is implied. For each target the place of an edge is noted. What is noted at first plays no part.
+/// Whether all edges with one target have the same weight, for each target; then none is implied. The index of the first edge of each target is noted. The
+/// initial contents of `noted` don't matter.
 fn are_alike(edges: &[Edge], noted: &mut [usize]) -> bool
     requires within { All (λ e. e.target < length noted.old) edges.now }
     ensures wide { length noted.new ≡ length noted.old }
@@ -182,7 +184,7 @@ fn are_alike(edges: &[Edge], noted: &mut [usize]) -> bool
     true
 }
 
-/// The edges of all runs that no other one implies, run by run.
+/// The edges that no other one implies, sorted by target only.
 #[tactic(auto, using(crate::proofs::RunLaws::first_run, crate::proofs::RunLaws::last_run))]
 fn least_of_runs<'a, A: Allocator>(
     alloc: &'a A,
@@ -201,7 +203,7 @@ fn least_of_runs<'a, A: Allocator>(
     Ok(kept)
 }
 
-/// The edges without those that another one with the same target implies. Each target has room for the place of an edge.
+/// The edges without those that another one with the same target implies. `noted` has room for an index at each target.
 pub(crate) fn unimplied<'a, A: Allocator>(
     alloc: &'a A,
     edges: Vec<Edge, &'a A>,

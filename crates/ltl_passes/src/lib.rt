@@ -1,19 +1,18 @@
-//! Passes over automata that stand: merging, levels, numbering.
+//! Passes from automaton to automaton: quotient, degeneralization and renumbering.
 //!
-//! In the field's words: the quotient by bisimilarity, found by refining a partition in rounds (`merge`, `merge_ba`); degeneralization, with one copy
-//! of a state for each number of acceptance sets that were met in turn (`levels`); and numbering breadth first (`renumber`). Each is a function from
-//! automaton to automaton that knows no formula.
+//! In the field's words: the quotient by bisimilarity, found by partition refinement (`merge`, `merge_ba`); degeneralization, with a copy of a state for each
+//! number of acceptance sets that were met in turn (`levels`); and numbering breadth first (`renumber`). No pass knows a formula.
 //!
-//! What flows: a `Gba`, merged; its copies on levels, whose accepting states are those of the last level; merged again and numbered: a `Ba`. A `Gba`
-//! that is numbered without levels is a `Gen`. Behind `levels`, `merge_ba` and `renumber` stand the same passes over states that no `Ba` holds yet
-//! (`level_states`, `merged_states`, `renumbered_states`), of which the translation is composed. A `Ba` knows the order of its edges by target, which
-//! is needed once, at the end.
+//! The translation merges a `Gba`, degeneralizes it, merges the result and renumbers it: that is a `Ba`. A merged `Gba` that is renumbered is a `Gen`
+//! (`renumber_generalized`). `levels`, `merge_ba` and `renumber` make a `Ba`; the translation calls the same passes over states alone (`level_states`,
+//! `merged_states`, `renumbered_states`), because a `Ba` keeps the order of its edges by target, which is needed only for the last one.
 //!
-//! Each round of merging compares all lists of edges, up to the classes of their targets. Where the edges of all lists rise (`rising`), the first round
-//! compares the lists' numbers in place of the lists. A list is searched for implied edges if two of its edges with one target ask for differently
-//! much; then its edges are sorted by target, and of each run of one target the least ones stay (`implied`).
+//! Each round of refinement compares all edge lists up to the classes of their targets. If all lists are strictly sorted (`rising`), the first round compares
+//! the numbers of the lists instead. A list is searched for implied edges only if two of its edges with one target have different weights. Then the edges are
+//! sorted by target, and the minimal ones of each target are kept (`implied`).
 //!
-//! The generalized automaton of `[]<>p` has, merged, one state, with `[t]` in no set and `[p]` in set 0. On levels it has two copies with one list:
+//! The generalized automaton of `[]<>p` has one state after merging, with `[t]` in no set and `[p]` in set 0. Degeneralized, it has two copies with one edge
+//! list:
 //!
 //! ```
 //! (0, 0):             [t] to (0, 0)    [p] to (0, 1)

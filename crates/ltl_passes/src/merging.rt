@@ -1,4 +1,4 @@
-//! Merging: states that are equal up to the classes of their targets become one.
+//! The quotient of an automaton by bisimilarity: equivalent states are merged.
 
 ghost use Rattle.std.specs.Prelude.{◌≡◌, if◌then◌else◌, length, IfOk, IfErr};
 ghost use Rattle.ltl_spec.specs.Construction.Merging as merging;
@@ -13,7 +13,7 @@ use ltl_automaton::SharedStates;
 use ltl_models::{Ba, BaFault, Gba, Options};
 use std::alloc::{AllocError, Allocator};
 
-/// The names of the classes that are merged: each state alone where equal states are kept.
+/// The class name of each state. If equal states are kept, each state is a class.
 fn names<'a, A: Allocator>(
     alloc: &'a A,
     states: &SharedStates<'_, A>,
@@ -28,7 +28,7 @@ fn names<'a, A: Allocator>(
     class_names(alloc, states)
 }
 
-/// The automaton after merging, of either kind.
+/// The quotient of an automaton of either kind.
 fn merged<'a, A: Allocator>(
     alloc: &'a A,
     states: &SharedStates<'_, A>,
@@ -41,8 +41,8 @@ fn merged<'a, A: Allocator>(
     quotient(alloc, states, names.as_slice(), options.keep_implied)
 }
 
-/// The automaton with equal states merged and the transitions left out that another one with the same target implies, as the options ask.
-/// Only want of memory is refused.
+/// The generalized automaton with equivalent states merged and without the transitions that another one with the same target implies. Each option turns one
+/// of these two simplifications off. The only fault is `OutOfMemory`.
 pub fn merge<'a, A: Allocator>(
     alloc: &'a A,
     gba: &Gba<'_, A>,
@@ -56,8 +56,8 @@ pub fn merge<'a, A: Allocator>(
     Ok(Gba::new(states))
 }
 
-/// The states of the automaton with equal ones merged and the edges left out that another one with the same target implies, as the options
-/// ask. Only want of memory is refused.
+/// The states of a Büchi automaton with equivalent ones merged and without the edges that another one with the same target implies. Each option turns one of
+/// these two simplifications off. The only fault is `OutOfMemory`.
 pub fn merged_states<'a, A: Allocator>(
     alloc: &'a A,
     states: &SharedStates<'_, A>,
@@ -72,8 +72,8 @@ pub fn merged_states<'a, A: Allocator>(
     Ok(small)
 }
 
-/// The automaton with equal states merged and the edges left out that another one with the same target implies, as the options ask.
-/// Only want of memory is refused.
+/// The Büchi automaton with equivalent states merged and without the edges that another one with the same target implies. Each option turns one of these two
+/// simplifications off. The only fault is `OutOfMemory`.
 pub fn merge_ba<'a, A: Allocator>(
     alloc: &'a A,
     ba: &Ba<'_, A>,

@@ -1,4 +1,4 @@
-//! Numbering breadth first.
+//! Breadth-first numbering of the states that are reachable from state 0.
 
 ghost use Rattle.std.specs.Prelude.{◌≡◌, ⊤, map, All, IfOk, IsErrOf};
 ghost use Rattle.ltl_spec.specs.Collections.Sets.{IsRising};
@@ -15,13 +15,13 @@ use ltl_automaton::{
 use ltl_models::{Ba, BaFault, Gba, Gen, MOST_EDGES, MOST_STATES};
 use std::alloc::{AllocError, Allocator};
 
-/// The states of an automaton as things that are listed.
+/// An automaton as an implicit graph whose nodes are state numbers.
 #[derive(Drop)]
 struct Numbers<'b, 's, A: Allocator> {
     states: &'b SharedStates<'s, A>,
 }
 
-/// The edges by the numbers of their targets.
+/// The edges as successors, with their targets' numbers as keys.
 fn successors_of<'c, B: Allocator>(
     alloc: &'c B,
     edges: &[Edge],
@@ -76,8 +76,8 @@ impl<'b, 's, A: Allocator> Successors<usize> for Numbers<'b, 's, A> {
     }
 }
 
-/// The states numbered breadth first: the start is 0; states are taken in the order of their numbers, their edges by literals, target and
-/// marks, and a new target gets the next number.
+/// The states, numbered breadth first. The initial state is 0. States are explored in the order of their new numbers, and the edges of each in the order of
+/// literals, target and marks. A target without a number gets the next one.
 fn renumbered<'a, A: Allocator>(
     alloc: &'a A,
     states: &SharedStates<'_, A>,
@@ -94,7 +94,7 @@ fn renumbered<'a, A: Allocator>(
     explore_from(alloc, 0, states.sets(), &mut numbers, true, limits)
 }
 
-/// The states of the same automaton, numbered breadth first.
+/// The states of a Büchi automaton, numbered breadth first. The only fault is `OutOfMemory`.
 pub fn renumbered_states<'a, A: Allocator>(
     alloc: &'a A,
     states: &SharedStates<'_, A>,
@@ -108,7 +108,7 @@ pub fn renumbered_states<'a, A: Allocator>(
     Ok(numbered)
 }
 
-/// The same automaton with its states numbered breadth first.
+/// The same Büchi automaton with its states numbered breadth first. The only fault is `OutOfMemory`.
 pub fn renumber<'a, A: Allocator>(alloc: &'a A, automaton: &Ba<'_, A>) -> Result<Ba<'a, A>, BaFault>
     ensures renumbered { IfOk result (λ b. b ≡ renumbered_automaton automaton.now) }
     ensures fits { ¬ IsErrOf result BaFault.TooLarge }
@@ -118,7 +118,7 @@ pub fn renumber<'a, A: Allocator>(alloc: &'a A, automaton: &Ba<'_, A>) -> Result
     Ok(Ba::new(alloc, states)?)
 }
 
-/// The same generalized automaton with its states numbered breadth first.
+/// The same generalized automaton with its states numbered breadth first. The only fault is `OutOfMemory`.
 pub fn renumber_generalized<'a, A: Allocator>(
     alloc: &'a A,
     automaton: &Gba<'_, A>,

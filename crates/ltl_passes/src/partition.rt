@@ -1,4 +1,4 @@
-//! The classes of states that are merged.
+//! Partition refinement by signatures: the coarsest partition whose classes hold bisimilar states.
 
 ghost use Rattle.std.specs.Prelude.{◌≡◌, ◌<◌, List, ◌++◌, length, map, slice_get, slice_index, Some, All, IfOk, OnOk};
 ghost use Rattle.std.specs.List.{range_with_len};
@@ -14,13 +14,13 @@ use crate::rising::all_rise;
 use ltl_automaton::{Edge, EdgeList, Interner, SharedState, SharedStates};
 use std::alloc::{AllocError, Allocator};
 
-/// How lists of edges were seen, each once.
+/// An interner of signatures of edge lists: a list with its targets replaced by the names of their classes.
 type ListInterner<'a, A> = Interner<'a, EdgeList<'a, A>, A>;
 
-/// States by the signatures of their lists, each once.
+/// An interner of signatures of states: the signature number of its list, and whether it is accepting.
 type StateInterner<'a, A> = Interner<'a, SharedState, A>;
 
-/// Each state as its own name.
+/// The partition in which each state is a class.
 pub(crate) fn own_names<'a, A: Allocator>(
     alloc: &'a A,
     count: usize,
@@ -34,7 +34,7 @@ pub(crate) fn own_names<'a, A: Allocator>(
     Ok(names)
 }
 
-/// The signature of a list as it is seen: its place, the next one where it has none.
+/// The number of the signature of an edge list. A new signature gets the next number.
 fn signature<'a, A: Allocator>(
     seen: &mut ListInterner<'a, A>,
     edges: Vec<Edge, &'a A>,
@@ -47,7 +47,7 @@ fn signature<'a, A: Allocator>(
     Ok(place)
 }
 
-/// The signatures of all lists, as they are seen under these names of their targets.
+/// The signature numbers of all edge lists, if their targets have these names.
 fn list_signatures_under<'a, A: Allocator>(
     alloc: &'a A,
     seen: &mut ListInterner<'a, A>,
@@ -66,7 +66,7 @@ fn list_signatures_under<'a, A: Allocator>(
     Ok(signatures)
 }
 
-/// For each signature that occurs the first place where it stands.
+/// For each signature that occurs the index of its first occurrence.
 fn first_places<'a, A: Allocator>(
     alloc: &'a A,
     signatures: &[usize],
@@ -85,7 +85,7 @@ fn first_places<'a, A: Allocator>(
     Ok(firsts)
 }
 
-/// For each state the least state with its signature.
+/// For each state the least state with the same signature.
 fn least_places<'a, A: Allocator>(
     alloc: &'a A,
     signatures: &[usize],
@@ -102,7 +102,7 @@ fn least_places<'a, A: Allocator>(
     Ok(names)
 }
 
-/// The signature of a state: the place of what is seen of it, the next one where it has none.
+/// The number of the signature of a state. A new signature gets the next number.
 fn state_signature<A: Allocator>(
     places: &mut StateInterner<'_, A>,
     state: SharedState,
@@ -115,7 +115,7 @@ fn state_signature<A: Allocator>(
     Ok(signature)
 }
 
-/// The signatures of the states by those of their lists.
+/// The signature numbers of the states, from those of their lists.
 fn state_signatures<'a, A: Allocator>(
     alloc: &'a A,
     places: &mut StateInterner<'a, A>,
@@ -138,7 +138,7 @@ fn state_signatures<'a, A: Allocator>(
     Ok(signatures)
 }
 
-/// For each state the least one that is accepting where it is, and whose list has the same signature.
+/// For each state the least one that is accepting exactly if this one is, and whose list has the same signature.
 fn least_alike<'a, A: Allocator>(
     alloc: &'a A,
     states: &SharedStates<'_, A>,
@@ -152,7 +152,7 @@ fn least_alike<'a, A: Allocator>(
     least_places(alloc, signatures.as_slice(), places.len())
 }
 
-/// The names of the classes, refined from those of a round on.
+/// Refines the partition `coarse`, which `from` rounds have made, until a round changes nothing.
 fn refined<'a, A: Allocator>(
     alloc: &'a A,
     states: &SharedStates<'_, A>,
@@ -177,8 +177,9 @@ fn refined<'a, A: Allocator>(
     Ok(names)
 }
 
-/// The name of each state's class, its least state. Two states are of one class where both or neither is accepting and their edges are equal
-/// up to the classes of the targets. Where the edges rise, other lists are other sets of edges, and the first round needs no look at them.
+/// For each state the name of its class, which is the least state of the class. Two states are in one class if both or neither is accepting and their edges
+/// are equal up to the classes of the targets. If all lists are strictly sorted, different lists are different sets of edges; then the first round uses the
+/// numbers of the lists as signatures.
 pub(crate) fn class_names<'a, A: Allocator>(
     alloc: &'a A,
     states: &SharedStates<'_, A>,

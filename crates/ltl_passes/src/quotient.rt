@@ -1,4 +1,4 @@
-//! The automaton of the classes of states.
+//! The quotient automaton of a partition.
 
 ghost use Rattle.std.specs.Prelude.{◌≡◌, ◌<◌, length, map, slice_index, All, IfOk};
 ghost use Rattle.ltl_spec.specs.Construction.Merging as merging;
@@ -12,14 +12,14 @@ use ltl_automaton::{Edge, SharedStates};
 use smallvec::SmallVec;
 use std::alloc::{AllocError, Allocator};
 
-/// The names of the classes, rising, and the number of each state's class.
+/// The names of the classes in ascending order, and for each state the number of its class.
 #[derive(Drop)]
 pub(crate) struct Numbering<'a, A: Allocator> {
     pub(crate) classes: Vec<usize, &'a A>,
     pub(crate) numbers: Vec<usize, &'a A>,
 }
 
-/// Numbers the classes in the order of their names, the least states.
+/// Numbers the classes in the order of their names. The name of a class is its least state.
 fn number_classes<'a, A: Allocator>(
     alloc: &'a A,
     names: &[usize],
@@ -42,10 +42,10 @@ fn number_classes<'a, A: Allocator>(
     Ok(Numbering { classes, numbers })
 }
 
-/// The place of an edge for each class. Small automata have few.
+/// For each class the index of an edge. Most automata are small.
 type Places<'a, A> = SmallVec<usize, 8, &'a A>;
 
-/// The edges of a class, from those of the state that names it. Each class has room for the place of an edge.
+/// The edges of a class, which are those of its least state with classes as targets. `noted` has room for an index at each class.
 fn class_edges<'a, A: Allocator>(
     alloc: &'a A,
     edges: &[Edge],
@@ -65,7 +65,7 @@ fn class_edges<'a, A: Allocator>(
     unimplied(alloc, made, noted)
 }
 
-/// The automaton of the classes, in the order of the classes' names.
+/// The quotient automaton, with the classes in the order of their names.
 pub(crate) fn quotient<'a, A: Allocator>(
     alloc: &'a A,
     states: &SharedStates<'_, A>,

@@ -1,4 +1,4 @@
-//! Edges with other targets.
+//! Edges with their targets replaced.
 
 ghost use Rattle.std.specs.Prelude.{◌≡◌, ◌<◌, length, map, slice_index, All, IfOk};
 ghost use Rattle.ltl_spec.specs.Construction.Merging.{retargeted_edge};
@@ -28,7 +28,7 @@ fn retargeted_edges<'a, A: Allocator>(
     Ok(made)
 }
 
-/// The edges with other targets, sorted and distinct.
+/// The edges with other targets, sorted and without duplicates.
 pub(crate) fn retargeted<'a, A: Allocator>(
     alloc: &'a A,
     edges: &[Edge],

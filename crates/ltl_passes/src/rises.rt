@@ -1,4 +1,4 @@
-//! How many edges a copy has at least, before they are made.
+//! A lower bound on the number of a copy's edges, known before they are made.
 
 ghost use Rattle.std.specs.Prelude.{◌≡◌, ◌≤◌, [], length, map, IfOk};
 ghost use Rattle.ltl_spec.specs.Construction.Levels as levels_of;
@@ -12,7 +12,7 @@ use ltl_models::GbaEdge;
 use std::alloc::{AllocError, Allocator};
 use std::cmp::Ordering;
 
-/// How many edges rise above all before them by their literals and their targets. On no level do two of these become one.
+/// The number of edges that are greater, by literals and target, than all edges before them. These edges stay different on every level.
 fn rises(edges: &[GbaEdge]) -> usize
     ensures { HasAtLeast (map gba.edge_of edges.now) result }
 {
@@ -31,7 +31,7 @@ fn rises(edges: &[GbaEdge]) -> usize
     count
 }
 
-/// Counts the edges of each list that rise.
+/// Computes the lower bound of each edge list.
 #[tactic(auto, using(crate::proofs::RiseLaws::counted_more))]
 pub(crate) fn count_rises<'a, A: Allocator>(
     states: &SharedStates<'_, A>,
@@ -48,7 +48,7 @@ pub(crate) fn count_rises<'a, A: Allocator>(
     Ok(())
 }
 
-/// So many edges a copy has at least, by what was counted of the lists.
+/// A lower bound on the number of a copy's edges, from the bounds of the edge lists; 0 if there is no such state or bound.
 #[tactic(auto, using(crate::proofs::RiseLaws::counted_least))]
 pub(crate) fn counted<A: Allocator>(
     states: &SharedStates<'_, A>,

@@ -1,4 +1,4 @@
-//! Lists of edges that rise, as those of a set of edges do.
+//! A test whether edge lists are strictly sorted, so that each is a set of edges in its one order.
 
 ghost use Rattle.std.specs.Prelude.{◌≡◌, map, true, All};
 ghost use Rattle.ltl_spec.specs.Collections.Sets.{IsRising};
@@ -9,7 +9,7 @@ use ltl_automaton::{Edge, SharedStates};
 use std::alloc::Allocator;
 use std::cmp::Ordering;
 
-/// Whether each edge is below the next one.
+/// Whether each edge is less than the next one.
 fn are_rising(edges: &[Edge]) -> bool
     ensures { result ≡ true → IsRising edge_cmp (map edge_of edges.now) }
 {
@@ -22,7 +22,7 @@ fn are_rising(edges: &[Edge]) -> bool
     true
 }
 
-/// Whether the edges of each list rise.
+/// Whether all edge lists are strictly sorted.
 pub(crate) fn all_rise<A: Allocator>(states: &SharedStates<'_, A>) -> bool
     ensures { result ≡ true → All (λ es. IsRising edge_cmp es) states.now.lists }
 {

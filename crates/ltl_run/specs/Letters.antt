@@ -1,4 +1,4 @@
--- The letters of a word, by the numbers of some names.
+-- The letters of a word, as sets of the numbers of some names.
 use Rattle.std.specs.Prelude.{◌≡◌, ℕ, ◌<◌, Bool, true, List, [], length, if◌then◌else◌, slice_index_or}
 use Rattle.std.specs.Ordering.{nat_cmp}
 use Rattle.ltl_spec.specs.Collections.Sets.{has, put}
@@ -9,16 +9,16 @@ use Rattle.ltl_word.specs.Rows.{bit_of}
 abbrev pub letter_in : List (List ℕ) → ℕ → List ℕ
 letter_in letters i = slice_index_or letters i []
 
--- the number, where it is put
+-- the set with the number added if the flag says so
 abbrev pub put_if : Bool → ℕ → List ℕ → List ℕ
 put_if b p letter = if b then put nat_cmp p letter else letter
 
--- the number was put into the letters of a row's positions
+-- the number was added to the letters of a row's positions
 pub record IsPut (row : List ℕ) (p : ℕ) (old new : List (List ℕ)) : Type 0 where
   pub long : length new ≡ length old
   pub letters : (i : ℕ) → i < length old → letter_in new i ≡ put_if (bit_of row i) p (letter_in old i)
 
--- the letters have those of the first n names that are true at their positions
+-- the letters hold the numbers of those of the first n names that are true at their positions
 pub record AreLettersTo (names : List Name) (w : Lasso) (n : ℕ) (letters : List (List ℕ)) : Type 0 where
   pub long : length letters ≡ size w
   pub among : (i p : ℕ) → i < size w → has nat_cmp p (letter_in letters i) ≡ true → p < n

@@ -1,4 +1,4 @@
--- Laws of an automaton's places.
+-- Laws of the product of an automaton and a lasso word.
 use Rattle.std.proofs.Common.{◌≡◌, ◌∙◌, ℕ, ◌+◌, ◌*◌, ◌/◌, ◌%◌, ◌<◌, ◌≤◌, Bool, true, false, cond, List, [], length, Some, None, inl, inr, refl, sym, subst, ap, arith}
 use Rattle.std.specs.Prelude.{All, nat_lt, slice_index_or}
 use Rattle.std.specs.Ordering.{nat_cmp}
@@ -22,7 +22,7 @@ use Rattle.ltl_run.specs.declared.places.Place.{Place}
 use Rattle.ltl_run.specs.Letters.{letter_in}
 use Rattle.ltl_run.specs.PlaceView.{IsInside, IsPlace, edge_count, next_position, place_at, place_number, place_step, step_along}
 
--- there is a first position
+-- a word has a first position
 pub some_position : (stem : ℕ) (letters : List (List ℕ)) → stem < length letters → 0 < length letters
 some_position stem letters l = omega arith
 
@@ -46,7 +46,7 @@ module _ (A : MarkedAutomaton) (letters : List (List ℕ)) (stem : ℕ) where
       let m : place_number A letters stem s % length letters ≡ s.position = mod-mul-add s.state (length letters) s.position h.1 in
       λ i. record { state = d i; position = m i }
 
-  -- a step is along an edge whose label the letter meets
+  -- a step follows an edge whose label the letter satisfies
   pub step_is : (s : Place) (k : ℕ) (t : Step Place) → place_step A letters stem s k ≡ Some t
       → (allows (λ p. has nat_cmp p (letter_in letters s.position)) (slice_index_or (edges_at A s.state) k no_edge).cube ≡ true) × (step_along A letters stem s (slice_index_or (edges_at A s.state) k no_edge) ≡ t)
   step_is s k t e = by (allows (λ p. has nat_cmp p (letter_in letters s.position)) (slice_index_or (edges_at A s.state) k no_edge).cube) e

@@ -1,4 +1,4 @@
--- An automaton that was read at the positions of a word, as a graph whose edges are found by looking.
+-- The product of an automaton and a lasso word, as an implicit graph.
 use Rattle.std.specs.Prelude.{◌≡◌, ℕ, ◌+◌, ◌*◌, ◌/◌, ◌%◌, ◌<◌, ◌≤◌, All, List, ◌++◌, length, map, nat_lt, if◌then◌else◌, slice_index_or, Option, Some, None}
 use Rattle.std.specs.Ordering.{nat_cmp}
 use Rattle.ltl_spec.specs.Collections.Sets.{has}
@@ -18,7 +18,7 @@ use Rattle.ltl_run.specs.Edges.{edges_at}
 use Rattle.ltl_run.specs.declared.places.Place.{Place}
 use Rattle.ltl_run.specs.Letters.{letter_in}
 
--- the numbers are below their counts
+-- all numbers of the automaton are below their counts
 pub record IsInside (A : MarkedAutomaton) : Type 0 where
   pub counted : length A.edges ≡ A.states
   pub begins : A.start < A.states
@@ -27,14 +27,14 @@ pub record IsInside (A : MarkedAutomaton) : Type 0 where
   pub within : All (λ es. All (IsEdgeWithin (length A.names) A.states A.sets) es) A.edges
 
 module _ (A : MarkedAutomaton) (letters : List (List ℕ)) (stem : ℕ) where
-  -- both are below their counts
+  -- state and position are below their counts
   abbrev pub IsPlace : Place → Type 0
   IsPlace s = (s.state < A.states) × (s.position < length letters)
 
   abbrev pub place_count : ℕ
   place_count = A.states * length letters
 
-  -- the number of a place, and the place of a number
+  -- the number of a product state, and the product state of a number
   abbrev pub place_number : Place → ℕ
   place_number s = s.state * length letters + s.position
 
@@ -47,7 +47,7 @@ module _ (A : MarkedAutomaton) (letters : List (List ℕ)) (stem : ℕ) where
   abbrev pub edge_count : Place → ℕ
   edge_count s = length (edges_at A s.state)
 
-  -- the position behind this one
+  -- the next position
   abbrev pub next_position : ℕ → ℕ
   next_position i = if nat_lt (i + 1) (length letters) then i + 1 else stem
 
@@ -55,7 +55,7 @@ module _ (A : MarkedAutomaton) (letters : List (List ℕ)) (stem : ℕ) where
   abbrev pub step_along : Place → Edge → Step Place
   step_along s e = record { target = record { state = e.target; position = next_position s.position }; marks = e.marks; letter = letter_in letters s.position }
 
-  -- unless the letter doesn't meet its label
+  -- the step along an edge, unless the letter contradicts its label
   abbrev pub step_by : Place → Edge → Option (Step Place)
   step_by s e = if allows (λ p. has nat_cmp p (letter_in letters s.position)) e.cube then Some (step_along s e) else None
 
@@ -69,13 +69,13 @@ module _ (A : MarkedAutomaton) (letters : List (List ℕ)) (stem : ℕ) where
   abbrev pub IsFullRun : List Taken → List Taken → Type 0
   IsFullRun prefix cycle = IsFullWalk place_net A.sets prefix cycle
 
--- the edge of a step, where there are so many positions
+-- the edge of a step, if the word has this many positions
 abbrev pub pick_of : ℕ → Taken → Pick
 pick_of positions t = record { state = t.state / positions; place = t.pick }
 
 abbrev pub picks_of : ℕ → List Taken → List Taken → List Pick
 picks_of positions prefix cycle = map (pick_of positions) prefix ++ map (pick_of positions) cycle
 
--- the edges of some such prefix and cycle
+-- the edges of an accepting run: its prefix, then its cycle
 abbrev pub IsFoundRun : MarkedAutomaton → List (List ℕ) → ℕ → List Pick → Type 0
 IsFoundRun A letters stem run = (prefix : List Taken) × (cycle : List Taken) × IsFullRun A letters stem prefix cycle × (run ≡ picks_of (length letters) prefix cycle)

@@ -1,4 +1,4 @@
-//! Why there is no answer.
+//! Errors of the search for a run.
 
 use ltl_check::CheckFault;
 use std::alloc::AllocError;
@@ -7,10 +7,11 @@ use thiserror::Error;
 /// Why it isn't known whether there is an accepting run.
 #[derive(Clone, Copy, Debug, PartialEq, Eq, Error)]
 pub enum RunFault {
-    /// The states at the positions of the word, on the levels of the search, are more than [`PRODUCT_LIMIT`](ltl_check::PRODUCT_LIMIT).
+    /// The product of the automaton's states, the word's positions and the levels of the search has more than [`PRODUCT_LIMIT`](ltl_check::PRODUCT_LIMIT)
+    /// states.
     #[error("limit: product too large")]
     TooLarge,
-    /// A growth was refused.
+    /// The allocator refused an allocation.
     #[error("out of memory")]
     OutOfMemory,
 }

@@ -1,4 +1,4 @@
-//! The letters of a word, by the numbers of an automaton's propositions.
+//! The letters of a word, as sets of an automaton's proposition numbers.
 
 ghost use Rattle.std.specs.Prelude.{◌≡◌, ℕ, ◌<◌, ◌≤◌, ◌+◌, ◌/◌, [], length, map, string_bytes, IfOk};
 ghost use Rattle.ltl_spec.specs.Tools.Limits.{stated_limits};
@@ -9,7 +9,7 @@ use ltl_sets::RowSet;
 use ltl_word::{Bits, Lasso};
 use std::alloc::{AllocError, Allocator};
 
-/// So many letters in which nothing is true.
+/// A list of `count` letters in which no proposition is true.
 fn empty_letters<'a, A: Allocator>(
     alloc: &'a A,
     count: usize,
@@ -21,7 +21,7 @@ fn empty_letters<'a, A: Allocator>(
     Ok(letters)
 }
 
-/// Puts the proposition into the letters of the positions where it is true.
+/// Adds a proposition to the letters of the positions where it is true.
 fn put_row<A: Allocator, B: Allocator>(letters: &mut Vec<RowSet, &A>, row: &Bits<'_, B>, p: usize)
     requires few { p < LIMIT }
     requires long { length row.now ≡ length letters.old.items / 64 + 1 }
@@ -34,7 +34,7 @@ fn put_row<A: Allocator, B: Allocator>(letters: &mut Vec<RowSet, &A>, row: &Bits
     }
 }
 
-/// For each position of the word the numbers of the names that are true there.
+/// For each position of the word the numbers of the names that are true there. A name that the word doesn't have is false.
 pub(crate) fn letters<'a, A: Allocator, B: Allocator>(
     alloc: &'a A,
     word: &Lasso<'_, B>,

@@ -1,12 +1,12 @@
-//! Runs of automata that were read on ultimately periodic words.
+//! Accepting runs of a generalized Büchi automaton on an ultimately periodic word (a lasso).
 //!
-//! What flows: a `Marked` and a `Lasso`; of each position of the word the propositions that are true there, by the automaton's numbers (`letters`);
-//! the automaton at the positions of the word (`places`), a graph whose edges are found by looking, which `find` of `ltl_check` searches for a path and a
-//! closed walk through all acceptance sets; the edges of that walk, which are those of an accepting run. Where there is none, the word isn't accepted.
+//! The automaton is a `Marked`, as `ltl_hoa` reads it. The word is a `Lasso`. `letters` finds for each position of the word which of the automaton's
+//! propositions are true there. The product of automaton and word (`places`) is an implicit graph. `find` of `ltl_check` searches it for a path to a cycle
+//! with an edge of every acceptance set. The edges of that lasso are those of an accepting run; if there is none, the automaton doesn't accept the word.
 //!
 //! ```
 //! match accepting_run(&alloc, &automaton, &word)? {
-//!     Some(run) => ..     // its edges, each by its state and its place there
+//!     Some(run) => ..     // its edges, each by its state and its index there
 //!     None => ..          // the automaton doesn't accept the word
 //! }
 //! ```

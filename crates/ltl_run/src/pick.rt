@@ -1,6 +1,6 @@
-//! Edges by their places.
+//! Edges of an automaton, by their indices.
 
-/// An edge of an automaton: the state that it leaves, and its place among the edges of that state.
+/// An edge of an automaton: its source state, and its index among the edges of that state. Both are counted from 0.
 #[derive(Clone, Copy, Debug, PartialEq, Eq)]
 pub struct Pick {
     pub state: usize,

@@ -1,4 +1,4 @@
-//! An automaton at the positions of a word.
+//! The product of an automaton and a lasso word, as an implicit graph.
 
 ghost use Rattle.std.specs.Prelude.{◌≡◌, ◌<◌, ◌≤◌, length};
 ghost use Rattle.ltl_spec.specs.Tools.Limits.{stated_limits};
@@ -9,21 +9,21 @@ use ltl_hoa::Marked;
 use ltl_sets::RowSet;
 use std::alloc::Allocator;
 
-/// A state of the automaton, and a position of the word.
+/// A state of the product: a state of the automaton and a position of the word.
 #[derive(Clone, Copy, Debug)]
 pub struct Place {
     pub state: usize,
     pub position: usize,
 }
 
-/// How many edges were looked at. At the greatest number it stays.
+/// The number of edges that the search has explored. It saturates.
 #[derive(Debug, Drop)]
 pub struct Looks {
     pub(crate) count: u128,
 }
 
 impl Looks {
-    /// None yet.
+    /// No edge has been explored.
     pub(crate) fn new() -> Looks
         ensures { result.count ≡ 0 }
     {
@@ -31,8 +31,8 @@ impl Looks {
     }
 }
 
-/// The automaton at the positions of a word, of which these are the letters: an edge is there where the letter meets its label, and leads to the next
-/// position.
+/// The product of an automaton and a word, which is given by its letters. An edge exists at a position if the letter there satisfies its label; it leads to
+/// the next position.
 #[derive(Drop)]
 pub struct Places<'p, 'a, A: Allocator> {
     pub(crate) automaton: &'p Marked<'a, A>,
@@ -44,7 +44,7 @@ pub struct Places<'p, 'a, A: Allocator> {
 }
 
 impl<'p, 'a, A: Allocator> Places<'p, 'a, A> {
-    /// The automaton at positions with these letters, of which so many are the stem.
+    /// The product with a word of these letters, of which the first `stem` are the stem.
     pub(crate) fn new(
         automaton: &'p Marked<'a, A>,
         letters: &'p [RowSet],
@@ -64,7 +64,7 @@ impl<'p, 'a, A: Allocator> Places<'p, 'a, A> {
         }
     }
 
-    /// The position behind this one: behind the last comes the first of the cycle.
+    /// The next position. The position after the last one is the first of the cycle.
     fn next(&self, position: usize) -> usize
         requires { position < length self.now.letters.now }
         ensures { result ≡ next_position self.now.automaton.now self.now.letters.now self.now.stem position }

@@ -1,4 +1,4 @@
-//! An accepting run.
+//! Search for an accepting run of an automaton on a word.
 
 ghost use Rattle.std.specs.Prelude.{◌≡◌, ℕ, ◌+◌, ◌*◌, ◌<◌, ◌≤◌, ◌++◌, true, false, List, map, length, option_map, Ok, None, IfOk, IfErr, IfSome, OnOk, IsErrOf};
 ghost use Rattle.ltl_spec.specs.Tools.Limits.{stated_limits};
@@ -15,7 +15,7 @@ use ltl_hoa::Marked;
 use ltl_word::Lasso;
 use std::alloc::{AllocError, Allocator};
 
-/// Puts the edges of these steps, where a word has so many positions.
+/// Appends the edges of these steps. A word with `positions` positions determines the state of a product number.
 fn push_picks<A: Allocator>(
     steps: &[Taken],
     positions: usize,
@@ -34,7 +34,7 @@ fn push_picks<A: Allocator>(
     Ok(())
 }
 
-/// The edges of a walk.
+/// The edges of a walk: first those of its stem, then those of its cycle.
 fn picks<'a, A: Allocator>(
     alloc: &'a A,
     walk: &Walk<'_, A>,
@@ -49,7 +49,7 @@ fn picks<'a, A: Allocator>(
     Ok(picks)
 }
 
-/// The edges of an accepting run, where there is one.
+/// The edges of an accepting run, if there is one.
 fn searched<'a, A: Allocator>(
     alloc: &'a A,
     places: &Places<'_, '_, A>,
@@ -70,7 +70,7 @@ fn searched<'a, A: Allocator>(
     }
 }
 
-/// Whether the states at so many positions, on the levels of the sets, are more than a search may have.
+/// Whether the product with a word of so many positions, on all levels, exceeds the limit of a search.
 fn is_too_large<A: Allocator>(automaton: &Marked<'_, A>, positions: usize) -> bool
     ensures large { result ≡ true → stated_limits.product < automaton.now.states * positions * (automaton.now.sets + 1) }
     ensures few { result ≡ false → positions ≤ stated_limits.product }
@@ -81,12 +81,13 @@ fn is_too_large<A: Allocator>(automaton: &Marked<'_, A>, positions: usize) -> bo
         || automaton.len() * positions * (automaton.sets() + 1) > PRODUCT_LIMIT
 }
 
-/// The edges of an accepting run of the automaton on the word, from the start on and then those of the part that repeats, or none where the automaton
-/// doesn't accept the word.
+/// The edges of an accepting run of the automaton on the word, or `None` if the automaton doesn't accept the word. The run begins at the initial state and
+/// ends after one round of its cycle. The result doesn't say where the cycle begins.
 ///
 /// # Errors
 ///
-/// More than [`PRODUCT_LIMIT`] states at positions of the word, on levels of acceptance sets, or no memory.
+/// `TooLarge` if the number of states, times that of positions, times that of acceptance sets plus one exceeds [`PRODUCT_LIMIT`]; `OutOfMemory` if an
+/// allocation fails.
 pub fn accepting_run<'a, A: Allocator, B: Allocator>(
     alloc: &'a A,
     automaton: &Marked<'_, A>,
