@@ -16,13 +16,12 @@ use Rattle.ltl_spec.proofs.Collections.Orders.{nat_linear, literal_linear}
 use Rattle.ltl_spec.proofs.Collections.CaseLaws.{false_is_true}
 use Rattle.ltl_spec.proofs.Transitions.JoinLaws.{within_refl, within_trans, united, within_left, within_right, IsConsistent}
 use Rattle.ltl_spec.proofs.Transitions.SafeLaws.{consistent_within, united_within, safe_from}
-use Rattle.ltl_spec.proofs.Transitions.SupportTests.{TellsOf, untouched}
+use Rattle.ltl_spec.proofs.Transitions.SupportTests.{TellsOf, untouched_through}
 use Rattle.ltl_spec.proofs.Transitions.IndependenceTests.{Support, Has-names, no_support, support_of, names_of_sign, shares_row, shares_sign, shares_some}
 use Rattle.ltl_spec.proofs.Transitions.Fulfilment as by
 use Rattle.ltl_spec.proofs.Transitions.Fulfilment.{Test, until_test, Coming, anything, IsComing, code}
 use Rattle.ltl_spec.proofs.Transitions.FulfilmentLaws.{Passes, passes_more, marked_passes, passes_marked}
 use Rattle.ltl_spec.proofs.Transitions.CodeLaws.{code_cases, code_zero, code_two}
-use Rattle.ltl_spec.proofs.Transitions.SafeAmongLaws.{Untouched, keeps_through, coming_anything}
 use Rattle.ltl_spec.proofs.Transitions.Steps as steps
 use Rattle.ltl_spec.proofs.Transitions.Steps.{test_at, step_test, tests_of, IsOperand, AreAsked}
 use Rattle.ltl_spec.proofs.Transitions.StepLaws.{tests_length, test_earlier, test_of_step}
@@ -35,6 +34,9 @@ use Rattle.ltl_alt.specs.declared.fulfilment.UntilTest.{UntilTest}
 
 and_true : (a b : Bool) → a ≡ true → b ≡ true → (a && b) ≡ true
 and_true a b e f = ap (λ x. x && b) e ∙ f
+
+coming_anything : (x : Pair) → IsComing anything x
+coming_anything x = record { cube = λ l h. refl; targets = λ k h. refl }
 
 -- all that a pair without contradiction asks for comes to what is within it
 pub comes_within : (r : Coming) (u x : Pair) → IsComing r x → Within u x → IsConsistent x → IsComing (coming_to r u) x
@@ -125,8 +127,8 @@ sound_steps T f w = record { earlier = w.earlier; leaves = w.leaves }
 module _ {A : Type 0} (T : Table) (f : Fulfilment A) (tests : AreTests T f) (ps : List Pair) (roots : List ℕ) (opens : AreOpenSteps f.untils.items f.leaves.items ps roots)
     (t u core : Pair) (there : Has ps t) (v : Support) (lack : IsLack f roots core v) (independent : shares_some v (support_of t) ≡ false) (less : Within u t) (smaller : Within core u) where
   -- the test of each until row is one of those that are open, or has nothing to do with the pair
-  until_through : (x : Pair) → IsConsistent (united t x) → (F : Normal) → Has T.untils F → Has (united u x).targets (place T F) → Passes (united t x) (until_test (place T) F) → Passes (united u x) (until_test (place T) F)
-  until_through x n F h k p =
+  until_through : (x : Pair) → IsConsistent (united t x) → (F : Normal) → Has T.untils F → Passes (united t x) (until_test (place T) F) → Passes (united u x) (until_test (place T) F)
+  until_through x n F h p =
       let (i, l, e) = index_of T.untils F h in
       let count = tests.count in
       let d : UntilTest = record { place = 0; step = 0 } in
@@ -140,9 +142,8 @@ module _ {A : Type 0} (T : Table) (f : Fulfilment A) (tests : AreTests T f) (ps 
         | inl o ↦ passes_more (united core x) (united u x) (until_test (place T) F) (united_within core u x x smaller (within_refl x))
             (subst (λ b. Passes (united t x) b → Passes (united core x) b) is
             (asked_through t core x (within_trans core u t smaller less) n (steps_of f.steps.items) lacked.asked lacked.codes v lacked.leaves independent y.step inside (lacked.rooted y.step o inside)) p)
-        | inr (b, c, g) ↦ keeps_through T anything t u x (coming_anything x) F
-            (Untouched (untouched (slice_index_or f.leaves.items y.step no_support) b (until_test (place T) F) ps t u
-            (subst (TellsOf (slice_index_or f.leaves.items y.step no_support)) is (tests.leaves.tell y.step)) c there g)) k p
+        | inr (b, c, g) ↦ untouched_through (slice_index_or f.leaves.items y.step no_support) b (until_test (place T) F) ps t u x
+            (subst (TellsOf (slice_index_or f.leaves.items y.step no_support)) is (tests.leaves.tell y.step)) c there g p
       ]
 
   -- so the one may stand for the other
@@ -151,4 +152,4 @@ module _ {A : Type 0} (T : Table) (f : Fulfilment A) (tests : AreTests T f) (ps 
       let both = united_within u t x x less (within_refl x) in
       passes_marked tests.core F h (united u x) (consistent_within (united u x) (united t x) both n) (λ k.
       let passed = marked_passes tests.core F h (united t x) n m (both.targets (place (table_of tests.core) F) k) in
-      subst (λ (X : Table). Has X.untils F → Has (united u x).targets (place X F) → Passes (united t x) (until_test (place X) F) → Passes (united u x) (until_test (place X) F)) tests.is_table (until_through x n F) h k passed)))
+      subst (λ (X : Table). Has X.untils F → Passes (united t x) (until_test (place X) F) → Passes (united u x) (until_test (place X) F)) tests.is_table (until_through x n F) h passed)))

@@ -6,7 +6,6 @@ pub mod PartLaws
 pub mod UnimpliedLaws
 pub mod LeastPairs
 pub mod SafeLaws
-pub mod SafeTests
 pub mod PruningLaws
 pub mod SameJoins
 pub mod IndependentPairs
@@ -24,8 +23,6 @@ pub mod Fulfilment
 pub mod Steps
 pub mod FulfilmentLaws
 pub mod CodeLaws
-pub mod SafeAmongLaws
-pub mod KeptAmongLaws
 pub mod StepLaws
 pub mod AskedSteps
 pub mod SpokenLaws

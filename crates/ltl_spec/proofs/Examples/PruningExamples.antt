@@ -1,20 +1,21 @@
 -- Worked examples of pairs that may be listed in place of others.
-use Rattle.std.proofs.Common.{◌≡◌, ℕ, Bool, true, false, ◌&&◌, ◌||◌, [], ◌∷◌, length, map, refl}
-use Rattle.std.specs.List.{list_any, list_all}
-use Rattle.ltl_spec.specs.Collections.Sets.{union}
-use Rattle.ltl_spec.specs.Transitions.Cubes.{Literal, Cube, literal_cmp, is_contradictory}
+use Rattle.std.proofs.Common.{◌≡◌, ℕ, true, false, not, [], ◌∷◌, length, map, refl}
+use Rattle.ltl_spec.specs.Collections.Sets.{has}
+use Rattle.ltl_spec.specs.Transitions.Cubes.{Literal, Cube, literal_cmp, opposite}
 use Rattle.ltl_spec.specs.NormalForms.Normal.{Normal, Top, Bottom, Leaf, And, Or, Until, Release}
 use Rattle.ltl_spec.specs.Transitions.Pairs.{RowSet, Pair, empty_pair}
-use Rattle.ltl_spec.specs.Transitions.RowTransitions.{Table, table_of, place, is_marked}
+use Rattle.ltl_spec.specs.Transitions.RowTransitions.{table_of, place, is_marked}
 use Rattle.ltl_spec.proofs.Transitions.TransitionLaws.{joined}
-use Rattle.ltl_spec.specs.Transitions.Pruning.{is_within, fulfilling_pairs, asks_beyond}
+use Rattle.ltl_spec.specs.Transitions.Pruning.{is_within, fulfilling_pairs}
+use Rattle.ltl_spec.proofs.Transitions.Fulfilment.{Coming, code, until_test}
 
--- the rule, computed: u asks for no more than t, and for each fulfilling pair of an until row that t doesn't contradict there is one that asks for no more
--- beyond u
-abbrev is_safe : Table → Pair → Pair → Bool
-is_safe table t u =
-    is_within u t
-    && list_all (λ f. list_all (λ m. is_contradictory (union literal_cmp t.cube m.cube) || list_any (λ n. asks_beyond n u m t) (fulfilling_pairs table f)) (fulfilling_pairs table f)) table.untils
+-- what can still come to a pair without contradicting it
+abbrev coming_to : Pair → Coming
+coming_to p = record { literal = λ l. not (has literal_cmp (opposite l) p.cube); target = λ k. true }
+
+-- the code of a pair for the test of an until row: 2 if it passes, 1 if that is open, 0 if it never does
+abbrev code_for : Normal → Pair → ℕ
+code_for f p = code (coming_to p) p (until_test (place (table_of f)) f)
 
 -- the literal of a proposition
 abbrev is : ℕ → Literal
@@ -58,11 +59,12 @@ with_p = refl
 without_p : is_marked (table_of either) (pair [] (2 ∷ [])) either ≡ false
 without_p = refl
 
-not_safe : is_safe (table_of either) (pair (is 0 ∷ []) (2 ∷ [])) (pair [] (2 ∷ [])) ≡ false
-not_safe = refl
+-- since that is open, the pair lacks p and q; a pair that has p passes
+still_open : code_for either (pair [] (2 ∷ [])) ≡ 1
+still_open = refl
 
-yet_safe : is_safe (table_of either) (pair (is 0 ∷ is 1 ∷ []) (2 ∷ [])) (pair (is 0 ∷ []) (2 ∷ [])) ≡ true
-yet_safe = refl
+passed : code_for either (pair (is 0 ∷ []) (2 ∷ [])) ≡ 2
+passed = refl
 
 -- `<>(p && q)`, at place 2: where p is false now, q plays no part
 
@@ -70,7 +72,7 @@ yet_safe = refl
 abbrev both : Normal
 both = eventually (And (Leaf (is 0)) (Leaf (is 1)))
 
-contradicted : is_safe (table_of both) (pair (is_not 0 ∷ is 1 ∷ []) (2 ∷ [])) (pair (is_not 0 ∷ []) (2 ∷ [])) ≡ true
+contradicted : code_for both (pair (is_not 0 ∷ []) (2 ∷ [])) ≡ 0
 contradicted = refl
 
 -- `[]<>p && []<>q`, the set of all its until and release rows

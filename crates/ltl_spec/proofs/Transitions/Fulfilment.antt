@@ -4,9 +4,7 @@ use Rattle.std.specs.Ordering.{nat_cmp}
 use Rattle.ltl_spec.specs.Collections.Sets.{Has, has}
 use Rattle.ltl_spec.specs.Transitions.Cubes.{Literal, literal_cmp}
 use Rattle.ltl_spec.specs.NormalForms.Normal.{Normal, Top, Bottom, Leaf, Next, And, Or, Until, Release}
-use Rattle.ltl_spec.specs.Transitions.Pairs.{RowSet, Pair, Within}
-use Rattle.ltl_spec.specs.Transitions.RowTransitions.{Table, is_marked}
-use Rattle.ltl_spec.proofs.Transitions.JoinLaws.{united, IsConsistent}
+use Rattle.ltl_spec.specs.Transitions.Pairs.{RowSet, Pair}
 
 -- a test of a pair. What asks for more passes too
 pub data Test : Type 0 where
@@ -85,11 +83,6 @@ pub record IsComing (r : Coming) (x : Pair) : Type 0 where
   pub cube : (l : Literal) → Has x.cube l → r.literal l ≡ true
   pub targets : (k : ℕ) → Has x.targets k → r.target k ≡ true
 
--- the one lets come no more than the other
-pub record IsAmong (r s : Coming) : Type 0 where
-  pub literal : (l : Literal) → r.literal l ≡ true → s.literal l ≡ true
-  pub target : (k : ℕ) → r.target k ≡ true → s.target k ≡ true
-
 -- 2: it is there. 1: it can come. 0: neither
 abbrev pub leaf_code : Bool → Bool → ℕ
 leaf_code there comes = if there then 2 else if comes then 1 else 0
@@ -102,22 +95,3 @@ code r p (Reads l) = leaf_code (has literal_cmp l p.cube) (r.literal l)
 code r p (Leads k) = leaf_code (has nat_cmp k p.targets) (r.target k)
 code r p (Both a b) = min (code r p a) (code r p b)
 code r p (Either a b) = max (code r p a) (code r p b)
-
--- the two pairs have the same codes, as far as these are still open
-abbrev pub Agree : Coming → Pair → Pair → Test → Type 0
-Agree r t u Always = code r t Always ≡ code r u Always
-Agree r t u Never = code r t Never ≡ code r u Never
-Agree r t u (Reads l) = code r t (Reads l) ≡ code r u (Reads l)
-Agree r t u (Leads k) = code r t (Leads k) ≡ code r u (Leads k)
-Agree r t u (Both a b) = (code r t (Both a b) ≡ code r u (Both a b)) × (code r t (Both a b) ≡ 1 → Agree r t u a × Agree r t u b)
-Agree r t u (Either a b) = (code r t (Either a b) ≡ code r u (Either a b)) × (code r t (Either a b) ≡ 1 → Agree r t u a × Agree r t u b)
-
--- u asks for no more than t, and whatever comes to both: each until row that it is marked for with t, it is marked for with u
-pub record IsSafeAmong (table : Table) (r : Coming) (t u : Pair) : Type 0 where
-  pub less : Within u t
-  pub marks : (x : Pair) → IsComing r x → IsConsistent (united t x) → (f : Normal) → Has table.untils f → is_marked table (united t x) f ≡ true → is_marked table (united u x) f ≡ true
-
--- of all these pairs those were kept, each other one may be dropped for one of them where no more comes
-pub record IsKeptAmong (table : Table) (r : Coming) (ps qs : List Pair) : Type 0 where
-  pub from : (q : Pair) → Has qs q → Has ps q
-  pub covers : (p : Pair) → Has ps p → (q : Pair) × Has qs q × IsSafeAmong table r p q

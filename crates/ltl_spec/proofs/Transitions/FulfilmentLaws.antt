@@ -5,14 +5,14 @@ use Rattle.std.specs.List.{list_any}
 use Rattle.std.specs.Ordering.{nat_cmp}
 use Rattle.std.proofs.lemmas.Bool.{or_cases, or_left, or_right}
 use Rattle.std.proofs.lemmas.Bool.Decides.{Decides-and, Decides-or, Decides-like, same_from_decides}
-use Rattle.ltl_spec.specs.Collections.Sets.{Has, has, is_subset, union}
+use Rattle.ltl_spec.specs.Collections.Sets.{Has, has, union}
 use Rattle.ltl_spec.specs.Transitions.Cubes.{Literal, literal_cmp}
 use Rattle.ltl_spec.specs.NormalForms.Normal.{Normal, Top, Bottom, Leaf, Next, And, Or, Until, Release, same}
 use Rattle.ltl_spec.specs.NormalForms.NormalForm.{is_until, rows, until_rows, postorder}
 use Rattle.ltl_spec.specs.Transitions.Pairs.{RowSet, Pair, Within, join, later_pair, conj, pairs}
 use Rattle.ltl_spec.specs.Transitions.RowTransitions.{Table, table_of, place, is_marked}
 use Rattle.ltl_spec.specs.Transitions.Pruning.{is_within, fulfilling_pairs, IsEnough}
-use Rattle.ltl_spec.proofs.Collections.SetLaws.{has_Decides, is_subset_Decides, append_cases, append_left, append_right, union_cases, union_left, union_right, filter_cases}
+use Rattle.ltl_spec.proofs.Collections.SetLaws.{has_Decides, append_cases, append_left, append_right, union_cases, union_left, union_right, filter_cases}
 use Rattle.ltl_spec.proofs.Collections.MemberLaws.{Has-map, map_cases, Has-flat_map, flat_map_cases, any_cases, any_true}
 use Rattle.ltl_spec.proofs.Collections.ListLaws.{first_occurrences_cases}
 use Rattle.ltl_spec.proofs.Collections.Orders.{nat_linear, literal_linear}
@@ -170,16 +170,6 @@ module _ (place : Normal → ℕ) where
       let later = place (Release a b) in
       join_Decides p c (pairs place b) (pairs place a ++ later_pair later ∷ []) (pair_test place b) (Either (pair_test place a) (Leads later)) (pair_test_Decides p c b)
       (append_Decides p (pairs place a) (later_pair later ∷ []) (pair_test place a) (Leads later) (pair_test_Decides p c a) (later_Decides p later))
-
-  -- the test of sets of rows finds one of them
-  pub passes_sets : (p : Pair) (n : Normal) → passes p (set_test place n) ≡ list_any (λ e. is_subset nat_cmp e p.targets) (conj place n)
-  passes_sets p n = same_from_decides (passes p (set_test place n)) (list_any (λ e. is_subset nat_cmp e p.targets) (conj place n)) (set_test_Decides p n) (there, back)
-    where
-      there : list_any (λ e. is_subset nat_cmp e p.targets) (conj place n) ≡ true → SomeSet (conj place n) p.targets
-      there d = let (e, h, w) = any_cases (λ e. is_subset nat_cmp e p.targets) (conj place n) d in (e, h, (is_subset_Decides nat_linear e p.targets).0 w)
-
-      back : SomeSet (conj place n) p.targets → list_any (λ e. is_subset nat_cmp e p.targets) (conj place n) ≡ true
-      back (e, h, w) = any_true (λ e. is_subset nat_cmp e p.targets) (conj place n) e h ((is_subset_Decides nat_linear e p.targets).1 w)
 
   -- the test of pairs finds one of them
   pub passes_pairs : (p : Pair) → IsConsistent p → (n : Normal) → passes p (pair_test place n) ≡ list_any (λ q. is_within q p) (pairs place n)

@@ -1,24 +1,20 @@
 -- A test by sets of numbers that lists of pairs have nothing to do with each other.
-use Rattle.std.proofs.Common.{◌≡◌, ℕ, ◌<◌, length, Bool, true, false, not, ◌&&◌, ◌||◌, inl, inr, List, [], ◌∷◌, ◌++◌, refl, sym, ◌∙◌, ap, subst}
-use Rattle.std.specs.Prelude.{if◌then◌else◌, cond, slice_index_or}
+use Rattle.std.proofs.Common.{◌≡◌, ℕ, Bool, true, false, not, ◌&&◌, ◌||◌, inl, inr, List, [], ◌∷◌, ◌++◌, refl, sym, ◌∙◌, ap, subst}
+use Rattle.std.specs.Prelude.{if◌then◌else◌, cond}
 use Rattle.std.specs.List.{list_any}
 use Rattle.std.specs.Bool.{beq}
 use Rattle.std.specs.Ordering.{nat_cmp}
 use Rattle.std.proofs.lemmas.Bool.{or_left, or_right}
 use Rattle.ltl_spec.specs.Collections.Sets.{Has, union, has}
-use Rattle.ltl_spec.specs.Collections.Lists.{place_of}
 use Rattle.ltl_spec.specs.Transitions.Cubes.{Literal}
-use Rattle.ltl_spec.specs.NormalForms.Normal.{Normal, Bottom, same}
+use Rattle.ltl_spec.specs.NormalForms.Normal.{Normal}
 use Rattle.ltl_spec.specs.Transitions.Pairs.{RowSet, Pair}
 use Rattle.ltl_spec.specs.Transitions.RowTransitions.{Table, place}
 use Rattle.ltl_spec.proofs.Collections.SetLaws.{has_Decides, append_cases, union_left, union_right}
-use Rattle.ltl_spec.proofs.Collections.ListLaws.{place_below, at_place}
 use Rattle.ltl_spec.proofs.Collections.Orders.{nat_linear}
 use Rattle.ltl_spec.proofs.Collections.MemberLaws.{any_true}
 use Rattle.ltl_spec.proofs.Collections.CaseLaws.{false_is_true, left_true, right_true, beq_true, beq_refl}
-use Rattle.ltl_spec.proofs.NormalForms.NormalLaws.{same_Decides}
 use Rattle.ltl_spec.proofs.Transitions.UnimpliedLaws.{not_cases}
-use Rattle.ltl_spec.specs.Transitions.Pruning.{IsEnough, fulfilling_pairs}
 use Rattle.ltl_spec.proofs.Transitions.IndependentPairs.{Asks, Leads, KeepsOff, AreIndependent}
 
 -- what pairs ask for: the propositions of positive and of negative literals, and targets
@@ -211,21 +207,3 @@ module _ (table : Table) (chosen : Normal → List Pair) where
           (or_right (shares_some a b) (meets a.positive b.negative) (meets_from a.positive b.negative x h k)))
       clash false true x h k = not_cases (speaks_of_same a b) same
           (or_right (shares_some a b || meets a.positive b.negative) (meets a.negative b.positive) (meets_from a.negative b.positive x h k))
-
--- lists by the numbers of until rows
-module _ (table : Table) (fulfilling : List (List Pair)) where
-  -- the list of an until row
-  abbrev pub fulfilling_at : Normal → List Pair
-  fulfilling_at f = slice_index_or fulfilling (place_of same f table.untils) []
-
-  -- where the list of each number is enough, so is that of each until row
-  pub enough_at : ((i : ℕ) → i < length table.untils → IsEnough (fulfilling_pairs table (slice_index_or table.untils i Bottom)) (slice_index_or fulfilling i [])) → (f : Normal) → Has table.untils f
-      → IsEnough (fulfilling_pairs table f) (fulfilling_at f)
-  enough_at each f h =
-      subst (λ g. IsEnough (fulfilling_pairs table g) (fulfilling_at f)) (at_place same same_Decides f table.untils Bottom h)
-      (each (place_of same f table.untils) (place_below same same_Decides f table.untils h))
-
-  -- what the lists of all numbers that are put off ask for
-  pub awaits_at : (w : Support) (ps : List Pair) → ((i : ℕ) → i < length table.untils → Leads ps (place table (slice_index_or table.untils i Bottom)) → Covers w (slice_index_or fulfilling i [])) → CoversFulfilling table fulfilling_at w ps
-  awaits_at w ps each f h l =
-      each (place_of same f table.untils) (place_below same same_Decides f table.untils h) (subst (λ g. Leads ps (place table g)) (sym (at_place same same_Decides f table.untils Bottom h)) l)

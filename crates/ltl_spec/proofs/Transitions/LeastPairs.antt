@@ -83,18 +83,6 @@ module _ (t : Table) where
       Has-filter (λ x. not (has nat_cmp (place t f) x.targets)) (pairs (place t) f) m h
       (not_from (has nat_cmp (place t f) m.targets) (λ e. n ((has_Decides nat_linear (place t f) m.targets).0 e)))
 
-  -- of pairs of the row that are enough the fulfilling ones are enough of its fulfilling ones
-  pub fulfilling_enough : (f : Normal) (qs : List Pair) → IsEnough (pairs (place t) f) qs → IsEnough (fulfilling_pairs t f) (filter (λ m. not (has nat_cmp (place t f) m.targets)) qs)
-  fulfilling_enough f qs e =
-      enough_from (fulfilling_pairs t f) (filter fulfilling qs) (λ q h. let c = filter_cases fulfilling qs q h in Has-filter fulfilling (pairs (place t) f) q (e.from q c.0) c.1)
-      (λ p h.
-      let c = fulfilling_cases f p h in
-      let (q, k, w) = enough_below e p c.0 in
-      (q, Has-filter fulfilling qs q k (not_from (has nat_cmp (place t f) q.targets) (λ d. c.1 (w.targets (place t f) ((has_Decides nat_linear (place t f) q.targets).0 d)))), w))
-    where
-      fulfilling : Pair → Bool
-      fulfilling m = not (has nat_cmp (place t f) m.targets)
-
   -- to fulfil the row is to have the pair within, without the row among its targets
   pub fulfils_cases : (f : Normal) (p q : Pair) → fulfils t f p q ≡ true → (Has q.targets (place t f) → ⊥) × Within q p
   fulfils_cases f p q e =

@@ -1,16 +1,15 @@
 -- Which pairs are safe to drop, and tests for that.
-use Rattle.std.proofs.Common.{◌≡◌, Bool, true, false, inl, inr, refl, sym, ◌∙◌, subst, Some}
-use Rattle.std.specs.Ordering.{nat_cmp}
+use Rattle.std.proofs.Common.{◌≡◌, Bool, true, false, refl, sym, ◌∙◌, subst, Some}
 use Rattle.ltl_spec.specs.Collections.Sets.{Has, has}
 use Rattle.ltl_spec.specs.Transitions.Cubes.{Literal, literal_cmp, opposite, Cube, is_contradictory}
 use Rattle.ltl_spec.specs.NormalForms.Normal.{Normal}
 use Rattle.ltl_spec.specs.Transitions.Pairs.{Pair, join_pair}
-use Rattle.ltl_spec.specs.Transitions.RowTransitions.{Table, place, is_marked}
+use Rattle.ltl_spec.specs.Transitions.RowTransitions.{Table, is_marked}
 use Rattle.ltl_spec.proofs.Collections.SetLaws.{has_Decides}
-use Rattle.ltl_spec.proofs.Collections.Orders.{nat_linear, literal_linear}
+use Rattle.ltl_spec.proofs.Collections.Orders.{literal_linear}
 use Rattle.ltl_spec.proofs.Transitions.JoinLaws.{Within, within_refl, within_trans, united, within_left, within_right, IsConsistent, join_pair_is, joined_from, united_least}
-use Rattle.ltl_spec.specs.Transitions.Pruning.{fulfilling_pairs, IsSafeToDrop}
-use Rattle.ltl_spec.proofs.Transitions.LeastPairs.{is_within_Decides, marked_cases, marked_from, marked_alike}
+use Rattle.ltl_spec.specs.Transitions.Pruning.{IsSafeToDrop}
+use Rattle.ltl_spec.proofs.Transitions.LeastPairs.{is_within_Decides, marked_alike}
 use Rattle.ltl_spec.proofs.Collections.CaseLaws.{false_is_true}
 use Rattle.ltl_spec.proofs.Collections.MemberLaws.{any_cases, any_true}
 
@@ -128,22 +127,3 @@ module _ (table : Table) where
         joined_from u v (consistent_within (united u v) (united t s) w i.1),
         subst (λ p. IsSafeToDrop table p (united u v)) (sym i.0) (safe_trans (united t s) (united u s) (united u v) (safe_united t u s tu) (safe_united_right s v u sv)),
       )
-
-  -- by the fulfilling pairs of each until row that is put off: where one is within a completion of t, one is within that of u
-  pub safe_by_pairs : (t u : Pair) → Within u t
-      → ((x : Pair) → IsConsistent (united t x) → (f : Normal) → Has table.untils f → Has (united u x).targets (place table f)
-      → (m : Pair) → Has (fulfilling_pairs table f) m → Within m (united t x) → (n : Pair) × Has (fulfilling_pairs table f) n × Within n (united u x))
-      → IsSafeToDrop table t u
-  safe_by_pairs t u w given = safe_from t u w keeps
-    where
-      keeps : KeepsMarks t u
-      keeps x n f h m = at (has nat_cmp (place table f) (united u x).targets) refl
-        where
-          at : (b : Bool) → has nat_cmp (place table f) (united u x).targets ≡ b → is_marked table (united u x) f ≡ true
-          at false e = marked_from table (united u x) f (inl (λ k. false_is_true (sym e ∙ (has_Decides nat_linear (place table f) (united u x).targets).1 k)))
-          at true e =
-              let later = (has_Decides nat_linear (place table f) (united u x).targets).0 e in
-              elim (marked_cases table (united t x) f m) [
-                | inl a ↦ absurd (a ((united_within u t x x w (within_refl x)).targets (place table f) later))
-                | inr c ↦ let (p, k, v) = c in marked_from table (united u x) f (inr (given x n f h later p k v))
-              ]

@@ -1,13 +1,12 @@
 -- Lists of steps stand for tests, and the codes of the tests are computed step by step.
-use Rattle.std.proofs.Common.{◌≡◌, ◌≢◌, ℕ, zero, suc, ◌+◌, ◌<◌, ◌≤◌, min, max, false, ◌&&◌, ◌||◌, inl, inr, List, [], ◌∷◌, ◌++◌, map, length, take, drop, refl, sym, ◌∙◌, ap, subst, arith}
+use Rattle.std.proofs.Common.{◌≡◌, ℕ, zero, suc, ◌+◌, ◌<◌, ◌≤◌, min, max, false, ◌&&◌, ◌||◌, List, [], ◌∷◌, ◌++◌, map, length, take, drop, refl, sym, ◌∙◌, ap, subst, arith}
 use Rattle.std.specs.Prelude.{slice_index_or}
-use Rattle.std.proofs.lemmas.Bool.{cases_lt}
-use Rattle.std.proofs.lemmas.List.{map-append, length-append, length-take-le, take-append-drop, take_more, get_or_past}
+use Rattle.std.proofs.lemmas.List.{map-append, length-append, length-take-le, take-append-drop, take_more}
 use Rattle.ltl_spec.specs.Transitions.Pairs.{Pair}
 use Rattle.ltl_spec.proofs.Collections.ListLaws.{index_append, index_done}
 use Rattle.ltl_spec.proofs.Transitions.Fulfilment as by
-use Rattle.ltl_spec.proofs.Transitions.Fulfilment.{Test, passes, Coming, code, Agree}
-use Rattle.ltl_spec.proofs.Transitions.Steps.{Step, Always, Never, Reads, Leads, Both, Either, test_at, step_test, tests_from, tests_of, step_code, step_passes, IsOperand, AreAsked}
+use Rattle.ltl_spec.proofs.Transitions.Fulfilment.{Test, passes, Coming, code}
+use Rattle.ltl_spec.proofs.Transitions.Steps.{Step, Always, Never, Reads, Leads, Both, Either, test_at, step_test, tests_from, tests_of, step_code, step_passes}
 
 -- what a map has at a number
 at_mapped : {X Y : Type 0} (f : X → Y) (xs : List X) (i : ℕ) (d : X) → slice_index_or (map f xs) i (f d) ≡ f (slice_index_or xs i d)
@@ -97,49 +96,3 @@ test_of_step ss i l =
     let n : length (tests_of (take i ss)) ≡ i = omega arith in
     test_earlier ss (i + 1) i (omega arith) (omega arith) ∙ ap (λ x. test_at (tests_of x) i) (take_more ss i Always l) ∙ ap (λ x. test_at x i) (tests_next (take i ss) s)
     ∙ subst (λ m. test_at (tests_of (take i ss) ++ step_test (tests_of (take i ss)) s ∷ []) m ≡ step_test (tests_of (take i ss)) s) n (index_done (tests_of (take i ss)) [] (step_test (tests_of (take i ss)) s) by.Never)
-
--- what is asked
-module _ (r : Coming) (t u : Pair) (steps : List Step) (asked : List ℕ) (a : AreAsked r t steps asked) (b : AreAsked r u steps asked) where
-  -- the code that is asked
-  asked_code : (p : Pair) → AreAsked r p steps asked → (i : ℕ) → i < length steps → slice_index_or asked i 3 ≢ 3
-      → slice_index_or asked i 3 ≡ code r p (step_test (tests_of (take i steps)) (slice_index_or steps i Always))
-  asked_code p c i l n = elim (c.codes i l) [ inl e ↦ absurd (n e) | inr e ↦ e ∙ ap (code r p) (test_of_step steps i l) ]
-
-  -- two pairs of which the same is asked agree on an asked step, where they agree on the asked ones before it
-  agree_step : (i : ℕ) → i < length steps → slice_index_or asked i 3 ≢ 3
-      → ((k : ℕ) → k < i → slice_index_or asked k 3 ≢ 3 → Agree r t u (test_at (tests_of steps) k)) → Agree r t u (test_at (tests_of steps) i)
-  agree_step i m h earlier = subst (Agree r t u) (sym (test_of_step steps i m)) (at (slice_index_or steps i Always) refl)
-    where
-      before : List Test
-      before = tests_of (take i steps)
-
-      same : (s : Step) → slice_index_or steps i Always ≡ s → code r t (step_test before s) ≡ code r u (step_test before s)
-      same s e = subst (λ x. code r t (step_test before x) ≡ code r u (step_test before x)) e (sym (asked_code t a i m h) ∙ asked_code u b i m h)
-
-      operand : (s : Step) → slice_index_or steps i Always ≡ s → code r t (step_test before s) ≡ 1 → (k : ℕ) → IsOperand s k → Agree r t u (test_at before k)
-      operand s e o k w =
-          let one : slice_index_or asked i 3 ≡ 1 = asked_code t a i m h ∙ ap (λ x. code r t (step_test before x)) e ∙ o in
-          let g = a.below i m one k (subst (λ x. IsOperand x k) (sym e) w) in
-          elim (cases_lt k i) [
-            | inl x ↦ subst (Agree r t u) (test_earlier steps i k x (omega arith)) (earlier k x g)
-            | inr x ↦
-                let d = tests_length (take i steps) in
-                let f = length-take-le i steps (omega arith) in
-                subst (Agree r t u) (sym (get_or_past before k by.Never (omega arith))) refl
-          ]
-
-      at : (s : Step) → slice_index_or steps i Always ≡ s → Agree r t u (step_test before s)
-      at Always e = refl
-      at Never e = refl
-      at (Reads l) e = same (Reads l) e
-      at (Leads k) e = same (Leads k) e
-      at (Both j k) e = (same (Both j k) e, λ o. (operand (Both j k) e o j (inl refl), operand (Both j k) e o k (inr refl)))
-      at (Either j k) e = (same (Either j k) e, λ o. (operand (Either j k) e o j (inl refl), operand (Either j k) e o k (inr refl)))
-
-  agree_below : (n i : ℕ) → i < n → i < length steps → slice_index_or asked i 3 ≢ 3 → Agree r t u (test_at (tests_of steps) i)
-  agree_below zero i l m h = absurd (omega arith)
-  agree_below (suc n) i l m h = agree_step i m h (λ k x g. agree_below n k (omega arith) (omega arith) g)
-
-  -- so they agree on each asked step
-  pub agree_by_asked : (i : ℕ) → i < length steps → slice_index_or asked i 3 ≢ 3 → Agree r t u (test_at (tests_of steps) i)
-  agree_by_asked i l h = agree_below (suc i) i (omega arith) l h

@@ -1,6 +1,5 @@
 -- What a program that drops pairs before the join is whole may go by.
-use Rattle.std.specs.Prelude.{◌≡◌, Bool, true, IsTrue, not, ◌&&◌, ◌||◌, List, map, filter, Some}
-use Rattle.std.specs.List.{list_all}
+use Rattle.std.specs.Prelude.{◌≡◌, Bool, true, IsTrue, not, ◌&&◌, List, map, filter, Some}
 use Rattle.std.specs.Ordering.{nat_cmp}
 use Rattle.ltl_spec.specs.Collections.Sets.{Has, set_of, has, is_subset}
 use Rattle.ltl_spec.specs.Transitions.Cubes.{literal_cmp}
@@ -16,12 +15,6 @@ is_within q p = is_subset literal_cmp q.cube p.cube && is_subset nat_cmp q.targe
 pub record IsEnough (ps qs : List Pair) : Type 0 where
   pub from : (q : Pair) → Has qs q → Has ps q
   pub covers : (p : Pair) → Has ps p → (q : Pair) × Has qs q × IsTrue (is_within q p)
-
--- what m asks for beyond u is asked for by n beyond t
-abbrev pub asks_beyond : Pair → Pair → Pair → Pair → Bool
-asks_beyond m u n t =
-    list_all (λ l. has literal_cmp l u.cube || (has literal_cmp l n.cube && not (has literal_cmp l t.cube))) m.cube
-    && list_all (λ k. has nat_cmp k u.targets || (has nat_cmp k n.targets && not (has nat_cmp k t.targets))) m.targets
 
 module _ (table : Table) where
   -- the transitions of these pairs, without those that another one implies
