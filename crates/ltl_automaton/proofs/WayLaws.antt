@@ -13,7 +13,8 @@ use Rattle.ltl_spec.proofs.Automata.ListingLaws.{fold_behind}
 use Rattle.ltl_spec.proofs.Automata.ListingReach.{listed_targets}
 use Rattle.ltl_spec.proofs.Automata.CountsLaws.{sum_step, listing_later, never_passed}
 use Rattle.ltl_automaton.specs.WorklistView.{WorklistView}
-use Rattle.ltl_automaton.specs.Net.{Net, key_of, targets_of, HasSuccessorsOf, lengths_of, edges_behind, edges_in, state_of, IsReachable, IsUnderWay}
+use Rattle.ltl_automaton.specs.Net.{Net, key_of, targets_of, HasSuccessorsOf, lengths_of, edges_behind, edges_in, moves_of, IsUnderWay}
+use Rattle.ltl_spec.specs.Automata.Net.{state_in, IsReachable}
 use Rattle.ltl_automaton.specs.SharedView.{with_state}
 use Rattle.ltl_automaton.proofs.NetLaws.{map_agree, state_stays, fold_within}
 pub use Rattle.std.proofs.lemmas.List.{take_all as take_whole}
@@ -61,7 +62,7 @@ module _ {K : Type 0} (same : K → K → Bool) (decides : (x y : K) → Decides
   T = targets_of net
 
   abbrev st : List K → K → State
-  st keys k = state_of same sorted net keys k
+  st keys k = state_in same sorted (moves_of net) keys k
 
   abbrev successor_count : K → ℕ
   successor_count k = length (net.successors k)
@@ -202,7 +203,7 @@ module _ {K : Type 0} (same : K → K → Bool) (decides : (x y : K) → Decides
       complete = all ∙ ap length w.listed
 
       -- all were taken
-      pub arrives : IsReachable same sorted net start sets A
+      pub arrives : IsReachable same sorted (moves_of net) start sets A
       arrives =
           let whole = take_whole l.explored l.keys (past l.keys l.explored f) in
           (l.explored, complete, w.states ∙ ap (λ ss. let X : Automaton = record { sets = sets; states = ss } in X) (ap (map (st l.keys)) whole ∙ ap (λ ks. map (st ks) ks) w.listed))

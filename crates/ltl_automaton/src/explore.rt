@@ -4,8 +4,9 @@ ghost use Rattle.std.specs.Prelude.{◌≡◌, ◌<◌, ◌≤◌, ◌+◌, ◌+
 ghost use Rattle.std.specs.Prelude.{slice_get, slice_index_or, Some, length, is_some, IfOk, IfSome, OnOk, IsErrOf, if◌then◌else◌};
 ghost use Rattle.ltl_spec.specs.Collections.Lists.{with_new};
 ghost use Rattle.ltl_spec.specs.Automata.Listing.{PassesLimits};
+ghost use Rattle.ltl_spec.specs.Automata.Net.{IsReachable};
 ghost use Rattle.ltl_automaton.specs.Net.{edge_in, edges_in, key_of, targets_of, with_made};
-ghost use Rattle.ltl_automaton.specs.Net.{edges_behind, AreListed, AreTooMany, HasSuccessorsOf, HasBegun, IsReachable};
+ghost use Rattle.ltl_automaton.specs.Net.{moves_of, edges_behind, AreListed, AreTooMany, HasSuccessorsOf, HasBegun};
 ghost use Rattle.ltl_automaton.specs.Bounds.{IsBounded};
 ghost use Rattle.ltl_automaton.specs.EdgeView.{edge_of};
 ghost use Rattle.ltl_spec.specs.Automata.Automaton.{state_at};
@@ -198,7 +199,7 @@ fn explore<'a, K: Key, S: Successors<K>, A: Allocator>(
     requires some { 0 < limits.states }
     requires ready { S.ready net.old }
     requires begun { HasBegun listing.old (automaton_of made.old) lengths.old.items }
-    ensures reachable { IfOk result (λ _. IsReachable K.eq sorted (S.net net.old) start (automaton_of made.old).sets (automaton_of made.new)) }
+    ensures reachable { IfOk result (λ _. IsReachable K.eq sorted (moves_of (S.net net.old)) start (automaton_of made.old).sets (automaton_of made.new)) }
     ensures bounded { IfOk result (λ _. IsBounded limits.states limits.edges (automaton_of made.new)) }
     ensures fits { OnOk result (¬ (PassesLimits K.eq (targets_of (S.net net.old)) start limits.states limits.edges)) }
     ensures large { IsErrOf result AutomatonFault.TooLarge → PassesLimits K.eq (targets_of (S.net net.old)) start limits.states limits.edges }
@@ -237,7 +238,7 @@ pub fn explore_from<'a, K: Key, S: Successors<K>, A: Allocator>(
 ) -> Result<SharedStates<'a, A>, AutomatonFault>
     requires some { 0 < limits.states }
     requires ready { S.ready net.old }
-    ensures reachable { IfOk result (λ s. IsReachable K.eq sorted (S.net net.old) start sets (automaton_of s)) }
+    ensures reachable { IfOk result (λ s. IsReachable K.eq sorted (moves_of (S.net net.old)) start sets (automaton_of s)) }
     ensures bounded { IfOk result (λ s. IsBounded limits.states limits.edges (automaton_of s)) }
 
     // The result is `TooLarge` if and only if a limit is passed, unless memory is refused before.

@@ -1,6 +1,6 @@
 -- The copies that were listed are those of the definitions.
 use Rattle.std.proofs.Common.{◌≡◌, ℕ, ◌<◌, ◌≤◌, Bool, true, false, ◌&&◌, List, [], ◌∷◌, ◌++◌, length, map, refl, sym, ◌∙◌, ap, subst, arith}
-use Rattle.std.specs.Prelude.{slice_index_or, ◌==◌, All}
+use Rattle.std.specs.Prelude.{slice_index_or, All}
 use Rattle.std.specs.Bool.{Decides}
 use Rattle.std.specs.Ordering.{nat_cmp}
 use Rattle.std.specs.Cmp.{first_so, second_so}
@@ -9,20 +9,23 @@ use Rattle.std.proofs.lemmas.List.Elements.{All-map}
 use Rattle.ltl_spec.specs.Collections.Sets.{Has, IsRising, set_of}
 use Rattle.ltl_spec.specs.Collections.Lists.{place_of}
 use Rattle.ltl_spec.specs.Automata.Automaton.{Automaton, State, Edge, edge_cmp, state_at}
-use Rattle.ltl_spec.specs.Automata.Listing.{listing, IsComplete, PassesLimits}
-use Rattle.ltl_spec.specs.Construction.Levels.{LevelState, LevelEdge, same_level_state, start_copy, level_edge, level_edge_cmp, level_edges, level_targets, edge_to_level_state, copy_state, level_automaton, HasTooManyLevelStates}
+use Rattle.ltl_spec.specs.Automata.Listing.{listing, PassesLimits}
+use Rattle.ltl_spec.specs.Automata.Net.{Net, targets_of, edge_in, state_in, IsReachable}
+use Rattle.ltl_spec.specs.Construction.Levels as levels
+use Rattle.ltl_spec.specs.Construction.Levels.{LevelState, LevelEdge, same_level_state, start_copy, level_edge, level_edge_cmp, level_edges, level_automaton, HasTooManyLevelStates}
 use Rattle.ltl_spec.specs.Construction.ImpliedEdges.{IsSetEdge}
 use Rattle.ltl_spec.specs.Transitions.Cubes.{Cube, literal_cmp, is_contradictory}
 use Rattle.ltl_spec.specs.Tools.Limits.{stated_limits}
 use Rattle.ltl_spec.proofs.Collections.Orders.{edge_linear, level_edge_linear}
-use Rattle.ltl_spec.proofs.Collections.SetLaws.{IsRising-set_of, Has-set_of, set_of_cases}
-use Rattle.ltl_spec.proofs.Collections.MemberLaws.{Has-map, map_cases}
+use Rattle.ltl_spec.proofs.Collections.SetLaws.{IsRising-set_of, set_of_cases}
+use Rattle.ltl_spec.proofs.Collections.MemberLaws.{map_cases}
 use Rattle.ltl_spec.proofs.Collections.ListLaws.{All-from_has}
+use Rattle.ltl_spec.proofs.Automata.NetLaws.{limits_alike, reachable_alike, state_edges, Has-state_edge}
 use Rattle.ltl_spec.proofs.Construction.LevelRuns.{same_level_state_Decides, complete_copies}
 use Rattle.ltl_spec.proofs.Semantics.Runs.{IsClosed}
 use Rattle.ltl_sets.specs.CubeEq.{same_cube, cube_Decides}
 use Rattle.ltl_automaton.specs.Bounds.{IsBounded}
-use Rattle.ltl_automaton.specs.Net.{key_of, targets_of, edge_in, state_of, IsReachable}
+use Rattle.ltl_automaton.specs.Net.{moves_of}
 use Rattle.ltl_automaton.specs.declared.successor.Successor.{Successor}
 use Rattle.ltl_automaton.specs.declared.edge.Edge as plain
 use Rattle.ltl_automaton.proofs.EdgeLaws.{map_pushed}
@@ -71,70 +74,54 @@ made_successors A sets p edges xs n e h =
     h ∙ ap (map successor_of) (ap (λ m. set_of level_edge_cmp (map (lifted_edge m p.level) (map gba.edge_of edges))) n ∙ ap (λ es. set_of level_edge_cmp (map (lifted_edge A.sets p.level) es)) e)
 
 module _ (A : Automaton) where
-  all_targets : targets_of (level_net A) ≡ level_targets A
-  all_targets = λ i p. over (level_edges A p) i
-    where
-      over : (xs : List LevelEdge) → map key_of (map successor_of xs) ≡ map (λ (e : LevelEdge). e.copy) xs
-      over [] = refl
-      over (x ∷ xs) = ap (λ l. x.copy ∷ l) (over xs)
+  abbrev net : Net LevelState LevelEdge
+  net = levels.level_net A
 
-  all_states : (keys : List LevelState) → state_of same_level_state true (level_net A) keys ≡ copy_state A keys
-  all_states keys = λ i p. let s : State = record { accepting = p.level == A.sets; edges = set_of edge_cmp (over (level_edges A p) i) } in s
-    where
-      over : (xs : List LevelEdge) → map (edge_in same_level_state keys) (map successor_of xs) ≡ map (edge_to_level_state A keys) xs
-      over [] = refl
-      over (x ∷ xs) = ap (λ l. edge_to_level_state A keys x ∷ l) (over xs)
+  abbrev copy_state : List LevelState → LevelState → State
+  copy_state = state_in same_level_state true net
 
   -- the limits are the same
-  pub is_too_large : PassesLimits same_level_state (targets_of (level_net A)) start_copy stated_limits.states stated_limits.edges → HasTooManyLevelStates A stated_limits.states stated_limits.edges
-  is_too_large = subst (λ T. PassesLimits same_level_state T start_copy stated_limits.states stated_limits.edges) all_targets
+  same_limits : PassesLimits same_level_state (targets_of (moves_of (level_net A))) start_copy ≡ HasTooManyLevelStates A
+  same_limits = limits_alike same_level_state net (moves_of (level_net A)) successor_of (λ p. refl) (λ e. refl) (λ e n. refl) (λ p. refl) start_copy
 
-  pub is_not_too_large : ¬ (PassesLimits same_level_state (targets_of (level_net A)) start_copy stated_limits.states stated_limits.edges) → ¬ (HasTooManyLevelStates A stated_limits.states stated_limits.edges)
-  is_not_too_large = subst (λ T. ¬ (PassesLimits same_level_state T start_copy stated_limits.states stated_limits.edges)) all_targets
+  pub is_too_large : PassesLimits same_level_state (targets_of (moves_of (level_net A))) start_copy stated_limits.states stated_limits.edges → HasTooManyLevelStates A stated_limits.states stated_limits.edges
+  is_too_large = subst (λ (P : ℕ → ℕ → Type 0). P stated_limits.states stated_limits.edges) same_limits
 
-  module _ (inside : gba.IsGba A) (B : Automaton) (w : IsReachable same_level_state true (level_net A) start_copy 0 B) where
+  pub is_not_too_large : ¬ (PassesLimits same_level_state (targets_of (moves_of (level_net A))) start_copy stated_limits.states stated_limits.edges) → ¬ (HasTooManyLevelStates A stated_limits.states stated_limits.edges)
+  is_not_too_large = subst (λ (P : ℕ → ℕ → Type 0). ¬ (P stated_limits.states stated_limits.edges)) same_limits
+
+  module _ (inside : gba.IsGba A) (B : Automaton) (w : IsReachable same_level_state true (moves_of (level_net A)) start_copy 0 B) where
     closed : IsClosed A
     closed = closed_within A inside.some (gba_within A inside)
 
+    way : IsReachable same_level_state true net start_copy 0 B
+    way = reachable_alike same_level_state net (moves_of (level_net A)) successor_of (λ p. refl) (λ e. refl) (λ e n. refl) (λ p. refl) true start_copy 0 B w
+
     abbrev n : ℕ
-    n = w.0
+    n = way.0
 
     abbrev listed : List LevelState
-    listed = listing same_level_state (level_targets A) start_copy n
-
-    complete : IsComplete same_level_state (level_targets A) start_copy n
-    complete = subst (λ T. IsComplete same_level_state T start_copy n) all_targets w.1
-
-    abbrev whole : Automaton
-    whole = record { sets = 0; states = map (copy_state A listed) listed }
-
-    is_whole : B ≡ whole
-    is_whole =
-        let keys : listing same_level_state (targets_of (level_net A)) start_copy n ≡ listed = ap (λ T. listing same_level_state T start_copy n) all_targets in
-        w.2 ∙ (λ i. let X : Automaton = record { sets = 0; states = map (all_states (keys i) i) (keys i) } in X)
+    listed = listing same_level_state (targets_of net) start_copy n
 
     pub is_leveled : B ≡ level_automaton A
-    is_leveled = is_whole ∙ ap (λ ks. let X : Automaton = record { sets = 0; states = map (copy_state A ks) ks } in X) (complete_copies A closed n complete)
+    is_leveled = way.2 ∙ ap (λ ks. let X : Automaton = record { sets = 0; states = map (copy_state ks) ks } in X) (complete_copies A closed n way.1)
 
     -- what holds of each state
-    each : (P : State → Type 0) → ((p : LevelState) → P (copy_state A listed p)) → All P B.states
-    each P h = subst (λ (X : Automaton). All P X.states) (sym is_whole) (All-map P (copy_state A listed) listed (λ k d m. h (slice_index_or listed k d)))
+    each : (P : State → Type 0) → ((p : LevelState) → P (copy_state listed p)) → All P B.states
+    each P h = subst (λ (X : Automaton). All P X.states) (sym way.2) (All-map P (copy_state listed) listed (λ k d m. h (slice_index_or listed k d)))
 
-    has_edge : (ks : List LevelState) (p q : LevelState) → Has (level_targets A p) q → (e : Edge) × Has (copy_state A ks p).edges e × (e.target ≡ place_of same_level_state q ks)
+    has_edge : (ks : List LevelState) (p q : LevelState) → Has (targets_of net p) q → (e : Edge) × Has (copy_state ks p).edges e × (e.target ≡ place_of same_level_state q ks)
     has_edge ks p q h =
         let v = map_cases (λ (e : LevelEdge). e.copy) (level_edges A p) q h in
-        let f = edge_to_level_state A ks in
-        (f v.0, Has-set_of edge_linear (map f (level_edges A p)) (f v.0) (Has-map f (level_edges A p) v.0 v.1), ap (λ c. place_of same_level_state c ks) (sym v.2))
+        (edge_in same_level_state net ks v.0, Has-state_edge same_level_state true net ks p v.0 v.1, ap (λ c. place_of same_level_state c ks) (sym v.2))
 
     -- an edge of a copy has no mark, and the literals of an edge of the automaton
-    unmarked : (p : LevelState) (e : Edge) → Has (copy_state A listed p).edges e → e.marks ≡ []
-    unmarked p e h =
-        let v = map_cases (edge_to_level_state A listed) (level_edges A p) e (set_of_cases edge_linear (map (edge_to_level_state A listed) (level_edges A p)) e h) in
-        ap (λ (f : Edge). f.marks) v.2
+    unmarked : (p : LevelState) (e : Edge) → Has (copy_state listed p).edges e → e.marks ≡ []
+    unmarked p e h = ap (λ (f : Edge). f.marks) (state_edges same_level_state true net listed p e h).2
 
-    copied : (P : Cube → Type 0) → ((s : ℕ) (e : Edge) → Has (state_at A s).edges e → P e.cube) → (p : LevelState) (e : Edge) → Has (copy_state A listed p).edges e → P e.cube
+    copied : (P : Cube → Type 0) → ((s : ℕ) (e : Edge) → Has (state_at A s).edges e → P e.cube) → (p : LevelState) (e : Edge) → Has (copy_state listed p).edges e → P e.cube
     copied P all p e h =
-        let (f, m, d) = map_cases (edge_to_level_state A listed) (level_edges A p) e (set_of_cases edge_linear (map (edge_to_level_state A listed) (level_edges A p)) e h) in
+        let (f, m, d) = state_edges same_level_state true net listed p e h in
         let (x, k, q) = map_cases (level_edge A p.level) (state_at A p.state).edges f (set_of_cases level_edge_linear (map (level_edge A p.level) (state_at A p.state).edges) f m) in
         subst P (sym (ap (λ (y : Edge). y.cube) d ∙ ap (λ (y : LevelEdge). y.cube) q)) (all p.state x k)
 
@@ -142,21 +129,21 @@ module _ (A : Automaton) where
     edge = of_all A (gba.IsEdgeWithin (length A.states) A.sets) inside.within
 
     is_plain : IsPlain B
-    is_plain = each (λ s. All (λ e. e.marks ≡ []) s.edges) (λ p. All-from_has (λ (e : Edge). e.marks ≡ []) (copy_state A listed p).edges (unmarked p))
+    is_plain = each (λ s. All (λ e. e.marks ≡ []) s.edges) (λ p. All-from_has (λ (e : Edge). e.marks ≡ []) (copy_state listed p).edges (unmarked p))
 
     pub is_ba : IsBounded stated_limits.states stated_limits.edges B → IsBa B
     is_ba b = record {
-      no_sets = ap (λ (X : Automaton). X.sets) is_whole;
+      no_sets = ap (λ (X : Automaton). X.sets) way.2;
       some = b.some;
       few_states = b.few_states;
       few_edges = b.few_edges;
       within = b.within;
       plain = is_plain;
-      sets = each (λ s. All IsSetEdge s.edges) (λ p. All-from_has IsSetEdge (copy_state A listed p).edges (λ x h.
+      sets = each (λ s. All IsSetEdge s.edges) (λ p. All-from_has IsSetEdge (copy_state listed p).edges (λ x h.
           record { cube = copied (IsRising literal_cmp) (λ s e m. (edge s e m).rising.cube) p x h; marks = subst (IsRising nat_cmp) (sym (unmarked p x h)) tt }));
       consistent = each (λ s. All (λ e. is_contradictory e.cube ≡ false) s.edges) (λ p.
-          All-from_has (λ (e : Edge). is_contradictory e.cube ≡ false) (copy_state A listed p).edges (copied (λ c. is_contradictory c ≡ false) (λ s e m. (edge s e m).consistent) p));
-      rising = each (λ s. IsRising edge_cmp s.edges) (λ p. IsRising-set_of edge_linear (map (edge_to_level_state A listed) (level_edges A p)));
-      reached = subst (λ (X : Automaton). (s : ℕ) → s < length X.states → IsReached X s) (sym is_whole)
-          (listed_reached same_level_state same_level_state_Decides (level_targets A) start_copy (copy_state A) 0 n (let e = complete in omega arith) has_edge);
+          All-from_has (λ (e : Edge). is_contradictory e.cube ≡ false) (copy_state listed p).edges (copied (λ c. is_contradictory c ≡ false) (λ s e m. (edge s e m).consistent) p));
+      rising = each (λ s. IsRising edge_cmp s.edges) (λ p. IsRising-set_of edge_linear (map (edge_in same_level_state net listed) (level_edges A p)));
+      reached = subst (λ (X : Automaton). (s : ℕ) → s < length X.states → IsReached X s) (sym way.2)
+          (listed_reached same_level_state same_level_state_Decides (targets_of net) start_copy copy_state 0 n (let e = way.1 in omega arith) has_edge);
     }

@@ -8,24 +8,24 @@ use Rattle.std.proofs.lemmas.List.Elements.{All-map}
 use Rattle.ltl_spec.specs.Collections.Sets.{Has, IsRising, set_of}
 use Rattle.ltl_spec.specs.Collections.Lists.{place_of}
 use Rattle.ltl_spec.specs.Automata.Automaton.{Automaton, State, Edge, edge_cmp, state_at}
-use Rattle.ltl_spec.specs.Automata.Listing.{listing, IsComplete, PassesLimits}
-use Rattle.ltl_spec.specs.Construction.Merging.{retargeted_edge, retargeted_state}
+use Rattle.ltl_spec.specs.Automata.Listing.{listing, PassesLimits}
 use Rattle.ltl_spec.specs.Construction.ImpliedEdges.{IsSetEdge}
 use Rattle.ltl_spec.specs.Transitions.Cubes.{is_contradictory}
-use Rattle.ltl_spec.specs.Construction.Renumbered.{ordered_targets, reached_states, renumbered_automaton}
+use Rattle.ltl_spec.specs.Automata.Net.{targets_of, edge_in, state_in, IsReachable}
+use Rattle.ltl_spec.specs.Construction.Renumbered.{state_net, renumbered_automaton}
 use Rattle.ltl_spec.specs.Tools.Limits.{stated_limits}
 use Rattle.ltl_spec.proofs.Collections.Orders.{edge_linear}
-use Rattle.ltl_spec.proofs.Collections.SetLaws.{set_of_same, IsRising-set_of, Has-set_of}
-use Rattle.ltl_spec.proofs.Collections.MemberLaws.{Has-map, map_cases}
+use Rattle.ltl_spec.proofs.Collections.SetLaws.{set_of_same, IsRising-set_of}
+use Rattle.ltl_spec.proofs.Collections.MemberLaws.{map_cases}
 use Rattle.ltl_spec.proofs.Collections.ListLaws.{All-at_has, All-from_has, Has-at}
 use Rattle.ltl_spec.proofs.Automata.ListedStates.{any_state}
+use Rattle.ltl_spec.proofs.Automata.NetLaws.{limits_alike, reachable_alike, Has-state_edge}
 use Rattle.ltl_spec.proofs.Automata.ListingReach.{listed_within, listed_short, HasNoRepeats-listed}
 use Rattle.ltl_spec.proofs.Construction.EdgeBounds.{AreAll, renumbered_all, renumbered_few, renumbered_few_edges}
-use Rattle.ltl_spec.proofs.Construction.RenumberedRuns.{ordered_targets_cases, complete_reached, reached_short, renumbered_closed}
+use Rattle.ltl_spec.proofs.Construction.RenumberedRuns.{leads, reached_states, complete_reached, reached_short, renumbered_closed}
 use Rattle.ltl_spec.proofs.Semantics.Runs.{IsClosed}
-use Rattle.ltl_spec.proofs.Collections.SumLaws.{taken_sum}
-use Rattle.ltl_automaton.specs.Net.{Net, key_of, targets_of, edge_in, state_of, IsReachable}
-use Rattle.ltl_automaton.proofs.NetLaws.{map_agree}
+use Rattle.ltl_spec.proofs.Collections.SumLaws.{set_of_length, taken_sum}
+use Rattle.ltl_automaton.specs.Net.{Net, moves_of}
 use Rattle.ltl_automaton.proofs.WayLaws.{Has_taken_at, take_whole}
 use Rattle.ltl_models.specs.GbaView as gba
 use Rattle.ltl_models.specs.BaView.{IsBa, IsPlain}
@@ -43,14 +43,6 @@ accepts_past A s l = ap (λ (t : State). t.accepting) (sym (get_or_past A.states
 pub no_successors_past : (A : Automaton) (s : ℕ) → length A.states ≤ s → [] ≡ map successor_of (state_at A s).edges
 no_successors_past A s l = ap (λ (t : State). map successor_of t.edges) (sym (get_or_past A.states s (record { accepting = true; edges = [] }) l))
 
-targets_plain : (es : List Edge) → map key_of (map successor_of es) ≡ map (λ (e : Edge). e.target) es
-targets_plain [] = refl
-targets_plain (e ∷ es) = ap (λ l. e.target ∷ l) (targets_plain es)
-
-edges_plain : (keys : List ℕ) (es : List Edge) → map (edge_in ◌==◌ keys) (map successor_of es) ≡ map (retargeted_edge (λ t. place_of ◌==◌ t keys)) es
-edges_plain keys [] = refl
-edges_plain keys (e ∷ es) = ap (λ l. retargeted_edge (λ t. place_of ◌==◌ t keys) e ∷ l) (edges_plain keys es)
-
 sums_less : {K : Type 0} (f g : K → ℕ) (xs : List K) → ((x : K) → f x ≤ g x) → sum_by f xs ≤ sum_by g xs
 sums_less f g [] h = omega arith
 sums_less f g (x ∷ xs) h = let a = sum_by-cons f x xs in let b = sum_by-cons g x xs in let c = sums_less f g xs h in let d = h x in omega arith
@@ -66,52 +58,43 @@ module _ (A : Automaton) (inside : IsNumberable A) where
         (edges_within A (λ (f : Edge). f.target < length A.states) s inside.bounded.within) e h;
   }
 
-  targets_same : (s : ℕ) → targets_of N s ≡ ordered_targets A s
-  targets_same s =
+  -- edges that rise are those that the definition makes rise
+  alike : (s : ℕ) → map successor_of (state_at A s).edges ≡ map successor_of (set_of edge_cmp (state_at A s).edges)
+  alike s =
       let rises = states_at A (λ (t : State). IsRising edge_cmp t.edges) s tt inside.rising in
-      targets_plain (state_at A s).edges ∙ ap (map (λ (e : Edge). e.target)) (sym (set_of_same edge_linear (state_at A s).edges rises))
-
-  all_targets : targets_of N ≡ ordered_targets A
-  all_targets = λ i s. targets_same s i
-
-  leads : (s t : ℕ) → s < length A.states → Has (targets_of N s) t → t < length A.states
-  leads s t l h =
-      let w = map_cases (λ (e : Edge). e.target) (state_at A s).edges t (subst (λ ts. Has ts t) (targets_plain (state_at A s).edges) h) in
-      subst (λ u. u < length A.states) (sym w.2) (closed.inside s w.0 w.1)
+      ap (map successor_of) (sym (set_of_same edge_linear (state_at A s).edges rises))
 
   abbrev keys : ℕ → List ℕ
-  keys n = listing ◌==◌ (targets_of N) 0 n
+  keys n = listing ◌==◌ (targets_of (state_net A)) 0 n
 
   -- it is within the limits that the automaton is within
-  pub never_too_large : PassesLimits ◌==◌ (targets_of N) 0 stated_limits.states stated_limits.edges → ⊥
-  never_too_large (n, inl p) =
-      let short = listed_short ◌==◌ Decides-eqb (targets_of N) 0 (λ s. s < length A.states) closed.begins leads (λ t. t) (length A.states) (λ t l. l) (λ t u l m e. e) n in
+  none_passed : PassesLimits ◌==◌ (targets_of (state_net A)) 0 stated_limits.states stated_limits.edges → ⊥
+  none_passed (n, inl p) =
+      let short = listed_short ◌==◌ Decides-eqb (targets_of (state_net A)) 0 (λ s. s < length A.states) closed.begins (leads A closed) (λ t. t) (length A.states) (λ t l. l) (λ t u l m e. e) n in
       let few = inside.bounded.few_states in
       omega arith
-  never_too_large (n, inr p) =
+  none_passed (n, inr p) =
       let places = take n (keys n) in
-      let d = HasNoRepeats_take n (keys n) (HasNoRepeats-listed ◌==◌ Decides-eqb (targets_of N) 0 n) in
+      let d = HasNoRepeats_take n (keys n) (HasNoRepeats-listed ◌==◌ Decides-eqb (targets_of (state_net A)) 0 n) in
       let below : (z : ℕ) → Has places z → z < length A.states = λ z h.
       let q = Has_taken_at n (keys n) z h in
-      listed_within ◌==◌ Decides-eqb (targets_of N) 0 (λ s. s < length A.states) closed.begins leads n z (subst (Has (keys n)) q.3 (Has-at (keys n) q.0 z q.2)) in
+      listed_within ◌==◌ Decides-eqb (targets_of (state_net A)) 0 (λ s. s < length A.states) closed.begins (leads A closed) n z (subst (Has (keys n)) q.3 (Has-at (keys n) q.0 z q.2)) in
       let total = taken_sum (λ (s : State). length s.edges) (record { accepting = true; edges = [] }) A.states (length A.states) places (omega arith) d below in
       let whole = ap (sum_by (λ (s : State). length s.edges)) (take_whole (length A.states) A.states (omega arith)) in
-      let less = sums_less (λ s. length (targets_of N s)) (λ s. length (state_at A s).edges) places (λ s. let e = ap length (targets_plain (state_at A s).edges) in let f = length-map (state_at A s).edges (λ (e : Edge). e.target) in omega arith) in
+      let less = sums_less (λ s. length (targets_of (state_net A) s)) (λ s. length (state_at A s).edges) places
+      (λ s. let e = length-map (set_of edge_cmp (state_at A s).edges) (λ (e : Edge). e.target) in let f = set_of_length edge_cmp (state_at A s).edges in omega arith) in
       let few = inside.bounded.few_edges in
       omega arith
 
-  module _ (B : Automaton) (w : IsReachable ◌==◌ true N 0 A.sets B) where
-    -- it is the automaton by its new numbers
-    pub is_renumbered : B ≡ renumbered_automaton A
-    is_renumbered =
-        let n = w.0 in
-        let c : IsComplete ◌==◌ (ordered_targets A) 0 n = subst (λ T. IsComplete ◌==◌ T 0 n) all_targets w.1 in
-        let reached : keys n ≡ reached_states A = ap (λ T. listing ◌==◌ T 0 n) all_targets ∙ complete_reached A closed n c in
-        let state : (ks : List ℕ) → ℕ → State = λ ks s. retargeted_state (λ t. place_of ◌==◌ t ks) (state_at A s) in
-        let each : map (state_of ◌==◌ true N (keys n)) (keys n) ≡ map (state (keys n)) (keys n) =
-        map_agree (state_of ◌==◌ true N (keys n)) (state (keys n)) (keys n) (λ s h. ap (λ es. let t : State = record { accepting = (state_at A s).accepting; edges = set_of edge_cmp es } in t) (edges_plain (keys n) (state_at A s).edges)) in
-        let states = each ∙ ap (λ ks. map (state ks) ks) reached in
-        w.2 ∙ (λ i. let X : Automaton = record { sets = A.sets; states = states i } in X)
+  pub never_too_large : PassesLimits ◌==◌ (targets_of (moves_of N)) 0 stated_limits.states stated_limits.edges → ⊥
+  never_too_large p =
+      none_passed (subst (λ (P : ℕ → ℕ → Type 0). P stated_limits.states stated_limits.edges) (limits_alike ◌==◌ (state_net A) (moves_of N) successor_of alike (λ e. refl) (λ e n. refl) (λ s. refl) 0) p)
+
+  -- it is the automaton by its new numbers
+  pub is_renumbered : (B : Automaton) → IsReachable ◌==◌ true (moves_of N) 0 A.sets B → B ≡ renumbered_automaton A
+  is_renumbered B w =
+      let (n, c, e) = reachable_alike ◌==◌ (state_net A) (moves_of N) successor_of alike (λ e. refl) (λ e n. refl) (λ s. refl) true 0 A.sets B w in
+      e ∙ ap (λ ks. let X : Automaton = record { sets = A.sets; states = map (state_in ◌==◌ true (state_net A) ks) ks } in X) (complete_reached A closed n c)
 
 -- what can be numbered
 pub ba_numberable : (A : Automaton) → IsBa A → IsNumberable A
@@ -127,7 +110,7 @@ module _ (A : Automaton) where
   R = renumbered_automaton A
 
   abbrev renumbered_state : List ℕ → ℕ → State
-  renumbered_state keys s = retargeted_state (λ t. place_of ◌==◌ t keys) (state_at A s)
+  renumbered_state = state_in ◌==◌ true (state_net A)
 
   abbrev row_of : ℕ → State
   row_of = renumbered_state (reached_states A)
@@ -140,7 +123,7 @@ module _ (A : Automaton) where
   by_states P all k d b = All-from_has P (slice_index_or R.states k d).edges (λ e m. all k e (subst (λ (s : State). Has s.edges e) (any_state R.states k d b) m))
 
   pub renumbered_rising : All (λ s. IsRising edge_cmp s.edges) R.states
-  renumbered_rising = All-map (λ (s : State). IsRising edge_cmp s.edges) row_of (reached_states A) (λ k d m. IsRising-set_of edge_linear (map (retargeted_edge (λ t. place_of ◌==◌ t (reached_states A))) (state_at A (slice_index_or (reached_states A) k d)).edges))
+  renumbered_rising = All-map (λ (s : State). IsRising edge_cmp s.edges) row_of (reached_states A) (λ k d m. IsRising-set_of edge_linear (map (edge_in ◌==◌ (state_net A) (reached_states A)) (set_of edge_cmp (state_at A (slice_index_or (reached_states A) k d)).edges)))
 
   pub renumbered_accepting : All (λ s. s.accepting ≡ true) A.states → All (λ s. s.accepting ≡ true) R.states
   renumbered_accepting a = All-map (λ (s : State). s.accepting ≡ true) row_of (reached_states A) (λ k d m. states_at A (λ (t : State). t.accepting ≡ true) (slice_index_or (reached_states A) k d) refl a)
@@ -152,11 +135,10 @@ module _ (A : Automaton) where
     closed_again : IsClosed R
     closed_again = renumbered_closed A closed
 
-    has_edge : (ks : List ℕ) (s t : ℕ) → Has (ordered_targets A s) t → (e : Edge) × Has (renumbered_state ks s).edges e × (e.target ≡ place_of ◌==◌ t ks)
+    has_edge : (ks : List ℕ) (s t : ℕ) → Has (targets_of (state_net A) s) t → (e : Edge) × Has (renumbered_state ks s).edges e × (e.target ≡ place_of ◌==◌ t ks)
     has_edge ks s t h =
-        let v = ordered_targets_cases A s t h in
-        let f = retargeted_edge (λ u. place_of ◌==◌ u ks) in
-        (f v.0, Has-set_of edge_linear (map f (state_at A s).edges) (f v.0) (Has-map f (state_at A s).edges v.0 v.1), ap (λ u. place_of ◌==◌ u ks) (sym v.2))
+        let (e, k, q) = map_cases (λ (f : Edge). f.target) (set_of edge_cmp (state_at A s).edges) t h in
+        (edge_in ◌==◌ (state_net A) ks e, Has-state_edge ◌==◌ true (state_net A) ks s e k, ap (λ u. place_of ◌==◌ u ks) (sym q))
 
     pub renumbered_gba : gba.IsGba A → gba.IsGba R
     renumbered_gba w = record {
@@ -190,7 +172,7 @@ module _ (A : Automaton) where
       sets = by_states IsSetEdge (renumbered_all IsSetEdge (λ f e m. record { cube = m.cube; marks = m.marks }) A (of_all A IsSetEdge w.sets));
       consistent = by_states Consistent (renumbered_all Consistent (λ f e m. m) A (of_all A Consistent w.consistent));
       rising = renumbered_rising;
-      reached = listed_reached ◌==◌ Decides-eqb (ordered_targets A) 0 renumbered_state A.sets (length A.states) (reached_short A closed) has_edge;
+      reached = listed_reached ◌==◌ Decides-eqb (targets_of (state_net A)) 0 renumbered_state A.sets (length A.states) (reached_short A closed) has_edge;
     }
 
 -- the numbered automaton has what its type holds

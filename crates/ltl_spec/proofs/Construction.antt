@@ -4,6 +4,7 @@ pub mod LevelLaws
 pub mod ClimbLaws
 pub mod LevelRuns
 pub mod RenumberedRuns
+pub mod RenumberedLaws
 pub mod EdgeBounds
 pub mod GeneralizedBounds
 pub mod ImpliedEdges

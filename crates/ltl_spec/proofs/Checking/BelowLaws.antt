@@ -1,11 +1,10 @@
 -- The propositions of an automaton's cubes are those of the formula from which it was made.
-use Rattle.std.proofs.Common.{◌≡◌, ℕ, suc, ◌<◌, Bool, true, false, cond, inl, inr, List, [], ◌∷◌, ◌++◌, map, length, refl, sym, ◌∙◌, subst, ◌||◌, ◌&&◌, Some}
+use Rattle.std.proofs.Common.{◌≡◌, ℕ, suc, ◌+◌, ◌*◌, ◌<◌, Bool, true, false, cond, inl, inr, List, [], ◌∷◌, ◌++◌, map, length, refl, sym, ◌∙◌, subst, ◌||◌, ◌&&◌, Some}
 use Rattle.std.specs.Prelude.{fold, slice_index_or, slice_get}
 use Rattle.std.proofs.lemmas.Bool.{cases_lt}
 use Rattle.std.proofs.lemmas.List.{get_or_past}
 use Rattle.std.proofs.lemmas.Option.{slice_get_past, none-some}
 use Rattle.ltl_spec.specs.Collections.Sets.{Has}
-use Rattle.ltl_spec.specs.Automata.Listing.{listing}
 use Rattle.ltl_spec.specs.Semantics.Word.{Name}
 use Rattle.ltl_spec.specs.Transitions.Cubes.{Literal, Cube}
 use Rattle.ltl_spec.specs.Formulas.Formula.{Formula, Reading, Constant, Proposition, Unary, Binary, Not, Next, Always, Eventually, And, Or, Implies, Iff, Until, Release}
@@ -14,10 +13,10 @@ use Rattle.ltl_spec.specs.NormalForms.Normal.{Normal, Top, Bottom, Leaf, Next, A
 use Rattle.ltl_spec.specs.NormalForms.NormalForm.{normal_form, is_eventually, is_always, simple_and, simple_or, simple_until, simple_release, simple_form, core, postorder, rows, is_elementary, elementary_rows}
 use Rattle.ltl_spec.specs.Transitions.Pairs.{RowSet, Pair, join, empty_pair, later_pair, conj, pairs}
 use Rattle.ltl_spec.specs.Transitions.RowTransitions.{Table, table_of, place, pairs_at, Transition, transitions}
-use Rattle.ltl_spec.specs.Automata.Automaton.{Automaton, Edge, state_at}
-use Rattle.ltl_spec.specs.Automata.Generalized.{same_row_set, target_sets, root_set, edge_to, state_of, automaton_over, IsGeneralized}
+use Rattle.ltl_spec.specs.Automata.Automaton.{Automaton, state_at}
+use Rattle.ltl_spec.specs.Automata.Generalized.{same_row_set, row_net, root_set, IsGeneralized}
 use Rattle.ltl_spec.specs.Construction.Merging.{merged_automaton}
-use Rattle.ltl_spec.specs.Construction.Levels.{LevelState, LevelEdge, level_edge, level_edges, copies, edge_to_level_state, copy_state, level_automaton}
+use Rattle.ltl_spec.specs.Construction.Levels.{LevelState, LevelEdge, same_level_state, start_copy, level_edge, level_edges, level_net, level_automaton}
 use Rattle.ltl_spec.specs.Formulas.Grammar.{Parses, Reads, of_constant, of_name, of_brackets, of_unary, of_tighter, of_left, of_right}
 use Rattle.ltl_spec.specs.Formulas.Tokens.{Token}
 use Rattle.ltl_spec.specs.Construction.Translation.{Options, buchi_automaton, IsTranslation}
@@ -27,9 +26,9 @@ use Rattle.ltl_spec.proofs.Collections.ListLaws.{Has-at, first_occurrences_cases
 use Rattle.ltl_spec.proofs.NormalForms.NormalLaws.{same_Decides}
 use Rattle.ltl_spec.proofs.Collections.MemberLaws.{map_cases}
 use Rattle.ltl_spec.proofs.Transitions.JoinLaws.{join_cases}
-use Rattle.ltl_spec.proofs.Collections.Orders.{literal_linear, pair_linear, level_edge_linear, edge_linear}
+use Rattle.ltl_spec.proofs.Collections.Orders.{literal_linear, pair_linear, level_edge_linear}
 use Rattle.ltl_spec.proofs.Transitions.TransitionLaws.{transition_cases}
-use Rattle.ltl_spec.proofs.Construction.EdgeBounds.{made_all, merged_all, renumbered_all}
+use Rattle.ltl_spec.proofs.Construction.EdgeBounds.{moves_all, merged_all, renumbered_all}
 use Rattle.ltl_spec.proofs.Construction.MergingRuns.{merged_closed}
 use Rattle.ltl_spec.proofs.Construction.LevelRuns.{levels_closed}
 use Rattle.ltl_spec.proofs.Construction.RenumberedRuns.{renumbered_closed}
@@ -173,26 +172,18 @@ module _ (n : ℕ) where
 
   -- automata
 
-  over_below : (core : Normal) → HasLeavesBelow n core → (keep : Bool) (list : List RowSet) → HasNamesBelow n (automaton_over core keep list)
-  over_below core low keep list = made_all (λ v. IsBelow v.cube) (state_of core keep list) list [] each
-    where
-      each : (e : RowSet) (y : Edge) → Has (state_of core keep list e).edges y → IsBelow y.cube
-      each e y m =
-          let (u, k, d) = map_cases (edge_to core keep list) (transitions (table_of core) keep e) y m in
-          subst (λ (v : Edge). IsBelow v.cube) (sym d) (transition_below core low keep e u k)
-
   pub generalized_below : (core : Normal) → HasLeavesBelow n core → (keep : Bool) (A : Automaton) → IsGeneralized core keep A → HasNamesBelow n A
-  generalized_below core low keep A (m, c, e) = subst (HasNamesBelow n) (sym e) (over_below core low keep (listing same_row_set (target_sets core keep) (root_set core keep) m))
+  generalized_below core low keep A (m, c, e) =
+      subst (HasNamesBelow n) (sym e) (moves_all (λ v. IsBelow v.cube) same_row_set false (row_net core keep) (λ s u h _. transition_below core low keep s u h) (root_set core keep) (length (table_of core).untils) m)
 
   module _ (A : Automaton) (low : HasNamesBelow n A) where
     levels_below : HasNamesBelow n (level_automaton A)
-    levels_below = made_all (λ v. IsBelow v.cube) (copy_state A (copies A)) (copies A) (record { state = 0; level = 0 }) each
+    levels_below = moves_all (λ v. IsBelow v.cube) same_level_state true (level_net A) each start_copy 0 (length A.states * (A.sets + 1))
       where
-        each : (c : LevelState) (y : Edge) → Has (copy_state A (copies A) c).edges y → IsBelow y.cube
-        each c y m =
-            let (e, k, d) = map_cases (edge_to_level_state A (copies A)) (level_edges A c) y (set_of_cases edge_linear (map (edge_to_level_state A (copies A)) (level_edges A c)) y m) in
-            let (z, o, q) = map_cases (level_edge A c.level) (state_at A c.state).edges e (set_of_cases level_edge_linear (map (level_edge A c.level) (state_at A c.state).edges) e k) in
-            subst (λ (v : Edge). IsBelow v.cube) (sym d) (subst (λ (v : LevelEdge). IsBelow v.cube) (sym q) (low c.state z o))
+        each : (c : LevelState) (e : LevelEdge) → Has (level_edges A c) e → (k : ℕ) → IsBelow e.cube
+        each c e h k =
+            let (z, o, q) = map_cases (level_edge A c.level) (state_at A c.state).edges e (set_of_cases level_edge_linear (map (level_edge A c.level) (state_at A c.state).edges) e h) in
+            subst (λ (v : LevelEdge). IsBelow v.cube) (sym q) (low c.state z o)
 
   -- the automaton of a normal form is one to search with
   pub translation_is_buchi : (N : Normal) (o : Options) (B : Automaton) → IsTranslation N o B → HasLeavesBelow n N → IsBuchi n B

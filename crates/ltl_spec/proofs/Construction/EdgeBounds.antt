@@ -9,16 +9,20 @@ use Rattle.ltl_spec.specs.Collections.Sets.{Has, IsRising, set_of}
 use Rattle.ltl_spec.specs.Collections.Lists.{HasNoRepeats, place_of}
 use Rattle.ltl_spec.specs.Automata.Automaton.{Automaton, State, Edge, edge_cmp, state_at}
 use Rattle.ltl_spec.specs.Construction.Merging.{same_edge, implies_edge, retargeted_edge, retargeted_state, without_implied, class_names, quotient, merged_automaton}
-use Rattle.ltl_spec.specs.Construction.Renumbered.{reached_states, renumbered_automaton}
+use Rattle.ltl_spec.specs.Automata.Listing.{listing}
+use Rattle.ltl_spec.specs.Automata.Net.{Net, targets_of, edge_in, state_in, listed_automaton}
+use Rattle.ltl_spec.specs.Construction.Renumbered.{state_net, renumbered_automaton}
 use Rattle.ltl_spec.proofs.Collections.SetLaws.{all_at, irreflexive}
 use Rattle.ltl_spec.proofs.Collections.SumLaws.{set_of_length, filter_length, sum_distinct, sum_less}
-use Rattle.ltl_spec.proofs.Collections.Orders.{nat_linear}
+use Rattle.ltl_spec.proofs.Collections.Orders.{nat_linear, edge_linear}
 use Rattle.ltl_spec.proofs.Collections.MemberLaws.{map_length}
+use Rattle.ltl_spec.proofs.Collections.SetLaws.{set_of_cases}
 use Rattle.ltl_spec.proofs.Automata.ListedStates.{no_state, state_inside}
+use Rattle.ltl_spec.proofs.Automata.NetLaws.{state_edges}
 use Rattle.ltl_spec.proofs.Semantics.Runs.{IsClosed}
 use Rattle.ltl_spec.proofs.Construction.ImpliedEdges.{thin_cases}
 use Rattle.ltl_spec.proofs.Construction.QuotientRuns.{retarget_cases}
-use Rattle.ltl_spec.proofs.Construction.RenumberedRuns.{reached_within, HasNoRepeats-reached, reached_short}
+use Rattle.ltl_spec.proofs.Construction.RenumberedRuns.{reached_states, reached_within, HasNoRepeats-reached, reached_short}
 
 -- ---- what holds of the edges
 
@@ -33,6 +37,13 @@ module _ (P : Edge → Type 0) where
       let long = map_length f list in
       let l = state_inside (map f list) s e h in
       each (slice_index_or list s d) e (subst (λ (v : State). Has v.edges e) (get_or-map f list s d no_state (omega arith)) h)
+
+  -- what holds of the edges of all moves, wherever these lead, holds of the automaton that is listed
+  pub moves_all : {K M : Type 0} (same : K → K → Bool) (sorted : Bool) (net : Net K M) → ((k : K) (m : M) → Has (net.moves k) m → (n : ℕ) → P (net.edge m n)) → (start : K) (sets n : ℕ) → AreAll (listed_automaton same sorted net start sets n)
+  moves_all {K} {M} same sorted net each start sets n =
+      let keys = listing same (targets_of net) start n in
+      made_all (state_in same sorted net keys) keys start (λ k e h.
+      let (m, i, q) = state_edges same sorted net keys k e h in subst P (sym q) (each k m i (place_of same (net.target m) keys)))
 
   -- it doesn't depend on the target
   module _ (keeps : (f : ℕ → ℕ) (e : Edge) → P e → P (retargeted_edge f e)) (A : Automaton) (all : AreAll A) where
@@ -49,16 +60,12 @@ module _ (P : Edge → Type 0) where
     merged_all keep_implied keep_equal = quotient_all keep_implied (class_names A (cond keep_equal 0 (length A.states)))
 
     pub renumbered_all : AreAll (renumbered_automaton A)
-    renumbered_all s e h =
-        made_all (λ u. retargeted_state (λ t. place_of ◌==◌ t (reached_states A)) (state_at A u)) (reached_states A) 0 (λ u. retargeted_all (λ t. place_of ◌==◌ t (reached_states A)) u) s e h
+    renumbered_all = moves_all ◌==◌ true (state_net A) (λ s e h n. keeps (λ _. n) e (all s e (set_of_cases edge_linear (state_at A s).edges e h))) 0 A.sets (length A.states)
 
 -- ---- how many states and edges there are
 
 abbrev pub edge_count : Automaton → ℕ
 edge_count A = sum_by (λ s. length s.edges) A.states
-
-retargeted_length : (f : ℕ → ℕ) (s : State) → length (retargeted_state f s).edges ≤ length s.edges
-retargeted_length f s = let a = set_of_length edge_cmp (map (retargeted_edge f) s.edges) in let b = map_length (retargeted_edge f) s.edges in omega arith
 
 pub thin_length : (keep_implied : Bool) (s : State) → length (without_implied keep_implied s).edges ≤ length s.edges
 thin_length true s = omega arith
@@ -78,7 +85,16 @@ made_few A f list differ inside less =
 
 module _ (A : Automaton) (closed : IsClosed A) where
   abbrev reached_state : ℕ → State
-  reached_state s = retargeted_state (λ t. place_of ◌==◌ t (reached_states A)) (state_at A s)
+  reached_state s = state_in ◌==◌ true (state_net A) (reached_states A) s
+
+  reached_length : (s : ℕ) → length (reached_state s).edges ≤ length (state_at A s).edges
+  reached_length s =
+      let es = (state_at A s).edges in
+      let f = edge_in ◌==◌ (state_net A) (reached_states A) in
+      let a = set_of_length edge_cmp es in
+      let b = map_length f (set_of edge_cmp es) in
+      let c = set_of_length edge_cmp (map f (set_of edge_cmp es)) in
+      omega arith
 
   -- numbering makes no more states
   pub renumbered_few : length (renumbered_automaton A).states ≤ length A.states
@@ -86,4 +102,4 @@ module _ (A : Automaton) (closed : IsClosed A) where
 
   -- and no more edges
   pub renumbered_few_edges : edge_count (renumbered_automaton A) ≤ edge_count A
-  renumbered_few_edges = made_few A reached_state (reached_states A) (HasNoRepeats-reached A closed) (reached_within A closed) (λ s. retargeted_length (λ t. place_of ◌==◌ t (reached_states A)) (state_at A s))
+  renumbered_few_edges = made_few A reached_state (reached_states A) (HasNoRepeats-reached A closed) (reached_within A closed) reached_length

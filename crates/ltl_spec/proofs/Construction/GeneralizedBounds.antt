@@ -5,17 +5,15 @@ use Rattle.std.specs.Prelude.{fold, ◌==◌}
 use Rattle.std.proofs.lemmas.Bool.{cases_lt}
 use Rattle.std.proofs.lemmas.List.{get_or_past}
 use Rattle.ltl_spec.specs.Collections.Sets.{Has}
-use Rattle.ltl_spec.specs.Collections.Lists.{place_of}
 use Rattle.ltl_spec.specs.NormalForms.Normal.{Normal}
 use Rattle.ltl_spec.specs.Transitions.Cubes.{Literal, is_contradictory}
 use Rattle.ltl_spec.specs.Transitions.Pairs.{RowSet, Pair, join, empty_pair}
 use Rattle.ltl_spec.specs.Transitions.RowTransitions.{Table, table_of, pairs_at, Transition, transitions}
 use Rattle.ltl_spec.specs.Automata.Automaton.{Automaton, State, Edge, state_at}
-use Rattle.ltl_spec.specs.Automata.Listing.{listing}
-use Rattle.ltl_spec.specs.Automata.Generalized.{same_row_set, target_sets, root_set, edge_to, state_of, automaton_over, IsGeneralized}
+use Rattle.ltl_spec.specs.Automata.Generalized.{same_row_set, row_net, root_set, IsGeneralized}
 use Rattle.ltl_spec.specs.Automata.GeneralizedText.{IsGeneralizedTranslation}
-use Rattle.ltl_spec.specs.Construction.Merging.{retargeted_edge, retargeted_state, merged_automaton}
-use Rattle.ltl_spec.specs.Construction.Renumbered.{reached_states, renumbered_automaton}
+use Rattle.ltl_spec.specs.Construction.Merging.{retargeted_edge, merged_automaton}
+use Rattle.ltl_spec.specs.Construction.Renumbered.{state_net, renumbered_automaton}
 use Rattle.ltl_spec.specs.Construction.Translation.{Options}
 use Rattle.ltl_spec.specs.Checking.Bounds.{AcceptsEverywhere, HasNamesBelow, HasNoContradictions}
 use Rattle.ltl_spec.proofs.Collections.SetLaws.{set_of_cases}
@@ -24,18 +22,19 @@ use Rattle.ltl_spec.proofs.Collections.MemberLaws.{map_cases}
 use Rattle.ltl_spec.proofs.Collections.Orders.{pair_linear}
 use Rattle.ltl_spec.proofs.Transitions.JoinLaws.{join_parts, join_pair_is, IsConsistent}
 use Rattle.ltl_spec.proofs.Transitions.TransitionLaws.{transition_cases}
-use Rattle.ltl_spec.proofs.Automata.ListingLaws.{one_complete}
+use Rattle.ltl_spec.specs.Automata.Net.{state_in}
+use Rattle.ltl_spec.proofs.Automata.NetLaws.{one_reachable}
 use Rattle.ltl_spec.proofs.Semantics.Runs.{IsClosed}
 use Rattle.ltl_spec.proofs.Semantics.GeneralizedLaws.{generalized_closed, generalized_accepting}
 use Rattle.ltl_spec.proofs.Construction.MergingRuns.{merged_closed, merged_accepting}
-use Rattle.ltl_spec.proofs.Construction.RenumberedRuns.{reached_within}
-use Rattle.ltl_spec.proofs.Construction.EdgeBounds.{AreAll, made_all, merged_all, renumbered_all}
+use Rattle.ltl_spec.proofs.Construction.RenumberedRuns.{reached_states, reached_within}
+use Rattle.ltl_spec.proofs.Construction.EdgeBounds.{AreAll, moves_all, merged_all, renumbered_all}
 use Rattle.ltl_spec.proofs.Checking.BelowLaws.{HasLeavesBelow, generalized_below}
 
 -- a formula has one generalized automaton
 pub one_generalized : (N : Normal) (keep : Bool) (A B : Automaton) → IsGeneralized N keep A → IsGeneralized N keep B → A ≡ B
 one_generalized N keep A B a b =
-    a.2 ∙ ap (automaton_over N keep) (one_complete same_row_set (target_sets N keep) (root_set N keep) a.0 b.0 a.1 b.1) ∙ sym b.2
+    one_reachable same_row_set false (row_net N keep) (root_set N keep) (length (table_of N).untils) A B a b
 
 -- and one generalized translation
 pub one_generalized_translation : (N : Normal) (o : Options) (A B : Automaton) → IsGeneralizedTranslation N o A → IsGeneralizedTranslation N o B → A ≡ B
@@ -69,18 +68,10 @@ module _ (t : Table) where
 -- ---- the generalized automaton
 
 module _ (N : Normal) (keep : Bool) where
-  abbrev list_at : ℕ → List RowSet
-  list_at n = listing same_row_set (target_sets N keep) (root_set N keep) n
-
-  -- an edge of a set comes from a transition of some set
-  over_all : (P : Edge → Type 0) (list : List RowSet) → ((e : RowSet) (u : Transition) → Has (transitions (table_of N) keep e) u → P (edge_to N keep list u)) → AreAll P (automaton_over N keep list)
-  over_all P list each s x h =
-      made_all P (state_of N keep list) list [] (λ e y m.
-      let (u, k, d) = map_cases (edge_to N keep list) (transitions (table_of N) keep e) y m in
-      subst P (sym d) (each e u k)) s x h
-
   pub generalized_consistent : (G : Automaton) → IsGeneralized N keep G → HasNoContradictions G
-  generalized_consistent G (n, c, e) = subst HasNoContradictions (sym e) (over_all (λ x. is_contradictory x.cube ≡ false) (list_at n) (transition_consistent (table_of N) keep))
+  generalized_consistent G (n, c, e) =
+      subst HasNoContradictions (sym e)
+      (moves_all (λ x. is_contradictory x.cube ≡ false) same_row_set false (row_net N keep) (λ s u h _. transition_consistent (table_of N) keep s u h) (root_set N keep) (length (table_of N).untils) n)
 
 -- ---- merged and numbered
 
@@ -105,7 +96,7 @@ module _ (N : Normal) (o : Options) (A : Automaton) (t : IsGeneralizedTranslatio
   -- every state is accepting, so only the acceptance sets count
   pub translation_all_accepting : (s : State) → Has A.states s → s.accepting ≡ true
   translation_all_accepting s h =
-      let (k, m, e) = map_cases (λ u. retargeted_state (λ v. place_of ◌==◌ v (reached_states merged)) (state_at merged u)) (reached_states merged) s (subst (λ (B : Automaton). Has B.states s) t.2 h) in
+      let (k, m, e) = map_cases (state_in ◌==◌ true (state_net merged) (reached_states merged)) (reached_states merged) s (subst (λ (B : Automaton). Has B.states s) t.2 h) in
       ap (λ (r : State). r.accepting) e
       ∙ merged_accepting G o.keep_implied o.keep_equal (λ u b. generalized_accepting N o.keep_implied G t.1 u) k (reached_within merged merged_is_closed k m)
 

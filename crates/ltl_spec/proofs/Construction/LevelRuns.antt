@@ -12,7 +12,8 @@ use Rattle.ltl_spec.specs.Automata.Listing.{listing, IsComplete}
 use Rattle.ltl_spec.specs.Transitions.Cubes.{allows}
 use Rattle.ltl_spec.specs.Semantics.Word.{after_steps}
 use Rattle.ltl_spec.specs.Automata.Automaton.{Automaton, State, Edge, state_at}
-use Rattle.ltl_spec.specs.Construction.Levels.{next_level, LevelState, same_level_state, LevelEdge, level_edge, level_edges, level_targets, copies, copy_state, level_automaton, start_copy}
+use Rattle.ltl_spec.specs.Construction.Levels.{next_level, LevelState, same_level_state, LevelEdge, level_edge, level_edges, level_net, level_automaton, start_copy}
+use Rattle.ltl_spec.specs.Automata.Net.{targets_of, state_in}
 use Rattle.ltl_spec.proofs.Semantics.Runs.{Run, IsClosed}
 use Rattle.ltl_spec.proofs.Collections.Orders.{level_edge_linear, edge_linear}
 use Rattle.ltl_spec.proofs.Collections.SetLaws.{set_of_cases, Has-set_of}
@@ -63,11 +64,15 @@ Has-level_edges A p e h = Has-set_of level_edge_linear (map (level_edge A p.leve
 level_edges_cases : (A : Automaton) (p : LevelState) (c : LevelEdge) → Has (level_edges A p) c → (e : Edge) × Has (state_at A p.state).edges e × (c ≡ level_edge A p.level e)
 level_edges_cases A p c h = map_cases (level_edge A p.level) (state_at A p.state).edges c (set_of_cases level_edge_linear (map (level_edge A p.level) (state_at A p.state).edges) c h)
 
+-- the copies that are reached
+abbrev pub copies : Automaton → List LevelState
+copies A = listing same_level_state (targets_of (level_net A)) start_copy (length A.states * (A.sets + 1))
+
 -- the targets of a copy are those of its edges
-Has-level_targets : (A : Automaton) (p : LevelState) (e : Edge) → Has (state_at A p.state).edges e → Has (level_targets A p) (level_edge A p.level e).copy
+Has-level_targets : (A : Automaton) (p : LevelState) (e : Edge) → Has (state_at A p.state).edges e → Has (targets_of (level_net A) p) (level_edge A p.level e).copy
 Has-level_targets A p e h = Has-map (λ (c : LevelEdge). c.copy) (level_edges A p) (level_edge A p.level e) (Has-level_edges A p e h)
 
-level_targets_cases : (A : Automaton) (p q : LevelState) → Has (level_targets A p) q → (e : Edge) × Has (state_at A p.state).edges e × (q ≡ (level_edge A p.level e).copy)
+level_targets_cases : (A : Automaton) (p q : LevelState) → Has (targets_of (level_net A) p) q → (e : Edge) × Has (state_at A p.state).edges e × (q ≡ (level_edge A p.level e).copy)
 level_targets_cases A p q h =
     let w = map_cases (λ (c : LevelEdge). c.copy) (level_edges A p) q h in
     let v = level_edges_cases A p w.0 w.1 in
@@ -97,14 +102,14 @@ module _ (A : Automaton) where
 
   module _ (closed : IsClosed A) where
     -- the targets of a copy are copies
-    leads : (p q : LevelState) → IsLevelState p → Has (level_targets A p) q → IsLevelState q
+    leads : (p q : LevelState) → IsLevelState p → Has (targets_of (level_net A) p) q → IsLevelState q
     leads p q c h =
         let w = level_targets_cases A p q h in
         subst IsLevelState (sym w.2) (closed.inside p.state w.0 w.1, next_level_most A.sets p.level w.0.marks c.1)
 
     -- the start on the first level is reached, and with a copy the targets of its edges
     pub copies_start : Has (copies A) start_copy
-    copies_start = listed_start same_level_state same_level_state_Decides (level_targets A) start_copy (length A.states * (A.sets + 1))
+    copies_start = listed_start same_level_state same_level_state_Decides (targets_of (level_net A)) start_copy (length A.states * (A.sets + 1))
 
     -- the start is a copy, and copies have their numbers
     begins : IsLevelState start_copy
@@ -118,32 +123,32 @@ module _ (A : Automaton) where
 
     pub copies_target : (p : LevelState) (e : Edge) → Has (copies A) p → Has (state_at A p.state).edges e → Has (copies A) (level_edge A p.level e).copy
     copies_target p e h k =
-        listed_all same_level_state same_level_state_Decides (level_targets A) start_copy IsLevelState begins leads (copy_number A.sets) (length A.states * (A.sets + 1)) copy_below level_states_differ
+        listed_all same_level_state same_level_state_Decides (targets_of (level_net A)) start_copy IsLevelState begins leads (copy_number A.sets) (length A.states * (A.sets + 1)) copy_below level_states_differ
         p (level_edge A p.level e).copy h (Has-level_targets A p e k)
 
     -- a complete listing lists these copies
-    pub complete_copies : (n : ℕ) → IsComplete same_level_state (level_targets A) start_copy n → listing same_level_state (level_targets A) start_copy n ≡ copies A
+    pub complete_copies : (n : ℕ) → IsComplete same_level_state (targets_of (level_net A)) start_copy n → listing same_level_state (targets_of (level_net A)) start_copy n ≡ copies A
     complete_copies n c =
-        complete_is_all same_level_state same_level_state_Decides (level_targets A) start_copy IsLevelState begins leads (copy_number A.sets) (length A.states * (A.sets + 1)) copy_below level_states_differ n c
+        complete_is_all same_level_state same_level_state_Decides (targets_of (level_net A)) start_copy IsLevelState begins leads (copy_number A.sets) (length A.states * (A.sets + 1)) copy_below level_states_differ n c
 
     -- the start stands first
     place_of_start : copy_place start_copy ≡ 0
-    place_of_start = place_start same_level_state same_level_state_Decides (level_targets A) start_copy (length A.states * (A.sets + 1))
+    place_of_start = place_start same_level_state same_level_state_Decides (targets_of (level_net A)) start_copy (length A.states * (A.sets + 1))
 
     -- the state at the place of a copy
-    state_of_copy : (p : LevelState) → Has (copies A) p → state_at (level_automaton A) (copy_place p) ≡ copy_state A (copies A) p
-    state_of_copy p h = state_at_place same_level_state same_level_state_Decides (copy_state A (copies A)) (copies A) p h
+    state_of_copy : (p : LevelState) → Has (copies A) p → state_at (level_automaton A) (copy_place p) ≡ state_in same_level_state true (level_net A) (copies A) p
+    state_of_copy p h = state_at_place same_level_state same_level_state_Decides (state_in same_level_state true (level_net A) (copies A)) (copies A) p h
 
     -- and at a place the state of the copy that stands there
-    state_of_place_copy : (s : ℕ) → s < length (copies A) → state_at (level_automaton A) s ≡ copy_state A (copies A) (copy_at s)
-    state_of_place_copy s l = state_of_place (copy_state A (copies A)) (copies A) s start_copy l
+    state_of_place_copy : (s : ℕ) → s < length (copies A) → state_at (level_automaton A) s ≡ state_in same_level_state true (level_net A) (copies A) (copy_at s)
+    state_of_place_copy s l = state_of_place (state_in same_level_state true (level_net A) (copies A)) (copies A) s start_copy l
 
     -- each copy has a place among the states, and each state is that of a copy
     place_inside : (p : LevelState) → Has (copies A) p → copy_place p < length (level_automaton A).states
-    place_inside p h = subst (λ n. copy_place p < n) (sym (length-map (copies A) (copy_state A (copies A)))) (place_below same_level_state same_level_state_Decides p (copies A) h)
+    place_inside p h = subst (λ n. copy_place p < n) (sym (length-map (copies A) (state_in same_level_state true (level_net A) (copies A)))) (place_below same_level_state same_level_state_Decides p (copies A) h)
 
     below_copies : (s : ℕ) → s < length (level_automaton A).states → s < length (copies A)
-    below_copies s l = subst (λ n. s < n) (length-map (copies A) (copy_state A (copies A))) l
+    below_copies s l = subst (λ n. s < n) (length-map (copies A) (state_in same_level_state true (level_net A) (copies A))) l
 
     Has-copy_at : (s : ℕ) → s < length (copies A) → Has (copies A) (copy_at s)
     Has-copy_at s l = Has-at (copies A) s start_copy l

@@ -1,23 +1,22 @@
 -- In the automata that are merged, the literals of each edge are a set, and so are its marks.
-use Rattle.std.proofs.Common.{◌≡◌, ℕ, Bool, true, false, cond, inl, inr, List, [], ◌∷◌, ◌++◌, map, sym, ap, subst, Option, Some, None}
+use Rattle.std.proofs.Common.{◌≡◌, ℕ, ◌+◌, ◌*◌, Bool, true, false, cond, inl, inr, List, [], ◌∷◌, ◌++◌, length, map, sym, ap, subst, Option, Some, None}
 use Rattle.std.specs.Prelude.{filter_map, option_map, fold, slice_index_or, not, ◌&&◌}
 use Rattle.std.specs.Ordering.{nat_cmp, is_ne}
 use Rattle.std.specs.List.{list_any}
 use Rattle.ltl_spec.specs.Collections.Sets.{Has, IsRising, union}
-use Rattle.ltl_spec.specs.Automata.Listing.{listing}
 use Rattle.ltl_spec.specs.Transitions.Cubes.{Cube, literal_cmp, is_contradictory}
 use Rattle.ltl_spec.specs.NormalForms.Normal.{Normal, Top, Bottom, Leaf, Next, And, Or, Until, Release}
 use Rattle.ltl_spec.specs.Transitions.Pairs.{RowSet, Pair, join_pair, join, empty_pair, later_pair, conj, pairs}
 use Rattle.ltl_spec.specs.Transitions.RowTransitions.{Table, table_of, place, pairs_at, successors, is_marked, with_marks, Transition, transition_cmp, implies, transitions}
-use Rattle.ltl_spec.specs.Automata.Automaton.{Automaton, Edge, state_at}
-use Rattle.ltl_spec.specs.Automata.Generalized.{same_row_set, target_sets, root_set, edge_to, state_of, automaton_over, IsGeneralized}
-use Rattle.ltl_spec.specs.Construction.Levels.{LevelState, LevelEdge, level_edge, level_edges, copies, edge_to_level_state, copy_state, level_automaton}
+use Rattle.ltl_spec.specs.Automata.Automaton.{Automaton, state_at}
+use Rattle.ltl_spec.specs.Automata.Generalized.{same_row_set, row_net, root_set, IsGeneralized}
+use Rattle.ltl_spec.specs.Construction.Levels.{LevelState, LevelEdge, same_level_state, start_copy, level_edge, level_edges, level_net, level_automaton}
 use Rattle.ltl_spec.proofs.Collections.SetLaws.{append_cases, IsRising-union, set_of_cases, filter_cases}
 use Rattle.ltl_spec.proofs.Collections.ListLaws.{IsRising-places}
-use Rattle.ltl_spec.proofs.Collections.Orders.{literal_linear, pair_linear, level_edge_linear, edge_linear}
+use Rattle.ltl_spec.proofs.Collections.Orders.{literal_linear, pair_linear, level_edge_linear}
 use Rattle.ltl_spec.proofs.Construction.ImpliedEdges.{IsSetEdge}
 use Rattle.ltl_spec.proofs.Construction.QuotientRuns.{HasSetEdges}
-use Rattle.ltl_spec.proofs.Construction.EdgeBounds.{made_all}
+use Rattle.ltl_spec.proofs.Construction.EdgeBounds.{moves_all}
 use Rattle.ltl_spec.proofs.Collections.MemberLaws.{map_cases, flat_map_cases, filter_map_cases}
 
 -- what a join has
@@ -96,18 +95,11 @@ module _ (t : Table) where
       all_transitions_sets e u (filter_cases (λ v. not (list_any (λ w. is_ne (transition_cmp w v) && implies w v) (map (with_marks t) (successors t e)))) (map (with_marks t) (successors t e)) u h).0
 
 module _ (core : Normal) (keep_implied : Bool) where
-  formula_state_sets : (list : List RowSet) (e : RowSet) (x : Edge) → Has (state_of core keep_implied list e).edges x → IsSetEdge x
-  formula_state_sets list e x h =
-      let (u, k, d) = map_cases (edge_to core keep_implied list) (transitions (table_of core) keep_implied e) x h in
-      let p = transitions_sets (table_of core) keep_implied e u k in
-      subst IsSetEdge (sym d) (record { cube = p.cube; marks = p.marks })
-
   -- and for the edges of the automaton of a formula
-  pub automaton_sets : (list : List RowSet) → HasSetEdges (automaton_over core keep_implied list)
-  automaton_sets list = made_all IsSetEdge (state_of core keep_implied list) list [] (formula_state_sets list)
-
   pub generalized_sets : (A : Automaton) → IsGeneralized core keep_implied A → HasSetEdges A
-  generalized_sets A g = subst HasSetEdges (sym g.2) (automaton_sets (listing same_row_set (target_sets core keep_implied) (root_set core keep_implied) g.0))
+  generalized_sets A (n, c, e) =
+      subst HasSetEdges (sym e) (moves_all IsSetEdge same_row_set false (row_net core keep_implied)
+      (λ s u h _. let p = transitions_sets (table_of core) keep_implied s u h in record { cube = p.cube; marks = p.marks }) (root_set core keep_implied) (length (table_of core).untils) n)
 
 -- the automaton of the copies
 
@@ -118,12 +110,6 @@ module _ (A : Automaton) (sets : HasSetEdges A) where
       let (y, m, j) = map_cases (level_edge A c.level) (state_at A c.state).edges e (set_of_cases level_edge_linear (map (level_edge A c.level) (state_at A c.state).edges) e h) in
       subst (λ (f : LevelEdge). IsRising literal_cmp f.cube) (sym j) (sets c.state y m).cube
 
-  -- and no marks
-  copy_state_sets : (list : List LevelState) (c : LevelState) (x : Edge) → Has (copy_state A list c).edges x → IsSetEdge x
-  copy_state_sets list c x h =
-      let (e, k, d) = map_cases (edge_to_level_state A list) (level_edges A c) x (set_of_cases edge_linear (map (edge_to_level_state A list) (level_edges A c)) x h) in
-      subst IsSetEdge (sym d) (record { cube = level_edge_cube c e k; marks = tt })
-
-  -- so it is for the edges of the copies
+  -- and no marks, so it is for the edges of the copies
   pub levels_sets : HasSetEdges (level_automaton A)
-  levels_sets = made_all IsSetEdge (copy_state A (copies A)) (copies A) (record { state = 0; level = 0 }) (copy_state_sets (copies A))
+  levels_sets = moves_all IsSetEdge same_level_state true (level_net A) (λ c e h _. record { cube = level_edge_cube c e h; marks = tt }) start_copy 0 (length A.states * (A.sets + 1))

@@ -8,7 +8,6 @@ use Rattle.ltl_spec.specs.Formulas.Formula.{Proposition, Unary, Eventually, Read
 use Rattle.ltl_spec.specs.Formulas.Grammar.{IsTextOf}
 use Rattle.ltl_spec.specs.NormalForms.NormalForm.{core}
 use Rattle.ltl_spec.specs.Automata.Automaton.{Edge}
-use Rattle.ltl_spec.specs.Automata.Generalized.{generalized_within}
 use Rattle.ltl_spec.specs.Tools.Limits.{stated_limits}
 use Rattle.ltl_spec.specs.Tools.Outcome.{NotOpened, Ended, Given}
 use Rattle.ltl_spec.specs.Hoa.HoaReading.{OneSet}
@@ -16,7 +15,7 @@ use Rattle.ltl_spec.specs.Checking.Check.{MarkedAccepts, IsViolation, Violated}
 use Rattle.ltl_spec.specs.Tools.Programs.{Claim, plain_options, ReadsFormula, Translates, TranslatorPlan, TranslatorAnswers, CheckerPlan, CheckerAnswers}
 use Rattle.ltl_spec.proofs.Formulas.ReaderLaws.{verdict_reading}
 use Rattle.ltl_spec.proofs.Words.LeastLaws.{least_form_is}
-use Rattle.ltl_spec.proofs.Examples.WithinLimits.{translation_fits}
+use Rattle.ltl_spec.proofs.Examples.WithinLimits.{generalized_within, translation_fits}
 use Rattle.ltl_spec.proofs.Examples.Claims.{translation_within}
 use Rattle.ltl_spec.proofs.Examples.InputTexts.{text_e, automaton_e, reads_e, rising}
 use Rattle.ltl_spec.proofs.Examples.ProgramTexts.{answer}

@@ -5,7 +5,7 @@ use Rattle.ltl_spec.specs.Formulas.Formula.{Formula, Proposition, Unary, Eventua
 use Rattle.ltl_spec.specs.Automata.Automaton.{Automaton}
 use Rattle.ltl_spec.specs.NormalForms.NormalForm.{core}
 use Rattle.ltl_spec.specs.NormalForms.Normal.{Normal}
-use Rattle.ltl_spec.specs.Automata.Generalized.{generalized_within}
+use Rattle.ltl_spec.proofs.Examples.WithinLimits.{generalized_within}
 use Rattle.ltl_spec.specs.Construction.Translation.{Options, buchi_automaton}
 use Rattle.ltl_spec.specs.Automata.ClaimText.{never_text}
 use Rattle.ltl_spec.specs.Automata.HoaText.{hoa_text}

@@ -9,7 +9,7 @@ use Rattle.ltl_spec.specs.Formulas.Formula.{Proposition, Unary, Always, Eventual
 use Rattle.ltl_spec.specs.Formulas.Tokens.{same_name}
 use Rattle.ltl_spec.specs.NormalForms.NormalForm.{core}
 use Rattle.ltl_spec.specs.Automata.Automaton.{Edge, IsWalk, state_at}
-use Rattle.ltl_spec.specs.Automata.Generalized.{generalized_within}
+use Rattle.ltl_spec.proofs.Examples.WithinLimits.{generalized_within}
 use Rattle.ltl_spec.specs.Automata.GeneralizedText.{generalized_text}
 use Rattle.ltl_spec.specs.Construction.Merging.{merged_automaton}
 use Rattle.ltl_spec.specs.Construction.Renumbered.{renumbered_automaton}

@@ -10,7 +10,7 @@ use Rattle.ltl_spec.specs.Semantics.Satisfaction.{Satisfies}
 use Rattle.ltl_spec.specs.Automata.Automaton.{Automaton, Edge, Accepts}
 use Rattle.ltl_spec.specs.NormalForms.Normal.{Normal}
 use Rattle.ltl_spec.specs.NormalForms.NormalForm.{core}
-use Rattle.ltl_spec.specs.Automata.Generalized.{generalized_within}
+use Rattle.ltl_spec.proofs.Examples.WithinLimits.{generalized_within}
 use Rattle.ltl_spec.specs.Construction.Translation.{IsTranslation}
 use Rattle.ltl_spec.proofs.Formulas.ReaderLaws.{verdict_reading}
 

@@ -5,7 +5,8 @@ use Rattle.ltl_spec.specs.Semantics.NormalSatisfaction.{Holds}
 use Rattle.ltl_spec.specs.Transitions.Pairs.{RowSet}
 use Rattle.ltl_spec.specs.Automata.Listing.{listing, IsComplete}
 use Rattle.ltl_spec.specs.Automata.Automaton.{Automaton, state_at}
-use Rattle.ltl_spec.specs.Automata.Generalized.{same_row_set, target_sets, root_set, IsGeneralized}
+use Rattle.ltl_spec.specs.Automata.Generalized.{same_row_set, row_net, root_set, IsGeneralized}
+use Rattle.ltl_spec.specs.Automata.Net.{targets_of}
 use Rattle.ltl_spec.proofs.Semantics.Runs.{Run, IsClosed}
 use Rattle.ltl_spec.proofs.Automata.ListingReach.{place_start, listed_start, complete_targets}
 use Rattle.ltl_spec.proofs.Semantics.RowRuns.{same_row_set_Decides, IsListing, over_accepting, over_closed, row_run, run_of_rows}
@@ -15,14 +16,14 @@ use Rattle.ltl_spec.proofs.Semantics.HoldsRun.{rows_of_holds}
 module _ (core : Normal) (keep : Bool) where
   -- the sets of rows that were listed
   abbrev list_at : ℕ → List RowSet
-  list_at n = listing same_row_set (target_sets core keep) (root_set core keep) n
+  list_at n = listing same_row_set (targets_of (row_net core keep)) (root_set core keep) n
 
   -- once all were taken they are a listing
-  complete_listing : (n : ℕ) → IsComplete same_row_set (target_sets core keep) (root_set core keep) n → IsListing core keep (list_at n)
+  complete_listing : (n : ℕ) → IsComplete same_row_set (targets_of (row_net core keep)) (root_set core keep) n → IsListing core keep (list_at n)
   complete_listing n c = record {
-    first = place_start same_row_set same_row_set_Decides (target_sets core keep) (root_set core keep) n;
-    root = listed_start same_row_set same_row_set_Decides (target_sets core keep) (root_set core keep) n;
-    closed = λ e d h k. complete_targets same_row_set same_row_set_Decides (target_sets core keep) (root_set core keep) n (omega (arith, c)) e d h k;
+    first = place_start same_row_set same_row_set_Decides (targets_of (row_net core keep)) (root_set core keep) n;
+    root = listed_start same_row_set same_row_set_Decides (targets_of (row_net core keep)) (root_set core keep) n;
+    closed = λ e d h k. complete_targets same_row_set same_row_set_Decides (targets_of (row_net core keep)) (root_set core keep) n (omega (arith, c)) e d h k;
   }
 
   -- every state is accepting

@@ -1,6 +1,6 @@
 -- Runs of the generalized automaton as runs over sets of rows.
 use lib.Pointwise.{pointwise_decides}
-use Rattle.std.proofs.Common.{◌≡◌, ℕ, zero, suc, ◌<◌, ◌≤◌, Bool, IsTrue, inl, inr, List, [], map, length, sym, ◌∙◌, ap, subst, arith}
+use Rattle.std.proofs.Common.{◌≡◌, ℕ, zero, suc, ◌<◌, ◌≤◌, Bool, false, IsTrue, inl, inr, List, [], map, length, sym, ◌∙◌, ap, subst, arith}
 use Rattle.std.specs.Prelude.{slice_index_or}
 use Rattle.std.specs.Bool.{Decides}
 use Rattle.std.proofs.lemmas.Bool.Decides.{Decides-eqb}
@@ -13,8 +13,9 @@ use Rattle.ltl_spec.specs.Semantics.Word.{after_steps}
 use Rattle.ltl_spec.specs.NormalForms.Normal.{Normal}
 use Rattle.ltl_spec.specs.Transitions.Pairs.{RowSet}
 use Rattle.ltl_spec.specs.Transitions.RowTransitions.{table_of, Transition, transitions}
-use Rattle.ltl_spec.specs.Automata.Automaton.{State, Edge, state_at}
-use Rattle.ltl_spec.specs.Automata.Generalized.{same_row_set, target_sets, root_set, edge_to, state_of, automaton_over}
+use Rattle.ltl_spec.specs.Automata.Automaton.{Automaton, State, Edge, state_at}
+use Rattle.ltl_spec.specs.Automata.Generalized.{same_row_set, row_net, root_set}
+use Rattle.ltl_spec.specs.Automata.Net.{targets_of, edge_in, state_in}
 use Rattle.ltl_spec.proofs.Semantics.Runs.{Run, IsClosed}
 use Rattle.ltl_spec.proofs.Collections.ListLaws.{place_below, at_place, Has-at}
 use Rattle.ltl_spec.proofs.Collections.MemberLaws.{Has-map, map_cases, map_length}
@@ -24,12 +25,16 @@ use Rattle.ltl_spec.proofs.Automata.ListedStates.{no_state}
 pub same_row_set_Decides : (d e : RowSet) → Decides (same_row_set d e) (d ≡ e)
 same_row_set_Decides = pointwise_decides Decides-eqb
 
+-- the automaton of the sets of a list
+abbrev pub automaton_over : Normal → Bool → List RowSet → Automaton
+automaton_over core keep list = record { sets = length (table_of core).untils; states = map (state_in same_row_set false (row_net core keep) list) list }
+
 module _ (core : Normal) (keep : Bool) where
   -- the list begins with the root's set and has the targets of all that it has
   pub record IsListing (list : List RowSet) : Type 0 where
     pub first : place_of same_row_set (root_set core keep) list ≡ 0
     pub root : Has list (root_set core keep)
-    pub closed : (e d : RowSet) → Has list e → Has (target_sets core keep e) d → Has list d
+    pub closed : (e d : RowSet) → Has list e → Has (targets_of (row_net core keep) e) d → Has list d
 
   -- the set of rows and the transition at each time
   pub record RowRun (truth : ℕ → ℕ → Bool) (step : ℕ → ℕ) : Type 0 where
@@ -47,12 +52,12 @@ module _ (core : Normal) (keep : Bool) where
     set_at s = slice_index_or list s []
 
     -- the state at a number is that of its set of rows
-    at_state : (s : ℕ) → s < length list → state_at (automaton_over core keep list) s ≡ state_of core keep list (set_at s)
-    at_state s l = get_or-map (state_of core keep list) list s [] no_state l
+    at_state : (s : ℕ) → s < length list → state_at (automaton_over core keep list) s ≡ state_in same_row_set false (row_net core keep) list (set_at s)
+    at_state s l = get_or-map (state_in same_row_set false (row_net core keep) list) list s [] no_state l
 
     -- past the end there is no edge
     past_states : (s : ℕ) → length list ≤ s → state_at (automaton_over core keep list) s ≡ no_state
-    past_states s l = get_or_past (map (state_of core keep list) list) s no_state (subst (λ n. n ≤ s) (sym (map_length (state_of core keep list) list)) l)
+    past_states s l = get_or_past (map (state_in same_row_set false (row_net core keep) list) list) s no_state (subst (λ n. n ≤ s) (sym (map_length (state_in same_row_set false (row_net core keep) list) list)) l)
 
     -- every state is accepting
     pub over_accepting : (s : ℕ) → IsTrue (state_at (automaton_over core keep list) s).accepting
@@ -63,18 +68,18 @@ module _ (core : Normal) (keep : Bool) where
 
     -- an edge is that of a transition
     abbrev IsEdgeOf : ℕ → Edge → Type 0
-    IsEdgeOf s e = (s < length list) × ((u : Transition) × Has (transitions (table_of core) keep (set_at s)) u × (e ≡ edge_to core keep list u))
+    IsEdgeOf s e = (s < length list) × ((u : Transition) × Has (transitions (table_of core) keep (set_at s)) u × (e ≡ edge_in same_row_set (row_net core keep) list u))
 
     -- each edge of a state is that of a transition
     edge_cases : (s : ℕ) (e : Edge) → Has (state_at (automaton_over core keep list) s).edges e → IsEdgeOf s e
     edge_cases s e h = elim (cases_lt s (length list)) [
-      | inl l ↦ (l, map_cases (edge_to core keep list) (transitions (table_of core) keep (set_at s)) e (subst (λ (q : State). Has q.edges e) (at_state s l) h))
+      | inl l ↦ (l, map_cases (edge_in same_row_set (row_net core keep) list) (transitions (table_of core) keep (set_at s)) e (subst (λ (q : State). Has q.edges e) (at_state s l) h))
       | inr l ↦ absurd (subst (λ (q : State). Has q.edges e) (past_states s l) h)
     ]
 
     -- and each transition has its edge
-    Has-edge : (s : ℕ) (u : Transition) → s < length list → Has (transitions (table_of core) keep (set_at s)) u → Has (state_at (automaton_over core keep list) s).edges (edge_to core keep list u)
-    Has-edge s u l h = subst (λ (q : State). Has q.edges (edge_to core keep list u)) (sym (at_state s l)) (Has-map (edge_to core keep list) (transitions (table_of core) keep (set_at s)) u h)
+    Has-edge : (s : ℕ) (u : Transition) → s < length list → Has (transitions (table_of core) keep (set_at s)) u → Has (state_at (automaton_over core keep list) s).edges (edge_in same_row_set (row_net core keep) list u)
+    Has-edge s u l h = subst (λ (q : State). Has q.edges (edge_in same_row_set (row_net core keep) list u)) (sym (at_state s l)) (Has-map (edge_in same_row_set (row_net core keep) list) (transitions (table_of core) keep (set_at s)) u h)
 
     module _ (w : IsListing list) where
       -- the targets of a transition are listed
@@ -92,13 +97,13 @@ module _ (core : Normal) (keep : Bool) where
       -- the edges lead to states
       pub over_closed : IsClosed (automaton_over core keep list)
       over_closed = record {
-        begins = (let l = place_listed (root_set core keep) w.root in let e = map_length (state_of core keep list) list in omega arith);
+        begins = (let l = place_listed (root_set core keep) w.root in let e = map_length (state_in same_row_set false (row_net core keep) list) list in omega arith);
         inside = λ s e h.
             let c = edge_cases s e h in
             let u = c.1.0 in
             let l = place_listed u.targets (targets_listed (set_at s) u (Has-at list s [] c.0) c.1.1) in
-            subst (λ (x : Edge). x.target < length (map (state_of core keep list) list)) (sym c.1.2)
-            (subst (λ n. place_of same_row_set u.targets list < n) (sym (map_length (state_of core keep list) list)) l);
+            subst (λ (x : Edge). x.target < length (map (state_in same_row_set false (row_net core keep) list) list)) (sym c.1.2)
+            (subst (λ n. place_of same_row_set u.targets list < n) (sym (map_length (state_in same_row_set false (row_net core keep) list) list)) l);
       }
 
       -- a run goes through sets of rows
@@ -128,7 +133,7 @@ module _ (core : Normal) (keep : Bool) where
         pub run_of_rows : Run (automaton_over core keep list) truth step
         run_of_rows = record {
           state = λ k. place_of same_row_set (r.set k) list;
-          edge = λ k. edge_to core keep list (r.transition k);
+          edge = λ k. edge_in same_row_set (row_net core keep) list (r.transition k);
           starts = ap (λ e. place_of same_row_set e list) r.starts ∙ w.first;
           edges = λ k.
               Has-edge (place_of same_row_set (r.set k) list) (r.transition k) (place_listed (r.set k) (set_listed k))

@@ -1,12 +1,12 @@
 -- From acceptance sets on edges to accepting states: copies of each state, one for each number of sets met in turn.
-use Rattle.std.specs.Prelude.{ℕ, zero, suc, ◌+◌, ◌-◌, ◌*◌, Bool, ◌&&◌, ◌==◌, if◌then◌else◌, List, [], map, length}
+use Rattle.std.specs.Prelude.{ℕ, zero, suc, ◌+◌, ◌-◌, ◌*◌, Bool, true, ◌&&◌, ◌==◌, if◌then◌else◌, List, [], map, length}
 use Rattle.std.specs.declared.cmp.Ordering.{Ordering}
 use Rattle.std.specs.Ordering.{nat_cmp, on, then_cmp}
 use Rattle.ltl_spec.specs.Collections.Sets.{set_of, has}
-use Rattle.ltl_spec.specs.Collections.Lists.{place_of}
 use Rattle.ltl_spec.specs.Transitions.Cubes.{Cube, cube_cmp}
-use Rattle.ltl_spec.specs.Automata.Listing.{listing, PassesLimits}
-use Rattle.ltl_spec.specs.Automata.Automaton.{Automaton, State, Edge, edge_cmp, state_at}
+use Rattle.ltl_spec.specs.Automata.Listing.{PassesLimits}
+use Rattle.ltl_spec.specs.Automata.Automaton.{Automaton, Edge, state_at}
+use Rattle.ltl_spec.specs.Automata.Net.{Net, targets_of, listed_automaton}
 
 -- up from a level, at most n levels, as long as the marks hold the set that comes next
 abbrev pub climb : ℕ → List ℕ → ℕ → ℕ
@@ -47,25 +47,14 @@ module _ (A : Automaton) where
   abbrev pub level_edges : LevelState → List LevelEdge
   level_edges p = set_of level_edge_cmp (map (level_edge p.level) (state_at A p.state).edges)
 
-  abbrev pub level_targets : LevelState → List LevelState
-  level_targets p = map (λ e. e.copy) (level_edges p)
+  -- the copies with their edges; those on the last level are accepting
+  abbrev pub level_net : Net LevelState LevelEdge
+  level_net = record { moves = level_edges; target = λ e. e.copy; edge = λ e n. record { cube = e.cube; target = n; marks = [] }; accepts = λ p. p.level == A.sets }
 
-  -- the copies that are reached
-  abbrev pub copies : List LevelState
-  copies = listing same_level_state level_targets start_copy (length A.states * (A.sets + 1))
-
-  -- the edge to the place of a copy in this list
-  abbrev pub edge_to_level_state : List LevelState → LevelEdge → Edge
-  edge_to_level_state list e = record { cube = e.cube; target = place_of same_level_state e.copy list; marks = [] }
-
-  -- the state of a copy, where the copies stand in this list; its edges are a set
-  abbrev pub copy_state : List LevelState → LevelState → State
-  copy_state list p = record { accepting = p.level == A.sets; edges = set_of edge_cmp (map (edge_to_level_state list) (level_edges p)) }
-
-  -- the Büchi automaton of the copies; those on the last level are accepting
+  -- the Büchi automaton of the copies that are reached
   abbrev pub level_automaton : Automaton
-  level_automaton = let list = copies in record { sets = 0; states = map (copy_state list) list }
+  level_automaton = listed_automaton same_level_state true level_net start_copy 0 (length A.states * (A.sets + 1))
 
   -- it has too many states or edges
   abbrev pub HasTooManyLevelStates : ℕ → ℕ → Type 0
-  HasTooManyLevelStates = PassesLimits same_level_state level_targets start_copy
+  HasTooManyLevelStates = PassesLimits same_level_state (targets_of level_net) start_copy

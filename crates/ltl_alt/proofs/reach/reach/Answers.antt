@@ -7,7 +7,8 @@ use Rattle.ltl_spec.specs.Automata.Listing.{PassesLimits}
 use Rattle.ltl_spec.specs.Automata.Generalized.{same_row_set, root_set, IsGeneralized}
 use Rattle.ltl_spec.specs.Tools.Limits.{stated_limits}
 use Rattle.ltl_formula.specs.TableView.{core_of, row_tree}
-use Rattle.ltl_automaton.specs.Net.{IsReachable, targets_of}
+use Rattle.ltl_spec.specs.Automata.Net.{IsReachable, targets_of}
+use Rattle.ltl_automaton.specs.Net.{moves_of}
 use Rattle.ltl_automaton.specs.SharedView.{automaton_of}
 use Rattle.ltl_automaton.specs.declared.fault.AutomatonFault.{AutomatonFault}
 use Rattle.ltl_automaton.specs.declared.fault.AutomatonFault.TheVariants.{TooLarge}
@@ -58,7 +59,7 @@ returns-in_err-states-clause-large g c = λ e.
     let keep = c.args.keep_implied in
     let root : c.single-root.result ≡ root_set F keep = c.single-root.ensures ∙ ap (λ (k : ℕ). k ∷ []) (c.place.ensures.place ∙ ap (λ k. row_place c.args.table.now (row_tree c.args.table.now k)) c.root.ensures.last) in
     let large = c.in_err-states.ensures.large (ap (λ (f : AutomatonFault). Err f) (sym (passed_on _ _ c.from_residual-in_err-states.ensures.1 e))) in
-    is_too_large F keep (subst (λ (s : RowSet). PassesLimits same_row_set (targets_of (net_of F keep)) s stated_limits.states stated_limits.edges) root large)
+    is_too_large F keep (subst (λ (s : RowSet). PassesLimits same_row_set (targets_of (moves_of (net_of F keep))) s stated_limits.states stated_limits.edges) root large)
 
 pub new-requires-4 : goal.new-requires-4
 new-requires-4 g c =
@@ -66,7 +67,7 @@ new-requires-4 g c =
     let keep = c.args.keep_implied in
     let root : c.single-root.result ≡ root_set F keep = c.single-root.ensures ∙ ap (λ (k : ℕ). k ∷ []) (c.place.ensures.place ∙ ap (λ k. row_place c.args.table.now (row_tree c.args.table.now k)) c.root.ensures.last) in
     let A = automaton_of c.in_ok-states.states in
-    let reachable = subst (λ (s : RowSet). IsReachable same_row_set false (net_of F keep) s c.until_count.result A) root c.in_ok-states.ensures.reachable in
+    let reachable = subst (λ (s : RowSet). IsReachable same_row_set false (moves_of (net_of F keep)) s c.until_count.result A) root c.in_ok-states.ensures.reachable in
     is_gba F keep c.until_count.result (c.until_count.ensures.count ∙ sym (untils_count c.args.table.now c.invariant.ensures)) A reachable c.in_ok-states.ensures.bounded c.until_count.ensures.few
 
 pub returns-clause-generalized : goal.returns-clause-generalized
@@ -75,7 +76,7 @@ returns-clause-generalized g c =
     let keep = c.args.keep_implied in
     let root : c.single-root.result ≡ root_set F keep = c.single-root.ensures ∙ ap (λ (k : ℕ). k ∷ []) (c.place.ensures.place ∙ ap (λ k. row_place c.args.table.now (row_tree c.args.table.now k)) c.root.ensures.last) in
     let A = automaton_of c.in_ok-states.states in
-    let reachable = subst (λ (s : RowSet). IsReachable same_row_set false (net_of F keep) s c.until_count.result A) root c.in_ok-states.ensures.reachable in
+    let reachable = subst (λ (s : RowSet). IsReachable same_row_set false (moves_of (net_of F keep)) s c.until_count.result A) root c.in_ok-states.ensures.reachable in
     subst (IsGeneralized F keep) (sym c.new-4.ensures) (is_generalized F keep c.until_count.result (c.until_count.ensures.count ∙ sym (untils_count c.args.table.now c.invariant.ensures)) A reachable)
 
 pub returns-clause-fits : goal.returns-clause-fits
@@ -83,4 +84,4 @@ returns-clause-fits g c =
     let F = core_of c.args.table.now in
     let keep = c.args.keep_implied in
     let root : c.single-root.result ≡ root_set F keep = c.single-root.ensures ∙ ap (λ (k : ℕ). k ∷ []) (c.place.ensures.place ∙ ap (λ k. row_place c.args.table.now (row_tree c.args.table.now k)) c.root.ensures.last) in
-    is_not_too_large F keep (subst (λ (s : RowSet). ¬ (PassesLimits same_row_set (targets_of (net_of F keep)) s stated_limits.states stated_limits.edges)) root c.in_ok-states.ensures.fits)
+    is_not_too_large F keep (subst (λ (s : RowSet). ¬ (PassesLimits same_row_set (targets_of (moves_of (net_of F keep))) s stated_limits.states stated_limits.edges)) root c.in_ok-states.ensures.fits)
