@@ -1,9 +1,9 @@
 -- What goes to the sink behind an output over several calls.
-use Rattle.std.proofs.Common.{◌≡◌, ◌∙◌, sym, refl, subst, ℕ, List, [], ◌++◌}
+use Rattle.std.proofs.Common.{◌≡◌, ◌∙◌, append-nil, sym, refl, subst, ℕ, List, [], ◌++◌}
 use Rattle.std.specs.Prelude.{Result, Ok, Err, OnOk, OnErr}
 use Rattle.std.specs.Result.{IsErr}
 use Rattle.ltl_streams.specs.Streams.{SinkState, Takes, Breaks}
-use Rattle.ltl_streams.proofs.SendLaws.{Leaves, begun, leaves_all, leaves_end, leaves_fails, leaves_held, leaves_puts, leaves_step, sends_as, sends_nothing, some_sent, whole_sent}
+use Rattle.ltl_streams.proofs.SendLaws.{Leaves, begun, leaves_all, leaves_end, leaves_fails, leaves_held, leaves_puts, leaves_step, sends_as, sends_nothing, sends_trans, some_sent, stops_after, stops_first, whole_sent}
 use Rattle.ltl_text.specs.declared.output.Output.{Output}
 use Rattle.ltl_text.specs.Writing.{Passes, Halts, Writes}
 
@@ -26,6 +26,30 @@ module _ {S : Type 0} {state : S → SinkState} where
 
   pub passes_as : {o n : Output S} {a b : List ℕ} → a ≡ b → Passes state o n a → Passes state o n b
   passes_as e p = record { same = p.same; sends = sends_as e p.sends }
+
+  -- ---- one text and then another
+
+  module _ {o m : Output S} {a : List ℕ} (p : Passes state o m a) where
+    pub passes_then : {n : Output S} {b : List ℕ} → Passes state m n b → Passes state o n (a ++ b)
+    passes_then q = record { same = q.same ∙ p.same; sends = sends_trans _ _ _ _ _ _ _ _ p.sends q.sends }
+
+    -- the first goes out, and the other fails
+    pub halts_then : {n : Output S} {b : List ℕ} → Halts state m n b → Halts state o n (a ++ b)
+    halts_then q = record { same = q.same ∙ p.same; stops = stops_after _ _ _ _ _ _ _ p.sends q.stops }
+
+    pub writes_then : {T E : Type 0} {w : List ℕ} (x : Result T E) (n : Output S) (b : List ℕ) → w ≡ a ++ b → Writes state x m n b → Writes state x o n w
+    writes_then (Ok v) n b e q = subst (Passes state o n) (sym e) (passes_then q)
+    writes_then (Err v) n b e q = subst (Halts state o n) (sym e) (halts_then q)
+
+  -- the first fails
+  pub halts_first : {o n : Output S} {a : List ℕ} (b : List ℕ) → Halts state o n a → Halts state o n (a ++ b)
+  halts_first b p = record { same = p.same; stops = stops_first _ _ _ _ b p.stops }
+
+  pub writes_halted : {T E : Type 0} {o n : Output S} {a w : List ℕ} (x : Result T E) → IsErr x → w ≡ a → Halts state o n a → Writes state x o n w
+  writes_halted (Ok v) f e p = cc
+  writes_halted {o = o} {n = n} (Err v) f e p = subst (Halts state o n) (sym e) p
+
+  -- ---- the rest of a text
 
   pub remains_all : (o : Output S) (w : List ℕ) → Remains state o o w w
   remains_all o w = record { same = refl; leaves = leaves_all _ _ w }
@@ -50,10 +74,14 @@ module _ {S : Type 0} {state : S → SinkState} where
     pub awaits_step : {n : Output S} {a : List ℕ} (r : List ℕ) → t ≡ a ++ r → Passes state m n a → Awaits state b n r w
     awaits_step r e p = record { leaves = leaves_step l.leaves r e p.sends }
 
+    -- all of it goes out
+    pub awaits_end : {n : Output S} → Passes state m n t → Awaits state b n [] w
+    awaits_end p = awaits_step [] (sym (append-nil t)) p
+
     -- and then the sink's last value is what the output left
     module _ {T E : Type 0} (x : Result T E) where
-      pub ends_early : {v : S} {n : Output S} {a : List ℕ} (r : List ℕ) → t ≡ a ++ r → Halts state m n a → n.sink.now ≡ v → OnErr x (Breaks b (state v) w)
-      ends_early r e p f = subst (λ u. OnErr x (Breaks b (state u) w)) f (begun x r l.leaves e p.stops)
+      pub ends_halted : {v : S} {n : Output S} → Halts state m n t → n.sink.now ≡ v → OnErr x (Breaks b (state v) w)
+      ends_halted p f = subst (λ u. OnErr x (Breaks b (state u) w)) f (begun x [] l.leaves (sym (append-nil t)) p.stops)
 
       pub ends_whole : {u v : S} → t ≡ [] → OnOk x (Takes (state m.sink.now) (state u) m.buffer) → u ≡ v → OnOk x (Takes b (state v) w)
       ends_whole e p f = subst (λ u. OnOk x (Takes b (state u) w)) f (whole_sent x _ l.leaves e p)

@@ -1,33 +1,18 @@
 use Rattle.std.proofs.Common.{refl}
-use Rattle.ltl_text.proofs.OutputLaws.{remains_all, remains_fails, remains_puts, remains_step}
+use Rattle.ltl_text.proofs.OutputLaws.{halts_first, halts_then, writes_halted, writes_then}
 use Rattle.ltl_text.proofs.generalized.put_condition.Goals as goal
 
 pub returns-in_err-put : goal.returns-in_err-put
-returns-in_err-put g c =
-    remains_fails (remains_all _ _) _ _ c.from_residual.ensures.0 refl c.in_err-put.ensures
+returns-in_err-put g c = writes_halted _ c.from_residual.ensures.0 refl (halts_first _ c.in_err-put.ensures)
 
 pub returns-in_err-put_acceptance_name : goal.returns-in_err-put_acceptance_name
-returns-in_err-put_acceptance_name g c =
-    let first = remains_step (remains_all _ _) _ refl c.in_ok-put.ensures in
-    remains_fails first _ _ c.from_residual-in_err-put_acceptance_name.ensures.0 refl c.in_err-put_acceptance_name.ensures
+returns-in_err-put_acceptance_name g c = writes_halted _ c.from_residual-in_err-put_acceptance_name.ensures.0 refl (halts_then c.in_ok-put.ensures (halts_first _ c.in_err-put_acceptance_name.ensures))
 
 pub returns-in_err-put-2 : goal.returns-in_err-put-2
-returns-in_err-put-2 g c =
-    let first = remains_step (remains_all _ _) _ refl c.in_ok-put.ensures in
-    let second = remains_step first _ refl c.in_ok-put_acceptance_name.ensures in
-    remains_fails second _ _ c.from_residual-in_err-put-2.ensures.0 refl c.in_err-put-2.ensures
+returns-in_err-put-2 g c = writes_halted _ c.from_residual-in_err-put-2.ensures.0 refl (halts_then c.in_ok-put.ensures (halts_then c.in_ok-put_acceptance_name.ensures (halts_first _ c.in_err-put-2.ensures)))
 
 pub returns-in_err-put_acceptance : goal.returns-in_err-put_acceptance
-returns-in_err-put_acceptance g c =
-    let first = remains_step (remains_all _ _) _ refl c.in_ok-put.ensures in
-    let second = remains_step first _ refl c.in_ok-put_acceptance_name.ensures in
-    let third = remains_step second _ refl c.in_ok-put-2.ensures in
-    remains_fails third _ _ c.from_residual-in_err-put_acceptance.ensures.0 refl c.in_err-put_acceptance.ensures
+returns-in_err-put_acceptance g c = writes_halted _ c.from_residual-in_err-put_acceptance.ensures.0 refl (halts_then c.in_ok-put.ensures (halts_then c.in_ok-put_acceptance_name.ensures (halts_then c.in_ok-put-2.ensures (halts_first _ c.in_err-put_acceptance.ensures))))
 
 pub returns : goal.returns
-returns g c =
-    let first = remains_step (remains_all _ _) _ refl c.in_ok-put.ensures in
-    let second = remains_step first _ refl c.in_ok-put_acceptance_name.ensures in
-    let third = remains_step second _ refl c.in_ok-put-2.ensures in
-    let fourth = remains_step third _ refl c.in_ok-put_acceptance.ensures in
-    remains_puts fourth _ _ c.put-3.ensures
+returns g c = writes_then c.in_ok-put.ensures _ _ _ refl (writes_then c.in_ok-put_acceptance_name.ensures _ _ _ refl (writes_then c.in_ok-put-2.ensures _ _ _ refl (writes_then c.in_ok-put_acceptance.ensures _ _ _ refl c.put-3.ensures)))

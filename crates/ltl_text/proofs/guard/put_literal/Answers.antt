@@ -1,15 +1,15 @@
 use Rattle.std.proofs.Common.{◌∙◌, sym}
 use Rattle.ltl_sets.specs.Literals.{literal_of}
-use Rattle.ltl_text.proofs.OutputLaws.{remains_all, remains_fails, remains_puts, remains_step}
+use Rattle.ltl_text.proofs.OutputLaws.{halts_first, writes_halted, writes_then}
 use Rattle.ltl_text.proofs.TextLaws.{negative_text}
 use Rattle.ltl_text.proofs.guard.put_literal.Goals as goal
 
 pub returns-in_err-put : goal.returns-in_err-put
 returns-in_err-put g c =
     let e = negative_text c.args.formula.now.names (literal_of c.args.literal) _ (c.as_bytes-name.ensures.value ∙ c.name.ensures) c.if-literal.false in
-    remains_fails (remains_all _ _) _ _ c.from_residual.ensures.0 (sym e) c.in_err-put.ensures
+    writes_halted _ c.from_residual.ensures.0 (sym e) (halts_first _ c.in_err-put.ensures)
 
 pub returns : goal.returns
 returns g c =
     let e = negative_text c.args.formula.now.names (literal_of c.args.literal) _ (c.as_bytes-name.ensures.value ∙ c.name.ensures) c.if-literal.false in
-    remains_puts (remains_step (remains_all _ _) _ (sym e) c.in_ok-put.ensures) _ _ c.put-3.ensures
+    writes_then c.in_ok-put.ensures _ _ _ (sym e) c.put-3.ensures

@@ -1,13 +1,19 @@
-use Rattle.std.proofs.Common.{◌<◌, ℕ, length, map, refl, subst, sym}
+use Rattle.std.proofs.Common.{◌≡◌, ◌<◌, ℕ, List, ◌∷◌, length, map, refl, subst, sym}
+use Rattle.std.specs.Prelude.{slice_index_or, All}
 use Rattle.ltl_spec.specs.Collections.Sets.{IsRising}
 use Rattle.ltl_spec.specs.Automata.Automaton.{state_at}
 use Rattle.ltl_models.specs.BaView.{edge_of, target_at}
+use Rattle.ltl_automaton.specs.declared.edge.Edge.{Edge}
 use Rattle.ltl_text.proofs.EdgeLaws.{places_within, target_there}
 use Rattle.ltl_text.proofs.NameLaws.{all_have_names}
 use Rattle.ltl_text.proofs.OptionLaws.{entries_whole, options_fall, options_rise, options_step, options_within, place_cmp}
-use Rattle.ltl_text.proofs.OutputLaws.{passes_nothing, remains_all, remains_fails, remains_step}
+use Rattle.ltl_text.proofs.OutputLaws.{halts_first, halts_then, passes_nothing, remains_all, remains_puts, remains_step, writes_halted}
 use Rattle.ltl_text.proofs.TextLaws.{first_all}
 use Rattle.ltl_text.proofs.options.put_options.Goals as goal
+
+-- the first place is that of an edge, with this target
+first_target : (es : List Edge) {p : ℕ} (d : Edge) {tail rest : List ℕ} → rest ≡ p ∷ tail → All (λ q. q < length es) rest → target_at (map edge_of es) p ≡ (slice_index_or es p d).target
+first_target es {p} d {tail} {rest} e within = target_there es p d (first_all (λ q. q < length es) p tail rest e within)
 
 pub options-init : goal.options-init
 options-init g c =
@@ -26,73 +32,49 @@ put_guards-requires-clause-named g c = all_have_names _ c.args.automaton.now c.a
 
 pub returns-in_err-put : goal.returns-in_err-put
 returns-in_err-put g c =
-    let P : ℕ → Type 0 = λ p. p < length c.edges-edges.result.now in
-    let within = first_all P _ _ _ c.in-Some.ensures.cases.0 c.options.invariant.within in
-    let f = target_there c.edges-edges.result.now _ c.index-edges-place.result within in
+    let f = first_target c.edges-edges.result.now c.index-edges-place.result c.in-Some.ensures.cases.0 c.options.invariant.within in
     let e = options_step c.args.automaton.now c.args.formula.now.names (map edge_of c.edges-edges.result.now) _ _ _ _ _ _ _ c.in-Some.ensures.cases.0 f c.group_len.ensures.group c.options.invariant.rising c.split_at.ensures.front c.split_at.ensures.back in
-    remains_fails c.options.invariant.text _ _ c.from_residual.ensures.0 e c.in_err-put.ensures
+    remains_puts c.options.invariant.text _ _ (writes_halted _ c.from_residual.ensures.0 e (halts_first _ c.in_err-put.ensures))
 
 pub returns-in_err-put_guards : goal.returns-in_err-put_guards
 returns-in_err-put_guards g c =
-    let P : ℕ → Type 0 = λ p. p < length c.edges-edges.result.now in
-    let within = first_all P _ _ _ c.in-Some.ensures.cases.0 c.options.invariant.within in
-    let f = target_there c.edges-edges.result.now _ c.index-edges-place.result within in
+    let f = first_target c.edges-edges.result.now c.index-edges-place.result c.in-Some.ensures.cases.0 c.options.invariant.within in
     let e = options_step c.args.automaton.now c.args.formula.now.names (map edge_of c.edges-edges.result.now) _ _ _ _ _ _ _ c.in-Some.ensures.cases.0 f c.group_len.ensures.group c.options.invariant.rising c.split_at.ensures.front c.split_at.ensures.back in
-    let first = remains_step c.options.invariant.text _ e c.in_ok-put.ensures in
-    remains_fails first _ _ c.from_residual-in_err-put_guards.ensures.0 refl c.in_err-put_guards.ensures
+    remains_puts c.options.invariant.text _ _ (writes_halted _ c.from_residual-in_err-put_guards.ensures.0 e (halts_then c.in_ok-put.ensures (halts_first _ c.in_err-put_guards.ensures)))
 
 pub returns-in_err-put-2 : goal.returns-in_err-put-2
 returns-in_err-put-2 g c =
-    let P : ℕ → Type 0 = λ p. p < length c.edges-edges.result.now in
-    let within = first_all P _ _ _ c.in-Some.ensures.cases.0 c.options.invariant.within in
-    let f = target_there c.edges-edges.result.now _ c.index-edges-place.result within in
+    let f = first_target c.edges-edges.result.now c.index-edges-place.result c.in-Some.ensures.cases.0 c.options.invariant.within in
     let e = options_step c.args.automaton.now c.args.formula.now.names (map edge_of c.edges-edges.result.now) _ _ _ _ _ _ _ c.in-Some.ensures.cases.0 f c.group_len.ensures.group c.options.invariant.rising c.split_at.ensures.front c.split_at.ensures.back in
-    let first = remains_step c.options.invariant.text _ e c.in_ok-put.ensures in
-    let second = remains_step first _ refl c.in_ok-put_guards.ensures in
-    remains_fails second _ _ c.from_residual-in_err-put-2.ensures.0 refl c.in_err-put-2.ensures
+    remains_puts c.options.invariant.text _ _ (writes_halted _ c.from_residual-in_err-put-2.ensures.0 e (halts_then c.in_ok-put.ensures (halts_then c.in_ok-put_guards.ensures (halts_first _ c.in_err-put-2.ensures))))
 
 pub returns-in_err-put_label : goal.returns-in_err-put_label
 returns-in_err-put_label g c =
-    let P : ℕ → Type 0 = λ p. p < length c.edges-edges.result.now in
-    let within = first_all P _ _ _ c.in-Some.ensures.cases.0 c.options.invariant.within in
-    let f = target_there c.edges-edges.result.now _ c.index-edges-place.result within in
+    let f = first_target c.edges-edges.result.now c.index-edges-place.result c.in-Some.ensures.cases.0 c.options.invariant.within in
     let e = options_step c.args.automaton.now c.args.formula.now.names (map edge_of c.edges-edges.result.now) _ _ _ _ _ _ _ c.in-Some.ensures.cases.0 f c.group_len.ensures.group c.options.invariant.rising c.split_at.ensures.front c.split_at.ensures.back in
-    let first = remains_step c.options.invariant.text _ e c.in_ok-put.ensures in
-    let second = remains_step first _ refl c.in_ok-put_guards.ensures in
-    let third = remains_step second _ refl c.in_ok-put-2.ensures in
-    remains_fails third _ _ c.from_residual-in_err-put_label.ensures.0 refl c.in_err-put_label.ensures
+    remains_puts c.options.invariant.text _ _ (writes_halted _ c.from_residual-in_err-put_label.ensures.0 e (halts_then c.in_ok-put.ensures (halts_then c.in_ok-put_guards.ensures (halts_then c.in_ok-put-2.ensures (halts_first _ c.in_err-put_label.ensures)))))
 
 pub returns-in_err-put-3 : goal.returns-in_err-put-3
 returns-in_err-put-3 g c =
-    let P : ℕ → Type 0 = λ p. p < length c.edges-edges.result.now in
-    let within = first_all P _ _ _ c.in-Some.ensures.cases.0 c.options.invariant.within in
-    let f = target_there c.edges-edges.result.now _ c.index-edges-place.result within in
+    let f = first_target c.edges-edges.result.now c.index-edges-place.result c.in-Some.ensures.cases.0 c.options.invariant.within in
     let e = options_step c.args.automaton.now c.args.formula.now.names (map edge_of c.edges-edges.result.now) _ _ _ _ _ _ _ c.in-Some.ensures.cases.0 f c.group_len.ensures.group c.options.invariant.rising c.split_at.ensures.front c.split_at.ensures.back in
-    let first = remains_step c.options.invariant.text _ e c.in_ok-put.ensures in
-    let second = remains_step first _ refl c.in_ok-put_guards.ensures in
-    let third = remains_step second _ refl c.in_ok-put-2.ensures in
-    let fourth = remains_step third _ refl c.in_ok-put_label.ensures in
-    remains_fails fourth _ _ c.from_residual-in_err-put-3.ensures.0 refl c.in_err-put-3.ensures
+    remains_puts c.options.invariant.text _ _ (writes_halted _ c.from_residual-in_err-put-3.ensures.0 e (halts_then c.in_ok-put.ensures (halts_then c.in_ok-put_guards.ensures (halts_then c.in_ok-put-2.ensures (halts_then c.in_ok-put_label.ensures (halts_first _ c.in_err-put-3.ensures))))))
 
 pub options-smaller : goal.options-smaller
 options-smaller g c =
-    let P : ℕ → Type 0 = λ p. p < length c.edges-edges.result.now in
-    let within = first_all P _ _ _ c.in-Some.ensures.cases.0 c.options.invariant.within in
-    let f = target_there c.edges-edges.result.now _ c.index-edges-place.result within in
+    let f = first_target c.edges-edges.result.now c.index-edges-place.result c.in-Some.ensures.cases.0 c.options.invariant.within in
     options_fall c.args.automaton.now c.args.formula.now.names (map edge_of c.edges-edges.result.now) _ _ _ _ _ _ _ c.in-Some.ensures.cases.0 f c.group_len.ensures.group c.options.invariant.rising c.split_at.ensures.front c.split_at.ensures.back c.group_len.ensures.within
 
 pub options-preserved : goal.options-preserved
 options-preserved g c =
-    let P : ℕ → Type 0 = λ p. p < length c.edges-edges.result.now in
-    let within = first_all P _ _ _ c.in-Some.ensures.cases.0 c.options.invariant.within in
-    let f = target_there c.edges-edges.result.now _ c.index-edges-place.result within in
+    let f = first_target c.edges-edges.result.now c.index-edges-place.result c.in-Some.ensures.cases.0 c.options.invariant.within in
     let e = options_step c.args.automaton.now c.args.formula.now.names (map edge_of c.edges-edges.result.now) _ _ _ _ _ _ _ c.in-Some.ensures.cases.0 f c.group_len.ensures.group c.options.invariant.rising c.split_at.ensures.front c.split_at.ensures.back in
     let first = remains_step c.options.invariant.text _ e c.in_ok-put.ensures in
     let second = remains_step first _ refl c.in_ok-put_guards.ensures in
     let third = remains_step second _ refl c.in_ok-put-2.ensures in
     let fourth = remains_step third _ refl c.in_ok-put_label.ensures in
     record {
-      within = options_within c.args.automaton.now c.args.formula.now.names (map edge_of c.edges-edges.result.now) _ _ _ _ _ _ _ c.in-Some.ensures.cases.0 f c.group_len.ensures.group c.options.invariant.rising c.split_at.ensures.front c.split_at.ensures.back P c.options.invariant.within;
+      within = options_within c.args.automaton.now c.args.formula.now.names (map edge_of c.edges-edges.result.now) _ _ _ _ _ _ _ c.in-Some.ensures.cases.0 f c.group_len.ensures.group c.options.invariant.rising c.split_at.ensures.front c.split_at.ensures.back (λ p. p < length c.edges-edges.result.now) c.options.invariant.within;
       rising = options_rise c.args.automaton.now c.args.formula.now.names (map edge_of c.edges-edges.result.now) _ _ _ _ _ _ _ c.in-Some.ensures.cases.0 f c.group_len.ensures.group c.options.invariant.rising c.split_at.ensures.front c.split_at.ensures.back;
       text = remains_step fourth _ refl c.in_ok-put-3.ensures;
     }
