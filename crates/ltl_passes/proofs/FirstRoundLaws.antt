@@ -16,8 +16,10 @@ use Rattle.std.proofs.lemmas.Option.{slice_get-get_or}
 use Rattle.ltl_automaton.specs.SharedView.{Shared, IsShared, automaton_of}
 use Rattle.ltl_automaton.specs.declared.edge.Edge as made
 use Rattle.ltl_passes.specs.Runs.{edge_at}
+use Rattle.ltl_passes.specs.Worklist.{AreFiner, IsRound}
 use Rattle.ltl_passes.specs.Partition.{AreSignatures, IsLeastAlike, IsWithinStates, place_signature, list_view}
-use Rattle.ltl_passes.proofs.SignatureLaws.{seen_again, lists_within, next_round, ends_early}
+use Rattle.ltl_passes.proofs.SignatureLaws.{seen_again, lists_within, next_round}
+use Rattle.ltl_passes.proofs.FinerLaws.{closed_last, next_finer, round_finer}
 
 -- edges of which each is below the next one, as they are seen, rise
 pub rising_steps : {K : Type 0} {cmp : K → K → Ordering} → IsLinearOrder cmp → (f : made.Edge → K) (es : List made.Edge) → ((k : ℕ) → k + 1 < length es → cmp (f (edge_at es k)) (f (edge_at es (k + 1))) ≡ Less) → IsRising cmp (map f es)
@@ -66,8 +68,11 @@ module _ (S : Shared) (shared : IsShared S.lists S.states) (within : IsWithinSta
         ap (slice_get S.lists) at ∙ slice_get-get_or S.lists k [] l ∙ ap (λ (es : List Edge). Some es) (sym (view_same k l));
   }
 
-  pub first_round : next ≡ class_names B 1
-  first_round = next_round S shared 0 S.lists codes next own_signature least
+  pub first_round : IsRound B (class_names B 0) next
+  first_round = next_round S shared (class_names B 0) S.lists codes next own_signature least
 
   pub first_done : (names : List ℕ) → names ≡ class_names B 0 → next ≡ names → names ≡ class_names B (length B.states)
-  first_done names e same = e ∙ ends_early B 0 (omega arith) (sym first_round ∙ same ∙ e)
+  first_done names e same = e ∙ closed_last B (class_names B 0) next (round_finer B 0 (class_names B 0) refl) first_round (same ∙ e)
+
+  pub first_finer : AreFiner B next
+  first_finer = next_finer B (class_names B 0) next (round_finer B 0 (class_names B 0) refl) first_round

@@ -2,6 +2,9 @@ pub mod ClassLaws
 pub mod SignatureLaws
 pub mod LevelStateLaws
 pub mod FirstRoundLaws
+pub mod WithinLaws
+pub mod FinerLaws
+pub mod OwnerLaws
 pub mod MergeLaws
 pub mod MergedLaws
 pub mod NumberLaws

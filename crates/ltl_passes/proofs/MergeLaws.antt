@@ -1,10 +1,10 @@
 -- The steps of reading and making the states of automata that are merged.
-use Rattle.std.proofs.Common.{◌≡◌, ℕ, zero, suc, ◌+◌, ◌<◌, Bool, true, false, List, [], ◌∷◌, ◌++◌, map, length, refl, sym, ◌∙◌, ap, subst, arith}
+use Rattle.std.proofs.Common.{◌≡◌, ℕ, zero, suc, ◌<◌, Bool, true, false, List, [], ◌∷◌, ◌++◌, map, length, refl, sym, ◌∙◌, ap, subst, arith}
 use Rattle.std.specs.Prelude.{slice_index, slice_index_or}
 use Rattle.std.specs.Ordering.{nat_cmp}
 use Rattle.std.specs.Prelude.{nat_eq}
 use Rattle.std.specs.Cmp.Lexicographic.{pointwise, pointwise_decides}
-use Rattle.ltl_automaton.specs.SharedView.{Shared, IsShared, automaton_of, with_state}
+use Rattle.ltl_automaton.specs.SharedView.{with_state}
 use Rattle.ltl_automaton.proofs.EdgeLaws.{map_pushed}
 use Rattle.std.proofs.lemmas.Bool.Decides.{Decides-eqb}
 use Rattle.std.proofs.lemmas.List.{get_or-map}
@@ -12,8 +12,8 @@ use Rattle.ltl_spec.specs.Collections.Sets.{Has, set_of}
 use Rattle.ltl_spec.specs.Automata.Automaton.{Automaton, State, Edge}
 use Rattle.ltl_spec.specs.Construction.Merging.{retargeted_state, without_implied, class_names}
 use Rattle.ltl_spec.proofs.Construction.RoundLaws.{names_length, name_low, name_twice}
-use Rattle.ltl_passes.specs.Partition.{number_in, IsNumbering, AreNames, AreSignatures, IsLeastAlike, place_signature, list_view, retargeted_list, thinned}
-use Rattle.ltl_passes.proofs.SignatureLaws.{seen_again, next_round, ends_early}
+use Rattle.ltl_passes.specs.Partition.{number_in, IsNumbering, AreNames, retargeted_list, thinned}
+use Rattle.ltl_passes.proofs.SignatureLaws.{seen_again}
 
 pub index_own : (xs : List ℕ) (i d : ℕ) → i < length xs → slice_index_or xs i d ≡ slice_index_or xs i (slice_index_or xs i d)
 index_own xs i d l = any xs i d (slice_index_or xs i d) l
@@ -51,19 +51,6 @@ pub class_pushed : (B C : Automaton) (sets : ℕ) (h : ℕ → State) (taken mor
 class_pushed B C sets h taken more_taken class accepting es b c s t =
     c ∙ ap (λ X. with_state X accepting es) b ∙ (λ i. let X : Automaton = record { sets = sets; states = map h taken ++ s i ∷ [] } in X)
     ∙ sym (ap (λ ss. let X : Automaton = record { sets = sets; states = ss } in X) (map_pushed h taken more_taken class t))
-
--- rounds
-module _ (S : Shared) (shared : IsShared S.lists S.states) where
-  pub round_on : (n : ℕ) (names codes next : List ℕ) (keys : List (List Edge)) → names ≡ class_names (automaton_of S) n → AreSignatures (length S.lists) (list_view S.lists (slice_index names)) keys codes
-      → IsLeastAlike (length S.states) (place_signature S.states codes) next → next ≡ class_names (automaton_of S) (n + 1)
-  round_on n names codes next keys e c l =
-      let z : suc n ≡ n + 1 = omega arith in
-      next_round S shared n keys codes next (subst (λ ns. AreSignatures (length S.lists) (list_view S.lists (slice_index ns)) keys codes) e c) l ∙ ap (class_names (automaton_of S)) z
-
-  pub round_done : (n : ℕ) (names codes next : List ℕ) (keys : List (List Edge)) → n < length (automaton_of S).states → names ≡ class_names (automaton_of S) n → AreSignatures (length S.lists) (list_view S.lists (slice_index names)) keys codes
-      → IsLeastAlike (length S.states) (place_signature S.states codes) next → next ≡ names → names ≡ class_names (automaton_of S) (length (automaton_of S).states)
-  round_done n names codes next keys m e c l s =
-      e ∙ ends_early (automaton_of S) n (omega arith) (sym (next_round S shared n keys codes next (subst (λ ns. AreSignatures (length S.lists) (list_view S.lists (slice_index ns)) keys codes) e c) l) ∙ s ∙ e)
 
 pub same_list : (xs ys : List ℕ) → pointwise nat_eq xs ys ≡ true → xs ≡ ys
 same_list xs ys t = (pointwise_decides Decides-eqb xs ys).0 t

@@ -1,19 +1,18 @@
 -- A round of merging by signatures of lists.
-use Rattle.std.proofs.Common.{◌≡◌, ℕ, zero, suc, ◌+◌, ◌-◌, ◌<◌, ◌≤◌, true, inl, inr, List, [], ◌∷◌, ◌++◌, map, length, refl, sym, ◌∙◌, ap, subst, arith, Some}
+use Rattle.std.proofs.Common.{◌≡◌, ℕ, zero, suc, ◌<◌, ◌≤◌, true, inl, inr, List, [], ◌∷◌, ◌++◌, map, length, refl, sym, ◌∙◌, ap, subst, arith, Some}
 use Rattle.std.specs.Prelude.{slice_index, slice_index_or, slice_get, All}
 use Rattle.std.proofs.lemmas.List.{get_or-map, length-map}
 use Rattle.ltl_spec.specs.Collections.Sets.{Has, set_of}
-use Rattle.ltl_spec.specs.Collections.Lists.{place_of}
 use Rattle.ltl_spec.specs.Automata.Automaton.{Automaton, State, Edge, edge_cmp, state_at}
-use Rattle.ltl_spec.specs.Construction.Merging.{same_state, retargeted_edge, retargeted_state, class_names}
+use Rattle.ltl_spec.specs.Construction.Merging.{retargeted_edge, retargeted_state}
 use Rattle.ltl_spec.proofs.Collections.ListLaws.{All-at_has}
-use Rattle.ltl_spec.proofs.Construction.NamingLaws.{IsNames, IsWithin, seen_under, same_names, round_names, next_seen, next_equal}
 use Rattle.ltl_automaton.specs.EdgeView.{edge_of}
 use Rattle.ltl_automaton.specs.SharedView.{Shared, IsShared, automaton_of, state_in}
 use Rattle.ltl_automaton.specs.declared.edge.Edge as plain
 use Rattle.ltl_automaton.specs.declared.shared.SharedState.{SharedState}
 use Rattle.ltl_automaton.proofs.EdgeLaws.{map_pushed}
 use Rattle.ltl_automaton.proofs.SharedLaws.{got_once}
+use Rattle.ltl_passes.specs.Worklist.{IsRound, named_view}
 use Rattle.ltl_passes.specs.Partition.{AreListsWithin, AreSignatures, IsLeastAlike, IsWithinStates, place_signature, list_view, retargeted_list}
 
 -- a list is seen as before where its targets keep their names
@@ -71,58 +70,48 @@ module _ (S : Shared) (shared : IsShared S.lists S.states) where
   lists_within w = all_lists (λ es. All (λ e. e.target < length A.states) es) w
 
   -- the least states that are seen as equal are the names of the next round
-  pub next_round : (n : ℕ) (keys : List (List Edge)) (signatures next : List ℕ) → AreSignatures (length S.lists) (list_view S.lists (slice_index (class_names A n))) keys signatures
-      → IsLeastAlike (length S.states) (place_signature S.states signatures) next → next ≡ class_names A (suc n)
-  next_round n keys signatures next c l = same_names A next (class_names A (suc n)) names (round_names A (suc n)) to from
+  pub next_round : (names : List ℕ) (keys : List (List Edge)) (signatures next : List ℕ) → AreSignatures (length S.lists) (list_view S.lists (slice_index names)) keys signatures
+      → IsLeastAlike (length S.states) (place_signature S.states signatures) next → IsRound A names next
+  next_round names keys signatures next c l = record {
+    names = record {
+      low = λ s m. l.low s (below s m);
+      twice = λ s m.
+          let h = below s m in
+          let p : slice_index next s ≤ s = l.low s h in
+          l.once (slice_index next s) s (omega arith) h (l.same s h);
+    };
+    long = l.long ∙ sym long;
+    seen = to;
+    same = from;
+  }
     where
       inside : (s : ℕ) → s < length A.states → s < length S.states
       inside s m = let e = long in omega arith
 
-      names : IsNames A next
-      names = record {
-        long = l.long ∙ sym long;
-        low = λ s m. l.low s (inside s m);
-        twice = λ s m.
-            let p : slice_index next s ≤ s = l.low s (inside s m) in
-            let h = inside s m in
-            l.once (slice_index next s) s (omega arith) h (l.same s h);
-      }
+      below : (s : ℕ) → s < length next → s < length S.states
+      below s m = let e = l.long in omega arith
 
       view : ℕ → List Edge
-      view k = list_view S.lists (slice_index (class_names A n)) k
+      view k = list_view S.lists (slice_index names) k
 
-      seen : (s : ℕ) → s < length A.states → seen_under A (class_names A n) s ≡ (let t : State = record { accepting = (place s).accepting; edges = view (place s).list } in t)
-      seen s m = ap (retargeted_state (slice_index (class_names A n))) (is_at s m)
+      seen : (s : ℕ) → s < length A.states → named_view A names s ≡ (let t : State = record { accepting = (place s).accepting; edges = view (place s).list } in t)
+      seen s m = ap (retargeted_state (slice_index names)) (is_at s m)
 
-      to : IsWithin A next (class_names A (suc n))
+      to : (s t : ℕ) → s < length A.states → t < length A.states → slice_index next s ≡ slice_index next t → named_view A names s ≡ named_view A names t
       to s t m k e =
           let f : place_signature S.states signatures s ≡ place_signature S.states signatures t = sym (l.same s (inside s m)) ∙ ap (place_signature S.states signatures) e ∙ l.same t (inside t k) in
           let signature = ap (λ (p : SharedState). p.list) f in
           let accepting = ap (λ (p : SharedState). p.accepting) f in
           let edges : view (place s).list ≡ view (place t).list = Some_injective _ _ (sym (c.seen (place s).list (has_list s m)) ∙ ap (slice_get keys) signature ∙ c.seen (place t).list (has_list t k)) in
-          next_equal A n s t m k (seen s m ∙ (λ i. let u : State = record { accepting = accepting i; edges = edges i } in u) ∙ sym (seen t k))
+          seen s m ∙ (λ i. let u : State = record { accepting = accepting i; edges = edges i } in u) ∙ sym (seen t k)
         where
           Some_injective : (x y : List Edge) → Some x ≡ Some y → x ≡ y
           Some_injective x y e = cc
 
-      from : IsWithin A (class_names A (suc n)) next
+      from : (s t : ℕ) → s < length A.states → t < length A.states → named_view A names s ≡ named_view A names t → slice_index next s ≡ slice_index next t
       from s t m k e =
-          let f = sym (seen s m) ∙ next_seen A n s t m k e ∙ seen t k in
+          let f = sym (seen s m) ∙ e ∙ seen t k in
           let accepting = ap (λ (u : State). u.accepting) f in
           let edges = ap (λ (u : State). u.edges) f in
           let signature = got_once keys (slice_index signatures (place s).list) (slice_index signatures (place t).list) (view (place s).list) c.distinct (c.seen (place s).list (has_list s m)) (c.seen (place t).list (has_list t k) ∙ ap (λ (es : List Edge). Some es) (sym edges)) in
           l.once s t (inside s m) (inside t k) (λ i. let p : SharedState = record { list = signature i; accepting = accepting i } in p)
-
-module _ (A : Automaton) where
-  -- where a round changes nothing, no later one does
-  pub ends_early : (n : ℕ) → n ≤ length A.states → class_names A (suc n) ≡ class_names A n → class_names A n ≡ class_names A (length A.states)
-  ends_early n l e =
-      let z : (length A.states - n) + n ≡ length A.states = omega arith in
-      sym (after (length A.states - n)) ∙ ap (class_names A) z
-    where
-      round_after : List ℕ → List ℕ
-      round_after names = map (λ s. place_of same_state s (map (retargeted_state (slice_index names)) A.states)) (map (retargeted_state (slice_index names)) A.states)
-
-      after : (k : ℕ) → class_names A (k + n) ≡ class_names A n
-      after zero = let z : 0 + n ≡ n = omega arith in ap (class_names A) z
-      after (suc k) = let z : suc k + n ≡ suc (k + n) = omega arith in ap (class_names A) z ∙ ap round_after (after k) ∙ e

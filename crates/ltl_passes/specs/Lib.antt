@@ -1,4 +1,5 @@
 pub mod Partition
+pub mod Worklist
 pub mod Degeneralize
 pub mod LevelCodes
 pub mod Numbered

@@ -8,8 +8,11 @@
 //! `merged_states`, `renumbered_states`), because a `Ba` keeps the order of its edges by target, which is needed only for the last one.
 //!
 //! Each round of refinement compares all edge lists up to the classes of their targets. If all lists are strictly sorted (`rising`), the first round compares
-//! the numbers of the lists instead. A list is searched for implied edges only if two of its edges with one target have different weights. Then the edges are
-//! sorted by target, and the minimal ones of each target are kept (`implied`).
+//! the numbers of the lists instead. Between two rounds a worklist goes on merging (`worklist`): it looks at a state again only if the class of a target has
+//! another name, and the smaller one of two classes gets the name of the other (`classes`). Mostly the next round changes nothing then.
+//!
+//! A list is searched for implied edges only if two of its edges with one target have different weights. Then the edges are sorted by target, and the minimal
+//! ones of each target are kept (`implied`).
 //!
 //! The generalized automaton of `[]<>p` has one state after merging, with `[t]` in no set and `[p]` in set 0. Degeneralized, it has two copies with one edge
 //! list:
@@ -20,15 +23,20 @@
 //! ```
 #![tactic(auto)]
 
+mod classes;
 mod degeneralize;
 mod implied;
 pub mod merging;
 pub mod numbering;
+mod owners;
 mod partition;
+mod queue;
 mod quotient;
 mod retargeting;
 mod rises;
 mod rising;
+mod sources;
+mod worklist;
 
 pub use degeneralize::{level_states, levels};
 pub use merging::{merge, merge_ba, merged_states};

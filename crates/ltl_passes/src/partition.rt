@@ -7,15 +7,17 @@ ghost use Rattle.ltl_spec.specs.Automata.Automaton as spec;
 ghost use Rattle.ltl_spec.specs.Construction.Merging as merging;
 ghost use Rattle.ltl_automaton.specs.EdgeView.{edge_of};
 ghost use Rattle.ltl_automaton.specs.SharedView.{automaton_of};
+ghost use Rattle.ltl_passes.specs.Worklist.{AreFiner, IsRound};
 ghost use Rattle.ltl_passes.specs.Partition.{AreListsWithin, AreSignatures, IsFirstPlaces, IsLeastAlike, IsLeastPlaces, IsWithinStates, place_signature, list_view};
 
 use crate::retargeting::retargeted;
 use crate::rising::all_rise;
+use crate::worklist::coarsened;
 use ltl_automaton::{Edge, EdgeList, Interner, SharedState, SharedStates};
 use std::alloc::{AllocError, Allocator};
 
 /// An interner of signatures of edge lists: a list with its targets replaced by the names of their classes.
-type ListInterner<'a, A> = Interner<'a, EdgeList<'a, A>, A>;
+pub(crate) type ListInterner<'a, A> = Interner<'a, EdgeList<'a, A>, A>;
 
 /// An interner of signatures of states: the signature number of its list, and whether it is accepting.
 type StateInterner<'a, A> = Interner<'a, SharedState, A>;
@@ -35,7 +37,7 @@ pub(crate) fn own_names<'a, A: Allocator>(
 }
 
 /// The number of the signature of an edge list. A new signature gets the next number.
-fn signature<'a, A: Allocator>(
+pub(crate) fn signature<'a, A: Allocator>(
     seen: &mut ListInterner<'a, A>,
     edges: Vec<Edge, &'a A>,
 ) -> Result<usize, AllocError>
@@ -86,7 +88,7 @@ fn first_places<'a, A: Allocator>(
 }
 
 /// For each state the least state with the same signature.
-fn least_places<'a, A: Allocator>(
+pub(crate) fn least_places<'a, A: Allocator>(
     alloc: &'a A,
     signatures: &[usize],
     count: usize,
@@ -152,27 +154,39 @@ fn least_alike<'a, A: Allocator>(
     least_places(alloc, signatures.as_slice(), places.len())
 }
 
-/// Refines the partition `coarse`, which `from` rounds have made, until a round changes nothing.
+/// The names after one more round.
+fn next_names<'a, A: Allocator>(
+    alloc: &'a A,
+    states: &SharedStates<'_, A>,
+    names: &[usize],
+) -> Result<Vec<usize, &'a A>, AllocError>
+    requires within { IsWithinStates (automaton_of states.now).states }
+    requires finer { AreFiner (automaton_of states.now) names.now }
+    ensures { IfOk result (λ v. IsRound (automaton_of states.now) names.now v.items) }
+{
+    states.invariant();
+    let mut seen: ListInterner<'a, A> = Interner::new(alloc);
+    let signatures = list_signatures_under(alloc, &mut seen, states, names)?;
+    least_alike(alloc, states, signatures.as_slice())
+}
+
+/// Merges classes until a round changes nothing. Between rounds, merging goes on by a worklist.
 fn refined<'a, A: Allocator>(
     alloc: &'a A,
     states: &SharedStates<'_, A>,
-    coarse: Vec<usize, &'a A>,
-    from: usize,
+    fine: Vec<usize, &'a A>,
 ) -> Result<Vec<usize, &'a A>, AllocError>
     requires within { IsWithinStates (automaton_of states.now).states }
-    requires round { coarse.items ≡ merging.class_names (automaton_of states.now) from }
+    requires finer { AreFiner (automaton_of states.now) fine.items }
     ensures { IfOk result (λ v. v.items ≡ merging.class_names (automaton_of states.now) (length (automaton_of states.now).states)) }
 {
-    states.invariant();
-    let mut names = coarse;
-    let mut seen: ListInterner<'a, A> = Interner::new(alloc);
-    for round in from..states.len() {
-        let signatures = list_signatures_under(alloc, &mut seen, states, names.as_slice())?;
-        let next = least_alike(alloc, states, signatures.as_slice())?;
+    let mut names = fine;
+    for round in 0..states.len() {
+        let next = next_names(alloc, states, names.as_slice())?;
         if next.as_slice() == names.as_slice() {
             return Ok(names);
         }
-        names = next;
+        names = coarsened(alloc, states, next)?;
     }
     Ok(names)
 }
@@ -190,12 +204,12 @@ pub(crate) fn class_names<'a, A: Allocator>(
     states.invariant();
     let names = own_names(alloc, states.len())?;
     if !all_rise(states) {
-        return refined(alloc, states, names, 0);
+        return refined(alloc, states, names);
     }
     let signatures = own_names(alloc, states.list_count())?;
     let next = least_alike(alloc, states, signatures.as_slice())?;
     if next.as_slice() == names.as_slice() {
         return Ok(names);
     }
-    refined(alloc, states, next, 1)
+    refined(alloc, states, next)
 }
