@@ -1,4 +1,5 @@
 pub mod SupportLaws
+pub mod ColumnLaws
 pub mod CodedLaws
 pub mod ElementaryLaws
 pub mod FinalLaws

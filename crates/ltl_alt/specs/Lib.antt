@@ -1,5 +1,6 @@
 pub mod SupportView
 pub mod BasisView
+pub mod Columns
 pub mod CodeView
 pub mod Codes
 pub mod FinalView

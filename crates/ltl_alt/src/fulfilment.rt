@@ -1,17 +1,14 @@
 //! The test of each until row of a table: whether a pair fulfils the row.
 
-ghost use Rattle.std.specs.Prelude.{◌≡◌, ◌<◌, length, map, slice_get, slice_index_or, Some, IfOk, OnOk, false};
+ghost use Rattle.std.specs.Prelude.{◌≡◌, ◌<◌, length, slice_get, slice_index_or, Some, IfOk};
 ghost use Rattle.ltl_formula.specs.SharedNodesView.{IsBelow};
 ghost use Rattle.ltl_spec.specs.NormalForms.Normal.{Bottom};
 ghost use Rattle.ltl_spec.proofs.Transitions.IndependenceTests.{no_support};
-ghost use Rattle.ltl_spec.proofs.Transitions.Fulfilment.{passes};
-ghost use Rattle.ltl_spec.proofs.Transitions.Steps.{step_passes, tests_of};
 ghost use Rattle.ltl_alt.specs.Steps.{AreUntilSteps, until_step};
-ghost use Rattle.ltl_alt.specs.Tests.{AreTests, IsUntilTest, step_of, steps_of};
+ghost use Rattle.ltl_alt.specs.Tests.{AreTests, IsUntilTest};
 ghost use Rattle.ltl_alt.specs.TransitionView.{table_at};
 
 use crate::leaves::{leaves, leaves_at};
-use crate::pair::Pair;
 use crate::place::{place, until_count, until_row};
 use crate::program::{Program, Step, until_steps};
 use crate::support::Support;
@@ -32,33 +29,6 @@ pub(crate) struct Fulfilment<'a, A: Allocator> {
     /// The literals and rows on which each step depends.
     pub(crate) leaves: Vec<Support, &'a A>,
     pub(crate) untils: Vec<UntilTest, &'a A>,
-}
-
-/// Whether the step with this number is passed; false if there is no such step.
-#[inline(always)]
-pub(crate) fn answer_at(answers: &[bool], number: usize) -> bool
-    ensures { result ≡ slice_index_or answers.now number false }
-{
-    if number < answers.len() {
-        answers[number]
-    } else {
-        false
-    }
-}
-
-/// Whether a pair passes a step, from the answers of earlier steps.
-#[inline(always)]
-fn step_passes(pair: &Pair, answers: &[bool], step: Step) -> bool
-    ensures { result ≡ step_passes pair.now answers.now (step_of step) }
-{
-    match step {
-        Step::Always => true,
-        Step::Never => false,
-        Step::Reads(literal) => pair.reads(literal),
-        Step::Leads(place) => pair.targets.holds(place),
-        Step::Both(i, j) => answer_at(answers, i) && answer_at(answers, j),
-        Step::Either(i, j) => answer_at(answers, i) || answer_at(answers, j),
-    }
 }
 
 /// The steps of a program in their order.
@@ -147,22 +117,5 @@ impl<'a, A: Allocator> Fulfilment<'a, A> {
         ensures { result ≡ slice_index_or self.now.leaves.items number no_support }
     {
         leaves_at(self.leaves.as_slice(), number)
-    }
-
-    /// Computes for each step whether a pair passes it, in place of the old contents of `answers`.
-    pub(crate) fn put_answers(
-        &self,
-        pair: &Pair,
-        answers: &mut Vec<bool, &A>,
-    ) -> Result<(), AllocError>
-        ensures { OnOk result (answers.new.items ≡ map (passes pair.now) (tests_of (steps_of self.now.steps.items))) }
-    {
-        answers.clear();
-        'steps: for k in 0..self.steps.len() {
-            let step = self.steps[k];
-            let answer = step_passes(pair, answers.as_slice(), step);
-            answers.push(answer)?;
-        }
-        Ok(())
     }
 }

@@ -16,8 +16,8 @@
 //! - The conjuncts of its rows are divided into connected components of the links.
 //! - The pairs of a component's conjuncts are joined (`lists`, `repeats`). Each join but the last one is pruned of pairs that would stay implied whatever is
 //!   joined later (`prune`, `rule`, `roots`, `lacks`, `codes`). Joins are remembered (`memo`, `components`). The pairs of the last join get their marks
-//!   (`marks`), and implied transitions are removed (`implied`). The result is remembered for the component (`finals`). If there is no room for one of the
-//!   joins, the component is joined for its set of rows alone, and its last join is pruned too.
+//!   (`marks`), and implied transitions are removed (`implied`). Tests are evaluated for many pairs at once (`columns`). The result is remembered for the
+//!   component (`finals`). If there is no room for one of the joins, the component is joined for its set of rows alone, and its last join is pruned too.
 //! - The transitions of the set are the products of one transition of each component. They are counted first, then made and sorted (`factors`, `product`).
 //!
 //! A set whose components have the same lists of transitions as those of an earlier set shares that set's edges (`keys`).
@@ -37,6 +37,7 @@
 
 mod basis;
 mod codes;
+mod columns;
 mod components;
 mod conjunct_table;
 mod conjuncts;

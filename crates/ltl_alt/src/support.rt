@@ -1,6 +1,8 @@
 //! The support of a list of pairs, and a test that two lists are independent.
 
 ghost use Rattle.std.specs.Prelude.{◌≡◌, length};
+ghost use Rattle.std.specs.Ordering.{nat_cmp};
+ghost use Rattle.ltl_spec.specs.Collections.Sets.{has};
 ghost use Rattle.ltl_spec.specs.Transitions.Pairs as spec_pairs;
 ghost use Rattle.ltl_spec.proofs.Transitions.IndependenceTests as independence;
 ghost use Rattle.ltl_alt.specs.SupportView.{IsAdded, CoversAllFulfilling, AreDependencies};
@@ -10,7 +12,7 @@ ghost use Rattle.ltl_alt.specs.TransitionView.{table_at};
 use crate::fulfilment::Fulfilment;
 use crate::pair::Pair;
 use ltl_formula::Table;
-use ltl_sets::RowSet;
+use ltl_sets::{Literal, RowSet};
 use std::alloc::{AllocError, Allocator};
 use std::marker::Model;
 
@@ -77,8 +79,22 @@ impl Support {
     }
 
     /// The places of the rows.
-    pub(crate) fn targets(&self) -> RowSet {
+    pub(crate) fn targets(&self) -> RowSet
+        ensures { result ≡ self.now.targets }
+    {
         self.targets
+    }
+
+    /// Whether the literal is in it.
+    #[inline(always)]
+    pub(crate) fn reads(&self, literal: Literal) -> bool
+        ensures { result ≡ has nat_cmp literal.proposition (independence.of_sign literal.positive self.now) }
+    {
+        if literal.positive {
+            self.positive.holds(literal.proposition)
+        } else {
+            self.negative.holds(literal.proposition)
+        }
     }
 
     /// Whether a literal or a row is in both.
