@@ -1,5 +1,6 @@
 pub mod SupportLaws
 pub mod ColumnLaws
+pub mod BlockLaws
 pub mod CodedLaws
 pub mod ElementaryLaws
 pub mod FinalLaws

@@ -3,19 +3,19 @@ use Rattle.std.proofs.Common.{◌≡◌, ◌≢◌, Bool, true, ℕ, zero, suc, 
 use Rattle.std.specs.Prelude.{slice_index_or, ◌==◌}
 use Rattle.std.proofs.lemmas.Bool.Decides.{nat_tests}
 use Rattle.std.proofs.lemmas.Bool.{cases_lt}
-use Rattle.std.proofs.lemmas.List.{get_or-map, get_or-replicate, get_or-set_other, get_or_past, length-map, length-replicate, length-set, set_past}
+use Rattle.std.proofs.lemmas.List.{get_or-map, get_or-replicate, get_or-set_other, get_or_past, length-map, length-replicate, set_past}
 use Rattle.ltl_spec.specs.Collections.Sets.{Has}
 use Rattle.ltl_spec.specs.Transitions.Pairs.{Pair}
 use Rattle.ltl_spec.proofs.Collections.SetLaws.{append_cases}
 use Rattle.ltl_spec.proofs.Collections.CaseLaws.{here_or_above}
-use Rattle.ltl_spec.proofs.Transitions.IndependenceTests.{Support, IsWithinSupport, no_support, together, within_sign, within_together_left, within_together_right}
+use Rattle.ltl_spec.proofs.Transitions.IndependenceTests.{Support, IsWithinSupport, no_support, within_sign}
 use Rattle.ltl_spec.proofs.Transitions.AskedSteps.{ask_step, ask_operands, AreAskedFrom, AreCodes, codes_small, asked_now, asked_still, asked_more, asked_closed, asked_open, asked_all}
 use Rattle.ltl_spec.proofs.Transitions.SupportTests.{TellsOf}
 use Rattle.ltl_spec.proofs.Transitions.Fulfilment.{Test, anything, code}
 use Rattle.ltl_spec.proofs.Transitions.Steps as steps
 use Rattle.ltl_spec.proofs.Transitions.Steps.{IsOperand, step_test, tests_of}
 use Rattle.ltl_spec.proofs.Transitions.StepLaws.{test_of_step}
-use Rattle.ltl_alt.specs.CodeView.{AreLeavesFrom, IsAskedBack, IsAskedBelow, IsLack, IsLeafIn, IsLeafWithin, IsWithLeaf, coming_to}
+use Rattle.ltl_alt.specs.CodeView.{AreLeavesFrom, IsAskedBack, IsAskedBelow, IsLack, IsLeafIn, IsWithLeaf, coming_to}
 use Rattle.ltl_alt.specs.Tests.{step_of, steps_of}
 use Rattle.ltl_alt.specs.declared.fulfilment.Fulfilment.{Fulfilment}
 use Rattle.ltl_alt.specs.declared.program.Step.{Step}
@@ -25,17 +25,6 @@ pub step_at : (ss : List Step) (k : ℕ) (s : Step) → k < length ss → s ≡ 
 step_at ss k s l e = get_or-map step_of ss k s steps.Always l ∙ ap step_of (sym e)
 
 -- ---- leaves
-
-pub leaf_added : (old leaves new : Support) (s : steps.Step) → new ≡ together old leaves → IsWithLeaf old leaves s new
-leaf_added old leaves new s e = subst (IsWithLeaf old leaves s) (sym e) (within_together_left old leaves, at s)
-  where
-    at : (s : steps.Step) → IsLeafWithin leaves s (together old leaves)
-    at steps.Always = tt
-    at steps.Never = tt
-    at (steps.Reads l) = within_together_right old leaves
-    at (steps.Leads k) = within_together_right old leaves
-    at (steps.Both i j) = tt
-    at (steps.Either i j) = tt
 
 -- a literal or a row that a step looks for is among what it speaks of
 leaf_in : (ts : List Test) (leaves v w : Support) (s : steps.Step) → IsWithLeaf v leaves s w → TellsOf leaves (step_test ts s) → IsLeafIn w s
@@ -56,10 +45,10 @@ leaf_more v w (steps.Either i j) d h = tt
 
 -- ---- asking
 
-none_taken : (n : ℕ) (xs : List ℕ) → xs ≡ [] → take n xs ≡ []
-none_taken n xs e = ap (take n) e ∙ at n
+none_taken : {X : Type 0} (n : ℕ) (xs : List X) → xs ≡ [] → take n xs ≡ []
+none_taken {X} n xs e = ap (take n) e ∙ at n
   where
-    at : (n : ℕ) → take {A = ℕ} n [] ≡ []
+    at : (n : ℕ) → take {A = X} n [] ≡ []
     at zero = refl
     at (suc n) = refl
 
@@ -73,27 +62,16 @@ no_roots b (x ∷ xs) e f =
     let z : length (x ∷ xs) ≡ 0 = zero_length (length (x ∷ xs)) (sym f ∙ e) in
     absurd (omega (arith, z))
 
--- of a new list nothing is asked
-pub nothing_there : (n m : ℕ) (old new : List ℕ) → old ≡ [] → new ≡ take n old ++ replicate m 3 → (i : ℕ) → slice_index_or new i 3 ≡ 3
-nothing_there n m old new e f i = ap (λ xs. slice_index_or xs i 3) (f ∙ ap (λ xs. xs ++ replicate m 3) (none_taken n old e)) ∙ elim (cases_lt i m) [
-  | inl l ↦ get_or-replicate m i 3 3 l
-  | inr l ↦ get_or_past (replicate m 3) i 3 (let d : length (replicate {A = ℕ} m 3) ≡ m = length-replicate m 3 in omega (arith, d, l))
+-- a new list has one thing at each place
+pub all_there : {X : Type 0} (x y : X) (n m : ℕ) (old new : List X) → old ≡ [] → y ≡ x → new ≡ take n old ++ replicate m y → (i : ℕ) → slice_index_or new i x ≡ x
+all_there {X} x y n m old new e d f i = ap (λ xs. slice_index_or xs i x) (f ∙ (λ k. none_taken n old e k ++ replicate m (d k))) ∙ elim (cases_lt i m) [
+  | inl l ↦ get_or-replicate m i x x l
+  | inr l ↦ get_or_past (replicate m x) i x (let d : length (replicate {A = X} m x) ≡ m = length-replicate m x in omega (arith, d, l))
 ]
 
 module _ (codes : List ℕ) where
   ask_past : (asked : List ℕ) (k : ℕ) → length asked ≤ k → ask_step codes asked k ≡ asked
   ask_past asked k l = set_past asked k (slice_index_or codes k 0) l
-
-  ask_length : (asked : List ℕ) (i : ℕ) → length (ask_step codes asked i) ≡ length asked
-  ask_length asked i = length-set asked i (slice_index_or codes i 0)
-
-  pub operands_length : (asked : List ℕ) (s : steps.Step) → length (ask_operands codes asked s) ≡ length asked
-  operands_length asked steps.Always = refl
-  operands_length asked steps.Never = refl
-  operands_length asked (steps.Reads l) = refl
-  operands_length asked (steps.Leads i) = refl
-  operands_length asked (steps.Both i j) = ask_length (ask_step codes asked i) j ∙ ask_length asked i
-  operands_length asked (steps.Either i j) = ask_length (ask_step codes asked i) j ∙ ask_length asked i
 
   -- nothing changes from a number on that all operands are below
   ask_above : (asked : List ℕ) (i k : ℕ) → i < k → slice_index_or (ask_step codes asked i) k 3 ≡ slice_index_or asked k 3
@@ -170,6 +148,12 @@ pub back_begins : {A : Type 0} (f : Fulfilment A) (codes old : List ℕ) (n : �
 back_begins f codes old n v e roots small sound first =
     let long : length (steps_of f.steps.items) ≡ n = length-map f.steps.items step_of ∙ sym e in
     (subst (λ m. IsAskedBack codes (steps_of f.steps.items) roots m old) long first, λ k g l d. absurd (omega arith))
+
+-- a pair may lack more
+pub back_more : {A : Type 0} (f : Fulfilment A) (codes old asked : List ℕ) (n : ℕ) (v w : Support) → IsWithinSupport v w → IsAskedBelow f codes old n asked v → IsAskedBelow f codes old n asked w
+back_more f codes old asked n v w within below roots small sound first =
+    let (a, b) = below roots small sound first in
+    (a, λ k g l d. leaf_more v w (slice_index_or (steps_of f.steps.items) k steps.Always) within (b k g l d))
 
 -- one step back: past one that isn't open, and past one that is
 module _ {A : Type 0} (f : Fulfilment A) (codes old asked : List ℕ) (n k : ℕ) (v : Support) (next : n ≡ k + 1) (l : k < length f.steps.items) (w : IsAskedBelow f codes old n asked v) where

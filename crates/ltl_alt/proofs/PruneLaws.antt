@@ -11,14 +11,16 @@ use Rattle.ltl_spec.proofs.Collections.Orders.{pair_linear}
 use Rattle.ltl_spec.proofs.Collections.SetLaws.{all_at, all_from, append_cases, append_left, append_right, set_of_same, IsRising-set_of}
 use Rattle.ltl_spec.proofs.Transitions.JoinLaws.{within_refl}
 use Rattle.ltl_spec.proofs.Transitions.LeastPairs.{is_within_Decides}
-use Rattle.ltl_alt.specs.CodeView.{AreLeft, AreOpenSteps, HasSpare}
+use Rattle.ltl_alt.specs.CodeView.{AreLacks, AreLeft, AreOpenSteps, HasSpare}
 use Rattle.ltl_alt.specs.StandIns.{AreAmong, IsFit, IsListed, IsPruned, IsPrunedSafely, StandsFor, pair_of}
 use Rattle.ltl_alt.specs.Tests.{AreTests}
 use Rattle.ltl_alt.specs.declared.fulfilment.Fulfilment.{Fulfilment}
+use Rattle.ltl_alt.specs.declared.lacks.Lack as known
 use Rattle.ltl_alt.specs.declared.prune.Measured as made
 use Rattle.ltl_alt.specs.declared.rule.Rule.{Rule}
 use Rattle.ltl_alt.specs.declared.rule.Rule.TheVariants as rule
 use Rattle.ltl_alt.proofs.CodedLaws.{lack_safe}
+use Rattle.ltl_alt.proofs.SpareLaws.{known_lack}
 use Rattle.ltl_alt.proofs.StandInLaws.{kept_all, kept_on, kept_same, stands_in}
 
 pub not_true : (a : Bool) → not a ≡ true → a ≡ false
@@ -65,10 +67,10 @@ pub nothing_pruned : {A : Type 0} (f : Fulfilment A) (ps : List Pair) → IsRisi
 nothing_pruned f ps up T tests = record { kept = kept_all (stands_in T rule.SafelySubsumed) ps; rising = up }
 
 -- one more is among them
-pub among_added : (ms all new : List made.Measured) (m : made.Measured) → Has ms m → new ≡ all ++ m ∷ [] → AreAmong ms all → AreAmong ms new
-among_added ms all new m there e w n h = elim (append_cases all (m ∷ []) n (subst (λ xs. Has xs n) e h)) [
-  | inl k ↦ w n k
-  | inr k ↦ elim k [ inl s ↦ subst (Has ms) (sym s) there | inr x ↦ absurd x ]
+pub among_added : (ms all new : List made.Measured) (m n : made.Measured) → Has ms m → (n.pair ≡ m.pair) × (n.size ≡ m.size) → new ≡ all ++ n ∷ [] → AreAmong ms all → AreAmong ms new
+among_added ms all new m n there same e w o h = elim (append_cases all (n ∷ []) o (subst (λ xs. Has xs o) e h)) [
+  | inl k ↦ w o k
+  | inr k ↦ elim k [ inl s ↦ (m, there, sym same.0 ∙ ap (λ (x : made.Measured). x.pair) (sym s), sym same.1 ∙ ap (λ (x : made.Measured). x.size) (sym s)) | inr x ↦ absurd x ]
 ]
 
 earlier : (taken : List made.Measured) (m : made.Measured) (q : Pair) → Has (map pair_of taken) q → Has (map pair_of (taken ++ m ∷ [])) q
@@ -76,10 +78,10 @@ earlier taken m q h =
     let (n, j, s) = map_cases pair_of taken q h in
     subst (Has (map pair_of (taken ++ m ∷ []))) (sym s) (Has-map pair_of (taken ++ m ∷ []) n (append_left taken (m ∷ []) n j))
 
-module _ {A : Type 0} (f : Fulfilment A) (roots : List ℕ) (all : List made.Measured) where
+module _ (ks : List known.Lack) (all : List made.Measured) where
   -- one more was looked at, and stays
   pub one_stays : (taken more : List made.Measured) (m : made.Measured) (qs new : List Pair) → more ≡ taken ++ m ∷ [] → new ≡ qs ++ m.pair ∷ [] → ((q : Pair) → Has (map pair_of taken) q → pair_cmp q m.pair ≡ Less)
-      → AreLeft f roots all taken qs → AreLeft f roots all more new
+      → AreLeft ks all taken qs → AreLeft ks all more new
   one_stays taken more m qs new e g above w = record {
     from = λ q h. subst (λ xs. Has (map pair_of xs) q) (sym e) (elim (append_cases qs (m.pair ∷ []) q (subst (λ xs. Has xs q) g h)) [
       | inl k ↦ earlier taken m q (w.from q k)
@@ -93,18 +95,18 @@ module _ {A : Type 0} (f : Fulfilment A) (roots : List ℕ) (all : List made.Mea
   }
 
   -- or goes
-  pub one_goes : (taken more : List made.Measured) (m : made.Measured) (qs new : List Pair) → more ≡ taken ++ m ∷ [] → new ≡ qs → HasSpare f roots all m → AreLeft f roots all taken qs → AreLeft f roots all more new
+  pub one_goes : (taken more : List made.Measured) (m : made.Measured) (qs new : List Pair) → more ≡ taken ++ m ∷ [] → new ≡ qs → HasSpare ks all m → AreLeft ks all taken qs → AreLeft ks all more new
   one_goes taken more m qs new e g spare w = record {
     from = λ q h. subst (λ xs. Has (map pair_of xs) q) (sym e) (earlier taken m q (w.from q (subst (λ xs. Has xs q) g h)));
     left = λ n h. elim (append_cases taken (m ∷ []) n (subst (λ xs. Has xs n) e h)) [
       | inl k ↦ elim (w.left n k) [ inl j ↦ inl (subst (λ xs. Has xs n.pair) (sym g) j) | inr j ↦ inr j ]
-      | inr k ↦ elim k [ inl s ↦ inr (subst (HasSpare f roots all) (sym s) spare) | inr x ↦ absurd x ]
+      | inr k ↦ elim k [ inl s ↦ inr (subst (HasSpare ks all) (sym s) spare) | inr x ↦ absurd x ]
     ];
     rising = subst (IsRising pair_cmp) (sym g) w.rising;
   }
 
-module _ {A : Type 0} (T : Table) (f : Fulfilment A) (tests : AreTests T f) (roots : List ℕ) (all ms : List made.Measured) (qs : List Pair)
-    (opens : AreOpenSteps f.untils.items f.leaves.items (map pair_of ms) roots) (among : AreAmong ms all) (w : AreLeft f roots all ms qs) where
+module _ {A : Type 0} (T : Table) (f : Fulfilment A) (tests : AreTests T f) (roots : List ℕ) (ks : List known.Lack) (all ms : List made.Measured) (qs : List Pair)
+    (opens : AreOpenSteps f.untils.items f.leaves.items (map pair_of ms) roots) (lacks : AreLacks f roots ks) (among : AreAmong ms all) (w : AreLeft ks all ms qs) where
   -- a pair that goes has a smaller one, which stays or has one
   climb : (fuel : ℕ) (t : made.Measured) → t.size < fuel → Has ms t → (v : Pair) × Has qs v × IsSafeToDrop T t.pair v
   climb zero t l h = absurd (omega arith)
@@ -114,9 +116,11 @@ module _ {A : Type 0} (T : Table) (f : Fulfilment A) (tests : AreTests T f) (roo
         let u = x.other in
         let s = x.spare in
         let less = s.size in
-        let safe = lack_safe T f tests (map pair_of ms) roots opens t.pair u.pair u.pair (Has-map pair_of ms t h) s.lacking s.lack s.nothing ((is_within_Decides u.pair t.pair).0 x.within) (within_refl u.pair) in
-        let (v, j, y) = climb fuel u (omega arith) (among u x.there) in
-        (v, j, (stands_in T rule.SafelySubsumed).on t.pair u.pair v safe y)
+        let lack = known_lack f roots ks u.pair s.lacking s.lack lacks in
+        let safe = lack_safe T f tests (map pair_of ms) roots opens t.pair u.pair u.pair (Has-map pair_of ms t h) s.lacking lack s.nothing ((is_within_Decides u.pair t.pair).0 x.within) (within_refl u.pair) in
+        let (o, there, same, size) = among u x.there in
+        let (v, j, y) = climb fuel o (omega arith) there in
+        (v, j, (stands_in T rule.SafelySubsumed).on t.pair u.pair v safe (subst (λ p. IsSafeToDrop T p v) same y))
   ]
 
   -- those are left that none of some of them may stand in for
@@ -132,7 +136,7 @@ module _ {A : Type 0} (T : Table) (f : Fulfilment A) (tests : AreTests T f) (roo
     rising = w.rising;
   }
 
-pub left_pruned : {A : Type 0} (f : Fulfilment A) (roots : List ℕ) (all ms : List made.Measured) (ps qs : List Pair) → map pair_of ms ≡ ps → AreOpenSteps f.untils.items f.leaves.items ps roots → AreAmong ms all
-    → AreLeft f roots all ms qs → IsPrunedSafely f ps qs
-left_pruned f roots all ms ps qs e opens among w T tests =
-    left_listed T f tests roots all ms qs (subst (λ xs. AreOpenSteps f.untils.items f.leaves.items xs roots) (sym e) opens) among w ps e
+pub left_pruned : {A : Type 0} (f : Fulfilment A) (roots : List ℕ) (ks : List known.Lack) (all ms : List made.Measured) (ps qs : List Pair) → map pair_of ms ≡ ps → AreOpenSteps f.untils.items f.leaves.items ps roots
+    → AreLacks f roots ks → AreAmong ms all → AreLeft ks all ms qs → IsPrunedSafely f ps qs
+left_pruned f roots ks all ms ps qs e opens lacks among w T tests =
+    left_listed T f tests roots ks all ms qs (subst (λ xs. AreOpenSteps f.untils.items f.leaves.items xs roots) (sym e) opens) lacks among w ps e

@@ -6,7 +6,7 @@ use Rattle.ltl_spec.specs.Collections.Sets.{Has}
 use Rattle.ltl_spec.specs.Transitions.Pairs.{Pair}
 use Rattle.ltl_spec.proofs.Collections.SetLaws.{append_cases, append_left, append_right}
 use Rattle.ltl_spec.proofs.Transitions.IndependenceTests.{Support, Covers, no_support, shares_some}
-use Rattle.ltl_alt.specs.CodeView.{AreLacks, AreOpenSteps, IsKnown, IsLack, IsUntouched}
+use Rattle.ltl_alt.specs.CodeView.{AreBlockLacks, AreLacks, AreOfBlock, AreOpenSteps, IsKnown, IsLack, IsOfBlock, IsUntouched}
 use Rattle.ltl_alt.specs.declared.fulfilment.Fulfilment.{Fulfilment}
 use Rattle.ltl_alt.specs.declared.fulfilment.UntilTest.{UntilTest}
 use Rattle.ltl_alt.specs.declared.lacks.Lack as known
@@ -42,11 +42,19 @@ open_end us ls ps n roots e w i u f = let l = slice_get_within us i u f in w i u
 
 -- ---- what pairs lack
 
--- of one more it is known
-pub lacks_added : {A : Type 0} (f : Fulfilment A) (roots : List ℕ) (ks new : List known.Lack) (k : known.Lack) → new ≡ ks ++ k ∷ [] → IsLack f roots k.pair k.asked → AreLacks f roots ks → AreLacks f roots new
-lacks_added f roots ks new k e this w n h = elim (append_cases ks (k ∷ []) n (subst (λ xs. Has xs n) e h)) [
+-- one more pair of a block
+pub of_block_more : (ps : List Pair) (vs : List Support) (old now new : List known.Lack) (k : known.Lack) → new ≡ now ++ k ∷ [] → IsOfBlock ps vs k → AreOfBlock ps vs old now → AreOfBlock ps vs old new
+of_block_more ps vs old now new k e this w n h = elim (append_cases now (k ∷ []) n (subst (λ xs. Has xs n) e h)) [
   | inl j ↦ w n j
-  | inr j ↦ elim j [ inl s ↦ subst (λ (x : known.Lack). IsLack f roots x.pair x.asked) (sym s) this | inr x ↦ absurd x ]
+  | inr j ↦ elim j [ inl s ↦ inr (subst (IsOfBlock ps vs) (sym s) this) | inr x ↦ absurd x ]
+]
+
+-- of a block more it is known
+pub lacks_added : {A : Type 0} (f : Fulfilment A) (roots : List ℕ) (ps : List Pair) (vs ws : List Support) (old new : List known.Lack) → ws ≡ vs → AreBlockLacks f roots ps vs → AreOfBlock ps ws old new → AreLacks f roots old
+    → AreLacks f roots new
+lacks_added f roots ps vs ws old new same lacks of w k h = elim (of k h) [
+  | inl j ↦ w k j
+  | inr (j, found, e) ↦ subst (IsLack f roots k.pair) (ap (λ xs. slice_index_or xs j no_support) (sym same) ∙ e) (lacks.each j k.pair found)
 ]
 
 -- what is known of a pair

@@ -62,6 +62,6 @@ common_pair t u = record { cube = filter (λ l. has literal_cmp l u.cube) t.cube
 abbrev pub asks_less : made.Measured → made.Measured → Bool
 asks_less m n = is_within m.pair n.pair
 
--- each of all is one of ms
+-- the pair of each of all is one of ms, with the same size
 abbrev pub AreAmong : List made.Measured → List made.Measured → Type 0
-AreAmong ms all = (m : made.Measured) → Has all m → Has ms m
+AreAmong ms all = (m : made.Measured) → Has all m → (n : made.Measured) × Has ms n × (n.pair ≡ m.pair) × (n.size ≡ m.size)

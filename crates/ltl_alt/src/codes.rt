@@ -1,164 +1,252 @@
-//! Three-valued evaluation of the fulfilment tests for a pair: it passes a step, can still pass it after a join, or never passes it.
+//! Three-valued evaluation of the fulfilment tests for a block of pairs, and what each of them lacks: a pair passes a step, can still pass it after a join, or
+//! never passes it.
 
-ghost use Rattle.std.specs.Prelude.{◌≡◌, map, length, slice_index_or, IfOk, OnOk};
-ghost use Rattle.ltl_spec.proofs.Transitions.AskedSteps.{ask_operands, ask_step};
-ghost use Rattle.ltl_spec.proofs.Transitions.Fulfilment.{anything, code, leaf_code};
-ghost use Rattle.ltl_spec.proofs.Transitions.Steps.{step_code, tests_of};
-ghost use Rattle.ltl_alt.specs.CodeView.{IsAskedBelow, IsLack, IsWithLeaf, coming_to};
+ghost use Rattle.std.specs.Prelude.{◌≡◌, ℕ, ◌<◌, ◌≤◌, ◌==◌, ◌||◌, min, max, true, length, slice_index_or, IfOk, OnOk};
+ghost use Rattle.std.specs.Ordering.{nat_cmp};
+ghost use Rattle.ltl_sets.specs.Literals.{literal_of};
+ghost use Rattle.ltl_spec.specs.Collections.Sets.{has};
+ghost use Rattle.ltl_spec.specs.Transitions.Cubes as cubes;
+ghost use Rattle.ltl_spec.proofs.Transitions.IndependenceTests.{Covers, IsWithinSupport};
+ghost use Rattle.ltl_alt.specs.CodeView.{AreAskedBelow, AreBlockCodes, AreBlockLacks, AreMore, IsLeafWithin, IsStepCode, code_of, never_passed, operands_wanted, wanted_more};
+ghost use Rattle.ltl_alt.specs.Columns.{IsColumn};
 ghost use Rattle.ltl_alt.specs.Tests.{step_of, steps_of};
 
+use crate::columns::{column_at, everyone, leading, reading};
 use crate::fulfilment::Fulfilment;
 use crate::pair::Pair;
 use crate::program::Step;
 use crate::support::Support;
+use ltl_sets::{Literal, RowSet};
 use std::alloc::{AllocError, Allocator};
 
-/// The pair passes the step.
-const PASSES: u8 = 2;
+/// The codes of a step for a block: a pair of `passing` passes the step, and any other one of `possible` may after a join. The rest never pass it.
+#[derive(Clone, Copy)]
+pub(crate) struct Code {
+    passing: RowSet,
+    possible: RowSet,
+}
 
-/// The pair doesn't pass the step, but may after a join.
-const OPEN: u8 = 1;
+impl Code {
+    /// No pair passes, nor may one pass later.
+    fn never() -> Code
+        ensures { result ≡ never_passed }
+    {
+        Code {
+            passing: RowSet::empty(),
+            possible: RowSet::empty(),
+        }
+    }
 
-/// The pair never passes the step, whatever it is joined with.
-const NEVER: u8 = 0;
+    /// The pairs that don't pass, but may after a join.
+    #[inline(always)]
+    fn open(&self) -> RowSet
+        ensures { (j : ℕ) → has nat_cmp j result ≡ (code_of j self.now == 1) }
+    {
+        self.possible.without(&self.passing)
+    }
 
-/// The code of a step that isn't wanted.
-const NOTHING: u8 = 3;
+    /// The pairs that pass, or may after a join.
+    #[inline(always)]
+    fn hopeful(&self) -> RowSet
+        ensures { (j : ℕ) → has nat_cmp j result ≡ (has nat_cmp j self.now.passing || has nat_cmp j self.now.possible) }
+    {
+        self.passing.union(&self.possible)
+    }
 
-/// The code of the step with this number, or `NEVER` if there is no such step.
+    /// The codes of a step that is passed where both of these are.
+    #[inline(always)]
+    fn both(&self, other: &Code) -> Code
+        ensures { (j : ℕ) → code_of j result ≡ min (code_of j self.now) (code_of j other.now) }
+    {
+        Code {
+            passing: self.passing.common(&other.passing),
+            possible: self.hopeful().common(&other.hopeful()),
+        }
+    }
+
+    /// The codes of a step that is passed where one of these is.
+    #[inline(always)]
+    fn either(&self, other: &Code) -> Code
+        ensures { (j : ℕ) → code_of j result ≡ max (code_of j self.now) (code_of j other.now) }
+    {
+        Code {
+            passing: self.passing.union(&other.passing),
+            possible: self.possible.union(&other.possible),
+        }
+    }
+}
+
+/// The codes of the step with this number; no pair passes if there is no such step.
 #[inline(always)]
-fn code_at(codes: &[u8], number: usize) -> u8
-    ensures { result ≡ slice_index_or codes.now number 0 }
+fn code_at(codes: &[Code], number: usize) -> Code
+    ensures { result ≡ slice_index_or codes.now number never_passed }
 {
     if number < codes.len() {
         codes[number]
     } else {
-        NEVER
+        Code::never()
     }
 }
 
-/// The code of a step that looks for a literal or a target, from whether the pair has it and whether it can still get it.
+/// The literal of the same proposition with the other sign.
 #[inline(always)]
-fn leaf_code(is_there: bool, can_come: bool) -> u8
-    ensures { result ≡ leaf_code is_there can_come }
+fn opposite(literal: Literal) -> Literal
+    ensures { literal_of result ≡ cubes.opposite (literal_of literal) }
 {
-    if is_there {
-        PASSES
-    } else if can_come {
-        OPEN
-    } else {
-        NEVER
+    Literal {
+        proposition: literal.proposition,
+        positive: !literal.positive,
     }
 }
 
-/// The code of a step for a pair, from the codes of earlier steps. A join can add each row, and each literal that the pair doesn't contradict.
-#[inline(always)]
-fn step_code(pair: &Pair, codes: &[u8], step: Step) -> u8
-    ensures { result ≡ step_code (coming_to anything pair.now) pair.now codes.now (step_of step) }
+/// The codes of a step for a block, from those of earlier steps; `all` is the whole block. A join can add each row, and each literal that a pair doesn't
+/// contradict.
+fn step_code(block: &[Pair], all: &RowSet, support: &Support, codes: &[Code], step: Step) -> Code
+    requires few { length block.now ≤ RowSet.LIMIT }
+    requires all { IsColumn (λ p. true) block.now all.now }
+    requires support { Covers support.now block.now }
+    ensures { IsStepCode block.now codes.now (step_of step) result }
 {
     match step {
-        Step::Always => PASSES,
-        Step::Never => NEVER,
-        Step::Reads(literal) => leaf_code(pair.reads(literal), !pair.contradicts(literal)),
-        Step::Leads(place) => leaf_code(pair.targets.holds(place), true),
-        Step::Both(i, j) => code_at(codes, i).min(code_at(codes, j)),
-        Step::Either(i, j) => code_at(codes, i).max(code_at(codes, j)),
+        Step::Always => Code {
+            passing: *all,
+            possible: RowSet::empty(),
+        },
+        Step::Never => Code::never(),
+        Step::Reads(literal) => Code {
+            passing: reading(block, support, literal),
+            possible: all.without(&reading(block, support, opposite(literal))),
+        },
+        Step::Leads(place) => Code {
+            passing: leading(block, support, place),
+            possible: *all,
+        },
+        Step::Both(i, j) => code_at(codes, i).both(&code_at(codes, j)),
+        Step::Either(i, j) => code_at(codes, i).either(&code_at(codes, j)),
     }
 }
 
-/// Computes the code of each step for a pair, in place of the old contents of `codes`.
+/// Computes the codes of all steps for a block, in place of the old contents of `codes`.
 fn put_codes<A: Allocator>(
     fulfilment: &Fulfilment<'_, A>,
-    pair: &Pair,
-    codes: &mut Vec<u8, &A>,
+    block: &[Pair],
+    all: &RowSet,
+    support: &Support,
+    codes: &mut Vec<Code, &A>,
 ) -> Result<(), AllocError>
-    ensures { OnOk result (codes.new.items ≡ map (code (coming_to anything pair.now) pair.now) (tests_of (steps_of fulfilment.now.steps.items))) }
+    requires few { length block.now ≤ RowSet.LIMIT }
+    requires all { IsColumn (λ p. true) block.now all.now }
+    requires support { Covers support.now block.now }
+    ensures { OnOk result (AreBlockCodes (steps_of fulfilment.now.steps.items) block.now codes.new.items) }
 {
     codes.clear();
     'steps: for k in 0..fulfilment.steps.len() {
         let step = fulfilment.steps[k];
-        let code = step_code(pair, codes.as_slice(), step);
+        let code = step_code(block, all, support, codes.as_slice(), step);
         codes.push(code)?;
     }
     Ok(())
 }
 
-/// Marks a step as wanted, by its code.
+/// Adds pairs to those for which the step with this number is wanted.
 #[inline(always)]
-fn ask<A: Allocator>(asked: &mut Vec<u8, &A>, codes: &[u8], number: usize)
-    ensures { asked.new.items ≡ ask_step codes.now asked.old.items number }
+fn want<A: Allocator>(wanted: &mut Vec<RowSet, &A>, number: usize, pairs: &RowSet)
+    ensures { wanted.new.items ≡ wanted_more wanted.old.items number pairs.now }
 {
-    if number < asked.len() {
-        asked[number] = code_at(codes, number);
+    if number < wanted.len() {
+        wanted[number] = wanted[number].union(pairs);
     }
 }
 
-/// Marks the operands of a step as wanted.
+/// Adds pairs to those for which the operands of a step are wanted.
 #[inline(always)]
-fn ask_operands<A: Allocator>(asked: &mut Vec<u8, &A>, codes: &[u8], step: Step)
-    ensures { asked.new.items ≡ ask_operands codes.now asked.old.items (step_of step) }
+fn want_operands<A: Allocator>(wanted: &mut Vec<RowSet, &A>, step: Step, pairs: &RowSet)
+    ensures { wanted.new.items ≡ operands_wanted wanted.old.items (step_of step) pairs.now }
 {
     match step {
         Step::Both(i, j) | Step::Either(i, j) => {
-            ask(asked, codes, i);
-            ask(asked, codes, j);
+            want(wanted, i, pairs);
+            want(wanted, j, pairs);
         }
         Step::Always | Step::Never | Step::Reads(_) | Step::Leads(_) => {}
     }
 }
 
-/// Adds the literal or row of a step that looks for one. Other steps add nothing.
-#[inline(always)]
-fn with_leaf(lack: Support, leaves: &Support, step: Step) -> Support
-    ensures { IsWithLeaf lack leaves.now (step_of step) result }
+/// Adds literals and rows to what these pairs lack.
+fn lack_more<A: Allocator>(lacks: &mut Vec<Support, &A>, pairs: &RowSet, leaves: &Support)
+    ensures { AreMore (IsWithinSupport leaves.now) lacks.old.items pairs.now lacks.new.items }
 {
-    match step {
-        Step::Reads(_) | Step::Leads(_) => lack.together(leaves),
-        Step::Always | Step::Never | Step::Both(_, _) | Step::Either(_, _) => lack,
+    let mut rest = pairs.iter();
+    'pairs: while let Some(j) = rest.next() {
+        if j < lacks.len() {
+            lacks[j] = lacks[j].together(leaves);
+        }
     }
 }
 
-/// Goes through the steps backwards, and marks the operands of each wanted step that is open. Returns the literals and rows that wanted open steps look for.
-fn ask_below<A: Allocator>(
-    fulfilment: &Fulfilment<'_, A>,
-    asked: &mut Vec<u8, &A>,
-    codes: &[u8],
-) -> Support
-    requires { length asked.old.items ≡ length fulfilment.now.steps.items }
-    ensures { IsAskedBelow fulfilment.now codes.now asked.old.items 0 asked.new.items result }
+/// Adds what a step looks for to what these pairs lack. Steps that look for nothing themselves add nothing.
+fn lack_leaf<A: Allocator>(
+    lacks: &mut Vec<Support, &A>,
+    pairs: &RowSet,
+    leaves: &Support,
+    step: Step,
+)
+    ensures { AreMore (IsLeafWithin leaves.now (step_of step)) lacks.old.items pairs.now lacks.new.items }
 {
-    let mut lack = Support::nothing();
+    match step {
+        Step::Reads(_) | Step::Leads(_) => lack_more(lacks, pairs, leaves),
+        Step::Always | Step::Never | Step::Both(_, _) | Step::Either(_, _) => {}
+    }
+}
+
+/// Goes through the steps backwards. Each pair for which a step is wanted and open wants its operands, and lacks what the step looks for.
+fn want_below<A: Allocator>(
+    fulfilment: &Fulfilment<'_, A>,
+    codes: &[Code],
+    wanted: &mut Vec<RowSet, &A>,
+    lacks: &mut Vec<Support, &A>,
+)
+    requires { length wanted.old.items ≡ length fulfilment.now.steps.items }
+    ensures count { length lacks.new.items ≡ length lacks.old.items }
+    ensures asked { AreAskedBelow fulfilment.now codes.now wanted.old.items 0 wanted.new.items lacks.new.items }
+{
     let mut left = fulfilment.steps.len();
     'steps: while left > 0 {
         left -= 1;
-        if asked[left] == OPEN {
+        let open = code_at(codes, left)
+            .open()
+            .common(&column_at(wanted.as_slice(), left));
+        if !open.is_subset(&RowSet::empty()) {
             let step = fulfilment.steps[left];
-            ask_operands(asked, codes, step);
-            lack = with_leaf(lack, &fulfilment.leaves(left), step);
+            want_operands(wanted, step, &open);
+            lack_leaf(lacks, &open, &fulfilment.leaves(left), step);
         }
     }
-    lack
 }
 
-/// The literals and rows that a pair lacks of these steps: those that decide, if a join adds them, whether the pair passes a step.
-pub(crate) fn lack<A: Allocator>(
+/// What each pair of a block lacks of these steps: the literals and rows that decide, if a join adds them, whether the pair passes a step.
+pub(crate) fn block_lacks<'a, A: Allocator>(
+    alloc: &'a A,
     fulfilment: &Fulfilment<'_, A>,
     roots: &[usize],
-    pair: &Pair,
-    codes: &mut Vec<u8, &A>,
-    asked: &mut Vec<u8, &A>,
-) -> Result<Support, AllocError>
-    ensures { IfOk result (IsLack fulfilment.now roots.now pair.now) }
+    block: &[Pair],
+    codes: &mut Vec<Code, &A>,
+) -> Result<Vec<Support, &'a A>, AllocError>
+    requires { length block.now ≤ RowSet.LIMIT }
+    ensures { IfOk result (λ v. AreBlockLacks fulfilment.now roots.now block.now v.items) }
 {
+    let mut lacks = Vec::new(alloc);
+    lacks.resize(block.len(), Support::nothing())?;
     if roots.is_empty() {
-        return Ok(Support::nothing());
+        return Ok(lacks);
     }
-    put_codes(fulfilment, pair, codes)?;
-    asked.clear();
-    asked.resize(fulfilment.steps.len(), NOTHING)?;
+    let all = everyone(block);
+    put_codes(fulfilment, block, &all, &Support::of(block), codes)?;
+    let mut wanted = Vec::new(alloc);
+    wanted.resize(fulfilment.steps.len(), RowSet::empty())?;
     'roots: for k in 0..roots.len() {
-        ask(asked, codes.as_slice(), roots[k]);
+        want(&mut wanted, roots[k], &all);
     }
-    let lack = ask_below(fulfilment, asked, codes.as_slice());
-    Ok(lack)
+    want_below(fulfilment, codes.as_slice(), &mut wanted, &mut lacks);
+    Ok(lacks)
 }

@@ -1,9 +1,10 @@
-//! What pairs lack to fulfil until rows, computed once for each pair.
+//! What the pairs of a list lack to fulfil until rows.
 
-ghost use Rattle.std.specs.Prelude.{◌≡◌, [], slice_get, IfOk, IfSome, OnOk};
-ghost use Rattle.ltl_alt.specs.CodeView.{AreLacks, IsKnown, IsLack};
+ghost use Rattle.std.specs.Prelude.{◌≡◌, length, slice_get, IfOk, IfSome, OnOk};
+ghost use Rattle.ltl_alt.specs.CodeView.{AreLacks, AreOfBlock, IsKnown};
 
-use crate::codes::lack;
+use crate::codes::block_lacks;
+use crate::columns::BLOCK;
 use crate::fulfilment::Fulfilment;
 use crate::pair::Pair;
 use crate::support::Support;
@@ -16,81 +17,63 @@ pub(crate) struct Lack {
     pub(crate) asked: Support,
 }
 
-/// A memo table of what the pairs of one list lack.
-#[derive(Drop)]
-pub(crate) struct Lacks<'a, A: Allocator> {
-    pub(crate) known: Vec<Lack, &'a A>,
-    /// For each pair of the list the index of its entry in `known`, or `usize::MAX`.
-    places: Vec<usize, &'a A>,
-    codes: Vec<u8, &'a A>,
-    asked: Vec<u8, &'a A>,
+/// Appends what each pair of a block lacks.
+fn put_lacks<A: Allocator>(
+    known: &mut Vec<Lack, &A>,
+    block: &[Pair],
+    lacks: &[Support],
+) -> Result<(), AllocError>
+    requires { length lacks.now ≡ length block.now }
+    ensures { OnOk result (AreOfBlock block.now lacks.now known.old.items known.new.items) }
+{
+    'pairs: for k in 0..block.len() {
+        known.push(Lack {
+            pair: block[k],
+            asked: lacks[k],
+        })?;
+    }
+    Ok(())
 }
 
-/// The index of the entry of the pair with a number, or `usize::MAX` if it has none.
-fn place_of(places: &[usize], number: usize) -> usize {
-    places.get(number).copied().unwrap_or(usize::MAX)
+/// What each of these pairs lacks of these steps, in the order of the pairs.
+pub(crate) fn lacks_of<'a, A: Allocator>(
+    alloc: &'a A,
+    fulfilment: &Fulfilment<'_, A>,
+    roots: &[usize],
+    pairs: &[Pair],
+) -> Result<Vec<Lack, &'a A>, AllocError>
+    ensures { IfOk result (λ v. AreLacks fulfilment.now roots.now v.items) }
+{
+    let mut known = Vec::with_capacity(alloc, pairs.len())?;
+    let mut codes = Vec::new(alloc);
+    let mut from = 0;
+    'rounds: while from < pairs.len() {
+        let end = pairs.len().min(from.saturating_add(BLOCK));
+        let block = &pairs[from..end];
+        let lacks = block_lacks(alloc, fulfilment, roots, block, &mut codes)?;
+        put_lacks(&mut known, block, lacks.as_slice())?;
+        from = end;
+    }
+    Ok(known)
 }
 
-/// Sets the index of the entry of the pair with a number, if it is in range.
-fn put_place(places: &mut [usize], number: usize, place: usize) {
-    if number < places.len() {
-        places[number] = place;
-    }
+/// The entry with this number.
+#[inline(always)]
+fn lack_at(known: &[Lack], number: usize) -> Option<Lack>
+    ensures { result ≡ slice_get known.now number }
+{
+    known.get(number).copied()
 }
 
-impl<'a, A: Allocator> Lacks<'a, A> {
-    /// An empty table for `count` pairs.
-    pub(crate) fn new(alloc: &'a A, count: usize) -> Result<Self, AllocError>
-        ensures { IfOk result (λ l. l.known.items ≡ []) }
-    {
-        let mut places = Vec::new(alloc);
-        places.resize(count, usize::MAX)?;
-        Ok(Lacks {
-            known: Vec::new(alloc),
-            places,
-            codes: Vec::new(alloc),
-            asked: Vec::new(alloc),
-        })
-    }
-
-    /// The entry at an index.
-    fn at(&self, place: usize) -> Option<Lack>
-        ensures { result ≡ slice_get self.now.known.items place }
-    {
-        self.known.get(place).copied()
-    }
-
-    /// What the pair with this number lacks, if that was computed before.
-    fn known(&self, number: usize, pair: &Pair) -> Option<Support>
-        ensures { IfSome result (IsKnown self.now.known.items pair.now) }
-    {
-        let place = place_of(self.places.as_slice(), number);
-        if let Some(lack) = self.at(place) {
-            if lack.pair.is_same(pair) {
-                return Some(lack.asked);
-            }
-        }
+/// What the pair with this number lacks, if it is known.
+#[inline(always)]
+pub(crate) fn lack_of(known: &[Lack], number: usize, pair: &Pair) -> Option<Support>
+    ensures { IfSome result (IsKnown known.now pair.now) }
+{
+    let lack = lack_at(known, number)?;
+    if lack.pair.is_same(pair) {
+        Some(lack.asked)
+    } else {
         None
-    }
-
-    /// What the pair with this number lacks of these steps.
-    pub(crate) fn lack(
-        &mut self,
-        fulfilment: &Fulfilment<'_, A>,
-        roots: &[usize],
-        number: usize,
-        pair: &Pair,
-    ) -> Result<Support, AllocError>
-        requires { AreLacks fulfilment.now roots.now self.old.known.items }
-        ensures lacks { OnOk result (AreLacks fulfilment.now roots.now self.new.known.items) }
-        ensures lack { IfOk result (IsLack fulfilment.now roots.now pair.now) }
-    {
-        if let Some(known) = self.known(number, pair) {
-            return Ok(known);
-        }
-        let asked = lack(fulfilment, roots, pair, &mut self.codes, &mut self.asked)?;
-        put_place(self.places.as_mut_slice(), number, self.known.len());
-        self.known.push(Lack { pair: *pair, asked })?;
-        Ok(asked)
     }
 }

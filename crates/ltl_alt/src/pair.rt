@@ -3,7 +3,7 @@
 ghost use Rattle.std.specs.Prelude.{◌≡◌, ◌<◌, [], ◌∷◌, true};
 ghost use Rattle.ltl_sets.specs.Literals.{literal_of};
 ghost use Rattle.ltl_spec.specs.Collections.Sets.{has};
-ghost use Rattle.ltl_spec.specs.Transitions.Cubes.{literal_cmp, opposite};
+ghost use Rattle.ltl_spec.specs.Transitions.Cubes.{literal_cmp};
 ghost use Rattle.ltl_spec.specs.Transitions.Pairs.{pair_cmp, join_pair, empty_pair};
 ghost use Rattle.ltl_spec.specs.Transitions.Pruning.{is_within};
 ghost use Rattle.ltl_alt.specs.StandIns.{common_pair};
@@ -89,17 +89,6 @@ impl Pair {
         } else {
             self.cube.forbidden().holds(literal.proposition)
         }
-    }
-
-    /// Whether the pair needs the opposite of the literal.
-    #[inline(always)]
-    pub(crate) fn contradicts(&self, literal: Literal) -> bool
-        ensures { result ≡ has literal_cmp (opposite (literal_of literal)) self.now.cube }
-    {
-        self.reads(Literal {
-            proposition: literal.proposition,
-            positive: !literal.positive,
-        })
     }
 
     /// The literals and targets that both pairs need.

@@ -3,11 +3,11 @@
 ghost use Rattle.std.specs.Prelude.{◌≡◌, true, IfOk, OnOk, map};
 ghost use Rattle.ltl_spec.specs.Collections.Sets.{IsRising};
 ghost use Rattle.ltl_spec.specs.Transitions.Pairs.{pair_cmp};
-ghost use Rattle.ltl_alt.specs.CodeView.{AreLacks, AreLeft, HasSpare, IsSpare};
+ghost use Rattle.ltl_alt.specs.CodeView.{AreLeft, HasSpare, IsSpare};
 ghost use Rattle.ltl_alt.specs.StandIns.{AreAmong, IsPruned, IsPrunedSafely, pair_of};
 
 use crate::fulfilment::Fulfilment;
-use crate::lacks::Lacks;
+use crate::lacks::{Lack, lack_of, lacks_of};
 use crate::lists::sort_dedup;
 use crate::pair::Pair;
 use crate::roots::open_steps;
@@ -51,6 +51,20 @@ impl Default for Measured {
     }
 }
 
+impl Measured {
+    /// The same with another number.
+    fn numbered(&self, number: usize) -> Measured
+        ensures { result.pair ≡ self.now.pair × result.size ≡ self.now.size }
+    {
+        Measured {
+            size: self.size,
+            number,
+            is_old: self.is_old,
+            pair: self.pair,
+        }
+    }
+}
+
 /// A pair is below those that need all that it needs.
 impl Below for Measured {
     ghost use Rattle.ltl_spec.proofs.Transitions.LeastPairs.{is_within_transitive};
@@ -89,6 +103,7 @@ impl Below for Measured {
 #[derive(Drop)]
 struct Spares<'b, 'a, A: Allocator> {
     lookup: Lookup<'b, 'a, Measured, A>,
+    lacks: Vec<Lack, &'a A>,
     least: usize,
 }
 
@@ -164,7 +179,7 @@ fn smaller<'a, A: Allocator>(
     let mut smaller: MeasuredPairs<'a, A> = SmallVec::new(alloc);
     'measured: for m in measured {
         if may_stand_in(m, most, only_old) {
-            smaller.push(*m)?;
+            smaller.push(m.numbered(smaller.len()))?;
         }
     }
     Ok(smaller)
@@ -176,96 +191,83 @@ fn is_asked(m: &Measured, least: usize) -> bool {
 }
 
 /// Whether `other`, which is within `m`, may replace it: it is smaller, and lacks nothing that `m` needs.
-fn is_spare<A: Allocator>(
-    lacks: &mut Lacks<'_, A>,
-    fulfilment: &Fulfilment<'_, A>,
-    roots: &[usize],
-    other: &Measured,
-    m: &Measured,
-) -> Result<bool, AllocError>
-    requires { AreLacks fulfilment.now roots.now lacks.old.known.items }
-    ensures lacks { OnOk result (AreLacks fulfilment.now roots.now lacks.new.known.items) }
-    ensures spare { IfOk result (λ b. b ≡ true → IsSpare fulfilment.now roots.now other.now m.now) }
+fn is_spare<A: Allocator>(spares: &Spares<'_, '_, A>, other: &Measured, m: &Measured) -> bool
+    ensures { result ≡ true → IsSpare spares.now.lacks.items other.now m.now }
 {
     if m.size <= other.size {
-        return Ok(false);
+        return false;
     }
-    let lack = lacks.lack(fulfilment, roots, other.number, &other.pair)?;
-    Ok(!lack.shares_some(&Support::by(&m.pair)))
+    match lack_of(spares.lacks.as_slice(), other.number, &other.pair) {
+        Some(lack) => !lack.shares_some(&Support::by(&m.pair)),
+        None => false,
+    }
 }
 
 /// Whether a candidate is found that may replace this pair.
-fn has_spare<A: Allocator>(
-    spares: &Spares<'_, '_, A>,
-    lacks: &mut Lacks<'_, A>,
-    fulfilment: &Fulfilment<'_, A>,
-    roots: &[usize],
-    m: &Measured,
-) -> Result<bool, AllocError>
-    requires { AreLacks fulfilment.now roots.now lacks.old.known.items }
-    ensures lacks { OnOk result (AreLacks fulfilment.now roots.now lacks.new.known.items) }
-    ensures spare { IfOk result (λ b. b ≡ true → HasSpare fulfilment.now roots.now spares.now.lookup m.now) }
+fn has_spare<A: Allocator>(spares: &Spares<'_, '_, A>, m: &Measured) -> bool
+    ensures { result ≡ true → HasSpare spares.now.lacks.items spares.now.lookup m.now }
 {
     if !is_asked(m, spares.least) {
-        return Ok(false);
+        return false;
     }
     let mut left = usize::MAX;
     'looks: for _ in 0..u64::MAX {
         let Some(other) = spares.lookup.next_lesser(&mut left, m) else {
-            return Ok(false);
+            return false;
         };
-        if is_spare(lacks, fulfilment, roots, &other, m)? {
-            return Ok(true);
+        if is_spare(spares, &other, m) {
+            return true;
         }
     }
-    Ok(false)
+    false
 }
 
 /// Whether the list is long and no pair of the sample can be replaced. Then few or none of the others can be, and to test each of them costs more than it
 /// saves.
-fn seem_least<A: Allocator>(
-    spares: &Spares<'_, '_, A>,
-    lacks: &mut Lacks<'_, A>,
-    fulfilment: &Fulfilment<'_, A>,
-    roots: &[usize],
-    measured: &[Measured],
-) -> Result<bool, AllocError>
-    requires { AreLacks fulfilment.now roots.now lacks.old.known.items }
-    ensures { OnOk result (AreLacks fulfilment.now roots.now lacks.new.known.items) }
-{
+fn seem_least<A: Allocator>(spares: &Spares<'_, '_, A>, measured: &[Measured]) -> bool {
     if measured.len() <= MANY {
-        return Ok(false);
+        return false;
     }
     'sample: for k in 0..SAMPLE {
         if let Some(m) = measured.get(k.wrapping_mul(STRIDE) % measured.len()) {
-            if has_spare(spares, lacks, fulfilment, roots, m)? {
-                return Ok(false);
+            if has_spare(spares, m) {
+                return false;
             }
         }
     }
-    Ok(true)
+    true
 }
 
 /// Fills `pairs` with those for which no replacement is found.
 fn put_least<A: Allocator>(
     pairs: &mut Vec<Pair, &A>,
     spares: &Spares<'_, '_, A>,
-    lacks: &mut Lacks<'_, A>,
-    fulfilment: &Fulfilment<'_, A>,
-    roots: &[usize],
     measured: &[Measured],
 ) -> Result<(), AllocError>
-    requires lacks { AreLacks fulfilment.now roots.now lacks.old.known.items }
-    requires rising { IsRising pair_cmp (map pair_of measured.now) }
-    ensures { OnOk result (AreLeft fulfilment.now roots.now spares.now.lookup measured.now pairs.new.items) }
+    requires { IsRising pair_cmp (map pair_of measured.now) }
+    ensures { OnOk result (AreLeft spares.now.lacks.items spares.now.lookup measured.now pairs.new.items) }
 {
     pairs.clear();
     'measured: for m in measured {
-        if !has_spare(spares, lacks, fulfilment, roots, m)? {
+        if !has_spare(spares, m) {
             pairs.push(m.pair)?;
         }
     }
     Ok(())
+}
+
+/// The pairs that were measured.
+fn pairs_of<'a, A: Allocator>(
+    alloc: &'a A,
+    measured: &[Measured],
+) -> Result<Vec<Pair, &'a A>, AllocError>
+    ensures { IfOk result (λ v. v.items ≡ map pair_of measured.now) }
+{
+    let mut pairs = Vec::with_capacity(alloc, measured.len())?;
+    'measured: for m in measured {
+        pairs.push(m.pair)?;
+    }
+    Ok(pairs)
 }
 
 /// Removes some pairs that another pair of the list may replace.
@@ -286,28 +288,16 @@ fn prune_safely<'a, A: Allocator>(
         return Ok(());
     }
     let roots = open_steps(alloc, fulfilment, pairs.as_slice())?;
-    let mut lacks = Lacks::new(alloc, measured.len())?;
+    let chosen = pairs_of(alloc, smaller.as_slice())?;
     let spares = Spares {
         lookup: Lookup::new(alloc, smaller.as_slice())?,
+        lacks: lacks_of(alloc, fulfilment, roots.as_slice(), chosen.as_slice())?,
         least: least_size(smaller.as_slice()),
     };
-    if seem_least(
-        &spares,
-        &mut lacks,
-        fulfilment,
-        roots.as_slice(),
-        measured.as_slice(),
-    )? {
+    if seem_least(&spares, measured.as_slice()) {
         return Ok(());
     }
-    put_least(
-        pairs,
-        &spares,
-        &mut lacks,
-        fulfilment,
-        roots.as_slice(),
-        measured.as_slice(),
-    )?;
+    put_least(pairs, &spares, measured.as_slice())?;
     Ok(())
 }
 

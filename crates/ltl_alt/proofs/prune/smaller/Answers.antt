@@ -19,6 +19,6 @@ measured-preserved g c =
     let old = c.measured.smaller.items in
     let new = c.if-may_stand_in.smaller.items in
     elim c.if-may_stand_in.branch [
-      | then-may_stand_in+in_ok-push w ↦ among_added ms old new at there (ap (λ v. v.items) w.smaller-is ∙ w.in_ok-push.ensures.ok) c.measured.invariant
+      | then-may_stand_in+in_ok-push w ↦ among_added ms old new at w.numbered.result there w.numbered.ensures (ap (λ v. v.items) w.smaller-is ∙ w.in_ok-push.ensures.ok) c.measured.invariant
       | else-may_stand_in w ↦ subst (AreAmong ms) (sym (ap (λ v. v.items) w.smaller-is)) c.measured.invariant
     ]
