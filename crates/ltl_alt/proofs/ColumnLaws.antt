@@ -1,19 +1,17 @@
 -- Columns of a block: which pairs are in them, loop by loop.
-use Rattle.std.proofs.Common.{◌≡◌, ◌≢◌, ℕ, zero, suc, ◌+◌, ◌<◌, ◌≤◌, ◌⊎◌, Bool, true, false, cond, ◌&&◌, ◌||◌, inl, inr, List, [], ◌∷◌, ◌++◌, length, map, take, refl, sym, ◌∙◌, ap, subst, arith, Some}
+use Rattle.std.proofs.Common.{◌≡◌, ◌≢◌, ℕ, zero, suc, ◌+◌, ◌<◌, ◌≤◌, ◌⊎◌, Bool, true, false, cond, ◌&&◌, ◌||◌, inl, inr, List, [], ◌∷◌, ◌++◌, length, take, refl, sym, ◌∙◌, ap, subst, arith, Some}
 use Rattle.std.specs.List.{filter}
 use Rattle.std.specs.Ordering.{nat_cmp}
 use Rattle.std.specs.Prelude.{slice_get, slice_index_or}
 use Rattle.std.proofs.lemmas.List.{map-append}
 use Rattle.std.proofs.lemmas.Option.{get_or_from_slice_get, slice_get_within}
-use Rattle.ltl_sets.specs.Literals.{literal_of}
-use Rattle.ltl_spec.specs.Collections.Sets.{Has, has, put, union}
+use Rattle.ltl_spec.specs.Collections.Sets.{has, put, union}
 use Rattle.ltl_spec.specs.Transitions.Cubes.{Literal, literal_cmp}
 use Rattle.ltl_spec.specs.Transitions.Pairs.{Pair}
 use Rattle.ltl_spec.proofs.Collections.CaseLaws.{below_or_last, false_is_true, left_true, right_true}
 use Rattle.ltl_spec.proofs.Collections.ListLaws.{slice_get_has}
 use Rattle.ltl_spec.proofs.Collections.Orders.{literal_linear, nat_linear}
 use Rattle.ltl_spec.proofs.Collections.SetLaws.{filter_cases, has_Decides, Has-filter, put_cases, put_new, put_old, union_cases, union_left, union_right}
-use Rattle.ltl_spec.proofs.Transitions.Fulfilment.{passes}
 use Rattle.ltl_spec.proofs.Transitions.IndependenceTests.{Covers, Support, of_sign}
 use Rattle.ltl_spec.proofs.Transitions.Steps as steps
 use Rattle.ltl_spec.proofs.Transitions.Steps.{step_passes, tests_of}

@@ -3,9 +3,8 @@ use Rattle.std.specs.Ordering.{nat_cmp}
 use Rattle.ltl_sets.specs.Literals.{literal_of}
 use Rattle.ltl_spec.specs.Collections.Sets.{has}
 use Rattle.ltl_spec.specs.Transitions.Cubes.{Literal, literal_cmp, opposite}
-use Rattle.ltl_spec.specs.Transitions.Pairs.{Pair}
 use Rattle.ltl_spec.proofs.Transitions.Fulfilment.{leaf_code}
-use Rattle.ltl_alt.specs.CodeView.{IsStepCode, never_passed}
+use Rattle.ltl_alt.specs.CodeView.{IsStepCode}
 use Rattle.ltl_alt.specs.Columns.{IsColumn}
 use Rattle.ltl_alt.specs.Tests.{step_of}
 use Rattle.ltl_alt.specs.declared.codes.Code as columns

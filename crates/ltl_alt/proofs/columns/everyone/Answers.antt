@@ -1,5 +1,4 @@
-use Rattle.std.proofs.Common.{◌≡◌, Bool, true, arith, refl, sym, subst}
-use Rattle.ltl_spec.specs.Transitions.Pairs.{Pair}
+use Rattle.std.proofs.Common.{true, arith, sym, subst}
 use Rattle.ltl_alt.proofs.ColumnLaws.{IsColumnTo, all_next, column_begins, column_ends}
 use Rattle.ltl_alt.proofs.columns.everyone.Goals as goal
 

@@ -1,4 +1,4 @@
-use Rattle.std.proofs.Common.{◌≡◌, ◌<◌, ◌∙◌, ap, length, arith, subst}
+use Rattle.std.proofs.Common.{◌≡◌, ◌<◌, ◌∙◌, length, arith, subst}
 use Rattle.std.specs.Prelude.{slice_index_or}
 use Rattle.ltl_alt.specs.Columns.{IsStepColumn}
 use Rattle.ltl_alt.specs.Tests.{step_of}

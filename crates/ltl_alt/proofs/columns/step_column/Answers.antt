@@ -1,7 +1,6 @@
-use Rattle.std.proofs.Common.{List, ◌∙◌, [], ap, subst, sym}
+use Rattle.std.proofs.Common.{◌∙◌, subst, sym}
 use Rattle.std.specs.List.{filter}
 use Rattle.std.specs.Ordering.{nat_cmp}
-use Rattle.std.specs.Prelude.{ℕ}
 use Rattle.ltl_spec.specs.Collections.Sets.{has, union}
 use Rattle.ltl_alt.specs.Columns.{IsStepColumn}
 use Rattle.ltl_alt.specs.Tests.{step_of}
