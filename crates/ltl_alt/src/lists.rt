@@ -10,7 +10,7 @@ use crate::repeats::join_once;
 use std::alloc::{AllocError, Allocator};
 
 /// If the product of two lists has more pairs than this, duplicates are removed while the joins are made.
-const MANY: usize = 1024;
+const MANY: usize = 256;
 
 /// Appends the joins of each pair of a list with one pair.
 fn join_one<A: Allocator>(
