@@ -1,6 +1,6 @@
 #!/usr/bin/env python3
-"""Tests ./run, ./build, ./install, ./package and tools/wrong_bodies on a copy of the tree that has no code but the heads of its programs, with a stand-in
-for the prover: it records what it was asked, and proves nothing. Tests tools/believe on a small tree made up for it. The last line is 'N passed, M failed'."""
+"""Tests ./run, ./build, ./install, ./package, tools/edits and tools/wrong_bodies on a copy of the tree that has no code but the heads of its programs, with a
+stand-in for the prover: it records what it was asked, and proves nothing. Tests tools/believe on a small tree made up for it. The last line is 'N passed, M failed'."""
 
 import hashlib
 import os
@@ -259,7 +259,7 @@ class Tree:
         for head in TOP.glob("crates/*/src/*.rt"):
             if head.name in ("main.rt", "lib.rt"):
                 self.put(head.relative_to(TOP), "")
-        for place in ("run", "build", "install", "package", "crates.txt", "HANDLES", "README.md", "docs/CHANGES.md", "tools/wrong_bodies", "tools/c_archive",
+        for place in ("run", "build", "install", "package", "crates.txt", "HANDLES", "README.md", "docs/CHANGES.md", "tools/wrong_bodies", "tools/edits", "tools/c_archive",
                       "include/ltl2ba.h"):
             (self.top / place).parent.mkdir(parents=True, exist_ok=True)
             shutil.copy(TOP / place, self.top / place)
@@ -465,7 +465,11 @@ def try_package(tree):
         proved = tar.extractfile(f"{name}/PROVED.txt").read().decode().splitlines()
         tree.expect("commit and kit", proved[:2], [f"commit {git(tree, 'rev-parse', 'HEAD')}", "kit a kit"])
         numbers = sorted(f"{hashlib.sha256(tar.extractfile(it).read()).hexdigest()}  bin/{it.rpartition('/')[2]}" for it in programs)
-        tree.expect("numbers of programs", sorted(it for it in proved if "  bin/" in it), numbers)
+        tree.expect("numbers of programs", sorted(it for it in proved if it.endswith(tuple(f"  bin/{name}" for name in PROGRAMS))), numbers)
+        tar.extractall(tree.top.parent / "unpacked", filter="data")
+        check = next(it for it in proved if it.startswith("To check")).partition(": ")[2].replace("FILE", "PROVED.txt")
+        checked = subprocess.run(["sh", "-c", check], cwd=tree.top.parent / "unpacked" / name, capture_output=True, text=True, check=False)
+        tree.expect("the check that it names", (sorted(checked.stdout.split("\n")[:-1]), checked.stderr), (sorted(f"bin/{it}: OK" for it in PROGRAMS), ""))
         tree.expect("manual pages", len([it for it in entries if it.name.endswith(".1") and "share/man" in it.name]), len(PROGRAMS))
     tree.put("out/gate.log", "commit another\n== rt ci\nmuch\n7 passed, 0 failed\n")
     tree.run("./package")
@@ -474,13 +478,24 @@ def try_package(tree):
         quoted = ["From out/gate.log, which ./test left; it ran on another commit, another:", "  == rt ci", "  7 passed, 0 failed"]
         tree.expect("verdicts", proved[proved.index(quoted[0]) :][:3] if quoted[0] in proved else proved, quoted)
     tree.put("crates/ltl_sets/src/lib.rt", "other\n")
-    tree.expect("not committed", tree.run("./package"), ("", "package: there are changes that no commit has\n", 1))
+    tree.expect("not committed", tree.run("./package"), ("", "package: no commit has 1 changed or new files, as crates/ltl_sets/src/lib.rt\n", 1))
     git(tree, "commit", "-qam", "other")
     tree.expect("other sources", tree.run("./package"), ("", refused.format("not built from these sources; ./build --portable proves and builds it"), 1))
     tree.run("./build", "--portable")
     note = tree.top / "crates/ltl2ba/out/built.txt"
-    note.write_text(note.read_text(encoding="ascii").replace("portable", "x86-64-v3"), encoding="ascii")
+    whole = note.read_text(encoding="ascii")
+    note.write_text("kit", encoding="ascii")
+    tree.expect("half a note", tree.run("./package"), ("", refused.format("not built from these sources; ./build --portable proves and builds it"), 1))
+    note.write_text(whole.replace("portable", "x86-64-v3"), encoding="ascii")
     tree.expect("for some processors", tree.run("./package"), ("", refused.format("built for x86-64-v3 alone; ./build --portable builds it for all processors"), 1))
+
+
+def try_edits(tree):
+    tree.put("docs/edits/least/one.edit", "file: a\nold: b\nnew: c\n")
+    tree.expect("usage", tree.run("tools/edits", "--help"), ("", "usage: tools/edits [--anew | --left] [CRATE | CRATE/EDIT ..]\n", 2))
+    for word in "two", "least/two", "docs/edits/least/two.edit":
+        tree.expect("no such edit", tree.run("tools/edits", "least/one", word), ("", f"edits: {word} is neither a crate with edits nor an edit\n", 1))
+    shutil.rmtree(tree.top / "docs/edits")
 
 
 def try_wrong_bodies(tree):
@@ -527,7 +542,7 @@ def try_believe(tree):
 def main():
     with tempfile.TemporaryDirectory() as folder:
         tree = Tree(folder)
-        for part in try_run, try_build, try_kept, try_install, try_package, try_wrong_bodies, try_believe:
+        for part in try_run, try_build, try_kept, try_install, try_package, try_edits, try_wrong_bodies, try_believe:
             part(tree)
     print(f"{tree.passed} passed, {tree.failed} failed")
     return 1 if tree.failed or not tree.passed else 0

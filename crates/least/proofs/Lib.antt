@@ -1,3 +1,6 @@
-pub mod BitsLaws
-pub mod IndexLaws
+pub mod BlockLaws
+pub mod ColumnLaws
+pub mod HasLaws
 pub mod LookupLaws
+pub mod PartLaws
+pub mod SearchLaws

@@ -1,2 +1,3 @@
-pub mod Bits
-pub mod Indexes
+pub mod Blocks
+pub mod Columns
+pub mod Lookups

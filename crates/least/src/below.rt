@@ -1,25 +1,19 @@
-//! Preorders on values that have elements, as sets have.
+//! Relations on values that need elements and lack others.
 
-ghost use Rattle.std.specs.Prelude.{◌≡◌, Bool, true};
+ghost use Rattle.std.specs.Prelude.{◌≡◌, ℕ, Bool, true, false};
+ghost use Rattle.ltl_spec.specs.Collections.Sets.{Has};
 
-/// A preorder, as inclusion is one on sets: `a` is below `b` if every element of `a` is in `b`.
-pub trait Below: Copy {
+use crate::elements::Elements;
+
+/// A relation, as inclusion is one on sets: `a` is below `b` only if `b` needs each element that `a` needs, and `a` lacks none that `b` asks for.
+pub trait Below: Elements {
     ghost below: { Self → Self → Bool };
 
     /// Whether this value is below the other.
     fn is_below(&self, other: &Self) -> bool
         ensures { result ≡ below self.now other.now };
 
-    /// A lower bound of both, as the intersection of two sets. The greater it is, the fewer comparisons are made.
-    fn common(&self, other: &Self) -> Self
-        ensures first { below result self.now ≡ true }
-        ensures second { below result other.now ≡ true };
+    ghost needed: { (a b : Self) (k e : ℕ) → below a b ≡ true → Has (Self.needs a k) e → Has (Self.needs b k) e };
 
-    /// Whether the value has this element. The answer affects the number of comparisons alone, not the result.
-    fn has(&self, element: usize) -> bool;
-
-    /// Adds one to the count of each element of the value. The counts affect the number of comparisons alone, not the result.
-    fn tally(&self, counts: &mut [u32]);
-
-    ghost transitive: { (a b c : Self) → below a b ≡ true → below b c ≡ true → below a c ≡ true };
+    ghost lacked: { (a b : Self) (k e : ℕ) → below a b ≡ true → Has (Self.asks b k) e → Self.lacking a k e ≡ false };
 }

@@ -4,13 +4,13 @@ use Rattle.std.specs.Prelude.{if◌then◌else◌, slice_get, slice_index_or, sl
 use Rattle.std.specs.List.{filter}
 use Rattle.std.specs.Ordering.{nat_cmp}
 use Rattle.std.proofs.lemmas.Bool.{cases_eq}
-use Rattle.std.proofs.lemmas.Bool.Decides.{Decides-and, Decides-like, nat_tests, same_from_decides}
+use Rattle.std.proofs.lemmas.Bool.Decides.{nat_tests}
 use Rattle.std.proofs.lemmas.List.{get_or-set_other, get_or-set_same, length-map, length-set, map-append}
 use Rattle.ltl_spec.specs.Collections.Sets.{Has, has, is_subset, union}
 use Rattle.ltl_spec.specs.Transitions.Pairs.{Pair}
 use Rattle.ltl_spec.proofs.Collections.CaseLaws.{false_is_true}
 use Rattle.ltl_spec.proofs.Collections.Orders.{nat_linear}
-use Rattle.ltl_spec.proofs.Collections.SetLaws.{Has-filter, filter_cases, has_Decides, is_subset_Decides}
+use Rattle.ltl_spec.proofs.Collections.SetLaws.{has_Decides, is_subset_Decides}
 use Rattle.ltl_spec.proofs.Transitions.IndependenceTests.{Support, IsWithinSupport, no_support, together, within_together_left, within_together_right}
 use Rattle.ltl_spec.proofs.Transitions.AskedSteps.{ask_operands, ask_step}
 use Rattle.ltl_spec.proofs.Transitions.Fulfilment.{anything, code, leaf_code}
@@ -23,17 +23,9 @@ use Rattle.ltl_alt.specs.Tests.{step_of, steps_of}
 use Rattle.ltl_alt.specs.declared.codes.Code as columns
 use Rattle.ltl_alt.specs.declared.fulfilment.Fulfilment.{Fulfilment}
 use Rattle.ltl_alt.specs.declared.program.Step.{Step}
-use Rattle.ltl_alt.proofs.ColumnLaws.{has_union}
+use Rattle.least.proofs.HasLaws.{has_filter, has_union}
 use Rattle.ltl_alt.proofs.FulfilLaws.{codes_step}
 use Rattle.ltl_alt.proofs.OpenLaws.{back_closed, back_more, back_open, nothing_asked, open_asked, small_codes}
-
--- ---- members
-
-has_filter : (p : ℕ → Bool) (j : ℕ) (xs : List ℕ) → has nat_cmp j (filter p xs) ≡ (has nat_cmp j xs && p j)
-has_filter p j xs =
-    let x = has nat_cmp j xs in
-    same_from_decides (has nat_cmp j (filter p xs)) (x && p j) (has_Decides nat_linear j (filter p xs))
-    (Decides-like {P = Has xs j × (p j ≡ true)} {Q = Has (filter p xs) j} (x && p j) (λ h. Has-filter p xs j h.0 h.1) (filter_cases p xs j) (Decides-and x (p j) (has_Decides nat_linear j xs) (λ e. e, λ e. e)))
 
 -- ---- codes
 

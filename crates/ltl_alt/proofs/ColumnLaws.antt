@@ -1,129 +1,66 @@
 -- Columns of a block: which pairs are in them, loop by loop.
-use Rattle.std.proofs.Common.{◌≡◌, ◌≢◌, ℕ, zero, suc, ◌+◌, ◌<◌, ◌≤◌, ◌⊎◌, Bool, true, false, cond, ◌&&◌, ◌||◌, inl, inr, List, [], ◌∷◌, ◌++◌, length, take, refl, sym, ◌∙◌, ap, subst, arith, Some}
+use Rattle.std.proofs.Common.{◌≡◌, ◌≢◌, ℕ, zero, suc, ◌+◌, ◌<◌, ◌≤◌, Bool, true, false, cond, not, ◌&&◌, ◌||◌, inl, inr, List, [], ◌∷◌, ◌++◌, length, map, take, refl, sym, ◌∙◌, ap, arith, Some}
 use Rattle.std.specs.List.{filter}
 use Rattle.std.specs.Ordering.{nat_cmp}
 use Rattle.std.specs.Prelude.{slice_get, slice_index_or}
-use Rattle.std.proofs.lemmas.List.{map-append}
+use Rattle.std.proofs.lemmas.List.{map-append, take_more}
 use Rattle.std.proofs.lemmas.Option.{get_or_from_slice_get, slice_get_within}
 use Rattle.ltl_spec.specs.Collections.Sets.{has, put, union}
-use Rattle.ltl_spec.specs.Transitions.Cubes.{Literal, literal_cmp}
+use Rattle.ltl_spec.specs.Collections.Lists.{places_from, places_where}
 use Rattle.ltl_spec.specs.Transitions.Pairs.{Pair}
-use Rattle.ltl_spec.proofs.Collections.CaseLaws.{below_or_last, false_is_true, left_true, right_true}
-use Rattle.ltl_spec.proofs.Collections.ListLaws.{slice_get_has}
-use Rattle.ltl_spec.proofs.Collections.Orders.{literal_linear, nat_linear}
-use Rattle.ltl_spec.proofs.Collections.SetLaws.{filter_cases, has_Decides, Has-filter, put_cases, put_new, put_old, union_cases, union_left, union_right}
-use Rattle.ltl_spec.proofs.Transitions.IndependenceTests.{Covers, Support, of_sign}
+use Rattle.ltl_spec.specs.Transitions.RowTransitions.{Table}
+use Rattle.ltl_spec.proofs.Collections.CaseLaws.{below_or_last}
+use Rattle.ltl_spec.proofs.Collections.Orders.{nat_linear}
+use Rattle.ltl_spec.proofs.Collections.SetLaws.{has_Decides, put_cases, put_new, put_old}
 use Rattle.ltl_spec.proofs.Transitions.Steps as steps
 use Rattle.ltl_spec.proofs.Transitions.Steps.{step_passes, tests_of}
-use Rattle.ltl_alt.specs.Columns.{AreColumns, IsColumn, IsStepColumn, answers_at}
-use Rattle.ltl_alt.specs.Tests.{step_of, steps_of}
+use Rattle.least.specs.Columns.{AreColumnsOf, ColumnTable, column_at}
+use Rattle.ltl_alt.specs.Columns.{AreColumns, AreUnmarked, IsColumn, IsNeeding, IsStepColumn, answers_at, unmarked_by}
+use Rattle.ltl_alt.specs.Tests.{AreTests, step_of, steps_of}
+use Rattle.ltl_alt.specs.declared.columns.Needing.{Needing}
+use Rattle.ltl_alt.specs.declared.fulfilment.Fulfilment.{Fulfilment}
+use Rattle.ltl_alt.specs.declared.fulfilment.UntilTest.{UntilTest}
 use Rattle.ltl_alt.specs.declared.program.Step.{Step}
-use Rattle.ltl_alt.proofs.FulfilLaws.{answers_step}
+use Rattle.least.proofs.HasLaws.{has_filter, has_union, same_truth}
+use Rattle.ltl_alt.proofs.FulfilLaws.{answers_step, marked_by_answer}
 
--- ---- what operations on sets have
+-- ---- a member more
 
-same_truth : (a b : Bool) → (a ≡ true → b ≡ true) → (b ≡ true → a ≡ true) → a ≡ b
-same_truth true b f g = sym (f refl)
-same_truth false true f g = g refl
-same_truth false false f g = refl
-
-either_true : (a b : Bool) → (a || b) ≡ true → (a ≡ true) ⊎ (b ≡ true)
-either_true true b e = inl refl
-either_true false b e = inr e
-
-first_true : (a b : Bool) → a ≡ true → (a || b) ≡ true
-first_true true b e = refl
-first_true false b e = false_is_true e
-
-second_true : (a b : Bool) → b ≡ true → (a || b) ≡ true
-second_true true b e = refl
-second_true false b e = e
-
-both_true : (a b : Bool) → a ≡ true → b ≡ true → (a && b) ≡ true
-both_true true b e f = f
-both_true false b e f = false_is_true e
-
-pub has_put_same : (k : ℕ) (xs : List ℕ) → has nat_cmp k (put nat_cmp k xs) ≡ true
+has_put_same : (k : ℕ) (xs : List ℕ) → has nat_cmp k (put nat_cmp k xs) ≡ true
 has_put_same k xs = (has_Decides nat_linear k (put nat_cmp k xs)).1 (put_new nat_linear k xs)
 
-pub has_put_other : (j k : ℕ) (xs : List ℕ) → j ≢ k → has nat_cmp j (put nat_cmp k xs) ≡ has nat_cmp j xs
+has_put_other : (j k : ℕ) (xs : List ℕ) → j ≢ k → has nat_cmp j (put nat_cmp k xs) ≡ has nat_cmp j xs
 has_put_other j k xs n =
     same_truth (has nat_cmp j (put nat_cmp k xs)) (has nat_cmp j xs)
     (λ e. (has_Decides nat_linear j xs).1 (elim (put_cases nat_cmp k xs j ((has_Decides nat_linear j (put nat_cmp k xs)).0 e)) [ inl d ↦ absurd (n d) | inr h ↦ h ]))
     (λ e. (has_Decides nat_linear j (put nat_cmp k xs)).1 (put_old nat_cmp k xs j ((has_Decides nat_linear j xs).0 e)))
 
-pub has_union : (j : ℕ) (xs ys : List ℕ) → has nat_cmp j (union nat_cmp xs ys) ≡ (has nat_cmp j xs || has nat_cmp j ys)
-has_union j xs ys =
-    same_truth (has nat_cmp j (union nat_cmp xs ys)) (has nat_cmp j xs || has nat_cmp j ys)
-    (λ e. elim (union_cases nat_linear xs ys j ((has_Decides nat_linear j (union nat_cmp xs ys)).0 e)) [
-      | inl h ↦ first_true (has nat_cmp j xs) (has nat_cmp j ys) ((has_Decides nat_linear j xs).1 h)
-      | inr h ↦ second_true (has nat_cmp j xs) (has nat_cmp j ys) ((has_Decides nat_linear j ys).1 h)
-    ])
-    (λ e. (has_Decides nat_linear j (union nat_cmp xs ys)).1 (elim (either_true (has nat_cmp j xs) (has nat_cmp j ys) e) [
-      | inl h ↦ union_left nat_linear xs ys j ((has_Decides nat_linear j xs).0 h)
-      | inr h ↦ union_right nat_linear xs ys j ((has_Decides nat_linear j ys).0 h)
-    ]))
+-- ---- all pairs of a block
 
-pub has_common : (j : ℕ) (xs ys : List ℕ) → has nat_cmp j (filter (λ i. has nat_cmp i ys) xs) ≡ (has nat_cmp j xs && has nat_cmp j ys)
-has_common j xs ys =
-    let f : ℕ → Bool = λ i. has nat_cmp i ys in
-    same_truth (has nat_cmp j (filter f xs)) (has nat_cmp j xs && has nat_cmp j ys)
-    (λ e. let (h, t) = filter_cases f xs j ((has_Decides nat_linear j (filter f xs)).0 e) in both_true (has nat_cmp j xs) (has nat_cmp j ys) ((has_Decides nat_linear j xs).1 h) t)
-    (λ e. (has_Decides nat_linear j (filter f xs)).1 (Has-filter f xs j ((has_Decides nat_linear j xs).0 (left_true (has nat_cmp j xs) (has nat_cmp j ys) e)) (right_true (has nat_cmp j xs) (has nat_cmp j ys) e)))
+-- the set has the numbers below n
+abbrev pub HasBelow : ℕ → List ℕ → Type 0
+HasBelow n c = (j : ℕ) → j < n → has nat_cmp j c ≡ true
 
--- ---- a column that is filled pair by pair
+pub below_next : (n : ℕ) (old new : List ℕ) → new ≡ put nat_cmp n old → HasBelow n old → HasBelow (n + 1) new
+below_next n old new d w j l = elim (below_or_last j n l) [
+  | inl m ↦ ap (has nat_cmp j) d ∙ has_put_other j n old (omega arith) ∙ w j m
+  | inr i ↦ ap (has nat_cmp j) d ∙ ap (λ k. has nat_cmp k (put nat_cmp n old)) i ∙ has_put_same n old
+]
 
--- the pairs before index n are in the column if f is true for them, and none behind
-pub record IsColumnTo (f : Pair → Bool) (ps : List Pair) (n : ℕ) (c : List ℕ) : Type 0 where
-  pub before : (j : ℕ) (p : Pair) → j < n → slice_get ps j ≡ Some p → has nat_cmp j c ≡ f p
-  pub behind : (j : ℕ) → n ≤ j → has nat_cmp j c ≡ false
+pub below_ends : (ps : List Pair) (n : ℕ) (c : List ℕ) → length ps ≤ n → HasBelow n c → IsColumn (λ p. true) ps c
+below_ends ps n c l w j p e = let m = slice_get_within ps j p e in w j (omega arith)
 
-pub column_begins : (f : Pair → Bool) (ps : List Pair) → IsColumnTo f ps 0 []
-column_begins f ps = record { before = λ j p l e. absurd (omega arith); behind = λ j l. refl }
+-- ---- the pairs that need something
 
-pub column_next : (f : Pair → Bool) (ps : List Pair) (n : ℕ) (p : Pair) (b : Bool) (old new : List ℕ) → p ≡ slice_index_or ps n p → b ≡ f p → new ≡ cond b (put nat_cmp n old) old
-    → IsColumnTo f ps n old → IsColumnTo f ps (n + 1) new
-column_next f ps n p b old new is e d w = subst (IsColumnTo f ps (n + 1)) (sym d) (record { before = before; behind = behind })
-  where
-    same : (c : Bool) (j : ℕ) → j ≢ n → has nat_cmp j (cond c (put nat_cmp n old) old) ≡ has nat_cmp j old
-    same true j m = has_put_other j n old m
-    same false j m = refl
+-- the set that is made of an element
+set_of : {K : Type 0} (f : K → List ℕ) (xs : List K) (i : ℕ) (x : K) → slice_get xs i ≡ Some x → slice_index_or (map f xs) i [] ≡ f x
+set_of f [] i x g = cc
+set_of f (y ∷ xs) zero x g = let e : y ≡ x = cc in ap f e
+set_of f (y ∷ xs) (suc i) x g = set_of f xs i x g
 
-    here : (c : Bool) → has nat_cmp n (cond c (put nat_cmp n old) old) ≡ c
-    here true = has_put_same n old
-    here false = w.behind n (omega arith)
-
-    before : (j : ℕ) (q : Pair) → j < n + 1 → slice_get ps j ≡ Some q → has nat_cmp j (cond b (put nat_cmp n old) old) ≡ f q
-    before j q l g = elim (below_or_last j n l) [
-      | inl m ↦ same b j (omega arith) ∙ w.before j q m g
-      | inr i ↦ ap (λ k. has nat_cmp k (cond b (put nat_cmp n old) old)) i ∙ here b ∙ e ∙ ap f (is ∙ get_or_from_slice_get ps n q p (subst (λ k. slice_get ps k ≡ Some q) i g))
-    ]
-
-    behind : (j : ℕ) → n + 1 ≤ j → has nat_cmp j (cond b (put nat_cmp n old) old) ≡ false
-    behind j l = same b j (omega arith) ∙ w.behind j (omega arith)
-
-pub all_next : (ps : List Pair) (n : ℕ) (old new : List ℕ) → new ≡ put nat_cmp n old → IsColumnTo (λ p. true) ps n old → IsColumnTo (λ p. true) ps (n + 1) new
-all_next ps n old new d w = subst (IsColumnTo (λ p. true) ps (n + 1)) (sym d) (record { before = before; behind = λ j l. has_put_other j n old (omega arith) ∙ w.behind j (omega arith) })
-  where
-    before : (j : ℕ) (q : Pair) → j < n + 1 → slice_get ps j ≡ Some q → has nat_cmp j (put nat_cmp n old) ≡ true
-    before j q l g = elim (below_or_last j n l) [
-      | inl m ↦ has_put_other j n old (omega arith) ∙ w.before j q m g
-      | inr i ↦ ap (λ k. has nat_cmp k (put nat_cmp n old)) i ∙ has_put_same n old
-    ]
-
-pub column_ends : (f : Pair → Bool) (ps : List Pair) (n : ℕ) (c : List ℕ) → length ps ≤ n → IsColumnTo f ps n c → IsColumn f ps c
-column_ends f ps n c l w j p e = let m = slice_get_within ps j p e in w.before j p (omega arith) e
-
--- a literal and a row that the support lacks are in no pair
-pub none_reads : (a : Support) (ps : List Pair) (l : Literal) (b : Bool) → Covers a ps → b ≡ has nat_cmp l.proposition (of_sign l.positive a) → b ≡ false → IsColumn (λ p. has literal_cmp l p.cube) ps []
-none_reads a ps l b c e d j p g =
-    same_truth false (has literal_cmp l p.cube) false_is_true
-    (λ t. sym d ∙ e ∙ (has_Decides nat_linear l.proposition (of_sign l.positive a)).1 (c.literals l (p, slice_get_has ps j p g, (has_Decides literal_linear l p.cube).0 t)))
-
-pub none_leads : (a : Support) (ps : List Pair) (k : ℕ) (b : Bool) → Covers a ps → b ≡ has nat_cmp k a.targets → b ≡ false → IsColumn (λ p. has nat_cmp k p.targets) ps []
-none_leads a ps k b c e d j p g =
-    same_truth false (has nat_cmp k p.targets) false_is_true
-    (λ t. sym d ∙ e ∙ (has_Decides nat_linear k a.targets).1 (c.rows k (p, slice_get_has ps j p g, (has_Decides nat_linear k p.targets).0 t)))
+-- the pairs whose sets have a number
+pub column_has : (f : Pair → List ℕ) (ps : List Pair) (c : ColumnTable) (r : List ℕ) (e : ℕ) → AreColumnsOf (map f ps) c → r ≡ column_at c e → IsColumn (λ p. has nat_cmp e (f p)) ps r
+column_has f ps c r e w d j p g = ap (has nat_cmp j) d ∙ w.each e j ∙ ap (has nat_cmp e) (set_of f ps j p g)
 
 -- ---- the columns of steps
 
@@ -135,7 +72,7 @@ answer_in j (c ∷ cs) (suc i) = answer_in j cs i
 
 pub both_column : (ps : List Pair) (cs : List (List ℕ)) (i k : ℕ) (c : List ℕ) → c ≡ filter (λ n. has nat_cmp n (slice_index_or cs k [])) (slice_index_or cs i []) → IsStepColumn ps cs (steps.Both i k) c
 both_column ps cs i k c e j p g =
-    ap (has nat_cmp j) e ∙ has_common j (slice_index_or cs i []) (slice_index_or cs k []) ∙ (λ x. sym (answer_in j cs i) x && sym (answer_in j cs k) x)
+    ap (has nat_cmp j) e ∙ has_filter (λ n. has nat_cmp n (slice_index_or cs k [])) j (slice_index_or cs i []) ∙ (λ x. sym (answer_in j cs i) x && sym (answer_in j cs k) x)
 
 pub either_column : (ps : List Pair) (cs : List (List ℕ)) (i k : ℕ) (c : List ℕ) → c ≡ union nat_cmp (slice_index_or cs i []) (slice_index_or cs k []) → IsStepColumn ps cs (steps.Either i k) c
 either_column ps cs i k c e j p g =
@@ -146,3 +83,57 @@ pub columns_step : (ps : List Pair) (ss : List Step) (k : ℕ) (s : Step) (old n
     → AreColumns (steps_of (take k ss)) ps old → AreColumns (steps_of (take (k + 1) ss)) ps new
 columns_step ps ss k s old new c l is f g w j p e =
     answers_step p ss k s (answers_at j old) (answers_at j new) (has nat_cmp j c) l is (ap (answers_at j) f ∙ map-append (has nat_cmp j) old (c ∷ [])) (g j p e) (w j p e)
+
+-- ---- marks
+
+-- the test of an until row
+there : (us : List UntilTest) (i : ℕ) → i < length us → (u : UntilTest) × (slice_get us i ≡ Some u)
+there [] i l = absurd (omega arith)
+there (u ∷ us) zero l = (u, refl)
+there (u ∷ us) (suc i) l = there us i (omega arith)
+
+not_either : (a b : Bool) → (a && not b) ≡ not (not a || b)
+not_either true b = refl
+not_either false b = refl
+
+pub not_twice : (b : Bool) → not (not b) ≡ b
+not_twice true = refl
+not_twice false = refl
+
+-- the pairs of a block that aren't marked, by the columns of all steps
+pub unmarked_are : {A : Type 0} (T : Table) (f : Fulfilment A) (ps : List Pair) (n : Needing A) (cs : List (List ℕ)) (c : ColumnTable) → AreTests T f → IsNeeding ps n → AreColumns (steps_of f.steps.items) ps cs
+    → AreColumnsOf (map (unmarked_by n cs) f.untils.items) c → AreUnmarked T ps c
+unmarked_are {A} T f ps n cs c tests w a e j p found consistent i l =
+    let us = f.untils.items in
+    let count = tests.count in
+    let inside : i < length us = omega arith in
+    let (u, at) = there us i inside in
+    let passing = slice_index_or cs u.step [] in
+    e.each j i
+    ∙ ap (has nat_cmp j) (set_of (unmarked_by n cs) us i u at)
+    ∙ has_filter (λ k. not (has nat_cmp k passing)) j (column_at n.targets u.place)
+    ∙ ap (λ b. b && not (has nat_cmp j passing)) (column_has (λ q. q.targets) ps n.targets (column_at n.targets u.place) u.place w.targets refl j p found)
+    ∙ not_either (has nat_cmp u.place p.targets) (has nat_cmp j passing)
+    ∙ ap not (ap (λ b. not (has nat_cmp u.place p.targets) || b) (sym (answer_in j cs u.step)) ∙ marked_by_answer T f tests p consistent (answers_at j cs) (a j p found) i u at l)
+
+-- one image more
+pub mapped_next : {K L : Type 0} (f : K → L) (xs : List K) (n : ℕ) (x : K) (y : L) (old new : List L) → slice_get xs n ≡ Some x → y ≡ f x → new ≡ old ++ y ∷ [] → old ≡ map f (take n xs) → new ≡ map f (take (n + 1) xs)
+mapped_next {K} {L} f xs n x y old new g e d w =
+    let more : take (n + 1) xs ≡ take n xs ++ x ∷ [] = take_more xs n x (slice_get_within xs n x g) ∙ ap (λ z. take n xs ++ z ∷ []) (get_or_from_slice_get xs n x x g) in
+    d ∙ (λ i. w i ++ e i ∷ []) ∙ sym (ap (map f) more ∙ map-append f (take n xs) (x ∷ []))
+
+-- the places that are kept of all places of a list
+places_kept : {K : Type 0} (q : ℕ → Bool) (f : K → Bool) (d : K) (xs : List K) (n : ℕ) → ((i : ℕ) → i < length xs → q (n + i) ≡ f (slice_index_or xs i d)) → filter q (places_from (λ x. true) n xs) ≡ places_from f n xs
+places_kept q f d [] n h = refl
+places_kept {K} q f d (x ∷ xs) n h =
+    ap (λ b. cond b (n ∷ filter q (places_from (λ y. true) (n + 1) xs)) (filter q (places_from (λ y. true) (n + 1) xs))) first
+    ∙ ap (λ ks. cond (f x) (n ∷ ks) ks) (places_kept q f d xs (n + 1) (λ i l. ap q (next i) ∙ h (suc i) (omega arith)))
+  where
+    next : (i : ℕ) → n + 1 + i ≡ n + suc i
+    next i = omega arith
+
+    first : q n ≡ f x
+    first = let e : n ≡ n + 0 = omega arith in ap q e ∙ h 0 (omega arith)
+
+pub kept_places : {K : Type 0} (q : ℕ → Bool) (f : K → Bool) (d : K) (xs : List K) → ((i : ℕ) → i < length xs → q i ≡ f (slice_index_or xs i d)) → filter q (places_where (λ x. true) xs) ≡ places_where f xs
+kept_places q f d xs h = places_kept q f d xs 0 (λ i l. (let e : 0 + i ≡ i = omega arith in ap q e) ∙ h i l)

@@ -1,13 +1,17 @@
 -- The transitions of components by number, where more are listed.
-use Rattle.std.proofs.Common.{◌≡◌, ℕ, Bool, true, inl, inr, List, [], ◌∷◌, map, refl, sym, ◌∙◌, subst, Option, Some, None}
-use Rattle.std.specs.Prelude.{IfSome, nat_eq}
+use Rattle.std.proofs.Common.{◌≡◌, ℕ, Bool, true, inl, inr, List, [], ◌∷◌, map, refl, sym, ◌∙◌, ap, subst, Option, Some, None}
+use Rattle.std.specs.Prelude.{IfSome, if◌then◌else◌, nat_eq}
 use Rattle.std.specs.Cmp.Lexicographic.{pointwise, bytes_decides}
 use Rattle.std.specs.Map.{lookup}
 use Rattle.indexmap.specs.IndexMap.{insert_entry}
 use Rattle.ltl_spec.specs.Collections.Sets.{Has, set_of}
 use Rattle.ltl_spec.specs.Transitions.Pairs.{RowSet, Pair, pair_cmp, join}
-use Rattle.ltl_spec.specs.Transitions.RowTransitions.{Table, Transition}
+use Rattle.ltl_spec.specs.Transitions.RowTransitions.{Table, Transition, unimplied_transitions, with_marks}
+use Rattle.ltl_spec.proofs.Collections.MemberLaws.{Has-map, map_cases}
+use Rattle.ltl_spec.proofs.Collections.Orders.{pair_linear}
+use Rattle.ltl_spec.proofs.Collections.SetLaws.{Has-set_of, IsRising-set_of, set_of_same}
 use Rattle.ltl_spec.proofs.Transitions.ProductTransitions.{transitions_of}
+use Rattle.ltl_alt.specs.TransitionView.{AllSets}
 use Rattle.ltl_alt.specs.declared.finals.Factor.{Factor}
 use Rattle.ltl_alt.specs.declared.finals.Factor.TheVariants as factor
 use Rattle.ltl_alt.specs.FinalView.{AreFinals, AreWithin, IsFinal, IsListOf, IsLonger, IsWithin, list_of}
@@ -15,6 +19,18 @@ use Rattle.ltl_alt.specs.declared.memo.JoinKey.{JoinKey}
 use Rattle.ltl_alt.specs.ConjunctTableView as conjuncts
 use Rattle.ltl_alt.proofs.JoinLaws.{same_key, key_exact}
 use Rattle.ltl_alt.proofs.MapLaws.{exact_cases, map_known, longer_within, longer_there}
+
+-- ---- different pairs with a given set
+
+-- their transitions are those of the set
+pub transitions_by_set : (T : Table) (keep : Bool) (ps js : List Pair) → set_of pair_cmp ps ≡ set_of pair_cmp js → transitions_of T keep ps ≡ transitions_of T keep (set_of pair_cmp js)
+transitions_by_set T keep ps js e =
+    ap (λ xs. if keep then map (with_marks T) xs else unimplied_transitions (map (with_marks T) xs)) (e ∙ sym (set_of_same pair_linear (set_of pair_cmp js) (IsRising-set_of pair_linear js)))
+
+pub sets_by_set : (T : Table) (ps qs : List Pair) → set_of pair_cmp ps ≡ qs → AllSets (map (with_marks T) qs) → AllSets (map (with_marks T) ps)
+sets_by_set T ps qs e w t h =
+    let (p, k, d) = map_cases (with_marks T) ps t h in
+    w t (subst (Has (map (with_marks T) qs)) (sym d) (Has-map (with_marks T) qs p (subst (λ xs. Has xs p) e (Has-set_of pair_linear ps p k))))
 
 -- ---- where more is listed
 

@@ -1,11 +1,11 @@
 -- Only a transition that asks for less implies another one.
-use Rattle.std.proofs.Common.{◌≡◌, ℕ, ◌+◌, ◌<◌, ◌≤◌, Bool, true, false, cond, not, ◌&&◌, inl, inr, List, [], ◌∷◌, ◌++◌, length, map, take, refl, sym, ◌∙◌, ap, subst, arith}
+use Rattle.std.proofs.Common.{◌≡◌, ℕ, zero, suc, ◌+◌, ◌<◌, ◌≢◌, ◌≤◌, Bool, true, false, cond, not, ◌&&◌, inl, inr, List, [], ◌∷◌, ◌++◌, length, map, take, refl, sym, ◌∙◌, ap, subst, arith}
 use Rattle.std.specs.List.{filter}
-use Rattle.std.specs.Ordering.{is_ne}
+use Rattle.std.specs.Ordering.{is_ne, nat_cmp}
 use Rattle.std.specs.Prelude.{slice_index_or}
 use Rattle.std.proofs.lemmas.Bool.Decides.{nat_tests}
 use Rattle.std.proofs.lemmas.List.{take_more}
-use Rattle.ltl_spec.specs.Collections.Sets.{Has}
+use Rattle.ltl_spec.specs.Collections.Sets.{Has, has}
 use Rattle.ltl_spec.specs.Transitions.Pairs.{Pair}
 use Rattle.ltl_spec.specs.Transitions.RowTransitions.{Table, Transition, HasSets, implies, transition_cmp, unimplied_transitions, with_marks}
 use Rattle.ltl_spec.proofs.Collections.CaseLaws.{false_is_true, left_true, right_true}
@@ -13,6 +13,7 @@ use Rattle.ltl_spec.proofs.Collections.MemberLaws.{any_cases, any_true, map_case
 use Rattle.ltl_spec.proofs.Collections.SetLaws.{append_cases, filter_cases, Has-filter}
 use Rattle.ltl_spec.proofs.Transitions.TransitionLaws.{implies_true, fewer_or_same}
 use Rattle.ltl_spec.proofs.Transitions.SameJoins.{AreSound}
+use Rattle.ltl_alt.specs.Elements.{is_unmarked}
 use Rattle.ltl_alt.specs.StandIns.{IsListed, StandsFor}
 use Rattle.ltl_alt.specs.TransitionView.{AllSets, AreUpTo, is_heavy, is_implied, weight}
 use Rattle.ltl_alt.specs.declared.rule.Rule.{Rule}
@@ -73,3 +74,16 @@ listed_sets T r ps qs ts sound w d t h =
     let (q, k, i) = map_cases (with_marks T) qs t (subst (λ xs. Has xs t) d h) in
     let s = sound.proper q (w.kept.from q k) in
     subst HasSets (sym i) (record { cube = s.cube; targets = s.targets })
+
+-- of kind 0 a transition lacks the marks that it doesn't have
+pub marks_it_lacks : (t : Transition) (k : ℕ) (es fs : List ℕ) → k ≡ 0 → fs ≡ filter (λ i. not (has nat_cmp i t.marks)) es → fs ≡ filter (is_unmarked t k) es
+marks_it_lacks t k es fs e f = f ∙ ap (λ n. filter (is_unmarked t n) es) (sym e)
+
+-- of the other kinds it lacks nothing
+pub nothing_unmarked : (t : Transition) (k : ℕ) (es : List ℕ) → k ≢ 0 → [] ≡ filter (is_unmarked t k) es
+nothing_unmarked t zero es n = absurd (n refl)
+nothing_unmarked t (suc k) es n = none es
+  where
+    none : (xs : List ℕ) → [] ≡ filter (is_unmarked t (suc k)) xs
+    none [] = refl
+    none (x ∷ xs) = none xs

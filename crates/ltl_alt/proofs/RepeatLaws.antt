@@ -1,10 +1,8 @@
 -- Joins of long lists, each pair once, have the same set.
 use Rattle.std.proofs.Common.{◌≡◌, ℕ, suc, ◌+◌, List, [], ◌∷◌, ◌++◌, inl, inr, refl, sym, ◌∙◌, ap, subst, arith, Some, None, Option}
 use Rattle.std.specs.Prelude.{fold, filter_map, slice_get, take}
-use Rattle.std.specs.Bool.{Decides}
 use Rattle.std.specs.List.{cons_option}
-use Rattle.std.specs.Ordering.{eq_by_cmp, is_eq}
-use Rattle.std.proofs.lemmas.Cmp.{tied_itself}
+use Rattle.std.specs.Ordering.{eq_by_cmp}
 use Rattle.std.proofs.lemmas.List.{append-nil}
 use Rattle.std.proofs.lemmas.List.Concat.{flat_map-append}
 use Rattle.std.proofs.lemmas.List.Elements.{filter_map-append}
@@ -18,11 +16,8 @@ use Rattle.ltl_spec.proofs.Collections.Orders.{pair_linear}
 use Rattle.ltl_spec.proofs.Collections.SetLaws.{append_cases, append_left, append_right, set_of_alike, set_of_cases, Has-set_of}
 use Rattle.ltl_spec.proofs.Transitions.JoinLaws.{Has-join, join_parts}
 use Rattle.ltl_automaton.proofs.WayLaws.{take_got}
-use Rattle.ltl_alt.specs.PairHash.{exact}
+use Rattle.ltl_alt.specs.PairHash.{pair_Decides}
 use Rattle.ltl_alt.specs.StandIns.{joins_by_right}
-
-same_Decides : (p q : Pair) → Decides (eq_by_cmp pair_cmp p q) (p ≡ q)
-same_Decides p q = (exact p q, λ e. ap (eq_by_cmp pair_cmp p) (sym e) ∙ ap is_eq (tied_itself pair_linear.total p))
 
 -- a join more of one pair
 pub noted_some : (f : Pair → Option Pair) (start taken more once next : List Pair) (x : Pair) (p : Pair) → once ≡ fold (with_new (eq_by_cmp pair_cmp)) start (filter_map f taken) → more ≡ taken ++ x ∷ [] → f x ≡ Some p
@@ -73,7 +68,7 @@ back_next keys put more k p e g m =
 -- the set stays
 pub same_set : (xs keys zs : List Pair) → keys ≡ first_occurrences (eq_by_cmp pair_cmp) xs → zs ≡ keys → set_of pair_cmp zs ≡ set_of pair_cmp xs
 same_set xs keys zs e f =
-    ap (set_of pair_cmp) (f ∙ e) ∙ set_of_alike pair_linear (first_occurrences (eq_by_cmp pair_cmp) xs) xs (first_occurrences_cases (eq_by_cmp pair_cmp) same_Decides xs) (Has-first_occurrences (eq_by_cmp pair_cmp) same_Decides xs)
+    ap (set_of pair_cmp) (f ∙ e) ∙ set_of_alike pair_linear (first_occurrences (eq_by_cmp pair_cmp) xs) xs (first_occurrences_cases (eq_by_cmp pair_cmp) pair_Decides xs) (Has-first_occurrences (eq_by_cmp pair_cmp) pair_Decides xs)
 
 -- so it does where a list stands before
 pub same_behind : (xs ys zs : List Pair) → set_of pair_cmp ys ≡ set_of pair_cmp zs → set_of pair_cmp (xs ++ ys) ≡ set_of pair_cmp (xs ++ zs)

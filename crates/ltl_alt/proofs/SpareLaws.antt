@@ -1,16 +1,23 @@
 -- Until rows that pairs can differ in, and what pairs lack, one by one.
-use Rattle.std.proofs.Common.{◌≡◌, ℕ, ◌+◌, ◌<◌, false, ◌⊎◌, inl, inr, List, [], ◌∷◌, ◌++◌, length, sym, ◌∙◌, ap, subst, arith, Some}
+use Rattle.std.proofs.Common.{◌≡◌, ℕ, zero, suc, ◌+◌, ◌<◌, Bool, true, false, not, ◌&&◌, ◌⊎◌, inl, inr, List, [], ◌∷◌, ◌++◌, length, take, drop, sym, ◌∙◌, ap, subst, arith, Some}
 use Rattle.std.specs.Prelude.{slice_get, slice_index_or}
 use Rattle.std.proofs.lemmas.Option.{slice_get_within}
 use Rattle.ltl_spec.specs.Collections.Sets.{Has}
-use Rattle.ltl_spec.specs.Transitions.Pairs.{Pair}
+use Rattle.ltl_spec.specs.Transitions.Cubes.{Cube}
+use Rattle.ltl_spec.specs.Transitions.Pairs.{Pair, RowSet}
+use Rattle.ltl_spec.specs.Transitions.Pruning.{is_within}
+use Rattle.ltl_spec.proofs.Collections.ListLaws.{slice_get_has}
 use Rattle.ltl_spec.proofs.Collections.SetLaws.{append_cases, append_left, append_right}
-use Rattle.ltl_spec.proofs.Transitions.IndependenceTests.{Support, Covers, no_support, shares_some}
-use Rattle.ltl_alt.specs.CodeView.{AreBlockLacks, AreLacks, AreOfBlock, AreOpenSteps, IsKnown, IsLack, IsOfBlock, IsUntouched}
+use Rattle.ltl_spec.proofs.Transitions.IndependenceTests.{Support, Covers, no_support, shares_some, support_of}
+use Rattle.ltl_sets.specs.Words.{forbidden_of, letter_of}
+use Rattle.ltl_alt.specs.CodeView.{AreBlockLacks, AreOpenSteps, IsLack, IsUntouched}
+use Rattle.ltl_alt.specs.Elements.{may_replace, needs_of}
+use Rattle.ltl_alt.specs.StandIns.{AreOfBlock, AreSpares, IsOfBlock}
 use Rattle.ltl_alt.specs.declared.fulfilment.Fulfilment.{Fulfilment}
 use Rattle.ltl_alt.specs.declared.fulfilment.UntilTest.{UntilTest}
-use Rattle.ltl_alt.specs.declared.lacks.Lack as known
+use Rattle.ltl_alt.specs.declared.lacks.Spare.{Spare}
 use Rattle.ltl_alt.proofs.NeedsLaws.{same_or_other}
+use Rattle.ltl_alt.proofs.SupportLaws.{forbidden_names, letter_names}
 
 -- ---- until rows
 
@@ -40,23 +47,52 @@ open_out us ls ps n u old new k v a found e f c d g w =
 pub open_end : (us : List UntilTest) (ls : List Support) (ps : List Pair) (n : ℕ) (roots : List ℕ) → n ≡ length us → AreOpenBelow us ls ps n roots → AreOpenSteps us ls ps roots
 open_end us ls ps n roots e w i u f = let l = slice_get_within us i u f in w i u (omega arith) f
 
+-- ---- what pairs need
+
+-- what a pair needs, by kind
+module _ (c : Cube) (ts : RowSet) (k : ℕ) where
+  pub needs_positive : (ps : List ℕ) → k ≡ 0 → ps ≡ letter_of c → ps ≡ needs_of (record { cube = c; targets = ts }) k
+  needs_positive ps e f = f ∙ letter_names c ∙ ap (needs_of (record { cube = c; targets = ts })) (sym e)
+
+  pub needs_negative : (ns : List ℕ) → k ≡ 1 → ns ≡ forbidden_of c → ns ≡ needs_of (record { cube = c; targets = ts }) k
+  needs_negative ns e f = f ∙ forbidden_names c ∙ ap (needs_of (record { cube = c; targets = ts })) (sym e)
+
+-- a pair may replace those that it is within, if it lacks nothing of what they need
+pub replaces_by_test : (s : Spare) (p : Pair) (v : Support) (within shared : Bool) → within ≡ true → within ≡ is_within s.pair p → v ≡ support_of p → shared ≡ shares_some s.lacks v → not shared ≡ may_replace s p
+replaces_by_test s p v within shared e f g h = ap not (h ∙ ap (shares_some s.lacks) g) ∙ ap (λ w. w && not (shares_some s.lacks (support_of p))) (sym e ∙ f)
+
 -- ---- what pairs lack
 
 -- one more pair of a block
-pub of_block_more : (ps : List Pair) (vs : List Support) (old now new : List known.Lack) (k : known.Lack) → new ≡ now ++ k ∷ [] → IsOfBlock ps vs k → AreOfBlock ps vs old now → AreOfBlock ps vs old new
-of_block_more ps vs old now new k e this w n h = elim (append_cases now (k ∷ []) n (subst (λ xs. Has xs n) e h)) [
+pub of_block_more : (ps : List Pair) (vs : List Support) (old now new : List Spare) (s : Spare) → new ≡ now ++ s ∷ [] → IsOfBlock ps vs s → AreOfBlock ps vs old now → AreOfBlock ps vs old new
+of_block_more ps vs old now new s e this w n h = elim (append_cases now (s ∷ []) n (subst (λ xs. Has xs n) e h)) [
   | inl j ↦ w n j
-  | inr j ↦ elim j [ inl s ↦ inr (subst (IsOfBlock ps vs) (sym s) this) | inr x ↦ absurd x ]
+  | inr j ↦ elim j [ inl d ↦ inr (subst (IsOfBlock ps vs) (sym d) this) | inr x ↦ absurd x ]
 ]
 
--- of a block more it is known
-pub lacks_added : {A : Type 0} (f : Fulfilment A) (roots : List ℕ) (ps : List Pair) (vs ws : List Support) (old new : List known.Lack) → ws ≡ vs → AreBlockLacks f roots ps vs → AreOfBlock ps ws old new → AreLacks f roots old
-    → AreLacks f roots new
-lacks_added f roots ps vs ws old new same lacks of w k h = elim (of k h) [
-  | inl j ↦ w k j
-  | inr (j, found, e) ↦ subst (IsLack f roots k.pair) (ap (λ xs. slice_index_or xs j no_support) (sym same) ∙ e) (lacks.each j k.pair found)
-]
+-- a pair of a block is one of all
+pub among_part : (ps : List Pair) (from n : ℕ) (p : Pair) → Has (take n (drop from ps)) p → Has ps p
+among_part ps from n p h = dropped ps from (taken (drop from ps) n h)
+  where
+    taken : (qs : List Pair) (m : ℕ) → Has (take m qs) p → Has qs p
+    taken qs zero h = absurd h
+    taken [] (suc m) h = absurd h
+    taken (q ∷ qs) (suc m) (inl e) = inl e
+    taken (q ∷ qs) (suc m) (inr k) = inr (taken qs m k)
 
--- what is known of a pair
-pub known_lack : {A : Type 0} (f : Fulfilment A) (roots : List ℕ) (ks : List known.Lack) (p : Pair) (v : Support) → IsKnown ks p v → AreLacks f roots ks → IsLack f roots p v
-known_lack f roots ks p v (k, h, e, g) w = subst (IsLack f roots p) g (subst (λ q. IsLack f roots q k.asked) e (w k h))
+    dropped : (qs : List Pair) (m : ℕ) → Has (drop m qs) p → Has qs p
+    dropped qs zero h = h
+    dropped [] (suc m) h = h
+    dropped (q ∷ qs) (suc m) h = inr (dropped qs m h)
+
+-- a block more
+pub spares_added : {A : Type 0} (f : Fulfilment A) (roots : List ℕ) (all ps : List Pair) (vs ws : List Support) (old new : List Spare) → ((p : Pair) → Has ps p → Has all p) → ws ≡ vs → AreBlockLacks f roots ps vs
+    → AreOfBlock ps ws old new → AreSpares f roots all old → AreSpares f roots all new
+spares_added f roots all ps vs ws old new among same lacks of w s h = elim (of s h) [
+  | inl j ↦ w s j
+  | inr b ↦ record {
+    there = among s.pair (slice_get_has ps b.index s.pair b.there);
+    size = b.size;
+    lack = subst (IsLack f roots s.pair) (ap (λ xs. slice_index_or xs b.index no_support) (sym same) ∙ b.lacks) (lacks.each b.index s.pair b.there);
+  }
+]

@@ -31,7 +31,7 @@ use Rattle.ltl_alt.proofs.NeedsLaws.{same_or_other}
 
 -- ---- one pair
 
-letter_names : (ls : List Literal) → letter_of ls ≡ names_in true ls
+pub letter_names : (ls : List Literal) → letter_of ls ≡ names_in true ls
 letter_names [] = refl
 letter_names (l ∷ ls) = at l.positive (letter_names ls)
   where
@@ -40,7 +40,7 @@ letter_names (l ∷ ls) = at l.positive (letter_names ls)
     at true e = ap (λ ns. l.proposition ∷ ns) e
     at false e = e
 
-forbidden_names : (ls : List Literal) → forbidden_of ls ≡ names_in false ls
+pub forbidden_names : (ls : List Literal) → forbidden_of ls ≡ names_in false ls
 forbidden_names [] = refl
 forbidden_names (l ∷ ls) = at l.positive (forbidden_names ls)
   where

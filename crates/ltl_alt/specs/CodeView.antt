@@ -1,10 +1,10 @@
 -- What pairs lack to fulfil until rows, by the three-valued codes of steps.
-use Rattle.std.specs.Prelude.{◌≡◌, ◌≢◌, ◌⊎◌, ℕ, ◌<◌, ◌≤◌, not, ◌&&◌, false, if◌then◌else◌, List, [], ◌∷◌, length, map, slice_get, slice_index_or, slice_set, true, Some}
+use Rattle.std.specs.Prelude.{◌≡◌, ◌≢◌, ◌⊎◌, ℕ, ◌<◌, ◌≤◌, not, ◌&&◌, false, if◌then◌else◌, List, [], ◌∷◌, length, map, slice_get, slice_index_or, slice_set, Some}
 use Rattle.std.specs.Ordering.{nat_cmp}
-use Rattle.ltl_spec.specs.Collections.Sets.{Has, IsRising, has, union}
+use Rattle.ltl_spec.specs.Collections.Sets.{Has, has, union}
 use Rattle.ltl_spec.specs.Transitions.Cubes.{literal_cmp, opposite}
-use Rattle.ltl_spec.specs.Transitions.Pairs.{Pair, pair_cmp}
-use Rattle.ltl_spec.proofs.Transitions.IndependenceTests.{Support, Covers, IsWithinSupport, no_support, support_of, of_sign, shares_some}
+use Rattle.ltl_spec.specs.Transitions.Pairs.{Pair}
+use Rattle.ltl_spec.proofs.Transitions.IndependenceTests.{Support, Covers, IsWithinSupport, no_support, of_sign, shares_some}
 use Rattle.ltl_spec.proofs.Transitions.AskedSteps.{AreAskedFrom, AreCodes}
 use Rattle.ltl_spec.proofs.Transitions.Fulfilment.{Coming, anything, code, leaf_code}
 use Rattle.ltl_spec.proofs.Transitions.Steps as steps
@@ -12,9 +12,6 @@ use Rattle.ltl_spec.proofs.Transitions.Steps.{AreAsked, step_code, tests_of}
 use Rattle.ltl_alt.specs.declared.codes.Code as columns
 use Rattle.ltl_alt.specs.declared.fulfilment.Fulfilment.{Fulfilment}
 use Rattle.ltl_alt.specs.declared.fulfilment.UntilTest.{UntilTest}
-use Rattle.ltl_alt.specs.declared.lacks.Lack as known
-use Rattle.ltl_alt.specs.declared.prune.Measured as made
-use Rattle.ltl_alt.specs.StandIns.{asks_less, pair_of}
 use Rattle.ltl_alt.specs.Tests.{AreEarlier, AreLeaves, steps_of}
 
 -- the literals and rows that a join can add to a pair: no literal that it contradicts
@@ -131,39 +128,3 @@ IsUntouched ls ps k = (a : Support) × Covers a ps × (shares_some (slice_index_
 -- the tests of all until rows but these depend on nothing that the pairs need
 abbrev pub AreOpenSteps : List UntilTest → List Support → List Pair → List ℕ → Type 0
 AreOpenSteps us ls ps roots = (i : ℕ) (u : UntilTest) → slice_get us i ≡ Some u → Has roots u.step ⊎ IsUntouched ls ps u.step
-
--- what a pair lacks is known
-abbrev pub IsKnown : List known.Lack → Pair → Support → Type 0
-IsKnown ks p v = (k : known.Lack) × Has ks k × (k.pair ≡ p) × (k.asked ≡ v)
-
--- each entry has what its pair lacks
-abbrev pub AreLacks : {A : Type 0} → Fulfilment A → List ℕ → List known.Lack → Type 0
-AreLacks f roots ks = (k : known.Lack) → Has ks k → IsLack f roots k.pair k.asked
-
--- an entry for a pair of a block, of its support
-abbrev pub IsOfBlock : List Pair → List Support → known.Lack → Type 0
-IsOfBlock ps vs k = (j : ℕ) × (slice_get ps j ≡ Some k.pair) × (slice_index_or vs j no_support ≡ k.asked)
-
--- each new entry is one of these
-abbrev pub AreOfBlock : List Pair → List Support → List known.Lack → List known.Lack → Type 0
-AreOfBlock ps vs old new = (k : known.Lack) → Has new k → Has old k ⊎ IsOfBlock ps vs k
-
--- a pair that may replace one that it is within: it is smaller, and lacks nothing that the other one needs
-pub record IsSpare (ks : List known.Lack) (m n : made.Measured) : Type 0 where
-  pub size : m.size < n.size
-  pub lacking : Support
-  pub lack : IsKnown ks m.pair lacking
-  pub nothing : shares_some lacking (support_of n.pair) ≡ false
-
--- one of all may replace n
-pub record HasSpare (ks : List known.Lack) (all : List made.Measured) (n : made.Measured) : Type 0 where
-  pub other : made.Measured
-  pub there : Has all other
-  pub within : asks_less other n ≡ true
-  pub spare : IsSpare ks other n
-
--- these are left of a set of pairs: each other one may be replaced by one of all
-pub record AreLeft (ks : List known.Lack) (all ms : List made.Measured) (qs : List Pair) : Type 0 where
-  pub from : (q : Pair) → Has qs q → Has (map pair_of ms) q
-  pub left : (m : made.Measured) → Has ms m → Has qs m.pair ⊎ HasSpare ks all m
-  pub rising : IsRising pair_cmp qs

@@ -1,16 +1,17 @@
 -- Pairs that may replace others, and pruned lists.
-use Rattle.std.specs.Prelude.{◌≡◌, Bool, true, false, List, flat_map, filter_map}
-use Rattle.std.specs.List.{filter}
-use Rattle.std.specs.Ordering.{nat_cmp}
-use Rattle.ltl_spec.specs.Collections.Sets.{Has, IsRising, has}
-use Rattle.ltl_spec.specs.Transitions.Cubes.{literal_cmp}
+use Rattle.std.specs.Prelude.{◌≡◌, ℕ, ◌+◌, nat_lt, Bool, true, false, ◌&&◌, ◌⊎◌, Some, List, length, flat_map, filter_map, slice_get, slice_index_or}
+use Rattle.std.specs.List.{list_any}
+use Rattle.ltl_spec.specs.Collections.Sets.{Has, IsRising}
 use Rattle.ltl_spec.specs.Transitions.Pairs.{Pair, pair_cmp, join_pair}
 use Rattle.ltl_spec.specs.Transitions.RowTransitions.{Table}
-use Rattle.ltl_spec.specs.Transitions.Pruning.{is_within, IsSafeToDrop}
+use Rattle.ltl_spec.specs.Transitions.Pruning.{IsSafeToDrop}
+use Rattle.ltl_spec.proofs.Transitions.IndependenceTests.{Support, no_support}
+use Rattle.ltl_alt.specs.CodeView.{IsLack}
 use Rattle.ltl_alt.specs.declared.fulfilment.Fulfilment.{Fulfilment}
-use Rattle.ltl_alt.specs.declared.prune.Measured as made
+use Rattle.ltl_alt.specs.declared.lacks.Spare.{Spare}
 use Rattle.ltl_alt.specs.declared.rule.Rule.{Rule}
 use Rattle.ltl_alt.specs.declared.rule.Rule.TheVariants as rule
+use Rattle.ltl_alt.specs.Elements.{may_replace}
 use Rattle.ltl_alt.specs.Tests.{AreTests}
 
 -- qs are some of ps, and each of ps has one among qs that replaces it
@@ -46,22 +47,38 @@ abbrev pub rule_of : Bool → Rule
 rule_of true = rule.Duplicate
 rule_of false = rule.SafelySubsumed
 
--- the pair that was measured
-abbrev pub pair_of : made.Measured → Pair
-pair_of m = m.pair
-
 -- the joins of two lists, grouped by the pair of the right one
 abbrev pub joins_by_right : List Pair → List Pair → List Pair
 joins_by_right ps qs = flat_map (λ q. filter_map (λ p. join_pair p q) ps) qs
 
--- what both pairs need
-abbrev pub common_pair : Pair → Pair → Pair
-common_pair t u = record { cube = filter (λ l. has literal_cmp l u.cube) t.cube; targets = filter (λ k. has nat_cmp k u.targets) t.targets }
+-- the number of a pair's literals and targets
+abbrev pub size_of : Pair → ℕ
+size_of p = length p.cube + length p.targets
 
--- m needs no more than n
-abbrev pub asks_less : made.Measured → made.Measured → Bool
-asks_less m n = is_within m.pair n.pair
+-- one of these is smaller than the pair, and may replace it
+abbrev pub is_replaced : List Spare → Pair → Bool
+is_replaced ss p = list_any (λ s. nat_lt s.size (size_of p) && may_replace s p) ss
 
--- the pair of each of all is one of ms, with the same size
-abbrev pub AreAmong : List made.Measured → List made.Measured → Type 0
-AreAmong ms all = (m : made.Measured) → Has all m → (n : made.Measured) × Has ms n × (n.pair ≡ m.pair) × (n.size ≡ m.size)
+-- one of these pairs, with its size and what it lacks
+pub record IsSpare {A : Type 0} (f : Fulfilment A) (roots : List ℕ) (ps : List Pair) (s : Spare) : Type 0 where
+  pub there : Has ps s.pair
+  pub size : s.size ≡ size_of s.pair
+  pub lack : IsLack f roots s.pair s.lacks
+
+abbrev pub AreSpares : {A : Type 0} → Fulfilment A → List ℕ → List Pair → List Spare → Type 0
+AreSpares f roots ps ss = (s : Spare) → Has ss s → IsSpare f roots ps s
+
+-- a pair of a block, with its size and its support
+pub record IsOfBlock (ps : List Pair) (vs : List Support) (s : Spare) : Type 0 where
+  pub index : ℕ
+  pub there : slice_get ps index ≡ Some s.pair
+  pub size : s.size ≡ size_of s.pair
+  pub lacks : slice_index_or vs index no_support ≡ s.lacks
+
+-- each new one is of the block
+abbrev pub AreOfBlock : List Pair → List Support → List Spare → List Spare → Type 0
+AreOfBlock ps vs old new = (s : Spare) → Has new s → Has old s ⊎ IsOfBlock ps vs s
+
+-- these are some of the pairs
+abbrev pub AreAmong : List Pair → List Pair → Type 0
+AreAmong ps qs = (q : Pair) → Has qs q → Has ps q

@@ -1,17 +1,18 @@
 //! Three-valued evaluation of the fulfilment tests for a block of pairs, and what each of them lacks: a pair passes a step, can still pass it after a join, or
 //! never passes it.
 
-ghost use Rattle.std.specs.Prelude.{◌≡◌, ℕ, ◌<◌, ◌≤◌, ◌==◌, ◌||◌, min, max, true, length, slice_index_or, IfOk, OnOk};
+ghost use Rattle.std.specs.Prelude.{◌≡◌, ℕ, ◌<◌, ◌≤◌, ◌==◌, ◌||◌, List, min, max, length, slice_index_or, IfOk, OnOk};
 ghost use Rattle.std.specs.Ordering.{nat_cmp};
 ghost use Rattle.ltl_sets.specs.Literals.{literal_of};
 ghost use Rattle.ltl_spec.specs.Collections.Sets.{has};
 ghost use Rattle.ltl_spec.specs.Transitions.Cubes as cubes;
-ghost use Rattle.ltl_spec.proofs.Transitions.IndependenceTests.{Covers, IsWithinSupport};
+ghost use Rattle.ltl_spec.specs.Transitions.Pairs as spec_pairs;
+ghost use Rattle.ltl_spec.proofs.Transitions.IndependenceTests.{IsWithinSupport};
 ghost use Rattle.ltl_alt.specs.CodeView.{AreAskedBelow, AreBlockCodes, AreBlockLacks, AreMore, IsLeafWithin, IsStepCode, code_of, never_passed, operands_wanted, wanted_more};
-ghost use Rattle.ltl_alt.specs.Columns.{IsColumn};
+ghost use Rattle.ltl_alt.specs.Columns.{IsNeeding};
 ghost use Rattle.ltl_alt.specs.Tests.{step_of, steps_of};
 
-use crate::columns::{column_at, everyone, leading, reading};
+use crate::columns::{Needing, column_at};
 use crate::fulfilment::Fulfilment;
 use crate::pair::Pair;
 use crate::program::Step;
@@ -99,27 +100,23 @@ fn opposite(literal: Literal) -> Literal
     }
 }
 
-/// The codes of a step for a block, from those of earlier steps; `all` is the whole block. A join can add each row, and each literal that a pair doesn't
-/// contradict.
-fn step_code(block: &[Pair], all: &RowSet, support: &Support, codes: &[Code], step: Step) -> Code
-    requires few { length block.now ≤ RowSet.LIMIT }
-    requires all { IsColumn (λ p. true) block.now all.now }
-    requires support { Covers support.now block.now }
-    ensures { IsStepCode block.now codes.now (step_of step) result }
+/// The codes of a step for a block, from those of earlier steps. A join can add each row, and each literal that a pair doesn't contradict.
+fn step_code<A: Allocator>(needing: &Needing<'_, A>, codes: &[Code], step: Step) -> Code
+    ensures { (ps : List spec_pairs.Pair) → IsNeeding ps needing.now → IsStepCode ps codes.now (step_of step) result }
 {
     match step {
         Step::Always => Code {
-            passing: *all,
+            passing: needing.all,
             possible: RowSet::empty(),
         },
         Step::Never => Code::never(),
         Step::Reads(literal) => Code {
-            passing: reading(block, support, literal),
-            possible: all.without(&reading(block, support, opposite(literal))),
+            passing: needing.reading(literal),
+            possible: needing.all.without(&needing.reading(opposite(literal))),
         },
         Step::Leads(place) => Code {
-            passing: leading(block, support, place),
-            possible: *all,
+            passing: needing.leading(place),
+            possible: needing.all,
         },
         Step::Both(i, j) => code_at(codes, i).both(&code_at(codes, j)),
         Step::Either(i, j) => code_at(codes, i).either(&code_at(codes, j)),
@@ -129,20 +126,15 @@ fn step_code(block: &[Pair], all: &RowSet, support: &Support, codes: &[Code], st
 /// Computes the codes of all steps for a block, in place of the old contents of `codes`.
 fn put_codes<A: Allocator>(
     fulfilment: &Fulfilment<'_, A>,
-    block: &[Pair],
-    all: &RowSet,
-    support: &Support,
+    needing: &Needing<'_, A>,
     codes: &mut Vec<Code, &A>,
 ) -> Result<(), AllocError>
-    requires few { length block.now ≤ RowSet.LIMIT }
-    requires all { IsColumn (λ p. true) block.now all.now }
-    requires support { Covers support.now block.now }
-    ensures { OnOk result (AreBlockCodes (steps_of fulfilment.now.steps.items) block.now codes.new.items) }
+    ensures { OnOk result ((ps : List spec_pairs.Pair) → IsNeeding ps needing.now → AreBlockCodes (steps_of fulfilment.now.steps.items) ps codes.new.items) }
 {
     codes.clear();
     'steps: for k in 0..fulfilment.steps.len() {
         let step = fulfilment.steps[k];
-        let code = step_code(block, all, support, codes.as_slice(), step);
+        let code = step_code(needing, codes.as_slice(), step);
         codes.push(code)?;
     }
     Ok(())
@@ -240,12 +232,12 @@ pub(crate) fn block_lacks<'a, A: Allocator>(
     if roots.is_empty() {
         return Ok(lacks);
     }
-    let all = everyone(block);
-    put_codes(fulfilment, block, &all, &Support::of(block), codes)?;
+    let needing = Needing::of(alloc, block)?;
+    put_codes(fulfilment, &needing, codes)?;
     let mut wanted = Vec::new(alloc);
     wanted.resize(fulfilment.steps.len(), RowSet::empty())?;
     'roots: for k in 0..roots.len() {
-        want(&mut wanted, roots[k], &all);
+        want(&mut wanted, roots[k], &needing.all);
     }
     want_below(fulfilment, codes.as_slice(), &mut wanted, &mut lacks);
     Ok(lacks)

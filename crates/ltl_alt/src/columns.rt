@@ -1,19 +1,20 @@
 //! Bit-parallel evaluation of the fulfilment tests: the pairs of a block are evaluated at once, and the column of a step is the set of those that pass it.
 
-ghost use Rattle.std.specs.Prelude.{◌≡◌, ◌≤◌, [], true, length, slice_index_or, OnOk};
+ghost use Rattle.std.specs.Prelude.{◌≡◌, ◌≤◌, [], List, true, length, map, slice_index_or, IfOk, OnOk};
 ghost use Rattle.std.specs.Ordering.{nat_cmp};
 ghost use Rattle.ltl_sets.specs.Literals.{literal_of};
+ghost use Rattle.ltl_sets.specs.Words.{forbidden_of, letter_of};
 ghost use Rattle.ltl_spec.specs.Collections.Sets.{has};
 ghost use Rattle.ltl_spec.specs.Transitions.Cubes.{literal_cmp};
-ghost use Rattle.ltl_spec.proofs.Transitions.IndependenceTests.{Covers};
-ghost use Rattle.ltl_alt.specs.Columns.{AreColumns, IsColumn, IsStepColumn};
+ghost use Rattle.ltl_spec.specs.Transitions.Pairs as spec_pairs;
+ghost use Rattle.least.specs.Columns as by_number;
+ghost use Rattle.ltl_alt.specs.Columns.{AreColumns, IsColumn, IsNeeding, IsStepColumn};
 ghost use Rattle.ltl_alt.specs.Tests.{step_of, steps_of};
 
 use crate::fulfilment::Fulfilment;
 use crate::pair::Pair;
-use crate::place::put_if;
 use crate::program::Step;
-use crate::support::Support;
+use least::Columns;
 use ltl_sets::{Literal, RowSet};
 use std::alloc::{AllocError, Allocator};
 
@@ -33,7 +34,7 @@ pub(crate) fn column_at(columns: &[RowSet], number: usize) -> RowSet
 }
 
 /// All pairs of a block.
-pub(crate) fn everyone(block: &[Pair]) -> RowSet
+fn everyone(block: &[Pair]) -> RowSet
     requires few { length block.now ≤ RowSet.LIMIT }
     ensures { IsColumn (λ p. true) block.now result }
 {
@@ -44,51 +45,99 @@ pub(crate) fn everyone(block: &[Pair]) -> RowSet
     column
 }
 
-/// The pairs of a block that need the literal.
-pub(crate) fn reading(block: &[Pair], support: &Support, literal: Literal) -> RowSet
-    requires few { length block.now ≤ RowSet.LIMIT }
-    requires support { Covers support.now block.now }
-    ensures { IsColumn (λ p. has literal_cmp (literal_of literal) p.cube) block.now result }
+/// The propositions of the positive literals of each pair.
+fn letters<'a, A: Allocator>(alloc: &'a A, block: &[Pair]) -> Result<Vec<RowSet, &'a A>, AllocError>
+    ensures { IfOk result (λ v. v.items ≡ map (λ p. letter_of p.cube) block.now) }
 {
-    let mut column = RowSet::empty();
-    if !support.reads(literal) {
-        return column;
+    let mut sets = Vec::with_capacity(alloc, block.len())?;
+    'pairs: for pair in block {
+        sets.push(pair.cube.letter())?;
     }
-    'pairs: for j in 0..block.len() {
-        let pair = &block[j];
-        put_if(&mut column, j, pair.reads(literal));
-    }
-    column
+    Ok(sets)
 }
 
-/// The pairs of a block that have the row at this place as a target.
-pub(crate) fn leading(block: &[Pair], support: &Support, place: usize) -> RowSet
-    requires few { length block.now ≤ RowSet.LIMIT }
-    requires support { Covers support.now block.now }
-    ensures { IsColumn (λ p. has nat_cmp place p.targets) block.now result }
+/// The propositions of the negative literals of each pair.
+fn forbidden<'a, A: Allocator>(
+    alloc: &'a A,
+    block: &[Pair],
+) -> Result<Vec<RowSet, &'a A>, AllocError>
+    ensures { IfOk result (λ v. v.items ≡ map (λ p. forbidden_of p.cube) block.now) }
 {
-    let mut column = RowSet::empty();
-    if !support.targets().holds(place) {
-        return column;
+    let mut sets = Vec::with_capacity(alloc, block.len())?;
+    'pairs: for pair in block {
+        sets.push(pair.cube.forbidden())?;
     }
-    'pairs: for j in 0..block.len() {
-        let pair = &block[j];
-        put_if(&mut column, j, pair.targets.holds(place));
+    Ok(sets)
+}
+
+/// The places of the targets of each pair.
+fn targets<'a, A: Allocator>(alloc: &'a A, block: &[Pair]) -> Result<Vec<RowSet, &'a A>, AllocError>
+    ensures { IfOk result (λ v. v.items ≡ map (λ p. p.targets) block.now) }
+{
+    let mut sets = Vec::with_capacity(alloc, block.len())?;
+    'pairs: for pair in block {
+        sets.push(pair.targets)?;
     }
-    column
+    Ok(sets)
+}
+
+/// The pairs of a block, and those of them that need a literal or have a row as a target, for each literal and each row.
+#[derive(Drop)]
+pub(crate) struct Needing<'a, A: Allocator> {
+    pub(crate) all: RowSet,
+    positive: Columns<'a, A>,
+    negative: Columns<'a, A>,
+    targets: Columns<'a, A>,
+}
+
+impl<'a, A: Allocator> Needing<'a, A> {
+    /// The pairs of this block by what they need.
+    pub(crate) fn of(alloc: &'a A, block: &[Pair]) -> Result<Self, AllocError>
+        requires few { length block.now ≤ RowSet.LIMIT }
+        ensures { IfOk result (IsNeeding block.now) }
+    {
+        let positive = letters(alloc, block)?;
+        let negative = forbidden(alloc, block)?;
+        let targets = targets(alloc, block)?;
+        Ok(Needing {
+            all: everyone(block),
+            positive: Columns::of(alloc, positive.as_slice())?,
+            negative: Columns::of(alloc, negative.as_slice())?,
+            targets: Columns::of(alloc, targets.as_slice())?,
+        })
+    }
+
+    /// The pairs that need the literal.
+    #[inline(always)]
+    pub(crate) fn reading(&self, literal: Literal) -> RowSet
+        ensures { (ps : List spec_pairs.Pair) → IsNeeding ps self.now → IsColumn (λ p. has literal_cmp (literal_of literal) p.cube) ps result }
+    {
+        if literal.positive {
+            self.positive.column(literal.proposition)
+        } else {
+            self.negative.column(literal.proposition)
+        }
+    }
+
+    /// The pairs that have the row at this place as a target.
+    #[inline(always)]
+    pub(crate) fn leading(&self, place: usize) -> RowSet
+        ensures column { result ≡ by_number.column_at self.now.targets place }
+        ensures pairs { (ps : List spec_pairs.Pair) → IsNeeding ps self.now → IsColumn (λ p. has nat_cmp place p.targets) ps result }
+    {
+        self.targets.column(place)
+    }
 }
 
 /// The column of a step, from the columns of earlier steps.
-fn step_column(block: &[Pair], support: &Support, columns: &[RowSet], step: Step) -> RowSet
-    requires few { length block.now ≤ RowSet.LIMIT }
-    requires support { Covers support.now block.now }
-    ensures { IsStepColumn block.now columns.now (step_of step) result }
+fn step_column<A: Allocator>(needing: &Needing<'_, A>, columns: &[RowSet], step: Step) -> RowSet
+    ensures { (ps : List spec_pairs.Pair) → IsNeeding ps needing.now → IsStepColumn ps columns.now (step_of step) result }
 {
     match step {
-        Step::Always => everyone(block),
+        Step::Always => needing.all,
         Step::Never => RowSet::empty(),
-        Step::Reads(literal) => reading(block, support, literal),
-        Step::Leads(place) => leading(block, support, place),
+        Step::Reads(literal) => needing.reading(literal),
+        Step::Leads(place) => needing.leading(place),
         Step::Both(i, j) => column_at(columns, i).common(&column_at(columns, j)),
         Step::Either(i, j) => column_at(columns, i).union(&column_at(columns, j)),
     }
@@ -97,18 +146,15 @@ fn step_column(block: &[Pair], support: &Support, columns: &[RowSet], step: Step
 /// Computes the columns of all steps, in place of the old contents of `columns`.
 pub(crate) fn put_columns<A: Allocator>(
     fulfilment: &Fulfilment<'_, A>,
-    block: &[Pair],
-    support: &Support,
+    needing: &Needing<'_, A>,
     columns: &mut Vec<RowSet, &A>,
 ) -> Result<(), AllocError>
-    requires few { length block.now ≤ RowSet.LIMIT }
-    requires support { Covers support.now block.now }
-    ensures { OnOk result (AreColumns (steps_of fulfilment.now.steps.items) block.now columns.new.items) }
+    ensures { OnOk result ((ps : List spec_pairs.Pair) → IsNeeding ps needing.now → AreColumns (steps_of fulfilment.now.steps.items) ps columns.new.items) }
 {
     columns.clear();
     'steps: for k in 0..fulfilment.steps.len() {
         let step = fulfilment.steps[k];
-        let column = step_column(block, support, columns.as_slice(), step);
+        let column = step_column(needing, columns.as_slice(), step);
         columns.push(column)?;
     }
     Ok(())

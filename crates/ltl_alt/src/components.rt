@@ -1,4 +1,4 @@
-//! The pruned joins of a component's conjuncts, by way of the memo table.
+//! The pruned joins of a component's conjuncts, which the memo table keeps.
 
 ghost use Rattle.std.specs.Prelude.{◌≡◌, ℕ, ◌<◌, ◌∷◌, [], fold, length, IfOk, IfSome, OnOk};
 ghost use Rattle.ltl_spec.specs.Collections.Sets.{Has};
@@ -63,11 +63,11 @@ fn with_conjunct<'a, A: Allocator>(
 {
     let right = basis.conjuncts.pairs(conjunct);
     let joined = join(basis.alloc, pairs, right)?;
-    let pruned = prune(basis.alloc, &basis.pruning, pairs, right, joined)?;
+    let pruned = prune(basis.alloc, &basis.pruning, joined)?;
     Ok(pruned)
 }
 
-/// The pruned join of all conjuncts of a component. Nothing of it is remembered.
+/// The pruned join of all conjuncts of a component. It isn't put into the memo table.
 pub(crate) fn component_pairs<'a, A: Allocator>(
     basis: &Basis<'_, '_, '_, 'a, A>,
     component: &RowSet,
@@ -102,8 +102,8 @@ impl<'a, A: Allocator> Components<'a, A> {
         })
     }
 
-    /// The last join of a component: the number of the pruned join of all its conjuncts but the last one, and the number of the last one's list. `None` if
-    /// there is no room for one of the joins before it.
+    /// The operands of a component's last join, by their numbers. The left one is the pruned join of all conjuncts but the last one. The right one is the
+    /// list of the last conjunct. The result is `None` if there is no room for one of the joins before the last one.
     pub(crate) fn last(
         &mut self,
         basis: &Basis<'_, '_, '_, 'a, A>,

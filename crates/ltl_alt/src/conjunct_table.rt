@@ -33,17 +33,17 @@ use std::alloc::{AllocError, Allocator};
 /// The conjuncts of elementary rows, numbered. The pairs of a row are the joins of one pair of each of its conjuncts.
 #[derive(Drop)]
 pub(crate) struct ConjunctTable<'a, A: Allocator> {
-    /// For each conjunct the place of its row.
+    /// For each conjunct, the place of its row.
     pub(crate) owners: Vec<usize, &'a A>,
     pub(crate) lists: Vec<PairSet<'a, A>, &'a A>,
     pub(crate) dependencies: Vec<Dependencies, &'a A>,
-    /// For each conjunct the conjuncts that may depend on it, itself among them.
+    /// For each conjunct, the conjuncts that may depend on it, itself among them.
     pub(crate) links: Vec<RowSet, &'a A>,
     /// The places of the rows that have been split into conjuncts.
     pub(crate) made: RowSet,
 }
 
-/// Links a new conjunct with each earlier one of which it isn't independent, and with itself. Returns the links of the new one.
+/// Links a new conjunct with itself, and with each earlier conjunct that it isn't independent of. Returns the links of the new one.
 fn link<A: Allocator>(
     links: &mut Vec<RowSet, &A>,
     dependencies: &[Dependencies],
@@ -140,7 +140,7 @@ impl<'a, A: Allocator> ConjunctTable<'a, A> {
         Ok(())
     }
 
-    /// Splits the row at a place into at most `most` conjuncts, and appends these.
+    /// Splits the row at a place into at most `most` conjuncts, and appends them.
     fn add(
         &mut self,
         alloc: &'a A,
@@ -166,8 +166,8 @@ impl<'a, A: Allocator> ConjunctTable<'a, A> {
         Ok(())
     }
 
-    /// Splits all elementary rows of a table into conjuncts. A table has at most `RowSet::LIMIT` conjuncts. Each row gets at least one; of the numbers beyond
-    /// that, each row takes what it can use before the next row does.
+    /// Splits all elementary rows of a table into conjuncts. A table has at most `RowSet::LIMIT` conjuncts. Each row gets at least
+    /// one. A row takes as many more as it can use, as long as one is left for each later row.
     pub(crate) fn of(
         alloc: &'a A,
         table: &Table<'_, A>,
@@ -278,8 +278,8 @@ fn is_release<A: Allocator>(table: &Table<'_, A>, place: usize) -> bool {
     }
 }
 
-/// The next of these places whose row is to be split: one of a release row if there is one, else the first place. Conjuncts are joined in the order of their
-/// numbers. Release rows stay in the sets of rows that follow, so their joins come first and are made once.
+/// The one of these places whose row is split next: the first place of a release row, or the first place if there is no release row. Conjuncts are joined
+/// in the order of their numbers. Release rows stay in the sets of rows that follow, so their joins come first and are made once.
 fn next_row<A: Allocator>(table: &Table<'_, A>, rest: &RowSet) -> Option<usize>
     ensures { MatchOption result (rest.now ≡ []) (λ i. Has rest.now i) }
 {
@@ -329,7 +329,7 @@ fn released_pairs<'a, A: Allocator>(
     rows.prepare(alloc, table, pruning, left)?;
     let later = [Pair::later(RowSet::single(place(table, row)))];
     let all = both(alloc, rows.pairs(left), &later)?;
-    let pairs = prune(alloc, pruning, &[], &[], all)?;
+    let pairs = prune(alloc, pruning, all)?;
     Ok(PairSet { pairs })
 }
 

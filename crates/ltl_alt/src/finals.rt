@@ -1,11 +1,12 @@
 //! The memo table of the transitions of components.
 
 ghost use Rattle.std.specs.Prelude.{◌≡◌, ℕ, ◌<◌, [], true, Bool, map, length, IsSome, IfOk, IfSome, OnOk};
-ghost use Rattle.ltl_spec.specs.Collections.Sets.{Has, IsRising};
-ghost use Rattle.ltl_spec.specs.Transitions.Pairs as spec_pairs;
+ghost use Rattle.ltl_spec.specs.Collections.Lists.{HasNoRepeats};
+ghost use Rattle.ltl_spec.specs.Collections.Sets.{Has};
 ghost use Rattle.ltl_spec.specs.Transitions.RowTransitions as spec;
 ghost use Rattle.ltl_spec.proofs.Transitions.ConjunctJoins.{join_of};
 ghost use Rattle.ltl_spec.proofs.Transitions.ProductTransitions.{transitions_of};
+ghost use Rattle.ltl_spec.proofs.Transitions.SortedTransitions.{transitions_as_listed};
 ghost use Rattle.ltl_alt.specs.BasisView.{IsBasis};
 ghost use Rattle.ltl_alt.specs.FinalView.{HasFinals, IsFactorOf, IsFinal, IsListOf, IsLonger, IsWithin, list_of, made_of};
 ghost use Rattle.ltl_alt.specs.ComponentView.{HasComponents};
@@ -19,6 +20,7 @@ use crate::implied::unimplied;
 use crate::marks::marked;
 use crate::memo::JoinKey;
 use crate::pair::Pair;
+use crate::product::sort;
 use crate::transition::Transition;
 use crate::transition_list::TransitionList;
 use indexmap::IndexMap;
@@ -50,21 +52,35 @@ pub(crate) enum Factor<'a, A: Allocator> {
     Made(TransitionList<'a, A>),
 }
 
-/// The transitions of pairs: each with its marks, and without those that another one implies unless these are to be kept.
+/// The transitions of pairs, in the order of the pairs: each with its marks, and without those that another one implies unless these are to be kept.
+fn listed_transitions<'a, A: Allocator>(
+    basis: &Basis<'_, '_, '_, 'a, A>,
+    pairs: &[Pair],
+) -> Result<Vec<Transition, &'a A>, AllocError>
+    requires basis { IsBasis basis.now }
+    requires sets { AllSets (map (spec.with_marks (table_at basis.now.table.now)) pairs.now) }
+    ensures { IfOk result (λ v. v.items ≡ transitions_as_listed (table_at basis.now.table.now) basis.now.keep_implied pairs.now) }
+{
+    let all = marked(basis.alloc, basis.table, basis.pruning.fulfilment, pairs)?;
+    if basis.keep_implied {
+        return Ok(all);
+    }
+    let transitions = unimplied(basis.alloc, all)?;
+    Ok(transitions)
+}
+
+/// The transitions of different pairs. They are sorted after implied ones are removed, since most of them are implied.
 fn pair_transitions<'a, A: Allocator>(
     basis: &Basis<'_, '_, '_, 'a, A>,
     pairs: &[Pair],
 ) -> Result<TransitionList<'a, A>, AllocError>
     requires basis { IsBasis basis.now }
     requires sets { AllSets (map (spec.with_marks (table_at basis.now.table.now)) pairs.now) }
-    requires rising { IsRising spec_pairs.pair_cmp pairs.now }
+    requires once { HasNoRepeats pairs.now }
     ensures { IfOk result (λ l. l ≡ transitions_of (table_at basis.now.table.now) basis.now.keep_implied pairs.now) }
 {
-    let all = marked(basis.alloc, basis.table, basis.pruning.fulfilment, pairs)?;
-    if basis.keep_implied {
-        return Ok(TransitionList { transitions: all });
-    }
-    let transitions = unimplied(basis.alloc, all)?;
+    let mut transitions = listed_transitions(basis, pairs)?;
+    sort(&mut transitions)?;
     Ok(TransitionList { transitions })
 }
 
@@ -126,7 +142,6 @@ impl<'a, A: Allocator> Finals<'a, A> {
         requires finals { HasFinals basis.now self.old }
         requires within { key.left < length self.old.components.memo.lists.keys × key.right < length self.old.components.memo.lists.keys }
         requires sets { AllSets (map (spec.with_marks (table_at basis.now.table.now)) (last_list self.old.components.memo.lists.keys key)) }
-        requires rising { IsRising spec_pairs.pair_cmp (last_list self.old.components.memo.lists.keys key) }
         ensures finals { OnOk result (HasFinals basis.now self.new) }
         ensures number { IfOk result (λ o. IfSome o (IsListOf
             (table_at basis.now.table.now) basis.now.keep_implied self.old.components.memo.lists.keys self.new.lists.keys key)) }

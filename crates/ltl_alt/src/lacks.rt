@@ -1,79 +1,127 @@
-//! What the pairs of a list lack to fulfil until rows.
+//! Pairs that may replace others, with what they lack to fulfil until rows.
 
-ghost use Rattle.std.specs.Prelude.{◌≡◌, length, slice_get, IfOk, IfSome, OnOk};
-ghost use Rattle.ltl_alt.specs.CodeView.{AreLacks, AreOfBlock, IsKnown};
+ghost use Rattle.std.specs.Prelude.{◌≡◌, length, IfOk, OnOk};
+ghost use Rattle.ltl_alt.specs.StandIns.{AreOfBlock, AreSpares, size_of};
 
 use crate::codes::block_lacks;
 use crate::columns::BLOCK;
 use crate::fulfilment::Fulfilment;
 use crate::pair::Pair;
-use crate::support::Support;
+use crate::support::{Support, needs};
+use least::{Below, Counting, Elements};
+use ltl_sets::RowSet;
 use std::alloc::{AllocError, Allocator};
 
-/// A pair, and the literals and rows that it lacks.
+/// A pair, the literals and rows that it lacks, and its size.
 #[derive(Clone, Copy)]
-pub(crate) struct Lack {
-    pub(crate) pair: Pair,
-    pub(crate) asked: Support,
+pub(crate) struct Spare {
+    pair: Pair,
+    lacks: Support,
+    size: usize,
 }
 
-/// Appends what each pair of a block lacks.
-fn put_lacks<A: Allocator>(
-    known: &mut Vec<Lack, &A>,
+impl Spare {
+    /// A pair that lacks these literals and rows.
+    #[inline(always)]
+    pub(crate) fn of(pair: &Pair, lacks: &Support) -> Spare
+        ensures { result ≡ record { pair = pair.now; lacks = lacks.now; size = size_of pair.now } }
+    {
+        Spare {
+            pair: *pair,
+            lacks: *lacks,
+            size: pair.size(),
+        }
+    }
+}
+
+/// A pair is below those that it may replace: it needs no more than they do, and lacks nothing that they need.
+impl Below for Spare {
+    ghost use Rattle.ltl_alt.specs.Elements.{may_replace, needed_too, not_lacked};
+
+    ghost below = { λ s t. may_replace s t.pair };
+
+    #[inline(always)]
+    fn is_below(&self, other: &Spare) -> bool {
+        self.pair.is_within(&other.pair) && !self.lacks.shares_some(&Support::by(&other.pair))
+    }
+
+    ghost needed = { λ s t k e. needed_too s t.pair k e };
+
+    ghost lacked = { λ s t k e. not_lacked s t.pair k e };
+}
+
+/// What a pair needs is what others must not lack.
+impl Elements for Spare {
+    ghost use Rattle.ltl_alt.specs.Elements.{is_lacked, needs_of};
+
+    ghost needs = { λ s. needs_of s.pair };
+
+    ghost asks = { λ s. needs_of s.pair };
+
+    ghost lacking = { is_lacked };
+
+    #[inline(always)]
+    fn needs(&self, kind: usize) -> RowSet {
+        needs(&self.pair.cube, &self.pair.targets, kind)
+    }
+
+    #[inline(always)]
+    fn asks(&self, kind: usize) -> RowSet {
+        needs(&self.pair.cube, &self.pair.targets, kind)
+    }
+
+    #[inline(always)]
+    fn lacks(&self, kind: usize, of: &RowSet) -> RowSet {
+        of.common(&self.lacks.part(kind))
+    }
+}
+
+/// Of the pairs that may replace another one, only smaller ones count.
+pub(crate) struct Smaller;
+
+impl Counting<Spare> for Smaller {
+    ghost use Rattle.std.specs.Prelude.{nat_lt};
+
+    ghost counts = { λ _ s t. nat_lt s.size t.size };
+
+    fn counts(&self, other: &Spare, item: &Spare) -> bool {
+        other.size < item.size
+    }
+}
+
+/// Appends the pairs of a block, with what each of them lacks.
+fn put_spares<A: Allocator>(
+    spares: &mut Vec<Spare, &A>,
     block: &[Pair],
     lacks: &[Support],
 ) -> Result<(), AllocError>
     requires { length lacks.now ≡ length block.now }
-    ensures { OnOk result (AreOfBlock block.now lacks.now known.old.items known.new.items) }
+    ensures { OnOk result (AreOfBlock block.now lacks.now spares.old.items spares.new.items) }
 {
     'pairs: for k in 0..block.len() {
-        known.push(Lack {
-            pair: block[k],
-            asked: lacks[k],
-        })?;
+        spares.push(Spare::of(&block[k], &lacks[k]))?;
     }
     Ok(())
 }
 
-/// What each of these pairs lacks of these steps, in the order of the pairs.
-pub(crate) fn lacks_of<'a, A: Allocator>(
+/// These pairs, with what each of them lacks of these steps, in the order of the pairs.
+pub(crate) fn spares_of<'a, A: Allocator>(
     alloc: &'a A,
     fulfilment: &Fulfilment<'_, A>,
     roots: &[usize],
     pairs: &[Pair],
-) -> Result<Vec<Lack, &'a A>, AllocError>
-    ensures { IfOk result (λ v. AreLacks fulfilment.now roots.now v.items) }
+) -> Result<Vec<Spare, &'a A>, AllocError>
+    ensures { IfOk result (λ v. AreSpares fulfilment.now roots.now pairs.now v.items) }
 {
-    let mut known = Vec::with_capacity(alloc, pairs.len())?;
+    let mut spares = Vec::with_capacity(alloc, pairs.len())?;
     let mut codes = Vec::new(alloc);
     let mut from = 0;
     'rounds: while from < pairs.len() {
         let end = pairs.len().min(from.saturating_add(BLOCK));
         let block = &pairs[from..end];
         let lacks = block_lacks(alloc, fulfilment, roots, block, &mut codes)?;
-        put_lacks(&mut known, block, lacks.as_slice())?;
+        put_spares(&mut spares, block, lacks.as_slice())?;
         from = end;
     }
-    Ok(known)
-}
-
-/// The entry with this number.
-#[inline(always)]
-fn lack_at(known: &[Lack], number: usize) -> Option<Lack>
-    ensures { result ≡ slice_get known.now number }
-{
-    known.get(number).copied()
-}
-
-/// What the pair with this number lacks, if it is known.
-#[inline(always)]
-pub(crate) fn lack_of(known: &[Lack], number: usize, pair: &Pair) -> Option<Support>
-    ensures { IfSome result (IsKnown known.now pair.now) }
-{
-    let lack = lack_at(known, number)?;
-    if lack.pair.is_same(pair) {
-        Some(lack.asked)
-    } else {
-        None
-    }
+    Ok(spares)
 }

@@ -1,12 +1,14 @@
 //! Joins and unions of lists of pairs.
 
 ghost use Rattle.std.specs.Prelude.{◌≡◌, ◌++◌, IfOk, OnOk, filter_map};
+ghost use Rattle.ltl_spec.specs.Collections.Lists.{HasNoRepeats};
 ghost use Rattle.ltl_spec.specs.Collections.Sets as spec_sets;
 ghost use Rattle.ltl_spec.specs.Transitions.Pairs as spec_pairs;
 ghost use Rattle.ltl_alt.specs.StandIns.{joins_by_right};
 
 use crate::pair::Pair;
 use crate::repeats::join_once;
+use ltl_automaton::sort_dedup;
 use std::alloc::{AllocError, Allocator};
 
 /// If the product of two lists has more pairs than this, duplicates are removed while the joins are made.
@@ -58,6 +60,23 @@ pub(crate) fn join<'a, A: Allocator>(
     join_all(alloc, left, right)
 }
 
+/// The different joins of a pair of each side, in some order.
+pub(crate) fn different_joins<'a, A: Allocator>(
+    alloc: &'a A,
+    left: &[Pair],
+    right: &[Pair],
+) -> Result<Vec<Pair, &'a A>, AllocError>
+    ensures set { IfOk result (λ v. spec_sets.set_of spec_pairs.pair_cmp v.items ≡ spec_sets.set_of spec_pairs.pair_cmp (spec_pairs.join left.now right.now)) }
+    ensures once { IfOk result (λ v. HasNoRepeats v.items) }
+{
+    if left.len().saturating_mul(right.len()) > MANY {
+        return join_once(alloc, left, right);
+    }
+    let mut joined = join_all(alloc, left, right)?;
+    sort_dedup(&mut joined);
+    Ok(joined)
+}
+
 /// The pairs of both lists, those of the left one first.
 pub(crate) fn both<'a, A: Allocator>(
     alloc: &'a A,
@@ -70,13 +89,4 @@ pub(crate) fn both<'a, A: Allocator>(
     pairs.extend_from_slice(left)?;
     pairs.extend_from_slice(right)?;
     Ok(pairs)
-}
-
-/// Sorts the pairs and removes duplicates. The sort is stable, since the lists of joins and unions have long sorted runs.
-pub(crate) fn sort_dedup<A: Allocator>(pairs: &mut Vec<Pair, &A>) -> Result<(), AllocError>
-    ensures { OnOk result (pairs.new.items ≡ spec_sets.set_of spec_pairs.pair_cmp pairs.old.items) }
-{
-    pairs.sort_by(|p, q| p.cmp_list(q))?;
-    pairs.dedup();
-    Ok(())
 }

@@ -1,64 +1,92 @@
 //! The acceptance marks of pairs.
 
-ghost use Rattle.std.specs.Prelude.{◌≡◌, ◌||◌, ◌++◌, [], not, map, slice_index_or, IfOk, OnOk};
-ghost use Rattle.std.specs.Ordering.{nat_cmp};
-ghost use Rattle.ltl_spec.specs.Collections.Sets.{has};
+ghost use Rattle.std.specs.Prelude.{◌≡◌, ◌≤◌, ◌++◌, length, map, true, IfOk, OnOk};
+ghost use Rattle.ltl_spec.specs.Collections.Lists.{places_where};
 ghost use Rattle.ltl_spec.specs.Transitions.RowTransitions as spec;
-ghost use Rattle.ltl_spec.proofs.Transitions.Fulfilment.{passes};
-ghost use Rattle.ltl_spec.proofs.Transitions.Steps.{tests_of};
-ghost use Rattle.ltl_alt.specs.Columns.{AreColumns, answers_at};
-ghost use Rattle.ltl_alt.specs.Tests.{AreTests, steps_of};
+ghost use Rattle.least.specs.Columns.{AreColumnsOf, column_at};
+ghost use Rattle.ltl_alt.specs.Columns.{AreUnmarked, IsUnmarked, unmarked_by};
+ghost use Rattle.ltl_alt.specs.Tests.{AreTests};
 ghost use Rattle.ltl_alt.specs.TransitionView.{table_at};
 
-use crate::columns::{BLOCK, column_at, put_columns};
-use crate::fulfilment::{Fulfilment, UntilTest};
+use crate::columns::{BLOCK, Needing, column_at, put_columns};
+use crate::fulfilment::Fulfilment;
 use crate::pair::Pair;
-use crate::place::put_if;
-use crate::support::Support;
 use crate::transition::Transition;
+use least::Columns;
 use ltl_formula::Table;
 use ltl_sets::RowSet;
 use std::alloc::{AllocError, Allocator};
 
-/// Whether a pair of a block is marked for an until row, from the columns of all steps: it doesn't have the row as a target, or it fulfils the row.
-#[inline(always)]
-fn is_kept_up(until: &UntilTest, pair: &Pair, columns: &[RowSet], index: usize) -> bool
-    ensures { result ≡ (not (has nat_cmp until.now.place pair.now.targets) || has nat_cmp index (slice_index_or columns.now until.now.step [])) }
+/// For each until row, the pairs of a block that aren't marked for it, from the columns of all steps: they have the row as a target, and don't fulfil it.
+fn unmarked_pairs<'a, A: Allocator>(
+    alloc: &'a A,
+    fulfilment: &Fulfilment<'_, A>,
+    needing: &Needing<'_, A>,
+    columns: &[RowSet],
+) -> Result<Vec<RowSet, &'a A>, AllocError>
+    ensures { IfOk result (λ v. v.items ≡ map (unmarked_by needing.now columns.now) fulfilment.now.untils.items) }
 {
-    !pair.targets.holds(until.place) || column_at(columns, until.step).holds(index)
+    let mut sets = Vec::with_capacity(alloc, fulfilment.untils.len())?;
+    'untils: for number in 0..fulfilment.untils.len() {
+        let until = fulfilment.until(number);
+        let fulfilling = column_at(columns, until.step);
+        sets.push(needing.leading(until.place).without(&fulfilling))?;
+    }
+    Ok(sets)
 }
 
-/// The numbers, among the until rows, of those for which a pair of a block is marked, from the columns of all steps.
+/// For each pair of a block, the numbers of the until rows for which it isn't marked.
+fn unmarked<'a, A: Allocator>(
+    alloc: &'a A,
+    fulfilment: &Fulfilment<'_, A>,
+    needing: &Needing<'_, A>,
+    columns: &[RowSet],
+) -> Result<Columns<'a, A>, AllocError>
+    requires few { length fulfilment.now.untils.items ≤ RowSet.LIMIT }
+    ensures { IfOk result (AreColumnsOf (map (unmarked_by needing.now columns.now) fulfilment.now.untils.items)) }
+{
+    let pairs = unmarked_pairs(alloc, fulfilment, needing, columns)?;
+    Columns::of(alloc, pairs.as_slice())
+}
+
+/// The numbers of all until rows.
+fn every<A: Allocator>(table: &Table<'_, A>, fulfilment: &Fulfilment<'_, A>) -> RowSet
+    requires tests { AreTests (table_at table.now) fulfilment.now }
+    ensures { result ≡ places_where (λ F. true) (table_at table.now).untils }
+{
+    let mut every = RowSet::empty();
+    'untils: for number in 0..fulfilment.untils.len() {
+        every.insert(number);
+    }
+    every
+}
+
+/// The numbers, among the until rows, of those for which a pair is marked: all but those for which it isn't.
+#[inline(always)]
 fn marks<A: Allocator>(
     table: &Table<'_, A>,
-    fulfilment: &Fulfilment<'_, A>,
     pair: &Pair,
-    columns: &[RowSet],
-    index: usize,
+    every: &RowSet,
+    unmarked: &RowSet,
 ) -> RowSet
-    requires tests { AreTests (table_at table.now) fulfilment.now }
-    requires answers { answers_at index columns.now ≡ map (passes pair.now) (tests_of (steps_of fulfilment.now.steps.items)) }
+    requires every { every.now ≡ places_where (λ F. true) (table_at table.now).untils }
+    requires unmarked { IsUnmarked (table_at table.now) pair.now unmarked.now }
     ensures { result ≡ (spec.with_marks (table_at table.now) pair.now).marks }
 {
     pair.cube.invariant();
-    let mut marks = RowSet::empty();
-    'untils: for number in 0..fulfilment.untils.len() {
-        let is_mark = is_kept_up(&fulfilment.until(number), pair, columns, index);
-        put_if(&mut marks, number, is_mark);
-    }
-    marks
+    every.without(unmarked)
 }
 
 /// Appends the pairs of a block as transitions with their marks.
 fn mark_block<A: Allocator>(
     table: &Table<'_, A>,
-    fulfilment: &Fulfilment<'_, A>,
     block: &[Pair],
-    columns: &[RowSet],
+    every: &RowSet,
+    unmarked: &Columns<'_, A>,
     all: &mut Vec<Transition, &A>,
 ) -> Result<(), AllocError>
-    requires tests { AreTests (table_at table.now) fulfilment.now }
-    requires columns { AreColumns (steps_of fulfilment.now.steps.items) block.now columns.now }
+    requires every { every.now ≡ places_where (λ F. true) (table_at table.now).untils }
+    requires unmarked { AreUnmarked (table_at table.now) block.now unmarked.now }
     ensures { OnOk result (all.new.items ≡ all.old.items ++ map (spec.with_marks (table_at table.now)) block.now) }
 {
     'pairs: for index in 0..block.len() {
@@ -66,7 +94,7 @@ fn mark_block<A: Allocator>(
         all.push(Transition {
             cube: pair.cube,
             targets: pair.targets,
-            marks: marks(table, fulfilment, pair, columns, index),
+            marks: marks(table, pair, every, &unmarked.column(index)),
         })?;
     }
     Ok(())
@@ -82,14 +110,17 @@ pub(crate) fn marked<'a, A: Allocator>(
     requires { AreTests (table_at table.now) fulfilment.now }
     ensures { IfOk result (λ v. v.items ≡ map (spec.with_marks (table_at table.now)) pairs.now) }
 {
+    let every = every(table, fulfilment);
     let mut columns = Vec::new(alloc);
     let mut all = Vec::with_capacity(alloc, pairs.len())?;
     let mut from = 0;
     'slices: while from < pairs.len() {
         let end = pairs.len().min(from.saturating_add(BLOCK));
         let block = &pairs[from..end];
-        put_columns(fulfilment, block, &Support::of(block), &mut columns)?;
-        mark_block(table, fulfilment, block, columns.as_slice(), &mut all)?;
+        let needing = Needing::of(alloc, block)?;
+        put_columns(fulfilment, &needing, &mut columns)?;
+        let unmarked = unmarked(alloc, fulfilment, &needing, columns.as_slice())?;
+        mark_block(table, block, &every, &unmarked, &mut all)?;
         from = end;
     }
     Ok(all)

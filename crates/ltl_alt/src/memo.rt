@@ -1,14 +1,16 @@
 //! A memo table of joins: lists of pairs have numbers, and a join is remembered by the numbers of both sides.
 
 ghost use Rattle.std.specs.Prelude.{◌≡◌, ℕ, ◌<◌, [], length, IfOk, IfSome, OnOk};
-ghost use Rattle.ltl_spec.specs.Transitions.Pairs.{join};
+ghost use Rattle.ltl_spec.specs.Collections.Lists.{HasNoRepeats};
+ghost use Rattle.ltl_spec.specs.Collections.Sets.{set_of};
+ghost use Rattle.ltl_spec.specs.Transitions.Pairs.{join, pair_cmp};
 ghost use Rattle.ltl_spec.specs.Transitions.RowTransitions as spec;
 ghost use Rattle.ltl_alt.specs.declared.rule.Rule as made_rule;
 ghost use Rattle.ltl_alt.specs.MemoView.{AreJoins, IsJoin, IsListAt, last_list};
 ghost use Rattle.ltl_alt.specs.ConjunctTableView.{IsLonger, conjunct_of};
 ghost use Rattle.ltl_alt.specs.StandIns.{IsFit, IsListed, StandsFor};
 
-use crate::lists::{join, sort_dedup};
+use crate::lists::{different_joins, join};
 use crate::pair::Pair;
 use crate::pair_set::PairSet;
 use crate::prune::prune;
@@ -96,17 +98,17 @@ impl<'a, A: Allocator> Memo<'a, A> {
         let left = self.pairs(key.left);
         let right = self.pairs(key.right);
         let joined = join(alloc, left, right)?;
-        let pairs = prune(alloc, pruning, left, right, joined)?;
+        let pairs = prune(alloc, pruning, joined)?;
         Ok(PairSet { pairs })
     }
 
-    /// All joins of two lists, sorted and without duplicates, but not pruned.
+    /// The different joins of a pair of each of two lists, in some order. None of them is pruned.
     pub(crate) fn joined(&self, alloc: &'a A, key: &JoinKey) -> Result<Vec<Pair, &'a A>, AllocError>
         requires within { key.now.left < length self.now.lists.keys × key.now.right < length self.now.lists.keys }
-        ensures { IfOk result (λ v. v.items ≡ last_list self.now.lists.keys key.now) }
+        ensures set { IfOk result (λ v. set_of pair_cmp v.items ≡ last_list self.now.lists.keys key.now) }
+        ensures once { IfOk result (λ v. HasNoRepeats v.items) }
     {
-        let mut joined = join(alloc, self.pairs(key.left), self.pairs(key.right))?;
-        sort_dedup(&mut joined)?;
+        let joined = different_joins(alloc, self.pairs(key.left), self.pairs(key.right))?;
         Ok(joined)
     }
 

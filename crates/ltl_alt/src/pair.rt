@@ -1,13 +1,11 @@
 //! Pairs: the transitions of the very weak alternating automaton.
 
-ghost use Rattle.std.specs.Prelude.{◌≡◌, ◌<◌, [], ◌∷◌, true};
+ghost use Rattle.std.specs.Prelude.{◌≡◌, ◌<◌, ◌+◌, [], ◌∷◌, length};
 ghost use Rattle.ltl_sets.specs.Literals.{literal_of};
-ghost use Rattle.ltl_spec.specs.Collections.Sets.{has};
-ghost use Rattle.ltl_spec.specs.Transitions.Cubes.{literal_cmp};
 ghost use Rattle.ltl_spec.specs.Transitions.Pairs.{pair_cmp, join_pair, empty_pair};
 ghost use Rattle.ltl_spec.specs.Transitions.Pruning.{is_within};
-ghost use Rattle.ltl_alt.specs.StandIns.{common_pair};
 
+use ltl_automaton::ListOrder;
 use ltl_sets::{Cube, Literal, RowSet};
 use std::alloc::AllocError;
 use std::cmp::Ordering;
@@ -79,29 +77,6 @@ impl Pair {
         })
     }
 
-    /// Whether the pair needs the literal.
-    #[inline(always)]
-    pub(crate) fn reads(&self, literal: Literal) -> bool
-        ensures { result ≡ has literal_cmp (literal_of literal) self.now.cube }
-    {
-        if literal.positive {
-            self.cube.letter().holds(literal.proposition)
-        } else {
-            self.cube.forbidden().holds(literal.proposition)
-        }
-    }
-
-    /// The literals and targets that both pairs need.
-    #[inline(always)]
-    pub(crate) fn common(&self, other: &Pair) -> Pair
-        ensures { result ≡ common_pair self.now other.now }
-    {
-        Pair {
-            cube: self.cube.common(&other.cube),
-            targets: self.targets.common(&other.targets),
-        }
-    }
-
     /// Whether this pair's literals and targets are among the other's.
     #[inline(always)]
     pub(crate) fn is_within(&self, other: &Pair) -> bool
@@ -110,30 +85,36 @@ impl Pair {
         self.cube.implies_of(&other.cube) && self.targets.is_subset(&other.targets)
     }
 
-    /// Whether both pairs are equal.
-    #[tactic(auto, using(crate::proofs::JoinLaws::same_pair))]
-    pub(crate) fn is_same(&self, other: &Pair) -> bool
-        ensures { result ≡ true → self.now ≡ other.now }
-    {
-        self.cube == other.cube && self.targets == other.targets
-    }
-
     /// The number of its literals and targets.
     #[inline(always)]
-    pub(crate) fn size(&self) -> usize {
-        self.cube.iter().count() + self.targets.iter().count()
+    pub(crate) fn size(&self) -> usize
+        ensures { result ≡ length self.now.cube + length self.now.targets }
+    {
+        self.cube.invariant();
+        self.targets.invariant();
+        self.cube.count() + self.targets.count()
     }
+}
+
+impl ListOrder for Pair {
+    ghost use Rattle.ltl_spec.specs.Transitions.Pairs.{pair_cmp};
+    ghost use Rattle.ltl_spec.proofs.Collections.Orders.{pair_linear};
+    ghost use Rattle.ltl_alt.specs.PairHash.{pair_Decides};
+
+    ghost order = { pair_cmp };
 
     /// Compares by the literals, then by the targets, each as a sorted list.
     #[inline(always)]
-    pub fn cmp_list(&self, other: &Pair) -> Ordering
-        ensures { result ≡ pair_cmp self.now other.now }
-    {
+    fn cmp_list(&self, other: &Pair) -> Ordering {
         match self.cube.cmp_list(&other.cube) {
             Ordering::Equal => self.targets.cmp_list(&other.targets),
             unequal => unequal,
         }
     }
+
+    ghost linear = { pair_linear };
+
+    ghost decides = { pair_Decides };
 }
 
 impl Clone for Pair {

@@ -1,7 +1,7 @@
 //! The fulfilment tests of until rows as a straight-line program.
 //!
-//! Whether a pair fulfils an until row is a Boolean function of its literals and targets, read off the formula. A step combines earlier steps, so one pass
-//! evaluates all of them. Equal steps have one number.
+//! Whether a pair fulfils an until row is a Boolean function of its literals and targets. The function is read off the formula. A step combines earlier
+//! steps, so one pass evaluates all steps. Equal steps have one number.
 
 ghost use Rattle.std.specs.Prelude.{◌≡◌, ℕ, ◌+◌, ◌<◌, ◌≤◌, length, slice_get, Some, IfOk, OnOk, true};
 ghost use Rattle.ltl_formula.specs.SharedNodesView.{IsBelow};
@@ -74,7 +74,7 @@ impl<'a, A: Allocator> Program<'a, A> {
         *self.steps.get(number)
     }
 
-    /// The number of the step that tells whether a pair needs all that one of the row's pairs needs.
+    /// The number of the step that a pair passes if it needs all that one of the row's pairs needs.
     pub(crate) fn pair_step(&self, row: usize) -> usize
         requires { row < length self.now.rows.items }
         ensures { result ≡ (steps_at self.now.rows.items row).pairs }
@@ -82,7 +82,7 @@ impl<'a, A: Allocator> Program<'a, A> {
         self.rows[row].pairs
     }
 
-    /// The number of the step that tells whether all rows of one of the row's sets are among a pair's targets.
+    /// The number of the step that a pair passes if all rows of one of the row's sets are among its targets.
     fn set_step(&self, row: usize) -> usize
         requires { row < length self.now.rows.items }
         ensures { result ≡ (steps_at self.now.rows.items row).sets }
@@ -218,7 +218,7 @@ impl<'a, A: Allocator> Program<'a, A> {
     }
 }
 
-/// The program that tells which until rows a pair fulfils.
+/// The program of the tests of which until rows a pair fulfils.
 pub(crate) fn until_steps<'a, A: Allocator>(
     alloc: &'a A,
     table: &Table<'_, A>,

@@ -43,7 +43,7 @@ fn successors_of<'c, B: Allocator>(
     Ok(successors)
 }
 
-/// The implicit graph whose nodes are sets of rows, with its memo tables.
+/// The implicit graph of sets of rows, with its memo tables.
 #[derive(Drop)]
 struct RowSets<'b, 't, 's, 'a, A: Allocator> {
     basis: Basis<'b, 't, 's, 'a, A>,

@@ -4,7 +4,7 @@
 
 ghost use Rattle.std.specs.Prelude.{◌≡◌, IfOk, OnOk, filter_map, fold};
 ghost use Rattle.std.specs.Ordering.{eq_by_cmp};
-ghost use Rattle.ltl_spec.specs.Collections.Lists.{first_occurrences, with_new};
+ghost use Rattle.ltl_spec.specs.Collections.Lists.{HasNoRepeats, first_occurrences, with_new};
 ghost use Rattle.ltl_spec.specs.Collections.Sets as spec_sets;
 ghost use Rattle.ltl_spec.specs.Transitions.Pairs as spec_pairs;
 ghost use Rattle.ltl_alt.specs.StandIns.{joins_by_right};
@@ -65,7 +65,8 @@ pub(crate) fn join_once<'a, A: Allocator>(
     left: &[Pair],
     right: &[Pair],
 ) -> Result<Vec<Pair, &'a A>, AllocError>
-    ensures { IfOk result (λ v. spec_sets.set_of spec_pairs.pair_cmp v.items ≡ spec_sets.set_of spec_pairs.pair_cmp (spec_pairs.join left.now right.now)) }
+    ensures set { IfOk result (λ v. spec_sets.set_of spec_pairs.pair_cmp v.items ≡ spec_sets.set_of spec_pairs.pair_cmp (spec_pairs.join left.now right.now)) }
+    ensures once { IfOk result (λ v. HasNoRepeats v.items) }
 {
     let once = noted(alloc, left, right)?;
     let pairs = listed(alloc, &once)?;

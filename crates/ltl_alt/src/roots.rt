@@ -8,7 +8,7 @@ use crate::pair::Pair;
 use crate::support::Support;
 use std::alloc::{AllocError, Allocator};
 
-/// The steps of those until rows whose tests depend on a literal or row that one of these pairs needs.
+/// The steps of some until rows: the test of such a row depends on a literal or a row that one of these pairs needs.
 pub(crate) fn open_steps<'a, A: Allocator>(
     alloc: &'a A,
     fulfilment: &Fulfilment<'_, A>,

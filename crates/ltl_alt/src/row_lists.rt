@@ -226,7 +226,7 @@ impl<'a, A: Allocator> RowLists<'a, A> {
     {
         table.invariant();
         let all = self.pairs_from(alloc, table.row(row), place(table, row))?;
-        let pairs = prune(alloc, pruning, &[], &[], all)?;
+        let pairs = prune(alloc, pruning, all)?;
         Ok(PairSet { pairs })
     }
 
@@ -281,7 +281,7 @@ impl<'a, A: Allocator> RowLists<'a, A> {
     {
         table.invariant();
         let all = self.sets_from(alloc, table.row(row), place(table, row))?;
-        let pairs = prune(alloc, pruning, &[], &[], all)?;
+        let pairs = prune(alloc, pruning, all)?;
         Ok(PairSet { pairs })
     }
 

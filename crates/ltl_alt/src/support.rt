@@ -1,10 +1,9 @@
 //! The support of a list of pairs, and a test that two lists are independent.
 
 ghost use Rattle.std.specs.Prelude.{◌≡◌, length};
-ghost use Rattle.std.specs.Ordering.{nat_cmp};
-ghost use Rattle.ltl_spec.specs.Collections.Sets.{has};
 ghost use Rattle.ltl_spec.specs.Transitions.Pairs as spec_pairs;
 ghost use Rattle.ltl_spec.proofs.Transitions.IndependenceTests as independence;
+ghost use Rattle.ltl_alt.specs.Elements.{needs_of, part};
 ghost use Rattle.ltl_alt.specs.SupportView.{IsAdded, CoversAllFulfilling, AreDependencies};
 ghost use Rattle.ltl_alt.specs.Tests.{AreTests};
 ghost use Rattle.ltl_alt.specs.TransitionView.{table_at};
@@ -12,7 +11,7 @@ ghost use Rattle.ltl_alt.specs.TransitionView.{table_at};
 use crate::fulfilment::Fulfilment;
 use crate::pair::Pair;
 use ltl_formula::Table;
-use ltl_sets::{Literal, RowSet};
+use ltl_sets::{Cube, RowSet};
 use std::alloc::{AllocError, Allocator};
 use std::marker::Model;
 
@@ -78,22 +77,15 @@ impl Support {
         support
     }
 
-    /// The places of the rows.
-    pub(crate) fn targets(&self) -> RowSet
-        ensures { result ≡ self.now.targets }
-    {
-        self.targets
-    }
-
-    /// Whether the literal is in it.
+    /// The numbers of one kind: the propositions of the positive literals (0), those of the negative ones (1), or the places of the targets.
     #[inline(always)]
-    pub(crate) fn reads(&self, literal: Literal) -> bool
-        ensures { result ≡ has nat_cmp literal.proposition (independence.of_sign literal.positive self.now) }
+    pub(crate) fn part(&self, kind: usize) -> RowSet
+        ensures { result ≡ part kind self.now }
     {
-        if literal.positive {
-            self.positive.holds(literal.proposition)
-        } else {
-            self.negative.holds(literal.proposition)
+        match kind {
+            0 => self.positive,
+            1 => self.negative,
+            _ => self.targets,
         }
     }
 
@@ -129,6 +121,18 @@ impl Clone for Support {
 }
 
 impl Copy for Support {}
+
+/// The numbers of one kind that a pair with this cube and these targets needs.
+#[inline(always)]
+pub(crate) fn needs(cube: &Cube, targets: &RowSet, kind: usize) -> RowSet
+    ensures { result ≡ needs_of (record { cube = cube.now; targets = targets.now }) kind }
+{
+    match kind {
+        0 => cube.letter(),
+        1 => cube.forbidden(),
+        _ => *targets,
+    }
+}
 
 /// Adds the literals and rows of an until row's test, if the row is a target.
 fn with_leaves(fulfilling: Support, leaves: &Support, is_put_off: bool) -> Support

@@ -5,8 +5,8 @@ ghost use Rattle.std.specs.Ordering.{is_ne};
 ghost use Rattle.ltl_spec.specs.Transitions.RowTransitions.{implies, transition_cmp};
 ghost use Rattle.ltl_alt.specs.ProductView.{join_transitions};
 
-use least::{Below, Counting};
-use ltl_models::elements::{has_literal, has_row, tally_literals, tally_rows};
+use crate::support::needs;
+use least::{Below, Counting, Elements};
 use ltl_sets::{Cube, RowSet};
 use std::alloc::AllocError;
 use std::cmp::Ordering;
@@ -78,7 +78,9 @@ impl Transition {
     pub(crate) fn weight(&self) -> usize
         ensures { result ≡ length self.now.cube + length self.now.targets }
     {
-        self.cube.iter().count() + self.targets.iter().count()
+        self.cube.invariant();
+        self.targets.invariant();
+        self.cube.count() + self.targets.count()
     }
 
     /// Whether the two differ in their literals or in their targets.
@@ -92,7 +94,7 @@ impl Transition {
 /// A transition is below those that it implies.
 impl Below for Transition {
     ghost use Rattle.ltl_spec.specs.Transitions.RowTransitions.{implies};
-    ghost use Rattle.ltl_spec.proofs.Transitions.TransitionLaws.{implies_transitive};
+    ghost use Rattle.ltl_alt.specs.Elements.{needed_by_implied, not_unmarked};
 
     ghost below = { implies };
 
@@ -100,24 +102,42 @@ impl Below for Transition {
         self.implies(other)
     }
 
-    fn common(&self, other: &Transition) -> Transition {
-        Transition {
-            cube: self.cube.common(&other.cube),
-            targets: self.targets.common(&other.targets),
-            marks: self.marks.union(&other.marks),
+    ghost needed = { needed_by_implied };
+
+    ghost lacked = { not_unmarked };
+}
+
+/// A transition needs its literals and targets. One that implies it must not lack its marks, which are of kind 0.
+impl Elements for Transition {
+    ghost use Rattle.ltl_alt.specs.Elements.{asks_of, is_unmarked, needs_of, pair_of};
+
+    ghost needs = { λ t. needs_of (pair_of t) };
+
+    ghost asks = { asks_of };
+
+    ghost lacking = { is_unmarked };
+
+    #[inline(always)]
+    fn needs(&self, kind: usize) -> RowSet {
+        needs(&self.cube, &self.targets, kind)
+    }
+
+    #[inline(always)]
+    fn asks(&self, kind: usize) -> RowSet {
+        match kind {
+            0 => self.marks,
+            _ => RowSet::empty(),
         }
     }
 
-    fn has(&self, element: usize) -> bool {
-        has_literal(&self.cube, element) || has_row(&self.targets, element)
+    #[inline(always)]
+    #[tactic(auto, using(crate::proofs::ImpliedLaws::marks_it_lacks))]
+    fn lacks(&self, kind: usize, of: &RowSet) -> RowSet {
+        if kind != 0 {
+            return RowSet::empty();
+        }
+        of.without(&self.marks)
     }
-
-    fn tally(&self, counts: &mut [u32]) {
-        tally_literals(&self.cube, counts);
-        tally_rows(&self.targets, counts);
-    }
-
-    ghost transitive = { implies_transitive };
 }
 
 /// Of the transitions below an item, only those that differ from it count.

@@ -1,41 +1,17 @@
 -- Edges of the code that are seen as equal are equal.
-use Rattle.std.proofs.Common.{◌≡◌, ℕ, Bool, true, ◌&&◌, List, [], ◌∷◌, ◌++◌, map, refl, sym, ◌∙◌, ap}
-use Rattle.std.specs.Prelude.{nat_eq, fold}
-use Rattle.std.specs.Bool.{Decides}
+use Rattle.std.proofs.Common.{◌≡◌, ℕ, Bool, List, [], ◌∷◌, ◌++◌, map, refl, sym, ◌∙◌, ap}
+use Rattle.std.specs.Prelude.{fold}
 use Rattle.std.specs.List.{flat_map}
-use Rattle.std.specs.Cmp.{first_so, second_so}
-use Rattle.std.specs.Cmp.Lexicographic.{pointwise, pointwise_decides, bytes_decides}
+use Rattle.std.specs.Cmp.Lexicographic.{pointwise, pointwise_decides}
 use Rattle.std.specs.Hash as fed
-use Rattle.std.proofs.lemmas.Bool.Decides.{Decides-eqb, same_from_decides}
+use Rattle.std.proofs.lemmas.Bool.Decides.{same_from_decides}
 use Rattle.std.proofs.lemmas.List.{length-map, map-append}
 use Rattle.ltl_spec.specs.Automata.Automaton.{Edge}
-use Rattle.ltl_sets.specs.CubeEq.{same_cube, cube_Decides, hash_of_cube}
+use Rattle.ltl_sets.specs.CubeEq.{hash_of_cube}
 use Rattle.ltl_sets.specs.Words.{hash_of, words_with}
 use Rattle.ltl_automaton.specs.EdgeView.{edge_of, same_edges, edges_Decides, hash_of_edge, hash_of_edges}
+use Rattle.ltl_automaton.specs.EdgeOrder.{edge_exact, same_code, edge_Decides}
 use Rattle.ltl_automaton.specs.declared.edge.Edge as made
-
--- edges with the same parts are the same
-same_parts : (e f : made.Edge) → e.cube ≡ f.cube → e.target ≡ f.target → e.marks ≡ f.marks → e ≡ f
-same_parts e f c t m = λ i. let g : made.Edge = record { cube = c i; target = t i; marks = m i } in g
-
-pub edge_exact : (e f : made.Edge) → edge_of e ≡ edge_of f → e ≡ f
-edge_exact e f h = same_parts e f (ap (λ (g : Edge). g.cube) h) (ap (λ (g : Edge). g.target) h) (ap (λ (g : Edge). g.marks) h)
-
--- the test of the code finds exactly the same edges
-abbrev pub same_code : made.Edge → made.Edge → Bool
-same_code e f = same_cube e.cube f.cube && (nat_eq e.target f.target && pointwise nat_eq e.marks f.marks)
-
-pub edge_Decides : (e f : made.Edge) → Decides (same_code e f) (e ≡ f)
-edge_Decides e f = (
-  (λ t.
-      let rest = second_so (same_cube e.cube f.cube) _ t in
-      same_parts e f ((cube_Decides e.cube f.cube).0 (first_so _ _ t)) ((Decides-eqb e.target f.target).0 (first_so _ _ rest)) ((bytes_decides e.marks f.marks).0 (second_so (nat_eq e.target f.target) _ rest))),
-  (λ h. both _ _ ((cube_Decides e.cube f.cube).1 (ap (λ (g : made.Edge). g.cube) h))
-      (both _ _ ((Decides-eqb e.target f.target).1 (ap (λ (g : made.Edge). g.target) h)) ((bytes_decides e.marks f.marks).1 (ap (λ (g : made.Edge). g.marks) h)))),
-)
-  where
-    both : (a b : Bool) → a ≡ true → b ≡ true → (a && b) ≡ true
-    both a b p q = ap (λ x. x && b) p ∙ q
 
 -- lists of edges that are seen as equal are equal
 edges_exact : (xs ys : List made.Edge) → map edge_of xs ≡ map edge_of ys → xs ≡ ys

@@ -29,7 +29,7 @@ fn is_time<'a, K: Key, A: Allocator>(
     waiting >= MANY && count / DENSE >= explored && count / SELDOM >= waiting.max(looked)
 }
 
-/// Whether `count` edges, and what `edges_at_least` answers for each waiting state, are more than `most` together.
+/// Whether `count`, together with the lower bounds of `edges_at_least` for the waiting states, is more than `most`.
 fn are_more_behind<'a, K: Key, S: Successors<K>, A: Allocator>(
     net: &mut S,
     listing: &Worklist<'a, K, A>,

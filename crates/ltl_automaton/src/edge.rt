@@ -1,9 +1,6 @@
 //! Edges of explicit automata.
 
-ghost use Rattle.std.specs.Prelude.{◌≡◌};
-ghost use Rattle.ltl_spec.specs.Automata.Automaton.{edge_cmp};
-ghost use Rattle.ltl_automaton.specs.EdgeView.{edge_of};
-
+use crate::sorting::ListOrder;
 use ltl_sets::{Cube, RowSet};
 use std::cmp::Ordering;
 
@@ -15,12 +12,16 @@ pub struct Edge {
     pub marks: RowSet,
 }
 
-impl Edge {
+impl ListOrder for Edge {
+    ghost use Rattle.ltl_spec.specs.Automata.Automaton.{edge_cmp};
+    ghost use Rattle.ltl_automaton.specs.EdgeView.{edge_of};
+    ghost use Rattle.ltl_automaton.specs.EdgeOrder.{edge_linear_by_view, edge_Decides};
+
+    ghost order = { λ e f. edge_cmp (edge_of e) (edge_of f) };
+
     /// Compares the labels, then the targets, then the acceptance sets.
     #[inline(always)]
-    pub fn cmp_list(&self, other: &Edge) -> Ordering
-        ensures { result ≡ edge_cmp (edge_of self.now) (edge_of other.now) }
-    {
+    fn cmp_list(&self, other: &Edge) -> Ordering {
         match self.cube.cmp_list(&other.cube) {
             Ordering::Equal => match self.target.cmp(&other.target) {
                 Ordering::Equal => self.marks.cmp_list(&other.marks),
@@ -29,4 +30,8 @@ impl Edge {
             unequal => unequal,
         }
     }
+
+    ghost linear = { edge_linear_by_view };
+
+    ghost decides = { edge_Decides };
 }

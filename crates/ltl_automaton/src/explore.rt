@@ -22,7 +22,7 @@ use crate::successors::Successors;
 use crate::worklist::{Key, Worklist};
 use std::alloc::{AllocError, Allocator};
 
-/// The edges with numbers as targets. A key that isn't listed is put behind the others.
+/// The edges with numbers as targets. A key that isn't listed is appended.
 fn numbered<'a, K: Key, A: Allocator>(
     alloc: &'a A,
     listing: &mut Worklist<'a, K, A>,
@@ -46,6 +46,7 @@ fn numbered<'a, K: Key, A: Allocator>(
 }
 
 /// The edges with numbers as targets, sorted and without duplicates if `sorted` is set. `TooLarge` if more than `most` keys are listed then.
+#[tactic(auto, using(crate::specs::EdgeOrder::edges_set))]
 fn numbered_by<'a, K: Key, A: Allocator>(
     alloc: &'a A,
     listing: &mut Worklist<'a, K, A>,
@@ -226,8 +227,8 @@ fn explore<'a, K: Key, S: Successors<K>, A: Allocator>(
     Ok(())
 }
 
-/// The automaton of the states that are reachable from `start`, which is state 0; the others are numbered breadth first. The edges of a state keep
-/// the order that `net` answers, or are sorted and without duplicates if `sorted` is set. A limit counts edges before duplicates are removed.
+/// The automaton of the states that are reachable from `start`. State 0 is `start`; the others are numbered breadth first. The edges of a state keep
+/// the order in which `net` returns them, or are sorted and without duplicates if `sorted` is set. A limit counts edges before duplicates are removed.
 pub fn explore_from<'a, K: Key, S: Successors<K>, A: Allocator>(
     alloc: &'a A,
     start: K,

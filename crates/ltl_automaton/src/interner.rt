@@ -54,7 +54,7 @@ impl<'a, K: Eq + Hash + Drop, A: Allocator> Interner<'a, K, A> {
         self.things.get_index_of(thing)
     }
 
-    /// The number of a value. A value that isn't there is put behind the others, and gets the next number.
+    /// The number of a value. A value that isn't there is appended, and gets the next number.
     #[inline(always)]
     pub fn number(&mut self, thing: K) -> Result<usize, AllocError>
         ensures keys { OnOk result (self.new.keys ≡ with_new K.eq self.old.keys thing) }

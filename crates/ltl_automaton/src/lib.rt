@@ -4,14 +4,14 @@
 //! edges. An edge has a label (a cube), a target, and the acceptance sets that it belongs to. Many states of these automata have equal edges, so each
 //! edge list is stored once, and a state holds the number of its list.
 //!
-//! What flows: `explore_from` takes a start and a type with the trait `Successors`. A state is known by its *key*: a set of rows in `ltl_alt`, and in
-//! `ltl_passes` a copy of a state on a level, or the number of a state of an automaton that is numbered anew. For a key, `Successors` answers whether
-//! the state is accepting, and its outgoing edges as `Successor`s, whose targets are keys. A `Worklist` is the worklist, and numbers the keys as they are
-//! met. The result is a `SharedStates`, or `TooLarge` if a limit is passed.
+//! What flows: `explore_from` takes a start and a type with the trait `Successors`. A state is known by its *key*. In `ltl_alt` a key is a set of rows.
+//! In `ltl_passes` it is a copy of a state on a level, or the number of a state of an automaton that is numbered anew. For a key, `Successors` returns
+//! whether the state is accepting, and its outgoing edges as `Successor`s. The target of a `Successor` is a key. A `Worklist` numbers the keys as they
+//! are met. The result is a `SharedStates`, or `TooLarge` if a limit is passed.
 //!
-//! Two devices save work. If `Successors` knows a `same_successors_as` of a state, which was explored before and has the same edges, the state gets the twin's
-//! list. While many states wait, `ahead` adds a lower bound on their edges to the edges so far, and the construction ends early if the sum is above
-//! the limit.
+//! Two devices save work. `same_successors_as` may return a state that was explored before and has the same edges; both states share one list then.
+//! While many states wait in the worklist, `ahead` adds a lower bound on their edges to the edges so far. The construction ends early if the sum is
+//! above the limit.
 //!
 //! The generalized automaton of `[]<>p` is explored from the state of the root row. Its edge under `p` leads back to it and belongs to acceptance set
 //! 0. Its edge under every letter leads to the state of the root and `<>p`, which has the same edges:
@@ -43,7 +43,7 @@ pub use fault::AutomatonFault;
 pub use interner::Interner;
 pub use level::next_level;
 pub use shared::{SharedState, SharedStates};
-pub use sorting::sort_dedup;
+pub use sorting::{ListOrder, sort_dedup};
 pub use successor::Successor;
 pub use successors::Successors;
 pub use worklist::{Key, Worklist};

@@ -1,17 +1,30 @@
-//! Edge lists as sets.
+//! Lists as sets: sorted by a linear order, without duplicates.
 
-ghost use Rattle.std.specs.Prelude.{◌≡◌, map};
-ghost use Rattle.ltl_spec.specs.Collections.Sets.{set_of};
-ghost use Rattle.ltl_spec.specs.Automata.Automaton.{edge_cmp};
-ghost use Rattle.ltl_automaton.specs.EdgeView.{edge_of};
+ghost use Rattle.std.specs.Prelude.{◌≡◌};
+ghost use Rattle.std.specs.Bool.{Decides};
+ghost use Rattle.std.specs.declared.cmp.Ordering.{Ordering};
+ghost use Rattle.ltl_spec.specs.Collections.Sets.{set_of, IsLinearOrder};
 
-use crate::edge::Edge;
 use std::alloc::Allocator;
+use std::cmp::Ordering;
 
-/// Sorts the edges by `cmp_list`, and removes duplicates.
-pub fn sort_dedup<'a, A: Allocator>(edges: &mut Vec<Edge, &'a A>)
-    ensures { map edge_of edges.new.items ≡ set_of edge_cmp (map edge_of edges.old.items) }
+/// Values with a linear order: only equal values compare as `Equal`.
+pub trait ListOrder: Copy + PartialEq + Drop {
+    ghost order: { Self → Self → Ordering };
+
+    /// Compares two values by that order.
+    fn cmp_list(&self, other: &Self) -> Ordering
+        ensures { result ≡ order self.now other.now };
+
+    ghost linear: { IsLinearOrder order };
+
+    ghost decides: { (x y : Self) → Decides (Self.eq x y) (x ≡ y) };
+}
+
+/// Sorts the items by `cmp_list`, and removes duplicates.
+pub fn sort_dedup<T: ListOrder, A: Allocator>(items: &mut Vec<T, &A>)
+    ensures { items.new.items ≡ set_of T.order items.old.items }
 {
-    edges.sort_unstable_by(|e, f| e.cmp_list(f));
-    edges.dedup();
+    items.sort_unstable_by(|x, y| x.cmp_list(y));
+    items.dedup();
 }

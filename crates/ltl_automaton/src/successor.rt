@@ -2,7 +2,7 @@
 
 use ltl_sets::{Cube, RowSet};
 
-/// An outgoing edge as `Successors` answers it. Its target is a key; `explore_from` replaces it by the number of a state.
+/// An outgoing edge that `Successors` returns. Its target is a key, which `explore_from` replaces by the number of a state.
 #[derive(Clone, Copy)]
 pub struct Successor<K: Copy> {
     pub cube: Cube,

@@ -86,7 +86,7 @@ impl<'a, K: Key, A: Allocator> Worklist<'a, K, A> {
         self.keys.place(&key)
     }
 
-    /// The number of a key. A key that isn't listed is put behind the others.
+    /// The number of a key. A key that isn't listed is appended.
     #[inline(always)]
     pub fn number(&mut self, key: K) -> Result<usize, AllocError>
         ensures keys { OnOk result (self.new.keys ≡ with_new K.eq self.old.keys key) }

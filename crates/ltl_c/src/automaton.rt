@@ -84,9 +84,10 @@ fn refused(reason: Refusal) -> Counts
     }
 }
 
-/// Writes the automaton of a formula into the arrays, and for each of its propositions the place of its name in the formula's text. It is the automaton whose
-/// text `ltl2ba_text` gives for these options; its states and edges have the same numbers. The result is the exit status of `ltl2ba`, or 6 if an array is too
-/// short; then no array is changed. In both cases `counts` has the number of rows of each kind. For a refusal the numbers are 0, and `counts` has its code.
+/// Writes the automaton of a formula into the arrays, and for each of its propositions the place of its name in the formula's text. For these options,
+/// `ltl2ba_text` prints the same automaton, with the same numbers of states and edges. The result is the exit status of `ltl2ba`, or 6 if an array is too
+/// short. If it is 6, no array is changed. In both cases `counts` has the number of rows of each kind. For a refusal the numbers are 0, and `counts` has
+/// its code.
 #[unsafe(no_mangle)]
 pub extern "C" fn ltl2ba_automaton(
     alloc: Global,

@@ -14,7 +14,7 @@ use ltl_cli::Refusal;
 use ltl_word::{Lasso, holds};
 use std::alloc::{Allocator, Global};
 
-/// Reads the formula and the word, and tells whether the formula holds at the word's first position.
+/// Reads the formula and the word, and decides whether the formula holds at the word's first position.
 fn evaluated<A: Allocator>(alloc: &A, formula: &[u8], word: &[u8]) -> Result<bool, Refusal>
     ensures { TakesStep (EvaluatorFinds stated_limits (evaluator_asked formula.now word.now) spec.NotOpened) (λ b. b) result }
 {

@@ -31,8 +31,8 @@ use ltl_syntax::{Formula, PROPOSITION_LIMIT};
 use ltl_word::Lasso;
 use std::alloc::{AllocError, Allocator};
 
-/// The largest number of states in a search. Their number is that of pairs of states, times the number of levels, which is the number of the given
-/// automaton's acceptance sets plus 2.
+/// The largest number of states in a search. Their number is the number of pairs of states times the number of levels. There are two more levels than
+/// the given automaton has acceptance sets.
 pub const PRODUCT_LIMIT: usize = 16_777_216;
 
 /// The letters of the steps. The steps are dropped.

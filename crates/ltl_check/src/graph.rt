@@ -1,4 +1,4 @@
-//! Implicit graphs: a candidate edge is asked for by its number, which is called a look.
+//! Implicit graphs: a candidate edge is computed from its number. One such computation is called a look.
 
 ghost use Rattle.std.specs.Prelude.{◌≡◌, ℕ, ◌+◌, ◌-◌, ◌<◌, ◌^◌, Option, Some, min};
 ghost use Rattle.ltl_check.specs.declared.graph.Step.{Step};
@@ -14,8 +14,8 @@ pub struct Step<S> {
     pub letter: RowSet,
 }
 
-/// A finite graph with sets of edges, whose edges are computed one at a time. Its states are the start, the targets of edges, and those of the
-/// numbers below `count()`. Different states have different numbers.
+/// A finite graph with sets of edges. The edges are computed one at a time. The states of the graph are the start, the targets of edges, and the states
+/// of the numbers below `count()`. Different states have different numbers.
 pub trait Graph {
     /// A state, passed by value.
     type State: Copy;

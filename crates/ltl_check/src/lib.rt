@@ -4,7 +4,7 @@
 //! negated formula, the check decides whether every word of the first automaton satisfies the formula, and finds a counterexample.
 //!
 //! What flows: `check` takes a `Marked` and a `Ba`, and unifies their propositions by name. Their `Product` stores no states and no edges. A look at
-//! a pair of edges answers the step that both take together, if their labels don't contradict each other. `Levels` degeneralizes the product on the
+//! a pair of edges returns the step that both take together, if their labels don't contradict each other. `Levels` degeneralizes the product on the
 //! fly. `Search` has a stack for each of the two depth-first searches, and a colour for each state on a level. It finds a `Walk`, which is a stem and
 //! a cycle. Its word, in which the positive literals of each step are true, is put into least form, and is the counterexample of the `Verdict`.
 //!

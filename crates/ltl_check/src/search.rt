@@ -69,7 +69,7 @@ fn place_of(stem: &[Taken], n: usize) -> usize
     i
 }
 
-/// One look of the second search. It answers a step to a state on the stack of the first search.
+/// One look of the second search. It returns a step to a state on the stack of the first search, if it meets one.
 fn second_look<'a, N: Numbered, A: Allocator>(
     net: &N,
     first: &DfsPath<'a, A>,

@@ -1,4 +1,4 @@
-//! The answer of a check.
+//! The verdict of a check.
 
 ghost use Rattle.std.specs.Prelude.{◌≡◌};
 

@@ -1,6 +1,6 @@
 -- From a run of what was planned to what the words may show.
 use Rattle.std.proofs.Common.{◌≡◌, ap, sym, subst, refl, ℕ, inl, inr, List, Option, Some, None}
-use Rattle.std.specs.Prelude.{Result, Ok, Err}
+use Rattle.std.specs.Prelude.{Result, Ok, Err, ⊤}
 use Rattle.clap.specs.Words.{Text}
 use Rattle.ltl_spec.specs.Hoa.HoaReading.{stated_form}
 use Rattle.ltl_spec.specs.Tools.Limits.{stated_limits}
@@ -16,7 +16,7 @@ use Rattle.ltl_cli.specs.declared.source.Source.TheVariants as source
 use Rattle.ltl_words.specs.Words.{Request, plan_of}
 use Rattle.ltl_words.specs.Plans.{planned}
 use Rattle.ltl_cli.specs.Inputs.{IsFileOf, IsOpen, TurnsOut, WasInput}
-use Rattle.ltl_cli.specs.Headline.{AreBehind, IsBehind, IsBehindOrComes, IsSourceOf, PlanMayShow, PlansFor, WordsMayShow, automaton_file, formula_file, request_planned}
+use Rattle.ltl_cli.specs.Headline.{AreBehind, IsBehind, IsSourceOf, PlanMayShow, PlansFor, WordsMayShow, automaton_file, formula_file, request_planned}
 use Rattle.ltl_cli.specs.Runs.{Shows, ToolRun}
 use Rattle.ltl_cli.proofs.RunLaws.{shows_more}
 
@@ -37,7 +37,7 @@ module _ {R : Type 0} (state : R → SourceState) where
   file_open May source.NotOpened f = tt
 
   module _ (Stands : Text → Input → Type 0) where
-    pub source_behind : (name : Option Text) (most : ℕ) (old new : Source R) (input : Input) → IsSourceOf state Stands name old → WasInput most state old new input → IsBehind Stands name input
+    pub source_behind : (name : Option Text) (most : ℕ) (old new : Source R) (input : Input) → IsSourceOf state Stands name old → WasInput most state old new input → IsBehind Stands (λ _. ⊤) name input
     source_behind None most old new input f w = tt
     source_behind (Some name) most old new input f w = file_behind (Stands name) most old new input f w
 
@@ -47,35 +47,35 @@ module _ {R : Type 0} (state : R → SourceState) where
 
 module _ (Stands : Text → Input → Type 0) (Comes : Input → Type 0) where
   -- ---- the automaton
-  pub named_behind : (asked : Option Text) (name : Text) (file : Input) → Some name ≡ asked → Stands name file → IsBehindOrComes Stands Comes asked file
-  named_behind asked name file e h = subst (λ (x : Option Text). IsBehindOrComes Stands Comes x file) e h
+  pub named_behind : (asked : Option Text) (name : Text) (file : Input) → Some name ≡ asked → Stands name file → IsBehind Stands Comes asked file
+  named_behind asked name file e h = subst (λ (x : Option Text). IsBehind Stands Comes x file) e h
 
-  pub comes_behind : (asked : Option Text) (file : Input) → None ≡ asked → Comes file → IsBehindOrComes Stands Comes asked file
-  comes_behind asked file e h = subst (λ (x : Option Text). IsBehindOrComes Stands Comes x file) e h
+  pub comes_behind : (asked : Option Text) (file : Input) → None ≡ asked → Comes file → IsBehind Stands Comes asked file
+  comes_behind asked file e h = subst (λ (x : Option Text). IsBehind Stands Comes x file) e h
 
   -- ---- a run of a plan
-  translator_behind : (plan : Result Plan PlanFault) (input file : Input) → IsBehind Stands (formula_file (request_planned plan)) input → AreBehind Stands Comes Translator (request_planned plan) input file
+  translator_behind : (plan : Result Plan PlanFault) (input file : Input) → IsBehind Stands (λ _. ⊤) (formula_file (request_planned plan)) input → AreBehind Stands Comes Translator (request_planned plan) input file
   translator_behind (Ok p) input file b = b
   translator_behind (Err e) input file b = tt
 
-  evaluator_behind : (plan : Result Plan PlanFault) (input file : Input) → IsBehind Stands (formula_file (request_planned plan)) input → AreBehind Stands Comes Evaluator (request_planned plan) input file
+  evaluator_behind : (plan : Result Plan PlanFault) (input file : Input) → IsBehind Stands (λ _. ⊤) (formula_file (request_planned plan)) input → AreBehind Stands Comes Evaluator (request_planned plan) input file
   evaluator_behind (Ok p) input file b = b
   evaluator_behind (Err e) input file b = tt
 
-  checker_behind : (plan : Result Plan PlanFault) (input file : Input) → IsBehind Stands (formula_file (request_planned plan)) input → IsBehindOrComes Stands Comes (automaton_file (request_planned plan)) file
+  checker_behind : (plan : Result Plan PlanFault) (input file : Input) → IsBehind Stands (λ _. ⊤) (formula_file (request_planned plan)) input → IsBehind Stands Comes (automaton_file (request_planned plan)) file
       → AreBehind Stands Comes Checker (request_planned plan) input file
   checker_behind (Ok p) input file b c = (b, c)
   checker_behind (Err e) input file b c = tt
 
   module _ (plan : Result Plan PlanFault) (input : Input) where
-    module _ {o n mo mn : SinkState} {status : ℕ} (b : IsBehind Stands (formula_file (request_planned plan)) input) where
+    module _ {o n mo mn : SinkState} {status : ℕ} (b : IsBehind Stands (λ _. ⊤) (formula_file (request_planned plan)) input) where
       pub translator_planned : ((file : Input) → Shows (ToolRun Translator plan input file) o n mo mn status) → Shows (PlanMayShow Stands Comes Translator plan) o n mo mn status
       translator_planned h = shows_more (λ seen k. (input, NotOpened, translator_behind plan input NotOpened b, k)) (h NotOpened)
 
       pub evaluator_planned : ((file : Input) → Shows (ToolRun Evaluator plan input file) o n mo mn status) → Shows (PlanMayShow Stands Comes Evaluator plan) o n mo mn status
       evaluator_planned h = shows_more (λ seen k. (input, NotOpened, evaluator_behind plan input NotOpened b, k)) (h NotOpened)
 
-      pub checker_planned : (file : Input) → IsBehindOrComes Stands Comes (automaton_file (request_planned plan)) file → Shows (ToolRun Checker plan input file) o n mo mn status
+      pub checker_planned : (file : Input) → IsBehind Stands Comes (automaton_file (request_planned plan)) file → Shows (ToolRun Checker plan input file) o n mo mn status
           → Shows (PlanMayShow Stands Comes Checker plan) o n mo mn status
       checker_planned file c h = shows_more (λ seen k. (input, file, checker_behind plan input file b c, k)) h
 

@@ -29,21 +29,16 @@ file_named (File name) = Some name
 
 -- In the following, `Stands` says which inputs the file with a name may give, and `Comes` which inputs the standard input may give
 
--- the file with this name may give the input, if there is a name
-abbrev pub IsBehind : (Text → Input → Type 0) → Option Text → Input → Type 0
-IsBehind Stands None input = ⊤
-IsBehind Stands (Some name) input = Stands name input
-
 -- the file with this name may give the input; if there is no name, the standard input may
-abbrev pub IsBehindOrComes : (Text → Input → Type 0) → (Input → Type 0) → Option Text → Input → Type 0
-IsBehindOrComes Stands Comes None input = Comes input
-IsBehindOrComes Stands Comes (Some name) input = Stands name input
+abbrev pub IsBehind : (Text → Input → Type 0) → (Input → Type 0) → Option Text → Input → Type 0
+IsBehind Stands Comes None input = Comes input
+IsBehind Stands Comes (Some name) input = Stands name input
 
--- the inputs that the program reads for its request: only the checker reads an automaton
+-- The inputs that the program reads for its request: only the checker reads an automaton. A formula that stands in the command line comes from no file
 abbrev pub AreBehind : (Text → Input → Type 0) → (Input → Type 0) → Tool → Option Request → Input → Input → Type 0
 AreBehind Stands Comes tool None input file = ⊤
-AreBehind Stands Comes Checker (Some r) input file = IsBehind Stands (file_named r.formula) input × IsBehindOrComes Stands Comes r.automaton file
-AreBehind Stands Comes tool (Some r) input file = IsBehind Stands (file_named r.formula) input
+AreBehind Stands Comes Checker (Some r) input file = IsBehind Stands (λ _. ⊤) (file_named r.formula) input × IsBehind Stands Comes r.automaton file
+AreBehind Stands Comes tool (Some r) input file = IsBehind Stands (λ _. ⊤) (file_named r.formula) input
 
 module _ (Stands : Text → Input → Type 0) (Comes : Input → Type 0) (tool : Tool) where
   -- the request decides the right answers and their meaning, for some inputs that the named files may give; or memory ran out

@@ -20,7 +20,7 @@ use ltl_word::{Lasso, holds};
 use ltl_words::{Plan, PlanFault, Status, Tool};
 use std::alloc::Allocator;
 
-/// Reads the formula of the plan and the word of this text, and tells whether the formula holds at the word's first position.
+/// Reads the formula of the plan and the word of this text, and decides whether the formula holds at the word's first position.
 fn evaluated<A: Allocator, R: ByteSource>(
     alloc: &A,
     plan: &Plan<'_>,
@@ -52,7 +52,7 @@ fn print<S: ByteSink>(truth: bool, output: &mut S) -> Result<(), WriteFault>
     output.flush()
 }
 
-/// Carries out a plan, whose word has this text.
+/// Carries out a plan. Its word has this text.
 fn printed<A: Allocator, R: ByteSource, S: ByteSink>(
     alloc: &A,
     plan: &Plan<'_>,

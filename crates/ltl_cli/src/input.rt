@@ -16,7 +16,7 @@ use std::alloc::{AllocError, AllocFailed, Allocator};
 /// The most bytes of a formula's file that are read: one more than a formula's text may have.
 const MOST: usize = TEXT_LIMIT + 1;
 
-/// The most bytes that one read asks for.
+/// The most bytes that one read requests.
 const CHUNK: usize = 4096;
 
 /// The bytes of a formula's file up to its end, but at most `MOST` of them. Nothing is read after `MOST` bytes.

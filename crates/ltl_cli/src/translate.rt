@@ -60,7 +60,7 @@ fn print<A: Allocator, S: ByteSink>(
     output.flush()
 }
 
-/// The formula of the plan and its automaton, which accepts exactly the ultimately periodic words that satisfy the formula.
+/// The formula of the plan, and its automaton. The automaton accepts exactly the ultimately periodic words that satisfy the formula.
 fn translated<'a, A: Allocator, R: ByteSource>(
     alloc: &'a A,
     plan: &Plan<'_>,

@@ -33,7 +33,7 @@ impl<'a, A: Allocator> Model for Share<'a, A> {
     ghost invariant = { λ s. IsTargetOrder (map edge_of s.edges.items) s.places.items };
 }
 
-/// The flag itself, or its opposite.
+/// The flag if `set` is true, or else its opposite.
 fn turned(set: bool, flag: bool) -> bool
     ensures { result ≡ picked.turned set flag }
 {
@@ -54,7 +54,7 @@ fn push_if<A: Allocator>(
     Ok(())
 }
 
-/// The edges whose flags are set, or the others if `set` is false.
+/// The edges for which the flag equals `set`.
 fn chosen<'a, A: Allocator>(
     alloc: &'a A,
     edges: &[MarkedEdge],
@@ -72,7 +72,7 @@ fn chosen<'a, A: Allocator>(
 }
 
 impl<'a, A: Allocator> Share<'a, A> {
-    /// The edges whose flags are set, or the others if `set` is false.
+    /// The edges for which the flag equals `set`.
     pub(crate) fn of(
         alloc: &'a A,
         edges: &[MarkedEdge],
@@ -108,7 +108,7 @@ impl<'a, A: Allocator> Share<'a, A> {
     }
 }
 
-/// For each state the edges whose flags are set, or the others if `set` is false.
+/// For each state, its edges for which the flag equals `set`.
 pub(crate) fn shares<'a, A: Allocator>(
     alloc: &'a A,
     automaton: &Marked<'_, A>,

@@ -71,7 +71,7 @@ fn planned<'a>(matches: &ArgMatches<'a>) -> Option<Plan<'a>>
     )
 }
 
-/// The plan of a command line. The first word is the program's name and isn't looked at. The errors are `Usage` and `OutOfMemory`.
+/// The plan of a command line. The first word is the program's name, and is ignored. The errors are `Usage` and `OutOfMemory`.
 pub fn plan<'a>(alloc: Global, words: &'a [&'a str]) -> Result<Plan<'a>, PlanFault>
     ensures { Plans (map (λ w. w.now) words.entry.now) (requested result) }
 {

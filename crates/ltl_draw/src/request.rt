@@ -1,6 +1,6 @@
 //! Plans: the parsed command line.
 
-/// What a command line asks for.
+/// The output that a command line requests.
 #[derive(Clone, Copy, Debug, PartialEq, Eq)]
 pub enum Plan<'a> {
     /// A drawing of the automaton that is read.

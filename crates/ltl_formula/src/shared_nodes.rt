@@ -14,7 +14,7 @@ pub const TOP: usize = 0;
 /// The number of the node `false`.
 pub const BOTTOM: usize = 1;
 
-/// Different nodes, numbered by first occurrence. A node comes behind its operands, so the graph has no cycle.
+/// Different nodes, numbered by first occurrence. A node comes after its operands, so the graph has no cycle.
 #[derive(Drop)]
 pub struct SharedNodes<'a, A: Allocator> {
     rows: IndexSet<Row, BuildHasherDefault<FoldHasher>, &'a A>,

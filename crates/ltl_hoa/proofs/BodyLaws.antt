@@ -14,7 +14,8 @@ use Rattle.ltl_hoa.specs.declared.token.TokenKind.{TokenKind}
 use Rattle.ltl_hoa.specs.declared.token.TokenKind.TheVariants as made
 use Rattle.ltl_hoa.specs.TokenView.{token_of}
 use Rattle.ltl_hoa.specs.BodyView.{BodyView, filed}
-use Rattle.ltl_hoa.specs.Shown.{came_in, Leads, StepsAt, Takes, TakesAt}
+use Rattle.ltl_spec.specs.Hoa.HoaMachine.{came_in}
+use Rattle.ltl_hoa.specs.Shown.{Leads, StepsAt, Takes, TakesAt}
 use Rattle.ltl_hoa.proofs.BodySteps.{filed_shows}
 
 -- no edge begins

@@ -1,5 +1,5 @@
 -- A token of the body takes it where the definition goes.
-use Rattle.std.proofs.Common.{◌≡◌, ℕ, zero, suc, ◌+◌, ◌<◌, ◌≤◌, Bool, true, false, ◌||◌, inl, inr, List, [], ◌∷◌, ◌++◌, length, map, Option, Some, None, ◌==◌, codes, refl, sym, ◌∙◌, ap, subst, arith}
+use Rattle.std.proofs.Common.{◌≡◌, ℕ, ◌+◌, ◌<◌, ◌≤◌, Bool, true, false, ◌||◌, inl, inr, List, [], ◌∷◌, ◌++◌, length, map, Option, Some, None, ◌==◌, codes, refl, sym, ◌∙◌, ap, subst, arith}
 use Rattle.std.specs.Prelude.{nat_lt, if◌then◌else◌, option_map, slice_index_or, slice_set, Result, Ok, Err}
 use Rattle.std.specs.List.{list_any}
 use Rattle.std.specs.Ordering.{nat_cmp}
@@ -32,7 +32,8 @@ use Rattle.ltl_hoa.specs.NumberView.{capped}
 use Rattle.ltl_label.specs.LabelView as label
 use Rattle.ltl_label.specs.LabelView.{LabelView}
 use Rattle.ltl_hoa.specs.BodyView.{BodyView, filed}
-use Rattle.ltl_hoa.specs.Shown.{Came, CameEdge, IsAt, Leads, StepsAt, StepsInLabel, ShowsBody, ShowsBodyPlace, ShowsCounts, AreAt, AreFiled, AreOpen, is_open, came_in, with_set, cube_edges, edges_of, shown_label, shown_part, shown_around, sign_within}
+use Rattle.ltl_spec.specs.Hoa.HoaMachine.{Came, CameEdge, came_in, with_set, cube_edges, edges_of}
+use Rattle.ltl_hoa.specs.Shown.{IsAt, Leads, StepsAt, StepsInLabel, ShowsBody, ShowsBodyPlace, ShowsCounts, AreAt, AreFiled, AreOpen, is_open, shown_label, shown_part, shown_around, sign_within}
 use Rattle.ltl_hoa.proofs.LabelLaws.{shows_negated, shows_opened, shows_constant, shows_number, shows_alternative, shows_closed, part_whole, narrow_is}
 
 -- memory was refused

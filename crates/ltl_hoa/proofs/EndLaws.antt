@@ -2,14 +2,12 @@
 use Rattle.std.specs.declared.alloc.AllocError.{AllocError}
 use Rattle.std.specs.Prelude.{OnOk, is_some, Result}
 use Rattle.std.proofs.Common.{◌≡◌, ℕ, ◌≤◌, true, false, ◌⊎◌, inl, inr, List, [], ◌∷◌, ◌++◌, length, Option, Some, None, refl, sym, ◌∙◌, ap, subst}
-use Rattle.std.specs.Prelude.{if◌then◌else◌, fold, take, Ok, Err}
-use Rattle.std.proofs.lemmas.Bool.{le-ltb}
+use Rattle.std.specs.Prelude.{fold, Ok, Err}
 use Rattle.std.proofs.lemmas.List.{append-nil}
-use Rattle.std.proofs.lemmas.List.Sums.{fold-append}
 use Rattle.ltl_spec.specs.Tools.Limits.{stated_limits}
-use Rattle.ltl_spec.specs.Hoa.HoaToken.{HoaItem, hoa_items, last_line}
+use Rattle.ltl_spec.specs.Hoa.HoaToken.{hoa_items, last_line}
 use Rattle.ltl_spec.specs.Hoa.HoaReading.{stated_form}
-use Rattle.ltl_spec.specs.Hoa.HoaFaultKind.{HoaFaultKind, NotHoaVersion1, BadToken, LimitPassed}
+use Rattle.ltl_spec.specs.Hoa.HoaFaultKind.{HoaFaultKind, NotHoaVersion1, BadToken}
 use Rattle.ltl_spec.specs.Hoa.HoaPlace as spec
 use Rattle.ltl_spec.specs.Hoa.HoaStep as table
 use Rattle.ltl_spec.specs.Hoa.HoaFault as fault
@@ -24,34 +22,20 @@ use Rattle.ltl_hoa.specs.TokenView.{token_of}
 use Rattle.ltl_hoa.specs.LexerView.{last_kind}
 use Rattle.ltl_hoa.specs.Resuming.{item_of, with_item}
 use Rattle.ltl_hoa.specs.ParserView.{ParserView, ShowsPlace}
-use Rattle.ltl_hoa.specs.Shown.{Came, came_none, came_at}
+use Rattle.ltl_spec.specs.Hoa.HoaMachine.{Came, Reached, came_none, came_at, reach}
 use Rattle.ltl_hoa.specs.StreamReaderView.{StreamReaderView, TakesToken, fault_line}
-use Rattle.ltl_hoa.specs.Reading.{Reached, reach, reached, fault_of, IsSound, IsFaulty, IsIn, IsAfter, IsTold, IsToldIn, IsEnded}
+use Rattle.ltl_hoa.specs.Reading.{reached, fault_of, IsSound, IsFaulty, IsIn, IsAfter, IsTold, IsToldIn, IsEnded}
 use Rattle.ltl_hoa.proofs.LexLaws.{lexer_last}
-use Rattle.ltl_hoa.proofs.StreamReaderLaws.{TokenShown, token_shown, reached_more, first_reached}
-
-after_fault : (whole : List ℕ) (f : fault.HoaFault) (items : List HoaItem) → fold (take_item stated_limits stated_form whole) (Err f) items ≡ Err f
-after_fault whole f [] = refl
-after_fault whole f (i ∷ items) = after_fault whole f items
-
--- a text within the limit
-within_limit : (text : List ℕ) → length text ≤ stated_limits.hoa_bytes → hoa_fault stated_limits stated_form text ≡ fault_after stated_limits stated_form text (fold (take_item stated_limits stated_form text) (Ok before_all) (hoa_items text))
-within_limit text l =
-    ap (λ t. if t then fault_at spec_limit (last_line (take stated_limits.hoa_bytes text)) else fault_after stated_limits stated_form text (fold (take_item stated_limits stated_form text) (Ok before_all) (hoa_items text)))
-    (le-ltb stated_limits.hoa_bytes (length text) l)
-  where
-    spec_limit : HoaFaultKind
-    spec_limit = LimitPassed
+use Rattle.ltl_hoa.proofs.StreamReaderLaws.{TokenShown, token_shown, reached_more}
+use Rattle.ltl_spec.proofs.Hoa.HoaFaultLaws.{first_fault, within_limit}
+use Rattle.ltl_spec.proofs.Hoa.HoaLaws.{first_reached}
 
 -- the fault that was met is that of the text
 pub fault_met : (f : Found) (text : List ℕ) → length text ≤ stated_limits.hoa_bytes → IsFaulty f text → hoa_fault stated_limits stated_form text ≡ Some (fault_of f)
 fault_met f text l s =
     let r = s.rest [] in
     let all : hoa_items text ≡ s.items ++ r.0 = ap hoa_items (sym (append-nil text)) ∙ r.1 in
-    within_limit text l
-    ∙ ap (λ x. fault_after stated_limits stated_form text (fold (take_item stated_limits stated_form text) (Ok before_all) x)) all
-    ∙ ap (fault_after stated_limits stated_form text) (
-    fold-append (take_item stated_limits stated_form text) (Ok before_all) s.items r.0 ∙ ap (λ x. fold (take_item stated_limits stated_form text) x r.0) (s.faulty text) ∙ after_fault text (fault_of f) r.0)
+    first_fault stated_limits stated_form text s.items r.0 (fault_of f) l all (s.faulty text)
 
 -- the line of a fault at the last token
 string_line : (q : Place) (pl : spec.Place) (text : List ℕ) (start last : ℕ) (v : ParserView) (b : Before) (g : Came) → ShowsPlace q v pl b g
@@ -101,8 +85,8 @@ ended_in v w k text n line s e t = go (table.step stated_limits stated_form s.be
     all : hoa_items text ≡ s.items ++ item_of k v.lexer ∷ []
     all = ap hoa_items (sym (append-nil text)) ∙ s.rest [] ∙ ap (λ x. s.items ++ x) (lexer_last v.lexer v.line s.lexing ∙ ap (λ o. with_item o v.lexer []) e)
 
-    more : reached text (hoa_items text) ≡ reach text (Ok s.before, s.came) (item_of k v.lexer)
-    more = ap (λ x. reached text x) all ∙ reached_more text s.items (item_of k v.lexer) ∙ ap (λ x. reach text x (item_of k v.lexer)) (s.reached text)
+    more : reached text (hoa_items text) ≡ reach stated_limits stated_form text (Ok s.before, s.came) (item_of k v.lexer)
+    more = ap (λ x. reached text x) all ∙ reached_more text s.items (item_of k v.lexer) ∙ ap (λ x. reach stated_limits stated_form text x (item_of k v.lexer)) (s.reached text)
 
     go : (S : table.Step) → table.step stated_limits stated_form s.before.place s.before (token_of k v.lexer.text) ≡ S → TokenShown S (came_at s.before.place s.before (token_of k v.lexer.text) s.came) v k w
         → (w.fault ≡ None) × IsTold w text ⊎ ((f : Found) × (w.fault ≡ Some f) × (fold (take_item stated_limits stated_form text) (Ok before_all) (hoa_items text) ≡ Err (fault_of f)))
@@ -118,7 +102,7 @@ ended_in v w k text n line s e t = go (table.step stated_limits stated_form s.be
     go (Err j) q (m, f, d) = inr (
       record { line = fault_line v.parser.place k v.lexer.start v.line; kind = m },
       f,
-      sym (first_reached text (hoa_items text) (Ok before_all, came_none))
+      sym (first_reached stated_limits stated_form text (hoa_items text) (Ok before_all, came_none))
           ∙ ap (λ (x : Reached). x.0) (more ∙ ap (λ S. (with_line stated_limits stated_form text s.before.place (item_of k v.lexer) S, came_at s.before.place s.before (token_of k v.lexer.text) s.came)) q)
           ∙ ap (λ l. Err (record { kind = j; line = l })) (
           ap (λ n. fault.fault_line s.before.place (token_of k v.lexer.text) v.lexer.start n) (sym line)
@@ -129,12 +113,12 @@ ended_in v w k text n line s e t = go (table.step stated_limits stated_form s.be
 -- the fault at the end, if there is one
 pub told_fault : (w : StreamReaderView) (text : List ℕ) → length text ≤ stated_limits.hoa_bytes → IsTold w text → hoa_fault stated_limits stated_form text ≡ at_line (end_kind w.parser.place) (last_line text)
 told_fault w text l s =
-    within_limit text l
-    ∙ ap (fault_after stated_limits stated_form text) (sym (first_reached text (hoa_items text) (Ok before_all, came_none)) ∙ ap (λ (x : Reached). x.0) s.reached)
+    within_limit stated_limits stated_form text l
+    ∙ ap (fault_after stated_limits stated_form text) (sym (first_reached stated_limits stated_form text (hoa_items text) (Ok before_all, came_none)) ∙ ap (λ (x : Reached). x.0) s.reached)
     ∙ end_line w.parser.place s.before.place (last_line text) w.parser s.before s.came s.shows.place
 
 pub last_fault : (f : Found) (text : List ℕ) → length text ≤ stated_limits.hoa_bytes → fold (take_item stated_limits stated_form text) (Ok before_all) (hoa_items text) ≡ Err (fault_of f) → hoa_fault stated_limits stated_form text ≡ Some (fault_of f)
-last_fault f text l e = within_limit text l ∙ ap (fault_after stated_limits stated_form text) e
+last_fault f text l e = within_limit stated_limits stated_form text l ∙ ap (fault_after stated_limits stated_form text) e
 
 -- ---- the stream reader behind the end
 

@@ -4,7 +4,7 @@ use Rattle.std.specs.Prelude.{⊤, if◌then◌else◌, option_map}
 use Rattle.std.specs.List.{starts_with, list_all}
 use Rattle.std.proofs.lemmas.Bool.Decides.{nat_tests}
 use Rattle.ltl_spec.specs.Formulas.Tokens.{is_blank, same_name}
-use Rattle.ltl_spec.specs.Hoa.HoaToken.{HoaToken, StringToken, Identifier, Header, Body, End, Abort, Unknown, is_digit, begins_identifier, is_identifier_byte, Found, string_rest, string_found, comment_rest, comment_found, word_found, sign_found, found_first, hoa_item_before, hoa_items_from}
+use Rattle.ltl_spec.specs.Hoa.HoaToken.{HoaToken, StringToken, Identifier, Header, Body, End, Abort, Unknown, is_digit, begins_identifier, is_identifier_byte, string_rest, string_found, comment_rest, comment_found, word_found, sign_found, found_first, hoa_item_before, hoa_items_from}
 use Rattle.ltl_hoa.specs.Resuming.{comment_items, string_items, has_mark}
 use Rattle.ltl_spec.proofs.Collections.CaseLaws.{left_true, right_true, false_is_true}
 use Rattle.ltl_spec.proofs.Hoa.SpelledLaws.{first_is, skipped, StopsAt, taken_while, less_one, within, succ}
@@ -12,9 +12,9 @@ use Rattle.ltl_spec.proofs.Hoa.SpelledLaws.{first_is, skipped, StopsAt, taken_wh
 -- a blank is left out
 pub blank_first : (l b : ℕ) (bs : List ℕ) → is_blank b ≡ true → hoa_items_from 0 l (b ∷ bs) ≡ hoa_items_from 0 (if b == 10 then l + 1 else l) bs
 blank_first l b bs e =
-    ap (λ (f : Found). hoa_item_before f.token l (hoa_items_from (f.size - 1) (if b == 10 then l + 1 else l) bs)) (found_blank e)
+    ap (λ (f : Option HoaToken × ℕ). hoa_item_before f.0 l (hoa_items_from (f.1 - 1) (if b == 10 then l + 1 else l) bs)) (found_blank e)
   where
-    found_blank : is_blank b ≡ true → found_first b bs ≡ record { token = None; size = 1 }
+    found_blank : is_blank b ≡ true → found_first b bs ≡ (None, 1)
     found_blank q = rw q refl
 
 -- ---- identifiers
@@ -73,7 +73,7 @@ pub word_ends : (l b : ℕ) (bs rest : List ℕ) → begins_identifier b ≡ tru
 word_ends l b bs rest e a s =
     let ten : (b == 10) ≡ false = grind (arith, nat_tests, e) in
     let found = found_word b bs rest e a (stops_word rest s) ∙ ap (word_found (b ∷ bs)) (no_colon rest s) in
-    first_is l b (bs ++ rest) ten ∙ ap (λ (f : Found). hoa_item_before f.token l (hoa_items_from (f.size - 1) l (bs ++ rest))) found
+    first_is l b (bs ++ rest) ten ∙ ap (λ (f : Option HoaToken × ℕ). hoa_item_before f.0 l (hoa_items_from (f.1 - 1) l (bs ++ rest))) found
     ∙ ap (λ items. record { token = Identifier (b ∷ bs); line = l } ∷ items) (
     ap (λ n. hoa_items_from n l (bs ++ rest)) (less_one (length bs)) ∙ skipped bs rest l (within _ _ no_line bs a))
 
@@ -83,7 +83,7 @@ pub word_named : (l b : ℕ) (bs rest : List ℕ) → begins_identifier b ≡ tr
 word_named l b bs rest e a =
     let ten : (b == 10) ≡ false = grind (arith, nat_tests, e) in
     let found = found_word b bs (58 ∷ rest) e a refl in
-    first_is l b (bs ++ 58 ∷ rest) ten ∙ ap (λ (f : Found). hoa_item_before f.token l (hoa_items_from (f.size - 1) l (bs ++ 58 ∷ rest))) found
+    first_is l b (bs ++ 58 ∷ rest) ten ∙ ap (λ (f : Option HoaToken × ℕ). hoa_item_before f.0 l (hoa_items_from (f.1 - 1) l (bs ++ 58 ∷ rest))) found
     ∙ ap (λ items. record { token = Header (b ∷ bs); line = l } ∷ items) (
     ap (λ n. hoa_items_from n l (bs ++ 58 ∷ rest)) (count (length bs)) ∙ behind bs (within _ _ no_line bs a))
   where
@@ -108,7 +108,7 @@ pub comment_first : (l : ℕ) (rest : List ℕ) → hoa_items_from 0 l (47 ∷ 4
 comment_first l rest = opened (comment_rest 0 1 rest)
   where
     opened : (o : Option ℕ)
-        → (let f = comment_found (option_map (λ n. n + 1) (option_map (λ n. n + 1) o)) in hoa_item_before f.token l (hoa_items_from (f.size - 1) l (42 ∷ rest))) ≡ comment_items l l o rest
+        → (let f = comment_found (option_map (λ n. n + 1) (option_map (λ n. n + 1) o)) in hoa_item_before f.0 l (hoa_items_from (f.1 - 1) l (42 ∷ rest))) ≡ comment_items l l o rest
     opened (Some n) = ap (λ k. hoa_items_from k l (42 ∷ rest)) (two n)
       where
         two : (k : ℕ) → k + 1 + 1 - 1 ≡ suc k
@@ -189,7 +189,7 @@ slash_last l = refl
 pub string_first : (l : ℕ) (rest : List ℕ) → hoa_items_from 0 l (34 ∷ rest) ≡ string_items l l [] (string_rest false rest) rest
 string_first l rest = opened (string_rest false rest)
   where
-    opened : (o : Option (List ℕ × ℕ)) → (let f = string_found o in hoa_item_before f.token l (hoa_items_from (f.size - 1) l rest)) ≡ string_items l l [] o rest
+    opened : (o : Option (List ℕ × ℕ)) → (let f = string_found o in hoa_item_before f.0 l (hoa_items_from (f.1 - 1) l rest)) ≡ string_items l l [] o rest
     opened (Some s) = ap (λ k. record { token = StringToken s.0; line = l } ∷ hoa_items_from k l rest) (one s.1)
       where
         one : (k : ℕ) → k + 1 - 1 ≡ k
@@ -266,7 +266,7 @@ abort_first l rest = refl
 pub dash_alone : (l : ℕ) (bs : List ℕ) → has_mark (45 ∷ bs) ≡ false → hoa_items_from 0 l (45 ∷ bs) ≡ record { token = Unknown; line = l } ∷ []
 dash_alone l bs e =
     let n = none (starts_with nat_eq (45 ∷ bs) (codes "--BODY--")) (starts_with nat_eq (45 ∷ bs) (codes "--END--")) (starts_with nat_eq (45 ∷ bs) (codes "--ABORT--")) e in
-    ap (λ (o : Option (List ℕ × HoaToken)). let f = sign_found o in hoa_item_before f.token l (hoa_items_from (f.size - 1) l bs)) (unfound _ _ _ n.0 n.1 n.2)
+    ap (λ (o : Option (List ℕ × HoaToken)). let f = sign_found o in hoa_item_before f.0 l (hoa_items_from (f.1 - 1) l bs)) (unfound _ _ _ n.0 n.1 n.2)
   where
     none : (s t u : Bool) → (s || t || u) ≡ false → (s ≡ false) × (t ≡ false) × (u ≡ false)
     none true t u q = cc

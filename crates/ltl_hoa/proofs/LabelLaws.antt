@@ -12,7 +12,6 @@ use Rattle.ltl_spec.specs.Hoa.HoaLabel.{Label, ConstantLabel, NumberLabel, NotLa
 use Rattle.ltl_spec.specs.Hoa.HoaPlace.{LabelPart, LabelParts, negated, joined, with_operand, whole, empty_part}
 use Rattle.ltl_spec.proofs.Collections.Orders.{cube_linear}
 use Rattle.ltl_spec.proofs.Collections.SetLaws.{IsRising-set_of, IsRising-union, union_cases, union_left, union_right, append_cases, append_left, append_right, same_members, set_of_cases, Has-set_of}
-use Rattle.ltl_spec.proofs.Hoa.BlockLaws.{same_first, same_behind}
 use Rattle.ltl_label.specs.CubesView.{few, constant_cubes, literal_cubes, both_cubes}
 use Rattle.ltl_label.specs.LabelView as view
 use Rattle.ltl_label.specs.LabelView.{LabelView}

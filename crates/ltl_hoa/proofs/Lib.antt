@@ -1,7 +1,5 @@
 pub mod BodyLaws
 pub mod BodySteps
-pub mod CameLaws
-pub mod EdgeLaws
 pub mod EndLaws
 pub mod ItemLaws
 pub mod LabelLaws

@@ -11,19 +11,13 @@ use Rattle.ltl_spec.specs.Automata.Automaton.{Edge}
 use Rattle.ltl_spec.specs.Transitions.Cubes.{Cube}
 use Rattle.ltl_spec.specs.Tools.Limits.{stated_limits}
 use Rattle.ltl_spec.specs.Hoa.HoaLabel.{label_cubes, is_grouped, has_names_below}
-use Rattle.ltl_spec.specs.Hoa.HoaReading.{AcceptanceForm, SetsUpTo, is_read, stated_form, WrittenEdge, WrittenState, HoaDocument, cube_edges, state_edges, edges_at, MarkedAutomaton, are_sets, is_edge_inside, is_state_inside, IsDocumentOf, HoaReadsWithin}
+use Rattle.ltl_spec.specs.Hoa.HoaReading.{AcceptanceForm, stated_form, WrittenEdge, WrittenState, HoaDocument, cube_edges, state_edges, edges_at, MarkedAutomaton, are_sets, is_edge_inside, is_state_inside, IsDocumentOf, HoaReadsWithin}
 use Rattle.ltl_spec.proofs.Collections.CaseLaws.{left_true, right_true}
 use Rattle.ltl_spec.proofs.Collections.ListLaws.{All-from_has}
-use Rattle.std.proofs.lemmas.Bool.Decides.{nat_tests}
 use Rattle.ltl_spec.proofs.Collections.SetLaws.{filter_cases}
 use Rattle.ltl_spec.proofs.Collections.MemberLaws.{map_cases, flat_map_cases, all_Decides}
 use Rattle.ltl_spec.proofs.Checking.DocumentLaws.{document_proper}
-use Rattle.ltl_hoa.specs.declared.marked.TheConstants.{MOST_SETS}
 use Rattle.ltl_hoa.specs.MarkedView.{IsMarked, IsEdgeWithin}
-
--- a number that is read is none above the greatest
-read_below : (most n : ℕ) → is_read (SetsUpTo most) n ≡ true → n ≤ most
-read_below most n e = grind (arith, nat_tests, e)
 
 -- ---- the edges of all states are no more than those that are written
 
@@ -131,16 +125,16 @@ module _ (form : AcceptanceForm) (A : MarkedAutomaton) (d : HoaDocument) (f : Is
 
 pub read_marked : (text : List ℕ) (A : MarkedAutomaton) → HoaReadsWithin stated_limits stated_form text A → IsMarked A
 read_marked text A r =
-    let d = r.0.document in
-    let f = r.0.describes in
-    let w = r.1 in
+    let d = r.document in
+    let f = r.describes in
+    let w = r.within in
     let proper = document_proper stated_form A d f in
     record {
       counted = ap length f.edges ∙ length-map-range_with_len (edges_at d) 0 A.states;
       few_states = w.states;
       begins = f.begins;
       few_names = w.names;
-      few_sets = read_below MOST_SETS A.sets f.reads;
+      few_sets = f.few_sets;
       propositions = f.propositions;
       differ = f.differ;
       within = All-from_has (λ es. All (IsEdgeWithin (length A.names) A.states A.sets) es) A.edges (λ es h. All-from_has (IsEdgeWithin (length A.names) A.states A.sets) es (λ e m. record {

@@ -28,7 +28,8 @@ use Rattle.ltl_hoa.specs.HeaderView.{Refuses, Leads, Fits, place_of, stepped}
 use Rattle.ltl_hoa.specs.Shown as body
 use Rattle.ltl_hoa.specs.BodyView.{BodyView, new_body}
 use Rattle.ltl_hoa.specs.ParserView.{ParserView, at_place, Takes, TakesAt, TakesInHeader, TakesBody, BodyTakes, Begins, Shows, ShowsHeader, ShowsPlace, IsBegun}
-use Rattle.ltl_hoa.specs.Shown.{Came, came_none, came_in, came_at, IsAt, ShowsBody, ShowsBodyPlace, edges_of, first_or}
+use Rattle.ltl_spec.specs.Hoa.HoaMachine.{Came, came_none, came_in, came_at, edges_of, first_or}
+use Rattle.ltl_hoa.specs.Shown.{IsAt, ShowsBody, ShowsBodyPlace}
 use Rattle.ltl_hoa.proofs.StepLaws.{Agrees, capped_under, step_agrees}
 
 -- the answer is that of the definition's step

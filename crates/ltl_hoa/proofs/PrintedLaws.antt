@@ -1,5 +1,5 @@
 -- The text of an automaton reads as that automaton.
-use Rattle.std.proofs.Common.{◌≡◌, ℕ, ◌+◌, ◌^◌, ◌<◌, ◌≤◌, Bool, true, false, List, [], ◌∷◌, ◌++◌, length, map, Some, None, codes, refl, sym, ◌∙◌, ap, subst, arith}
+use Rattle.std.proofs.Common.{◌≡◌, ℕ, ◌^◌, ◌<◌, ◌≤◌, Bool, true, false, List, [], ◌∷◌, ◌++◌, length, map, Some, None, codes, refl, sym, ◌∙◌, ap, subst, arith}
 use Rattle.std.specs.Prelude.{if◌then◌else◌, unwrap_or, All, Result, Ok, Err}
 use Rattle.std.specs.Ordering.{nat_cmp}
 use Rattle.ltl_spec.specs.Collections.Sets.{Has, set_of}
@@ -11,10 +11,9 @@ use Rattle.ltl_spec.specs.Automata.GeneralizedText.{generalized_text}
 use Rattle.ltl_spec.specs.Tools.Limits.{stated_limits}
 use Rattle.ltl_spec.specs.Hoa.HoaToken.{Identifier}
 use Rattle.ltl_spec.specs.Hoa.HoaReading.{stated_form, MarkedAutomaton, are_sets, HoaReadsWithin}
-use Rattle.ltl_spec.proofs.Hoa.HoaLaws.{reads_without_fault}
+use Rattle.ltl_spec.proofs.Hoa.HoaLaws.{one_automaton, reads_without_fault}
 use Rattle.ltl_spec.specs.Hoa.HoaPrinted as generalized
 use Rattle.ltl_spec.proofs.Hoa.GeneralizedBack.{stated_usual, generalized_reads, generalized_read_back, Form, read_edge, IsFine, form_reads}
-use Rattle.ltl_spec.proofs.Hoa.HoaUniqueLaws.{one_automaton}
 use Rattle.ltl_hoa.specs.declared.marked.TheConstants.{MOST_SETS}
 use Rattle.ltl_hoa.specs.declared.fault.HoaFault.{HoaFault}
 use Rattle.ltl_hoa.specs.declared.fault.HoaFault.TheVariants.{AtLine, CannotRead, OutOfMemory}
@@ -61,7 +60,7 @@ module _ (B : Automaton) (F : Reading) (p : IsPrinted B F) where
     properties = properties_line;
     lines = λ k l. state_spelled B k (few_numbered k l) (edge_small (state_at B k) (Has-at B.states k (record { accepting = true; edges = [] }) l));
     plain = (refl, refl);
-    reads = refl;
+    few_sets = (omega arith);
     at_states = λ s. sets_inside s.accepting;
     edges = λ s h e m. let f = edge_fine s h e m in record { rising = f.rising; consistent = f.consistent; named = f.named; target = f.target; sets = refl };
     some = p.some;
@@ -99,7 +98,7 @@ answered_alone text A OutOfMemory r a = λ e. e
 
 -- what is answered to the printed text
 pub answered_back : (B : Automaton) (F : Reading) (answer : Result MarkedAutomaton HoaFault) → IsPrinted B F → length (hoa_text B F) ≤ stated_limits.hoa_bytes → Answers (hoa_text B F) answer → IsReadBack B F answer
-answered_back B F (Ok A) p l a = one_automaton stated_form (hoa_text B F) A (marked_of B F.names) a.0 (printed_reads B F p l).0
+answered_back B F (Ok A) p l a = one_automaton stated_limits stated_form (hoa_text B F) A (marked_of B F.names) a (printed_reads B F p l)
 answered_back B F (Err fault) p l a = answered_alone (hoa_text B F) (marked_of B F.names) fault (printed_reads B F p l) a
 
 -- a generalized automaton

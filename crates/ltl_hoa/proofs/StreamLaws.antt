@@ -1,5 +1,5 @@
 -- What was read of a stream, and what it says of the whole text.
-use Rattle.std.proofs.Common.{inl, ◌≡◌, ℕ, suc, ◌+◌, ◌<◌, ◌≤◌, List, [], ◌∷◌, ◌++◌, length, Option, Some, None, refl, sym, ◌∙◌, ap, subst, arith, append_assoc, take, length-append, length-take, min}
+use Rattle.std.proofs.Common.{inl, ◌≡◌, ℕ, ◌+◌, ◌<◌, ◌≤◌, List, [], ◌∷◌, ◌++◌, length, Option, Some, None, refl, sym, ◌∙◌, ap, subst, arith, append_assoc, take, length-append, length-take, min}
 use Rattle.std.specs.Prelude.{Result, if◌then◌else◌, fold, Ok, Err, MatchResult, IsErrOf}
 use Rattle.std.specs.Io.KnownBytes.{Consumes, IsAtEnd, Keeps}
 use Rattle.std.proofs.Math.Seq.{take-append_seam}
@@ -16,7 +16,7 @@ use Rattle.ltl_hoa.specs.declared.fault.HoaFault.{HoaFault}
 use Rattle.ltl_hoa.specs.declared.fault.HoaFault.TheVariants.{AtLine, CannotRead, OutOfMemory}
 use Rattle.ltl_hoa.specs.declared.fault.HoaFaultKind.TheVariants as made
 use Rattle.ltl_hoa.specs.StreamReaderView.{StreamReaderView, new_stream_reader}
-use Rattle.ltl_hoa.specs.Shown.{came_none}
+use Rattle.ltl_spec.specs.Hoa.HoaMachine.{came_none}
 use Rattle.ltl_hoa.specs.Reading.{Answers, AnswersHeld, IsAfter, IsOfText, LeavesStage, TakesText, TakesUpTo}
 
 pub consumes_trans : (o m n : Option (List ℕ)) (a b : List ℕ) → Consumes o m a → Consumes m n b → Consumes o n (a ++ b)

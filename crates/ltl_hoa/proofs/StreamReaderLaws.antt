@@ -27,10 +27,11 @@ use Rattle.ltl_hoa.specs.declared.lexer.Phase.TheVariants as phase
 use Rattle.ltl_hoa.specs.TokenView.{token_of, kind_of, sign_kind, mark_kind, begins_mark}
 use Rattle.ltl_hoa.specs.LexerView.{LexerView, ended_kind, rested, taken, taken_in, beginning, sign_beginning, marked_by, quoted_in}
 use Rattle.ltl_hoa.specs.Resuming.{item_of, resume, IsLexing}
-use Rattle.ltl_hoa.specs.Shown.{Came, came_none, came_at}
+use Rattle.ltl_spec.specs.Hoa.HoaMachine.{Came, Reached, came_none, came_at, reach}
+use Rattle.ltl_spec.proofs.Hoa.HoaLaws.{first_reached}
 use Rattle.ltl_hoa.specs.ParserView.{Shows}
 use Rattle.ltl_hoa.specs.StreamReaderView.{StreamReaderView, line_behind, TakesToken, FaultIs, fault_line, EndsToken, Feeds, Lexes, met, through, stopped}
-use Rattle.ltl_hoa.specs.Reading.{Reached, reach, reached, fault_of, IsSound, IsIn, IsAfter}
+use Rattle.ltl_hoa.specs.Reading.{reached, fault_of, IsSound, IsIn, IsAfter}
 use Rattle.ltl_hoa.proofs.ParserLaws.{StepShown, parser_takes}
 use Rattle.ltl_hoa.proofs.LexLaws.{IsTaken, lexer_takes, lexer_ends}
 
@@ -128,12 +129,8 @@ token_shown v w k b g n s t =
     go (Err j) h (Err OutOfMemory) a f = absurd f
 
 -- one item more
-pub reached_more : (whole : List ℕ) (items : List HoaItem) (i : HoaItem) → reached whole (items ++ i ∷ []) ≡ reach whole (reached whole items) i
-reached_more whole items i = fold-append (reach whole) (Ok before_all, came_none) items (i ∷ [])
-
-pub first_reached : (whole : List ℕ) (items : List HoaItem) (r : Reached) → (fold (reach whole) r items).0 ≡ fold (take_item stated_limits stated_form whole) r.0 items
-first_reached whole [] r = refl
-first_reached whole (i ∷ items) r = first_reached whole items (reach whole r i)
+pub reached_more : (whole : List ℕ) (items : List HoaItem) (i : HoaItem) → reached whole (items ++ i ∷ []) ≡ reach stated_limits stated_form whole (reached whole items) i
+reached_more whole items i = fold-append (reach stated_limits stated_form whole) (Ok before_all, came_none) items (i ∷ [])
 
 -- what the stream reader is behind these items
 abbrev pub Behind : Option Found → StreamReaderView → List HoaItem → Type 0
@@ -145,8 +142,8 @@ pub token_behind : (v w : StreamReaderView) (k : TokenKind) (items : List HoaIte
     → Behind w.fault w (items ++ item_of k v.lexer ∷ [])
 token_behind v w k items b g n e r s t = go (table.step stated_limits stated_form b.place b (token_of k v.lexer.text)) refl (token_shown v w k b g n s t)
   where
-    more : (whole : List ℕ) → reached whole (items ++ item_of k v.lexer ∷ []) ≡ reach whole (Ok b, g) (item_of k v.lexer)
-    more whole = reached_more whole items (item_of k v.lexer) ∙ ap (λ x. reach whole x (item_of k v.lexer)) (r whole)
+    more : (whole : List ℕ) → reached whole (items ++ item_of k v.lexer ∷ []) ≡ reach stated_limits stated_form whole (Ok b, g) (item_of k v.lexer)
+    more whole = reached_more whole items (item_of k v.lexer) ∙ ap (λ x. reach stated_limits stated_form whole x (item_of k v.lexer)) (r whole)
 
     go : (S : Step) → table.step stated_limits stated_form b.place b (token_of k v.lexer.text) ≡ S → TokenShown S (came_at b.place b (token_of k v.lexer.text) g) v k w → Behind w.fault w (items ++ item_of k v.lexer ∷ [])
     go (Ok c) q a =
@@ -154,7 +151,7 @@ token_behind v w k items b g n e r s t = go (table.step stated_limits stated_for
         (c, came_at b.place b (token_of k v.lexer.text) g, (λ whole. more whole ∙ ap (λ S. (with_line stated_limits stated_form whole b.place (item_of k v.lexer) S, came_at b.place b (token_of k v.lexer.text) g)) q), a.1)
     go (Err j) q (m, f, d) =
         subst (λ o. Behind o w (items ++ item_of k v.lexer ∷ [])) (sym f) (λ whole.
-        sym (first_reached whole (items ++ item_of k v.lexer ∷ []) (Ok before_all, came_none))
+        sym (first_reached stated_limits stated_form whole (items ++ item_of k v.lexer ∷ []) (Ok before_all, came_none))
         ∙ ap (λ (x : Reached). x.0) (more whole ∙ ap (λ S. (with_line stated_limits stated_form whole b.place (item_of k v.lexer) S, came_at b.place b (token_of k v.lexer.text) g)) q)
         ∙ ap (λ l. Err (record { kind = j; line = l })) (spec_line b.place k v.lexer.text v.lexer.start (last_line whole) e ∙ sym (plain_line v.parser.place k v.lexer.start v.line e))
         ∙ ap (λ i. Err (record { kind = i; line = fault_line v.parser.place k v.lexer.start v.line })) (sym d))

@@ -5,7 +5,7 @@ use Rattle.std.specs.List.{range_with_len}
 use Rattle.ltl_spec.specs.Automata.Automaton.{Edge}
 use Rattle.ltl_spec.specs.Tools.Limits.{stated_limits}
 use Rattle.ltl_spec.specs.Hoa.HoaToken.{hoa_items}
-use Rattle.ltl_spec.specs.Hoa.HoaReading.{stated_form, MarkedAutomaton, edges_at, HoaReadsWithin}
+use Rattle.ltl_spec.specs.Hoa.HoaReading.{stated_form, MarkedAutomaton, HoaReadsWithin}
 use Rattle.ltl_spec.specs.Hoa.HoaPlace as spec
 use Rattle.ltl_spec.specs.Hoa.HoaPlace.{Before}
 use Rattle.ltl_spec.proofs.Hoa.HoaHeaderLaws.{whole_header}
@@ -14,17 +14,18 @@ use Rattle.ltl_hoa.specs.HeaderView as header
 use Rattle.ltl_hoa.specs.HeaderView.{HeaderView, automaton_from, IsSomeMarked}
 use Rattle.ltl_hoa.specs.BodyView.{BodyView}
 use Rattle.ltl_hoa.specs.ParserView.{ParserView, Shows, ShowsPlace, ShowsHeader, capped_header, IsWhole, IsWholeWith, IsAutomaton, IsAutomatonWith}
-use Rattle.ltl_hoa.specs.Shown.{Came, ShowsBody}
+use Rattle.ltl_spec.specs.Hoa.HoaMachine.{Came, edges_of, automaton_of}
+use Rattle.ltl_hoa.specs.Shown.{ShowsBody}
 use Rattle.ltl_hoa.specs.declared.fault.HoaFaultKind as made
 use Rattle.ltl_spec.specs.Hoa.HoaFault.{hoa_fault}
 use Rattle.ltl_spec.specs.Hoa.HoaToken.{last_line}
-use Rattle.ltl_spec.proofs.Hoa.HoaBackLaws.{no_fault_reads}
+use Rattle.ltl_spec.proofs.Hoa.HoaBackLaws.{answers_exactly}
+use Rattle.ltl_spec.proofs.Hoa.HoaLaws.{answers_reached, header_reached}
 use Rattle.ltl_hoa.specs.TokenView.{kind_of}
 use Rattle.ltl_hoa.specs.StreamReaderView.{StreamReaderView}
 use Rattle.ltl_hoa.specs.Reading.{reached, IsTold, IsToldIn, IsEnded}
 use Rattle.ltl_hoa.proofs.EndLaws.{end_kind, at_line, told_fault}
 use Rattle.ltl_hoa.proofs.StepLaws.{capped_small}
-use Rattle.ltl_hoa.proofs.EdgeLaws.{IsReadAs, read_as}
 use Rattle.ltl_hoa.proofs.MarkedLaws.{read_marked}
 
 -- a list by its elements
@@ -51,9 +52,6 @@ at_end : (pl : spec.Place) (v : ParserView) (b : Before) (g : Came) → ShowsPla
 at_end spec.AtEnd v b g s = s
 at_end pl v b g s = absurd s
 
-some_same : (m n : ℕ) → Some m ≡ Some n → m ≡ n
-some_same m n e = ap (λ o. unwrap_or o m) e
-
 -- the header and the body of the automaton
 automaton_made : (A : MarkedAutomaton) (start sets : Option ℕ) (names : Option (List (List ℕ))) (edges : List (List Edge)) → start ≡ Some A.start → sets ≡ Some A.sets → names ≡ Some A.names → length edges ≡ A.states → edges ≡ A.edges
     → automaton_from start sets names edges ≡ Some A
@@ -68,23 +66,22 @@ header_made A v h b before g s e l m c q =
     (ap (λ x. x.start) items ∙ ap Some (capped_small A.start (omega (arith, l, m))))
     (ap (λ x. x.sets) items) (ap (λ x. x.names) items) c q
 
--- the parser's automaton is the one that the text reads as
-pub whole_automaton : (v : ParserView) (text : List ℕ) (b : Before) (g : Came) (A : MarkedAutomaton) → HoaReadsWithin stated_limits stated_form text A → v.place ≡ place.End → Shows v b g
-    → reached text (hoa_items text) ≡ (Ok b, g) → IsAutomaton v A
-whole_automaton v text b g A r p s e =
-    let told = read_as text A r b g e in
-    let d = r.0.document in
+-- the parser's automaton is the one that the definition's machine has reached
+pub whole_automaton : (v : ParserView) (text : List ℕ) (b : Before) (g : Came) → HoaReadsWithin stated_limits stated_form text (automaton_of b.header g) → v.place ≡ place.End → Shows v b g
+    → reached text (hoa_items text) ≡ (Ok b, g) → IsAutomaton v (automaton_of b.header g)
+whole_automaton v text b g r p s e =
     let end = at_end b.place v b g (subst (λ q. ShowsPlace q v b.place b g) p s.place) in
-    body_made told end.0 end.1 end.2
+    body_made end.0 end.1 end.2
   where
-    body_made : IsReadAs A r.0.document b g → (body : BodyView) → v.body ≡ Some body → ShowsBody body spec.AtState b g → IsAutomaton v A
-    body_made told body q shown =
-        let states : body.counts.states ≡ A.states = some_same _ _ (sym shown.0.states ∙ ap (λ h. h.states) told.header) in
-        let count : length body.edges ≡ A.states = shown.2 ∙ states in
-        let all : body.edges ≡ map (edges_at r.0.document) (range_with_len 0 (length body.edges)) =
-        listed 0 body.edges [] (edges_at r.0.document) (λ k l. shown.6 k (below k _ _ l shown.2) ∙ told.edges k ∙ ap (edges_at r.0.document) (from_zero k)) in
-        let edges : body.edges ≡ A.edges = all ∙ ap (λ n. map (edges_at r.0.document) (range_with_len 0 n)) count ∙ sym r.0.describes.edges in
-        subst (λ o. IsAutomatonWith v.header o A) (sym q) (header_made A v.header b.header body b g s.header told.header r.0.describes.begins r.1.states count edges)
+    body_made : (body : BodyView) → v.body ≡ Some body → ShowsBody body spec.AtState b g → IsAutomaton v (automaton_of b.header g)
+    body_made body q shown =
+        let A = automaton_of b.header g in
+        let count : length body.edges ≡ A.states = shown.2 ∙ sym (ap (λ o. unwrap_or o 0) shown.0.states) in
+        let all : body.edges ≡ map (λ k. edges_of k g.edges) (range_with_len 0 (length body.edges)) =
+        listed 0 body.edges [] (λ k. edges_of k g.edges) (λ k l. shown.6 k (below k _ _ l shown.2) ∙ ap (λ j. edges_of j g.edges) (from_zero k)) in
+        let edges : body.edges ≡ A.edges = all ∙ ap (λ n. map (λ k. edges_of k g.edges) (range_with_len 0 n)) count in
+        subst (λ o. IsAutomatonWith v.header o (automaton_of b.header g)) (sym q)
+        (header_made A v.header b.header body b g s.header (header_reached stated_limits stated_form text A b g r e) r.describes.begins r.within.states count edges)
       where
         below : (k m n : ℕ) → k < m → m ≡ n → k < n
         below k m n l e = omega (arith, l, e)
@@ -120,8 +117,10 @@ told w text e n = subst (λ o. IsToldIn o w text) n e.inside
 pub end_reads : (w : StreamReaderView) (text : List ℕ) → IsEnded w text → w.fault ≡ None → w.parser.place ≡ place.End → (A : MarkedAutomaton) × HoaReadsWithin stated_limits stated_form text A × IsAutomaton w.parser A
 end_reads w text e n p =
     let s = told w text e n in
-    let r = no_fault_reads stated_limits stated_form text (told_fault w text e.few s ∙ ap (λ q. at_line (end_kind q) (last_line text)) p) in
-    (r.0, r.1, whole_automaton w.parser text s.before s.came r.0 r.1 p s.shows s.reached)
+    let A = automaton_of s.before.header s.came in
+    let answer = answers_reached stated_limits stated_form text s.before s.came (told_fault w text e.few s ∙ ap (λ q. at_line (end_kind q) (last_line text)) p) s.reached in
+    let r = (answers_exactly stated_limits stated_form text A).0 answer in
+    (A, r, whole_automaton w.parser text s.before s.came r p s.shows s.reached)
 
 pub end_whole : (w : StreamReaderView) (text : List ℕ) → IsEnded w text → w.fault ≡ None → w.parser.place ≡ place.End → IsWhole w.parser
 end_whole w text e n p = let r = end_reads w text e n p in whole_holds w.parser text r.0 r.1 r.2

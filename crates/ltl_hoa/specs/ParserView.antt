@@ -21,7 +21,8 @@ use Rattle.ltl_hoa.specs.HeaderView as header
 use Rattle.ltl_hoa.specs.HeaderView.{HeaderView, Refuses, AreCounts, new_header, body_begun, place_of, Fits}
 use Rattle.ltl_hoa.specs.BodyView.{BodyView, new_body}
 use Rattle.ltl_hoa.specs.Shown as body
-use Rattle.ltl_hoa.specs.Shown.{Came, came_none, ShowsBody, ShowsBodyPlace}
+use Rattle.ltl_spec.specs.Hoa.HoaMachine.{Came, came_none}
+use Rattle.ltl_hoa.specs.Shown.{ShowsBody, ShowsBodyPlace}
 
 pub record ParserView : Type 0 where
   pub place : Place

@@ -7,6 +7,8 @@ use Rattle.ltl_spec.specs.Hoa.HoaReading.{stated_form, MarkedAutomaton, HoaReads
 use Rattle.ltl_spec.specs.Hoa.HoaFault as spec
 use Rattle.ltl_spec.specs.Hoa.HoaPlace.{Before, before_all}
 use Rattle.ltl_spec.specs.Hoa.HoaFault.{take_item, hoa_fault}
+use Rattle.ltl_spec.specs.Hoa.HoaMachine as machine
+use Rattle.ltl_spec.specs.Hoa.HoaMachine.{Came, Reached}
 use Rattle.ltl_spec.specs.Tools.Stage.{Stage, Open, Closed, Broken}
 use Rattle.ltl_hoa.specs.declared.fault.HoaFault.{HoaFault}
 use Rattle.ltl_hoa.specs.declared.fault.HoaFault.TheVariants.{AtLine, CannotRead, OutOfMemory}
@@ -14,23 +16,12 @@ use Rattle.ltl_hoa.specs.declared.fault.HoaFaultKind.TheVariants.{LimitPassed}
 use Rattle.ltl_hoa.specs.declared.stream_reader.Found.{Found}
 use Rattle.ltl_hoa.specs.TokenView.{kind_of}
 use Rattle.ltl_hoa.specs.Resuming.{resume, IsLexing}
-use Rattle.ltl_hoa.specs.Shown.{Came, came_none, came_at}
 use Rattle.ltl_hoa.specs.ParserView.{Shows}
 use Rattle.ltl_hoa.specs.StreamReaderView.{StreamReaderView}
 
--- what the definition's state and what came are behind one more item
-abbrev pub came_by : Result Before spec.HoaFault → HoaItem → Came → Came
-came_by (Ok b) i g = came_at b.place b i.token g
-came_by (Err f) i g = g
-
-abbrev pub Reached : Type 0
-Reached = Result Before spec.HoaFault × Came
-
-abbrev pub reach : List ℕ → Reached → HoaItem → Reached
-reach whole r i = (take_item stated_limits stated_form whole r.0 i, came_by r.0 i r.1)
-
+-- where some items of a text lead to
 abbrev pub reached : List ℕ → List HoaItem → Reached
-reached whole items = fold (reach whole) (Ok before_all, came_none) items
+reached whole items = machine.reached stated_limits stated_form whole items
 
 abbrev pub fault_of : Found → spec.HoaFault
 fault_of f = record { kind = kind_of f.kind; line = f.line }

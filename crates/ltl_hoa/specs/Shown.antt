@@ -1,5 +1,5 @@
 -- The relation of the body parser's state to the state of the definition, and what its steps make of it.
-use Rattle.std.specs.Prelude.{◌≡◌, ℕ, zero, suc, ◌<◌, ◌≤◌, Bool, true, false, not, ◌==◌, nat_lt, if◌then◌else◌, List, [], ◌∷◌, ◌++◌, length, map, slice_index_or, Option, Some, None, option_map, Result, Ok, Err, ⊤}
+use Rattle.std.specs.Prelude.{◌≡◌, ℕ, zero, suc, ◌<◌, ◌≤◌, Bool, true, false, not, ◌==◌, nat_lt, if◌then◌else◌, List, [], ◌∷◌, ◌++◌, length, slice_index_or, Option, Some, None, option_map, Result, Ok, Err, ⊤}
 use Rattle.std.specs.Bool.{beq}
 use Rattle.std.specs.List.{list_any}
 use Rattle.std.specs.Ordering.{nat_cmp}
@@ -7,13 +7,13 @@ use Rattle.ltl_spec.specs.Collections.Sets.{set_of}
 use Rattle.ltl_spec.specs.NormalForms.Normal.{Normal}
 use Rattle.ltl_spec.specs.NormalForms.NormalForm.{normal_form, postorder}
 use Rattle.ltl_spec.specs.Transitions.Cubes.{Cube}
-use Rattle.ltl_spec.specs.Automata.Automaton.{Edge}
 use Rattle.ltl_spec.specs.Tools.Limits.{stated_limits}
-use Rattle.ltl_spec.specs.Hoa.HoaToken.{HoaToken, Int, CloseLabel}
-use Rattle.ltl_spec.specs.Hoa.HoaLabel.{Label, label_formula, cubes, label_cubes}
+use Rattle.ltl_spec.specs.Hoa.HoaToken.{HoaToken}
+use Rattle.ltl_spec.specs.Hoa.HoaLabel.{Label, label_formula, cubes}
 use Rattle.ltl_spec.specs.Hoa.HoaPlace as spec
 use Rattle.ltl_spec.specs.Hoa.HoaPlace.{Before, HoaHeader, LabelPart, LabelParts, whole}
 use Rattle.ltl_spec.specs.Hoa.HoaStep.{Step, step_in_body, step_unless_abort}
+use Rattle.ltl_spec.specs.Hoa.HoaMachine.{Came, CameEdge, came_in, first_or, edges_of}
 use Rattle.ltl_hoa.specs.declared.fault.Stop.{Stop}
 use Rattle.ltl_hoa.specs.declared.fault.Stop.TheVariants.{OutOfMemory}
 use Rattle.ltl_hoa.specs.declared.marked.TheConstants.{MOST_SETS}
@@ -55,54 +55,6 @@ shown_around (p ∷ ps) = shown_around ps ++ shown_part (sign_within ps) p ∷ [
 
 abbrev pub shown_label : LabelParts → LabelView
 shown_label p = record { inner = shown_part (sign_within p.around) p.inner; around = shown_around p.around }
-
--- ---- edges
-
--- an edge as it came: its state, the cubes of its label, its target, and the sets of its state and then its own
-pub record CameEdge : Type 0 where
-  pub state : ℕ
-  pub cubes : List Cube
-  pub target : ℕ
-  pub sets : List ℕ
-
--- what came so far of the body: the sets of the state that stood last, the cubes of the label that ended last, and the edges, the last first
-pub record Came : Type 0 where
-  pub sets : List ℕ
-  pub cubes : List Cube
-  pub edges : List CameEdge
-
-abbrev pub came_none : Came
-came_none = record { sets = []; cubes = []; edges = [] }
-
-abbrev pub first_or : ℕ → List ℕ → ℕ
-first_or n [] = n
-first_or n (m ∷ ms) = m
-
-abbrev pub with_set : ℕ → List CameEdge → List CameEdge
-with_set k [] = []
-with_set k (e ∷ es) = record e { sets = e.sets ++ k ∷ [] } ∷ es
-
--- what a token at its place adds
-abbrev pub came_in : spec.BodyPlace → Before → HoaToken → Came → Came
-came_in spec.AtNumber b (Int n) g = record g { sets = [] }
-came_in spec.InStateSets b (Int k) g = record g { sets = g.sets ++ k ∷ [] }
-came_in (spec.AfterOperand p) b CloseLabel g = record g { cubes = label_cubes (whole p.inner) }
-came_in spec.AtTarget b (Int n) g = record g { edges = record { state = first_or 0 b.numbers; cubes = g.cubes; target = n; sets = g.sets } ∷ g.edges }
-came_in spec.InEdgeSets b (Int k) g = record g { edges = with_set k g.edges }
-came_in _ b t g = g
-
-abbrev pub came_at : spec.Place → Before → HoaToken → Came → Came
-came_at (spec.InBody p) b t g = came_in p b t g
-came_at _ b t g = g
-
--- the edges of a cube each
-abbrev pub cube_edges : CameEdge → List Edge
-cube_edges e = map (λ c. record { cube = c; target = e.target; marks = set_of nat_cmp e.sets }) e.cubes
-
--- the edges of a state, in the order in which they came
-abbrev pub edges_of : ℕ → List CameEdge → List Edge
-edges_of k [] = []
-edges_of k (e ∷ es) = edges_of k es ++ (if e.state == k then cube_edges e else [])
 
 -- ---- places
 

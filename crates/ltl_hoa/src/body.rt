@@ -30,7 +30,7 @@ pub(crate) struct Body<'a, A: Allocator> {
     /// For each state, whether its definition was met.
     defined: Vec<bool, &'a A>,
     edges: Vec<Vec<MarkedEdge, &'a A>, &'a A>,
-    /// How many edges the labels so far make.
+    /// The number of edges that the labels so far make.
     made: usize,
     /// The state whose definition was met last, and its acceptance sets.
     at: usize,
@@ -157,7 +157,7 @@ impl<'a, A: Allocator> Body<'a, A> {
         })
     }
 
-    /// Takes a token at the place `place`, and answers the next place.
+    /// Takes a token at the place `place`, and returns the next place.
     pub(crate) fn take(
         &mut self,
         place: BodyPlace,
@@ -328,7 +328,7 @@ impl<'a, A: Allocator> Body<'a, A> {
         }
     }
 
-    /// Takes a closing bracket behind an operand.
+    /// Takes a closing bracket after an operand.
     #[tactic(auto, using(crate::proofs::BodySteps::bracket_closed, crate::proofs::BodySteps::no_bracket, crate::proofs::BodySteps::no_memory))]
     fn close_bracket(&mut self) -> Result<Place, Stop>
         ensures { StepsInLabel AfterOperand self.old CloseBracket result self.new }

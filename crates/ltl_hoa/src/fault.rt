@@ -13,7 +13,7 @@ pub enum HoaFaultKind {
     /// The text doesn't begin with `HOA: v1`.
     #[error("not HOA v1")]
     NotHoaVersion1,
-    /// A token stands in a wrong place, a byte begins no token, the text ends too early, or a string or a comment isn't closed.
+    /// A token is in a wrong place, a byte begins no token, the text ends too early, or a string or a comment isn't closed.
     #[error("bad token")]
     BadToken,
     #[error("item twice")]
@@ -28,7 +28,7 @@ pub enum HoaFaultKind {
     /// A number of a state, a set or a proposition isn't below the count in the header.
     #[error("number out of range")]
     NumberOutOfRange,
-    /// A name is no proposition or stands twice, or the list has too few or too many names.
+    /// A name is no proposition, or the list has a name twice, or it has too few or too many names.
     #[error("bad AP list")]
     BadPropositionList,
     #[error("state defined twice")]
@@ -43,7 +43,7 @@ pub enum HoaFaultKind {
 /// Why no automaton was read.
 #[derive(Clone, Copy, Debug, PartialEq, Eq, Error)]
 pub enum HoaFault {
-    /// The leftmost fault of the text, and its line, counted from 1. A text with too many bytes has the fault `LimitPassed` alone, in the line where
+    /// The leftmost fault of the text, and its line, counted from 1. A text with too many bytes has only the fault `LimitPassed`, in the line where
     /// the limit is passed.
     #[error("automaton: line {0}: {1}")]
     AtLine(usize, HoaFaultKind),

@@ -80,7 +80,7 @@ fn begins_upper(name: &[u8]) -> bool
     }
 }
 
-/// The place behind the name of an item, or `ItemTwice` if the item was read before.
+/// The place after the name of an item, or `ItemTwice` if the item was read before.
 fn once(stood: bool, place: Place) -> Result<Place, Stop>
     ensures { (v : view.HeaderView) → view.Fits place v → Leads (table.begin_once (before_of v) stood (place_of place v)) result v }
 {
@@ -91,7 +91,7 @@ fn once(stood: bool, place: Place) -> Result<Place, Stop>
     }
 }
 
-/// Takes a token behind an item, if it isn't the name of the next one.
+/// Takes a token after an item. The token isn't the name of the next item.
 fn go_on(before: ItemBefore, kind: TokenKind) -> Result<Place, Stop>
     ensures { (v : view.HeaderView) (text : List ℕ) → Leads (table.go_on (before_of v) (item_of before) (view.read kind text)) result v }
 {
@@ -153,7 +153,7 @@ impl<'a, A: Allocator> Header<'a, A> {
         }
     }
 
-    /// Takes a token at the place `place`, and answers the next place. `--BODY--` between two items isn't handed to it.
+    /// Takes a token at the place `place`, and returns the next place. It never gets a `--BODY--` between two items.
     pub(crate) fn take(&mut self, place: Place, kind: TokenKind, text: &[u8]) -> Result<Place, Stop>
         ensures { view.Takes place self.old (token_of kind text.now) result self.new }
     {
@@ -241,7 +241,7 @@ impl<'a, A: Allocator> Header<'a, A> {
         Ok(self.after_name())
     }
 
-    /// The place behind a name: another name, or the next item.
+    /// The place after a name, where another name or the next item comes.
     fn after_name(&self) -> Place
         ensures { view.IsBehindNames self.now result }
     {
@@ -320,7 +320,7 @@ impl<'a, A: Allocator> Header<'a, A> {
         }
     }
 
-    /// The place behind a set of the acceptance condition: another set, or the next item.
+    /// The place after a set of the acceptance condition, where another set or the next item comes.
     fn behind_set(&self, set: usize) -> Place
         ensures { view.IsBehindSet set self.now result }
     {

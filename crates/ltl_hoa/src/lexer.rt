@@ -1,4 +1,4 @@
-//! The lexer, which takes one byte at a time and keeps the current token alone.
+//! The lexer. It takes one byte at a time, and keeps only the current token.
 
 ghost use Rattle.std.specs.Prelude.{◌≡◌, ◌<◌, ◌≤◌, ◌^◌, ◌+◌, IfOk};
 ghost use Rattle.ltl_hoa.specs.LexerView.{begun, beginning, depth_of, ended_kind, last_kind, rested, taken, commented, quoted, spelled};
@@ -26,12 +26,12 @@ pub(crate) enum Phase {
     /// A prefix of a mark, as `--BO`.
     Mark,
     Text,
-    /// A string, behind a backslash.
+    /// A string, after a backslash.
     Escape,
     Comment(usize),
-    /// A comment, behind a slash that may open an inner one.
+    /// A comment, after a slash that may open an inner one.
     CommentSlash(usize),
-    /// A comment, behind a star that may close it.
+    /// A comment, after a star that may close it.
     CommentStar(usize),
     /// An unknown token was met; no token follows.
     Ended,
@@ -53,7 +53,7 @@ impl<'a, A: Allocator> Model for Lexer<'a, A> {
     ghost view = { λ x. record { phase = x.phase; text = x.text.items; start = x.start } };
 }
 
-/// The state behind a byte between tokens, and the token if it is this byte alone.
+/// The state after a byte between tokens, and the token if it is this byte alone.
 fn beginning(byte: u8) -> (Phase, Option<TokenKind>)
     ensures exact { result ≡ beginning byte }
     ensures shallow { depth_of result.0 ≡ 0 }
@@ -80,7 +80,7 @@ fn beginning(byte: u8) -> (Phase, Option<TokenKind>)
     }
 }
 
-/// The state behind a byte of a comment. In other states nothing changes.
+/// The state after a byte of a comment. In other states nothing changes.
 fn commented(phase: Phase, byte: u8) -> Phase
     requires { depth_of phase < 2 ^ 32 }
     ensures exact { result ≡ commented phase byte }
@@ -142,14 +142,14 @@ impl<'a, A: Allocator> Lexer<'a, A> {
         }
     }
 
-    /// Closes the token that `ends` told of. Its content stays until the next token begins.
+    /// Closes the token that `ends` returned. Its content stays until the next token begins.
     pub(crate) fn rest(&mut self)
         ensures { self.new ≡ rested self.old }
     {
         self.phase = Phase::Between;
     }
 
-    /// Takes a byte in line `line`, before which no token ends. Answers the token that ends with it, if there is one.
+    /// Takes a byte in line `line`. No token ends before it. Returns the token that ends with it, if there is one.
     pub(crate) fn take(&mut self, line: usize, byte: u8) -> Result<Option<TokenKind>, AllocError>
         requires { depth_of self.old.phase < 2 ^ 32 }
         ensures exact { IfOk result (λ kind. (kind, self.new) ≡ taken self.old line byte) }
@@ -200,7 +200,7 @@ impl<'a, A: Allocator> Lexer<'a, A> {
         Ok(kind)
     }
 
-    /// Takes a byte behind a prefix of a mark.
+    /// Takes a byte after a prefix of a mark.
     fn take_mark(&mut self, byte: u8) -> Result<Option<TokenKind>, AllocError>
         requires { self.old.phase ≡ Phase.Mark }
         ensures exact { IfOk result (λ kind. (kind, self.new) ≡ taken self.old 0 byte) }

@@ -10,7 +10,7 @@ use std::alloc::AllocError;
 use std::fmt;
 use std::marker::Model;
 
-/// The acceptance sets that an edge belongs to, whose numbers are below [`MOST_SETS`]. Contracts see it as the sorted list of these numbers. It takes
+/// The acceptance sets that an edge belongs to. Their numbers are below [`MOST_SETS`]. Contracts see the sorted list of these numbers. A value takes
 /// 4 bytes, an eighth of a `RowSet`, since every edge of an automaton has one.
 pub struct Marks {
     bits: u32,

@@ -1,6 +1,6 @@
 //! The places of the parser, which say which tokens may come next.
 
-/// The item that was read last, behind which another one may begin. It says which tokens may still belong to it.
+/// The item that was read last. Its kind says which tokens may still belong to it. The next item may begin as well.
 #[derive(Clone, Copy)]
 pub(crate) enum ItemBefore {
     Plain,
@@ -10,8 +10,7 @@ pub(crate) enum ItemBefore {
     Other,
 }
 
-/// The next part of the acceptance condition, which is `t` or a conjunction as `Inf(0)&Inf(1)`. The number is that of the set which the part belongs
-/// to.
+/// The next part of the acceptance condition. The condition is `t` or a conjunction such as `Inf(0)&Inf(1)`. The number is that of the part's set.
 #[derive(Clone, Copy)]
 pub(crate) enum AcceptancePart {
     /// `t`, the condition of no sets.

@@ -46,8 +46,8 @@ impl<'a, A: Allocator> Model for StreamReader<'a, A> {
     ghost invariant = { λ m. IsStreamReader (record { given = m.given; line = m.line; lexer = m.lexer; parser = m.parser; fault = m.fault }) };
 }
 
-/// The line of a fault at a token that begins in line `start`, where the text goes on in line `last`. A string or comment without an end is at fault
-/// in the last line. Only a string behind the automaton is at fault where it begins.
+/// The line of a fault at a token that begins in line `start`. The text goes on in line `last`. If a string or a comment has no end, the fault is in line
+/// `last`. But a string without an end after the automaton is a fault in line `start`.
 fn fault_line(place: Place, kind: TokenKind, start: usize, last: usize) -> usize
     ensures { result ≡ view.fault_line place kind start last }
 {
@@ -59,7 +59,7 @@ fn fault_line(place: Place, kind: TokenKind, start: usize, last: usize) -> usize
     }
 }
 
-/// The line behind a byte.
+/// The line after a byte.
 fn line_behind(line: usize, byte: u8) -> usize
     requires { line ≤ MOST_BYTES + 1 }
     ensures { result ≡ view.line_behind line byte }
@@ -81,7 +81,7 @@ impl<'a, A: Allocator> StreamReader<'a, A> {
         }
     }
 
-    /// The line behind the bytes so far, counted from 1.
+    /// The line after the bytes so far, counted from 1.
     pub(crate) fn line(&self) -> usize
         ensures { result ≡ self.now.line }
     {
@@ -142,7 +142,7 @@ impl<'a, A: Allocator> StreamReader<'a, A> {
         Ok(())
     }
 
-    /// Takes a byte before which no token ends. Hands the parser the token that ends with it, if there is one.
+    /// Takes a byte. No token ends before it. Hands the parser the token that ends with it, if there is one.
     fn feed(&mut self, byte: u8) -> Result<(), AllocError>
         requires { depth_of self.old.lexer.phase < self.old.given }
         ensures exact { OnOk result (view.Feeds (taken self.old.lexer self.old.line byte) self.old self.new) }
@@ -177,7 +177,7 @@ impl<'a, A: Allocator> StreamReader<'a, A> {
         }
     }
 
-    /// Ends the text, and answers its automaton or its leftmost fault. The reader must not be used again.
+    /// Ends the text, and returns its automaton or its leftmost fault. The reader must not be used again.
     pub(crate) fn finish(&mut self) -> Result<Marked<'a, A>, HoaFault>
         requires { (text : List ℕ) × IsAfter self.old text }
         ensures answers { (text : List ℕ) → IsAfter self.old text → Answers text result }
@@ -200,7 +200,7 @@ impl<'a, A: Allocator> StreamReader<'a, A> {
         }
     }
 
-    /// The answer to the text, after its last token.
+    /// The result for the text, after its last token.
     fn answer(&mut self) -> Result<Marked<'a, A>, HoaFault>
         requires { (text : List ℕ) × IsEnded self.old text }
         ensures answers { (text : List ℕ) → IsEnded self.old text → Answers text result }

@@ -75,7 +75,7 @@ fn listed<A: Allocator, B: Allocator>(
     Ok(words)
 }
 
-/// The error for words that the runtime didn't hand over.
+/// The error if the runtime fails to pass the words.
 fn fault_of(error: &io::Error) -> PlanFault
     ensures { result ≡ fault_for (error_kind error.now) }
 {
@@ -100,7 +100,7 @@ pub fn texts<'a, A: Allocator, B: Allocator>(
     Ok(texts)
 }
 
-/// Runs the program on the words and the files of the runtime, with this standard input, and answers the exit status. Neither sink may have been
+/// Runs the program on the words and the files of the runtime, with this standard input, and returns the exit status. Neither sink may have been
 /// called before. First it makes the allocator keep freed memory, so a `main` function calls it first.
 pub fn run_over<R, I, S, M>(rt: &R, tool: Tool, input: I, output: &mut S, message: &mut M) -> u8
 where

@@ -78,7 +78,7 @@ fn put_behind<A: Allocator>(joined: &mut CubeList<'_, A>, made: &[Cube]) -> Resu
     Ok(true)
 }
 
-/// Appends the joins of both sides. The answer is `false` if there are too many. Behind earlier cubes, the joins are appended without duplicates, so
+/// Appends the joins of both sides. The answer is `false` if there are too many. After earlier cubes, the joins are appended without duplicates, so
 /// that the whole list seldom has to be sorted.
 fn join_sides<'a, A: Allocator>(
     alloc: &'a A,
@@ -117,7 +117,7 @@ fn having<'a, A: Allocator>(
 }
 
 /// The joins of the cubes with these literals, without those that are found among `others`. `others` is usually sorted as `cubes` is, so the search
-/// begins behind the last one found.
+/// begins after the last one found.
 fn widened<'a, A: Allocator>(
     alloc: &'a A,
     cubes: &[Cube],

@@ -10,8 +10,8 @@ use std::alloc::{AllocError, Allocator};
 use std::marker::Model;
 use std::mem;
 
-/// A label, or what follows an open bracket, as far as it was read. `sum` has the cubes of what stands before the last `|`, and `product` those of
-/// the operands behind it.
+/// A label, or what follows an open bracket, as far as it was read. `sum` has the cubes of what precedes the last `|`, and `product` those of
+/// the operands after it.
 #[derive(Drop)]
 pub(crate) struct LabelPart<'a, A: Allocator> {
     /// Whether the number of negations around the part is even. If it is odd, `&` and `|` change places.
@@ -205,7 +205,7 @@ impl<'a, A: Allocator> Label<'a, A> {
         Ok(true)
     }
 
-    /// The cubes of the label, which ends here. Brackets that are still open are not checked; `is_closed` tells of them.
+    /// The cubes of the label, which ends here. This call doesn't check that all brackets are closed, as `is_closed` does.
     pub fn whole(&mut self) -> Result<Cubes<'a, A>, AllocError>
         ensures cubes { IfOk result (λ r. option_map (λ v. v.items) r ≡ view.whole self.old.inner) }
         ensures spent { OnOk result (self.new ≡ view.spent self.old) }

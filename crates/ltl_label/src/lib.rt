@@ -5,7 +5,7 @@
 //! tree.
 //!
 //! What flows: the reader hands over the tokens of a label one by one (`label`). For each open bracket, the evaluator keeps the cubes of what was
-//! read behind it, and whether it stands under an odd number of negations. Under an odd number, literals change their sign, and `&` and `|` change
+//! read after it, and whether it is under an odd number of negations. Under an odd number, literals change their sign, and `&` and `|` change
 //! places. A part that ends is joined or united with the part before it (`cubes`). Before a large conjunction is made, its sets are split by
 //! literals, so that few contradictory or duplicate joins are made (`joins`, `parting`). A part of more than 4,096 cubes is refused as too large.
 //!

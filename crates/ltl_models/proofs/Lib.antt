@@ -1,4 +1,3 @@
-pub mod ElementLaws
 pub mod PlacedLaws
 pub mod SortLaws
 pub mod Within

@@ -60,7 +60,7 @@ fn orders<'a, A: Allocator>(
 }
 
 /// A Büchi automaton with acceptance on states. State 0 is the initial one. It also holds the order of each state's edges by target, which
-/// `by_target` answers.
+/// `by_target` returns.
 #[derive(Drop)]
 pub struct Ba<'a, A: Allocator> {
     states: SharedStates<'a, A>,
@@ -127,7 +127,7 @@ impl<'a, A: Allocator> Ba<'a, A> {
         self.states.edges(i)
     }
 
-    /// The positions in `edges(i)`, sorted by target and then by position. So edges with one target stand together.
+    /// The positions in `edges(i)`, sorted by target and then by position. So edges with one target are adjacent.
     pub fn by_target(&self, i: usize) -> &[usize]
         requires { i < length self.now.states }
         ensures order { IsTargetOrder (state_at self.now i).edges result.now }

@@ -6,9 +6,8 @@
 //! duplicates, and every state is reachable.
 //!
 //! What flows: states that `ltl_alt` or `ltl_passes` made come in by `new`, which requires the invariant. Printers and checkers read an automaton
-//! state by state (`edges`, `accepting`), or the edges of a state by their targets (`by_target`). So they stand on this crate alone, and not on those
-//! that make automata. `Options` says which simplifications are left out. `elements` numbers the literals of cubes and the members of sets, for an
-//! index over them.
+//! state by state (`edges`, `accepting`), or the edges of a state by their targets (`by_target`). So they depend on this crate alone, and not on those
+//! that make automata. `Options` says which simplifications are left out.
 //!
 //! The Büchi automaton of `[]<>p`, whose two states share an edge list:
 //!
@@ -19,7 +18,6 @@
 #![tactic(auto)]
 
 pub mod automaton;
-pub mod elements;
 pub mod fault;
 pub mod gba;
 pub mod numbered;

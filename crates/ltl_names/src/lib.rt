@@ -1,7 +1,7 @@
 //! The lexical rules that the texts of formulas, words and automata share: blanks, names of propositions, and the limit on propositions.
 //!
 //! A name is an ASCII lower-case letter, followed by such letters, digits and `_`. `true` and `false` are constants, and so no names.
-//! Every name that is read anywhere may stand in a formula.
+//! Every name that is read anywhere may occur in a formula.
 //!
 //! ```
 //! is_proposition(b"ready_1")    true

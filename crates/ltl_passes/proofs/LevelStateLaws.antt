@@ -1,9 +1,7 @@
 -- The copies that were listed are those of the definitions.
-use Rattle.std.proofs.Common.{◌≡◌, ℕ, ◌<◌, ◌≤◌, Bool, true, false, ◌&&◌, List, [], ◌∷◌, ◌++◌, length, map, refl, sym, ◌∙◌, ap, subst, arith}
+use Rattle.std.proofs.Common.{◌≡◌, ℕ, ◌<◌, ◌≤◌, true, false, List, [], ◌∷◌, ◌++◌, length, map, refl, sym, ◌∙◌, ap, subst, arith}
 use Rattle.std.specs.Prelude.{slice_index_or, All}
-use Rattle.std.specs.Bool.{Decides}
 use Rattle.std.specs.Ordering.{nat_cmp}
-use Rattle.std.specs.Cmp.{first_so, second_so}
 use Rattle.std.proofs.lemmas.List.{get_or_past}
 use Rattle.std.proofs.lemmas.List.Elements.{All-map}
 use Rattle.ltl_spec.specs.Collections.Sets.{Has, IsRising, set_of}
@@ -23,7 +21,6 @@ use Rattle.ltl_spec.proofs.Collections.ListLaws.{All-from_has}
 use Rattle.ltl_spec.proofs.Automata.NetLaws.{limits_alike, reachable_alike, state_edges, Has-state_edge}
 use Rattle.ltl_spec.proofs.Construction.LevelRuns.{same_level_state_Decides, complete_copies}
 use Rattle.ltl_spec.proofs.Semantics.Runs.{IsClosed}
-use Rattle.ltl_sets.specs.CubeEq.{same_cube, cube_Decides}
 use Rattle.ltl_automaton.specs.Bounds.{IsBounded}
 use Rattle.ltl_automaton.specs.Net.{moves_of}
 use Rattle.ltl_automaton.specs.declared.successor.Successor.{Successor}
@@ -36,25 +33,6 @@ use Rattle.ltl_passes.specs.declared.degeneralize.LevelEdge as code
 use Rattle.ltl_passes.proofs.MergedLaws.{gba_within, of_all}
 use Rattle.ltl_passes.proofs.ReachedLaws.{listed_reached}
 use Rattle.ltl_passes.proofs.TargetLaws.{closed_within}
-
--- edges with the same parts are the same
-pub level_edge_exact : (e f : code.LevelEdge) → level_edge_of e ≡ level_edge_of f → e ≡ f
-level_edge_exact e f h =
-    let c = ap (λ (g : LevelEdge). g.cube) h in
-    let p = ap (λ (g : LevelEdge). g.copy) h in
-    λ i. let g : code.LevelEdge = record { cube = c i; copy = p i } in g
-
-pub level_edge_Decides : (e f : code.LevelEdge) → Decides (same_cube e.cube f.cube && same_level_state e.copy f.copy) (e ≡ f)
-level_edge_Decides e f = (
-  (λ t.
-      let c = (cube_Decides e.cube f.cube).0 (first_so _ _ t) in
-      let p = (same_level_state_Decides e.copy f.copy).0 (second_so _ _ t) in
-      λ i. let g : code.LevelEdge = record { cube = c i; copy = p i } in g),
-  (λ h. both _ _ ((cube_Decides e.cube f.cube).1 (ap (λ (g : code.LevelEdge). g.cube) h)) ((same_level_state_Decides e.copy f.copy).1 (ap (λ (g : code.LevelEdge). g.copy) h))),
-)
-  where
-    both : (a b : Bool) → a ≡ true → b ≡ true → (a && b) ≡ true
-    both a b p q = ap (λ x. x && b) p ∙ q
 
 -- one more edge of a copy
 pub lifted_next : (sets level : ℕ) (made more_made : List code.LevelEdge) (x : code.LevelEdge) (taken more_taken : List plain.Edge) (e : plain.Edge) → map level_edge_of made ≡ map (lifted_edge sets level) (map gba.edge_of taken)

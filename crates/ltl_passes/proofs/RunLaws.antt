@@ -1,5 +1,5 @@
 -- Edges that others imply, found by runs of one target.
-use Rattle.std.proofs.Common.{◌≡◌, ℕ, zero, suc, ◌+◌, ◌<◌, ◌≤◌, ◌⊎◌, inl, inr, Bool, true, false, not, ◌&&◌, ◌||◌, cond, List, [], ◌∷◌, ◌++◌, map, length, take, drop, refl, sym, ◌∙◌, ap, subst, arith}
+use Rattle.std.proofs.Common.{◌≡◌, ℕ, zero, suc, ◌+◌, ◌<◌, ◌≤◌, ◌⊎◌, inl, inr, Bool, true, false, not, ◌&&◌, ◌||◌, cond, nat_eq, List, [], ◌∷◌, ◌++◌, map, length, take, drop, refl, sym, ◌∙◌, ap, subst, arith}
 use Rattle.std.specs.Prelude.{◌==◌, slice_index, slice_index_or, slice_set, All}
 use Rattle.std.specs.List.{list_any, filter, prefix_len}
 use Rattle.std.specs.List.Sorted.{IsPermutation, IsNonDecreasingBy}
@@ -9,7 +9,7 @@ use Rattle.std.proofs.lemmas.List.{append-nil, append_assoc, length-drop, length
 use Rattle.std.proofs.lemmas.List.Elements.{filter-append}
 use Rattle.std.proofs.lemmas.List.Sums.{prefix_len_is}
 use Rattle.std.proofs.lemmas.List.Sorted.{Contains-permutation, IsPermutation-sym, IsNonDecreasingBy-drop, IsPermutation-map, length_permutation}
-use Rattle.ltl_spec.specs.Collections.Sets.{Has, IsRising, union, has, is_subset, set_of}
+use Rattle.ltl_spec.specs.Collections.Sets.{Has, IsRising, has, is_subset, set_of}
 use Rattle.ltl_spec.specs.Transitions.Cubes.{literal_cmp}
 use Rattle.ltl_spec.specs.Automata.Automaton.{Edge, edge_cmp}
 use Rattle.ltl_spec.specs.Construction.Merging.{same_edge, unimplied_edges}
@@ -17,16 +17,17 @@ use Rattle.ltl_spec.proofs.Collections.CaseLaws.{below_equal_above, false_is_tru
 use Rattle.ltl_spec.proofs.Collections.ListLaws.{All-at_has, All-from_has, Contains-from_has, Has-from_contains}
 use Rattle.ltl_spec.proofs.Collections.MemberLaws.{Has-map, any_cases, any_true, filter_all, map_cases}
 use Rattle.ltl_spec.proofs.Collections.Orders.{edge_linear, literal_linear, nat_linear}
-use Rattle.ltl_spec.proofs.Collections.SetLaws.{Has-filter, Has-set_of, IsRising-filter, IsRising-set_of, append_cases, append_left, append_right, common_first, common_second, filter_cases, same_members, set_of_cases, union_first, union_second}
+use Rattle.ltl_spec.proofs.Collections.SetLaws.{Has-filter, Has-set_of, IsRising-filter, IsRising-set_of, append_cases, append_left, append_right, filter_cases, same_members, set_of_cases}
 use Rattle.ltl_spec.proofs.Construction.ImpliedEdges.{implies_edge_Decides, implies_other}
 use Rattle.ltl_spec.proofs.Construction.RoundLaws.{same_edge_Decides}
 use Rattle.ltl_spec.proofs.Transitions.TransitionLaws.{subset_length}
 use Rattle.ltl_spec.proofs.Transitions.UnimpliedLaws.{not_cases, not_from}
 use Rattle.ltl_automaton.specs.EdgeView.{edge_of}
 use Rattle.ltl_automaton.specs.declared.edge.Edge as plain
-use Rattle.ltl_automaton.proofs.EdgeLaws.{same_code, edge_Decides, edge_exact, map_pushed}
+use Rattle.ltl_automaton.specs.EdgeOrder.{same_code, edge_Decides, edge_exact}
+use Rattle.ltl_automaton.proofs.EdgeLaws.{map_pushed}
 use Rattle.ltl_passes.specs.declared.implied.RunEdge as made
-use Rattle.ltl_passes.specs.Runs.{AllLeadTo, IsByTarget, IsFirstLike, IsKept, IsOfWeight, IsWeighedLike, edge_at, is_below, is_other, run_edge, target_at, target_of}
+use Rattle.ltl_passes.specs.Runs.{AllLeadTo, IsByTarget, IsFirstLike, IsKept, IsOfWeight, IsWeighedLike, edge_at, is_below, is_lacked, is_other, run_edge, target_at, target_of}
 
 -- ---- the calls
 
@@ -35,19 +36,15 @@ same_test e f =
     same_from_decides (same_code e f) (same_edge (edge_of e) (edge_of f)) (edge_Decides e f)
     ((λ t. edge_exact e f ((same_edge_Decides (edge_of e) (edge_of f)).0 t)), λ i. (same_edge_Decides (edge_of e) (edge_of f)).1 (ap edge_of i))
 
-module _ (c k l : made.RunEdge) (cube : c.edge.cube ≡ filter (λ x. has literal_cmp x l.edge.cube) k.edge.cube) (marks : c.edge.marks ≡ union nat_cmp k.edge.marks l.edge.marks) where
-  both : (a b : Bool) → a ≡ true → b ≡ true → (a && b) ≡ true
-  both a b e f = ap (λ x. x && b) e ∙ f
+pub lacks_first : (k : made.RunEdge) (kind : ℕ) (of : List ℕ) → nat_eq kind 0 ≡ true → filter (λ e. not (has nat_cmp e k.edge.marks)) of ≡ filter (is_lacked k kind) of
+lacks_first k kind of h = ap (λ b. filter (λ e. b && not (has nat_cmp e k.edge.marks)) of) (sym h)
 
-  pub common_first_below : is_below c k ≡ true
-  common_first_below =
-      both _ _ (ap (λ x. is_subset literal_cmp x k.edge.cube) cube ∙ common_first literal_linear k.edge.cube l.edge.cube)
-      (ap (is_subset nat_cmp k.edge.marks) marks ∙ union_first nat_linear k.edge.marks l.edge.marks)
+none_lacked : (of : List ℕ) → [] ≡ filter (λ e. false) of
+none_lacked [] = refl
+none_lacked (e ∷ of) = none_lacked of
 
-  pub common_second_below : is_below c l ≡ true
-  common_second_below =
-      both _ _ (ap (λ x. is_subset literal_cmp x l.edge.cube) cube ∙ common_second literal_linear k.edge.cube l.edge.cube)
-      (ap (is_subset nat_cmp l.edge.marks) marks ∙ union_second nat_linear k.edge.marks l.edge.marks)
+pub lacks_none : (k : made.RunEdge) (kind : ℕ) (of : List ℕ) → nat_eq kind 0 ≡ false → [] ≡ filter (is_lacked k kind) of
+lacks_none k kind of h = none_lacked of ∙ ap (λ b. filter (λ e. b && not (has nat_cmp e k.edge.marks)) of) (sym h)
 
 -- ---- one run
 

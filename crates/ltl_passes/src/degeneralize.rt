@@ -1,5 +1,5 @@
-//! Degeneralization: a state has a copy for each level, which is the number of acceptance sets that were met in turn. Acceptance sets of edges become
-//! accepting states.
+//! Degeneralization: a state has a copy for each level. The level is the number of acceptance sets that were met in turn. Acceptance sets of edges
+//! become accepting states.
 
 ghost use Rattle.std.specs.Prelude.{◌≡◌, map, IfOk, OnOk, IsErrOf};
 ghost use Rattle.ltl_spec.specs.Collections.Sets.{set_of};
@@ -12,7 +12,8 @@ ghost use Rattle.ltl_passes.specs.Degeneralize.{HaveAtLeast, successor_of, level
 
 use crate::rises::{count_rises, counted};
 use ltl_automaton::{
-    AutomatonFault, Key, Limits, SharedStates, Successor, Successors, explore_from, next_level,
+    AutomatonFault, Key, Limits, ListOrder, SharedStates, Successor, Successors, explore_from,
+    next_level, sort_dedup,
 };
 use ltl_models::{Ba, BaFault, Gba, GbaEdge, MOST_EDGES, MOST_STATES};
 use ltl_sets::{Cube, RowSet};
@@ -104,12 +105,14 @@ pub(crate) struct LevelEdge {
     pub copy: LevelState,
 }
 
-impl LevelEdge {
+impl ListOrder for LevelEdge {
+    ghost use Rattle.ltl_passes.specs.LevelEdgeOrder.{level_edge_Decides, level_edge_linear_by_view};
+
+    ghost order = { λ e f. levels_of.level_edge_cmp (level_edge_of e) (level_edge_of f) };
+
     /// Compares by the literals, then by the state, then by the level.
     #[inline(always)]
-    pub(crate) fn cmp_list(&self, other: &LevelEdge) -> Ordering
-        ensures { result ≡ levels_of.level_edge_cmp (level_edge_of self.now) (level_edge_of other.now) }
-    {
+    fn cmp_list(&self, other: &LevelEdge) -> Ordering {
         match self.cube.cmp_list(&other.cube) {
             Ordering::Equal => match self.copy.state.cmp(&other.copy.state) {
                 Ordering::Equal => self.copy.level.cmp(&other.copy.level),
@@ -118,6 +121,10 @@ impl LevelEdge {
             unequal => unequal,
         }
     }
+
+    ghost linear = { level_edge_linear_by_view };
+
+    ghost decides = { level_edge_Decides };
 }
 
 /// The edge of a copy on this level that an edge of the generalized automaton with `sets` acceptance sets becomes.
@@ -151,14 +158,6 @@ fn level_edges<'a, A: Allocator>(
     Ok(copied)
 }
 
-/// Sorts the edges and removes duplicates.
-fn sort_dedup<'a, A: Allocator>(edges: &mut Vec<LevelEdge, &'a A>)
-    ensures set { map level_edge_of edges.new.items ≡ set_of levels_of.level_edge_cmp (map level_edge_of edges.old.items) }
-{
-    edges.sort_unstable_by(|e, f| e.cmp_list(f));
-    edges.dedup();
-}
-
 /// The edges as successors without marks.
 fn successors_of<'c, B: Allocator>(
     alloc: &'c B,
@@ -190,7 +189,7 @@ fn level_successors<'c, B: Allocator>(
     successors_of(alloc, copied.as_slice())
 }
 
-/// The implicit graph of the copies of an automaton's states, and for each edge list a lower bound on the number of a copy's edges, once one was asked for.
+/// The implicit graph of the copies of an automaton's states. For each edge list there is a lower bound on the number of a copy's edges, once one is needed.
 #[derive(Drop)]
 struct LevelStates<'b, 'g, 'a, A: Allocator> {
     automaton: &'b Gba<'g, A>,
@@ -238,8 +237,8 @@ impl<'b, 'g, 'a, A: Allocator> Successors<LevelState> for LevelStates<'b, 'g, 'a
     }
 }
 
-/// Degeneralizes an automaton: the states of the Büchi automaton whose states are the copies that are reachable from state 0 on level 0. Copies on the last
-/// level are accepting. The result is `TooLarge` if there are more than `MOST_STATES` copies or `MOST_EDGES` edges.
+/// Degeneralizes an automaton. The states of the result are the copies that are reachable from state 0 on level 0, and the copies on the last level are
+/// accepting. The result is `TooLarge` if there are more than `MOST_STATES` copies or `MOST_EDGES` edges.
 pub fn level_states<'a, A: Allocator>(
     alloc: &'a A,
     automaton: &Gba<'_, A>,

@@ -10,9 +10,8 @@ ghost use Rattle.ltl_spec.specs.Construction.Merging as merging;
 ghost use Rattle.ltl_automaton.specs.EdgeView.{edge_of};
 ghost use Rattle.ltl_passes.specs.Runs.{AllLeadTo, IsByTarget, IsFirstLike, IsKept, IsOfWeight, IsWeighedLike, run_edge, target_of};
 
-use least::{Below, Counting, least};
+use least::{Below, Counting, Elements, least};
 use ltl_automaton::{Edge, sort_dedup};
-use ltl_models::elements::{has_literal, tally_literals};
 use ltl_sets::RowSet;
 use std::alloc::{AllocError, Allocator};
 
@@ -22,9 +21,47 @@ struct RunEdge {
     edge: Edge,
 }
 
+/// An edge needs its literals, and lacks the acceptance sets that it isn't in. It asks for those that it is in.
+impl Elements for RunEdge {
+    ghost use Rattle.ltl_passes.specs.Runs.{elements_asked, elements_needed, is_lacked};
+
+    ghost needs = { elements_needed };
+
+    ghost asks = { elements_asked };
+
+    ghost lacking = { is_lacked };
+
+    fn needs(&self, kind: usize) -> RowSet {
+        if kind == 0 {
+            self.edge.cube.letter()
+        } else if kind == 1 {
+            self.edge.cube.forbidden()
+        } else {
+            RowSet::empty()
+        }
+    }
+
+    fn asks(&self, kind: usize) -> RowSet {
+        if kind == 0 {
+            self.edge.marks
+        } else {
+            RowSet::empty()
+        }
+    }
+
+    #[tactic(auto, using(crate::proofs::RunLaws::lacks_first, crate::proofs::RunLaws::lacks_none))]
+    fn lacks(&self, kind: usize, of: &RowSet) -> RowSet {
+        if kind == 0 {
+            of.without(&self.edge.marks)
+        } else {
+            RowSet::empty()
+        }
+    }
+}
+
 /// An edge is below those with its target that it implies: its literals are among theirs, and it is in each acceptance set that they are in.
 impl Below for RunEdge {
-    ghost use Rattle.ltl_passes.specs.Runs.{is_below, below_transitive};
+    ghost use Rattle.ltl_passes.specs.Runs.{is_below, below_asked, below_needed};
 
     ghost below = { is_below };
 
@@ -32,25 +69,9 @@ impl Below for RunEdge {
         self.edge.cube.implies_of(&other.edge.cube) && other.edge.marks.is_subset(&self.edge.marks)
     }
 
-    fn common(&self, other: &RunEdge) -> RunEdge {
-        RunEdge {
-            edge: Edge {
-                cube: self.edge.cube.common(&other.edge.cube),
-                target: self.edge.target,
-                marks: self.edge.marks.union(&other.edge.marks),
-            },
-        }
-    }
+    ghost needed = { below_needed };
 
-    fn has(&self, element: usize) -> bool {
-        has_literal(&self.edge.cube, element)
-    }
-
-    fn tally(&self, counts: &mut [u32]) {
-        tally_literals(&self.edge.cube, counts);
-    }
-
-    ghost transitive = { below_transitive };
+    ghost lacked = { below_asked };
 }
 
 /// Of the edges below an item, only those that differ from it count.
@@ -101,8 +122,8 @@ fn weight(edge: &Edge) -> usize
 {
     edge.cube.invariant();
     edge.marks.invariant();
-    let literals = edge.cube.iter().count();
-    let marks = edge.marks.iter().count();
+    let literals = edge.cube.count();
+    let marks = edge.marks.count();
     literals + (RowSet::LIMIT - marks)
 }
 

@@ -8,7 +8,7 @@
 //! `merged_states`, `renumbered_states`), because a `Ba` keeps the order of its edges by target, which is needed only for the last one.
 //!
 //! Each round of refinement compares all edge lists up to the classes of their targets. If all lists are strictly sorted (`rising`), the first round compares
-//! the numbers of the lists instead. Between two rounds a worklist goes on merging (`worklist`): it looks at a state again only if the class of a target has
+//! the numbers of the lists instead. Between two rounds a worklist continues to merge (`worklist`). It visits a state again only if the class of a target gets
 //! another name, and the smaller one of two classes gets the name of the other (`classes`). Mostly the next round changes nothing then.
 //!
 //! A list is searched for implied edges only if two of its edges with one target have different weights. Then the edges are sorted by target, and the minimal

@@ -27,7 +27,7 @@ impl<'a, A: Allocator> Owners<'a, A> {
         }
     }
 
-    /// The first state that had these edges up to classes, which is this one if none had.
+    /// The first state that had these edges up to classes: this one if none had.
     pub(crate) fn owner(
         &mut self,
         edges: Vec<Edge, &'a A>,

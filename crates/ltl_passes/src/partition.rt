@@ -140,7 +140,7 @@ fn state_signatures<'a, A: Allocator>(
     Ok(signatures)
 }
 
-/// For each state the least one that is accepting exactly if this one is, and whose list has the same signature.
+/// For each state the least state with the same acceptance and a list of the same signature.
 fn least_alike<'a, A: Allocator>(
     alloc: &'a A,
     states: &SharedStates<'_, A>,

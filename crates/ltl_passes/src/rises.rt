@@ -7,7 +7,7 @@ ghost use Rattle.ltl_models.specs.GbaView as gba;
 ghost use Rattle.ltl_passes.specs.Degeneralize.{HasAtLeast, HaveAtLeast};
 
 use crate::degeneralize::{LevelState, level_edge};
-use ltl_automaton::SharedStates;
+use ltl_automaton::{ListOrder, SharedStates};
 use ltl_models::GbaEdge;
 use std::alloc::{AllocError, Allocator};
 use std::cmp::Ordering;

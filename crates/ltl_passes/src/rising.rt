@@ -5,7 +5,7 @@ ghost use Rattle.ltl_spec.specs.Collections.Sets.{IsRising};
 ghost use Rattle.ltl_spec.specs.Automata.Automaton.{edge_cmp};
 ghost use Rattle.ltl_automaton.specs.EdgeView.{edge_of};
 
-use ltl_automaton::{Edge, SharedStates};
+use ltl_automaton::{Edge, ListOrder, SharedStates};
 use std::alloc::Allocator;
 use std::cmp::Ordering;
 

@@ -1,4 +1,4 @@
-//! Merging by a worklist: a state is looked at again only if the class of one of its targets has another name.
+//! Merging by a worklist: a state is visited again only if the class of one of its targets has another name.
 
 ghost use Rattle.std.specs.Prelude.{◌≡◌, ◌<◌, true, length, vec_len, All, IfOk, OnOk};
 ghost use Rattle.ltl_automaton.specs.SharedView.{automaton_of};

@@ -1,3 +1,4 @@
+pub mod CountLaws
 pub mod CubeLaws
 pub mod CubeOrderLaws
 pub mod LaneLaws

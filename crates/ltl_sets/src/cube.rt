@@ -177,6 +177,15 @@ impl Cube {
         }
     }
 
+    /// The number of literals.
+    #[inline(always)]
+    pub fn count(&self) -> usize
+        ensures { result ≡ length self.now }
+    {
+        self.invariant();
+        self.letter().count() + self.forbidden().count()
+    }
+
     /// Compares the cubes as the sorted lists of their literals.
     #[inline(always)]
     pub fn cmp_list(&self, other: &Cube) -> Ordering

@@ -62,7 +62,7 @@ pub(crate) fn reaches(lanes: u64x4, i: usize) -> bool
     (words[at] >> (i % 64) != 0) | has_later(&words, at)
 }
 
-// Whether a word behind this one is not zero.
+// Whether a word after this one isn't zero.
 #[inline(always)]
 fn has_later(words: &[u64; 4], at: usize) -> bool
     ensures { Decides result (HasLater words.now at) }
@@ -70,7 +70,7 @@ fn has_later(words: &[u64; 4], at: usize) -> bool
     ((at < 1) & (words[1] != 0)) | ((at < 2) & (words[2] != 0)) | ((at < 3) & (words[3] != 0))
 }
 
-// Clears the lowest bit that is set, and answers its number.
+// Clears the lowest bit that is set, and returns its number.
 #[inline(always)]
 pub(crate) fn take_lowest(words: &mut [u64; 4]) -> Option<usize>
     ensures words { IsWords words.new }
@@ -110,8 +110,8 @@ pub(crate) fn lowest_of_first(lanes: u64x4) -> Option<usize>
     Some(word.trailing_zeros() as usize)
 }
 
-// How two sorted lists compare whose first difference is a member of one of them. `is_first` says that it is a member of the first list, and
-// `goes_on` that the other list has a greater member.
+// The order of two sorted lists that differ. The first difference is a member of one of them: of the first list if `is_first` is true. `goes_on` says
+// that the other list has a greater member.
 #[inline(always)]
 pub(crate) fn list_order(is_first: bool, goes_on: bool) -> Ordering
     ensures { result ≡ cond (beq is_first goes_on) Less Greater }

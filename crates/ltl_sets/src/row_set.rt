@@ -1,6 +1,6 @@
 //! Sets of numbers below `RowSet::LIMIT`.
 
-ghost use Rattle.std.specs.Prelude.{◌≡◌, ℕ, ◌<◌, ◌≤◌, List, [], ◌∷◌, length, not};
+ghost use Rattle.std.specs.Prelude.{◌≡◌, ℕ, ◌<◌, ◌≤◌, nat_lt, List, [], ◌∷◌, length, not};
 ghost use Rattle.std.specs.List.{AllByRecursion, filter, list_any};
 ghost use Rattle.std.specs.Ordering.{nat_cmp};
 ghost use Rattle.std.specs.Cmp.Lexicographic.{slice_cmp};
@@ -64,6 +64,27 @@ impl RowSet {
         RowSet {
             lanes: lanes::single(i),
         }
+    }
+
+    /// The set of all numbers below the limit.
+    pub fn all() -> RowSet
+        ensures { (i : ℕ) → sets.has nat_cmp i result ≡ nat_lt i RowSet.LIMIT }
+    {
+        RowSet {
+            lanes: u64x4::splat(u64::MAX),
+        }
+    }
+
+    /// The number of members.
+    #[inline(always)]
+    pub fn count(&self) -> usize
+        ensures { result ≡ length self.now }
+    {
+        let words = self.lanes.to_array();
+        (words[0].count_ones()
+            + words[1].count_ones()
+            + words[2].count_ones()
+            + words[3].count_ones()) as usize
     }
 
     /// Adds a member, which may be there already.

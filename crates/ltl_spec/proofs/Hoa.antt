@@ -1,11 +1,9 @@
 -- Automata as they are read.
-pub mod BlockLaws
 pub mod HoaLabelLaws
 pub mod HoaHeaderLaws
 pub mod HoaBodyLaws
 pub mod HoaLaws
 pub mod HoaFaultLaws
-pub mod HoaUniqueLaws
 pub mod HoaLabelBack
 pub mod HoaHeaderBack
 pub mod HoaBodyBack

@@ -18,6 +18,7 @@ pub mod RowConjunctLaws
 pub mod ConjunctSets
 pub mod IndependenceTests
 pub mod LinkLaws
+pub mod SortedTransitions
 pub mod FactoredTransitions
 pub mod Fulfilment
 pub mod Steps

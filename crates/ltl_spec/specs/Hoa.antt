@@ -7,3 +7,4 @@ pub mod HoaFaultKind
 pub mod HoaPlace
 pub mod HoaStep
 pub mod HoaFault
+pub mod HoaMachine

@@ -1,7 +1,7 @@
 //! Byte streams that record how the calls on them went.
 //!
 //! The standard traits for reading and writing don't say in a contract how a call failed. A `ByteSink` and a `ByteSource` have a `Stage` for this. So
-//! a contract can say that an error has a cause, that no call is repeated after an error, and that an output is flushed once, behind its last byte.
+//! a contract can say that an error has a cause, that no call is repeated after an error, and that an output is flushed once, after its last byte.
 //! `OutputBuffer` is the buffer of an output.
 #![tactic(auto)]
 

@@ -14,7 +14,7 @@ pub struct WriteFault;
 pub trait ByteSink {
     ghost state: { Self → SinkState };
 
-    /// Writes a prefix of the bytes, and answers its length. The prefix is empty only if there are no bytes.
+    /// Writes a prefix of the bytes, and returns its length. The prefix is empty only if there are no bytes.
     fn write(&mut self, bytes: &[u8]) -> Result<usize, WriteFault>
         ensures { MatchResult result (λ n. TakesSome (state self.old) (state self.new) n bytes.now) (λ _. Fails (state self.old) (state self.new)) };
 

@@ -14,7 +14,7 @@ pub struct SourceFault;
 pub trait ByteSource {
     ghost state: { Self → SourceState };
 
-    /// Puts the next bytes at the beginning of `room`, and answers their number. It is 0 only at the end of the input, or if `room` is empty.
+    /// Puts the next bytes at the beginning of `room`, and returns their number. It is 0 only at the end of the input, or if `room` is empty.
     fn read(&mut self, room: &mut [u8]) -> Result<usize, SourceFault>
         ensures { MatchResult result (λ n. GivesSome (state self.old) (state self.new) n room.new) (λ _. FailsToGive (state self.old) (state self.new)) };
 }

@@ -14,7 +14,7 @@ pub enum FaultKind {
     ExpectedOperand,
     #[error("expected operator or end")]
     ExpectedOperatorOrEnd,
-    /// An operator or the end is expected, but a bracket is open, so that `)` may stand here too.
+    /// An operator or the end is expected, but a bracket is open, so that `)` is possible here too.
     #[error("expected ) or operator")]
     ExpectedCloseOrOperator,
 }

@@ -37,7 +37,7 @@ pub fn lex(text: &[u8]) -> Tokens<'_>
     Tokens { text, at: 0 }
 }
 
-/// The offset of the first byte at or behind `at` that is no blank, or the length of the text.
+/// The offset of the first byte at or after `at` that is no blank, or the length of the text.
 fn after_blanks(text: &[u8], mut at: usize) -> usize
     requires { at ≤ length text.now }
     ensures within { result ≤ length text.now }

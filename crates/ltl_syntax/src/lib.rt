@@ -3,7 +3,7 @@
 //! In the field's words: the parser is an operator-precedence parser with one explicit stack, and the printer writes every bracket. Nothing recurses,
 //! so deeply nested formulas cost no more than flat ones.
 //!
-//! What flows: `lex` turns bytes into tokens. `read` makes a `Formula` of them: nodes that come behind their operands, and the names of the
+//! What flows: `lex` turns bytes into tokens. `read` makes a `Formula` of them: nodes that come after their operands, and the names of the
 //! propositions by number. `text_to` writes the text of a formula.
 //!
 //! ```

@@ -189,7 +189,7 @@ impl<'a, 't, A: Allocator> Parser<'a, 't, A> {
         Ok(pushed?)
     }
 
-    /// Takes a token behind a complete operand.
+    /// Takes a token after a complete operand.
     fn take_behind_operand(&mut self, token: Token) -> Result<(), ReadFault>
         requires having { self.old.has_operand ≡ true }
         requires known { token.kind ≡ TokenKind.Unknown → ⊥ }
@@ -263,7 +263,7 @@ impl<'a, 't, A: Allocator> Parser<'a, 't, A> {
         Ok(self.frames.pop().is_some_and(is_bracket))
     }
 
-    /// The fault at a token that may not stand here.
+    /// The fault at a token that can't come here.
     fn expected(&self) -> FaultKind
         ensures { kind_of result ≡ kind_before (outline (reader_of self.now)) }
     {

@@ -16,7 +16,7 @@ pub enum TokenKind {
     Unknown,
 }
 
-/// A token, and its place in the text: `start` is the offset of its first byte, `end` that of the byte behind it.
+/// A token, and its place in the text: `start` is the offset of its first byte, `end` that of the byte after it.
 #[derive(Clone, Copy, Debug, PartialEq, Eq)]
 pub struct Token {
     pub kind: TokenKind,

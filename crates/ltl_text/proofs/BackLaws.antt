@@ -21,7 +21,7 @@ use Rattle.ltl_spec.proofs.Automata.ListedStates.{any_state}
 use Rattle.ltl_spec.proofs.Checking.BelowLaws.{named_below}
 use Rattle.ltl_spec.proofs.Checking.GeneralizedRead.{marked_accepts}
 use Rattle.ltl_spec.proofs.Collections.ListLaws.{Has-at, All-at_has, All-from_has}
-use Rattle.ltl_spec.proofs.Hoa.HoaUniqueLaws.{one_automaton}
+use Rattle.ltl_spec.proofs.Hoa.HoaLaws.{one_automaton}
 use Rattle.ltl_spec.proofs.Semantics.LeavingEdges.{leaving, leaving_state, leaving_accepts}
 use Rattle.ltl_syntax.specs.FormulaView.{FormulaView, IsFormula, reading_of}
 use Rattle.ltl_models.specs.GbaView as gba
@@ -80,7 +80,7 @@ module _ (B : Automaton) (f : FormulaView) (ba : IsBa B) (formula : IsFormula f.
   pub hoa_alike : ReadsAlike (hoa_text B (reading_of f)) f.names B
   hoa_alike M r w =
       let text = hoa_text B (reading_of f) in
-      let same : M ≡ marked_of B f.names = one_automaton stated_form text M (marked_of B f.names) r.0 (printed_reads B (reading_of f) ba_printed r.1.bytes).0 in
+      let same : M ≡ marked_of B f.names = one_automaton stated_limits stated_form text M (marked_of B f.names) r (printed_reads B (reading_of f) ba_printed r.within.bytes) in
       subst (λ N. MarkedAccepts N w ↔ Accepts f.names B w) (sym same)
       (subst (λ G. AcceptedFrom 0 G (is_true_at f.names w) (next w) ↔ Accepts f.names B w) (sym marked_graph) (leaving_accepts B (is_true_at f.names w) (next w) ba.no_sets 0))
 
@@ -120,8 +120,8 @@ module _ (A : Automaton) (f : FormulaView) (gen : gba.IsAcceptingGba A) (formula
   pub generalized_alike : ReadsAlike (generalized_text A (reading_of f)) f.names A
   generalized_alike M r w =
       let text = generalized_text A (reading_of f) in
-      let read = generalized_printed A (reading_of f) gen_printed r.1.bytes in
-      let same : M ≡ generalized.marked_of A f.names = one_automaton stated_form text M (generalized.marked_of A f.names) r.0 read.0 in
+      let read = generalized_printed A (reading_of f) gen_printed r.within.bytes in
+      let same : M ≡ generalized.marked_of A f.names = one_automaton stated_limits stated_form text M (generalized.marked_of A f.names) r read in
       subst (λ N. MarkedAccepts N w ↔ Accepts f.names A w) (sym same)
       (marked_accepts A f.names (λ s h. All-at_has (λ (r : State). r.accepting ≡ true) A.states gen.accepting s h) w)
 

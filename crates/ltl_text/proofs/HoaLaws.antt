@@ -10,7 +10,7 @@ use Rattle.ltl_spec.specs.Formulas.Formula.{Reading}
 use Rattle.ltl_spec.specs.Formulas.Canonical.{canonical_text}
 use Rattle.ltl_spec.specs.Transitions.Cubes.{Literal, Cube}
 use Rattle.ltl_spec.specs.Automata.Automaton.{Automaton, Edge, state_at}
-use Rattle.ltl_spec.specs.Automata.HoaText.{edge_line, hoa_text, label_literal, label_text, names_line, quoted, state_lines}
+use Rattle.ltl_spec.specs.Automata.HoaText.{edge_line, hoa_text, label_literal, label_text, quoted, state_lines, text_with}
 use Rattle.ltl_spec.specs.Automata.GeneralizedText as acceptance
 use Rattle.ltl_spec.specs.Automata.GeneralizedText.{acceptance_name, generalized_text, marked_edge_line, marked_state_lines, marks_text}
 use Rattle.ltl_spec.specs.Automata.ClaimText.{line}
@@ -130,14 +130,12 @@ names_go_on names k lt =
     ap quoted_names (drop_more names k [] lt) ∙ ap (λ t. codes " \"" ++ t) (append_assoc (slice_index_or names k []) (codes "\"") (quoted_names (drop (k + 1) names)))
 
 -- ---- the whole text
-text_pieces : (R : Reading) (count : ℕ) (name condition kind states : List ℕ)
-    → line (codes "HOA: v1") ++ line (codes "name: " ++ quoted (canonical_text R)) ++ line (codes "States: " ++ decimal count) ++ line (codes "Start: 0") ++ names_line R.names
-    ++ line (codes "acc-name: " ++ name) ++ line (codes "Acceptance: " ++ condition) ++ line (codes "properties: trans-labels explicit-labels " ++ kind) ++ line (codes "--BODY--") ++ states
-    ++ line (codes "--END--")
-    ≡ title_text R ++ (counts_text count R.names ++ (lines_text name condition kind ++ (states ++ line (codes "--END--"))))
-text_pieces R count name condition kind states =
+text_pieces : (R : Reading) (count : ℕ) (name condition kind : List ℕ) (lines : ℕ → List ℕ)
+    → text_with R count name condition kind lines
+    ≡ title_text R ++ (counts_text count R.names ++ (lines_text name condition kind ++ (flat_map lines (range_with_len 0 count) ++ line (codes "--END--"))))
+text_pieces R count name condition kind lines =
     regroup (line (codes "HOA: v1")) (codes "name: ") (34 ∷ []) (canonical_text R) (10 ∷ []) (codes "States: ") (decimal count) (line (codes "Start: 0")) (codes "AP: ") (decimal (length R.names))
-    (quoted_names R.names) (codes "acc-name: ") name (codes "Acceptance: ") condition (codes "properties: trans-labels explicit-labels ") kind (line (codes "--BODY--")) states (line (codes "--END--"))
+    (quoted_names R.names) (codes "acc-name: ") name (codes "Acceptance: ") condition (codes "properties: trans-labels explicit-labels ") kind (line (codes "--BODY--")) (flat_map lines (range_with_len 0 count)) (line (codes "--END--"))
   where
     regroup : (h m q c n s d t a e f x u y v p k b r z : List ℕ)
         → (((((((((h ++ ((m ++ ((q ++ c) ++ q)) ++ n)) ++ ((s ++ d) ++ n)) ++ t) ++ (((a ++ e) ++ f) ++ n)) ++ ((x ++ u) ++ n)) ++ ((y ++ v) ++ n)) ++ ((p ++ k) ++ n)) ++ b) ++ r) ++ z
@@ -147,10 +145,10 @@ text_pieces R count name condition kind states =
 module _ (A : Automaton) (R : Reading) (n : ℕ) (same : n ≡ length A.states) where
   pub hoa_pieces : hoa_text A R ≡ title_text R ++ (counts_text n R.names ++ (lines_text (codes "Buchi") (codes "1 Inf(0)") (codes "state-acc") ++ (states_text A ++ line (codes "--END--"))))
   hoa_pieces =
-      text_pieces R (length A.states) (codes "Buchi") (codes "1 Inf(0)") (codes "state-acc") (states_text A)
+      text_pieces R (length A.states) (codes "Buchi") (codes "1 Inf(0)") (codes "state-acc") (state_lines A)
       ∙ ap (λ k. title_text R ++ (counts_text k R.names ++ (lines_text (codes "Buchi") (codes "1 Inf(0)") (codes "state-acc") ++ (states_text A ++ line (codes "--END--"))))) (sym same)
 
   pub generalized_pieces : (sets : ℕ) → sets ≡ A.sets → generalized_text A R ≡ title_text R ++ (counts_text n R.names ++ (condition_text sets ++ (marked_states_text A ++ line (codes "--END--"))))
   generalized_pieces sets e =
-      text_pieces R (length A.states) (acceptance_name A.sets) (acceptance.acceptance_text A.sets) (codes "trans-acc") (marked_states_text A)
+      text_pieces R (length A.states) (acceptance_name A.sets) (acceptance.acceptance_text A.sets) (codes "trans-acc") (marked_state_lines A)
       ∙ (λ i. title_text R ++ (counts_text (sym same i) R.names ++ (condition_text (sym e i) ++ (marked_states_text A ++ line (codes "--END--")))))

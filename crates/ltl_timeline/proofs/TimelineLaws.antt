@@ -1,8 +1,10 @@
 -- A timeline by what its lines are made of.
-use Rattle.std.proofs.Common.{◌≡◌, ◌∙◌, ap, ap₂, sym, refl, subst, ℕ, zero, suc, ◌+◌, ◌<◌, arith, Bool, true, false, List, [], ◌∷◌, ◌++◌, length, map, Bor, ◌/◌}
-use Rattle.std.specs.Prelude.{codes, if◌then◌else◌, IsTrue, max, slice_get, slice_index_or, Some, Result, Ok, Err, OnOk, OnErr}
+use Rattle.std.proofs.Common.{◌≡◌, ◌∙◌, ap, ap₂, sym, refl, subst, ℕ, zero, suc, ◌+◌, ◌<◌, arith, Bool, true, false, List, [], ◌∷◌, ◌++◌, length, length-take-le, map, take, Bor, ◌/◌}
+use Rattle.std.specs.Prelude.{◌||◌, codes, if◌then◌else◌, IsTrue, max, slice_get, slice_index_or, Some, Result, Ok, Err, OnOk, OnErr}
 use Rattle.std.specs.Bool.{Decides}
+use Rattle.std.specs.List.{list_any, range_with_len}
 use Rattle.ltl_spec.specs.Collections.Sets.{has}
+use Rattle.ltl_spec.specs.Formulas.Tokens.{same_name}
 use Rattle.ltl_spec.specs.Formulas.Canonical.{binary_text, constant_text, formula_text, unary_text}
 use Rattle.ltl_syntax.specs.declared.operators.UnaryOperator.{UnaryOperator}
 use Rattle.ltl_syntax.specs.declared.operators.BinaryOperator.{BinaryOperator}
@@ -14,9 +16,9 @@ use Rattle.ltl_syntax.specs.declared.operators.Node.TheVariants.{Constant, Propo
 use Rattle.ltl_word.specs.LassoView.{size}
 use Rattle.ltl_word.specs.Rows.{IsRow, bit_of}
 use Rattle.ltl_word.specs.SubformulaRows.{AreSubformulaRows}
-use Rattle.ltl_timeline.specs.Timeline.{IsTruth, column, greatest, line, mark, name_at, name_width, padded, proposition_line, proposition_lines, subformula_line, subformula_text, subformula_width, texts_from, timeline, unless_proposition, with_names_of, word_timeline}
-use Rattle.ltl_timeline.specs.TimelineView.{AreNameRows, AreTexts, HasTrueMarks}
-use Rattle.std.proofs.lemmas.List.{get_or-map, map-append}
+use Rattle.ltl_timeline.specs.Timeline.{IsTruth, column, greatest, line, is_left_out, is_proposition, mark, name_at, name_width, padded, proposition_line, proposition_lines, stands_before, subformula_line, subformula_text, subformula_width, texts_from, timeline, with_names_of, word_timeline}
+use Rattle.ltl_timeline.specs.TimelineView.{AreNameRows, AreTexts, HasTrueMarks, is_repeated}
+use Rattle.std.proofs.lemmas.List.{get_or-map, get_or-take, map-append, take-map}
 use Rattle.ltl_spec.proofs.Collections.MemberLaws.{map_length}
 use Rattle.ltl_timeline.proofs.LineLaws.{texts_same}
 use Rattle.ltl_timeline.proofs.NameLaws.{each_pushed}
@@ -87,21 +89,44 @@ get_within [] k node e = cc
 get_within (n ∷ ns) zero node e = omega arith
 get_within (n ∷ ns) (suc k) node e = let l = get_within ns k node e in omega (arith, l)
 
-module _ (f : FormulaView) (w : Lasso) (truth : ℕ → ℕ → Bool) (width k : ℕ) (node : Node) (found : slice_get f.nodes k ≡ Some node) (b : Bool)
-    (told : (text : List ℕ) → unless_proposition node text ≡ (if b then [] else text)) where
-  told_there : (text : List ℕ) → unless_proposition (slice_index_or f.nodes k (Constant false)) text ≡ (if b then [] else text)
-  told_there text = ap (λ n. unless_proposition n text) (get_is f.nodes k node found) ∙ told text
+-- whether one of the texts is x
+same_before : (f : FormulaView) (x : List ℕ) (ts : List (List ℕ)) (a : ℕ) → ((j : ℕ) → j < length ts → slice_index_or ts j [] ≡ subformula_text f (a + j))
+    → list_any (same_name x) ts ≡ list_any (λ j. same_name x (subformula_text f j)) (range_with_len a (length ts))
+same_before f x [] a h = refl
+same_before f x (t ∷ ts) a h =
+    let here : a + 0 ≡ a = omega arith in
+    ap₂ (λ b c. b || c) (ap (same_name x) (h 0 (omega arith) ∙ ap (subformula_text f) here))
+    (same_before f x ts (a + 1) (λ j l. let e : a + suc j ≡ a + 1 + j = omega arith in h (suc j) (omega (arith, l)) ∙ ap (subformula_text f) e))
 
-  pub no_line : b ≡ true → subformula_line f w truth width k ≡ []
-  no_line e = told_there _ ∙ ap (λ c. if c then [] else (line width w (subformula_text f k) (λ i. mark (truth k i)))) e
+pub repeated_before : (f : FormulaView) (texts : List (List ℕ)) (k : ℕ) → AreTexts f texts → k < length texts → is_repeated texts k ≡ stands_before f k
+repeated_before f texts k h l =
+    let long : length (take k texts) ≡ k = length-take-le k texts (omega (arith, l)) in
+    ap (λ x. list_any (same_name x) (take k texts)) (h k l)
+    ∙ same_before f (subformula_text f k) (take k texts) 0 (λ j m. get_or-take k texts j [] (subst (λ n. j < n) long m) ∙ h j (let n = subst (λ n. j < n) long m in omega (arith, n, l)) ∙ (let e : j ≡ 0 + j = omega arith in ap (subformula_text f) e))
+    ∙ ap (λ n. list_any (λ j. same_name (subformula_text f k) (subformula_text f j)) (range_with_len 0 n)) long
 
-  pub one_line : b ≡ false → (text : List ℕ) → text ≡ subformula_text f k → subformula_line f w truth width k ≡ line width w text (λ i. mark (truth k i))
-  one_line e text t = told_there _ ∙ ap (λ c. if c then [] else (line width w (subformula_text f k) (λ i. mark (truth k i)))) e ∙ ap (λ x. line width w x (λ i. mark (truth k i))) (sym t)
+-- which nodes have no line of their own
+module _ (f : FormulaView) (k : ℕ) (node : Node) (found : slice_get f.nodes k ≡ Some node) (b : Bool) (told : b ≡ is_proposition node) where
+  first_test : b ≡ is_proposition (slice_index_or f.nodes k (Constant false))
+  first_test = told ∙ ap is_proposition (sym (get_is f.nodes k node found))
 
-  pub row_line : b ≡ false → (rows : List (List ℕ)) → ((i : ℕ) → truth k i ≡ bit_of (slice_index_or rows k []) i) → (text row : List ℕ) → text ≡ subformula_text f k → row ≡ slice_index_or rows k []
+  pub proposition_out : b ≡ true → true ≡ is_left_out f k
+  proposition_out e = ap (λ c. c || stands_before f k) (sym e ∙ first_test)
+
+  pub other_out : b ≡ false → (texts : List (List ℕ)) → AreTexts f texts → k < length texts → (again : Bool) → again ≡ is_repeated texts k → again ≡ is_left_out f k
+  other_out e texts h l again said = said ∙ repeated_before f texts k h l ∙ ap (λ c. c || stands_before f k) (sym e ∙ first_test)
+
+module _ (f : FormulaView) (w : Lasso) (truth : ℕ → ℕ → Bool) (width k : ℕ) where
+  chosen : (b : Bool) → is_left_out f k ≡ b → subformula_line f w truth width k ≡ (if b then [] else (line width w (subformula_text f k) (λ i. mark (truth k i))))
+  chosen b e = ap (λ c. if c then [] else (line width w (subformula_text f k) (λ i. mark (truth k i)))) e
+
+  pub no_line : is_left_out f k ≡ true → subformula_line f w truth width k ≡ []
+  no_line e = chosen true e
+
+  pub row_line : is_left_out f k ≡ false → (rows : List (List ℕ)) → ((i : ℕ) → truth k i ≡ bit_of (slice_index_or rows k []) i) → (text row : List ℕ) → text ≡ subformula_text f k → row ≡ slice_index_or rows k []
       → subformula_line f w truth width k ≡ line width w text (λ i. mark (bit_of row i))
   row_line e rows same text row t r =
-      one_line e text t
+      chosen false e ∙ ap (λ x. line width w x (λ i. mark (truth k i))) (sym t)
       ∙ ap (λ x. padded width text ++ x ++ codes "\n") (texts_same _ _ 0 (size w) (λ i l m. ap (λ c. column (length w.stem) i (mark c)) (same i ∙ ap (λ x. bit_of x i) (sym r))))
 
 -- ---- what stands at a place
@@ -116,6 +141,17 @@ mapped_there items ts k x l e = get_or-map items ts k x [] l ∙ ap items (sym e
 
 pub text_there : (f : FormulaView) {X : Type 0} (items : X → List ℕ) (ts : List X) (k : ℕ) (x : X) → AreTexts f (map items ts) → k < length ts → x ≡ slice_index_or ts k x → items x ≡ subformula_text f k
 text_there f items ts k x h l e = let n = map_length items ts in ap items e ∙ sym (get_or-map items ts k x [] l) ∙ h k (omega (arith, n, l))
+
+any_mapped : {X Y : Type 0} (f : X → Y) (p : Y → Bool) (xs : List X) → list_any (λ x. p (f x)) xs ≡ list_any p (map f xs)
+any_mapped f p [] = refl
+any_mapped f p (x ∷ xs) = ap (λ b. p (f x) || b) (any_mapped f p xs)
+
+pub repeated_there : {X : Type 0} (items : X → List ℕ) (ts seen : List X) (k : ℕ) (x : X) (text : List ℕ) → seen ≡ ts → k < length ts → x ≡ slice_index_or ts k x → text ≡ items x
+    → list_any (λ t. same_name text (items t)) (take k seen) ≡ is_repeated (map items ts) k
+repeated_there items ts seen k x text s l e t =
+    ap (λ zs. list_any (λ z. same_name text (items z)) (take k zs)) s
+    ∙ any_mapped items (same_name text) (take k ts) ∙ ap (list_any (same_name text)) (sym (take-map items k ts))
+    ∙ ap (λ y. list_any (same_name y) (take k (map items ts))) (t ∙ sym (mapped_there items ts k x l e))
 
 module _ (w : Lasso) (ns : List (Bor Name)) (rows : List (List ℕ)) (h : AreNameRows w (map (λ n. n.now) ns) rows) (p : ℕ) (l : p < length ns) (row : List ℕ) (e : row ≡ slice_index_or rows p row) where
   within : p < length (map (λ (n : Bor Name). n.now) ns)

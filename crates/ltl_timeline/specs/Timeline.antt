@@ -1,6 +1,7 @@
 -- The timeline of a word: a table of characters, with a line for each proposition and for each subformula.
-use Rattle.std.specs.Prelude.{ℕ, zero, suc, ◌+◌, ◌-◌, ◌%◌, ◌<◌, max, Bool, true, false, ◌==◌, if◌then◌else◌, List, [], ◌∷◌, ◌++◌, codes, fold, length, replicate, slice_index_or}
+use Rattle.std.specs.Prelude.{ℕ, zero, suc, ◌+◌, ◌-◌, ◌%◌, ◌<◌, max, Bool, true, false, ◌==◌, ◌||◌, if◌then◌else◌, List, [], ◌∷◌, ◌++◌, codes, fold, length, replicate, slice_index_or}
 use Rattle.std.specs.Bool.{Decides}
+use Rattle.std.specs.List.{list_any, range_with_len}
 use Rattle.ltl_spec.specs.Collections.Lists.{with_new}
 use Rattle.ltl_spec.specs.Collections.Sets.{has}
 use Rattle.ltl_spec.specs.Formulas.Canonical.{formula_text}
@@ -81,12 +82,19 @@ subformula_text f k = formula_text f.names (tree_in (trees f.nodes) k)
 abbrev pub subformula_width : FormulaView → ℕ
 subformula_width f = greatest (λ k. length (subformula_text f k)) (length f.nodes)
 
--- a proposition has its line above
-abbrev pub unless_proposition : Node → List ℕ → List ℕ
-unless_proposition (Constant b) text = text
-unless_proposition (Proposition p) text = []
-unless_proposition (Unary op a) text = text
-unless_proposition (Binary op a b) text = text
+abbrev pub is_proposition : Node → Bool
+is_proposition (Constant b) = false
+is_proposition (Proposition p) = true
+is_proposition (Unary op a) = false
+is_proposition (Binary op a b) = false
+
+-- the subformula of node k is that of an earlier node, too
+abbrev pub stands_before : FormulaView → ℕ → Bool
+stands_before f k = list_any (λ j. same_name (subformula_text f k) (subformula_text f j)) (range_with_len 0 k)
+
+-- a proposition has its line above, and a subformula has one line where it first stands
+abbrev pub is_left_out : FormulaView → ℕ → Bool
+is_left_out f k = is_proposition (slice_index_or f.nodes k (Constant false)) || stands_before f k
 
 module _ (f : FormulaView) (w : Lasso) (truth : ℕ → ℕ → Bool) where
   -- `truth k i` says whether the subformula of node k holds at position i
@@ -94,7 +102,7 @@ module _ (f : FormulaView) (w : Lasso) (truth : ℕ → ℕ → Bool) where
   IsTruth = (k i : ℕ) → k < length f.nodes → i < size w → Decides (truth k i) (Satisfies f.names w i (tree_in (trees f.nodes) k))
 
   abbrev pub subformula_line : ℕ → ℕ → List ℕ
-  subformula_line width k = unless_proposition (slice_index_or f.nodes k (Constant false)) (line width w (subformula_text f k) (λ i. mark (truth k i)))
+  subformula_line width k = if is_left_out f k then [] else (line width w (subformula_text f k) (λ i. mark (truth k i)))
 
   -- the lines of the propositions, and of the subformulas, operands before what is made of them
   abbrev pub lines : ℕ → List ℕ

@@ -1,6 +1,8 @@
 -- The values that a timeline is written from, and what is written.
-use Rattle.std.specs.Prelude.{◌≡◌, ℕ, ◌<◌, Bool, IsTrue, List, [], length, slice_index_or}
+use Rattle.std.specs.Prelude.{◌≡◌, ℕ, ◌<◌, Bool, IsTrue, List, [], length, slice_index_or, take}
+use Rattle.std.specs.List.{list_any}
 use Rattle.ltl_spec.specs.Collections.Sets.{has}
+use Rattle.ltl_spec.specs.Formulas.Tokens.{same_name}
 use Rattle.ltl_spec.specs.Semantics.Word.{Name, Lasso, letter_at, name_cmp}
 use Rattle.ltl_streams.specs.Streams.{SinkState, Breaks}
 use Rattle.ltl_syntax.specs.FormulaView.{FormulaView}
@@ -28,3 +30,7 @@ AreNameRows w names rows =
 -- the texts are those of the first subformulas
 abbrev pub AreTexts : FormulaView → List (List ℕ) → Type 0
 AreTexts f texts = (k : ℕ) → k < length texts → slice_index_or texts k [] ≡ subformula_text f k
+
+-- whether text k is that of an earlier place, too
+abbrev pub is_repeated : List (List ℕ) → ℕ → Bool
+is_repeated texts k = list_any (same_name (slice_index_or texts k [])) (take k texts)

@@ -3,7 +3,7 @@
 //! In the field's words: the truth of all subformulas at all positions of a lasso, as model checking of a path computes it. So a timeline shows why a
 //! formula fails on a word.
 //!
-//! What flows: `propositions` and `subformulas` have a word and a formula evaluated by `ltl_word`, which answers a bit vector for each of them.
+//! What flows: `propositions` and `subformulas` have a word and a formula evaluated by `ltl_word`, which returns a bit vector for each of them.
 //! `lines` and `columns` write these as a table with a column for each position. Everything is allocated before the first byte is written, in pieces
 //! of up to 16 KiB.
 //!

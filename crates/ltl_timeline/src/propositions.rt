@@ -21,7 +21,8 @@ pub(crate) struct Propositions<'w, 'a, A: Allocator> {
     rows: Vec<Bits<'a, A>, &'a A>,
 }
 
-fn is_same(name: &[u8], other: &[u8]) -> bool
+/// Whether two texts have the same bytes.
+pub(crate) fn is_same(name: &[u8], other: &[u8]) -> bool
     ensures { result ≡ same_name name.now other.now }
 {
     name == other

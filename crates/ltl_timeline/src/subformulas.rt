@@ -1,15 +1,19 @@
 //! The subformulas of a timeline, and the positions where they hold.
 
-ghost use Rattle.std.specs.Prelude.{◌≡◌, ◌++◌, ℕ, List, [], codes, length, map, slice_index_or, IfOk, if◌then◌else◌};
+ghost use Rattle.std.specs.Prelude.{◌≡◌, ◌<◌, ◌++◌, [], codes, length, map, slice_index_or, IfOk};
+ghost use Rattle.std.specs.List.{list_any};
 ghost use Rattle.ltl_spec.specs.Formulas.Canonical as canonical;
+ghost use Rattle.ltl_spec.specs.Formulas.Tokens.{same_name};
 ghost use Rattle.ltl_streams.specs.Sending.{Puts};
 ghost use Rattle.ltl_syntax.specs.FormulaView.{StandsAt, binary_of, tree_of, trees, unary_of};
-ghost use Rattle.ltl_timeline.specs.Timeline.{greatest, subformula_line, texts_from, unless_proposition};
-ghost use Rattle.ltl_timeline.specs.TimelineView.{AreTexts};
+ghost use Rattle.ltl_timeline.specs.Timeline as spec;
+ghost use Rattle.ltl_timeline.specs.Timeline.{greatest, subformula_line, texts_from};
+ghost use Rattle.ltl_timeline.specs.TimelineView.{AreTexts, is_repeated};
 ghost use Rattle.ltl_word.specs.Rows.{bit_of};
 ghost use Rattle.ltl_word.specs.SubformulaRows.{AreSubformulaRows};
 
 use crate::lines::put_line;
+use crate::propositions::is_same;
 use ltl_streams::{ByteSink, OutputBuffer, WriteFault};
 use ltl_syntax::{BinaryOperator, Formula, Node, UnaryOperator};
 use ltl_word::{Bits, Lasso, subformula_rows};
@@ -130,12 +134,19 @@ fn node_texts<'a, A: Allocator, B: Allocator>(
 }
 
 fn is_proposition(node: Node) -> bool
-    ensures { (text : List ℕ) → unless_proposition node text ≡ (if result then [] else text) }
+    ensures { result ≡ spec.is_proposition node }
 {
     match node {
         Node::Proposition(_) => true,
         Node::Constant(_) | Node::Unary(..) | Node::Binary(..) => false,
     }
+}
+
+/// Whether this is one of the texts.
+fn has_text<A: Allocator>(texts: &[Vec<u8, &A>], text: &[u8]) -> bool
+    ensures { result ≡ list_any (λ t. same_name text.now t.items) texts.now }
+{
+    texts.iter().any(|other| is_same(text, other.as_slice()))
 }
 
 impl<'a, A: Allocator> Subformulas<'a, A> {
@@ -165,7 +176,28 @@ impl<'a, A: Allocator> Subformulas<'a, A> {
         width
     }
 
-    /// Writes a line for each subformula that isn't a proposition.
+    /// Whether an earlier node has the text of this one, too.
+    fn is_repeated(&self, k: usize) -> bool
+        requires { k < length self.now.texts.items }
+        ensures { result ≡ is_repeated (map (λ t. t.items) self.now.texts.items) k }
+    {
+        has_text(&self.texts[..k], self.texts[k].as_slice())
+    }
+
+    /// Whether a node has no line of its own: a proposition, or a subformula that an earlier node has, too.
+    fn is_left_out<B: Allocator>(&self, formula: &Formula<'_, B>, k: usize) -> bool
+        requires within { k < length formula.now.nodes }
+        requires count { length self.now.texts.items ≡ length formula.now.nodes }
+        requires texts { AreTexts formula.now (map (λ t. t.items) self.now.texts.items) }
+        ensures { result ≡ spec.is_left_out formula.now k }
+    {
+        if is_proposition(formula.node(k)) {
+            return true;
+        }
+        self.is_repeated(k)
+    }
+
+    /// Writes a line for each different subformula that isn't a proposition.
     pub(crate) fn put<B: Allocator, C: Allocator, S: ByteSink>(
         &self,
         width: usize,
@@ -181,7 +213,7 @@ impl<'a, A: Allocator> Subformulas<'a, A> {
             (texts_from (subformula_line formula.now word.now (λ k i. bit_of (slice_index_or self.now.rows.items k []) i) width) 0 (length formula.now.nodes)) }
     {
         for k in 0..formula.len() {
-            if is_proposition(formula.node(k)) {
+            if self.is_left_out(formula, k) {
                 continue;
             }
             put_line(

@@ -53,8 +53,8 @@ fn write_both<A: Allocator, B: Allocator, C: Allocator, S: ByteSink>(
     buffer.send(sink)
 }
 
-/// Writes the word as a table. The first line has the last digits of the positions' numbers, counted from 0. Each proposition has a line, with `*`
-/// where it is true and `.` elsewhere. A `|` stands before the first position of the cycle. Everything is allocated before the first byte is written.
+/// Writes the word as a table. The first line has the last digit of each position's number, counted from 0. Each proposition has a line, with `*`
+/// where it is true and `.` elsewhere. A `|` comes before the first position of the cycle. Everything is allocated before the first byte is written.
 pub fn word_timeline_to<A: Allocator, C: Allocator, S: ByteSink>(
     alloc: &A,
     word: &Lasso<'_, C>,
@@ -69,8 +69,8 @@ pub fn word_timeline_to<A: Allocator, C: Allocator, S: ByteSink>(
     Ok(())
 }
 
-/// Writes the same table, with another line for each subformula that isn't a proposition. Memory is one bit for each position and subformula, and the
-/// texts of all subformulas. Everything is allocated before the first byte is written.
+/// Writes the same table, with another line for each different subformula that isn't a proposition. The memory is one bit for each position and
+/// subformula, and the texts of all subformulas. Everything is allocated before the first byte is written.
 pub fn timeline_to<A: Allocator, B: Allocator, C: Allocator, S: ByteSink>(
     alloc: &A,
     formula: &Formula<'_, B>,

@@ -214,7 +214,7 @@ fn eventually_row<'a, A: Allocator, C: Allocator>(
     going.row(alloc, word.stem_len(), word.len())
 }
 
-/// The row of `X`: the value at the next position. Behind the last position comes the first one of the cycle.
+/// The row of `X`: the value at the next position. After the last position comes the first one of the cycle.
 fn next_row<'a, A: Allocator>(
     alloc: &'a A,
     stem: usize,

@@ -45,7 +45,7 @@ impl<'r, 'a, A: Allocator> Going<'r, 'a, A> {
         self.turned(self.right.word(k))
     }
 
-    /// The values at the last positions, which fill no whole machine word, where `later` is the value behind the end.
+    /// The values at the last positions, which fill no whole machine word, where `later` is the value after the end.
     fn last_word(&self, count: usize, later: bool) -> u64
         requires right { count / 64 < length self.now.right.now }
         requires left { IsLong count (option_map (λ b. b.now) self.now.left) }
@@ -57,7 +57,7 @@ impl<'r, 'a, A: Allocator> Going<'r, 'a, A> {
         until_word(left, right, false)
     }
 
-    /// The row, if `later` is the value behind the last position. With `negated`, `later` is the value of the complement.
+    /// The row, if `later` is the value after the last position. With `negated`, `later` is the value of the complement.
     fn pass(&self, alloc: &'a A, count: usize, later: bool) -> Result<Bits<'a, A>, AllocError>
         requires right { count / 64 < length self.now.right.now }
         requires left { IsLong count (option_map (λ b. b.now) self.now.left) }
@@ -76,8 +76,8 @@ impl<'r, 'a, A: Allocator> Going<'r, 'a, A> {
         Ok(row)
     }
 
-    /// The row. A first pass takes `false` as the value behind the end. The value that it gives at the first position of the cycle is right, and is
-    /// also the value behind the end. If it is `true`, a second pass uses it. With `negated`, these are values of the complement.
+    /// The row. A first pass takes `false` as the value after the end. The value that it gives at the first position of the cycle is right, and is
+    /// also the value after the end. If it is `true`, a second pass uses it. With `negated`, these are values of the complement.
     pub(crate) fn row(
         &self,
         alloc: &'a A,

@@ -52,7 +52,7 @@ pub(crate) fn shifted(word: u64, last: bool) -> u64
     with_bit(word >> 1, 63, last)
 }
 
-/// `left U right` at each of 64 positions, where `later` is its value at the position behind them. The steps double the distance that they look
+/// `left U right` at each of 64 positions, where `later` is its value at the position after them. The steps double the distance that they look
 /// ahead, so there are six of them.
 pub(crate) fn until_word(left: u64, right: u64, later: bool) -> u64
     ensures { (k : ℕ) → k < 64 → is_set result k ≡ back (is_set left) (is_set right) (64 - k) k later }

@@ -19,7 +19,7 @@ pub(crate) fn is_same(bytes: &[u8], name: &[u8]) -> bool
     bytes == name
 }
 
-/// Whether the name comes behind the other one in the order of the bytes.
+/// Whether the name comes after the other one in the order of the bytes.
 pub(crate) fn is_greater(name: &[u8], other: &[u8]) -> bool
     ensures { Decides result (name_cmp name.now other.now ≡ Greater) }
 {

@@ -44,7 +44,7 @@ impl<'t, 'a, A: Allocator> NameList<'t, 'a, A> {
         }
     }
 
-    /// The position of the name, or the one where it is to be inserted: behind all smaller names.
+    /// The position of the name, or the one where it is to be inserted: after all smaller names.
     fn place_for(&self, name: &[u8]) -> usize
         ensures { FindsName name.now self.now result }
     {

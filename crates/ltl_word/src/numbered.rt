@@ -82,7 +82,7 @@ fn written_of<'t, 'a, A: Allocator>(
 }
 
 impl<'a, A: Allocator> Lasso<'a, A> {
-    /// The word with this stem and cycle. A letter has the numbers of its propositions in `names`; a name may stand there twice.
+    /// The word with this stem and cycle. A letter has the numbers of its propositions in `names`; a name may occur there twice.
     pub fn new(
         alloc: &'a A,
         names: &[&str],

@@ -28,7 +28,7 @@ fn put_next_name<S: ByteSink>(
     buffer.put(name, sink)
 }
 
-/// Writes the names behind the first one of a letter, each after a comma.
+/// Writes the names after the first one of a letter, each after a comma.
 fn put_other_names<A: Allocator, S: ByteSink>(
     names: &[OwnedName<'_, A>],
     places: Members,
@@ -98,7 +98,7 @@ fn put_stem<A: Allocator, S: ByteSink>(
     Ok(())
 }
 
-/// Writes the letters behind the first one of the cycle, each after `; `.
+/// Writes the letters after the first one of the cycle, each after `; `.
 fn put_other_letters<A: Allocator, S: ByteSink>(
     names: &[OwnedName<'_, A>],
     letters: &[RowSet],

@@ -1,4 +1,4 @@
-//! The reader of a word's text, an automaton over bytes. Each step answers the next place, or `None` if no word begins with the text up to this byte.
+//! The reader of a word's text, an automaton over bytes. Each step returns the next place, or `None` if no word begins with the text up to this byte.
 
 ghost use Rattle.std.specs.Prelude.{◌≡◌, ℕ, ◌+◌, ◌<◌, ◌≤◌, List, [], ◌∷◌, ◌++◌, if◌then◌else◌, ◌==◌, length, slice_index, IfOk, IfSome, Some, None, MatchResult};
 ghost use Rattle.std.specs.Option.{option_map};
@@ -70,7 +70,7 @@ fn in_word<A: Allocator>(
     Some(WordPlace::InWord(rest))
 }
 
-/// The step behind a complete name.
+/// The step after a complete name.
 fn end_name<'t, A: Allocator>(
     written: &mut Written<'t, '_, A>,
     name: &'t [u8],
@@ -93,7 +93,7 @@ fn end_name<'t, A: Allocator>(
     Ok(None)
 }
 
-/// The step behind `{`: the letter ends, or its first name begins.
+/// The step after `{`: the letter ends, or its first name begins.
 fn at_first_name<A: Allocator>(
     written: &mut Written<'_, '_, A>,
     text: &[u8],
@@ -111,7 +111,7 @@ fn at_first_name<A: Allocator>(
     Ok(at_name(text, at))
 }
 
-/// The step inside a name that begins at `start`, or behind it.
+/// The step inside a name that begins at `start`, or after it.
 fn in_name<'t, A: Allocator>(
     written: &mut Written<'t, '_, A>,
     text: &'t [u8],
@@ -134,7 +134,7 @@ fn in_name<'t, A: Allocator>(
     Ok(None)
 }
 
-/// Takes the byte at `at`, and answers what may come next.
+/// Takes the byte at `at`, and returns what may come next.
 fn step<'t, A: Allocator>(
     written: &mut Written<'t, '_, A>,
     text: &'t [u8],

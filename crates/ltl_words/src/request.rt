@@ -90,7 +90,7 @@ impl<'a> Plan<'a> {
 /// Why there is no plan.
 #[derive(Clone, Copy, Debug, PartialEq, Eq, Error)]
 pub enum PlanFault {
-    /// The command line is wrong, or asks for help.
+    /// The command line is wrong, or requests help.
     #[error("usage")]
     Usage,
     /// The allocator refused an allocation.

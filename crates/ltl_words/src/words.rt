@@ -27,7 +27,7 @@ fn one_formula<'a>(text: Option<&'a str>, path: Option<&'a str>) -> Option<Formu
     }
 }
 
-/// The format that `-H` and `-G` ask for. They exclude each other.
+/// The format that `-H` or `-G` selects. The two options exclude each other.
 fn one_layout(hoa: bool, generalized: bool) -> Option<Layout>
     ensures { option_map layout_in result ≡ layout_of hoa generalized }
 {

@@ -56,6 +56,19 @@ fn tables_of_formulas(rt: HostRuntime) {
              !p       . . * * * * * * * * | . *\n\
              (p U !p) * * * * * * * * * * | * *\n",
         ),
+        // `X p` stands three times, and `true` twice.
+        (
+            "cycle {p}; {}",
+            "(X p && true) || (X p -> (true U X p))",
+            "                                         | 0 1\n\
+             p                                        | * .\n\
+             X p                                      | . *\n\
+             true                                     | * *\n\
+             (X p && true)                            | . *\n\
+             (true U X p)                             | * *\n\
+             (X p -> (true U X p))                    | * *\n\
+             ((X p && true) || (X p -> (true U X p))) | * *\n",
+        ),
     ];
     for (word, formula, wanted) in rows {
         let mut text = Vec::new(alloc);

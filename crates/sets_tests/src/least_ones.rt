@@ -1,108 +1,151 @@
-//! Tests of minimal elements, over sets of numbers below 64.
+//! Tests of minimal elements and of columns, over sets of numbers.
 
-ghost use Rattle.std.specs.Prelude.{◌≡◌, bit_and};
-
-use least::{Below, Counting, least};
+use least::{Below, Columns, Counting, Elements, least};
+use ltl_sets::RowSet;
 use std::alloc::{AllocError, Global};
 use std::test::Fail;
 
-/// A set of numbers, each of which is a bit.
-struct Bits {
-    bits: u64,
+/// An item that needs numbers and lacks others. It is below the items that need all that it needs, and nothing that it lacks.
+#[derive(Clone, Copy)]
+struct Item {
+    needs: RowSet,
+    lacks: RowSet,
 }
 
-impl Clone for Bits {
-    ghost use Rattle.std.specs.Prelude.{◌≡◌, ⊤};
+impl Elements for Item {
+    ghost use Rattle.sets_tests.specs.Items.{is_lacked, numbers_needed};
 
-    ghost is_clone = { λ s r. r ≡ s };
+    ghost needs = { numbers_needed };
 
-    ghost is_infallible = { λ _. ⊤ };
+    ghost asks = { numbers_needed };
 
-    fn clone(&self) -> Result<Bits, AllocError> {
-        Ok(*self)
-    }
-}
+    ghost lacking = { is_lacked };
 
-impl Copy for Bits {}
-
-impl Below for Bits {
-    ghost use Rattle.least.specs.Bits.{is_within, within_transitive};
-
-    ghost below = { λ a b. is_within a.bits b.bits };
-
-    fn is_below(&self, other: &Bits) -> bool {
-        self.bits | other.bits == other.bits
-    }
-
-    #[tactic(auto, using(least::proofs::BitsLaws::and_first, least::proofs::BitsLaws::and_second))]
-    fn common(&self, other: &Bits) -> Bits {
-        Bits {
-            bits: self.bits & other.bits,
+    fn needs(&self, kind: usize) -> RowSet {
+        if kind == 0 {
+            self.needs
+        } else {
+            RowSet::empty()
         }
     }
 
-    fn has(&self, element: usize) -> bool {
-        element < 64 && self.bits >> (element % 64) & 1 == 1
-    }
-
-    fn tally(&self, counts: &mut [u32]) {
-        for element in 0..64usize {
-            if self.has(element) {
-                if let Some(count) = counts.get_mut(element) {
-                    *count = count.saturating_add(1);
-                }
-            }
+    fn asks(&self, kind: usize) -> RowSet {
+        if kind == 0 {
+            self.needs
+        } else {
+            RowSet::empty()
         }
     }
 
-    ghost transitive = { λ a b c. within_transitive a.bits b.bits c.bits };
+    #[tactic(auto, using(crate::proofs::ItemLaws::lacks_first, crate::proofs::ItemLaws::lacks_none))]
+    fn lacks(&self, kind: usize, of: &RowSet) -> RowSet {
+        if kind == 0 {
+            of.common(&self.lacks)
+        } else {
+            RowSet::empty()
+        }
+    }
 }
 
-/// The relation that two sets differ.
+impl Below for Item {
+    ghost use Rattle.sets_tests.specs.Items.{below_asked, below_needed, is_below};
+
+    ghost below = { is_below };
+
+    fn is_below(&self, other: &Item) -> bool {
+        self.needs.is_subset(&other.needs) && !self.lacks.meets(&other.needs)
+    }
+
+    ghost needed = { below_needed };
+
+    ghost lacked = { below_asked };
+}
+
+/// The relation that two items need different numbers.
 struct Different;
 
-impl Counting<Bits> for Different {
+impl Counting<Item> for Different {
     ghost use Rattle.std.specs.Prelude.{nat_eq, not};
+    ghost use Rattle.std.specs.Cmp.Lexicographic.{pointwise};
 
-    ghost counts = { λ _ a b. not (nat_eq a.bits b.bits) };
+    ghost counts = { λ _ a b. not (pointwise nat_eq a.needs b.needs) };
 
-    fn counts(&self, other: &Bits, item: &Bits) -> bool {
-        other.bits != item.bits
+    fn counts(&self, other: &Item, item: &Item) -> bool {
+        !(other.needs == item.needs)
     }
 }
 
-/// The sets of six of twelve numbers, and the same sets with 20 added. They are more than are compared one by one.
+/// The numbers of the bits that are set.
+fn numbers(bits: u64) -> RowSet {
+    let mut set = RowSet::empty();
+    for number in 0..64usize {
+        if bits >> number & 1 == 1 {
+            set.insert(number);
+        }
+    }
+    set
+}
+
+/// An item that lacks nothing.
+fn needing(bits: u64) -> Item {
+    Item {
+        needs: numbers(bits),
+        lacks: RowSet::empty(),
+    }
+}
+
+/// The sets of six of twelve numbers, and the same sets with 20 added. They fill more than two blocks.
 #[test]
 fn those_with_more_go(rt: HostRuntime) -> Result<(), Fail> {
     let alloc = rt.alloc();
     let mut items = Vec::new(alloc);
     for bits in 0..1u64 << 12 {
         if bits.count_ones() == 6 {
-            items.push(Bits {
-                bits: bits | 1 << 20,
-            })?;
-            items.push(Bits { bits })?;
+            items.push(needing(bits | 1 << 20))?;
+            items.push(needing(bits))?;
         }
     }
     let kept = least(&alloc, &Different, items.as_slice())?;
     assert_eq!(rt; items.len(), 2 * 924);
     assert_eq!(rt; kept.len(), 924);
     for item in &kept {
-        assert_eq!(rt; item.bits >> 20, 0);
+        assert!(rt; !item.needs.holds(20));
+    }
+    Ok(())
+}
+
+/// The sets of six of twelve numbers, and an item that needs nothing, but lacks 0. It is below the sets without 0 alone.
+#[test]
+fn those_that_need_what_is_lacked_stay(rt: HostRuntime) -> Result<(), Fail> {
+    let alloc = rt.alloc();
+    let mut items = Vec::new(alloc);
+    for bits in 0..1u64 << 12 {
+        if bits.count_ones() == 6 {
+            items.push(needing(bits))?;
+        }
+    }
+    items.push(Item {
+        needs: RowSet::empty(),
+        lacks: RowSet::single(0),
+    })?;
+    let kept = least(&alloc, &Different, items.as_slice())?;
+    assert_eq!(rt; kept.len(), 462 + 1);
+    for item in &kept {
+        assert_eq!(rt; item.needs.holds(0), !(item.needs == RowSet::empty()));
     }
     Ok(())
 }
 
 /// The minimal ones of a few sets.
-fn least_of(alloc: Global, bits: &[u64]) -> Result<Vec<u64>, AllocError> {
+fn least_of(alloc: Global, sets: &[u64]) -> Result<Vec<RowSet>, AllocError> {
     let mut items = Vec::new(alloc);
-    for bits in bits {
-        items.push(Bits { bits: *bits })?;
+    for bits in sets {
+        items.push(needing(*bits))?;
     }
     let kept = least(&alloc, &Different, items.as_slice())?;
     let mut answer = Vec::new(alloc);
     for item in &kept {
-        answer.push(item.bits)?;
+        answer.push(item.needs)?;
     }
     Ok(answer)
 }
@@ -110,13 +153,29 @@ fn least_of(alloc: Global, bits: &[u64]) -> Result<Vec<u64>, AllocError> {
 #[test]
 fn the_order_stays(rt: HostRuntime) -> Result<(), Fail> {
     let kept = least_of(rt.alloc(), &[6, 7, 1, 8, 6])?;
-    assert!(rt; kept == vec![in rt.alloc(); 6, 1, 8, 6]?);
+    assert!(rt; kept == vec![in rt.alloc(); numbers(6), numbers(1), numbers(8), numbers(6)]?);
     Ok(())
 }
 
 #[test]
 fn of_none_and_of_one(rt: HostRuntime) -> Result<(), Fail> {
     assert!(rt; least_of(rt.alloc(), &[])?.is_empty());
-    assert!(rt; least_of(rt.alloc(), &[5])? == vec![in rt.alloc(); 5]?);
+    assert!(rt; least_of(rt.alloc(), &[5])? == vec![in rt.alloc(); numbers(5)]?);
+    Ok(())
+}
+
+/// The columns of {1, 2} and {2, 200}.
+#[test]
+fn columns_of_two_sets(rt: HostRuntime) -> Result<(), Fail> {
+    let alloc = rt.alloc();
+    let mut second = numbers(4);
+    second.insert(200);
+    let columns = Columns::of(&alloc, &[numbers(6), second])?;
+    assert!(rt; columns.column(0) == RowSet::empty());
+    assert!(rt; columns.column(1) == RowSet::single(0));
+    assert!(rt; columns.column(2) == numbers(3));
+    assert!(rt; columns.column(200) == RowSet::single(1));
+    assert!(rt; columns.column(1000) == RowSet::empty());
+    assert!(rt; numbers(6).union(&second).is_subset(&columns.met()));
     Ok(())
 }

@@ -45,6 +45,7 @@ fn each_word_of_a_set(rt: HostRuntime) -> Result<(), AllocError> {
             let two = one.union(&RowSet::single(j));
             assert!(rt; one.is_subset(&two) && RowSet::empty().is_subset(&one));
             assert_eq!(rt; two.is_subset(&one), i == j);
+            assert_eq!(rt; two.count(), if i == j { 1 } else { 2 });
             assert!(rt; one.common(&two) == one && two.common(&one) == one);
             assert_eq!(rt; one.common(&RowSet::single(j)) == one, i == j);
             assert_eq!(rt; one.common(&RowSet::single(j)) == RowSet::empty(), i != j);
@@ -66,6 +67,14 @@ fn each_word_of_a_set(rt: HostRuntime) -> Result<(), AllocError> {
 }
 
 #[test]
+fn all_numbers(rt: HostRuntime) -> Result<(), AllocError> {
+    assert_eq!(rt; RowSet::all().count(), RowSet::LIMIT);
+    assert_eq!(rt; RowSet::empty().count(), 0);
+    assert_eq!(rt; Cube::empty().count(), 0);
+    Ok(())
+}
+
+#[test]
 fn each_word_of_a_cube(rt: HostRuntime) -> Result<(), AllocError> {
     for p in PLACES {
         if p >= RowSet::LIMIT {
@@ -75,6 +84,7 @@ fn each_word_of_a_cube(rt: HostRuntime) -> Result<(), AllocError> {
         let negative = Cube::literal(p, false);
         assert!(rt; positive != negative);
         assert!(rt; positive.join(&negative).is_none());
+        assert_eq!(rt; positive.count() + negative.count(), 2);
         assert!(rt; positive.join(&positive) == Some(positive));
         assert!(rt; Cube::empty().implies_of(&negative) && !negative.implies_of(&positive));
         assert!(rt; positive.allows(&RowSet::single(p)) && !positive.allows(&RowSet::empty()));

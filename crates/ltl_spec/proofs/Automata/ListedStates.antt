@@ -1,4 +1,4 @@
--- The states of an automaton by their numbers, and automata whose states stand for the things of a list.
+-- The states of an automaton by their numbers, and automata with a state for each element of a list.
 use Rattle.std.proofs.Common.{◌≡◌, ℕ, zero, suc, ◌<◌, Bool, true, List, [], ◌∷◌, length, map, refl, sym, ◌∙◌, ap, arith}
 use Rattle.std.specs.Prelude.{slice_index_or}
 use Rattle.std.specs.Bool.{Decides}

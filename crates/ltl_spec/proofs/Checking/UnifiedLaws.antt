@@ -1,4 +1,4 @@
--- Lists of names put together keep each name.
+-- The unified list of two lists of names has each name of both.
 use Rattle.std.proofs.Common.{◌≡◌, ℕ, zero, suc, ◌<◌, Bool, true, false, cond, inl, inr, List, [], ◌∷◌, ◌++◌, length, refl, sym, ◌∙◌, ap, subst, arith, append_assoc}
 use Rattle.std.specs.Prelude.{slice_index_or, fold}
 use Rattle.std.specs.Bool.{Decides}

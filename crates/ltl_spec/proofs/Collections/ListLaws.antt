@@ -1,4 +1,4 @@
--- What lists of different things have, where each thing stands, and how many there can be.
+-- The elements of lists without duplicates, their positions, and how many there can be.
 use Rattle.std.proofs.Common.{◌≡◌, ℕ, zero, suc, ◌+◌, ◌-◌, ◌<◌, ◌≤◌, Bool, true, false, cond, not, ◌||◌, ◌⊎◌, inl, inr, List, [], ◌∷◌, ◌++◌, length, refl, sym, ◌∙◌, ap, subst, arith, eqb, lt-ltb, Some, None, map}
 use Rattle.std.specs.Prelude.{slice_index_or, fold, Contains, slice_get, All}
 use Rattle.std.specs.declared.cmp.Ordering.TheVariants.{Less, Equal, Greater}

@@ -1,4 +1,4 @@
--- What lists that are made from others have: by a map, a chain, a filter that maps. What holds of all or of some elements.
+-- The elements of lists that are made by a map, a chain or a filter with a map; what holds of all or of some elements.
 use Rattle.std.proofs.Common.{◌≡◌, Bool, true, false, cond, ◌||◌, inl, inr, List, [], ◌∷◌, map, length, refl, sym, ◌∙◌, ap, subst, Option, Some, None, ◌++◌}
 use Rattle.std.specs.Prelude.{flat_map, filter_map}
 use Rattle.std.specs.Bool.{Decides}

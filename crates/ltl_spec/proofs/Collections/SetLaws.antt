@@ -235,24 +235,6 @@ Has-filter p (x ∷ xs) z h t =
       | false ↦ λ e. elim [ inl i ↦ absurd (false≢true (sym e ∙ ap p (sym i) ∙ t)) | inr k ↦ Has-filter p xs z k t ]
     ] refl h
 
-pub subset_transitive : {K : Type 0} {cmp : K → K → Ordering} (o : IsLinearOrder cmp) (xs ys zs : List K) → is_subset cmp xs ys ≡ true → is_subset cmp ys zs ≡ true → is_subset cmp xs zs ≡ true
-subset_transitive o xs ys zs e f = (is_subset_Decides o xs zs).1 (λ z h. (is_subset_Decides o ys zs).0 f z ((is_subset_Decides o xs ys).0 e z h))
-
--- the members of both sets are members of each
-module _ {K : Type 0} {cmp : K → K → Ordering} (o : IsLinearOrder cmp) (xs ys : List K) where
-  pub common_first : is_subset cmp (filter (λ z. has cmp z ys) xs) xs ≡ true
-  common_first = (is_subset_Decides o (filter (λ z. has cmp z ys) xs) xs).1 (λ z h. (filter_cases (λ w. has cmp w ys) xs z h).0)
-
-  pub common_second : is_subset cmp (filter (λ z. has cmp z ys) xs) ys ≡ true
-  common_second = (is_subset_Decides o (filter (λ z. has cmp z ys) xs) ys).1 (λ z h. (has_Decides o z ys).0 (filter_cases (λ w. has cmp w ys) xs z h).1)
-
-  -- and those of each are members of the union
-  pub union_first : is_subset cmp xs (union cmp xs ys) ≡ true
-  union_first = (is_subset_Decides o xs (union cmp xs ys)).1 (λ z h. union_left o xs ys z h)
-
-  pub union_second : is_subset cmp ys (union cmp xs ys) ≡ true
-  union_second = (is_subset_Decides o ys (union cmp xs ys)).1 (λ z h. union_right o xs ys z h)
-
 pub IsRising-filter : {K : Type 0} (cmp : K → K → Ordering) (p : K → Bool) (xs : List K) → IsRising cmp xs → IsRising cmp (filter p xs)
 IsRising-filter cmp p [] r = tt
 IsRising-filter cmp p (x ∷ xs) r =

@@ -1,4 +1,4 @@
--- Sorting a list and dropping repetitions gives the set of its elements: by a key that tells elements apart, or by the elements themselves.
+-- Sorting a list and dropping duplicates gives the set of its elements: by a key that distinguishes elements, or by the elements themselves.
 use Rattle.std.proofs.Common.{◌≡◌, Bool, List, [], ◌∷◌, map, refl, sym, ◌∙◌, ap, subst, IsPermutation}
 use Rattle.std.specs.declared.cmp.Ordering.{Ordering}
 use Rattle.std.specs.declared.cmp.Ordering.TheVariants.{Less, Equal, Greater}
@@ -17,7 +17,7 @@ use Rattle.std.proofs.lemmas.List.Kept.{IsStrictlySortedBy-dedup, Contains-dedup
 use Rattle.std.proofs.lemmas.List.Sorted.{ranks_by, Contains-permutation, IsPermutation-sym}
 use denote.Param.Members.{Mut}
 use denote.Ref.{Bor}
-use Rattle.ltl_spec.specs.Collections.Sets.{Has, IsRising, set_of, IsLinearOrder}
+use Rattle.ltl_spec.specs.Collections.Sets.{Has, IsRising, set_of, put, by_order, IsLinearOrder}
 use Rattle.ltl_spec.proofs.Collections.SetLaws.{IsRising-set_of, set_of_cases, Has-set_of, same_members, all_from, all_at}
 use Rattle.ltl_spec.proofs.Collections.ListLaws.{Has-from_contains, Contains-from_has}
 use Rattle.ltl_spec.proofs.Collections.MemberLaws.{Has-map, map_cases}
@@ -92,3 +92,17 @@ sorted_set_itself {R = R} o same decides xs ys zs p s f =
     unchanged : {X : Type 0} (xs : List X) → map (λ x. x) xs ≡ xs
     unchanged [] = refl
     unchanged (x ∷ xs) = ap (λ l. x ∷ l) (unchanged xs)
+
+-- the set of the keys is the set of the elements by their keys
+pub set_of_keys : {X Y : Type 0} (R : Y → Y → Ordering) (key : X → Y) (xs : List X) → map key (set_of (λ x y. R (key x) (key y)) xs) ≡ set_of R (map key xs)
+set_of_keys R key [] = refl
+set_of_keys R key (x ∷ xs) = put_key x (set_of (λ a b. R (key a) (key b)) xs) ∙ ap (put R (key x)) (set_of_keys R key xs)
+  where
+    put_key : (x : _) (ys : List _) → map key (put (λ a b. R (key a) (key b)) x ys) ≡ put R (key x) (map key ys)
+    put_key x [] = refl
+    put_key x (y ∷ ys) =
+        elim (R (key x) (key y)) as (λ r. map key (by_order r (x ∷ y ∷ ys) (y ∷ ys) (y ∷ put (λ a b. R (key a) (key b)) x ys)) ≡ by_order r (key x ∷ key y ∷ map key ys) (key y ∷ map key ys) (key y ∷ put R (key x) (map key ys))) [
+          | Less ↦ refl
+          | Equal ↦ refl
+          | Greater ↦ ap (λ l. key y ∷ l) (put_key x ys)
+        ]

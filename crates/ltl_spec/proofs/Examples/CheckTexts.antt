@@ -10,7 +10,6 @@ use Rattle.ltl_spec.specs.NormalForms.NormalForm.{core}
 use Rattle.ltl_spec.specs.Automata.Automaton.{Edge}
 use Rattle.ltl_spec.specs.Tools.Limits.{stated_limits}
 use Rattle.ltl_spec.specs.Tools.Outcome.{NotOpened, Ended, Given}
-use Rattle.ltl_spec.specs.Hoa.HoaReading.{OneSet}
 use Rattle.ltl_spec.specs.Checking.Check.{MarkedAccepts, IsViolation, Violated}
 use Rattle.ltl_spec.specs.Tools.Programs.{Claim, plain_options, ReadsFormula, Translates, TranslatorPlan, TranslatorAnswers, CheckerPlan, CheckerAnswers}
 use Rattle.ltl_spec.proofs.Formulas.ReaderLaws.{verdict_reading}
@@ -102,7 +101,7 @@ abbrev check_plan : CheckerPlan
 check_plan = record { formula = Given (codes "<>p"); automaton = None }
 
 -- the checker with `-f '<>p'` on that automaton
-violated_answer : CheckerAnswers stated_limits OneSet (Some check_plan) NotOpened (Ended text_e) (answer (codes "violated\ncycle {}\n") [] 1)
+violated_answer : CheckerAnswers stated_limits 1 (Some check_plan) NotOpened (Ended text_e) (answer (codes "violated\ncycle {}\n") [] 1)
 violated_answer = (
   Ok (Violated empty_word),
   inr (

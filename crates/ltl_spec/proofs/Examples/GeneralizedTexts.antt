@@ -14,12 +14,12 @@ use Rattle.ltl_spec.specs.Automata.GeneralizedText.{generalized_text}
 use Rattle.ltl_spec.specs.Construction.Merging.{merged_automaton}
 use Rattle.ltl_spec.specs.Construction.Renumbered.{renumbered_automaton}
 use Rattle.ltl_spec.specs.Tools.Limits.{stated_limits}
-use Rattle.ltl_spec.specs.Tools.Refusal.{translator_usage}
+use Rattle.ltl_spec.specs.Tools.Refusal.{Translator, usage_text}
 use Rattle.ltl_spec.specs.Tools.Programs.{Claim, Generalized, layout_of}
 use Rattle.ltl_spec.specs.Hoa.HoaFaultKind.{BadToken, Unsupported, NumberOutOfRange, LimitPassed}
 use Rattle.ltl_spec.specs.Hoa.HoaFault.{hoa_fault, HoaFault, fault_at}
 use Rattle.ltl_spec.specs.Hoa.HoaLabel.{NumberLabel, NotLabel, AndLabel}
-use Rattle.ltl_spec.specs.Hoa.HoaReading.{SetsUpTo, MarkedAutomaton, StatesItem, StartItem, NamesItem, SetsItem, HoaReadsWithin}
+use Rattle.ltl_spec.specs.Hoa.HoaReading.{MarkedAutomaton, StatesItem, StartItem, NamesItem, SetsItem, HoaReadsWithin}
 use Rattle.ltl_spec.proofs.Examples.ReaderTexts.{verdict_of}
 use Rattle.ltl_spec.proofs.Examples.InputTexts.{reads_as}
 use Rattle.ltl_spec.specs.Checking.Check.{graph_of, IsViolation, IsContained}
@@ -36,7 +36,7 @@ generalized_layout = refl
 no_layout : layout_of true true ≡ None
 no_layout = refl
 
-generalized_usage : translator_usage (codes "[-H | -G]") ≡ codes "ltl2ba [-l] [-o] [-p] [-H | -G] (-f formula | -F file)"
+generalized_usage : usage_text Translator ≡ codes "ltl2ba [-l] [-o] [-p] [-H | -G] (-f formula | -F file)"
 generalized_usage = refl
 
 -- ---- texts
@@ -73,7 +73,7 @@ abbrev sample : List ℕ → List ℕ → List ℕ
 sample sets marks = codes "HOA: v1\nStates: 1\nStart: 0\nAP: 1 \"p\"\nAcceptance: " ++ sets ++ codes "\n--BODY--\nState: 0" ++ marks ++ codes "\n[!0] 0\n--END--\n"
 
 abbrev fault_of : List ℕ → List ℕ → Option HoaFault
-fault_of sets marks = hoa_fault stated_limits (SetsUpTo 32) (sample sets marks)
+fault_of sets marks = hoa_fault stated_limits 32 (sample sets marks)
 
 -- each with its fault
 abbrev faults : List (Option HoaFault × Option HoaFault)
@@ -106,16 +106,16 @@ faults_found = refl
 abbrev looping : ℕ → List ℕ → MarkedAutomaton
 looping sets marks = record { states = 1; start = 0; sets = sets; names = codes "p" ∷ []; edges = (record { cube = record { proposition = 0; positive = false } ∷ []; target = 0; marks = marks } ∷ []) ∷ [] }
 
-reads_two : HoaReadsWithin stated_limits (SetsUpTo 32) (sample (codes "2 Inf(0)&Inf(1)") (codes " {0}")) (looping 2 (0 ∷ []))
-reads_two = reads_as (SetsUpTo 32) (sample (codes "2 Inf(0)&Inf(1)") (codes " {0}")) (looping 2 (0 ∷ [])) (
+reads_two : HoaReadsWithin stated_limits 32 (sample (codes "2 Inf(0)&Inf(1)") (codes " {0}")) (looping 2 (0 ∷ []))
+reads_two = reads_as 32 (sample (codes "2 Inf(0)&Inf(1)") (codes " {0}")) (looping 2 (0 ∷ [])) (
     record {
       items = StatesItem 1 ∷ StartItem 0 ∷ NamesItem (codes "p" ∷ []) ∷ SetsItem 2 ∷ [];
       states = record { number = 0; name = None; sets = Some (0 ∷ []); edges = record { label = NotLabel (NumberLabel 0); target = 0; sets = None } ∷ [] } ∷ [];
     }
     ) refl (refl, refl, refl, refl) refl refl refl ((λ h. h), tt) ((λ h. h), tt)
 
-reads_none : HoaReadsWithin stated_limits (SetsUpTo 32) (sample (codes "0 t") []) (looping 0 [])
-reads_none = reads_as (SetsUpTo 32) (sample (codes "0 t") []) (looping 0 []) (
+reads_none : HoaReadsWithin stated_limits 32 (sample (codes "0 t") []) (looping 0 [])
+reads_none = reads_as 32 (sample (codes "0 t") []) (looping 0 []) (
     record {
       items = StatesItem 1 ∷ StartItem 0 ∷ NamesItem (codes "p" ∷ []) ∷ SetsItem 0 ∷ [];
       states = record { number = 0; name = None; sets = None; edges = record { label = NotLabel (NumberLabel 0); target = 0; sets = None } ∷ [] } ∷ [];
@@ -184,8 +184,8 @@ by_cycles marks = record {
 abbrev cycles_text : List ℕ → List ℕ
 cycles_text marks = codes "HOA: v1\nStates: 2\nStart: 0\nAP: 2 \"p\" \"q\"\nAcceptance: 2 Inf(0)&Inf(1)\n--BODY--\nState: 0\n[0&!1] 1 {0}\nState: 1\n[!0&1] 0" ++ marks ++ codes "\n--END--\n"
 
-reads_by_cycles : HoaReadsWithin stated_limits (SetsUpTo 32) (cycles_text (codes " {1}")) (by_cycles (1 ∷ []))
-reads_by_cycles = reads_as (SetsUpTo 32) (cycles_text (codes " {1}")) (by_cycles (1 ∷ [])) (
+reads_by_cycles : HoaReadsWithin stated_limits 32 (cycles_text (codes " {1}")) (by_cycles (1 ∷ []))
+reads_by_cycles = reads_as 32 (cycles_text (codes " {1}")) (by_cycles (1 ∷ [])) (
     record {
       items = StatesItem 2 ∷ StartItem 0 ∷ NamesItem (codes "p" ∷ codes "q" ∷ []) ∷ SetsItem 2 ∷ [];
       states = record { number = 0; name = None; sets = None; edges = record { label = AndLabel (NumberLabel 0) (NotLabel (NumberLabel 1)); target = 1; sets = Some (0 ∷ []) } ∷ [] }

@@ -17,7 +17,7 @@ use Rattle.ltl_spec.specs.Tools.Refusal.{Tool, Translator, Checker, Evaluator, R
 use Rattle.ltl_spec.specs.Transitions.Cubes.{Literal}
 use Rattle.ltl_spec.specs.Hoa.HoaToken.{hoa_tokens}
 use Rattle.ltl_spec.specs.Hoa.HoaLabel.{Label, NumberLabel, NotLabel, BracketLabel, AndLabel, OrLabel, label_cubes, is_wide}
-use Rattle.ltl_spec.specs.Hoa.HoaReading.{AcceptanceForm, OneSet, SetsUpTo, is_read, MarkedAutomaton, StatesItem, StartItem, NamesItem, SetsItem, is_item, states_in, start_in, sets_in, names_in, is_state_inside, state_edges, edges_at, HoaDocument, document_tokens, HoaReadsWithin}
+use Rattle.ltl_spec.specs.Hoa.HoaReading.{AcceptanceForm, MarkedAutomaton, StatesItem, StartItem, NamesItem, SetsItem, is_item, states_in, start_in, sets_in, names_in, is_state_inside, state_edges, edges_at, HoaDocument, document_tokens, HoaReadsWithin}
 use Rattle.ltl_spec.specs.Hoa.HoaFault.{HoaFault, fault_at, hoa_fault}
 use Rattle.ltl_spec.proofs.Words.LeastLaws.{least_form_is}
 use Rattle.ltl_spec.proofs.Words.WordReadingLaws.{run_word, fault_at_byte, fault_at_end}
@@ -117,7 +117,7 @@ wide = refl
 module _ (form : AcceptanceForm) (text : List ℕ) (A : MarkedAutomaton) (d : HoaDocument) where
   abbrev pub says_all : Bool
   says_all =
-      list_all is_item d.items && (is_read form A.sets && (nat_lt A.start A.states && (list_all is_proposition A.names && list_all (is_state_inside A) d.states)))
+      list_all is_item d.items && (nat_le A.sets form && (nat_lt A.start A.states && (list_all is_proposition A.names && list_all (is_state_inside A) d.states)))
 
   abbrev pub is_small : Bool
   is_small =
@@ -136,27 +136,26 @@ module _ (form : AcceptanceForm) (text : List ℕ) (A : MarkedAutomaton) (d : Ho
       let (bytes, e) = parts _ _ small in
       let (few, f) = parts _ _ e in
       let (named, g) = parts _ _ f in
-      let (labels, short) = parts _ _ g in (
-        record {
-          document = d;
-          spelled = spelled;
-          describes = record {
-            items = items;
-            states = states;
-            start = start;
-            sets = sets;
-            names = names;
-            reads = reads;
-            begins = ltb-true _ _ begins;
-            propositions = propositions;
-            differ = differ;
-            once = once;
-            inside = inside;
-            edges = edges;
-          };
-        },
-        record { bytes = leb-true _ _ bytes; states = leb-true _ _ few; names = leb-true _ _ named; labels = labels; edges = leb-true _ _ short },
-      )
+      let (labels, short) = parts _ _ g in
+      record {
+        document = d;
+        spelled = spelled;
+        describes = record {
+          items = items;
+          states = states;
+          start = start;
+          sets = sets;
+          names = names;
+          few_sets = leb-true _ _ reads;
+          begins = ltb-true _ _ begins;
+          propositions = propositions;
+          differ = differ;
+          once = once;
+          inside = inside;
+          edges = edges;
+        };
+        within = record { bytes = leb-true _ _ bytes; states = leb-true _ _ few; names = leb-true _ _ named; labels = labels; edges = leb-true _ _ short };
+      }
     where
       parts : (a b : Bool) → (a && b) ≡ true → (a ≡ true) × (b ≡ true)
       parts a b e = (left_true a b e, right_true a b e)
@@ -173,8 +172,8 @@ automaton_e = record {
   edges = (record { cube = literal 0 false ∷ []; target = 0; marks = 0 ∷ [] } ∷ []) ∷ [];
 }
 
-pub reads_e : HoaReadsWithin stated_limits OneSet text_e automaton_e
-reads_e = reads_as OneSet text_e automaton_e (
+pub reads_e : HoaReadsWithin stated_limits 1 text_e automaton_e
+reads_e = reads_as 1 text_e automaton_e (
     record {
       items = StatesItem 1 ∷ StartItem 0 ∷ NamesItem (codes "p" ∷ []) ∷ SetsItem 1 ∷ [];
       states = record { number = 0; name = None; sets = Some (0 ∷ []); edges = record { label = NotLabel (NumberLabel 0); target = 0; sets = None } ∷ [] } ∷ [];
@@ -193,8 +192,8 @@ automaton_p = record {
   edges = (record { cube = literal 0 true ∷ []; target = 1; marks = 0 ∷ [] } ∷ []) ∷ (record { cube = literal 0 false ∷ []; target = 0; marks = [] } ∷ []) ∷ [];
 }
 
-reads_p : HoaReadsWithin stated_limits OneSet text_p automaton_p
-reads_p = reads_as OneSet text_p automaton_p (
+reads_p : HoaReadsWithin stated_limits 1 text_p automaton_p
+reads_p = reads_as 1 text_p automaton_p (
     record {
       items = StatesItem 2 ∷ StartItem 0 ∷ NamesItem (codes "p" ∷ []) ∷ SetsItem 1 ∷ [];
       states = record { number = 0; name = None; sets = Some (0 ∷ []); edges = record { label = NumberLabel 0; target = 1; sets = None } ∷ [] }
@@ -202,16 +201,16 @@ reads_p = reads_as OneSet text_p automaton_p (
     }
     ) refl (refl, refl, refl, refl) refl refl refl ((λ h. h), tt) ((λ h. elim h [ inl e ↦ cc | inr z ↦ z ]), ((λ h. h), tt))
 
--- faults of texts that differ from the first of these automata
+-- faults of texts that differ from the first of these automata, where one set at most is read
 abbrev fault : List ℕ → Option HoaFault
-fault = hoa_fault stated_limits OneSet
+fault = hoa_fault stated_limits 1
 
 abbrev faults : List (Option HoaFault × Option HoaFault)
 faults =
     (fault (codes "HOA: v2\nStates: 1\nStart: 0\nAP: 1 \"p\"\nAcceptance: 1 Inf(0)\n--BODY--\nState: 0 {0}\n[!0] 0\n--END--\n"), fault_at NotHoaVersion1 1)
     ∷ (fault (codes "HOA: v1\nStates: 1\nStates: 1\nAP: 1 \"p\"\nAcceptance: 1 Inf(0)\n--BODY--\nState: 0 {0}\n[!0] 0\n--END--\n"), fault_at ItemTwice 3)
     ∷ (fault (codes "HOA: v1\nStates: 1\nStart: 0\nAcceptance: 1 Inf(0)\n--BODY--\nState: 0 {0}\n[!0] 0\n--END--\n"), fault_at ItemMissing 5)
-    ∷ (fault (codes "HOA: v1\nStates: 1\nStart: 0\nAP: 1 \"p\"\nAcceptance: 2 Inf(0)&Inf(1)\n--BODY--\nState: 0 {0}\n[!0] 0\n--END--\n"), fault_at Unsupported 5)
+    ∷ (fault (codes "HOA: v1\nStates: 1\nStart: 0\nAP: 1 \"p\"\nAcceptance: 2 Inf(0)&Inf(1)\n--BODY--\nState: 0 {0}\n[!0] 0\n--END--\n"), fault_at LimitPassed 5)
     ∷ (fault (codes "HOA: v1\nStates: 1\nStart: 0\nAP: 2 \"p\"\nAcceptance: 1 Inf(0)\n--BODY--\nState: 0 {0}\n[!0] 0\n--END--\n"), fault_at BadPropositionList 5)
     ∷ (fault (codes "HOA: v1\nStates: 1\nStart: 0\nAP: 1 \"true\"\nAcceptance: 1 Inf(0)\n--BODY--\nState: 0 {0}\n[!0] 0\n--END--\n"), fault_at BadPropositionList 4)
     ∷ (fault (codes "HOA: v1\nStates: 1\nStart: 1\nAP: 1 \"p\"\nAcceptance: 1 Inf(0)\n--BODY--\nState: 0 {0}\n[!0] 0\n--END--\n"), fault_at NumberOutOfRange 6)
@@ -235,7 +234,7 @@ faults_hold = refl
 
 -- the same where up to 32 sets are read
 abbrev fault_of_sets : List ℕ → Option HoaFault
-fault_of_sets = hoa_fault stated_limits (SetsUpTo 32)
+fault_of_sets = hoa_fault stated_limits 32
 
 abbrev set_faults : List (Option HoaFault × Option HoaFault)
 set_faults =

@@ -1,6 +1,6 @@
 -- The text of a generalized automaton reads as that automaton.
 use Rattle.std.proofs.Common.{◌≡◌, ℕ, zero, suc, ◌+◌, ◌^◌, ◌<◌, ◌≤◌, Bool, true, false, not, ◌&&◌, ◌==◌, inl, inr, List, [], ◌∷◌, ◌++◌, length, map, Option, None, codes, refl, sym, ◌∙◌, ap, subst, arith, append_assoc}
-use Rattle.std.specs.Prelude.{if◌then◌else◌, nat_lt, nat_le, filter, flat_map, decimal, sum_by, unwrap_or, slice_index_or, fold, All, IsTrue}
+use Rattle.std.specs.Prelude.{if◌then◌else◌, nat_lt, filter, flat_map, decimal, sum_by, unwrap_or, slice_index_or, fold, All, IsTrue}
 use Rattle.std.specs.List.{list_all, range_with_len}
 use Rattle.std.specs.Ordering.{nat_cmp}
 use Rattle.std.proofs.lemmas.Bool.{eqb-true}
@@ -21,14 +21,14 @@ use Rattle.ltl_spec.specs.Automata.GeneralizedText.{acceptance_name, acceptance_
 use Rattle.ltl_spec.specs.Tools.Limits.{Limits, stated_limits}
 use Rattle.ltl_spec.specs.Hoa.HoaToken.{HoaToken, StringToken, Identifier, Header, Int, Body, End, hoa_tokens}
 use Rattle.ltl_spec.specs.Hoa.HoaLabel.{is_wide}
-use Rattle.ltl_spec.specs.Hoa.HoaReading.{AcceptanceForm, SetsUpTo, is_read, StatesItem, StartItem, SetsItem, NamesItem, OtherItem, WrittenEdge, WrittenState, HoaDocument, document_tokens, state_tokens, header_item_tokens, MarkedAutomaton, cube_edges, state_edges, edges_at, is_plain, is_edge_inside, is_state_inside, are_sets, HoaReadsWithin}
+use Rattle.ltl_spec.specs.Hoa.HoaReading.{AcceptanceForm, StatesItem, StartItem, SetsItem, NamesItem, OtherItem, WrittenEdge, WrittenState, HoaDocument, document_tokens, state_tokens, header_item_tokens, MarkedAutomaton, cube_edges, state_edges, edges_at, is_plain, is_edge_inside, is_state_inside, are_sets, HoaReadsWithin}
 use Rattle.ltl_spec.specs.Hoa.HoaPrinted.{IsPrintedEdge, IsPrinted, marked_of}
 use Rattle.ltl_spec.proofs.Collections.CaseLaws.{left_true, right_true}
 use Rattle.ltl_spec.proofs.Collections.SetLaws.{set_of_same}
 use Rattle.ltl_spec.proofs.Collections.Orders.{nat_linear}
 use Rattle.ltl_spec.proofs.Collections.ListLaws.{Has-at, All-at_has}
 use Rattle.ltl_spec.proofs.Collections.MemberLaws.{all_Decides, all_append, all_weaker, map_cases, map_length}
-use Rattle.ltl_spec.proofs.Hoa.HoaUniqueLaws.{one_automaton}
+use Rattle.ltl_spec.proofs.Hoa.HoaLaws.{one_automaton}
 use Rattle.ltl_spec.proofs.Hoa.SpelledLaws.{Spells, spells_all, is_clean}
 use Rattle.ltl_spec.proofs.Hoa.SpelledStates.{format_line, name_line, states_line, start_line, names_spelled, name_of_acceptance, acceptance_name_line, acceptance_line, properties_line, body_line, end_line, cube_label, written_marks, IsSmallEdge, state_spelled}
 use Rattle.ltl_spec.proofs.Hoa.SpelledLabels.{printed_cubes, printed_narrow, printed_fine}
@@ -207,7 +207,7 @@ module _ (l : Limits) (A : Automaton) (R : Reading) (f : Form) where
     pub properties : Spells f.properties.0 (Header (codes "properties") ∷ f.properties.1)
     pub lines : (k : ℕ) → k < length A.states → Spells (f.lines k) (state_tokens (state_in k))
     pub plain : (list_all is_plain f.name.1 ≡ true) × (list_all is_plain f.properties.1 ≡ true)
-    pub reads : is_read form f.sets ≡ true
+    pub few_sets : f.sets ≤ form
     pub at_states : (s : State) → are_sets read_of (f.at_state s) ≡ true
     pub edges : (s : State) → Has A.states s → (e : Edge) → Has s.edges e → IsFineEdge e
     pub some : 0 < length A.states
@@ -349,33 +349,31 @@ module _ (l : Limits) (A : Automaton) (R : Reading) (f : Form) where
 
     -- the printed text reads as the automaton
     pub form_reads : length form_text ≤ l.hoa_bytes → HoaReadsWithin l form form_text read_of
-    form_reads few = (
-      record {
-        document = document;
-        spelled = text_spelled;
-        describes = record {
-          items = λ i. p.plain.0 i && (p.plain.1 i && true);
-          states = refl;
-          start = refl;
-          sets = refl;
-          names = refl;
-          reads = p.reads;
-          begins = p.some;
-          propositions = p.propositions;
-          differ = p.differ;
-          once = subst HasNoRepeats (sym (map_same state_in (λ s. s.number) numbers ∙ map-id numbers)) (range_differs 0 (length A.states));
-          inside = states_inside;
-          edges = read_edges;
-        };
-      },
-      record {
+    form_reads few = record {
+      document = document;
+      spelled = text_spelled;
+      describes = record {
+        items = λ i. p.plain.0 i && (p.plain.1 i && true);
+        states = refl;
+        start = refl;
+        sets = refl;
+        names = refl;
+        few_sets = p.few_sets;
+        begins = p.some;
+        propositions = p.propositions;
+        differ = p.differ;
+        once = subst HasNoRepeats (sym (map_same state_in (λ s. s.number) numbers ∙ map-id numbers)) (range_differs 0 (length A.states));
+        inside = states_inside;
+        edges = read_edges;
+      };
+      within = record {
         bytes = few;
         states = p.few_states;
         names = p.few_names;
         labels = labels_narrow;
         edges = subst (λ n. n ≤ l.hoa_edges) (sym edge_count) p.few_edges;
-      },
-    )
+      };
+    }
 
 -- ---- sets on the edges
 
@@ -426,14 +424,14 @@ module _ (l : Limits) (most : ℕ) (usual : AreUsual l most) (A : Automaton) (R 
   few_sets : A.sets < 2 ^ 64
   few_sets = let a = p.few_sets in let b = usual.sets in omega arith
 
-  form_fine : IsFine l A R marked_form (SetsUpTo most)
+  form_fine : IsFine l A R marked_form most
   form_fine = record {
     name = acceptance_name_line A.sets few_sets;
     acceptance = acceptance_line A.sets few_sets;
     properties = properties_line;
     lines = λ k b. state_spelled A k (small_of k (length A.states) l.hoa_states b p.few_states usual.states) (edge_small (state_at A k) (Has-at A.states k (record { accepting = true; edges = [] }) b));
     plain = (name_plain A.sets, refl);
-    reads = small_count A.sets most p.few_sets;
+    few_sets = p.few_sets;
     at_states = λ s. refl;
     edges = λ s h e m.
         let f = edge_fine s h e m in
@@ -457,9 +455,6 @@ module _ (l : Limits) (most : ℕ) (usual : AreUsual l most) (A : Automaton) (R 
       name_plain zero = refl
       name_plain (suc n) = refl
 
-      small_count : (m n : ℕ) → m ≤ n → nat_le m n ≡ true
-      small_count m n b = grind (arith, nat_tests, b)
-
   -- its edges are read as they are
   same_edges : map (λ s. map (read_edge l A R marked_form s) s.edges) A.states ≡ map (λ s. s.edges) A.states
   same_edges = map_equal _ _ A.states (λ s h. map_equal _ (λ e. e) s.edges (λ e m. one e (edge_fine s h e m).marks) ∙ map-id s.edges)
@@ -468,11 +463,11 @@ module _ (l : Limits) (most : ℕ) (usual : AreUsual l most) (A : Automaton) (R 
       one e r = ap (λ ks. record { cube = e.cube; target = e.target; marks = ks }) (ap (set_of nat_cmp) (marks_back e.marks) ∙ set_of_same nat_linear e.marks r)
 
   -- the printed text reads as the automaton
-  pub generalized_reads : length (generalized_text A R) ≤ l.hoa_bytes → HoaReadsWithin l (SetsUpTo most) (generalized_text A R) (marked_of A R.names)
+  pub generalized_reads : length (generalized_text A R) ≤ l.hoa_bytes → HoaReadsWithin l most (generalized_text A R) (marked_of A R.names)
   generalized_reads few =
-      subst (λ es. HoaReadsWithin l (SetsUpTo most) (generalized_text A R) (record { states = length A.states; start = 0; sets = A.sets; names = R.names; edges = es })) same_edges
-      (form_reads l A R marked_form (SetsUpTo most) form_fine few)
+      subst (λ es. HoaReadsWithin l most (generalized_text A R) (record { states = length A.states; start = 0; sets = A.sets; names = R.names; edges = es })) same_edges
+      (form_reads l A R marked_form most form_fine few)
 
   -- so it reads as no other automaton
-  pub generalized_read_back : length (generalized_text A R) ≤ l.hoa_bytes → (M : MarkedAutomaton) → HoaReadsWithin l (SetsUpTo most) (generalized_text A R) M → M ≡ marked_of A R.names
-  generalized_read_back few M r = one_automaton (SetsUpTo most) (generalized_text A R) M (marked_of A R.names) r.0 (generalized_reads few).0
+  pub generalized_read_back : length (generalized_text A R) ≤ l.hoa_bytes → (M : MarkedAutomaton) → HoaReadsWithin l most (generalized_text A R) M → M ≡ marked_of A R.names
+  generalized_read_back few M r = one_automaton l most (generalized_text A R) M (marked_of A R.names) r (generalized_reads few)

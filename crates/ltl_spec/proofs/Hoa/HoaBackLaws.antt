@@ -11,7 +11,7 @@ use Rattle.ltl_spec.specs.Formulas.Tokens.{same_name}
 use Rattle.ltl_spec.specs.Formulas.Names.{is_proposition}
 use Rattle.ltl_spec.specs.Tools.Limits.{Limits}
 use Rattle.ltl_spec.specs.Hoa.HoaToken.{HoaToken, Identifier, Header, Body, End, HoaItem, hoa_items, hoa_tokens, last_line}
-use Rattle.ltl_spec.specs.Hoa.HoaReading.{AcceptanceForm, HoaHeaderItem, StatesItem, SetsItem, NamesItem, header_item_tokens, state_tokens, HoaDocument, MarkedAutomaton, edges_at, states_in, sets_in, names_in, is_read, HoaReadsWithin}
+use Rattle.ltl_spec.specs.Hoa.HoaReading.{AcceptanceForm, HoaHeaderItem, StatesItem, SetsItem, NamesItem, header_item_tokens, state_tokens, HoaDocument, MarkedAutomaton, edges_at, states_in, sets_in, names_in, HoaReadsWithin}
 use Rattle.ltl_spec.specs.Hoa.HoaFaultKind.{NotHoaVersion1, LimitPassed}
 use Rattle.ltl_spec.specs.Hoa.HoaPlace.{PlainItem, Place, AtFormat, AtVersion, AtItem, AtEnd, Before, before_all, no_header}
 use Rattle.ltl_spec.specs.Hoa.HoaStep.{step}
@@ -19,7 +19,8 @@ use Rattle.ltl_spec.specs.Hoa.HoaFault.{HoaFault, take_item, with_line, fault_af
 use Rattle.ltl_spec.proofs.Collections.SetLaws.{append_left, append_right}
 use Rattle.ltl_spec.proofs.Hoa.HoaLabelLaws.{run}
 use Rattle.ltl_spec.proofs.Hoa.HoaHeaderLaws.{at, Stands, NewNames, no_names, new_name}
-use Rattle.ltl_spec.proofs.Hoa.HoaLaws.{reads_without_fault}
+use Rattle.ltl_spec.specs.Hoa.HoaMachine.{unless_fault, hoa_answer}
+use Rattle.ltl_spec.proofs.Hoa.HoaLaws.{reads_without_fault, answers_reading}
 use Rattle.ltl_spec.proofs.Hoa.HoaBodyBack.{Ended, no_end, if_ended}
 use Rattle.ltl_spec.proofs.Hoa.HoaHeaderBack.{IsChecked, HeaderRest, known_items, nothing_left}
 use Rattle.ltl_spec.proofs.Formulas.NameLaws.{same_self, same_exact}
@@ -69,8 +70,8 @@ module _ (l : Limits) (form : AcceptanceForm) where
   states_picked (StatesItem n) x q c = subst (λ m. m ≤ l.hoa_states) (same_Some n x q) c
   states_picked _ x q c = cc
 
-  sets_picked : (i : HoaHeaderItem) (x : ℕ) → sets_in i ≡ Some x → IsChecked l form i → is_read form x ≡ true
-  sets_picked (SetsItem n) x q c = subst (λ m. is_read form m ≡ true) (same_Some n x q) c
+  sets_picked : (i : HoaHeaderItem) (x : ℕ) → sets_in i ≡ Some x → IsChecked l form i → x ≤ form
+  sets_picked (SetsItem n) x q c = subst (λ m. m ≤ form) (same_Some n x q) c
   sets_picked _ x q c = cc
 
   abbrev FineNames : List Name → Type 0
@@ -128,35 +129,33 @@ module _ (l : Limits) (form : AcceptanceForm) where
       let names = comes A.names _ r.fits.names in
       let fine = picked names_in FineNames names_picked A.names r.items r.checked names in (
         A,
-        (
-          record {
-            document = d;
-            spelled = q ∙ ap (λ ts. Header (codes "HOA") ∷ Identifier (codes "v1") ∷ ts) (
-                r.spelled ∙ ap (λ ts. flat_map header_item_tokens r.items ++ Body ∷ ts) r.body.spelled
-                ∙ sym (append_assoc (flat_map header_item_tokens r.items) (Body ∷ flat_map state_tokens r.body.states) (End ∷ [])));
-            describes = record {
-              items = r.good;
-              states = states;
-              start = comes A.start _ r.fits.start;
-              sets = sets;
-              names = names;
-              reads = picked sets_in (λ n. is_read form n ≡ true) sets_picked A.sets r.items r.checked sets;
-              begins = r.begins;
-              propositions = names_fine [] A.names fine.1;
-              differ = (names_differ [] A.names fine.1).0;
-              once = r.body.once;
-              inside = r.body.inside;
-              edges = refl;
-            };
-          },
-          record {
+        record {
+          document = d;
+          spelled = q ∙ ap (λ ts. Header (codes "HOA") ∷ Identifier (codes "v1") ∷ ts) (
+              r.spelled ∙ ap (λ ts. flat_map header_item_tokens r.items ++ Body ∷ ts) r.body.spelled
+              ∙ sym (append_assoc (flat_map header_item_tokens r.items) (Body ∷ flat_map state_tokens r.body.states) (End ∷ [])));
+          describes = record {
+            items = r.good;
+            states = states;
+            start = comes A.start _ r.fits.start;
+            sets = sets;
+            names = names;
+            few_sets = picked sets_in (λ n. n ≤ form) sets_picked A.sets r.items r.checked sets;
+            begins = r.begins;
+            propositions = names_fine [] A.names fine.1;
+            differ = (names_differ [] A.names fine.1).0;
+            once = r.body.once;
+            inside = r.body.inside;
+            edges = refl;
+          };
+          within = record {
             bytes = m;
             states = picked states_in (λ n. n ≤ l.hoa_states) states_picked A.states r.items r.checked states;
             names = fine.0;
             labels = r.body.narrow;
             edges = (omega (arith, r.body.count));
-          },
-        ),
+          };
+        },
       )
 
   -- a text without a fault reads as an automaton within the limits
@@ -172,3 +171,17 @@ module _ (l : Limits) (form : AcceptanceForm) where
   -- a text has no fault exactly when it reads as an automaton within the limits
   pub reads_exactly : (text : List ℕ) → (hoa_fault l form text ≡ None) ↔ ((A : MarkedAutomaton) × HoaReadsWithin l form text A)
   reads_exactly text = (no_fault_reads text, λ r. reads_without_fault l form text r.0 r.1)
+
+  -- the machine answers an automaton exactly when the text reads as that one within the limits
+  pub answers_exactly : (text : List ℕ) (A : MarkedAutomaton) → (hoa_answer l form text ≡ Ok A) ↔ HoaReadsWithin l form text A
+  answers_exactly text A = (reads, answers_reading l form text A)
+    where
+      without_fault : (o : Option HoaFault) (B : MarkedAutomaton) → unless_fault o B ≡ Ok A → o ≡ None
+      without_fault None B e = refl
+      without_fault (Some f) B e = cc
+
+      reads : hoa_answer l form text ≡ Ok A → HoaReadsWithin l form text A
+      reads e =
+          let r = no_fault_reads text (without_fault (hoa_fault l form text) _ e) in
+          let same = sym (answers_reading l form text r.0 r.1) ∙ e in
+          subst (HoaReadsWithin l form text) (let one : r.0 ≡ A = cc in one) r.1

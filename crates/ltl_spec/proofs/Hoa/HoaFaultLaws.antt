@@ -1,4 +1,4 @@
--- A fault doesn't depend on what stands behind its token.
+-- A fault doesn't depend on what follows its token.
 use Rattle.std.proofs.Common.{◌≡◌, ℕ, ◌≤◌, List, [], ◌∷◌, ◌++◌, length, refl, sym, ◌∙◌, ap, Some}
 use Rattle.std.specs.Prelude.{Bool, true, false, if◌then◌else◌, IsTrue, fold, take, Result, Ok, Err}
 use Rattle.std.specs.List.{list_all}
@@ -44,11 +44,16 @@ module _ (l : Limits) (form : AcceptanceForm) where
       same (Ok c) = refl
       same (Err kind) = ap (λ n. Err (record { kind = kind; line = n })) (own_line b.place i.token i.line (last_line text) (last_line other) (left_true _ _ e))
 
+  -- a text that isn't too long
+  pub within_limit : (text : List ℕ) → length text ≤ l.hoa_bytes → hoa_fault l form text ≡ fault_after l form text (fold (take_item l form text) (Ok before_all) (hoa_items text))
+  within_limit text m =
+      ap (λ t. if t then fault_at LimitPassed (last_line (take l.hoa_bytes text)) else fault_after l form text (fold (take_item l form text) (Ok before_all) (hoa_items text))) (le-ltb l.hoa_bytes (length text) m)
+
   -- a fault among the first tokens is that of the text
-  first_fault : (text : List ℕ) (items later : List HoaItem) (fault : HoaFault) → length text ≤ l.hoa_bytes → hoa_items text ≡ items ++ later
+  pub first_fault : (text : List ℕ) (items later : List HoaItem) (fault : HoaFault) → length text ≤ l.hoa_bytes → hoa_items text ≡ items ++ later
       → fold (take_item l form text) (Ok before_all) items ≡ Err fault → hoa_fault l form text ≡ Some fault
   first_fault text items later fault m q f =
-      ap (λ t. if t then fault_at LimitPassed (last_line (take l.hoa_bytes text)) else fault_after l form text (fold (take_item l form text) (Ok before_all) (hoa_items text))) (le-ltb l.hoa_bytes (length text) m)
+      within_limit text m
       ∙ ap (λ is. fault_after l form text (fold (take_item l form text) (Ok before_all) is)) q
       ∙ ap (fault_after l form text) (fold-append (take_item l form text) (Ok before_all) items later ∙ ap (λ o. fold (take_item l form text) o later) f ∙ fault_stays text fault later)
 

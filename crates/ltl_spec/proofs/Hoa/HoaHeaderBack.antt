@@ -1,18 +1,18 @@
 -- Tokens of a header and a body that are taken without a fault are those of items and states.
 use Rattle.std.proofs.Common.{◌≡◌, ℕ, suc, ◌-◌, ◌<◌, ◌≤◌, Bool, true, false, not, ◌&&◌, inl, inr, List, [], ◌∷◌, ◌++◌, length, refl, sym, ◌∙◌, ap, subst, arith, append_assoc, Option, Some, None}
-use Rattle.std.specs.Prelude.{◌==◌, if◌then◌else◌, nat_lt, IsTrue, map, flat_map, drop, unwrap_or, is_some, Ok, Err, codes}
+use Rattle.std.specs.Prelude.{◌==◌, if◌then◌else◌, nat_le, nat_lt, IsTrue, map, flat_map, drop, unwrap_or, is_some, Ok, Err, codes}
 use Rattle.std.specs.List.{AllByRecursion, list_all, list_any}
 use Rattle.std.proofs.lemmas.List.{append-nil}
-use Rattle.std.proofs.lemmas.Bool.{eqb-true, and_from, ltb-false}
+use Rattle.std.proofs.lemmas.Bool.{eqb-true, and_from, leb-true, ltb-false}
 use Rattle.ltl_spec.specs.Semantics.Word.{Name}
 use Rattle.ltl_spec.specs.Formulas.Tokens.{same_name}
 use Rattle.ltl_spec.specs.Formulas.Names.{is_proposition}
 use Rattle.ltl_spec.specs.Tools.Limits.{Limits}
 use Rattle.ltl_spec.specs.Hoa.HoaToken.{HoaToken, StringToken, Identifier, Header, Int, Body, OpenBracket, CloseBracket, AndSign}
-use Rattle.ltl_spec.specs.Hoa.HoaReading.{AcceptanceForm, is_read, acceptance_tokens, HoaHeaderItem, StatesItem, StartItem, SetsItem, NamesItem, OtherItem, header_item_tokens, is_plain, is_item, begins_upper, MarkedAutomaton}
+use Rattle.ltl_spec.specs.Hoa.HoaReading.{AcceptanceForm, acceptance_tokens, HoaHeaderItem, StatesItem, StartItem, SetsItem, NamesItem, OtherItem, header_item_tokens, is_plain, is_item, begins_upper, MarkedAutomaton}
 use Rattle.ltl_spec.specs.Hoa.HoaFaultKind.{LimitPassed, NumberOutOfRange, ItemTwice, UnknownItem, Unsupported, BadPropositionList}
 use Rattle.ltl_spec.specs.Hoa.HoaPlace.{HoaHeader, ItemBefore, PlainItem, StartNumber, ListedNames, Acceptance, OtherItem, Place, AtStates, AtStart, AtCount, AtSets, AtItem, AtNames, InAcceptance, InBody, AtState, AtEnd, Before}
-use Rattle.ltl_spec.specs.Hoa.HoaStep.{Step, begin_body, begin_once, go_to, is_token, expect, unless_broken, unread_sets}
+use Rattle.ltl_spec.specs.Hoa.HoaStep.{Step, begin_body, begin_once, go_to, is_token, expect, unless_broken}
 use Rattle.ltl_spec.proofs.Hoa.HoaLabelLaws.{token_step, run}
 use Rattle.ltl_spec.proofs.Hoa.HoaHeaderLaws.{at, Stands, Fits, NewNames, no_names, new_name, whole_header, acceptance_split}
 use Rattle.ltl_spec.proofs.Hoa.HoaBodyBack.{Ended, no_end, if_ended, unless_ended, StatesRest, known}
@@ -27,7 +27,7 @@ module _ (l : Limits) (form : AcceptanceForm) where
   abbrev pub IsChecked : HoaHeaderItem → Type 0
   IsChecked (StatesItem n) = n ≤ l.hoa_states
   IsChecked (StartItem n) = Unit {0}
-  IsChecked (SetsItem n) = is_read form n ≡ true
+  IsChecked (SetsItem n) = n ≤ form
   IsChecked (NamesItem names) = (length names ≤ l.propositions) × NewNames [] names
   IsChecked (OtherItem name tokens) = Unit {0}
 
@@ -102,7 +102,7 @@ module _ (l : Limits) (form : AcceptanceForm) where
     body = r.body;
   }
 
-  with_sets : (n : ℕ) (h : HoaHeader) (ts : List HoaToken) → h.sets ≡ None → is_read form n ≡ true → HeaderRest (record h { sets = Some n }) ts
+  with_sets : (n : ℕ) (h : HoaHeader) (ts : List HoaToken) → h.sets ≡ None → n ≤ form → HeaderRest (record h { sets = Some n }) ts
       → HeaderRest h (Header (codes "Acceptance") ∷ (acceptance_tokens n ++ ts))
   with_sets n h ts q m r = record {
     automaton = r.automaton;
@@ -298,10 +298,10 @@ module _ (l : Limits) (form : AcceptanceForm) where
   sets_back : (t : HoaToken) (h : HoaHeader) (ts : List HoaToken) → KnownItems ts → Ended (run l form (token_step l form (at l form AtSets h [] 0) t) ts) → Rest AtSets h (t ∷ ts)
   sets_back (Int n) h ts k e q =
       let b : Before = record { place = AtSets; header = record h { sets = Some n }; numbers = []; edges = 0 } in
-      let inside = if_ended l form (is_read form n) (expect b (drop 1 (acceptance_tokens n))) (unread_sets form) ts e in
+      let inside = if_ended l form (nat_le n form) (expect b (drop 1 (acceptance_tokens n))) LimitPassed ts e in
       let r = next_tokens (drop 1 (acceptance_tokens n)) (record h { sets = Some n }) b ts k inside.1 in
       subst (λ xs. HeaderRest h (Header (codes "Acceptance") ∷ xs)) (ap (λ xs. xs ++ r.rest) (acceptance_split n) ∙ ap (λ xs. Int n ∷ xs) (sym r.spelled))
-      (with_sets n h r.rest q inside.0 r.more)
+      (with_sets n h r.rest q (leb-true n form inside.0) r.more)
   sets_back _ h ts k e q = no_end l form _ ts e
 
   token_exact : (w t : HoaToken) → is_token w t ≡ true → t ≡ w

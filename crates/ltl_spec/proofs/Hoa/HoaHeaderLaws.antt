@@ -3,7 +3,7 @@ use Rattle.std.proofs.Common.{◌≡◌, ℕ, zero, suc, ◌-◌, ◌≤◌, Boo
 use Rattle.std.specs.Prelude.{◌==◌, if◌then◌else◌, IsTrue, map, flat_map, filter_map, drop, is_some, Ok, Err}
 use Rattle.std.specs.List.{list_all, list_any, range_with_len}
 use Rattle.std.proofs.lemmas.List.{append-nil}
-use Rattle.std.proofs.lemmas.Bool.{and_from, false_from_ne_true, le-ltb, true≢false}
+use Rattle.std.proofs.lemmas.Bool.{and_from, false_from_ne_true, le-leb, le-ltb, true≢false}
 use Rattle.ltl_spec.specs.Collections.Sets.{Has}
 use Rattle.ltl_spec.specs.Collections.Lists.{HasNoRepeats}
 use Rattle.ltl_spec.specs.Semantics.Word.{Name}
@@ -11,14 +11,15 @@ use Rattle.ltl_spec.specs.Formulas.Tokens.{same_name}
 use Rattle.ltl_spec.specs.Formulas.Names.{is_proposition}
 use Rattle.ltl_spec.specs.Tools.Limits.{Limits}
 use Rattle.ltl_spec.specs.Hoa.HoaToken.{HoaToken, StringToken, Identifier, Int, AndSign, is_upper}
-use Rattle.ltl_spec.specs.Hoa.HoaReading.{AcceptanceForm, is_read, set_tokens, acceptance_tokens, HoaHeaderItem, StatesItem, StartItem, SetsItem, NamesItem, OtherItem, header_item_tokens, is_plain, is_item, begins_upper, MarkedAutomaton, states_in, start_in, sets_in, names_in}
+use Rattle.ltl_spec.specs.Hoa.HoaReading.{AcceptanceForm, set_tokens, acceptance_tokens, HoaHeaderItem, StatesItem, StartItem, SetsItem, NamesItem, OtherItem, header_item_tokens, is_plain, is_item, begins_upper, MarkedAutomaton, states_in, start_in, sets_in, names_in}
 use Rattle.ltl_spec.specs.Hoa.HoaFaultKind.{BadPropositionList, LimitPassed, Unsupported}
 use Rattle.ltl_spec.specs.Hoa.HoaPlace.{HoaHeader, ItemBefore, PlainItem, StartNumber, ListedNames, Acceptance, OtherItem, Place, AtStates, AtStart, AtCount, AtSets, AtItem, AtNames, InAcceptance, Before}
-use Rattle.ltl_spec.specs.Hoa.HoaStep.{Step, go_to, begin_once, begin_item, with_names, expect, is_token, unread_sets, unless_broken}
+use Rattle.ltl_spec.specs.Hoa.HoaStep.{Step, go_to, begin_once, begin_item, with_names, expect, is_token, unless_broken}
 use Rattle.std.specs.Bool.{Decides}
 use Rattle.ltl_spec.proofs.Collections.SetLaws.{append_cases}
 use Rattle.ltl_spec.proofs.Collections.ListLaws.{any_Decides}
-use Rattle.ltl_spec.proofs.Hoa.HoaLabelLaws.{run, run-append}
+use Rattle.ltl_spec.specs.Hoa.HoaMachine.{came_none}
+use Rattle.ltl_spec.proofs.Hoa.HoaLabelLaws.{Told, tell, tell-append}
 use Rattle.ltl_spec.proofs.Formulas.NameLaws.{same_exact, same_name_Decides}
 use Rattle.ltl_spec.proofs.Collections.CaseLaws.{left_true, right_true}
 
@@ -88,13 +89,20 @@ module _ (l : Limits) (form : AcceptanceForm) where
   abbrev pub at : Place → HoaHeader → List ℕ → ℕ → Step
   at place h numbers edges = Ok (record { place = place; header = h; numbers = numbers; edges = edges })
 
+  -- nothing comes in the header
+  abbrev pub headed : Step → Told
+  headed o = (o, came_none)
+
+  abbrev begun : Step → List HoaToken → Told
+  begun o ts = tell l form (headed o) ts
+
   module _ (A : MarkedAutomaton) where
     -- what an item leads to
     pub record Leads (i : HoaHeaderItem) (items : List HoaHeaderItem) (before : ItemBefore) (h : HoaHeader) : Type 0 where
       pub behind : ItemBefore
       pub header : HoaHeader
       pub fits : Fits A header items
-      pub runs : run l form (at (AtItem before) h [] 0) (header_item_tokens i) ≡ at (AtItem behind) header [] 0
+      pub runs : begun (at (AtItem before) h [] 0) (header_item_tokens i) ≡ headed (at (AtItem behind) header [] 0)
 
     states_lead : (n : ℕ) (items : List HoaHeaderItem) (before : ItemBefore) (h : HoaHeader) → A.states ≤ l.hoa_states → Fits A h (StatesItem n ∷ items) → Leads (StatesItem n) items before h
     states_lead n items before h m f =
@@ -104,8 +112,8 @@ module _ (l : Limits) (form : AcceptanceForm) where
           header = record h { states = Some n };
           fits = record { states = inr (ap Some now.1, now.2); start = f.start; sets = f.sets; names = f.names };
           runs =
-              ap (λ o. run l form (begin_once (before_at (AtItem before) h) (is_some o) AtStates) (Int n ∷ [])) now.0
-              ∙ ap (λ t. if t then Err LimitPassed else Ok (before_at (AtItem PlainItem) (record h { states = Some n })))
+              ap (λ o. begun (begin_once (before_at (AtItem before) h) (is_some o) AtStates) (Int n ∷ [])) now.0
+              ∙ ap (λ t. headed (if t then Err LimitPassed else Ok (before_at (AtItem PlainItem) (record h { states = Some n }))))
               (le-ltb l.hoa_states n (let e : n ≡ A.states = now.1 in omega (arith, e, m)));
         }
 
@@ -116,7 +124,7 @@ module _ (l : Limits) (form : AcceptanceForm) where
           behind = StartNumber;
           header = record h { start = Some n };
           fits = record { states = f.states; start = inr (ap Some now.1, now.2); sets = f.sets; names = f.names };
-          runs = ap (λ o. run l form (begin_once (before_at (AtItem before) h) (is_some o) AtStart) (Int n ∷ [])) now.0;
+          runs = ap (λ o. begun (begin_once (before_at (AtItem before) h) (is_some o) AtStart) (Int n ∷ [])) now.0;
         }
 
     acceptance_same : (n : ℕ) → IsTrue (list_all (λ t. is_token t t) (drop 1 (acceptance_tokens n)))
@@ -130,13 +138,13 @@ module _ (l : Limits) (form : AcceptanceForm) where
         sets_same [] = refl
         sets_same (k ∷ ks) = one_same k _ (sets_same ks)
 
-    expect_run : (ts : List HoaToken) (b : Before) → IsTrue (list_all (λ t. is_token t t) ts) → run l form (expect b ts) ts ≡ Ok (record b { place = AtItem Acceptance })
+    expect_run : (ts : List HoaToken) (b : Before) → IsTrue (list_all (λ t. is_token t t) ts) → begun (expect b ts) ts ≡ headed (Ok (record b { place = AtItem Acceptance }))
     expect_run [] b e = refl
     expect_run (t ∷ ts) b e =
-        ap (λ c. run l form (if c then expect (record b { place = InAcceptance (t ∷ ts) }) ts else Err (unless_broken t Unsupported)) ts) (left_true _ _ e)
+        ap (λ c. begun (if c then expect (record b { place = InAcceptance (t ∷ ts) }) ts else Err (unless_broken t Unsupported)) ts) (left_true _ _ e)
         ∙ expect_run ts (record b { place = InAcceptance (t ∷ ts) }) (right_true (is_token t t) _ e)
 
-    sets_lead : (n : ℕ) (items : List HoaHeaderItem) (before : ItemBefore) (h : HoaHeader) → IsTrue (is_read form A.sets) → Fits A h (SetsItem n ∷ items) → Leads (SetsItem n) items before h
+    sets_lead : (n : ℕ) (items : List HoaHeaderItem) (before : ItemBefore) (h : HoaHeader) → A.sets ≤ form → Fits A h (SetsItem n ∷ items) → Leads (SetsItem n) items before h
     sets_lead n items before h r f =
         let now = stands_now h.sets A.sets n (filter_map sets_in items) f.sets in
         record {
@@ -144,25 +152,25 @@ module _ (l : Limits) (form : AcceptanceForm) where
           header = record h { sets = Some n };
           fits = record { states = f.states; start = f.start; sets = inr (ap Some now.1, now.2); names = f.names };
           runs =
-              ap (λ o. run l form (begin_once (before_at (AtItem before) h) (is_some o) AtSets) (acceptance_tokens n)) now.0
-              ∙ ap (run l form (at AtSets h [] 0)) (acceptance_split n)
-              ∙ ap (λ t. run l form (if t then expect (before_at AtSets (record h { sets = Some n })) (drop 1 (acceptance_tokens n)) else Err (unread_sets form)) (drop 1 (acceptance_tokens n)))
-              (subst (λ k. IsTrue (is_read form k)) (sym now.1) r)
+              ap (λ o. begun (begin_once (before_at (AtItem before) h) (is_some o) AtSets) (acceptance_tokens n)) now.0
+              ∙ ap (begun (at AtSets h [] 0)) (acceptance_split n)
+              ∙ ap (λ t. begun (if t then expect (before_at AtSets (record h { sets = Some n })) (drop 1 (acceptance_tokens n)) else Err LimitPassed) (drop 1 (acceptance_tokens n)))
+              (le-leb n form (let e : n ≡ A.sets = now.1 in omega (arith, e, r)))
               ∙ expect_run (drop 1 (acceptance_tokens n)) (before_at AtSets (record h { sets = Some n })) (acceptance_same n);
         }
 
     names_run : (done rest : List Name) (b : Before) → NewNames done rest
-        → run l form (with_names b done (length rest)) (map StringToken rest) ≡ Ok (record b { place = AtItem ListedNames; header = record b.header { names = Some (done ++ rest) } })
+        → begun (with_names b done (length rest)) (map StringToken rest) ≡ headed (Ok (record b { place = AtItem ListedNames; header = record b.header { names = Some (done ++ rest) } }))
     names_run done rest b (no_names done') =
-        ap (λ ns. Ok (record b { place = AtItem ListedNames; header = record b.header { names = Some ns } })) (sym (append-nil done'))
+        ap (λ ns. headed (Ok (record b { place = AtItem ListedNames; header = record b.header { names = Some ns } }))) (sym (append-nil done'))
     names_run done rest b (new_name done' ns n p q more) =
         let left = length (n ∷ ns) in
         let c = record b { place = AtNames left; header = record b.header { names = Some done' } } in
-        ap (λ t. run l form (Ok (record b { place = if t then AtItem ListedNames else AtNames left; header = record b.header { names = Some done' } })) (map StringToken (n ∷ ns))) (some_left (length ns))
-        ∙ ap (λ t. run l form (if t then with_names c (done' ++ n ∷ []) (left - 1) else Err BadPropositionList) (map StringToken ns)) (and_from _ _ p q)
-        ∙ ap (λ k. run l form (with_names c (done' ++ n ∷ []) k) (map StringToken ns)) (one_less (length ns))
+        ap (λ t. begun (Ok (record b { place = if t then AtItem ListedNames else AtNames left; header = record b.header { names = Some done' } })) (map StringToken (n ∷ ns))) (some_left (length ns))
+        ∙ ap (λ t. begun (if t then with_names c (done' ++ n ∷ []) (left - 1) else Err BadPropositionList) (map StringToken ns)) (and_from _ _ p q)
+        ∙ ap (λ k. begun (with_names c (done' ++ n ∷ []) k) (map StringToken ns)) (one_less (length ns))
         ∙ names_run (done' ++ n ∷ []) ns c more
-        ∙ ap (λ ms. Ok (record b { place = AtItem ListedNames; header = record b.header { names = Some ms } })) (append_assoc done' (n ∷ []) ns)
+        ∙ ap (λ ms. headed (Ok (record b { place = AtItem ListedNames; header = record b.header { names = Some ms } }))) (append_assoc done' (n ∷ []) ns)
       where
         some_left : (k : ℕ) → (suc k == 0) ≡ false
         some_left k = grind arith
@@ -179,8 +187,8 @@ module _ (l : Limits) (form : AcceptanceForm) where
           header = record h { names = Some names };
           fits = record { states = f.states; start = f.start; sets = f.sets; names = inr (ap Some now.1, now.2) };
           runs =
-              ap (λ o. run l form (begin_once (before_at (AtItem before) h) (is_some o) AtCount) (Int (length names) ∷ map StringToken names)) now.0
-              ∙ ap (λ t. run l form (if t then Err LimitPassed else with_names (before_at AtCount h) [] (length names)) (map StringToken names))
+              ap (λ o. begun (begin_once (before_at (AtItem before) h) (is_some o) AtCount) (Int (length names) ∷ map StringToken names)) now.0
+              ∙ ap (λ t. begun (if t then Err LimitPassed else with_names (before_at AtCount h) [] (length names)) (map StringToken names))
               (le-ltb l.propositions (length names) (subst (λ ns. length ns ≤ l.propositions) (sym now.1) m))
               ∙ names_run [] names (before_at AtCount h) (subst (NewNames []) (sym now.1) d);
         }
@@ -196,7 +204,7 @@ module _ (l : Limits) (form : AcceptanceForm) where
         last_of_seven _ _ _ _ _ _ _ _ _ _ _ _ _ _ _ (other_name name 72 _ e refl) (other_name name 83 _ e refl) (other_name name 83 _ e refl) (other_name name 65 _ e refl)
         (other_name name 65 _ e refl) (other_name name 65 _ e refl) e
 
-    plain_run : (ts : List HoaToken) (h : HoaHeader) → IsTrue (list_all is_plain ts) → run l form (at (AtItem OtherItem) h [] 0) ts ≡ at (AtItem OtherItem) h [] 0
+    plain_run : (ts : List HoaToken) (h : HoaHeader) → IsTrue (list_all is_plain ts) → begun (at (AtItem OtherItem) h [] 0) ts ≡ headed (at (AtItem OtherItem) h [] 0)
     plain_run [] h e = refl
     plain_run (StringToken s ∷ ts) h e = plain_run ts h e
     plain_run (Int n ∷ ts) h e = plain_run ts h e
@@ -210,7 +218,7 @@ module _ (l : Limits) (form : AcceptanceForm) where
       header = h;
       fits = record { states = f.states; start = f.start; sets = f.sets; names = f.names };
       runs =
-          ap (λ o. run l form o tokens) (begin_other (before_at (AtItem before) h) name (not_true _ (left_true _ _ e)))
+          ap (λ o. begun o tokens) (begin_other (before_at (AtItem before) h) name (not_true _ (left_true _ _ e)))
           ∙ plain_run tokens h (right_true (not (begins_upper name)) _ e);
     }
 
@@ -218,26 +226,26 @@ module _ (l : Limits) (form : AcceptanceForm) where
     pub record IsHeader : Type 0 where
       pub states : A.states ≤ l.hoa_states
       pub count : length A.names ≤ l.propositions
-      pub reads : IsTrue (is_read form A.sets)
+      pub sets : A.sets ≤ form
       pub new : NewNames [] A.names
 
     item_leads : (i : HoaHeaderItem) (items : List HoaHeaderItem) (before : ItemBefore) (h : HoaHeader) → IsHeader → IsTrue (is_item i) → Fits A h (i ∷ items) → Leads i items before h
     item_leads (StatesItem n) items before h k e f = states_lead n items before h k.states f
     item_leads (StartItem n) items before h k e f = start_lead n items before h f
-    item_leads (SetsItem n) items before h k e f = sets_lead n items before h k.reads f
+    item_leads (SetsItem n) items before h k e f = sets_lead n items before h k.sets f
     item_leads (NamesItem names) items before h k e f = names_lead names items before h k.count k.new f
     item_leads (OtherItem name tokens) items before h k e f = other_lead name tokens items before h e f
 
     -- all items
     pub items_run : (items : List HoaHeaderItem) (before : ItemBefore) (h : HoaHeader) → IsHeader → IsTrue (list_all is_item items) → Fits A h items
-        → (behind : ItemBefore) × (run l form (at (AtItem before) h [] 0) (flat_map header_item_tokens items) ≡ at (AtItem behind) (whole_header A) [] 0)
-    items_run [] before h k e f = (before, ap (λ g. at (AtItem before) g [] 0) (fits_whole A h f))
+        → (behind : ItemBefore) × (begun (at (AtItem before) h [] 0) (flat_map header_item_tokens items) ≡ headed (at (AtItem behind) (whole_header A) [] 0))
+    items_run [] before h k e f = (before, ap (λ g. headed (at (AtItem before) g [] 0)) (fits_whole A h f))
     items_run (i ∷ items) before h k e f =
         let step = item_leads i items before h k (left_true _ _ e) f in
         let rest = items_run items step.behind step.header k (right_true (is_item i) _ e) step.fits in (
           rest.0,
-          run-append l form (at (AtItem before) h [] 0) (header_item_tokens i) (flat_map header_item_tokens items)
-              ∙ ap (λ o. run l form o (flat_map header_item_tokens items)) step.runs ∙ rest.1,
+          tell-append l form (headed (at (AtItem before) h [] 0)) (header_item_tokens i) (flat_map header_item_tokens items)
+              ∙ ap (λ o. tell l form o (flat_map header_item_tokens items)) step.runs ∙ rest.1,
         )
 
 -- different names are new one after the other

@@ -10,7 +10,16 @@ use Rattle.ltl_spec.specs.Hoa.HoaReading.{AcceptanceForm}
 use Rattle.ltl_spec.specs.Hoa.HoaPlace.{HoaHeader, LabelPart, LabelParts, BodyPlace, AtOperand, AfterOperand, InBody, negated, joined, with_operand, whole, empty_part}
 use Rattle.ltl_spec.specs.Hoa.HoaStep.{Step, step, if_below}
 use Rattle.ltl_spec.specs.Hoa.HoaFaultKind.{NumberOutOfRange}
+use Rattle.ltl_spec.specs.Hoa.HoaMachine.{Came, came_at}
 use Rattle.ltl_spec.proofs.Collections.CaseLaws.{left_true, right_true}
+
+-- where the tokens lead to, and what came
+abbrev pub Told : Type 0
+Told = Step × Came
+
+abbrev pub came_on : Step → HoaToken → Came → Came
+came_on (Ok b) t g = came_at b.place b t g
+came_on (Err kind) t g = g
 
 module _ (l : Limits) (form : AcceptanceForm) where
   -- one token more, unless there was a fault
@@ -21,8 +30,18 @@ module _ (l : Limits) (form : AcceptanceForm) where
   abbrev pub run : Step → List HoaToken → Step
   run o ts = fold token_step o ts
 
-  pub run-append : (o : Step) (xs ys : List HoaToken) → run o (xs ++ ys) ≡ run (run o xs) ys
-  run-append o xs ys = fold-append token_step o xs ys
+  abbrev pub tell_one : Told → HoaToken → Told
+  tell_one p t = (token_step p.0 t, came_on p.0 t p.1)
+
+  abbrev pub tell : Told → List HoaToken → Told
+  tell p ts = fold tell_one p ts
+
+  pub tell-append : (p : Told) (xs ys : List HoaToken) → tell p (xs ++ ys) ≡ tell (tell p xs) ys
+  tell-append p xs ys = fold-append tell_one p xs ys
+
+  -- one part behind another
+  pub in_turn : (p : Told) (xs ys : List HoaToken) (q r : Told) → tell p xs ≡ q → tell q ys ≡ r → tell p (xs ++ ys) ≡ r
+  in_turn p xs ys q r e f = tell-append p xs ys ∙ ap (λ o. tell o ys) e ∙ f
 
 -- the part with this operand, joined to what stands before it
 abbrev pub parts : LabelPart → List LabelPart → LabelParts
@@ -56,24 +75,25 @@ two_isnt_zero e = omega (arith, e)
 two_isnt_one : 2 ≤ 1 → ⊥
 two_isnt_one e = omega (arith, e)
 
-module _ (l : Limits) (form : AcceptanceForm) (h : HoaHeader) (names : List Name) (numbers : List ℕ) (edges : ℕ) (listing : h.names ≡ Some names) where
-  abbrev pub in_label : BodyPlace → Step
-  in_label place = Ok (record { place = InBody place; header = h; numbers = numbers; edges = edges })
+module _ (l : Limits) (form : AcceptanceForm) (h : HoaHeader) (names : List Name) (numbers : List ℕ) (edges : ℕ) (came : Came) (listing : h.names ≡ Some names) where
+  -- nothing comes in a label
+  abbrev pub in_label : BodyPlace → Told
+  in_label place = (Ok (record { place = InBody place; header = h; numbers = numbers; edges = edges }), came)
 
   -- an operand of its own
   abbrev AsOperand : Label → Type 0
   AsOperand a = (p : LabelPart) (around : List LabelPart)
-      → run l form (in_label (AtOperand (parts p around))) (label_tokens a) ≡ in_label (AfterOperand (parts (with_operand p a) around))
+      → tell l form (in_label (AtOperand (parts p around))) (label_tokens a) ≡ in_label (AfterOperand (parts (with_operand p a) around))
 
   -- what `&` joins, where nothing stands before it
   abbrev AsProduct : Label → Type 0
   AsProduct a = (sum : Option Label) (around : List LabelPart)
-      → run l form (in_label (AtOperand (parts (part sum None 0) around))) (label_tokens a) ≡ in_label (AfterOperand (parts (part sum (Some a) 0) around))
+      → tell l form (in_label (AtOperand (parts (part sum None 0) around))) (label_tokens a) ≡ in_label (AfterOperand (parts (part sum (Some a) 0) around))
 
   -- a label of its own
   abbrev pub AsWhole : Label → Type 0
   AsWhole a = (around : List LabelPart) → (q : LabelPart) × (whole q ≡ a)
-      × (run l form (in_label (AtOperand (parts empty_part around))) (label_tokens a) ≡ in_label (AfterOperand (parts q around)))
+      × (tell l form (in_label (AtOperand (parts empty_part around))) (label_tokens a) ≡ in_label (AfterOperand (parts q around)))
 
   pub record Taken (a : Label) : Type 0 where
     pub as_operand : label_rank a ≡ 0 → AsOperand a
@@ -92,8 +112,8 @@ module _ (l : Limits) (form : AcceptanceForm) (h : HoaHeader) (names : List Name
 
   and_product : (a c : Label) → AsProduct a → AsOperand c → AsProduct (AndLabel a c)
   and_product a c f f' sum around =
-      run-append l form (in_label (AtOperand (parts (part sum None 0) around))) (label_tokens a) (AndSign ∷ label_tokens c)
-      ∙ ap (λ o. run l form o (AndSign ∷ label_tokens c)) (f sum around)
+      tell-append l form (in_label (AtOperand (parts (part sum None 0) around))) (label_tokens a) (AndSign ∷ label_tokens c)
+      ∙ ap (λ o. tell l form o (AndSign ∷ label_tokens c)) (f sum around)
       ∙ f' (part sum (Some a) 0) around
 
   or_whole : (a c : Label) → AsWhole a → AsProduct c → AsWhole (OrLabel a c)
@@ -101,8 +121,8 @@ module _ (l : Limits) (form : AcceptanceForm) (h : HoaHeader) (names : List Name
       let q = f around in (
         part (Some (whole q.0)) (Some c) 0,
         ap (λ x. OrLabel x c) q.1,
-        run-append l form (in_label (AtOperand (parts empty_part around))) (label_tokens a) (OrSign ∷ label_tokens c)
-            ∙ ap (λ o. run l form o (OrSign ∷ label_tokens c)) q.2
+        tell-append l form (in_label (AtOperand (parts empty_part around))) (label_tokens a) (OrSign ∷ label_tokens c)
+            ∙ ap (λ o. tell l form o (OrSign ∷ label_tokens c)) q.2
             ∙ f' (Some (whole q.0)) around,
       )
 
@@ -110,8 +130,8 @@ module _ (l : Limits) (form : AcceptanceForm) (h : HoaHeader) (names : List Name
   label_taken (ConstantLabel true) g b = operand_taken _ (λ p around. refl)
   label_taken (ConstantLabel false) g b = operand_taken _ (λ p around. refl)
   label_taken (NumberLabel i) g b = operand_taken _ (λ p around.
-      ap (λ o. if_below i (option_map length o) (in_label (AfterOperand (parts (with_operand p (NumberLabel i)) around)))) listing
-      ∙ ap (λ t. cond t (in_label (AfterOperand (parts (with_operand p (NumberLabel i)) around))) (Err NumberOutOfRange)) b)
+      ap (λ o. (if_below i (option_map length o) (in_label (AfterOperand (parts (with_operand p (NumberLabel i)) around))).0, came)) listing
+      ∙ ap (λ t. (cond t (in_label (AfterOperand (parts (with_operand p (NumberLabel i)) around))).0 (Err NumberOutOfRange), came)) b)
   label_taken (NotLabel a) g b =
       let inner = label_taken a (right_true _ _ g) b in
       operand_taken _ (λ p around.
@@ -121,8 +141,8 @@ module _ (l : Limits) (form : AcceptanceForm) (h : HoaHeader) (names : List Name
       let inner = label_taken a g b in
       operand_taken _ (λ p around.
       let q = inner.as_whole (p ∷ around) in
-      run-append l form (in_label (AtOperand (parts empty_part (p ∷ around)))) (label_tokens a) (CloseBracket ∷ [])
-      ∙ ap (λ o. run l form o (CloseBracket ∷ [])) q.2
+      tell-append l form (in_label (AtOperand (parts empty_part (p ∷ around)))) (label_tokens a) (CloseBracket ∷ [])
+      ∙ ap (λ o. tell l form o (CloseBracket ∷ [])) q.2
       ∙ ap (λ x. in_label (AfterOperand (parts (with_operand p (BracketLabel x)) around))) q.1)
   label_taken (AndLabel a c) g b =
       let abc = left_true _ _ g in

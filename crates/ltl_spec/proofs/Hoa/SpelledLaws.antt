@@ -8,13 +8,13 @@ use Rattle.std.proofs.lemmas.List.Sums.{take_while-cons, fold-append}
 use Rattle.ltl_spec.specs.Collections.Sets.{Has}
 use Rattle.ltl_spec.specs.Formulas.Tokens.{is_blank}
 use Rattle.ltl_spec.specs.Automata.HoaText.{quoted}
-use Rattle.ltl_spec.specs.Hoa.HoaToken.{HoaToken, StringToken, Int, Unknown, UnclosedString, UnclosedComment, HoaItem, is_digit, number_of, Found, token_found, string_rest, string_found, found_first, hoa_item_before, hoa_items_from, hoa_tokens}
+use Rattle.ltl_spec.specs.Hoa.HoaToken.{HoaToken, StringToken, Int, Unknown, UnclosedString, UnclosedComment, HoaItem, is_digit, number_of, string_rest, string_found, found_first, hoa_item_before, hoa_items_from, hoa_tokens}
 use Rattle.ltl_spec.proofs.Collections.CaseLaws.{left_true, right_true}
 
 -- the items behind what a text begins with
 pub first_is : (l b : ℕ) (bs : List ℕ) → (b == 10) ≡ false
-    → hoa_items_from 0 l (b ∷ bs) ≡ hoa_item_before (found_first b bs).token l (hoa_items_from ((found_first b bs).size - 1) l bs)
-first_is l b bs e = ap (λ c. hoa_item_before (found_first b bs).token l (hoa_items_from ((found_first b bs).size - 1) (if c then l + 1 else l) bs)) e
+    → hoa_items_from 0 l (b ∷ bs) ≡ hoa_item_before (found_first b bs).0 l (hoa_items_from ((found_first b bs).1 - 1) l bs)
+first_is l b bs e = ap (λ c. hoa_item_before (found_first b bs).0 l (hoa_items_from ((found_first b bs).1 - 1) (if c then l + 1 else l) bs)) e
 
 -- bytes without LF are skipped
 pub skipped : (xs ys : List ℕ) (l : ℕ) → list_all (λ b. not (b == 10)) xs ≡ true → hoa_items_from (length xs) l (xs ++ ys) ≡ hoa_items_from 0 l ys
@@ -55,19 +55,19 @@ pub number_ends : (l b : ℕ) (bs rest : List ℕ) → is_digit b ≡ true → (
     → hoa_items_from 0 l (b ∷ bs ++ rest) ≡ record { token = Int (number_of (b ∷ bs)); line = l } ∷ hoa_items_from 0 l rest
 number_ends l b bs rest e z a s =
     let ten : (b == 10) ≡ false = grind (arith, nat_tests, e) in
-    first_is l b (bs ++ rest) ten ∙ ap (λ (f : Found). hoa_item_before f.token l (hoa_items_from (f.size - 1) l (bs ++ rest))) found
+    first_is l b (bs ++ rest) ten ∙ ap (λ (f : Option HoaToken × ℕ). hoa_item_before f.0 l (hoa_items_from (f.1 - 1) l (bs ++ rest))) found
     ∙ ap (λ items. record { token = Int (number_of (b ∷ bs)); line = l } ∷ items) (
     ap (λ n. hoa_items_from n l (bs ++ rest)) (less_one (length bs)) ∙ skipped bs rest l (within _ _ no_line_digit bs a))
   where
-    first : found_first b (bs ++ rest) ≡ token_found (Int (number_of (take_while is_digit (b ∷ bs ++ rest)))) (length (take_while is_digit (b ∷ bs ++ rest)))
+    first : found_first b (bs ++ rest) ≡ (Some (Int (number_of (take_while is_digit (b ∷ bs ++ rest)))), length (take_while is_digit (b ∷ bs ++ rest)))
     first =
         let blank : is_blank b ≡ false = grind (arith, nat_tests, e) in
         let slash : nat_eq 47 b ≡ false = grind (arith, nat_tests, e) in
         let quote : (b == 34) ≡ false = grind (arith, nat_tests, e) in
         rw (blank, slash, quote, z, e) refl
 
-    found : found_first b (bs ++ rest) ≡ token_found (Int (number_of (b ∷ bs))) (length (b ∷ bs))
-    found = first ∙ ap (λ w. token_found (Int (number_of w)) (length w)) (taken_while is_digit (b ∷ bs) rest (ap (λ c. c && list_all is_digit bs) e ∙ a) s)
+    found : found_first b (bs ++ rest) ≡ (Some (Int (number_of (b ∷ bs))), length (b ∷ bs))
+    found = first ∙ ap (λ w. (Some (Int (number_of w)), length w)) (taken_while is_digit (b ∷ bs) rest (ap (λ c. c && list_all is_digit bs) e ∙ a) s)
 
 -- ---- strings
 
@@ -82,7 +82,7 @@ succ n = omega arith
 pub string_first : (l : ℕ) (rest : List ℕ) → hoa_items_from 0 l (34 ∷ rest) ≡ string_items l l [] (string_rest false rest) rest
 string_first l rest = opened (string_rest false rest)
   where
-    opened : (o : Option (List ℕ × ℕ)) → (let f = string_found o in hoa_item_before f.token l (hoa_items_from (f.size - 1) l rest)) ≡ string_items l l [] o rest
+    opened : (o : Option (List ℕ × ℕ)) → (let f = string_found o in hoa_item_before f.0 l (hoa_items_from (f.1 - 1) l rest)) ≡ string_items l l [] o rest
     opened (Some s) = ap (λ k. record { token = StringToken s.0; line = l } ∷ hoa_items_from k l rest) (omega arith)
     opened None = refl
 
@@ -116,7 +116,7 @@ pub same_tokens : (skip l m : ℕ) (text : List ℕ) → toks (hoa_items_from sk
 same_tokens skip l m [] = refl
 same_tokens (suc skip) l m (b ∷ bs) = same_tokens skip (if b == 10 then l + 1 else l) (if b == 10 then m + 1 else m) bs
 same_tokens zero l m (b ∷ bs) =
-    before_line (found_first b bs).token l m _ _ (same_tokens ((found_first b bs).size - 1) (if b == 10 then l + 1 else l) (if b == 10 then m + 1 else m) bs)
+    before_line (found_first b bs).0 l m _ _ (same_tokens ((found_first b bs).1 - 1) (if b == 10 then l + 1 else l) (if b == 10 then m + 1 else m) bs)
 
 -- the line plays no part
 pub any_line : (l : ℕ) (text : List ℕ) → toks (hoa_items_from 0 l text) ≡ hoa_tokens text

@@ -1,4 +1,4 @@
--- Formulas in normal form as a list of shared nodes, in which each node stands behind its operands and no node twice.
+-- Formulas in normal form as a list of shared nodes, in which each node comes after its operands, and no node occurs twice.
 use Rattle.std.proofs.Common.{◌≡◌, ℕ, ◌+◌, ◌<◌, ◌⊎◌, inl, inr, List, [], ◌∷◌, ◌++◌, map, length, refl, sym, ◌∙◌, ap, subst, arith, length-append}
 use Rattle.std.specs.Prelude.{fold, slice_index_or}
 use Rattle.std.proofs.lemmas.List.Sums.{fold-append}

@@ -1,4 +1,4 @@
--- Rewriting over shared nodes: which number or node stands for the rewritten tree, decided by numbers alone.
+-- Rewriting over shared nodes: the number or node of the rewritten tree, decided by numbers alone.
 use Rattle.std.proofs.Common.{◌≡◌, ℕ, suc, ◌<◌, Bool, true, false, cond, eqb, ◌⊎◌, inl, inr, List, [], ◌∷◌, ◌++◌, map, length, refl, sym, ◌∙◌, ap, subst, arith, length-append}
 use Rattle.std.specs.Prelude.{◌==◌, ◌||◌, ◌&&◌, if◌then◌else◌, slice_index_or}
 use Rattle.std.proofs.lemmas.List.{get_or-map, get_or_append_left, map_push}

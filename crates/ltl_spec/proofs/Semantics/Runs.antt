@@ -1,4 +1,4 @@
--- Infinite runs of an automaton. They stand in no definition: proofs go from closed walks to runs, and back at the end.
+-- Infinite runs of an automaton. No definition mentions them: proofs go from closed walks to runs, and back at the end.
 use Rattle.std.specs.Prelude.{◌≡◌, ℕ, suc, ◌<◌, ◌≤◌, Bool, IsTrue, length}
 use Rattle.ltl_spec.specs.Collections.Sets.{Has}
 use Rattle.ltl_spec.specs.Transitions.Cubes.{allows}

@@ -1,4 +1,4 @@
--- What a run may show tells what it means.
+-- What a run may show implies the meaning of its answer.
 use Rattle.std.proofs.Common.{Option}
 use Rattle.ltl_spec.specs.Hoa.HoaReading.{AcceptanceForm}
 use Rattle.ltl_spec.specs.Tools.Limits.{Limits}

@@ -13,7 +13,7 @@ use Rattle.ltl_spec.specs.Tools.Refusal.{Refusal, Checker}
 use Rattle.ltl_spec.specs.Tools.Outcome.{Answer, Input, IsPromised, Seen, Then, answer_by, input_of, taken}
 use Rattle.ltl_spec.specs.Tools.Programs.{CheckerAnswers, CheckerFinds, CheckerPlan, InputReads, Judges, KeepsRows, ReadsHoa, Translates, plain_options, verdict_answer}
 use Rattle.ltl_spec.specs.Tools.Run.{AreInputs, AutomatonReads, PrintsViolation, TellsVerdict}
-use Rattle.ltl_spec.proofs.Hoa.HoaUniqueLaws.{one_automaton}
+use Rattle.ltl_spec.proofs.Hoa.HoaLaws.{one_automaton}
 use Rattle.ltl_spec.proofs.Tools.StepLaws.{never, one_formula, promise_holds, refusals_high, same_ok, same_some, then_ok}
 use Rattle.ltl_spec.proofs.Tools.WordNames.{needed_proposition, proper_reads, text_propositions}
 
@@ -23,7 +23,7 @@ module _ (l : Limits) (form : AcceptanceForm) where
   one_given file A M g h =
       let (t, p, a) = then_ok (λ r. r ≡ taken l.hoa_bytes file) (ReadsHoa l form) A g in
       let (u, q, m) = then_ok (λ r. r ≡ taken l.hoa_bytes file) (ReadsHoa l form) M h in
-      one_automaton form t A M a.0 (subst (λ (x : List ℕ). HoaReadsWithin l form x M) (same_ok u t (q ∙ sym p)) m).0
+      one_automaton l form t A M a (subst (λ (x : List ℕ). HoaReadsWithin l form x M) (same_ok u t (q ∙ sym p)) m)
 
   -- the names of what was read are propositions
   formula_proper : (input : Input) (R : Reading) → InputReads l input (Ok R) → IsTrue (list_all is_proposition R.names)
@@ -32,7 +32,7 @@ module _ (l : Limits) (form : AcceptanceForm) where
 
   automaton_proper : (file : Input) (A : MarkedAutomaton) → AutomatonReads l form file (Ok A) → IsTrue (list_all is_proposition A.names)
   automaton_proper file A (inl (e, p, q)) = absurd (never A e (sym q))
-  automaton_proper file A (inr (t, p, g)) = g.0.describes.propositions
+  automaton_proper file A (inr (t, p, g)) = g.describes.propositions
 
 -- the words ask for one formula and one automaton
 module _ (l : Limits) (form : AcceptanceForm) (plan : Option CheckerPlan) (input file : Input) (R S : Reading) (A M : MarkedAutomaton) (g : AreInputs l form plan input file R A)

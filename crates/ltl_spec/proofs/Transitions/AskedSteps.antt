@@ -1,4 +1,4 @@
--- Which steps of a list of tests are asked of a pair: one backward pass over the steps finds them.
+-- The steps of a list of tests that are wanted for a pair: one backward pass over the steps finds them.
 use Rattle.std.proofs.Common.{◌≡◌, ◌≢◌, ℕ, ◌+◌, ◌<◌, ◌≤◌, ◌⊎◌, inl, inr, List, length, map, refl, sym, ◌∙◌, ap, subst, arith}
 use Rattle.std.specs.Prelude.{slice_index_or, slice_set}
 use Rattle.std.proofs.lemmas.Bool.{cases_eq}

@@ -1,4 +1,4 @@
--- Joins of numbered conjuncts: in any order, split by a test, and with conjuncts that have nothing to do with each other.
+-- Joins of numbered conjuncts: in any order, split by a test, and with conjuncts that are independent of each other.
 use Rattle.std.proofs.Common.{◌≡◌, ℕ, Bool, true, false, not, inl, inr, List, [], ◌∷◌, ◌++◌, refl}
 use Rattle.std.specs.Prelude.{cond, filter, flat_map, fold, slice_index_or}
 use Rattle.ltl_spec.specs.Collections.Sets.{Has}

@@ -1,4 +1,4 @@
--- The conjuncts of a set of rows as a set of numbers: their order plays no part.
+-- The conjuncts of a set of rows as a set of numbers: their order doesn't matter.
 use Rattle.std.proofs.Common.{◌≡◌, ℕ, Bool, true, false, cond, not, inl, inr, List, [], ◌∷◌, refl, sym, ◌∙◌, ap, subst, eqb}
 use Rattle.std.specs.Prelude.{flat_map, filter}
 use Rattle.std.specs.Bool.{Decides}

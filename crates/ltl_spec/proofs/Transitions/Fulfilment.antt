@@ -1,4 +1,4 @@
--- Tests of a pair that tell which until rows it fulfils, and which it can still fulfil.
+-- Tests of a pair for the until rows that it fulfils, and for those that it can still fulfil.
 use Rattle.std.specs.Prelude.{◌≡◌, ℕ, min, max, Bool, true, false, ◌&&◌, ◌||◌, if◌then◌else◌, List, [], ◌∷◌, ◌++◌}
 use Rattle.std.specs.Ordering.{nat_cmp}
 use Rattle.ltl_spec.specs.Collections.Sets.{Has, has}

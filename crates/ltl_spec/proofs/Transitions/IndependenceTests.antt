@@ -1,4 +1,4 @@
--- A test by sets of numbers that lists of pairs have nothing to do with each other.
+-- A test by sets of numbers that lists of pairs are independent of each other.
 use Rattle.std.proofs.Common.{◌≡◌, ℕ, Bool, true, false, not, ◌&&◌, ◌||◌, inl, inr, List, [], ◌∷◌, ◌++◌, refl, sym, ◌∙◌, ap, subst}
 use Rattle.std.specs.Prelude.{if◌then◌else◌, cond}
 use Rattle.std.specs.List.{list_any}

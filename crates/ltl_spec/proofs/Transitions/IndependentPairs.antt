@@ -1,4 +1,4 @@
--- Lists of pairs that have nothing to do with each other: no pair of their join comes about in two ways.
+-- Independent lists of pairs: each pair of their join is made in one way.
 use Rattle.std.proofs.Common.{◌≡◌, ℕ, Bool, true, false, ◌⊎◌, inl, inr, List, [], ◌∷◌, refl, sym, ◌∙◌, subst}
 use Rattle.ltl_spec.specs.Collections.Sets.{Has, has}
 use Rattle.ltl_spec.specs.Transitions.Cubes.{Literal, literal_cmp, opposite, is_contradictory}

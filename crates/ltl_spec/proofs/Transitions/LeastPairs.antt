@@ -1,7 +1,7 @@
 -- Inclusion of pairs, lists that have a smaller pair for each pair, and the marks of a pair by such lists of fulfilling pairs.
-use Rattle.std.proofs.Common.{◌≡◌, Bool, true, false, not, ◌&&◌, ◌||◌, ◌⊎◌, inl, inr, List, refl, sym, ◌∙◌, ap}
+use Rattle.std.proofs.Common.{◌≡◌, Bool, true, false, not, ◌&&◌, ◌||◌, ◌⊎◌, inl, inr, List, refl, sym}
 use Rattle.std.specs.Bool.{Decides}
-use Rattle.std.specs.List.{list_any, filter}
+use Rattle.std.specs.List.{list_any}
 use Rattle.std.specs.Ordering.{nat_cmp}
 use Rattle.std.proofs.lemmas.Bool.{and_from, or_right, or_cases, or_left}
 use Rattle.ltl_spec.specs.Collections.Sets.{Has, is_subset, has}
@@ -9,7 +9,7 @@ use Rattle.ltl_spec.specs.Transitions.Cubes.{literal_cmp}
 use Rattle.ltl_spec.specs.NormalForms.Normal.{Normal}
 use Rattle.ltl_spec.specs.Transitions.Pairs.{Pair, pairs}
 use Rattle.ltl_spec.specs.Transitions.RowTransitions.{Table, place, fulfils, is_marked}
-use Rattle.ltl_spec.proofs.Collections.SetLaws.{is_subset_Decides, has_Decides, same_members, filter_cases, Has-filter, common_first, common_second}
+use Rattle.ltl_spec.proofs.Collections.SetLaws.{is_subset_Decides, has_Decides, same_members, filter_cases, Has-filter}
 use Rattle.ltl_spec.proofs.Collections.Orders.{nat_linear, literal_linear}
 use Rattle.ltl_spec.proofs.Transitions.JoinLaws.{Within, within_trans, IsProper}
 use Rattle.ltl_spec.specs.Transitions.Pruning.{is_within, IsEnough, fulfilling_pairs}
@@ -34,22 +34,6 @@ is_within_Decides q p = (
   }),
   λ w. and_from _ _ ((is_subset_Decides literal_linear q.cube p.cube).1 w.cube) ((is_subset_Decides nat_linear q.targets p.targets).1 w.targets),
 )
-
--- so the test is an order
-pub is_within_transitive : (q p r : Pair) → is_within q p ≡ true → is_within p r ≡ true → is_within q r ≡ true
-is_within_transitive q p r e f = (is_within_Decides q r).1 (within_trans q p r ((is_within_Decides q p).0 e) ((is_within_Decides p r).0 f))
-
--- what asks for what both ask for is within both
-module _ (c q p : Pair) (cube : c.cube ≡ filter (λ l. has literal_cmp l p.cube) q.cube) (targets : c.targets ≡ filter (λ k. has nat_cmp k p.targets) q.targets) where
-  pub common_first_within : is_within c q ≡ true
-  common_first_within =
-      and_from _ _ (ap (λ x. is_subset literal_cmp x q.cube) cube ∙ common_first literal_linear q.cube p.cube)
-      (ap (λ x. is_subset nat_cmp x q.targets) targets ∙ common_first nat_linear q.targets p.targets)
-
-  pub common_second_within : is_within c p ≡ true
-  common_second_within =
-      and_from _ _ (ap (λ x. is_subset literal_cmp x p.cube) cube ∙ common_second literal_linear q.cube p.cube)
-      (ap (λ x. is_subset nat_cmp x p.targets) targets ∙ common_second nat_linear q.targets p.targets)
 
 -- pairs within each other are equal
 pub both_within : (q p : Pair) → IsProper q → IsProper p → Within q p → Within p q → q ≡ p

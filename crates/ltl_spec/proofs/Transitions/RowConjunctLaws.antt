@@ -1,4 +1,4 @@
--- A row taken apart into conjuncts whose join it is.
+-- A row is the join of its conjuncts.
 use Rattle.std.proofs.Common.{◌≡◌, ℕ, Bool, false, List, ◌∙◌}
 use Rattle.std.specs.Prelude.{flat_map}
 use Rattle.ltl_spec.specs.Collections.Sets.{Has}

@@ -1,4 +1,4 @@
--- Lists of steps stand for tests, and the codes of the tests are computed step by step.
+-- Lists of steps represent tests, and the codes of the tests are computed step by step.
 use Rattle.std.proofs.Common.{◌≡◌, ℕ, zero, suc, ◌+◌, ◌<◌, ◌≤◌, min, max, false, ◌&&◌, ◌||◌, List, [], ◌∷◌, ◌++◌, map, length, take, drop, refl, sym, ◌∙◌, ap, subst, arith}
 use Rattle.std.specs.Prelude.{slice_index_or}
 use Rattle.std.proofs.lemmas.List.{map-append, length-append, length-take-le, take-append-drop, take_more}

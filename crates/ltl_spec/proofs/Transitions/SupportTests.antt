@@ -1,4 +1,4 @@
--- What tests speak of, as sets of numbers.
+-- The literals and rows that tests mention, as sets of numbers.
 use Rattle.std.proofs.Common.{◌≡◌, ℕ, false, inl, inr, List, [], ◌∷◌, ◌++◌, length, sym, ◌∙◌, ap, subst, arith}
 use Rattle.std.specs.Prelude.{slice_index_or}
 use Rattle.std.proofs.lemmas.List.{length-append, get_or_past}

@@ -1,18 +1,18 @@
 -- The transitions of a set of rows: what they need, and which of them are kept.
 use Rattle.std.proofs.Common.{◌≡◌, ℕ, zero, suc, ◌+◌, ◌<◌, ◌≤◌, Bool, true, false, not, ◌&&◌, inl, inr, List, [], ◌∷◌, length, map, refl, sym, ◌∙◌, ap, subst, arith, ◌⊎◌}
 use Rattle.std.specs.Prelude.{fold, slice_index_or}
-use Rattle.std.specs.List.{list_any, filter}
+use Rattle.std.specs.List.{list_any}
 use Rattle.std.specs.declared.cmp.Ordering.{Ordering}
 use Rattle.std.specs.declared.cmp.Ordering.TheVariants.{Less}
 use Rattle.std.specs.Ordering.{nat_cmp, is_ne, ordering_then}
 use Rattle.std.proofs.lemmas.Cmp.{tied_itself}
 use Rattle.std.proofs.lemmas.Bool.{cases_lt}
-use Rattle.ltl_spec.specs.Collections.Sets.{Has, IsRising, union, has, is_subset, IsLinearOrder}
+use Rattle.ltl_spec.specs.Collections.Sets.{Has, IsRising, is_subset, IsLinearOrder}
 use Rattle.ltl_spec.specs.Transitions.Cubes.{Literal, literal_cmp, cube_cmp, Cube}
 use Rattle.ltl_spec.specs.NormalForms.Normal.{Bottom}
 use Rattle.ltl_spec.specs.Transitions.Pairs.{RowSet, row_set_cmp, Pair, join, empty_pair}
 use Rattle.ltl_spec.specs.Transitions.RowTransitions.{Table, place, pairs_at, successors, with_marks, Transition, implies, transition_cmp, unimplied_transitions, transitions}
-use Rattle.ltl_spec.proofs.Collections.SetLaws.{all_at, set_of_cases, is_subset_Decides, filter_cases, Has-filter, irreflexive, common_first, common_second, union_first, union_second}
+use Rattle.ltl_spec.proofs.Collections.SetLaws.{all_at, set_of_cases, is_subset_Decides, filter_cases, Has-filter, irreflexive}
 use Rattle.ltl_spec.proofs.Collections.Orders.{nat_linear, literal_linear, cube_linear, row_set_linear, pair_linear}
 use Rattle.ltl_spec.proofs.Collections.MemberLaws.{any_cases, map_cases, Has-map}
 use Rattle.ltl_spec.proofs.Transitions.JoinLaws.{within_refl, SomeWithin, join_within, AllProper, proper_join, proper_nothing, pairs_proper}
@@ -118,26 +118,6 @@ pub true_implies : (u t : Transition) → Implies u t → implies u t ≡ true
 true_implies u t f =
     all_three (is_subset literal_cmp u.cube t.cube) (is_subset nat_cmp u.targets t.targets) (is_subset nat_cmp t.marks u.marks) ((is_subset_Decides literal_linear u.cube t.cube).1 f.cube)
     ((is_subset_Decides nat_linear u.targets t.targets).1 f.targets) ((is_subset_Decides nat_linear t.marks u.marks).1 f.marks)
-
--- so the test is an order
-pub implies_transitive : (s t u : Transition) → implies s t ≡ true → implies t u ≡ true → implies s u ≡ true
-implies_transitive s t u e f = true_implies s u (implies_trans s t u (implies_true s t e) (implies_true t u f))
-
--- what asks for what both ask for, and is in each acceptance set that either is in, implies both
-module _ (r s t : Transition) (cube : r.cube ≡ filter (λ l. has literal_cmp l t.cube) s.cube) (targets : r.targets ≡ filter (λ k. has nat_cmp k t.targets) s.targets) (marks : r.marks ≡ union nat_cmp s.marks t.marks) where
-  pub common_first_implies : implies r s ≡ true
-  common_first_implies =
-      all_three (is_subset literal_cmp r.cube s.cube) (is_subset nat_cmp r.targets s.targets) (is_subset nat_cmp s.marks r.marks)
-      (ap (λ c. is_subset literal_cmp c s.cube) cube ∙ common_first literal_linear s.cube t.cube)
-      (ap (λ e. is_subset nat_cmp e s.targets) targets ∙ common_first nat_linear s.targets t.targets)
-      (ap (is_subset nat_cmp s.marks) marks ∙ union_first nat_linear s.marks t.marks)
-
-  pub common_second_implies : implies r t ≡ true
-  common_second_implies =
-      all_three (is_subset literal_cmp r.cube t.cube) (is_subset nat_cmp r.targets t.targets) (is_subset nat_cmp t.marks r.marks)
-      (ap (λ c. is_subset literal_cmp c t.cube) cube ∙ common_second literal_linear s.cube t.cube)
-      (ap (λ e. is_subset nat_cmp e t.targets) targets ∙ common_second nat_linear s.targets t.targets)
-      (ap (is_subset nat_cmp t.marks) marks ∙ union_second nat_linear s.marks t.marks)
 
 -- of sets of literals and of targets, each within another one: they are fewer, or they are the same
 pub fewer_or_same : (c d : Cube) (e f : RowSet) → IsRising literal_cmp c → IsRising literal_cmp d → IsRising nat_cmp e → IsRising nat_cmp f → ((l : Literal) → Has c l → Has d l)

@@ -4,14 +4,13 @@ use Rattle.std.specs.List.{range_with_len}
 use Rattle.ltl_spec.specs.Collections.Lists.{joined_by}
 use Rattle.ltl_spec.specs.Formulas.Formula.{Reading}
 use Rattle.ltl_spec.specs.NormalForms.Normal.{Normal}
-use Rattle.ltl_spec.specs.Formulas.Canonical.{canonical_text}
 use Rattle.ltl_spec.specs.Automata.Automaton.{Automaton, Edge, state_at}
 use Rattle.ltl_spec.specs.Automata.Generalized.{IsGeneralized}
 use Rattle.ltl_spec.specs.Construction.Merging.{merged_automaton}
 use Rattle.ltl_spec.specs.Construction.Renumbered.{renumbered_automaton}
 use Rattle.ltl_spec.specs.Construction.Translation.{Options}
 use Rattle.ltl_spec.specs.Automata.ClaimText.{line}
-use Rattle.ltl_spec.specs.Automata.HoaText.{quoted, label_text, names_line}
+use Rattle.ltl_spec.specs.Automata.HoaText.{label_text, text_with}
 
 -- A is the generalized automaton of the normal form after merging and numbering
 abbrev pub IsGeneralizedTranslation : Normal → Options → Automaton → Type 0
@@ -37,17 +36,6 @@ abbrev pub acceptance_text : ℕ → List ℕ
 acceptance_text zero = codes "0 t"
 acceptance_text (suc n) = decimal (suc n) ++ codes " " ++ joined_by (codes "&") (map (λ k. codes "Inf(" ++ decimal k ++ codes ")") (range_with_len 0 (suc n)))
 
--- the text, with the propositions of the formula as it was read
+-- the text of the automaton, with its sets on edges
 abbrev pub generalized_text : Automaton → Reading → List ℕ
-generalized_text A R =
-    line (codes "HOA: v1")
-    ++ line (codes "name: " ++ quoted (canonical_text R))
-    ++ line (codes "States: " ++ decimal (length A.states))
-    ++ line (codes "Start: 0")
-    ++ names_line R.names
-    ++ line (codes "acc-name: " ++ acceptance_name A.sets)
-    ++ line (codes "Acceptance: " ++ acceptance_text A.sets)
-    ++ line (codes "properties: trans-labels explicit-labels trans-acc")
-    ++ line (codes "--BODY--")
-    ++ flat_map (marked_state_lines A) (range_with_len 0 (length A.states))
-    ++ line (codes "--END--")
+generalized_text A R = text_with R (length A.states) (acceptance_name A.sets) (acceptance_text A.sets) (codes "trans-acc") (marked_state_lines A)

@@ -33,17 +33,22 @@ state_lines B k =
 abbrev pub names_line : List Name → List ℕ
 names_line names = line (codes "AP: " ++ decimal (length names) ++ flat_map (λ n. 32 ∷ quoted n) names)
 
--- the text, with the propositions of the formula as it was read
-abbrev pub hoa_text : Automaton → Reading → List ℕ
-hoa_text B R =
+-- a text with so many states, with the propositions of the formula as it was read: the name of the acceptance condition, the condition itself,
+-- the word for where its sets stand, and the lines of a state are given
+abbrev pub text_with : Reading → ℕ → List ℕ → List ℕ → List ℕ → (ℕ → List ℕ) → List ℕ
+text_with R states name condition kind lines =
     line (codes "HOA: v1")
     ++ line (codes "name: " ++ quoted (canonical_text R))
-    ++ line (codes "States: " ++ decimal (length B.states))
+    ++ line (codes "States: " ++ decimal states)
     ++ line (codes "Start: 0")
     ++ names_line R.names
-    ++ line (codes "acc-name: Buchi")
-    ++ line (codes "Acceptance: 1 Inf(0)")
-    ++ line (codes "properties: trans-labels explicit-labels state-acc")
+    ++ line (codes "acc-name: " ++ name)
+    ++ line (codes "Acceptance: " ++ condition)
+    ++ line (codes "properties: trans-labels explicit-labels " ++ kind)
     ++ line (codes "--BODY--")
-    ++ flat_map (state_lines B) (range_with_len 0 (length B.states))
+    ++ flat_map lines (range_with_len 0 states)
     ++ line (codes "--END--")
+
+-- the text of the automaton, with its set on states
+abbrev pub hoa_text : Automaton → Reading → List ℕ
+hoa_text B R = text_with R (length B.states) (codes "Buchi") (codes "1 Inf(0)") (codes "state-acc") (state_lines B)

@@ -1,5 +1,5 @@
 -- The texts that read as an automaton.
-use Rattle.std.specs.Prelude.{◌≡◌, ℕ, zero, suc, ◌<◌, ◌≤◌, Bool, true, false, not, ◌&&◌, ◌==◌, nat_lt, nat_le, IsTrue, List, [], ◌∷◌, ◌++◌, length, map, filter, flat_map, filter_map, sum_by, Option, Some, None, unwrap_or, codes}
+use Rattle.std.specs.Prelude.{◌≡◌, ℕ, zero, suc, ◌<◌, ◌≤◌, Bool, true, false, not, ◌&&◌, ◌==◌, nat_lt, IsTrue, List, [], ◌∷◌, ◌++◌, length, map, filter, flat_map, filter_map, sum_by, Option, Some, None, unwrap_or, codes}
 use Rattle.std.specs.List.{list_all, range_with_len}
 use Rattle.std.specs.Ordering.{nat_cmp}
 use Rattle.ltl_spec.specs.Collections.Sets.{set_of}
@@ -11,18 +11,13 @@ use Rattle.ltl_spec.specs.Tools.Limits.{Limits}
 use Rattle.ltl_spec.specs.Hoa.HoaToken.{HoaToken, StringToken, Identifier, Header, Int, Body, End, OpenLabel, CloseLabel, OpenSets, CloseSets, OpenBracket, CloseBracket, AndSign, is_upper, hoa_tokens}
 use Rattle.ltl_spec.specs.Hoa.HoaLabel.{Label, label_tokens, is_grouped, has_names_below, label_cubes, is_wide}
 
--- which numbers of acceptance sets are read: one alone, or any up to a greatest
-pub data AcceptanceForm : Type 0 where
-  OneSet : AcceptanceForm
-  SetsUpTo : ℕ → AcceptanceForm
-
-abbrev pub is_read : AcceptanceForm → ℕ → Bool
-is_read OneSet n = n == 1
-is_read (SetsUpTo most) n = nat_le n most
+-- which acceptance conditions are read: those of at most so many sets
+abbrev pub AcceptanceForm : Type 0
+AcceptanceForm = ℕ
 
 -- those that the programs read
 abbrev pub stated_form : AcceptanceForm
-stated_form = SetsUpTo 32
+stated_form = 32
 
 abbrev pub set_tokens : ℕ → List HoaToken
 set_tokens k = Identifier (codes "Inf") ∷ OpenBracket ∷ Int k ∷ CloseBracket ∷ []
@@ -155,7 +150,7 @@ pub record IsDocumentOf (form : AcceptanceForm) (A : MarkedAutomaton) (d : HoaDo
   pub start : filter_map start_in d.items ≡ A.start ∷ []
   pub sets : filter_map sets_in d.items ≡ A.sets ∷ []
   pub names : filter_map names_in d.items ≡ A.names ∷ []
-  pub reads : IsTrue (is_read form A.sets)
+  pub few_sets : A.sets ≤ form
   pub begins : A.start < A.states
   pub propositions : IsTrue (list_all is_proposition A.names)
   pub differ : HasNoRepeats A.names
@@ -172,12 +167,9 @@ pub record IsWithin (l : Limits) (text : List ℕ) (A : MarkedAutomaton) (d : Ho
   pub labels : IsTrue (list_all (λ s. list_all (λ e. not (is_wide l.label_cubes e.label)) s.edges) d.states)
   pub edges : sum_by (λ s. length (state_edges s)) d.states ≤ l.hoa_edges
 
--- the text reads as the automaton
-pub record HoaReads (form : AcceptanceForm) (text : List ℕ) (A : MarkedAutomaton) : Type 0 where
+-- the text reads as the automaton within the limits
+pub record HoaReadsWithin (l : Limits) (form : AcceptanceForm) (text : List ℕ) (A : MarkedAutomaton) : Type 0 where
   pub document : HoaDocument
   pub spelled : hoa_tokens text ≡ document_tokens document
   pub describes : IsDocumentOf form A document
-
--- the same within the limits
-abbrev pub HoaReadsWithin : Limits → AcceptanceForm → List ℕ → MarkedAutomaton → Type 0
-HoaReadsWithin l form text A = (r : HoaReads form text A) × IsWithin l text A r.document
+  pub within : IsWithin l text A document

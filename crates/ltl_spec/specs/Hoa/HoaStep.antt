@@ -1,6 +1,6 @@
 -- The tokens that may stand at a place of an automaton's text. For each place, `step`, `step_in_body` and `go_on` have the tokens that go on and
 -- the kind of fault that any other one is.
-use Rattle.std.specs.Prelude.{ℕ, ◌+◌, ◌-◌, Bool, true, false, not, ◌&&◌, ◌||◌, ◌==◌, nat_lt, if◌then◌else◌, List, [], ◌∷◌, ◌++◌, length, drop, Option, Some, None, option_map, unwrap_or, is_some, Result, Ok, Err, codes}
+use Rattle.std.specs.Prelude.{ℕ, ◌+◌, ◌-◌, Bool, true, false, not, ◌&&◌, ◌||◌, ◌==◌, nat_lt, nat_le, if◌then◌else◌, List, [], ◌∷◌, ◌++◌, length, drop, Option, Some, None, option_map, unwrap_or, is_some, Result, Ok, Err, codes}
 use Rattle.std.specs.List.{list_any}
 use Rattle.ltl_spec.specs.Semantics.Word.{Name}
 use Rattle.ltl_spec.specs.Formulas.Tokens.{same_name}
@@ -8,7 +8,7 @@ use Rattle.ltl_spec.specs.Formulas.Names.{is_proposition}
 use Rattle.ltl_spec.specs.Tools.Limits.{Limits}
 use Rattle.ltl_spec.specs.Hoa.HoaToken.{HoaToken, StringToken, Identifier, Header, Int, Body, End, Abort, OpenLabel, CloseLabel, OpenSets, CloseSets, OpenBracket, CloseBracket, NotSign, AndSign, OrSign, Unknown, UnclosedString, UnclosedComment}
 use Rattle.ltl_spec.specs.Hoa.HoaLabel.{Label, ConstantLabel, NumberLabel, BracketLabel, label_cubes, is_wide}
-use Rattle.ltl_spec.specs.Hoa.HoaReading.{AcceptanceForm, OneSet, SetsUpTo, is_read, acceptance_tokens, begins_upper, is_plain}
+use Rattle.ltl_spec.specs.Hoa.HoaReading.{AcceptanceForm, acceptance_tokens, begins_upper, is_plain}
 use Rattle.ltl_spec.specs.Hoa.HoaFaultKind.{HoaFaultKind, NotHoaVersion1, BadToken, ItemTwice, ItemMissing, UnknownItem, Unsupported, NumberOutOfRange, BadPropositionList, StateDefinedTwice, TextAfterEnd, LimitPassed}
 use Rattle.ltl_spec.specs.Hoa.HoaPlace.{HoaHeader, ItemBefore, PlainItem, StartNumber, ListedNames, Acceptance, OtherItem, LabelPart, LabelParts, BodyPlace, AtState, AtNumber, AfterNumber, AfterName, InStateSets, AtEdge, AtTarget, AfterTarget, InEdgeSets, AtOperand, AfterOperand, Place, AtFormat, AtVersion, AtStates, AtStart, AtCount, AtSets, AtEnd, AtNames, InAcceptance, AtItem, InBody, Before, empty_part, with_operand, whole}
 
@@ -79,10 +79,6 @@ is_token _ _ = false
 abbrev pub expect : Before → List HoaToken → Step
 expect b [] = go_to b (AtItem Acceptance)
 expect b ts = go_to b (InAcceptance ts)
-
-abbrev pub unread_sets : AcceptanceForm → HoaFaultKind
-unread_sets OneSet = Unsupported
-unread_sets (SetsUpTo most) = LimitPassed
 
 -- ---- labels
 
@@ -183,7 +179,7 @@ step l form (AtNames left) b (StringToken name) =
 step l form (AtNames left) b t = Err (unless_broken t BadPropositionList)
 -- behind `Acceptance:`
 step l form AtSets b (Int n) =
-    if is_read form n then expect (record b { header = record b.header { sets = Some n } }) (drop 1 (acceptance_tokens n)) else Err (unread_sets form)
+    if nat_le n form then expect (record b { header = record b.header { sets = Some n } }) (drop 1 (acceptance_tokens n)) else Err LimitPassed
 step l form AtSets b t = Err (unless_broken t Unsupported)
 step l form (InAcceptance []) b t = Err (unless_broken t Unsupported)
 step l form (InAcceptance (wanted ∷ ts)) b t = if is_token wanted t then expect b ts else Err (unless_broken t Unsupported)

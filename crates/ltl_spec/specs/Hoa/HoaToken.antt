@@ -44,14 +44,6 @@ is_identifier_byte b = begins_identifier b || is_digit b || b == 45
 abbrev pub number_of : List ℕ → ℕ
 number_of digits = fold (λ n d. 10 * n + (d - 48)) 0 digits
 
--- what a text begins with, none for a blank or a comment, and how many bytes it has
-pub record Found : Type 0 where
-  pub token : Option HoaToken
-  pub size : ℕ
-
-abbrev pub token_found : HoaToken → ℕ → Found
-token_found token size = record { token = Some token; size = size }
-
 -- A string from behind its `"` up to the `"` that ends it: its content and how many bytes there are. A `\` is taken away, and the byte
 -- behind it is taken as it is; `kept` says that a `\` stands right before
 abbrev pub string_rest : Bool → List ℕ → Option (List ℕ × ℕ)
@@ -61,9 +53,9 @@ string_rest kept (b ∷ bs) =
     let rest = string_rest keeps bs in
     if not kept && b == 34 then Some ([], 1) else option_map (λ r. (if keeps then r.0 else b ∷ r.0, r.1 + 1)) rest
 
-abbrev pub string_found : Option (List ℕ × ℕ) → Found
-string_found (Some s) = token_found (StringToken s.0) (s.1 + 1)
-string_found None = token_found UnclosedString 1
+abbrev pub string_found : Option (List ℕ × ℕ) → Option HoaToken × ℕ
+string_found (Some s) = (Some (StringToken s.0), s.1 + 1)
+string_found None = (Some UnclosedString, 1)
 
 -- How many bytes there are up to the end of the comments, of which `depth` are open. The first `skip` bytes belong to a mark
 abbrev pub comment_rest : ℕ → ℕ → List ℕ → Option ℕ
@@ -75,29 +67,29 @@ comment_rest zero depth (b ∷ bs) =
     let rest = comment_rest (if opens || closes then 1 else 0) (if opens then depth + 1 else if closes then depth - 1 else depth) bs in
     if closes && depth == 1 then Some 2 else option_map (λ n. n + 1) rest
 
-abbrev pub comment_found : Option ℕ → Found
-comment_found (Some size) = record { token = None; size = size }
-comment_found None = token_found UnclosedComment 1
+abbrev pub comment_found : Option ℕ → Option HoaToken × ℕ
+comment_found (Some size) = (None, size)
+comment_found None = (Some UnclosedComment, 1)
 
 -- an identifier, or with a `:` right behind it a header's name
-abbrev pub word_found : List ℕ → Bool → Found
-word_found word named = if named then token_found (Header word) (length word + 1) else token_found (Identifier word) (length word)
+abbrev pub word_found : List ℕ → Bool → Option HoaToken × ℕ
+word_found word named = if named then (Some (Header word), length word + 1) else (Some (Identifier word), length word)
 
-abbrev pub sign_found : Option (List ℕ × HoaToken) → Found
-sign_found (Some s) = token_found s.1 (length s.0)
-sign_found None = token_found Unknown 1
+abbrev pub sign_found : Option (List ℕ × HoaToken) → Option HoaToken × ℕ
+sign_found (Some s) = (Some s.1, length s.0)
+sign_found None = (Some Unknown, 1)
 
--- what a text begins with
-abbrev pub found_first : ℕ → List ℕ → Found
+-- the token that a text begins with, none for a blank or a comment, and how many bytes it has
+abbrev pub found_first : ℕ → List ℕ → Option HoaToken × ℕ
 found_first b bs =
     let text = b ∷ bs in
     let word = take_while is_identifier_byte text in
     let digits = take_while is_digit text in
-    if is_blank b then record { token = None; size = 1 } else
+    if is_blank b then (None, 1) else
     if starts_with nat_eq text (codes "/*") then comment_found (comment_rest 2 1 text) else
     if b == 34 then string_found (string_rest false bs) else
-    if b == 48 then token_found (Int 0) 1 else
-    if is_digit b then token_found (Int (number_of digits)) (length digits) else
+    if b == 48 then (Some (Int 0), 1) else
+    if is_digit b then (Some (Int (number_of digits)), length digits) else
     if begins_identifier b then word_found word (starts_with nat_eq text (word ++ codes ":")) else
     sign_found (find (λ s. starts_with nat_eq text s.0) hoa_signs)
 
@@ -114,9 +106,9 @@ abbrev pub hoa_items_from : ℕ → ℕ → List ℕ → List HoaItem
 hoa_items_from skip line [] = []
 hoa_items_from (suc skip) line (b ∷ bs) = hoa_items_from skip (if b == 10 then line + 1 else line) bs
 hoa_items_from zero line (b ∷ bs) =
-    let found = found_first b bs in
-    let rest = hoa_items_from (found.size - 1) (if b == 10 then line + 1 else line) bs in
-    hoa_item_before found.token line rest
+    let (token, size) = found_first b bs in
+    let rest = hoa_items_from (size - 1) (if b == 10 then line + 1 else line) bs in
+    hoa_item_before token line rest
 
 -- the items of a text
 abbrev pub hoa_items : List ℕ → List HoaItem

@@ -44,22 +44,18 @@ module _ (l : Limits) where
   KeepsRows N r =
       MatchResult r (λ M. (M ≡ N) × (length (rows N) ≤ l.rows) × (length (elementary_rows N) ≤ l.elementary_rows)) (RefusesRows N)
 
-  -- the normal form's automaton, or one on the way is too large
-  abbrev pub RefusesAutomaton : Normal → Options → Refusal → Type 0
-  RefusesAutomaton N o LargeAutomaton = IsTranslationTooLarge N o l.states l.edges
-  RefusesAutomaton N o _ = ⊥
+  -- an automaton that is too large is refused
+  abbrev pub RefusesLarge : Type 0 → Refusal → Type 0
+  RefusesLarge TooLarge LargeAutomaton = TooLarge
+  RefusesLarge TooLarge _ = ⊥
 
+  -- the normal form's automaton, or one on the way is too large
   abbrev pub Translates : Normal → Options → Result Automaton Refusal → Type 0
-  Translates N o r = MatchResult r (λ B. IsTranslation N o B × ¬ (IsTranslationTooLarge N o l.states l.edges)) (RefusesAutomaton N o)
+  Translates N o r = let TooLarge = IsTranslationTooLarge N o l.states l.edges in MatchResult r (λ B. IsTranslation N o B × ¬ TooLarge) (RefusesLarge TooLarge)
 
   -- the same for the generalized automaton
-  abbrev pub RefusesGeneralized : Normal → Options → Refusal → Type 0
-  RefusesGeneralized N o LargeAutomaton = IsTooLarge N o.keep_implied l.states l.edges
-  RefusesGeneralized N o _ = ⊥
-
   abbrev pub TranslatesGeneralized : Normal → Options → Result Automaton Refusal → Type 0
-  TranslatesGeneralized N o r =
-      MatchResult r (λ A. IsGeneralizedTranslation N o A × ¬ (IsTooLarge N o.keep_implied l.states l.edges)) (RefusesGeneralized N o)
+  TranslatesGeneralized N o r = let TooLarge = IsTooLarge N o.keep_implied l.states l.edges in MatchResult r (λ A. IsGeneralizedTranslation N o A × ¬ TooLarge) (RefusesLarge TooLarge)
 
   -- from the formula's input to the formula
   abbrev pub InputReads : Input → Result Reading Refusal → Type 0
@@ -139,11 +135,7 @@ module _ (l : Limits) where
       Then (InputReads l (input_of p.formula input)) (λ R.
       Then (KeepsRows l (core R.formula false p.rewrite)) (λ N. Prints p.layout N p.options R))
 
-  -- The answer of the translator, where this is what its words mean and this stands behind the name of the formula's file.
-  -- A contract of its run names it so, for what the words gave and for the bytes that the formula's reader holds as `Ended`, or as
-  -- `Failed` where a read failed after them: `IsPromised l Translator (TranslatorAnswers l plan input) seen`, and `seen` holds the
-  -- status and what the writers took. Where the words were refused for want of memory, `IsShortOfMemory l Translator seen` alone is
-  -- promised, and where `TakesNoMemory`, no want of memory is
+  -- the answer of the translator, where this is what its words mean and this stands behind the name of the formula's file
   abbrev pub TranslatorAnswers : Option TranslatorPlan → Input → Answer → Type 0
   TranslatorAnswers None input a = a ≡ refused l Translator Usage
   TranslatorAnswers (Some p) input a = (r : Result (List ℕ) Refusal) × TranslatorPrints p input r × (a ≡ answer_by l Translator (λ text. printed text 0) r)

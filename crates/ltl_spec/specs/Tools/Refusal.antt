@@ -24,12 +24,8 @@ tool_name Translator = codes "ltl2ba"
 tool_name Checker = codes "ltlcheck"
 tool_name Evaluator = codes "ltleval"
 
--- the translator's line, with the words for the texts of automata that it prints
-abbrev pub translator_usage : List ℕ → List ℕ
-translator_usage layouts = codes "ltl2ba [-l] [-o] [-p] " ++ layouts ++ codes " (-f formula | -F file)"
-
 abbrev pub usage_text : Tool → List ℕ
-usage_text Translator = translator_usage (codes "[-H | -G]")
+usage_text Translator = codes "ltl2ba [-l] [-o] [-p] [-H | -G] (-f formula | -F file)"
 usage_text Checker = codes "ltlcheck (-f formula | -F file) [-A file]"
 usage_text Evaluator = codes "ltleval (-f formula | -F file) -w lasso"
 

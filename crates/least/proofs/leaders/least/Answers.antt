@@ -1,5 +1,5 @@
 use Rattle.std.proofs.Common.{◌≡◌, sym, ◌∙◌, ap}
-use Rattle.least.specs.Indexes.{is_above}
+use Rattle.least.specs.Lookups.{is_above}
 use Rattle.least.proofs.LookupLaws.{stays, goes}
 use Rattle.least.proofs.leaders.least.Goals as goal
 use Rattle.least.proofs.leaders.least.Goals.{then-not-has_lesser+in_ok-push, else-not-has_lesser}

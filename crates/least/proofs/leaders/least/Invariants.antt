@@ -1,6 +1,6 @@
 use Rattle.std.proofs.Common.{◌≡◌, take, not}
 use Rattle.std.specs.List.{filter}
-use Rattle.least.specs.Indexes.{is_above}
+use Rattle.least.specs.Lookups.{is_above}
 use Rattle.least.proofs.leaders.least.Given as goal
 
 abbrev pub invariant-items : goal.invariant-items

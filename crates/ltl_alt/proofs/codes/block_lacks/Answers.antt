@@ -18,7 +18,7 @@ roots-init g c =
     let count : length ws ≡ length ss = omega (arith, a, b) in
     record {
       count = count;
-      asked = block_begins (steps_of ss) c.args.block.now c.put_codes.new.codes.items c.in_ok-put_codes.ensures ws (count ∙ sym (length-map ss step_of))
+      asked = block_begins (steps_of ss) c.args.block.now c.put_codes.new.codes.items (c.in_ok-put_codes.ensures c.args.block.now c.in_ok-needing.ensures) ws (count ∙ sym (length-map ss step_of))
           (all_there [] c.empty.result _ _ c.new-wanted.result.items ws c.new-wanted.ensures.items c.empty.ensures c.in_ok-resize-2.ensures.items);
     }
 
@@ -28,11 +28,11 @@ roots-preserved g c =
     let rs = c.args.roots.now in
     let k = c.roots.k in
     let r = slice_index_or rs k 0 in
-    let all = c.everyone-all.result in
+    let all = c.in_ok-needing.needing.all in
     let ws = c.roots.wanted.items in
     record {
       count = ap length c.want.ensures ∙ wanted_length ws r all ∙ c.roots.invariant.count;
-      asked = block_wants ss c.args.block.now c.put_codes.new.codes.items c.in_ok-put_codes.ensures all c.everyone-all.ensures (take k rs) (take (k + 1) rs) r ws c.want.new.wanted.items (take_more rs k 0 c.roots-test.true)
+      asked = block_wants ss c.args.block.now c.put_codes.new.codes.items (c.in_ok-put_codes.ensures c.args.block.now c.in_ok-needing.ensures) all c.in_ok-needing.ensures.all (take k rs) (take (k + 1) rs) r ws c.want.new.wanted.items (take_more rs k 0 c.roots-test.true)
           c.want.ensures c.roots.invariant.asked;
     }
 
@@ -58,7 +58,7 @@ returns g c =
       count = count;
       each = λ j p found.
           let inside : j < length vs = let l = slice_get_within ps j p found in omega (arith, count, l) in
-          lack_asked f rs p (codes_at j cs) (asked_at j cs old) (asked_at j cs new) (slice_index_or vs j no_support) (c.in_ok-put_codes.ensures j p found) (first j p found) (below j inside);
+          lack_asked f rs p (codes_at j cs) (asked_at j cs old) (asked_at j cs new) (slice_index_or vs j no_support) (c.in_ok-put_codes.ensures ps c.in_ok-needing.ensures j p found) (first j p found) (below j inside);
     }
 
 pub returns-then-is_empty : goal.returns-then-is_empty

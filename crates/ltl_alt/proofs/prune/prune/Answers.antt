@@ -7,15 +7,15 @@ use Rattle.ltl_alt.proofs.PruneLaws.{pruned_equal, pruned_safely}
 use Rattle.ltl_alt.proofs.prune.prune.Goals as goal
 
 pub returns-then-len-lt2 : goal.returns-then-len-lt2
-returns-then-len-lt2 g c = pruned_equal _ _ _ _ c.in_ok-sort_dedup.ensures
+returns-then-len-lt2 g c = pruned_equal _ _ _ _ c.sort_dedup.ensures
 
 pub returns-in-Duplicate : goal.returns-in-Duplicate
-returns-in-Duplicate g c = pruned_equal _ _ _ _ c.in_ok-sort_dedup.ensures
+returns-in-Duplicate g c = pruned_equal _ _ _ _ c.sort_dedup.ensures
 
 pub prune_safely-requires : goal.prune_safely-requires
-prune_safely-requires g c = subst (IsRising pair_cmp) (sym c.in_ok-sort_dedup.ensures) (IsRising-set_of pair_linear c.args.pairs.items)
+prune_safely-requires g c = subst (IsRising pair_cmp) (sym c.sort_dedup.ensures) (IsRising-set_of pair_linear c.args.pairs.items)
 
 pub returns-in_ok-prune_safely-in-SafelySubsumed : goal.returns-in_ok-prune_safely-in-SafelySubsumed
 returns-in_ok-prune_safely-in-SafelySubsumed g c =
-    pruned_safely c.args.pruning.now.rule c.args.pruning.now.fulfilment.now c.args.pairs.items c.sort_dedup.new.pairs.items c.prune_safely.new.pairs.items c.in-SafelySubsumed.is
-    c.in_ok-sort_dedup.ensures c.in_ok-prune_safely-in-SafelySubsumed.ensures
+    pruned_safely c.args.pruning.now.rule c.args.pruning.now.fulfilment.now c.args.pairs.items c.sort_dedup.new.items.items c.prune_safely.new.pairs.items c.in-SafelySubsumed.is
+    c.sort_dedup.ensures c.in_ok-prune_safely-in-SafelySubsumed.ensures

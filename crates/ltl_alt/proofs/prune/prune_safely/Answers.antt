@@ -1,26 +1,21 @@
-use Rattle.std.proofs.Common.{◌∙◌, subst}
-use Rattle.ltl_alt.specs.CodeView.{AreLacks, AreLeft, AreOpenSteps}
-use Rattle.ltl_alt.specs.StandIns.{AreAmong}
+use Rattle.std.proofs.Common.{◌∙◌, not, subst}
+use Rattle.std.specs.List.{filter}
+use Rattle.ltl_alt.specs.CodeView.{AreOpenSteps}
+use Rattle.ltl_alt.specs.StandIns.{AreAmong, AreSpares, is_replaced}
 use Rattle.ltl_alt.proofs.PruneLaws.{left_pruned, nothing_pruned}
 use Rattle.ltl_alt.proofs.prune.prune_safely.Goals as goal
 
 pub returns-then-is_empty : goal.returns-then-is_empty
 returns-then-is_empty g c = nothing_pruned c.args.fulfilment.now c.args.pairs.now.items c.requires
 
-pub returns-then-seem_least : goal.returns-then-seem_least
-returns-then-seem_least g c = nothing_pruned c.args.fulfilment.now c.args.pairs.now.items c.requires
-
 pub returns : goal.returns
 returns g c =
     let f = c.args.fulfilment.now in
+    let ps = c.args.pairs.now.items in
     let roots = c.in_ok-roots.roots.items in
-    let ks = c.in_ok-lacks_of.field-0.items in
-    let all = c.in_ok-smaller.smaller.items in
-    let ms = c.in_ok-measured.measured.items in
-    let qs = c.put_least.new.pairs.items in
-    left_pruned f roots ks all ms c.args.pairs.now.items qs (c.in_ok-measured.ensures ∙ c.as_slice.ensures.value)
-    (subst (λ ps. AreOpenSteps f.untils.items f.leaves.items ps roots) c.as_slice-3.ensures.value c.in_ok-roots.ensures)
-    (subst (λ rs. AreLacks f rs ks) c.as_slice-6.ensures.value c.in_ok-lacks_of.ensures)
-    (subst (λ xs. AreAmong xs all) c.as_slice-2.ensures c.in_ok-smaller.ensures)
-    (subst (λ xs. AreLeft ks all xs qs) c.as_slice-10.ensures
-    (subst (λ xs. AreLeft ks xs c.as_slice-10.result.now qs) (c.in_ok-new.ensures ∙ c.as_slice-5.ensures) c.in_ok-put_least.ensures))
+    let chosen = c.in_ok-smaller.smaller.items in
+    let ss = c.in_ok-spares.spares.items in
+    left_pruned f roots ps chosen c.in_ok-kept.kept.items ss c.requires (subst (λ xs. AreOpenSteps f.untils.items f.leaves.items xs roots) c.as_slice-2.ensures.value c.in_ok-roots.ensures)
+    (subst (λ xs. AreAmong xs chosen) c.as_slice.ensures.value c.in_ok-smaller.ensures)
+    (subst (λ xs. AreSpares f xs chosen ss) c.as_slice-3.ensures.value (subst (λ xs. AreSpares f c.as_slice-3.result.now xs ss) c.as_slice-4.ensures.value c.in_ok-spares.ensures))
+    (c.in_ok-kept.ensures ∙ (λ i. filter (λ p. not (is_replaced ((c.in_ok-lookup.ensures ∙ c.as_slice-5.ensures.value) i) p)) (c.as_slice-6.ensures.value i)))

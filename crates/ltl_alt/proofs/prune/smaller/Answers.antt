@@ -1,24 +1,20 @@
-use Rattle.std.proofs.Common.{◌<◌, ◌∙◌, ap, sym, subst, length}
+use Rattle.std.proofs.Common.{◌∙◌, ap, sym, subst}
 use Rattle.ltl_spec.specs.Collections.Sets.{Has}
 use Rattle.ltl_spec.proofs.Collections.ListLaws.{Has-at}
 use Rattle.ltl_alt.specs.StandIns.{AreAmong}
-use Rattle.ltl_alt.proofs.PruneLaws.{among_added}
+use Rattle.ltl_alt.proofs.PruneLaws.{among_more}
 use Rattle.ltl_alt.proofs.prune.smaller.Goals as goal
-use Rattle.ltl_alt.proofs.prune.smaller.Goals.{then-may_stand_in+in_ok-push, else-may_stand_in}
+use Rattle.ltl_alt.proofs.prune.smaller.Goals.{then-size-most+in_ok-push, else-size-most}
 
-pub measured-init : goal.measured-init
-measured-init g c = λ m h. absurd (subst (λ xs. Has xs m) c.new-smaller.ensures.items h)
+pub pairs-init : goal.pairs-init
+pairs-init g c = λ p h. absurd (subst (λ xs. Has xs p) c.new-smaller.ensures.items h)
 
-pub measured-preserved : goal.measured-preserved
-measured-preserved g c =
-    let ms = c.args.measured.now in
-    let i = c.measured.m-index in
-    let at = c.m-item.result in
-    let inside : i < length ms = c.measured-test.true in
-    let there : Has ms at = subst (Has ms) (sym c.m-item.is) (Has-at ms i at inside) in
-    let old = c.measured.smaller.items in
-    let new = c.if-may_stand_in.smaller.items in
-    elim c.if-may_stand_in.branch [
-      | then-may_stand_in+in_ok-push w ↦ among_added ms old new at w.numbered.result there w.numbered.ensures (ap (λ v. v.items) w.smaller-is ∙ w.in_ok-push.ensures.ok) c.measured.invariant
-      | else-may_stand_in w ↦ subst (AreAmong ms) (sym (ap (λ v. v.items) w.smaller-is)) c.measured.invariant
+pub pairs-preserved : goal.pairs-preserved
+pairs-preserved g c =
+    let ps = c.args.pairs.now in
+    let p = c.pair-item.result in
+    let there = subst (Has ps) (sym c.pair-item.is) (Has-at ps c.pairs.pair-index p c.pairs-test.true) in
+    elim c.if-size-most.branch [
+      | then-size-most+in_ok-push w ↦ among_more ps c.pairs.smaller.items c.if-size-most.smaller.items p there (ap (λ v. v.items) w.smaller-is ∙ w.in_ok-push.ensures.items) c.pairs.invariant
+      | else-size-most w ↦ subst (AreAmong ps) (sym (ap (λ v. v.items) w.smaller-is)) c.pairs.invariant
     ]

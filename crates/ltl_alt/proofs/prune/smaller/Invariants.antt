@@ -1,5 +1,5 @@
 use Rattle.ltl_alt.specs.StandIns.{AreAmong}
 use Rattle.ltl_alt.proofs.prune.smaller.Given as goal
 
-abbrev pub invariant-measured : goal.invariant-measured
-invariant-measured g l = AreAmong l.measured l.smaller.items
+abbrev pub invariant-pairs : goal.invariant-pairs
+invariant-pairs g l = AreAmong l.pairs l.smaller.items

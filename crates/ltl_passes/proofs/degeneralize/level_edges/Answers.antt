@@ -6,6 +6,7 @@ use Rattle.ltl_models.specs.GbaView as gba
 use Rattle.ltl_automaton.proofs.NetLaws.{took}
 use Rattle.ltl_automaton.proofs.WayLaws.{take_whole}
 use Rattle.ltl_passes.specs.Degeneralize.{lifted_edge}
+use Rattle.ltl_passes.specs.LevelEdgeOrder.{level_edges_set}
 use Rattle.ltl_passes.proofs.LevelStateLaws.{lifted_next}
 use Rattle.ltl_passes.proofs.degeneralize.level_edges.Goals as goal
 
@@ -16,4 +17,4 @@ loop-edge-preserved g c =
 
 pub returns : goal.returns
 returns g c =
-    record { set = c.sort_dedup.ensures.set ∙ ap (set_of level_edge_cmp) (c.loop-edge.invariant ∙ ap (λ es. map (lifted_edge c.args.sets c.args.level) (map gba.edge_of es)) (take_whole c.loop-edge.edge-index c.args.edges.now c.loop-edge-test.false)) }
+    record { set = level_edges_set c.sort_dedup.new.items.items c.loop-edge.copied.items c.sort_dedup.ensures ∙ ap (set_of level_edge_cmp) (c.loop-edge.invariant ∙ ap (λ es. map (lifted_edge c.args.sets c.args.level) (map gba.edge_of es)) (take_whole c.loop-edge.edge-index c.args.edges.now c.loop-edge-test.false)) }

@@ -1,7 +1,7 @@
 use Rattle.std.proofs.Common.{◌∙◌, ap}
 use Rattle.std.specs.Ordering.{nat_cmp}
 use Rattle.ltl_spec.specs.Collections.Sets.{has}
-use Rattle.ltl_alt.proofs.ColumnLaws.{has_union}
+use Rattle.least.proofs.HasLaws.{has_union}
 use Rattle.ltl_alt.proofs.codes.Code.hopeful.Goals as goal
 
 pub returns : goal.returns

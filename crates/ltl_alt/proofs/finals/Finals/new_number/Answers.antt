@@ -32,7 +32,6 @@ of_join-requires g c =
       finals = (c.in_ok-key.ensures.components, finals_longer T b.keep_implied b.conjuncts.lists.items old.components.memo.lists.keys c.last.new.self.memo.lists.keys old.lists.keys old.lists.keys old.of_joins.entries old.of_components.entries c.in_ok-key.ensures.longer (longer_same old.lists.keys) c.requires.finals.1);
       within = at.0;
       sets = listed_sets T b.pruning.rule all (last_list c.last.new.self.memo.lists.keys c.in-Some.key) _ (joined_sound conjunct c.requires.basis.conjuncts.linked.sound c.args.component.now) at.1 refl;
-      rising = at.1.rising;
     }
 
 pub returns-clause-number : goal.returns-clause-number

@@ -1,4 +1,4 @@
-use Rattle.std.proofs.Common.{◌∙◌, ◌≤◌, ◌<◌, arith, length, [], refl}
+use Rattle.std.proofs.Common.{◌∙◌, sym, ◌≤◌, ◌<◌, arith, length, [], refl}
 use Rattle.std.specs.Prelude.{slice_index_or}
 use Rattle.ltl_streams.proofs.SendLaws.{leaves_all}
 use Rattle.ltl_timeline.specs.Timeline.{subformula_line}
@@ -10,15 +10,15 @@ use Rattle.ltl_timeline.proofs.subformulas.Subformulas.put.Goals as goal
 pub loop-k-init : goal.loop-k-init
 loop-k-init g c = from_start (subformula_line c.args.formula.now c.args.word.now (λ k i. bit_of (slice_index_or c.args.self.now.rows.items k []) i) c.args.width) (length c.args.formula.now.nodes) (leaves_all _ _ _)
 
-pub loop-k-preserved-then-is_proposition : goal.loop-k-preserved-then-is_proposition
-loop-k-preserved-then-is_proposition g c =
+pub loop-k-preserved-then-is_left_out : goal.loop-k-preserved-then-is_left_out
+loop-k-preserved-then-is_left_out g c =
     let f = c.args.formula.now in
     let rows = c.args.self.now.rows.items in
     let texts = c.args.self.now.texts.items in
     let k = c.loop-k.k in
     let l : k < length f.nodes = omega arith in
     from_skip (subformula_line c.args.formula.now c.args.word.now (λ k i. bit_of (slice_index_or c.args.self.now.rows.items k []) i) c.args.width) (length c.args.formula.now.nodes) c.loop-k.k l c.loop-k.invariant
-    (no_line f c.args.word.now (λ k i. bit_of (slice_index_or rows k []) i) c.args.width k c.node.result c.node.ensures.found c.is_proposition.result c.is_proposition.ensures c.if-is_proposition.true)
+    (no_line f c.args.word.now (λ k i. bit_of (slice_index_or rows k []) i) c.args.width k (sym c.is_left_out.ensures ∙ c.if-is_left_out.true))
 
 pub returns-in_err-put_line : goal.returns-in_err-put_line
 returns-in_err-put_line g c =
@@ -31,7 +31,7 @@ returns-in_err-put_line g c =
     let many = c.requires.rows.count in
     let text = c.as_slice.ensures.value ∙ text_there f (λ t. t.items) texts k c.index.result.now c.requires.texts (omega (arith, l, count)) c.index.ensures in
     let row = there rows k c.index-in-loop-k.result.now [] (omega (arith, l, many)) c.index-in-loop-k.ensures in
-    let e = row_line f c.args.word.now (λ k i. bit_of (slice_index_or rows k []) i) c.args.width k c.node.result c.node.ensures.found c.is_proposition.result c.is_proposition.ensures c.if-is_proposition.false rows (λ i. refl) _ _ text row in
+    let e = row_line f c.args.word.now (λ k i. bit_of (slice_index_or rows k []) i) c.args.width k (sym c.is_left_out.ensures ∙ c.if-is_left_out.false) rows (λ i. refl) _ _ text row in
     from_fails (subformula_line c.args.formula.now c.args.word.now (λ k i. bit_of (slice_index_or c.args.self.now.rows.items k []) i) c.args.width) (length c.args.formula.now.nodes) c.loop-k.k _ _ l c.loop-k.invariant c.from_residual.ensures.0 e c.in_err-put_line.ensures
 
 pub loop-k-preserved : goal.loop-k-preserved
@@ -45,7 +45,7 @@ loop-k-preserved g c =
     let many = c.requires.rows.count in
     let text = c.as_slice.ensures.value ∙ text_there f (λ t. t.items) texts k c.index.result.now c.requires.texts (omega (arith, l, count)) c.index.ensures in
     let row = there rows k c.index-in-loop-k.result.now [] (omega (arith, l, many)) c.index-in-loop-k.ensures in
-    let e = row_line f c.args.word.now (λ k i. bit_of (slice_index_or rows k []) i) c.args.width k c.node.result c.node.ensures.found c.is_proposition.result c.is_proposition.ensures c.if-is_proposition.false rows (λ i. refl) _ _ text row in
+    let e = row_line f c.args.word.now (λ k i. bit_of (slice_index_or rows k []) i) c.args.width k (sym c.is_left_out.ensures ∙ c.if-is_left_out.false) rows (λ i. refl) _ _ text row in
     from_step (subformula_line c.args.formula.now c.args.word.now (λ k i. bit_of (slice_index_or c.args.self.now.rows.items k []) i) c.args.width) (length c.args.formula.now.nodes) c.loop-k.k l c.loop-k.invariant e c.in_ok-put_line.ensures
 
 pub returns : goal.returns

@@ -1,0 +1,7 @@
+use Rattle.std.proofs.Common.{◌≡◌, take, not}
+use Rattle.std.specs.List.{filter}
+use Rattle.ltl_alt.specs.StandIns.{is_replaced}
+use Rattle.ltl_alt.proofs.prune.left.Given as goal
+
+abbrev pub invariant-pairs : goal.invariant-pairs
+invariant-pairs g l = l.rest.items ≡ filter (λ p. not (is_replaced l.spares p)) (take l.pair-index l.fn.pairs)
