@@ -3,7 +3,7 @@ use Rattle.std.proofs.Common.{◌≡◌, ◌∙◌, ℕ, true, false, ◌&&◌, 
 use Rattle.std.specs.List.{filter}
 use Rattle.std.specs.Ordering.{nat_cmp}
 use Rattle.ltl_spec.specs.Collections.Sets.{has}
-use Rattle.sets_tests.specs.declared.least_ones.Item.{Item}
+use Rattle.sets_tests.specs.declared.items.Item.{Item}
 use Rattle.sets_tests.specs.Items.{is_lacked}
 
 pub lacks_first : (a : Item) (kind : ℕ) (of : List ℕ) → nat_eq kind 0 ≡ true → filter (λ e. has nat_cmp e a.lacks) of ≡ filter (is_lacked a kind) of

@@ -8,7 +8,7 @@ use Rattle.ltl_spec.proofs.Collections.CaseLaws.{false_is_true, left_true, right
 use Rattle.ltl_spec.proofs.Collections.MemberLaws.{any_true}
 use Rattle.ltl_spec.proofs.Collections.Orders.{nat_linear}
 use Rattle.ltl_spec.proofs.Collections.SetLaws.{has_Decides, is_subset_Decides}
-use Rattle.sets_tests.specs.declared.least_ones.Item.{Item}
+use Rattle.sets_tests.specs.declared.items.Item.{Item}
 
 -- the numbers of kind 0 that the item needs; there are no others
 abbrev pub numbers_needed : Item → ℕ → List ℕ

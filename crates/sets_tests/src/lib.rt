@@ -7,6 +7,7 @@
 
 #[cfg(test)]
 mod allocator;
+mod items;
 #[cfg(test)]
 mod least_ones;
 #[cfg(test)]
