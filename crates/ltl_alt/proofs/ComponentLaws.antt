@@ -45,29 +45,6 @@ joins_step T r f all is rest ps qs xs i d e k l =
 pub joins_end : (T : Table) (r : Rule) (f : ℕ → List Pair) (all : List Pair) (is : List ℕ) (ps : List Pair) → is ≡ [] → IsKeptBy (StandsFor T r) all (joined_on f ps is) → IsRising pair_cmp ps → IsListed (StandsFor T r) all ps
 joins_end T r f all is ps d k rising = record { kept = subst (λ js. IsKeptBy (StandsFor T r) all (joined_on f ps js)) d k; rising = rising }
 
--- the same where the last join isn't made yet
-pub last_begins : (T : Table) (r : Rule) (f : ℕ → List Pair) (e is : List ℕ) (ps qs : List Pair) → is ≡ e → ps ≡ empty_pair ∷ [] → qs ≡ empty_pair ∷ [] → IsKeptBy (StandsFor T r) (joined_on f (empty_pair ∷ []) e) (joined_on f (join ps qs) is)
-last_begins T r f e is ps qs d g h = joins_begin T r f e is (join ps qs) d (λ i. join (g i) (h i))
-
--- it is made, and the next one is left
-pub last_step : (T : Table) (r : Rule) (f : ℕ → List Pair) (all : List Pair) (is rest : List ℕ) (ps qs ys : List Pair) (i : ℕ) → is ≡ i ∷ rest → f i ≡ ys → IsKeptBy (StandsFor T r) all (joined_on f ps is)
-    → IsKeptBy (StandsFor T r) ps qs → IsKeptBy (StandsFor T r) all (joined_on f (join qs ys) rest)
-last_step T r f all is rest ps qs ys i d e k l =
-    let o = stands_in T r in
-    let start : IsKeptBy (StandsFor T r) all (joined_on f ps (i ∷ rest)) = subst (λ js. IsKeptBy (StandsFor T r) all (joined_on f ps js)) d k in
-    subst (λ xs. IsKeptBy (StandsFor T r) all (joined_on f (join qs xs) rest)) e
-    (kept_on o all (joined_on f ps (i ∷ rest)) (joined_on f qs (i ∷ rest)) start (kept_rest o f (i ∷ rest) ps qs l))
-
--- of the last one none is dropped but repeated ones
-pub last_ends : (T : Table) (r : Rule) (f : ℕ → List Pair) (all : List Pair) (is : List ℕ) (ps : List Pair) → is ≡ [] → IsKeptBy (StandsFor T r) all (joined_on f ps is) → IsListed (StandsFor T r) all (set_of pair_cmp ps)
-last_ends T r f all is ps d k =
-    let o = stands_in T r in
-    let up = IsRising-set_of pair_linear ps in
-    record {
-      kept = kept_on o all ps (set_of pair_cmp ps) (subst (λ js. IsKeptBy (StandsFor T r) all (joined_on f ps js)) d k) (kept_same o ps (set_of pair_cmp ps) (set_of_same pair_linear (set_of pair_cmp ps) up));
-      rising = up;
-    }
-
 -- they are sound where the conjuncts are
 pub joined_sound : (conjunct : ℕ → List Pair) → ((k : ℕ) → AreSound (conjunct k)) → (g : List ℕ) → AreSound (joined_on conjunct (empty_pair ∷ []) g)
 joined_sound conjunct sound g =

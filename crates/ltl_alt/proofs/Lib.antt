@@ -9,6 +9,7 @@ pub mod GbaLaws
 pub mod ComponentLaws
 pub mod ImpliedLaws
 pub mod JoinLaws
+pub mod JoinOrderLaws
 pub mod ListsLaws
 pub mod KeyLaws
 pub mod MapLaws

@@ -1,12 +1,12 @@
 //! The pruned joins of a component's conjuncts, which the memo table keeps.
 
-ghost use Rattle.std.specs.Prelude.{◌≡◌, ℕ, ◌<◌, ◌∷◌, [], fold, length, IfOk, IfSome, OnOk};
+ghost use Rattle.std.specs.Prelude.{◌≡◌, ℕ, ◌<◌, ◌∷◌, [], fold, length, map, slice_index_or, IfOk, IfSome, OnOk};
 ghost use Rattle.ltl_spec.specs.Collections.Sets.{Has};
 ghost use Rattle.ltl_spec.specs.Transitions.Pairs as spec_pairs;
 ghost use Rattle.ltl_spec.specs.Transitions.RowTransitions as spec;
 ghost use Rattle.ltl_alt.specs.declared.rule.Rule as made_rule;
 ghost use Rattle.ltl_alt.specs.BasisView.{IsBasis};
-ghost use Rattle.ltl_alt.specs.ComponentView.{AreComponents, AreStarts, HasComponents, IsLastOf};
+ghost use Rattle.ltl_alt.specs.ComponentView.{AreComponents, AreStarts, HasComponents, IsLastOf, start_of};
 ghost use Rattle.ltl_alt.specs.ConjunctTableView.{IsLonger, conjunct_of};
 ghost use Rattle.ltl_alt.specs.StandIns.{IsListed, StandsFor};
 ghost use Rattle.ltl_alt.specs.TransitionView.{table_at};
@@ -48,6 +48,17 @@ fn starts<'a, A: Allocator>(
         starts.push(number)?;
     }
     Ok(starts)
+}
+
+/// The number at a place, or this one if there are fewer numbers.
+fn number_at(numbers: &[usize], place: usize, otherwise: usize) -> usize
+    ensures { result ≡ slice_index_or numbers.now place otherwise }
+{
+    if place < numbers.len() {
+        numbers[place]
+    } else {
+        otherwise
+    }
 }
 
 /// The pruned join of some pairs with the pairs of one more conjunct.
@@ -102,8 +113,44 @@ impl<'a, A: Allocator> Components<'a, A> {
         })
     }
 
-    /// The operands of a component's last join, by their numbers. The left one is the pruned join of all conjuncts but the last one. The right one is the
-    /// list of the last conjunct. The result is `None` if there is no room for one of the joins before the last one.
+    /// The list numbers of these conjuncts.
+    fn numbers(&self, alloc: &'a A, component: &RowSet) -> Result<Vec<usize, &'a A>, AllocError>
+        requires inside { (k : ℕ) → Has component.now k → k < length self.now.starts.items }
+        ensures { IfOk result (λ v. v.items ≡ map (start_of self.now.starts.items) component.now) }
+    {
+        let mut numbers = Vec::new(alloc);
+        let mut rest = component.iter();
+        'members: while let Some(conjunct) = rest.next() {
+            numbers.push(self.starts[conjunct])?;
+        }
+        Ok(numbers)
+    }
+
+    /// The places of the two lists whose join costs least, the first such two.
+    fn cheapest(&self, lists: &[usize]) -> (usize, usize)
+        requires some { 1 < length lists.now }
+        requires within { (k : ℕ) → Has lists.now k → k < length self.now.memo.lists.keys }
+        ensures { result.0 < result.1 × result.1 < length lists.now }
+    {
+        let mut best = (0, 1);
+        let mut least = (usize::MAX, usize::MAX);
+        'second: for second in 1..lists.len() {
+            'first: for first in 0..second {
+                let cost = self.memo.cost(&JoinKey {
+                    left: lists[first],
+                    right: lists[second],
+                });
+                if cost < least {
+                    least = cost;
+                    best = (first, second);
+                }
+            }
+        }
+        best
+    }
+
+    /// The operands of a component's last join, by their numbers. The lists of the conjuncts are joined two by two, the two whose join costs least first,
+    /// until two lists are left. The result is `None` if there is no room for one of the joins before the last one.
     pub(crate) fn last(
         &mut self,
         basis: &Basis<'_, '_, '_, 'a, A>,
@@ -117,17 +164,19 @@ impl<'a, A: Allocator> Components<'a, A> {
             (table_at basis.now.table.now) basis.now.pruning.rule basis.now.conjuncts.lists.items self.new.memo.lists.keys component.now)) }
         ensures longer { OnOk result (IsLonger self.old.memo.lists.keys self.new.memo.lists.keys) }
     {
-        let mut left = self.nothing;
-        let mut right = self.nothing;
-        let mut rest = component.iter();
-        'members: while let Some(conjunct) = rest.next() {
-            let start = self.starts[conjunct];
+        let mut lists = self.numbers(basis.alloc, component)?;
+        'joins: while lists.len() > 2 {
+            let (first, second) = self.cheapest(lists.as_slice());
+            let right = lists.remove(second);
+            let left = lists.remove(first);
             let Some(joined) = self.memo.join(basis.alloc, &basis.pruning, left, right)? else {
                 return Ok(None);
             };
-            left = joined;
-            right = start;
+            lists.push(joined)?;
         }
-        Ok(Some(JoinKey { left, right }))
+        Ok(Some(JoinKey {
+            left: number_at(lists.as_slice(), 0, self.nothing),
+            right: number_at(lists.as_slice(), 1, self.nothing),
+        }))
     }
 }

@@ -15,6 +15,7 @@ use crate::pair::Pair;
 use crate::pair_set::PairSet;
 use crate::prune::prune;
 use crate::rule::Pruning;
+use crate::support::Support;
 use indexmap::IndexMap;
 use ltl_automaton::Interner;
 use std::alloc::{AllocError, Allocator};
@@ -36,6 +37,8 @@ pub(crate) struct Memo<'a, A: Allocator> {
     pub(crate) lists: Interner<'a, PairSet<'a, A>, A>,
     /// For each join that was made the number of the resulting list.
     pub(crate) joins: IndexMap<JoinKey, usize, BuildHasherDefault<FoldHasher>, &'a A>,
+    /// The literals and targets of each list.
+    supports: Vec<Support, &'a A>,
     /// How many more pairs, joins and transitions may be remembered.
     room: usize,
 }
@@ -49,6 +52,7 @@ impl<'a, A: Allocator> Memo<'a, A> {
         Memo {
             lists: Interner::new(alloc),
             joins: IndexMap::new(alloc),
+            supports: Vec::new(alloc),
             room: ROOM,
         }
     }
@@ -69,8 +73,10 @@ impl<'a, A: Allocator> Memo<'a, A> {
     {
         let count = self.lists.len();
         let size = pairs.as_slice().len();
+        let support = Support::of(pairs.as_slice());
         let number = self.lists.number(pairs)?;
         if self.lists.len() > count {
+            self.supports.push(support)?;
             self.room = self.room.saturating_sub(size);
         }
         Ok(number)
@@ -112,15 +118,41 @@ impl<'a, A: Allocator> Memo<'a, A> {
         Ok(joined)
     }
 
+    /// The number of ways to choose a pair of each side.
+    fn ways(&self, key: &JoinKey) -> usize
+        requires within { key.now.left < length self.now.lists.keys × key.now.right < length self.now.lists.keys }
+    {
+        self.pairs(key.left)
+            .len()
+            .saturating_mul(self.pairs(key.right).len())
+    }
+
     /// Whether there is room for all joins of a pair of each side.
     pub(crate) fn has_room(&self, key: &JoinKey) -> bool
         requires within { key.now.left < length self.now.lists.keys × key.now.right < length self.now.lists.keys }
     {
-        let ways = self
-            .pairs(key.left)
-            .len()
-            .saturating_mul(self.pairs(key.right).len());
-        ways < self.room
+        self.ways(key) < self.room
+    }
+
+    /// The literals and targets of the list with this number.
+    fn support(&self, list: usize) -> Support {
+        self.supports
+            .get(list)
+            .copied()
+            .unwrap_or(Support::nothing())
+    }
+
+    /// What a join costs: first the number of literals and targets that it adds to the side that has more of them, then the number of ways.
+    pub(crate) fn cost(&self, key: &JoinKey) -> (usize, usize)
+        requires within { key.now.left < length self.now.lists.keys × key.now.right < length self.now.lists.keys }
+    {
+        let left = self.support(key.left);
+        let right = self.support(key.right);
+        let added = left
+            .together(&right)
+            .size()
+            .saturating_sub(left.size().max(right.size()));
+        (added, self.ways(key))
     }
 
     /// Gives up room for `count` items that are stored elsewhere.

@@ -89,6 +89,14 @@ impl Support {
         }
     }
 
+    /// The number of its literals and targets.
+    pub(crate) fn size(&self) -> usize {
+        self.positive.invariant();
+        self.negative.invariant();
+        self.targets.invariant();
+        self.positive.count() + self.negative.count() + self.targets.count()
+    }
+
     /// Whether a literal or a row is in both.
     pub(crate) fn shares_some(&self, other: &Support) -> bool
         ensures { result ≡ independence.shares_some self.now other.now }

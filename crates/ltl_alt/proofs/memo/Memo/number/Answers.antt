@@ -3,8 +3,8 @@ use Rattle.ltl_alt.specs.ListHash.{same_pairs, pairs_Decides}
 use Rattle.ltl_alt.proofs.MapLaws.{stored_at, longer_new}
 use Rattle.ltl_alt.proofs.memo.Memo.number.Goals as goal
 
-pub returns-then-len-count-clause-number : goal.returns-then-len-count-clause-number
-returns-then-len-count-clause-number g c =
+pub returns-in_ok-push-clause-number : goal.returns-in_ok-push-clause-number
+returns-in_ok-push-clause-number g c =
     let (x, e, d) = c.in_ok-number.ensures.stored in
     let at = stored_at [] c.number.new.self.keys c.in_ok-number.number x e in
     (at.0, at.1 ∙ sym ((pairs_Decides c.args.pairs x).0 d))
