@@ -15,7 +15,7 @@ use crate::pair::Pair;
 use crate::pair_set::PairSet;
 use crate::prune::prune;
 use crate::rule::Pruning;
-use crate::support::Support;
+use crate::support::Extent;
 use indexmap::IndexMap;
 use ltl_automaton::Interner;
 use std::alloc::{AllocError, Allocator};
@@ -37,8 +37,8 @@ pub(crate) struct Memo<'a, A: Allocator> {
     pub(crate) lists: Interner<'a, PairSet<'a, A>, A>,
     /// For each join that was made the number of the resulting list.
     pub(crate) joins: IndexMap<JoinKey, usize, BuildHasherDefault<FoldHasher>, &'a A>,
-    /// The literals and targets of each list.
-    supports: Vec<Support, &'a A>,
+    /// The extent of each list.
+    extents: Vec<Extent, &'a A>,
     /// How many more pairs, joins and transitions may be remembered.
     room: usize,
 }
@@ -52,7 +52,7 @@ impl<'a, A: Allocator> Memo<'a, A> {
         Memo {
             lists: Interner::new(alloc),
             joins: IndexMap::new(alloc),
-            supports: Vec::new(alloc),
+            extents: Vec::new(alloc),
             room: ROOM,
         }
     }
@@ -73,10 +73,10 @@ impl<'a, A: Allocator> Memo<'a, A> {
     {
         let count = self.lists.len();
         let size = pairs.as_slice().len();
-        let support = Support::of(pairs.as_slice());
+        let extent = Extent::of(pairs.as_slice());
         let number = self.lists.number(pairs)?;
         if self.lists.len() > count {
-            self.supports.push(support)?;
+            self.extents.push(extent)?;
             self.room = self.room.saturating_sub(size);
         }
         Ok(number)
@@ -134,24 +134,17 @@ impl<'a, A: Allocator> Memo<'a, A> {
         self.ways(key) < self.room
     }
 
-    /// The literals and targets of the list with this number.
-    fn support(&self, list: usize) -> Support {
-        self.supports
-            .get(list)
-            .copied()
-            .unwrap_or(Support::nothing())
+    /// The extent of the list with this number.
+    fn extent(&self, list: usize) -> Extent {
+        self.extents.get(list).copied().unwrap_or(Extent::nothing())
     }
 
-    /// What a join costs: first the number of literals and targets that it adds to the side that has more of them, then the number of ways.
+    /// What a join costs: first the number of literals and targets that it has and the larger list hasn't, then the number of ways. It affects the order
+    /// of joins alone.
     pub(crate) fn cost(&self, key: &JoinKey) -> (usize, usize)
         requires within { key.now.left < length self.now.lists.keys × key.now.right < length self.now.lists.keys }
     {
-        let left = self.support(key.left);
-        let right = self.support(key.right);
-        let added = left
-            .together(&right)
-            .size()
-            .saturating_sub(left.size().max(right.size()));
+        let added = self.extent(key.left).added(&self.extent(key.right));
         (added, self.ways(key))
     }
 

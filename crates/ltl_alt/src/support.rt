@@ -90,7 +90,7 @@ impl Support {
     }
 
     /// The number of its literals and targets.
-    pub(crate) fn size(&self) -> usize {
+    fn size(&self) -> usize {
         self.positive.invariant();
         self.negative.invariant();
         self.targets.invariant();
@@ -129,6 +129,38 @@ impl Clone for Support {
 }
 
 impl Copy for Support {}
+
+/// The literals and targets of a list of pairs, and their number.
+#[derive(Clone, Copy)]
+pub(crate) struct Extent {
+    support: Support,
+    size: usize,
+}
+
+impl Extent {
+    /// That of a list without pairs.
+    pub(crate) fn nothing() -> Extent {
+        Extent {
+            support: Support::nothing(),
+            size: 0,
+        }
+    }
+
+    /// That of these pairs.
+    pub(crate) fn of(pairs: &[Pair]) -> Extent {
+        let support = Support::of(pairs);
+        Extent {
+            support,
+            size: support.size(),
+        }
+    }
+
+    /// The number of literals and targets that a join of both lists has and the larger list hasn't.
+    pub(crate) fn added(&self, other: &Extent) -> usize {
+        let both = self.support.together(&other.support);
+        both.size().saturating_sub(self.size.max(other.size))
+    }
+}
 
 /// The numbers of one kind that a pair with this cube and these targets needs.
 #[inline(always)]
