@@ -32,6 +32,10 @@ HasLater words a = (k : ℕ) × (a < k) × (k < 4) × (slice_index words k ≢ 0
 abbrev pub word_alone : ℕ → ℕ → ℕ
 word_alone i k = cond (nat_eq (i / 64) k) (2 ^ (i % 64)) 0
 
+-- the words before this one are zeros
+abbrev pub AreZerosBelow : List ℕ → ℕ → Type 0
+AreZerosBelow words at = (k : ℕ) → k < at → slice_index words k ≡ 0
+
 -- bit i is the lowest one
 pub record IsLowest (words : List ℕ) (i : ℕ) : Type 0 where
   pub below : i < 256

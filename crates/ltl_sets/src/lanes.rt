@@ -1,9 +1,9 @@
 // Bit sets of 256 bits in four words: bit i is bit i % 64 of word i / 64.
 
-ghost use Rattle.std.specs.Prelude.{◌≡◌, ℕ, ◌<◌, cond, nat_eq, IfSome, MatchOption, fold};
+ghost use Rattle.std.specs.Prelude.{◌≡◌, ℕ, ◌<◌, cond, nat_eq, IfSome, MatchOption, fold, slice_index};
 ghost use Rattle.std.specs.Bool.{Decides, beq};
 ghost use Rattle.std.specs.declared.cmp.Ordering.TheVariants.{Less, Greater};
-ghost use Rattle.ltl_sets.specs.Words.{IsWords, bit_in, HasNone, Reaches, HasLater, FindsLowest, IsLowest, LosesBit, word_alone, hash_of, mixed};
+ghost use Rattle.ltl_sets.specs.Words.{AreZerosBelow, IsWords, bit_in, HasNone, Reaches, HasLater, FindsLowest, IsLowest, LosesBit, word_alone, hash_of, mixed};
 
 use std::cmp::Ordering;
 use std::hash::{Hash, Hasher};
@@ -70,20 +70,40 @@ fn has_later(words: &[u64; 4], at: usize) -> bool
     ((at < 1) & (words[1] != 0)) | ((at < 2) & (words[2] != 0)) | ((at < 3) & (words[3] != 0))
 }
 
-// Clears the lowest bit that is set, and returns its number.
+// Clears the lowest bit that is set, and returns its number. The word at this index is the first one that isn't zero.
+#[inline(always)]
+fn take_from(words: &mut [u64; 4], at: usize) -> usize
+    requires inside { at < 4 }
+    requires some { 0 < slice_index words.old at }
+    requires zeros { AreZerosBelow words.old at }
+    ensures words { IsWords words.new }
+    ensures lowest { IsLowest words.old result }
+    ensures rest { LosesBit words.old result words.new }
+{
+    let word = words[at];
+    let place = word.trailing_zeros();
+    words[at] = word & !(1 << place);
+    64 * at + place as usize
+}
+
+// Clears the lowest bit that is set, and returns its number. All indices are constants, so that the words can stay in registers.
 #[inline(always)]
 pub(crate) fn take_lowest(words: &mut [u64; 4]) -> Option<usize>
     ensures words { IsWords words.new }
     ensures found { FindsLowest words.old result }
     ensures rest { MatchOption result (words.new ≡ words.old) (λ i. LosesBit words.old i words.new) }
 {
-    'lanes: for at in 0..4 {
-        let word = words[at];
-        if word != 0 {
-            let place = word.trailing_zeros();
-            words[at] = word & !(1 << place);
-            return Some(64 * at + place as usize);
-        }
+    if words[0] != 0 {
+        return Some(take_from(words, 0));
+    }
+    if words[1] != 0 {
+        return Some(take_from(words, 1));
+    }
+    if words[2] != 0 {
+        return Some(take_from(words, 2));
+    }
+    if words[3] != 0 {
+        return Some(take_from(words, 3));
     }
     None
 }
