@@ -1,5 +1,5 @@
 -- Sets, stored by column: for each number, the indices of the sets that have it.
-use Rattle.std.specs.Prelude.{◌≡◌, ℕ, ◌<◌, ◌||◌, ◌&&◌, List, [], ◌∷◌, length, slice_index_or}
+use Rattle.std.specs.Prelude.{◌≡◌, ℕ, ◌<◌, ◌≤◌, List, [], length, slice_index_or}
 use Rattle.std.specs.Ordering.{nat_cmp}
 use Rattle.ltl_spec.specs.Collections.Sets.{Has, has}
 
@@ -29,11 +29,7 @@ pub record AreColumnsOf (sets : List (List ℕ)) (c : ColumnTable) : Type 0 wher
 abbrev pub IsWide : List ℕ → ℕ → Type 0
 IsWide met width = (e : ℕ) → Has met e → e < width
 
--- the index joins the columns of the members of the set, and no other column
-pub record IsPut (old : List (List ℕ)) (j : ℕ) (set : List ℕ) (new : List (List ℕ)) : Type 0 where
-  pub long : length new ≡ length old
-  pub each : (e i : ℕ) → e < length old → has nat_cmp i (set_at new e) ≡ (has nat_cmp i (set_at old e) || (has nat_cmp e set && has nat_cmp i (j ∷ [])))
-
--- each of the columns has the indices of the sets that have its number
-pub record AreFilled (sets columns : List (List ℕ)) : Type 0 where
+-- there is a column for each number below the width, and each column has the indices of the sets that have its number
+pub record AreFilled (sets : List (List ℕ)) (width : ℕ) (columns : List (List ℕ)) : Type 0 where
+  pub long : width ≤ length columns
   pub each : (e j : ℕ) → e < length columns → has nat_cmp j (set_at columns e) ≡ has nat_cmp e (set_at sets j)

@@ -1,9 +1,9 @@
 //! Lists of sets, stored by column: for each number, the indices of the sets that have it.
 
-ghost use Rattle.std.specs.Prelude.{◌≡◌, ◌<◌, ◌≤◌, ℕ, [], length, replicate, IfOk, All};
-ghost use Rattle.least.specs.Columns.{AreColumnsOf, AreFilled, IsMet, IsPut, IsWide, column_at};
+ghost use Rattle.std.specs.Prelude.{◌≡◌, ◌<◌, ◌≤◌, length, IfOk, All};
+ghost use Rattle.least.specs.Columns.{AreColumnsOf, AreFilled, IsMet, IsWide, column_at};
 
-use ltl_sets::RowSet;
+use ltl_sets::{OCTET, RowSet, octet};
 use std::alloc::{AllocError, Allocator};
 use std::marker::Model;
 
@@ -35,10 +35,11 @@ fn together(sets: &[RowSet]) -> RowSet
     all
 }
 
-/// A number above all members.
+/// A number above all members, which is at most the limit.
 #[tactic(auto, using(crate::proofs::ColumnLaws::wide_step, crate::proofs::ColumnLaws::wide_fits, crate::proofs::ColumnLaws::wide_ends))]
 fn width(met: &RowSet) -> usize
-    ensures { IsWide met.now result }
+    ensures above { IsWide met.now result }
+    ensures inside { result ≤ RowSet.LIMIT }
 {
     met.invariant();
     let mut width = 0;
@@ -49,33 +50,23 @@ fn width(met: &RowSet) -> usize
     width
 }
 
-/// Puts an index into the columns of the members of a set.
-#[tactic(auto, using(crate::proofs::ColumnLaws::put_begins, crate::proofs::ColumnLaws::put_past, crate::proofs::ColumnLaws::put_ends))]
-#[inline(always)]
-fn put(columns: &mut [RowSet], j: usize, set: &RowSet)
-    requires { j < RowSet.LIMIT }
-    ensures { IsPut columns.old j set.now columns.new }
-{
-    let index = RowSet::single(j);
-    let mut rest = set.iter();
-    'members: while let Some(e) = rest.next() {
-        if e < columns.len() {
-            columns[e] = columns[e].union(&index);
-        }
-    }
-}
-
-/// Fills empty columns with the indices of the sets.
-#[tactic(auto, using(crate::proofs::ColumnLaws::fill_begins, crate::proofs::ColumnLaws::fill_step, crate::proofs::ColumnLaws::fill_ends))]
-fn fill(columns: &mut [RowSet], sets: &[RowSet])
+/// The columns of the numbers below the width, and of the next ones up to a multiple of eight.
+#[tactic(auto, using(crate::proofs::ColumnLaws::fill_step))]
+fn filled<'a, A: Allocator>(
+    alloc: &'a A,
+    sets: &[RowSet],
+    width: usize,
+) -> Result<Vec<RowSet, &'a A>, AllocError>
     requires few { length sets.now ≤ RowSet.LIMIT }
-    requires empty { columns.old ≡ replicate (length columns.old) [] }
-    ensures long { length columns.new ≡ length columns.old }
-    ensures filled { AreFilled sets.now columns.new }
+    requires inside { width ≤ RowSet.LIMIT }
+    ensures { IfOk result (λ v. AreFilled sets.now width v.items) }
 {
-    'sets: for j in 0..sets.len() {
-        put(columns, j, &sets[j]);
+    let octets = width.div_ceil(OCTET);
+    let mut columns = Vec::with_capacity(alloc, octets * OCTET)?;
+    'octets: for k in 0..octets {
+        columns.extend_from_slice(&octet(sets, k))?;
     }
+    Ok(columns)
 }
 
 impl<'a, A: Allocator> Columns<'a, A> {
@@ -85,9 +76,7 @@ impl<'a, A: Allocator> Columns<'a, A> {
         ensures { IfOk result (AreColumnsOf sets.now) }
     {
         let met = together(sets);
-        let mut columns = Vec::new(alloc);
-        columns.resize(width(&met), RowSet::empty())?;
-        fill(columns.as_mut_slice(), sets);
+        let columns = filled(alloc, sets, width(&met))?;
         Ok(Columns { met, columns })
     }
 

@@ -1,5 +1,5 @@
 -- What the looks at four words find.
-use Rattle.std.proofs.Common.{◌≡◌, ◌≢◌, ◌∙◌, ap, sym, refl, subst, ℕ, zero, suc, ◌+◌, ◌-◌, ◌*◌, ◌/◌, ◌%◌, ◌^◌, ◌<◌, ◌≤◌, w64, bit_and, bit_or, arith, Bool, true, false, cond, not, ◌||◌, ◌&&◌, ◌⊎◌, inl, inr, nat_eq, ap₂, List, [], ◌∷◌, length, get_or, map}
+use Rattle.std.proofs.Common.{◌≡◌, ◌≢◌, ◌∙◌, min, ap, sym, refl, subst, ℕ, zero, suc, ◌+◌, ◌-◌, ◌*◌, ◌/◌, ◌%◌, ◌^◌, ◌<◌, ◌≤◌, w64, bit_and, bit_or, arith, Bool, true, false, cond, not, ◌||◌, ◌&&◌, ◌⊎◌, inl, inr, nat_eq, ap₂, List, [], ◌∷◌, length, get_or, map}
 use Rattle.std.specs.Prelude.{Option, Some, None}
 use Rattle.std.specs.Int.{bit_at, bit_not, trailing_zeros}
 use Rattle.std.specs.Bool.{Decides}
@@ -8,7 +8,7 @@ use Rattle.std.specs.Simd.Lanes.{fold_l}
 use Rattle.std.proofs.Math.ListN.{set}
 use Rattle.std.proofs.lemmas.Bool.Decides.{nat_tests, Decides-eqb, Decides-like, Decides-or}
 use Rattle.std.proofs.lemmas.Nat.{le_or_l, le_or_r, shr-shr, shr_le}
-use Rattle.std.proofs.lemmas.Nat.Bits.{bit_at-lt, bit_at-zero, bit_at-pow_same, bit_at-pow_other, bit_at-trailing_zeros, bit_at_clear_same, bit_at_clear_other, bit_at_above, same_from_bits_below}
+use Rattle.std.proofs.lemmas.Nat.Bits.{bit_at-lt, bit_at-zero, bit_at_and, bit_at_ones, bit_at-pow_same, bit_at-pow_other, bit_at-trailing_zeros, bit_at_clear_same, bit_at_clear_other, bit_at_above, same_from_bits_below}
 use Rattle.std.proofs.lemmas.List.{get_or_past, get_or-set_same, get_or-set_other}
 use Rattle.std.proofs.lemmas.List.FromFn.{get_or-map-range_with_len}
 use Rattle.ltl_sets.specs.Words.{IsWords, bit_in, HasNone, Reaches, HasLater, FindsLowest, word_alone, IsLowest, LosesBit}
@@ -243,3 +243,19 @@ chosen_first false x y z e f = cc
 pub chosen_second : {A : Type 0} (b : Bool) (x y z : A) → b ≡ false → z ≡ y → z ≡ cond b x y
 chosen_second true x y z e f = cc
 chosen_second false x y z e f = f
+
+-- ---- bytes
+
+-- bit i of byte k
+pub byte_bit : (ws : List ℕ) (k i : ℕ) → i < 8 → nat_eq (bit_at (bit_and (get_or ws (k / 8) 0 / 2 ^ (8 * (k % 8))) 255) i) 1 ≡ bit_in ws (8 * k + i)
+byte_bit ws k i h =
+    let n = get_or ws (k / 8) 0 in
+    ap (λ m. nat_eq m 1) (
+    bit_at_and (n / 2 ^ (8 * (k % 8))) 255 i
+    ∙ ap (min (bit_at (n / 2 ^ (8 * (k % 8))) i)) (bit_at_ones 8 i h)
+    ∙ least_one (bit_at (n / 2 ^ (8 * (k % 8))) i) (bit_at-lt (n / 2 ^ (8 * (k % 8))) i)
+    ∙ shifted_bit n (8 * (k % 8)) i
+    ∙ ap₂ (λ a b. bit_at (get_or ws a 0) b) (omega (arith, h)) (omega (arith, h)))
+  where
+    least_one : (x : ℕ) → x < 2 → min x 1 ≡ x
+    least_one x h = omega arith

@@ -4,3 +4,4 @@ pub mod CubeOrderLaws
 pub mod LaneLaws
 pub mod LiteralsLaws
 pub mod RowSetLaws
+pub mod TransposedLaws

@@ -1,6 +1,7 @@
 // Bit sets of 256 bits in four words: bit i is bit i % 64 of word i / 64.
 
-ghost use Rattle.std.specs.Prelude.{◌≡◌, ℕ, ◌<◌, cond, nat_eq, IfSome, MatchOption, fold, slice_index};
+ghost use Rattle.std.specs.Prelude.{◌≡◌, ℕ, ◌<◌, cond, nat_eq, ◌+◌, ◌*◌, IfSome, MatchOption, fold, slice_index};
+ghost use Rattle.std.specs.Int.{bit_at};
 ghost use Rattle.std.specs.Bool.{Decides, beq};
 ghost use Rattle.std.specs.declared.cmp.Ordering.TheVariants.{Less, Greater};
 ghost use Rattle.ltl_sets.specs.Words.{AreZerosBelow, IsWords, bit_in, HasNone, Reaches, HasLater, FindsLowest, IsLowest, LosesBit, word_alone, hash_of, mixed};
@@ -17,6 +18,15 @@ pub(crate) fn has(lanes: &u64x4, i: usize) -> bool
     ensures { result ≡ bit_in lanes.now i }
 {
     (lanes.to_array()[i / 64] >> (i % 64)) & 1 == 1
+}
+
+// Byte k: its bit i is bit 8 * k + i.
+#[inline(always)]
+pub(crate) fn byte(lanes: &u64x4, k: usize) -> u8
+    requires { k < 32 }
+    ensures { (i : ℕ) → i < 8 → nat_eq (bit_at result i) 1 ≡ bit_in lanes.now (8 * k + i) }
+{
+    ((lanes.as_array()[k / 8] >> (8 * (k % 8))) & 255) as u8
 }
 
 // Word k of the set that has bit i alone.

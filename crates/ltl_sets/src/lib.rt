@@ -18,7 +18,9 @@ pub mod cube;
 mod lanes;
 pub mod literal;
 pub mod row_set;
+pub mod transposed;
 
 pub use cube::{Cube, Literals};
 pub use literal::Literal;
 pub use row_set::{Members, RowSet};
+pub use transposed::{OCTET, octet};

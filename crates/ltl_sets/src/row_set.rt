@@ -1,7 +1,8 @@
 //! Sets of numbers below `RowSet::LIMIT`.
 
-ghost use Rattle.std.specs.Prelude.{◌≡◌, ℕ, ◌<◌, ◌≤◌, nat_lt, List, [], ◌∷◌, length, not};
+ghost use Rattle.std.specs.Prelude.{◌≡◌, ℕ, ◌+◌, ◌*◌, ◌<◌, ◌≤◌, nat_eq, nat_lt, List, [], ◌∷◌, length, not};
 ghost use Rattle.std.specs.List.{AllByRecursion, filter, list_any};
+ghost use Rattle.std.specs.Int.{bit_at};
 ghost use Rattle.std.specs.Ordering.{nat_cmp};
 ghost use Rattle.std.specs.Cmp.Lexicographic.{slice_cmp};
 ghost use Rattle.std.specs.Iterator.{YieldsFirst, item_count};
@@ -182,6 +183,15 @@ impl RowSet {
         Members {
             words: self.lanes.to_array(),
         }
+    }
+
+    // Byte k: its bit i says whether number 8 * k + i is a member.
+    #[inline(always)]
+    pub(crate) fn byte(&self, k: usize) -> u8
+        requires { k < 32 }
+        ensures { (i : ℕ) → i < 8 → nat_eq (bit_at result i) 1 ≡ sets.has nat_cmp (8 * k + i) self.now }
+    {
+        lanes::byte(&self.lanes, k)
     }
 
     /// Gives a caller's proof the invariant: the members are sorted and below [`RowSet::LIMIT`]. It does nothing when it runs.
