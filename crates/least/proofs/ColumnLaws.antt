@@ -5,11 +5,14 @@ use Rattle.std.specs.Ordering.{nat_cmp}
 use Rattle.std.proofs.lemmas.List.{length-append, get_or-append_right, get_or_append_left, get_or_past, take_all}
 use Rattle.std.proofs.lemmas.List.Elements.{All-get_or, All-more, All-weaker}
 use Rattle.ltl_spec.specs.Collections.Sets.{Has, has, union}
-use Rattle.ltl_sets.specs.Transposed.{IsOctet}
+use Rattle.ltl_sets.specs.Transposed.{AreMet, IsOctet}
 use Rattle.ltl_spec.proofs.Collections.Orders.{nat_linear}
 use Rattle.ltl_spec.proofs.Collections.SetLaws.{union_left, union_right}
 use Rattle.least.specs.Columns.{AreColumnsOf, AreFilled, IsMet, IsWide, set_at}
 use Rattle.least.proofs.HasLaws.{false_if, from_has}
+
+inside_or_past : (a b : ℕ) → (a < b) ⊎ (b ≤ a)
+inside_or_past a b = grind arith
 
 -- ---- the numbers that are met
 
@@ -20,8 +23,11 @@ met_more all new set sets i h e n f =
     (All-weaker (IsMet all) (IsMet (union nat_cmp all set)) (λ x m z p. union_left nat_linear all set z (m z p)) (take i sets) f)
     (subst (IsMet (union nat_cmp all set)) e (λ z p. union_right nat_linear all set z p)))
 
-pub met_whole : (all : List ℕ) (sets : List (List ℕ)) (i : ℕ) → length sets ≤ i → All (IsMet all) (take i sets) → All (IsMet all) sets
-met_whole all sets i h = subst (All (IsMet all)) (take_all i sets h)
+pub met_whole : (all : List ℕ) (sets : List (List ℕ)) (i : ℕ) → length sets ≤ i → All (IsMet all) (take i sets) → AreMet sets all
+met_whole all sets i h f e j m = elim (inside_or_past j (length sets)) [
+  | inl l ↦ All-get_or (IsMet all) sets j [] l (subst (All (IsMet all)) (take_all i sets h) f) e m
+  | inr l ↦ absurd (subst (λ s. Has s e) (get_or_past sets j [] l) m)
+]
 
 -- ---- a number above all members
 
@@ -59,7 +65,7 @@ pub record AreFilledTo (sets : List (List ℕ)) (k : ℕ) (columns : List (List 
 pub fill_step : (sets columns new octet : List (List ℕ)) (k : ℕ) → length octet ≡ 8 → IsOctet sets k octet → new ≡ columns ++ octet → AreFilledTo sets k columns → AreFilledTo sets (k + 1) new
 fill_step sets columns new octet k long eight is f = record {
   long = ap length is ∙ length-append columns octet ∙ omega (arith, f.long, long);
-  each = λ e j h. elim (side e (8 * k)) [
+  each = λ e j h. elim (inside_or_past e (8 * k)) [
     | inl l ↦ ap (λ cs. has nat_cmp j (set_at cs e)) is ∙ ap (has nat_cmp j) (get_or_append_left columns octet [] e (omega (arith, f.long))) ∙ f.each e j l
     | inr l ↦
         ap (λ cs. has nat_cmp j (set_at cs e)) is
@@ -68,31 +74,19 @@ fill_step sets columns new octet k long eight is f = record {
         ∙ ap (λ x. has nat_cmp x (set_at sets j)) (omega arith)
   ];
 }
-  where
-    side : (a b : ℕ) → (a < b) ⊎ (b ≤ a)
-    side a b = grind arith
 
 -- ---- all columns
 
-pub columns_of : (sets columns : List (List ℕ)) (met : List ℕ) (width : ℕ) → All (IsMet met) sets → IsWide met width → AreFilled sets width columns → AreColumnsOf sets (record { met = met; columns = columns })
+pub columns_of : (sets columns : List (List ℕ)) (met : List ℕ) (width : ℕ) → AreMet sets met → IsWide met width → AreFilled sets width columns → AreColumnsOf sets (record { met = met; columns = columns })
 columns_of sets columns met width all wide filled = record {
   each = λ e j. elim (inside_or_past e (length columns)) [
     | inl l ↦ filled.each e j l
     | inr l ↦
         ap (has nat_cmp j) (get_or_past columns e [] l)
-        ∙ sym (false_if (has nat_cmp e (set_at sets j)) (λ t. past e (wide e (is_met e j (from_has e (set_at sets j) t))) l))
+        ∙ sym (false_if (has nat_cmp e (set_at sets j)) (λ t. past e (wide e (all e j (from_has e (set_at sets j) t))) l))
   ];
-  met = is_met;
+  met = all;
 }
   where
-    inside_or_past : (a b : ℕ) → (a < b) ⊎ (b ≤ a)
-    inside_or_past a b = grind arith
-
     past : (e : ℕ) → e < width → length columns ≤ e → ⊥
     past e l h = absurd (omega (arith, filled.long))
-
-    is_met : (e j : ℕ) → Has (set_at sets j) e → Has met e
-    is_met e j h = elim (inside_or_past j (length sets)) [
-      | inl l ↦ All-get_or (IsMet met) sets j [] l all e h
-      | inr l ↦ absurd (subst (λ s. Has s e) (get_or_past sets j [] l) h)
-    ]

@@ -1,5 +1,5 @@
--- Which numbers are in a set of one number, in a union, and in the part of a set that passes a test.
-use Rattle.std.proofs.Common.{◌≡◌, ◌≢◌, ℕ, Bool, true, false, ◌&&◌, ◌||◌, ◌⊎◌, inl, inr, List, [], ◌∷◌, refl, sym}
+-- Which numbers are in a union, and in the part of a set that passes a test.
+use Rattle.std.proofs.Common.{◌≡◌, ℕ, Bool, true, false, ◌&&◌, ◌||◌, ◌⊎◌, inl, inr, List, refl, sym}
 use Rattle.std.specs.List.{filter}
 use Rattle.std.specs.Ordering.{nat_cmp}
 use Rattle.std.proofs.lemmas.Bool.Decides.{Decides-and, Decides-like, same_from_decides}
@@ -52,28 +52,3 @@ has_filter p j xs =
 pub false_if : (b : Bool) → (b ≡ true → ⊥) → b ≡ false
 false_if true f = absurd (f refl)
 false_if false f = refl
-
--- ---- a set of one
-
-pub one_same : (j : ℕ) → has nat_cmp j (j ∷ []) ≡ true
-one_same j = has_from j (j ∷ []) (inl refl)
-
-only : (i j : ℕ) → Has (j ∷ []) i → i ≡ j
-only i j (inl e) = e
-only i j (inr h) = absurd h
-
-pub one_other : (i j : ℕ) → i ≢ j → has nat_cmp i (j ∷ []) ≡ false
-one_other i j n = false_if (has nat_cmp i (j ∷ [])) (λ e. n (only i j (from_has i (j ∷ []) e)))
-
-pub first_in : (e : ℕ) (rest : List ℕ) → has nat_cmp e (e ∷ rest) ≡ true
-first_in e rest = has_from e (e ∷ rest) (inl refl)
-
-later : (e f : ℕ) (rest : List ℕ) → e ≢ f → Has (f ∷ rest) e → Has rest e
-later e f rest n (inl s) = absurd (n s)
-later e f rest n (inr h) = h
-
-pub later_in : (e f : ℕ) (rest : List ℕ) → e ≢ f → has nat_cmp e (f ∷ rest) ≡ has nat_cmp e rest
-later_in e f rest n =
-    same_truth (has nat_cmp e (f ∷ rest)) (has nat_cmp e rest)
-    (λ t. has_from e rest (later e f rest n (from_has e (f ∷ rest) t)))
-    (λ t. has_from e (f ∷ rest) (inr (from_has e rest t)))

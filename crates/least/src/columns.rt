@@ -1,7 +1,8 @@
 //! Lists of sets, stored by column: for each number, the indices of the sets that have it.
 
-ghost use Rattle.std.specs.Prelude.{◌≡◌, ◌<◌, ◌≤◌, length, IfOk, All};
-ghost use Rattle.least.specs.Columns.{AreColumnsOf, AreFilled, IsMet, IsWide, column_at};
+ghost use Rattle.std.specs.Prelude.{◌≡◌, ◌<◌, ◌≤◌, length, IfOk};
+ghost use Rattle.ltl_sets.specs.Transposed.{AreMet};
+ghost use Rattle.least.specs.Columns.{AreColumnsOf, AreFilled, IsWide, column_at};
 
 use ltl_sets::{OCTET, RowSet, octet};
 use std::alloc::{AllocError, Allocator};
@@ -26,7 +27,7 @@ impl<'a, A: Allocator> Model for Columns<'a, A> {
 
 /// The union of the sets.
 fn together(sets: &[RowSet]) -> RowSet
-    ensures { All (IsMet result) sets.now }
+    ensures { AreMet sets.now result }
 {
     let mut all = RowSet::empty();
     'sets: for set in sets {
@@ -55,16 +56,18 @@ fn width(met: &RowSet) -> usize
 fn filled<'a, A: Allocator>(
     alloc: &'a A,
     sets: &[RowSet],
+    met: &RowSet,
     width: usize,
 ) -> Result<Vec<RowSet, &'a A>, AllocError>
     requires few { length sets.now ≤ RowSet.LIMIT }
+    requires met { AreMet sets.now met.now }
     requires inside { width ≤ RowSet.LIMIT }
     ensures { IfOk result (λ v. AreFilled sets.now width v.items) }
 {
     let octets = width.div_ceil(OCTET);
     let mut columns = Vec::with_capacity(alloc, octets * OCTET)?;
     'octets: for k in 0..octets {
-        columns.extend_from_slice(&octet(sets, k))?;
+        columns.extend_from_slice(&octet(sets, met, k))?;
     }
     Ok(columns)
 }
@@ -76,7 +79,7 @@ impl<'a, A: Allocator> Columns<'a, A> {
         ensures { IfOk result (AreColumnsOf sets.now) }
     {
         let met = together(sets);
-        let columns = filled(alloc, sets, width(&met))?;
+        let columns = filled(alloc, sets, &met, width(&met))?;
         Ok(Columns { met, columns })
     }
 

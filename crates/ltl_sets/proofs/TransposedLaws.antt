@@ -11,11 +11,13 @@ use Rattle.std.proofs.lemmas.List.{get_or-drop, get_or-set_other, get_or-set_sam
 use Rattle.std.proofs.lemmas.Simd.{bit_mask_l, bitmask_splat, zip2_splat}
 use Rattle.std.proofs.Math.ListN.{get_or-map}
 use Rattle.ltl_spec.specs.Collections.Sets.{has}
-use Rattle.ltl_sets.specs.Transposed.{AreBytes, AreIndices}
+use Rattle.ltl_sets.specs.Transposed.{AreBytes, AreIndices, AreMet, HaveNone, IsOctet}
 use Rattle.ltl_sets.specs.Words.{members}
 use Rattle.ltl_sets.specs.WordLaws.{place_below, word_below}
 use Rattle.ltl_sets.specs.PlaceLaws.{has_members, members_below}
-use Rattle.ltl_sets.proofs.RowSetLaws.{none_high}
+use Rattle.ltl_sets.proofs.RowSetLaws.{false_if, none_high}
+use Rattle.ltl_spec.proofs.Collections.Orders.{nat_linear}
+use Rattle.ltl_spec.proofs.Collections.SetLaws.{has_Decides}
 
 -- 64 bytes of the list
 pub part_is : (bs : List ℕ) (at n j : ℕ) → 64 ≤ n → j < 64 → get_or (chunk 0 64 (take n (drop at bs))) j 0 ≡ get_or bs (at + j) 0
@@ -121,3 +123,23 @@ indices_are bytes i a b c d long p q r s j = elim (inside_or_past j 256) [
     word (suc (suc zero)) j h l = r j l
     word (suc (suc (suc zero))) j h l = s j l
     word (suc (suc (suc (suc k)))) j h l = absurd (omega arith)
+
+-- ---- numbers that aren't met
+
+module _ (sets : List (List ℕ)) (met : List ℕ) (all : AreMet sets met) where
+  not_met : (e j : ℕ) → has nat_cmp e met ≡ false → has nat_cmp e (get_or sets j []) ≡ false
+  not_met e j f = false_if (has nat_cmp e (get_or sets j [])) (λ t. apart (has nat_cmp e met) ((has_Decides nat_linear e met).1 (all e j ((has_Decides nat_linear e (get_or sets j [])).0 t))) f)
+    where
+      apart : (b : Bool) → b ≡ true → b ≡ false → ⊥
+      apart b p q = cc
+
+  pub none_met : (k i : ℕ) (bytes : List ℕ) → i < 8 → AreBytes sets k bytes → has nat_cmp (8 * k + i) met ≡ false → HaveNone bytes i
+  none_met k i bytes h f n j = f i j h ∙ not_met (8 * k + i) j n
+
+  pub none_at_all : (k b : ℕ) (none : List ℕ) → none ≡ [] → b ≡ 0 → ((i : ℕ) → i < 8 → nat_eq (bit_at b i) 1 ≡ has nat_cmp (8 * k + i) met) → IsOctet sets k (replicate 8 none)
+  none_at_all k b none n e f i j h = ap (has nat_cmp j) (empties i 8) ∙ sym (not_met (8 * k + i) j (sym (f i h) ∙ ap (λ m. nat_eq (bit_at m i) 1) e ∙ zero_bit i))
+    where
+      empties : (i n : ℕ) → get_or (replicate n none) i [] ≡ []
+      empties i zero = refl
+      empties zero (suc m) = n
+      empties (suc i) (suc m) = empties i m

@@ -1,8 +1,8 @@
 //! Lists of sets, read by number: for each number, the indices of the sets that have it.
 
-ghost use Rattle.std.specs.Prelude.{◌≡◌, ℕ, ◌+◌, ◌*◌, ◌<◌, ◌≤◌, length, nat_eq, not, slice_index, bit_and};
+ghost use Rattle.std.specs.Prelude.{◌≡◌, ℕ, ◌+◌, ◌*◌, ◌<◌, ◌≤◌, length, false, nat_eq, not, slice_index, bit_and};
 ghost use Rattle.std.specs.Int.{bit_at};
-ghost use Rattle.ltl_sets.specs.Transposed.{AreBytes, AreIndices, IsOctet, IsPart};
+ghost use Rattle.ltl_sets.specs.Transposed.{AreBytes, AreIndices, AreMet, HaveNone, IsOctet, IsPart};
 
 use crate::row_set::RowSet;
 use std::simd::prelude::*;
@@ -71,16 +71,35 @@ fn indices_of(bytes: &[u8; 256], i: usize) -> RowSet
     }
 }
 
-/// For each of the eight numbers from `8 * k` on, the indices of the sets that have it.
-pub fn octet(sets: &[RowSet], k: usize) -> [RowSet; 8]
+// The indices of the bytes that have bit i, which none of them has if it isn't met.
+#[inline(always)]
+fn indices_if(is_met: bool, bytes: &[u8; 256], i: usize) -> RowSet
+    requires place { i < 8 }
+    requires unmet { is_met ≡ false → HaveNone bytes.now i }
+    ensures { AreIndices bytes.now i result }
+{
+    if is_met {
+        indices_of(bytes, i)
+    } else {
+        RowSet::empty()
+    }
+}
+
+/// For each of the eight numbers from `8 * k` on, the indices of the sets that have it. No set has a number that isn't in `met`, and its column isn't
+/// computed.
+pub fn octet(sets: &[RowSet], met: &RowSet, k: usize) -> [RowSet; 8]
     requires few { length sets.now ≤ RowSet.LIMIT }
+    requires met { AreMet sets.now met.now }
     requires below { k < 32 }
     ensures { IsOctet sets.now k result }
 {
-    let bytes = bytes_of(sets, k);
     let mut columns = [RowSet::empty(); 8];
+    if met.byte(k) == 0 {
+        return columns;
+    }
+    let bytes = bytes_of(sets, k);
     'numbers: for i in 0..8 {
-        columns[i] = indices_of(&bytes, i);
+        columns[i] = indices_if(met.contains(8 * k + i), &bytes, i);
     }
     columns
 }

@@ -110,3 +110,26 @@ fn columns_of_two_sets(rt: HostRuntime) -> Result<(), Fail> {
     assert!(rt; numbers(6).union(&second).is_subset(&columns.met()));
     Ok(())
 }
+
+/// The columns of 256 sets: set j has j, and 200 if j is a multiple of three.
+#[test]
+fn columns_of_the_most_sets(rt: HostRuntime) -> Result<(), Fail> {
+    let alloc = rt.alloc();
+    let mut sets = Vec::new(alloc);
+    let mut thirds = RowSet::single(200);
+    for j in 0..RowSet::LIMIT {
+        let mut set = RowSet::single(j);
+        if j % 3 == 0 {
+            set.insert(200);
+            thirds.insert(j);
+        }
+        sets.push(set)?;
+    }
+    assert!(rt; sets.len() <= RowSet::LIMIT);
+    let columns = Columns::of(&alloc, sets.as_slice())?;
+    for i in 0..RowSet::LIMIT {
+        assert!(rt; i == 200 || columns.column(i) == RowSet::single(i));
+    }
+    assert!(rt; columns.column(200) == thirds);
+    Ok(())
+}

@@ -1,6 +1,6 @@
 //! Tests of sets of rows and of cubes.
 
-use ltl_sets::{Cube, Literal, OCTET, RowSet, octet};
+use ltl_sets::{Cube, Literal, RowSet};
 use std::alloc::{AllocError, Global};
 use std::cmp::Ordering;
 
@@ -270,36 +270,6 @@ fn as_sorted_literals(rt: HostRuntime) -> Result<(), AllocError> {
                 literals.push((l.proposition, !l.positive))?;
             }
             assert!(rt; literals == both);
-        }
-    }
-    Ok(())
-}
-
-/// Of 256 sets, set j has j, and 200 if j is a multiple of three.
-#[test]
-fn octets_of_the_most_sets(rt: HostRuntime) -> Result<(), AllocError> {
-    let mut sets = Vec::new(rt.alloc());
-    let mut thirds = RowSet::empty();
-    for j in 0..RowSet::LIMIT {
-        let mut set = RowSet::single(j);
-        if j % 3 == 0 {
-            set.insert(200);
-            thirds.insert(j);
-        }
-        sets.push(set)?;
-    }
-    thirds.insert(200);
-    for k in 0..RowSet::LIMIT / OCTET {
-        let eight = octet(sets.as_slice(), k);
-        let columns = &eight[..];
-        for i in 0..columns.len() {
-            let number = OCTET * k + i;
-            let wanted = if number == 200 {
-                thirds
-            } else {
-                RowSet::single(number)
-            };
-            assert!(rt; columns[i] == wanted);
         }
     }
     Ok(())
