@@ -1,6 +1,6 @@
 //! Tests of the DOT texts of drawings.
 
-use ltl_dot::{Drawing, put_escaped};
+use ltl_pictures::{Drawing, put_escaped};
 use ltl_hoa::hoa_read;
 use ltl_streams::{OutputBuffer, WriterSink};
 use std::alloc::Global;

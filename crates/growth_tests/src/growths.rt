@@ -16,7 +16,7 @@ use ltl_hoa::{HoaFault, Marked, hoa_read};
 use ltl_sets::RowSet;
 use ltl_streams::WriterSink;
 use ltl_syntax::{Formula, ReadFault, read};
-use ltl_timeline::{TimelineFault, timeline_to};
+use ltl_pictures::{TimelineFault, timeline_to};
 use ltl_word::{Lasso, WordFault, holds};
 use refusing::Refusing;
 use std::alloc::{Allocator, Global};

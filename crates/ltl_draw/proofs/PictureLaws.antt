@@ -16,12 +16,12 @@ use Rattle.ltl_cli.specs.declared.refusal.Refusal.TheVariants.{CannotWrite, OutO
 use Rattle.ltl_cli.specs.Checks.{ReadsAutomaton}
 use Rattle.ltl_cli.specs.Refusals.{refusal_of}
 use Rattle.ltl_cli.specs.Runs.{Finishes}
-use Rattle.ltl_run.specs.declared.pick.Pick.{Pick}
-use Rattle.ltl_run.specs.declared.fault.RunFault.{RunFault}
-use Rattle.ltl_run.specs.declared.fault.RunFault.TheVariants as fault
-use Rattle.ltl_run.specs.Runs.{IsRun, IsRunOf, edge_of_pick, run_size}
-use Rattle.ltl_dot.specs.Picked.{IsPick}
-use Rattle.ltl_dot.specs.RunText.{RunPicture, picks_in, run_text}
+use Rattle.ltl_pictures.specs.declared.pick.Pick.{Pick}
+use Rattle.ltl_pictures.specs.declared.fault.RunFault.{RunFault}
+use Rattle.ltl_pictures.specs.declared.fault.RunFault.TheVariants as fault
+use Rattle.ltl_pictures.specs.Runs.{IsRun, IsRunOf, edge_of_pick, run_size}
+use Rattle.ltl_pictures.specs.Picked.{IsPick}
+use Rattle.ltl_pictures.specs.RunText.{RunPicture, picks_in, run_text}
 use Rattle.ltl_draw.specs.Plans.{Run}
 use Rattle.ltl_draw.specs.Runs.{DrawAnswers, IsOutcome, RunsOn, of_run}
 use Rattle.ltl_draw.proofs.RunLaws.{all_printed, nothing_printed, some_printed}

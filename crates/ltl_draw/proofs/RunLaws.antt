@@ -14,7 +14,7 @@ use Rattle.ltl_cli.specs.declared.refusal.Refusal.TheVariants.{OutOfMemory, Cann
 use Rattle.ltl_cli.specs.Checks.{ReadsAutomaton}
 use Rattle.ltl_cli.specs.Refusals.{of_plan, refusal_of}
 use Rattle.ltl_cli.specs.Runs.{Finishes, IsTold, Shows}
-use Rattle.ltl_dot.specs.DotText.{dot_text}
+use Rattle.ltl_pictures.specs.DotText.{dot_text}
 use Rattle.ltl_draw.specs.Messages.{draw_message}
 use Rattle.ltl_draw.specs.Plans.{Picture, Request}
 use Rattle.ltl_draw.specs.Runs.{DrawAnswers, IsOutcome, MayDraw, draw_refused, message_with, status_with}

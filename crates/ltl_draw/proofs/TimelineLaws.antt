@@ -19,10 +19,10 @@ use Rattle.ltl_cli.specs.declared.refusal.Refusal.TheVariants.{OutOfMemory}
 use Rattle.ltl_cli.specs.Refusals.{of_read, of_word, refusal_of}
 use Rattle.ltl_cli.specs.Runs.{Finishes}
 use Rattle.ltl_cli.proofs.MessageLaws.{flush_failed}
-use Rattle.ltl_timeline.specs.Timeline.{IsTruth, timeline, word_timeline}
-use Rattle.ltl_timeline.specs.TimelineView.{FailsToShow, HasTrueMarks}
-use Rattle.ltl_timeline.specs.declared.fault.TimelineFault.{TimelineFault}
-use Rattle.ltl_timeline.specs.declared.fault.TimelineFault.TheVariants as timeline_fault
+use Rattle.ltl_pictures.specs.Timeline.{IsTruth, timeline, word_timeline}
+use Rattle.ltl_pictures.specs.TimelineView.{FailsToShow, HasTrueMarks}
+use Rattle.ltl_pictures.specs.declared.fault.TimelineFault.{TimelineFault}
+use Rattle.ltl_pictures.specs.declared.fault.TimelineFault.TheVariants as timeline_fault
 use Rattle.ltl_draw.specs.Plans.{Timeline}
 use Rattle.ltl_draw.specs.Runs.{DrawAnswers, IsOutcome, of_timeline}
 use Rattle.ltl_draw.proofs.RunLaws.{all_printed, nothing_printed, some_printed}

@@ -18,13 +18,13 @@ use Rattle.ltl_cli.specs.Checks.{ReadsAutomaton}
 use Rattle.ltl_cli.specs.Refusals.{of_plan, refusal_of}
 use Rattle.ltl_cli.specs.Runs.{Finishes}
 use Rattle.ltl_spec.specs.Hoa.HoaReading.{MarkedAutomaton}
-use Rattle.ltl_dot.specs.DotText.{dot_text}
-use Rattle.ltl_dot.specs.RunText.{RunPicture, run_text}
-use Rattle.ltl_run.specs.Runs.{IsRunOf, run_size}
-use Rattle.ltl_run.specs.declared.fault.RunFault as run
-use Rattle.ltl_timeline.specs.Timeline.{word_timeline}
-use Rattle.ltl_timeline.specs.TimelineView.{FailsToShow, HasTrueMarks}
-use Rattle.ltl_timeline.specs.declared.fault.TimelineFault as timeline
+use Rattle.ltl_pictures.specs.DotText.{dot_text}
+use Rattle.ltl_pictures.specs.RunText.{RunPicture, run_text}
+use Rattle.ltl_pictures.specs.Runs.{IsRunOf, run_size}
+use Rattle.ltl_pictures.specs.declared.fault.RunFault as run
+use Rattle.ltl_pictures.specs.Timeline.{word_timeline}
+use Rattle.ltl_pictures.specs.TimelineView.{FailsToShow, HasTrueMarks}
+use Rattle.ltl_pictures.specs.declared.fault.TimelineFault as timeline
 use Rattle.ltl_draw.specs.Messages.{draw_message}
 use Rattle.ltl_draw.specs.Plans.{PlansFor, Request, Picture, Run, Timeline}
 

@@ -8,7 +8,7 @@ ghost use Rattle.ltl_cli.specs.Checks.{ReadsAutomaton};
 ghost use Rattle.ltl_cli.specs.Inputs.{WasStream, most_of_automaton};
 ghost use Rattle.ltl_cli.specs.Refusals.{TakesStep};
 ghost use Rattle.ltl_cli.specs.Runs.{Finishes, Shows, StaysAt};
-ghost use Rattle.ltl_dot.specs.DotText.{dot_text};
+ghost use Rattle.ltl_pictures.specs.DotText.{dot_text};
 ghost use Rattle.ltl_draw.specs.Plans.{Picture, request_in, requested};
 ghost use Rattle.ltl_draw.specs.Runs.{IsOutcome, MayDraw, NeedsNoInput};
 
@@ -17,7 +17,7 @@ use crate::request::Plan;
 use crate::run_picture::run_shown;
 use crate::timeline::shown;
 use ltl_cli::Refusal;
-use ltl_dot::Drawing;
+use ltl_pictures::Drawing;
 use ltl_hoa::{Marked, hoa_read_from};
 use ltl_streams::{ByteSink, ByteSource, WriteFault};
 use ltl_words::PlanFault;

@@ -7,16 +7,15 @@ ghost use Rattle.ltl_streams.specs.Streams.{Breaks};
 ghost use Rattle.ltl_cli.specs.Inputs.{WasStream, most_of_automaton};
 ghost use Rattle.ltl_cli.specs.Refusals.{TakesStep};
 ghost use Rattle.ltl_cli.specs.Runs.{Finishes};
-ghost use Rattle.ltl_dot.specs.RunText.{run_text};
+ghost use Rattle.ltl_pictures.specs.RunText.{run_text};
 ghost use Rattle.ltl_draw.specs.Plans.{Run};
 ghost use Rattle.ltl_draw.specs.Runs.{IsOutcome, RunsOn, of_run};
 
 use crate::draw::automaton_of;
 use crate::timeline::word_alone;
 use ltl_cli::Refusal;
-use ltl_dot::RunDrawing;
 use ltl_hoa::Marked;
-use ltl_run::{RunFault, accepting_run};
+use ltl_pictures::{RunDrawing, RunFault, accepting_run};
 use ltl_streams::{ByteSink, ByteSource, WriteFault};
 use ltl_word::Lasso;
 use std::alloc::Allocator;

@@ -7,15 +7,15 @@ ghost use Rattle.ltl_spec.specs.Tools.Programs.{ReadsFormula, ReadsWord};
 ghost use Rattle.ltl_spec.specs.Tools.Stage.{Open};
 ghost use Rattle.ltl_syntax.specs.FormulaView.{IsFormula, reading_of};
 ghost use Rattle.ltl_cli.specs.Refusals.{TakesStep};
-ghost use Rattle.ltl_timeline.specs.Timeline.{word_timeline};
-ghost use Rattle.ltl_timeline.specs.TimelineView.{HasTrueMarks};
+ghost use Rattle.ltl_pictures.specs.Timeline.{word_timeline};
+ghost use Rattle.ltl_pictures.specs.TimelineView.{HasTrueMarks};
 ghost use Rattle.ltl_draw.specs.Plans.{Timeline};
 ghost use Rattle.ltl_draw.specs.Runs.{IsOutcome, IsSent, of_timeline};
 
 use ltl_cli::Refusal;
 use ltl_streams::ByteSink;
 use ltl_syntax::{Formula, read};
-use ltl_timeline::{TimelineFault, timeline_to, word_timeline_to};
+use ltl_pictures::{TimelineFault, timeline_to, word_timeline_to};
 use ltl_word::Lasso;
 use std::alloc::Allocator;
 

@@ -2,7 +2,7 @@
 
 use ltl_streams::WriterSink;
 use ltl_syntax::read;
-use ltl_timeline::{timeline_to, word_timeline_to};
+use ltl_pictures::{timeline_to, word_timeline_to};
 use ltl_word::Lasso;
 use refusing::Refusing;
 use std::alloc::{Allocator, Global};

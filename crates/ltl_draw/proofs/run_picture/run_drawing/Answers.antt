@@ -1,7 +1,7 @@
 use Rattle.std.proofs.Common.{inl, refl, subst, sym}
 use Rattle.std.proofs.lemmas.Result.{err_from_is_err_and}
 use Rattle.std.specs.Prelude.{Ok}
-use Rattle.ltl_dot.specs.RunText.{RunPicture}
+use Rattle.ltl_pictures.specs.RunText.{RunPicture}
 use Rattle.ltl_draw.specs.Runs.{RunsOn}
 use Rattle.ltl_draw.proofs.PictureLaws.{picks_there, search_refused}
 use Rattle.ltl_draw.proofs.run_picture.run_drawing.Goals as goal

@@ -1,5 +1,0 @@
-use Rattle.ltl_dot.proofs.DrawnLaws.{are_drawn}
-use Rattle.ltl_dot.proofs.laws.each_edge_is_drawn.Goals as goal
-
-pub returns : goal.returns
-returns c = are_drawn

@@ -1,5 +1,0 @@
-use Rattle.ltl_dot.proofs.ShareLaws.{are_shown}
-use Rattle.ltl_dot.proofs.laws.each_edge_is_shown.Goals as goal
-
-pub returns : goal.returns
-returns c = λ picks A k. are_shown picks A k

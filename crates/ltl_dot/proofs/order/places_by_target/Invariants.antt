@@ -1,7 +1,0 @@
-use Rattle.std.specs.Prelude.{map}
-use Rattle.ltl_hoa.specs.MarkedView.{edge_of}
-use Rattle.ltl_models.proofs.PlacedLaws.{IsPlaced}
-use Rattle.ltl_dot.proofs.order.places_by_target.Given as goal
-
-abbrev pub invariant-loop-place : goal.invariant-loop-place
-invariant-loop-place g l = IsPlaced (map edge_of l.edges) l.place l.keys.items

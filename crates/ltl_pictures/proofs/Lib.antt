@@ -1,0 +1,15 @@
+pub mod ArrowLaws
+pub mod DrawnLaws
+pub mod EdgeLaws
+pub mod LetterLaws
+pub mod LineLaws
+pub mod NameLaws
+pub mod OrderLaws
+pub mod PickLaws
+pub mod PrintLaws
+pub mod PutLaws
+pub mod RunLaws
+pub mod ShareLaws
+pub mod StepLaws
+pub mod TimelineLaws
+pub mod WalkLaws

@@ -1,0 +1,140 @@
+-- The parts of the text, one after the other.
+use Rattle.std.proofs.Common.{◌≡◌, ◌∙◌, ap, ap₂, sym, refl, ℕ, zero, suc, ◌-◌, ◌<◌, Bool, true, false, List, [], ◌∷◌, ◌++◌, length, map, append_assoc, append-nil, slice_index_or, drop, arith}
+use Rattle.std.specs.Prelude.{codes, flat_map, not, ◌&&◌, ◌||◌, ◌==◌, nat_le, if◌then◌else◌}
+use Rattle.std.specs.Fmt.{decimal}
+use Rattle.std.specs.List.{list_all, list_any, range_with_len}
+use Rattle.std.proofs.lemmas.Bool.Decides.{nat_tests}
+use Rattle.ltl_spec.specs.Semantics.Word.{Name}
+use Rattle.ltl_spec.proofs.Collections.MemberLaws.{at_map}
+use Rattle.ltl_spec.specs.Transitions.Cubes.{Literal, Cube}
+use Rattle.ltl_spec.specs.Automata.Automaton.{Edge}
+use Rattle.ltl_spec.specs.Hoa.HoaReading.{MarkedAutomaton}
+use Rattle.ltl_streams.specs.Streams.{SinkState}
+use Rattle.ltl_streams.proofs.SendLaws.{Leaves, leaves_all, leaves_step, sends_nothing}
+use Rattle.ltl_sets.specs.declared.literal.Literal as made
+use Rattle.ltl_sets.specs.Literals.{literal_of, cube_of}
+use Rattle.ltl_text.proofs.HoaLaws.{states_from}
+use Rattle.ltl_text.proofs.TextLaws.{joined_led, led}
+use Rattle.ltl_pictures.specs.Picture.{arrows, edges_at, is_accepting, is_state_based}
+use Rattle.ltl_pictures.specs.DotText.{acceptance_name, arrow_text, disc, dot_text, edge_text, escaped, formula_text, head_text, literal_text, node_end, node_text, state_text}
+use Rattle.ltl_pictures.specs.Pieces.{states_text}
+
+-- ---- element by element
+
+begun_flat : {X : Type 0} (f : X → List ℕ) (xs : List X) → flat_map f xs ≡ flat_map f (drop 0 xs)
+begun_flat f [] = refl
+begun_flat f (x ∷ xs) = refl
+
+pub starts : (o : SinkState) (h : List ℕ) {X : Type 0} (f : X → List ℕ) (xs : List X) → Leaves o h o h (flat_map f (drop 0 xs)) (flat_map f xs)
+starts o h f xs = leaves_step (leaves_all o h (flat_map f xs)) (flat_map f (drop 0 xs)) (begun_flat f xs) (sends_nothing o h)
+
+pub flat_mapped : {X Y : Type 0} (f : Y → List ℕ) (g : X → Y) (xs : List X) → flat_map f (map g xs) ≡ flat_map (λ x. f (g x)) xs
+flat_mapped f g [] = refl
+flat_mapped f g (x ∷ xs) = ap (λ t. f (g x) ++ t) (flat_mapped f g xs)
+
+-- what stands at a place of a map
+pub mapped_at : {X : Type 0} (f : X → List ℕ) (xs : List X) (x : X) (k : ℕ) → k < length xs → x ≡ slice_index_or xs k x → slice_index_or (map f xs) k [] ≡ f x
+mapped_at f xs x k lt is = at_map f xs k x [] lt ∙ ap f (sym is)
+
+pub all_mapped : {X Y : Type 0} (f : X → Y) (p : Y → Bool) (xs : List X) → list_all (λ x. p (f x)) xs ≡ list_all p (map f xs)
+all_mapped f p [] = refl
+all_mapped f p (x ∷ xs) = ap (λ b. p (f x) && b) (all_mapped f p xs)
+
+pub any_mapped : {X Y : Type 0} (f : X → Y) (p : Y → Bool) (xs : List X) → list_any (λ x. p (f x)) xs ≡ list_any p (map f xs)
+any_mapped f p [] = refl
+any_mapped f p (x ∷ xs) = ap (λ b. p (f x) || b) (any_mapped f p xs)
+
+-- ---- a label
+
+module _ (names : List Name) where
+  pub negative_text : (l : Literal) (name : List ℕ) → name ≡ slice_index_or names l.proposition [] → l.positive ≡ false → literal_text names l ≡ codes "!" ++ escaped name
+  negative_text l name is e =
+      ap (λ (b : Bool). if b then escaped (slice_index_or names l.proposition []) else codes "!" ++ escaped (slice_index_or names l.proposition [])) e
+      ∙ ap (λ t. codes "!" ++ escaped t) (sym is)
+
+  abbrev pub literals_of : List made.Literal → List (List ℕ)
+  literals_of ls = map (λ l. literal_text names (literal_of l)) ls
+
+  literals_are : (ls : List made.Literal) → map (literal_text names) (cube_of ls) ≡ literals_of ls
+  literals_are [] = refl
+  literals_are (l ∷ ls) = ap (λ t. literal_text names (literal_of l) ∷ t) (literals_are ls)
+
+  pub formula_begins : (c : Cube) (l : made.Literal) (ls rest : List made.Literal) → cube_of rest ≡ c → rest ≡ l ∷ ls
+      → formula_text names c ≡ literal_text names (literal_of l) ++ led (codes " && ") (literals_of ls)
+  formula_begins c l ls rest e f =
+      ap (formula_text names) (sym e ∙ ap cube_of f) ∙ joined_led (codes " && ") (literal_text names (literal_of l)) (map (literal_text names) (cube_of ls))
+      ∙ ap (λ t. literal_text names (literal_of l) ++ led (codes " && ") t) (literals_are ls)
+
+  pub formula_goes_on : (rest : List made.Literal) (l : made.Literal) (ls : List made.Literal) → rest ≡ l ∷ ls
+      → led (codes " && ") (literals_of rest) ≡ codes " && " ++ (literal_text names (literal_of l) ++ led (codes " && ") (literals_of ls))
+  formula_goes_on rest l ls e =
+      ap (λ t. led (codes " && ") (literals_of t)) e ∙ append_assoc (codes " && ") (literal_text names (literal_of l)) (led (codes " && ") (literals_of ls))
+
+  pub edge_pieces : (b : Bool) (e : Edge) → edge_text names b e ≡ formula_text names e.cube ++ (if b then flat_map disc e.marks else [])
+  edge_pieces b e = refl
+
+  pub shown_edge : (b : Bool) (e : Edge) → b ≡ true → edge_text names b e ≡ formula_text names e.cube ++ flat_map disc e.marks
+  shown_edge b e h = ap (λ (x : Bool). edge_text names x e) h
+
+  pub plain_edge : (b : Bool) (e : Edge) → b ≡ false → edge_text names b e ≡ formula_text names e.cube
+  plain_edge b e h = ap (λ (x : Bool). edge_text names x e) h ∙ append-nil (formula_text names e.cube)
+
+-- ---- a set
+pub disc_bracketed : (k : ℕ) → 20 < k → disc k ≡ codes " (" ++ (decimal k ++ codes ")")
+disc_bracketed k h = rw (not_zero k h, above_ten k h, above_twenty k h) (append_assoc (codes " (") (decimal k) (codes ")"))
+  where
+    not_zero : (k : ℕ) → 20 < k → (k == 0) ≡ false
+    not_zero k h = grind (arith, nat_tests)
+
+    above_ten : (k : ℕ) → 20 < k → nat_le k 10 ≡ false
+    above_ten k h = grind (arith, nat_tests)
+
+    above_twenty : (k : ℕ) → 20 < k → nat_le k 20 ≡ false
+    above_twenty k h = grind (arith, nat_tests)
+
+-- ---- a state
+pub node_pieces : (accepting colour : Bool) (k : ℕ) (end : List ℕ) → end ≡ node_end accepting colour → node_text accepting colour k ≡ codes "  " ++ (decimal k ++ end)
+node_pieces accepting colour k end e = append_assoc (codes "  ") (decimal k) (node_end accepting colour) ∙ ap (λ t. codes "  " ++ (decimal k ++ t)) (sym e)
+
+pub state_pieces : (A : MarkedAutomaton) (k : ℕ) (by double : Bool) (es : List Edge) (names : List Name) → by ≡ is_state_based A → es ≡ edges_at A k → names ≡ A.names → double ≡ (by && is_accepting es)
+    → state_text A k ≡ node_text double false k ++ flat_map (arrow_text names (not by) false) (arrows k es)
+state_pieces A k by double es names b e n d = rw (d, b, e, n) refl
+
+-- ---- the head
+pub many_sets : (n : ℕ) → 1 < n → acceptance_name n ≡ codes "generalized-Buchi " ++ decimal n
+many_sets zero h = absurd (omega (arith, h))
+many_sets (suc zero) h = absurd (omega (arith, h))
+many_sets (suc (suc n)) h = refl
+
+-- what stands behind the name of the condition
+abbrev pub name_end : List ℕ
+name_end = codes "\"\n  node [shape=circle]\n  I [label=\"\", style=invis, width=0]\n  I -> "
+
+pub head_pieces : (A : MarkedAutomaton) (note : List ℕ)
+    → head_text A note ≡ codes "digraph automaton {\n  rankdir=LR\n  labelloc=t\n  label=\"" ++ (acceptance_name A.sets ++ (note ++ (name_end ++ (decimal A.start ++ codes "\n"))))
+head_pieces A note = regroup (codes "digraph automaton {\n  rankdir=LR\n  labelloc=t\n  label=\"") (acceptance_name A.sets) note name_end (decimal A.start) (codes "\n")
+  where
+    regroup : (a b n c d e : List ℕ) → ((((a ++ b) ++ n) ++ c) ++ d) ++ e ≡ a ++ (b ++ (n ++ (c ++ (d ++ e))))
+    regroup a b n c d e = simp append_assoc
+
+-- ---- the whole text
+pub states_begin : (A : MarkedAutomaton) → states_text A ≡ states_from (state_text A) A.states 0
+states_begin A = let e : A.states ≡ A.states - 0 = omega arith in ap (λ n. flat_map (state_text A) (range_with_len 0 n)) e
+
+pub dot_pieces : (A : MarkedAutomaton) → dot_text A ≡ head_text A [] ++ (states_text A ++ codes "}\n")
+dot_pieces A = append_assoc (head_text A []) (states_text A) (codes "}\n")
+
+-- ---- all of a list pass
+module _ {X : Type 0} (p : X → Bool) (d : X) where
+  pub all_pass : (xs : List X) → ((j : ℕ) → j < length xs → p (slice_index_or xs j d) ≡ true) → list_all p xs ≡ true
+  all_pass [] h = refl
+  all_pass (x ∷ xs) h = ap₂ (λ a b. a && b) (h 0 (omega arith)) (all_pass xs (λ j lt. h (suc j) (omega (arith, lt))))
+
+  pub one_fails : (xs : List X) (j : ℕ) → j < length xs → p (slice_index_or xs j d) ≡ false → list_all p xs ≡ false
+  one_fails [] j lt h = absurd (omega (arith, lt))
+  one_fails (x ∷ xs) zero lt h = ap (λ a. a && list_all p xs) h
+  one_fails (x ∷ xs) (suc j) lt h = ap (λ b. p x && b) (one_fails xs j (omega (arith, lt)) h) ∙ and_false (p x)
+    where
+      and_false : (a : Bool) → (a && false) ≡ false
+      and_false true = refl
+      and_false false = refl

@@ -1,0 +1,12 @@
+use Rattle.std.proofs.Common.{refl}
+use Rattle.ltl_pictures.proofs.PrintLaws.{lacks_all, lacks_last, lacks_step}
+use Rattle.ltl_pictures.specs.Timeline.{mark}
+use Rattle.ltl_word.specs.Rows.{bit_of}
+use Rattle.ltl_pictures.proofs.LineLaws.{line_pieces}
+use Rattle.ltl_pictures.proofs.lines.put_line.Goals as goal
+
+pub returns : goal.returns
+returns g c =
+    let first = lacks_step (lacks_all _ _) _ (line_pieces c.args.width c.args.word.now c.args.label.now (λ i. mark (bit_of c.args.row.now i))) c.put_label.ensures in
+    let second = lacks_step first _ refl c.put_marks.ensures in
+    lacks_last second c.put.ensures

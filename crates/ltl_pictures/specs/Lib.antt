@@ -1,0 +1,14 @@
+pub mod DotText
+pub mod Drawn
+pub mod Edges
+pub mod Letters
+pub mod Picked
+pub mod Picture
+pub mod Pieces
+pub mod PlaceLaws
+pub mod PlaceView
+pub mod Printing
+pub mod RunText
+pub mod Runs
+pub mod Timeline
+pub mod TimelineView

@@ -1,0 +1,77 @@
+//! The head of a drawing, and its states.
+
+ghost use Rattle.std.specs.Prelude.{◌≡◌, ◌&&◌, map};
+ghost use Rattle.ltl_hoa.specs.MarkedView.{edge_of};
+ghost use Rattle.ltl_pictures.specs.DotText as text;
+ghost use Rattle.ltl_pictures.specs.Picture as picture;
+ghost use Rattle.ltl_pictures.specs.Printing.{Prints};
+
+use crate::acceptance::is_accepting;
+use crate::label::put_number;
+use crate::printer::Printer;
+use ltl_hoa::{Marked, MarkedEdge};
+use ltl_streams::ByteSink;
+use std::alloc::Allocator;
+
+/// Writes the name of the acceptance condition with this number of sets, as HOA has it.
+fn put_acceptance_name<S: ByteSink>(sets: usize, out: &mut Printer<'_, S>)
+    ensures { Prints S.state out.old out.new (text.acceptance_name sets) }
+{
+    if sets == 0 {
+        out.put(b"all");
+    } else if sets == 1 {
+        out.put(b"Buchi");
+    } else {
+        out.put(b"generalized-Buchi ");
+        put_number(sets, out);
+    }
+}
+
+/// Writes the head: the acceptance condition and a note as the title of the graph, and an arrow without source to the initial state.
+pub(crate) fn put_head<A: Allocator, S: ByteSink>(
+    automaton: &Marked<'_, A>,
+    note: &[u8],
+    out: &mut Printer<'_, S>,
+)
+    ensures { Prints S.state out.old out.new (text.head_text automaton.now note.now) }
+{
+    out.put(b"digraph automaton {\n  rankdir=LR\n  labelloc=t\n  label=\"");
+    put_acceptance_name(automaton.sets(), out);
+    out.put(note);
+    out.put(b"\"\n  node [shape=circle]\n  I [label=\"\", style=invis, width=0]\n  I -> ");
+    put_number(automaton.start(), out);
+    out.put(b"\n");
+}
+
+/// Whether a state is drawn as a double circle.
+pub(crate) fn is_double(by_states: bool, edges: &[MarkedEdge]) -> bool
+    ensures { result ≡ (by_states && picture.is_accepting (map edge_of edges.now)) }
+{
+    by_states && is_accepting(edges)
+}
+
+/// The end of a state's statement, after its number.
+fn node_end(accepting: bool, colour: bool) -> &'static [u8]
+    ensures { result.now ≡ text.node_end accepting colour }
+{
+    match (accepting, colour) {
+        (false, false) => b"\n",
+        (true, false) => b" [peripheries=2]\n",
+        (false, true) => b" [color=red, penwidth=2]\n",
+        (true, true) => b" [peripheries=2, color=red, penwidth=2]\n",
+    }
+}
+
+/// Writes a state, as a double circle if it is accepting, and in colour if `colour`.
+pub(crate) fn put_node<S: ByteSink>(
+    accepting: bool,
+    colour: bool,
+    k: usize,
+    out: &mut Printer<'_, S>,
+)
+    ensures { Prints S.state out.old out.new (text.node_text accepting colour k) }
+{
+    out.put(b"  ");
+    put_number(k, out);
+    out.put(node_end(accepting, colour));
+}

@@ -1,4 +1,0 @@
-pub mod LetterLaws
-pub mod PickLaws
-pub mod StepLaws
-pub mod WalkLaws

@@ -1,9 +1,0 @@
-use Rattle.std.proofs.Common.{length, map}
-use Rattle.ltl_timeline.specs.Timeline.{name_at, proposition_line, proposition_lines}
-use Rattle.ltl_timeline.proofs.LineLaws.{LeavesFrom}
-use Rattle.ltl_timeline.proofs.propositions.Propositions.put.Given as goal
-
-abbrev pub invariant-loop-p : goal.invariant-loop-p
-invariant-loop-p g l =
-    LeavesFrom (λ p. proposition_line l.width l.word (name_at (map (λ n. n.now) l.self.names.items) p)) (length (map (λ n. n.now) l.self.names.items)) l.p
-    (g.S.ByteSink.state l.fn.sink) l.fn.buffer (g.S.ByteSink.state l.sink) l.buffer (proposition_lines l.width l.word (map (λ n. n.now) l.self.names.items))

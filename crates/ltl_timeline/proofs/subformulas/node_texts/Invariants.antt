@@ -1,9 +1,0 @@
-use Rattle.std.proofs.Common.{◌≡◌, length, map}
-use Rattle.ltl_timeline.specs.TimelineView.{AreTexts}
-use Rattle.ltl_timeline.proofs.subformulas.node_texts.Given as goal
-
-abbrev pub invariant-loop-k : goal.invariant-loop-k
-invariant-loop-k g l = record {
-  count : length l.texts.items ≡ l.k;
-  texts : AreTexts l.formula (map (λ t. t.items) l.texts.items);
-}

@@ -1,9 +1,0 @@
-use Rattle.std.proofs.Common.{refl}
-use Rattle.std.proofs.lemmas.Result.{err_from_is_err_and}
-use Rattle.ltl_timeline.proofs.timeline.word_timeline_to.Goals as goal
-
-pub returns-in_err-propositions : goal.returns-in_err-propositions
-returns-in_err-propositions g c = let p = err_from_is_err_and c.from_residual.result c.from_residual.ensures.1 in rw (p.1, p.2) refl
-
-pub returns-in_err-write_word : goal.returns-in_err-write_word
-returns-in_err-write_word g c = let p = err_from_is_err_and c.from_residual-in_err-write_word.result c.from_residual-in_err-write_word.ensures.1 in rw (p.1, p.2) c.in_err-write_word.ensures.err

@@ -1,2 +1,0 @@
-pub mod Timeline
-pub mod TimelineView
