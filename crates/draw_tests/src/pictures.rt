@@ -1,7 +1,7 @@
 //! Tests of the DOT texts of drawings.
 
-use ltl_pictures::{Drawing, put_escaped};
 use ltl_hoa::hoa_read;
+use ltl_pictures::{Drawing, put_escaped};
 use ltl_streams::{OutputBuffer, WriterSink};
 use std::alloc::Global;
 use std::process::Abort;

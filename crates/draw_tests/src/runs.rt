@@ -5,6 +5,7 @@ use ltl_draw::{draw_over, plan};
 use ltl_streams::{ReaderSource, WriterSink};
 use refusing::Refusing;
 use std::alloc::{Allocator, Global};
+use std::process::Abort;
 
 const AUTOMATON: &str =
     "HOA: v1\nStates: 2\nStart: 0\nAP: 1 \"p\"\nAcceptance: 1 Inf(0)\n--BODY--\nState: 0\n[t] 0\n[0] 1\n[0] 0\n[!0] 1\n[0] 1\n[0] 1\nState: 1 {0}\n[0] 1\n--END--\n";
@@ -16,7 +17,7 @@ const PICTURE: &str =
 const MOST_GROWTHS: u64 = 1_000;
 
 /// Runs the program with this command line, and returns its exit status.
-fn ended<A: Allocator>(
+fn drawn<A: Allocator>(
     memory: Global,
     alloc: &A,
     words: &[&str],
@@ -31,6 +32,40 @@ fn ended<A: Allocator>(
         &mut WriterSink::new(output),
         &mut WriterSink::new(message),
     )
+}
+
+/// What a run left.
+#[derive(Drop)]
+struct Outcome {
+    status: u8,
+    output: Taken,
+    message: Taken,
+}
+
+/// Runs the program with this command line. Its output fails after this number of bytes.
+fn ended<A: Allocator>(
+    memory: Global,
+    alloc: &A,
+    words: &[&str],
+    input: Given<'_>,
+    room: usize,
+) -> Outcome {
+    let mut output = Taken::new(memory, room);
+    let mut message = Taken::new(memory, usize::MAX);
+    let status = drawn(memory, alloc, words, input, &mut output, &mut message);
+    Outcome {
+        status,
+        output,
+        message,
+    }
+}
+
+/// Compares what a run left with what is wanted. The output is flushed once if the status is 0, and never if not.
+fn expect<R: Abort>(rt: &R, outcome: &Outcome, status: u8, output: &[u8], told: &str) {
+    assert_eq!(rt; outcome.status, status, "{told}");
+    assert_eq!(rt; outcome.output.held.as_slice(), output);
+    assert_eq!(rt; outcome.message.held.as_slice(), told.as_bytes());
+    assert!(rt; outcome.output.flushes == if status == 0 { 1 } else { 0 });
 }
 
 fn whole(text: &str) -> Given<'_> {
@@ -159,141 +194,69 @@ const TIMELINE: [&str; 5] = ["ltldraw", "-t", "{p}; cycle {q}; {}", "-f", "p U q
 #[test]
 fn runs(rt: HostRuntime) {
     for (words, input, wanted, told, status) in RUNS {
-        let mut output = Taken::new(rt.alloc(), usize::MAX);
-        let mut message = Taken::new(rt.alloc(), usize::MAX);
-        assert_eq!(rt;
-            ended(
-                rt.alloc(),
-                &rt.alloc(),
-                words,
-                whole(input),
-                &mut output,
-                &mut message
-            ),
-            status,
-            "{told}"
-        );
-        assert_eq!(rt; output.held.as_slice(), wanted.as_bytes());
-        assert_eq!(rt; message.held.as_slice(), told.as_bytes());
-        let flushes = if status == 0 { 1 } else { 0 };
-        assert_eq!(rt; output.flushes, flushes);
+        let outcome = ended(rt.alloc(), &rt.alloc(), words, whole(input), usize::MAX);
+        expect(&rt, &outcome, status, wanted.as_bytes(), told);
     }
 }
 
+/// Command lines that end with status 0, with the input, the number of bytes after which it fails, and the output, and a number of allocations that the run
+/// exceeds. A timeline reads no input.
+const WHOLE: [(&[&str], &str, usize, &str, u64); 3] = [
+    (&["ltldraw"], AUTOMATON, usize::MAX, PICTURE, 5),
+    (&RUN, AUTOMATON, usize::MAX, RUN_PICTURE, 15),
+    (&TIMELINE, "", 0, TABLE, 5),
+];
+
+/// Each allocation is refused in turn.
 #[test]
 fn each_growth(rt: HostRuntime) {
-    let mut growths = 0;
-    for n in 1..MOST_GROWTHS {
-        let alloc = Refusing::new(rt.alloc(), n);
-        let mut output = Taken::new(rt.alloc(), usize::MAX);
-        let mut message = Taken::new(rt.alloc(), usize::MAX);
-        let status = ended(
-            rt.alloc(),
-            &alloc,
-            &["ltldraw"],
-            whole(AUTOMATON),
-            &mut output,
-            &mut message,
-        );
-        if !alloc.has_refused() {
-            assert_eq!(rt; status, 0);
-            assert_eq!(rt; output.held.as_slice(), PICTURE.as_bytes());
-            growths = n;
-            break;
+    for (words, text, left, wanted, least) in WHOLE {
+        let mut growths = 0;
+        for n in 1..MOST_GROWTHS {
+            let alloc = Refusing::new(rt.alloc(), n);
+            let rest = text.as_bytes();
+            let outcome = ended(rt.alloc(), &alloc, words, Given { rest, left }, usize::MAX);
+            if !alloc.has_refused() {
+                expect(&rt, &outcome, 0, wanted.as_bytes(), "");
+                growths = n;
+                break;
+            }
+            expect(&rt, &outcome, 4, b"", "ltldraw: out of memory\n");
         }
-        assert_eq!(rt; status, 4, "growth {n}");
-        assert!(rt; output.held.is_empty() && output.flushes == 0);
-        assert_eq!(rt;
-            message.held.as_slice(),
-            "ltldraw: out of memory\n".as_bytes()
-        );
-    }
-    assert!(rt; growths > 5);
-}
-
-#[test]
-fn each_growth_of_a_timeline(rt: HostRuntime) {
-    let mut growths = 0;
-    for n in 1..MOST_GROWTHS {
-        let alloc = Refusing::new(rt.alloc(), n);
-        let mut output = Taken::new(rt.alloc(), usize::MAX);
-        let mut message = Taken::new(rt.alloc(), usize::MAX);
-        let input = Given { rest: b"", left: 0 };
-        let status = ended(
-            rt.alloc(),
-            &alloc,
-            &TIMELINE,
-            input,
-            &mut output,
-            &mut message,
-        );
-        if !alloc.has_refused() {
-            assert_eq!(rt; status, 0);
-            assert_eq!(rt; output.held.as_slice(), TABLE.as_bytes());
-            growths = n;
-            break;
-        }
-        assert_eq!(rt; status, 4, "growth {n}");
-        assert!(rt; output.held.is_empty() && output.flushes == 0);
-        assert_eq!(rt;
-            message.held.as_slice(),
-            "ltldraw: out of memory\n".as_bytes()
-        );
-    }
-    assert!(rt; growths > 5);
-}
-
-#[test]
-fn each_byte_of_a_timeline(rt: HostRuntime) {
-    for room in 0..TABLE.len() {
-        let mut output = Taken::new(rt.alloc(), room);
-        let mut message = Taken::new(rt.alloc(), usize::MAX);
-        let status = ended(
-            rt.alloc(),
-            &rt.alloc(),
-            &TIMELINE,
-            whole(""),
-            &mut output,
-            &mut message,
-        );
-        assert_eq!(rt; status, 5);
-        assert_eq!(rt; output.held.as_slice(), &TABLE.as_bytes()[..room]);
-        assert_eq!(rt;
-            message.held.as_slice(),
-            "ltldraw: cannot write\n".as_bytes()
-        );
+        assert!(rt; growths > least);
     }
 }
 
+/// The output fails after each number of bytes.
 #[test]
 fn each_byte_of_output(rt: HostRuntime) {
-    for room in 0..PICTURE.len() {
-        let mut output = Taken::new(rt.alloc(), room);
-        let mut message = Taken::new(rt.alloc(), usize::MAX);
-        let status = ended(
-            rt.alloc(),
-            &rt.alloc(),
-            &["ltldraw"],
-            whole(AUTOMATON),
-            &mut output,
-            &mut message,
-        );
-        assert_eq!(rt; status, 5);
-        assert_eq!(rt; output.held.as_slice(), &PICTURE.as_bytes()[..room]);
-        assert_eq!(rt; output.flushes, 0);
-        assert_eq!(rt;
-            message.held.as_slice(),
-            "ltldraw: cannot write\n".as_bytes()
-        );
+    for (words, text, left, wanted, _) in WHOLE {
+        for room in 0..wanted.len() {
+            let rest = text.as_bytes();
+            let outcome = ended(rt.alloc(), &rt.alloc(), words, Given { rest, left }, room);
+            expect(
+                &rt,
+                &ended,
+                5,
+                &wanted.as_bytes()[..room],
+                "ltldraw: cannot write\n",
+            );
+        }
     }
+}
+
+/// The flush of the output fails, and then the message after three bytes.
+#[test]
+fn flush_and_message(rt: HostRuntime) {
     let mut output = Taken::new(rt.alloc(), usize::MAX);
     output.stays = false;
     let mut message = Taken::new(rt.alloc(), 3);
-    let status = ended(
+    let input = whole(AUTOMATON);
+    let status = drawn(
         rt.alloc(),
         &rt.alloc(),
         &["ltldraw"],
-        whole(AUTOMATON),
+        input,
         &mut output,
         &mut message,
     );
@@ -302,78 +265,18 @@ fn each_byte_of_output(rt: HostRuntime) {
     assert_eq!(rt; message.held.as_slice(), "ltl".as_bytes());
 }
 
+/// The input fails after each number of bytes.
 #[test]
 fn each_byte_of_input(rt: HostRuntime) {
     for left in 0..AUTOMATON.len() {
-        let input = Given {
-            rest: AUTOMATON.as_bytes(),
-            left,
-        };
-        let mut output = Taken::new(rt.alloc(), usize::MAX);
-        let mut message = Taken::new(rt.alloc(), usize::MAX);
-        assert_eq!(rt;
-            ended(
-                rt.alloc(),
-                &rt.alloc(),
-                &["ltldraw"],
-                input,
-                &mut output,
-                &mut message
-            ),
-            5
-        );
-        assert!(rt; output.held.is_empty() && output.flushes == 0);
-        assert_eq!(rt;
-            message.held.as_slice(),
-            "ltldraw: cannot read\n".as_bytes()
-        );
-    }
-}
-
-#[test]
-fn each_growth_of_a_run(rt: HostRuntime) {
-    let mut growths = 0;
-    for n in 1..MOST_GROWTHS {
-        let alloc = Refusing::new(rt.alloc(), n);
-        let mut output = Taken::new(rt.alloc(), usize::MAX);
-        let mut message = Taken::new(rt.alloc(), usize::MAX);
-        let input = whole(AUTOMATON);
-        let status = ended(rt.alloc(), &alloc, &RUN, input, &mut output, &mut message);
-        if !alloc.has_refused() {
-            assert_eq!(rt; status, 0);
-            assert_eq!(rt; output.held.as_slice(), RUN_PICTURE.as_bytes());
-            growths = n;
-            break;
-        }
-        assert_eq!(rt; status, 4, "growth {n}");
-        assert!(rt; output.held.is_empty() && output.flushes == 0);
-        assert_eq!(rt;
-            message.held.as_slice(),
-            "ltldraw: out of memory\n".as_bytes()
-        );
-    }
-    assert!(rt; growths > 15);
-}
-
-#[test]
-fn each_byte_of_a_run(rt: HostRuntime) {
-    for room in 0..RUN_PICTURE.len() {
-        let mut output = Taken::new(rt.alloc(), room);
-        let mut message = Taken::new(rt.alloc(), usize::MAX);
-        let input = whole(AUTOMATON);
-        let status = ended(
+        let rest = AUTOMATON.as_bytes();
+        let outcome = ended(
             rt.alloc(),
             &rt.alloc(),
-            &RUN,
-            input,
-            &mut output,
-            &mut message,
+            &["ltldraw"],
+            Given { rest, left },
+            usize::MAX,
         );
-        assert_eq!(rt; status, 5);
-        assert_eq!(rt; output.held.as_slice(), &RUN_PICTURE.as_bytes()[..room]);
-        assert_eq!(rt;
-            message.held.as_slice(),
-            "ltldraw: cannot write\n".as_bytes()
-        );
+        expect(&rt, &outcome, 5, b"", "ltldraw: cannot read\n");
     }
 }

@@ -38,6 +38,7 @@ pub use input::formula_from;
 pub use ltl_words::{
     FormulaWord, Layout, Plan, PlanFault, Status, Tool, layout, plan, request, status, tool,
 };
+pub use message::put_text;
 pub use program::run;
 pub use refusal::Refusal;
 pub use source::Source;

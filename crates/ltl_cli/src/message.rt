@@ -144,8 +144,12 @@ fn put_parts<M: ByteSink>(
     write_whole(message, back)
 }
 
-/// Writes the text of a refusal.
-fn put_text<M: ByteSink>(tool: Tool, refusal: Refusal, message: &mut M) -> Result<(), WriteFault>
+/// Writes the text of a refusal, up to the first call that fails: the message without the tool's name and without a line feed. It allocates nothing.
+pub fn put_text<M: ByteSink>(
+    tool: Tool,
+    refusal: Refusal,
+    message: &mut M,
+) -> Result<(), WriteFault>
     ensures ok { OnOk result (Takes (M.state message.old) (M.state message.new) (text_for tool refusal)) }
     ensures err { OnErr result (Breaks (M.state message.old) (M.state message.new) (text_for tool refusal)) }
 {

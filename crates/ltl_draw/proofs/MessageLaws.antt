@@ -1,32 +1,26 @@
--- Messages in parts.
-use Rattle.std.proofs.Common.{◌≡◌, ◌∙◌, ◌<◌, ℕ, List, ◌++◌, length, Option, arith}
-use Rattle.std.proofs.lemmas.List.{append-nil}
-use Rattle.ltl_spec.specs.Tools.Refusal.{Checker, Refusal, Usage, CannotOpen, CannotRead, CannotWrite, OutOfMemory, LongFormula, TooManyPropositions, TooManyRows, TooManyElementaryRows, LargeAutomaton, LongWord, LargeProduct, BadFormula, BadWord, BadAutomaton}
-use Rattle.ltl_cli.specs.Messages.{back_text, number_in, number_text}
-use Rattle.ltl_cli.proofs.MessageLaws as cli
-use Rattle.ltl_draw.specs.Messages.{draw_message, draw_text, front_text}
+-- The text of a message, and its length.
+use Rattle.std.proofs.Common.{◌≡◌, ◌<◌, refl, length, arith}
+use Rattle.ltl_spec.specs.Tools.Limits.{stated_limits}
+use Rattle.ltl_spec.specs.Tools.Refusal.{Checker, Refusal, Usage, CannotOpen, CannotRead, CannotWrite, OutOfMemory, LongFormula, TooManyPropositions, TooManyRows, TooManyElementaryRows, LargeAutomaton, LongWord, LargeProduct, BadFormula, BadWord, BadAutomaton, refusal_text}
+use Rattle.ltl_draw.specs.Messages.{draw_message, draw_text}
 
--- the parts make the text
-pub parts_are : (r : Refusal) → front_text r ++ number_text (number_in r) ++ back_text r ≡ draw_text r
-parts_are Usage = append-nil _ ∙ append-nil _
-parts_are (BadFormula place kind) = cli.parts_are Checker (BadFormula place kind)
-parts_are (BadWord place) = cli.parts_are Checker (BadWord place)
-parts_are (BadAutomaton number kind) = cli.parts_are Checker (BadAutomaton number kind)
-parts_are CannotOpen = cli.parts_are Checker CannotOpen
-parts_are CannotRead = cli.parts_are Checker CannotRead
-parts_are CannotWrite = cli.parts_are Checker CannotWrite
-parts_are OutOfMemory = cli.parts_are Checker OutOfMemory
-parts_are LongFormula = cli.parts_are Checker LongFormula
-parts_are TooManyPropositions = cli.parts_are Checker TooManyPropositions
-parts_are TooManyRows = cli.parts_are Checker TooManyRows
-parts_are TooManyElementaryRows = cli.parts_are Checker TooManyElementaryRows
-parts_are LargeAutomaton = cli.parts_are Checker LargeAutomaton
-parts_are LongWord = cli.parts_are Checker LongWord
-parts_are LargeProduct = cli.parts_are Checker LargeProduct
-
--- the parts that were put make the text
-pub put_same : (r : Refusal) (a : List ℕ) (n : Option ℕ) (b : List ℕ) → a ≡ front_text r → n ≡ number_in r → b ≡ back_text r → a ++ number_text n ++ b ≡ draw_text r
-put_same r a n b p q h = rw (p, q, h) (parts_are r)
+-- all but the usage is that of the checker
+pub same_text : (r : Refusal) → (r ≡ Usage → ⊥) → refusal_text stated_limits Checker r ≡ draw_text r
+same_text Usage h = absurd (h refl)
+same_text CannotOpen h = refl
+same_text CannotRead h = refl
+same_text CannotWrite h = refl
+same_text OutOfMemory h = refl
+same_text LongFormula h = refl
+same_text TooManyPropositions h = refl
+same_text TooManyRows h = refl
+same_text TooManyElementaryRows h = refl
+same_text LargeAutomaton h = refl
+same_text LongWord h = refl
+same_text LargeProduct h = refl
+same_text (BadFormula place kind) h = refl
+same_text (BadWord place) h = refl
+same_text (BadAutomaton number kind) h = refl
 
 -- a line has a byte
 pub line_long : (r : Refusal) → 0 < length (draw_message r)

@@ -3,7 +3,6 @@ use Rattle.std.specs.Prelude.{ℕ, List, ◌++◌, codes}
 use Rattle.ltl_spec.specs.Automata.ClaimText.{line}
 use Rattle.ltl_spec.specs.Tools.Limits.{stated_limits}
 use Rattle.ltl_spec.specs.Tools.Refusal.{Checker, Refusal, Usage, refusal_text}
-use Rattle.ltl_cli.specs.Messages as cli
 
 abbrev pub draw_usage : List ℕ
 draw_usage = codes "usage: ltldraw [-w lasso | -t lasso [-f formula]]"
@@ -14,8 +13,3 @@ draw_text r = refusal_text stated_limits Checker r
 
 abbrev pub draw_message : Refusal → List ℕ
 draw_message r = line (codes "ltldraw: " ++ draw_text r)
-
--- the text up to its number, or all of it if it has no number
-abbrev pub front_text : Refusal → List ℕ
-front_text Usage = draw_usage
-front_text r = cli.front_text Checker r

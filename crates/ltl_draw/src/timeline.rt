@@ -13,9 +13,9 @@ ghost use Rattle.ltl_draw.specs.Plans.{Timeline};
 ghost use Rattle.ltl_draw.specs.Runs.{IsOutcome, IsSent, of_timeline};
 
 use ltl_cli::Refusal;
+use ltl_pictures::{TimelineFault, timeline_to, word_timeline_to};
 use ltl_streams::ByteSink;
 use ltl_syntax::{Formula, read};
-use ltl_pictures::{TimelineFault, timeline_to, word_timeline_to};
 use ltl_word::Lasso;
 use std::alloc::Allocator;
 

@@ -1,6 +1,6 @@
 -- A timeline by what its lines are made of.
 use Rattle.std.proofs.Common.{◌≡◌, ◌∙◌, ap, ap₂, sym, refl, subst, ℕ, zero, suc, ◌+◌, ◌<◌, arith, Bool, true, false, List, [], ◌∷◌, ◌++◌, length, length-take-le, map, take, Bor, ◌/◌}
-use Rattle.std.specs.Prelude.{◌||◌, codes, if◌then◌else◌, IsTrue, max, slice_get, slice_index_or, Some, Result, Ok, Err, OnOk, OnErr}
+use Rattle.std.specs.Prelude.{◌||◌, codes, if◌then◌else◌, IsTrue, max, slice_get, slice_index_or, Some, Result, Ok, Err, MatchResult, OnOk, OnErr}
 use Rattle.std.specs.Bool.{Decides}
 use Rattle.std.specs.List.{list_any, range_with_len}
 use Rattle.ltl_spec.specs.Collections.Sets.{has}
@@ -8,6 +8,7 @@ use Rattle.ltl_spec.specs.Formulas.Tokens.{same_name}
 use Rattle.ltl_spec.specs.Formulas.Canonical.{binary_text, constant_text, formula_text, unary_text}
 use Rattle.ltl_syntax.specs.declared.operators.UnaryOperator.{UnaryOperator}
 use Rattle.ltl_syntax.specs.declared.operators.BinaryOperator.{BinaryOperator}
+use Rattle.ltl_streams.specs.Streams.{SinkState, Breaks, Takes}
 use Rattle.ltl_syntax.proofs.TreeLemmas.{tree_at}
 use Rattle.ltl_spec.specs.Semantics.Word.{Name, Lasso, letter_at, name_cmp}
 use Rattle.ltl_syntax.specs.FormulaView.{FormulaView, IsFormula, binary_of, tree_in, tree_of, trees, unary_of}
@@ -17,7 +18,9 @@ use Rattle.ltl_word.specs.LassoView.{size}
 use Rattle.ltl_word.specs.Rows.{IsRow, bit_of}
 use Rattle.ltl_word.specs.SubformulaRows.{AreSubformulaRows}
 use Rattle.ltl_pictures.specs.Timeline.{IsTruth, column, greatest, line, is_left_out, is_proposition, mark, name_at, name_width, padded, proposition_line, proposition_lines, stands_before, subformula_line, subformula_text, subformula_width, texts_from, timeline, with_names_of, word_timeline}
-use Rattle.ltl_pictures.specs.TimelineView.{AreNameRows, AreTexts, HasTrueMarks, is_repeated}
+use Rattle.ltl_pictures.specs.TimelineView.{AreNameRows, AreTexts, FailsToShow, HasTrueMarks, is_repeated}
+use Rattle.ltl_pictures.specs.declared.fault.TimelineFault.{TimelineFault}
+use Rattle.ltl_pictures.specs.declared.fault.TimelineFault.TheVariants.{CannotWrite}
 use Rattle.std.proofs.lemmas.List.{get_or-map, get_or-take, map-append, take-map}
 use Rattle.ltl_spec.proofs.Collections.MemberLaws.{map_length}
 use Rattle.ltl_pictures.proofs.LineLaws.{texts_same}
@@ -68,6 +71,20 @@ whole_is f w truth names width first second e g h m =
 module _ (f : FormulaView) (w : Lasso) (rows : List (List ℕ)) (h : AreSubformulaRows f w rows) (P : List ℕ → Type 0) where
   pub shown : P (timeline f w (λ k i. bit_of (slice_index_or rows k []) i)) → HasTrueMarks f w P
   shown p = ((λ k i. bit_of (slice_index_or rows k []) i), rows_truth f w rows h, p)
+
+  pub shown_ok : {T E : Type 0} (r : Result T E) → OnOk r (P (timeline f w (λ k i. bit_of (slice_index_or rows k []) i))) → OnOk r (HasTrueMarks f w P)
+  shown_ok (Ok x) p = shown p
+  shown_ok (Err e) p = tt
+
+  pub shown_err : {T E : Type 0} (r : Result T E) → OnErr r (P (timeline f w (λ k i. bit_of (slice_index_or rows k []) i))) → OnErr r (HasTrueMarks f w P)
+  shown_err (Ok x) p = tt
+  shown_err (Err e) p = shown p
+
+-- the end of a timeline by that of its printer
+pub shows_end : {T E : Type 0} (r : Result T E) (s : Result T TimelineFault) (o n : SinkState) (IsText : (List ℕ → Type 0) → Type 0) → MatchResult r (λ x. s ≡ Ok x) (λ _. s ≡ Err CannotWrite)
+    → OnOk r (IsText (Takes o n)) → OnErr r (IsText (Breaks o n)) → MatchResult s (λ _. IsText (Takes o n)) (FailsToShow o n IsText)
+shows_end (Ok x) s o n IsText e p q = rw e p
+shows_end (Err y) s o n IsText e p q = rw e q
 
 -- ---- the line of a node
 

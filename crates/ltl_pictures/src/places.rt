@@ -10,14 +10,14 @@ use ltl_sets::RowSet;
 use std::alloc::Allocator;
 
 /// A state of the product: a state of the automaton and a position of the word.
-#[derive(Clone, Copy, Debug)]
+#[derive(Clone, Copy)]
 pub struct Place {
     pub state: usize,
     pub position: usize,
 }
 
 /// The number of edges that the search has explored. It saturates.
-#[derive(Debug, Drop)]
+#[derive(Drop)]
 pub struct Looks {
     pub(crate) count: u128,
 }
