@@ -1,6 +1,6 @@
 -- What a timeline's run shows.
 use Rattle.std.proofs.Common.{◌≡◌, ◌⊎◌, sym, subst, refl, ℕ, inl, inr, List, [], Bool, Some, None}
-use Rattle.std.specs.Prelude.{Ok, Err}
+use Rattle.std.specs.Prelude.{Result, Ok, Err, MatchResult}
 use Rattle.ltl_spec.specs.Semantics.Word.{Lasso, Name}
 use Rattle.ltl_spec.specs.Tools.Limits.{stated_limits}
 use Rattle.ltl_spec.specs.Tools.Programs.{ReadsFormula, ReadsWord}
@@ -24,7 +24,7 @@ use Rattle.ltl_pictures.specs.TimelineView.{FailsToShow, HasTrueMarks}
 use Rattle.ltl_pictures.specs.declared.fault.TimelineFault.{TimelineFault}
 use Rattle.ltl_pictures.specs.declared.fault.TimelineFault.TheVariants as timeline_fault
 use Rattle.ltl_draw.specs.Plans.{Timeline}
-use Rattle.ltl_draw.specs.Runs.{DrawAnswers, IsOutcome, of_timeline}
+use Rattle.ltl_draw.specs.Runs.{DrawAnswers, IsOutcome, IsSent, of_timeline}
 use Rattle.ltl_draw.proofs.RunLaws.{all_printed, nothing_printed, some_printed}
 
 -- ---- texts that are refused
@@ -79,10 +79,10 @@ module _ {T : Type 0} (input : Input) (o : SinkState) (open_before : o.stage ≡
 
   -- the table of the word alone
   module _ (n : SinkState) (names : List Name) (none : names ≡ []) (w : Lasso) (reads : ReadsWord stated_limits names text (Ok w)) where
-    pub word_printed : (x : T) → Finishes o n (word_timeline w) → IsOutcome {T = T} (Ok (Timeline text None)) input o n (Ok x)
+    word_printed : (x : T) → Finishes o n (word_timeline w) → IsOutcome {T = T} (Ok (Timeline text None)) input o n (Ok x)
     word_printed x h = all_printed input o open_before (Ok (Timeline text None)) n (word_timeline w) (right_word input text names none w reads) x h
 
-    pub word_cut_off : (f : TimelineFault) (e : Refusal) → e ≡ of_timeline f → FailsToShow o n (λ P. P (word_timeline w)) f → IsOutcome {T = T} (Ok (Timeline text None)) input o n (Err e)
+    word_cut_off : (f : TimelineFault) (e : Refusal) → e ≡ of_timeline f → FailsToShow o n (λ P. P (word_timeline w)) f → IsOutcome {T = T} (Ok (Timeline text None)) input o n (Err e)
     word_cut_off timeline_fault.CannotWrite e q h =
         subst (λ (x : Refusal). IsOutcome {T = T} (Ok (Timeline text None)) input o n (Err x)) (sym q)
         (some_printed input o open_before (Ok (Timeline text None)) n (word_timeline w) (right_word input text names none w reads) h)
@@ -90,16 +90,24 @@ module _ {T : Type 0} (input : Input) (o : SinkState) (open_before : o.stage ≡
         subst (λ (s : SinkState). IsOutcome {T = T} (Ok (Timeline text None)) input o s (Err e)) (sym h)
         (nothing_printed input o open_before (Ok (Timeline text None)) e (inl q))
 
+    pub word_ended : (s : Result T TimelineFault) (r : Result T Refusal) → MatchResult s (λ x. r ≡ Ok x) (λ fault. r ≡ Err (of_timeline fault)) → IsSent (λ P. P (word_timeline w)) o n s → IsOutcome (Ok (Timeline text None)) input o n r
+    word_ended (Ok x) r e h = subst (λ (y : Result T Refusal). IsOutcome (Ok (Timeline text None)) input o n y) (sym e) (word_printed x h)
+    word_ended (Err f) r e h = subst (λ (y : Result T Refusal). IsOutcome (Ok (Timeline text None)) input o n y) (sym e) (word_cut_off f (of_timeline f) refl h)
+
   -- the table of both
   module _ (n : SinkState) (formula : List ℕ) (f : FormulaView) (shaped : IsFormula f.nodes f.names) (reads : ReadsFormula stated_limits formula (Ok (reading_of f)))
       (w : Lasso) (beside : ReadsWord stated_limits f.names text (Ok w)) where
-    pub both_printed : (x : T) → HasTrueMarks f w (Finishes o n) → IsOutcome {T = T} (Ok (Timeline text (Some formula))) input o n (Ok x)
+    both_printed : (x : T) → HasTrueMarks f w (Finishes o n) → IsOutcome {T = T} (Ok (Timeline text (Some formula))) input o n (Ok x)
     both_printed x (truth, true_marks, h) = all_printed input o open_before (Ok (Timeline text (Some formula))) n (timeline f w truth) (right_both input text formula f shaped reads w beside truth true_marks) x h
 
-    pub both_cut_off : (fault : TimelineFault) (e : Refusal) → e ≡ of_timeline fault → FailsToShow o n (HasTrueMarks f w) fault → IsOutcome {T = T} (Ok (Timeline text (Some formula))) input o n (Err e)
+    both_cut_off : (fault : TimelineFault) (e : Refusal) → e ≡ of_timeline fault → FailsToShow o n (HasTrueMarks f w) fault → IsOutcome {T = T} (Ok (Timeline text (Some formula))) input o n (Err e)
     both_cut_off timeline_fault.CannotWrite e q (truth, true_marks, h) =
         subst (λ (x : Refusal). IsOutcome {T = T} (Ok (Timeline text (Some formula))) input o n (Err x)) (sym q)
         (some_printed input o open_before (Ok (Timeline text (Some formula))) n (timeline f w truth) (right_both input text formula f shaped reads w beside truth true_marks) h)
     both_cut_off timeline_fault.OutOfMemory e q h =
         subst (λ (s : SinkState). IsOutcome {T = T} (Ok (Timeline text (Some formula))) input o s (Err e)) (sym h)
         (nothing_printed input o open_before (Ok (Timeline text (Some formula))) e (inl q))
+
+    pub both_ended : (s : Result T TimelineFault) (r : Result T Refusal) → MatchResult s (λ x. r ≡ Ok x) (λ fault. r ≡ Err (of_timeline fault)) → IsSent (HasTrueMarks f w) o n s → IsOutcome (Ok (Timeline text (Some formula))) input o n r
+    both_ended (Ok x) r e h = subst (λ (y : Result T Refusal). IsOutcome (Ok (Timeline text (Some formula))) input o n y) (sym e) (both_printed x h)
+    both_ended (Err fault) r e h = subst (λ (y : Result T Refusal). IsOutcome (Ok (Timeline text (Some formula))) input o n y) (sym e) (both_cut_off fault (of_timeline fault) refl h)

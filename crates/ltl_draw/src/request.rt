@@ -1,7 +1,7 @@
 //! Plans: the parsed command line.
 
 /// The output that a command line requests.
-#[derive(Clone, Copy, Debug, PartialEq, Eq)]
+#[derive(Clone, Copy, Debug)]
 pub enum Plan<'a> {
     /// A drawing of the automaton that is read.
     Picture,

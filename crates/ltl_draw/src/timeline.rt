@@ -1,6 +1,6 @@
 //! From the texts of a word and of a formula to their timeline.
 
-ghost use Rattle.std.specs.Prelude.{◌≡◌, [], option_map, Ok, Some, None, IfOk, IfErr};
+ghost use Rattle.std.specs.Prelude.{◌≡◌, [], option_map, Ok, Err, Some, None, IfOk, IfErr, MatchResult};
 ghost use Rattle.ltl_spec.specs.Tools.Limits.{stated_limits};
 ghost use Rattle.ltl_spec.specs.Tools.Outcome as spec;
 ghost use Rattle.ltl_spec.specs.Tools.Programs.{ReadsFormula, ReadsWord};
@@ -63,13 +63,14 @@ pub(crate) fn word_alone<'a, A: Allocator>(
     word_of(alloc, text, &formula)
 }
 
-/// The refusal for a timeline that isn't written completely.
-fn refused(fault: TimelineFault) -> Refusal
-    ensures { result ≡ of_timeline fault }
+/// The outcome of a run that writes a timeline.
+fn outcome(sent: Result<(), TimelineFault>) -> Result<(), Refusal>
+    ensures { MatchResult sent (λ x. result ≡ Ok x) (λ fault. result ≡ Err (of_timeline fault)) }
 {
-    match fault {
-        TimelineFault::CannotWrite => Refusal::CannotWrite,
-        TimelineFault::OutOfMemory => Refusal::OutOfMemory,
+    match sent {
+        Ok(()) => Ok(()),
+        Err(TimelineFault::CannotWrite) => Err(Refusal::CannotWrite),
+        Err(TimelineFault::OutOfMemory) => Err(Refusal::OutOfMemory),
     }
 }
 
@@ -110,10 +111,7 @@ fn word_shown<A: Allocator, S: ByteSink>(
     ensures { (input : spec.Input) → IsOutcome (Ok (Timeline text.now None)) input (S.state output.old) (S.state output.new) result }
 {
     let word = word_alone(alloc, text)?;
-    match send_word(alloc, &word, output) {
-        Ok(()) => Ok(()),
-        Err(fault) => Err(refused(fault)),
-    }
+    outcome(send_word(alloc, &word, output))
 }
 
 /// Reads a formula and a word for it, and writes their timeline.
@@ -128,10 +126,7 @@ fn both_shown<A: Allocator, S: ByteSink>(
 {
     let read = formula_of(alloc, formula)?;
     let word = word_of(alloc, text, &read)?;
-    match send_both(alloc, &read, &word, output) {
-        Ok(()) => Ok(()),
-        Err(fault) => Err(refused(fault)),
-    }
+    outcome(send_both(alloc, &read, &word, output))
 }
 
 /// Reads a word, and a formula if its text is given, and writes the timeline. The formula is read first, as in `ltleval`.

@@ -2,7 +2,7 @@
 use Rattle.std.proofs.Common.{◌≡◌, ◌∙◌, ap, ap₂, sym, refl, ℕ, zero, suc, ◌-◌, ◌<◌, Bool, true, false, List, [], ◌∷◌, ◌++◌, length, map, append_assoc, append-nil, slice_index_or, drop, arith}
 use Rattle.std.specs.Prelude.{codes, flat_map, not, ◌&&◌, ◌||◌, ◌==◌, nat_le, if◌then◌else◌}
 use Rattle.std.specs.Fmt.{decimal}
-use Rattle.std.specs.List.{list_all, list_any, range_with_len}
+use Rattle.std.specs.List.{list_all, list_any}
 use Rattle.std.proofs.lemmas.Bool.Decides.{nat_tests}
 use Rattle.ltl_spec.specs.Semantics.Word.{Name}
 use Rattle.ltl_spec.proofs.Collections.MemberLaws.{at_map}
@@ -13,11 +13,8 @@ use Rattle.ltl_streams.specs.Streams.{SinkState}
 use Rattle.ltl_streams.proofs.SendLaws.{Leaves, leaves_all, leaves_step, sends_nothing}
 use Rattle.ltl_sets.specs.declared.literal.Literal as made
 use Rattle.ltl_sets.specs.Literals.{literal_of, cube_of}
-use Rattle.ltl_text.proofs.HoaLaws.{states_from}
 use Rattle.ltl_text.proofs.TextLaws.{joined_led, led}
-use Rattle.ltl_pictures.specs.Picture.{arrows, edges_at, is_accepting, is_state_based}
-use Rattle.ltl_pictures.specs.DotText.{acceptance_name, arrow_text, disc, dot_text, edge_text, escaped, formula_text, head_text, literal_text, node_end, node_text, state_text}
-use Rattle.ltl_pictures.specs.Pieces.{states_text}
+use Rattle.ltl_pictures.specs.DotText.{acceptance_name, disc, edge_text, escaped, formula_text, head_text, literal_text, node_end, node_text}
 
 -- ---- element by element
 
@@ -70,9 +67,6 @@ module _ (names : List Name) where
   formula_goes_on rest l ls e =
       ap (λ t. led (codes " && ") (literals_of t)) e ∙ append_assoc (codes " && ") (literal_text names (literal_of l)) (led (codes " && ") (literals_of ls))
 
-  pub edge_pieces : (b : Bool) (e : Edge) → edge_text names b e ≡ formula_text names e.cube ++ (if b then flat_map disc e.marks else [])
-  edge_pieces b e = refl
-
   pub shown_edge : (b : Bool) (e : Edge) → b ≡ true → edge_text names b e ≡ formula_text names e.cube ++ flat_map disc e.marks
   shown_edge b e h = ap (λ (x : Bool). edge_text names x e) h
 
@@ -96,10 +90,6 @@ disc_bracketed k h = rw (not_zero k h, above_ten k h, above_twenty k h) (append_
 pub node_pieces : (accepting colour : Bool) (k : ℕ) (end : List ℕ) → end ≡ node_end accepting colour → node_text accepting colour k ≡ codes "  " ++ (decimal k ++ end)
 node_pieces accepting colour k end e = append_assoc (codes "  ") (decimal k) (node_end accepting colour) ∙ ap (λ t. codes "  " ++ (decimal k ++ t)) (sym e)
 
-pub state_pieces : (A : MarkedAutomaton) (k : ℕ) (by double : Bool) (es : List Edge) (names : List Name) → by ≡ is_state_based A → es ≡ edges_at A k → names ≡ A.names → double ≡ (by && is_accepting es)
-    → state_text A k ≡ node_text double false k ++ flat_map (arrow_text names (not by) false) (arrows k es)
-state_pieces A k by double es names b e n d = rw (d, b, e, n) refl
-
 -- ---- the head
 pub many_sets : (n : ℕ) → 1 < n → acceptance_name n ≡ codes "generalized-Buchi " ++ decimal n
 many_sets zero h = absurd (omega (arith, h))
@@ -116,13 +106,6 @@ head_pieces A note = regroup (codes "digraph automaton {\n  rankdir=LR\n  labell
   where
     regroup : (a b n c d e : List ℕ) → ((((a ++ b) ++ n) ++ c) ++ d) ++ e ≡ a ++ (b ++ (n ++ (c ++ (d ++ e))))
     regroup a b n c d e = simp append_assoc
-
--- ---- the whole text
-pub states_begin : (A : MarkedAutomaton) → states_text A ≡ states_from (state_text A) A.states 0
-states_begin A = let e : A.states ≡ A.states - 0 = omega arith in ap (λ n. flat_map (state_text A) (range_with_len 0 n)) e
-
-pub dot_pieces : (A : MarkedAutomaton) → dot_text A ≡ head_text A [] ++ (states_text A ++ codes "}\n")
-dot_pieces A = append_assoc (head_text A []) (states_text A) (codes "}\n")
 
 -- ---- all of a list pass
 module _ {X : Type 0} (p : X → Bool) (d : X) where

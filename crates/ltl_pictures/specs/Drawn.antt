@@ -1,22 +1,11 @@
--- The invariant of a drawing, and which edges it draws.
-use Rattle.std.specs.Prelude.{◌≡◌, ℕ, ◌<◌, ◌↔◌, Bool, List, [], length, map, sum_by, All, slice_index_or}
+-- Which edges a drawing draws.
+use Rattle.std.specs.Prelude.{◌≡◌, ℕ, ◌↔◌, List, length, map, sum_by, All}
 use Rattle.ltl_spec.specs.Collections.Sets.{Has}
 use Rattle.ltl_spec.specs.Collections.Lists.{HasNoRepeats}
 use Rattle.ltl_spec.specs.Automata.Automaton.{Edge}
 use Rattle.ltl_spec.specs.Hoa.HoaReading.{MarkedAutomaton}
-use Rattle.ltl_models.specs.BaView.{IsTargetOrder}
 use Rattle.ltl_hoa.specs.MarkedView.{HasPropositionsBelow}
-use Rattle.ltl_pictures.specs.Picture.{Arrow, arrows, edges_at, is_state_based}
-
--- for each state the indices of its edges, sorted by target and then by index
-pub record HaveOrders (A : MarkedAutomaton) (places : List (List ℕ)) : Type 0 where
-  pub long : length places ≡ A.states
-  pub orders : (k : ℕ) → k < A.states → IsTargetOrder (edges_at A k) (slice_index_or places k [])
-
--- the invariant of the type
-pub record IsDrawing (A : MarkedAutomaton) (places : List (List ℕ)) (by_states : Bool) : Type 0 where
-  pub ordered : HaveOrders A places
-  pub states : by_states ≡ is_state_based A
+use Rattle.ltl_pictures.specs.Picture.{Arrow, arrows}
 
 -- the edges' propositions are among the first n
 abbrev pub AreNamed : ℕ → List Edge → Type 0

@@ -1,12 +1,10 @@
 -- Parts of the text of a drawing.
-use Rattle.std.specs.Prelude.{ℕ, Bool, List, ◌++◌, map, flat_map, codes, decimal}
-use Rattle.std.specs.List.{range_with_len}
+use Rattle.std.specs.Prelude.{ℕ, Bool, List, ◌++◌, map, codes, decimal}
 use Rattle.ltl_spec.specs.Collections.Lists.{joined_by}
 use Rattle.ltl_spec.specs.Semantics.Word.{Name}
 use Rattle.ltl_spec.specs.Automata.Automaton.{Edge}
-use Rattle.ltl_spec.specs.Hoa.HoaReading.{MarkedAutomaton}
 use Rattle.ltl_text.specs.Options.{edge_at}
-use Rattle.ltl_pictures.specs.DotText.{arrow_end, edge_text, state_text}
+use Rattle.ltl_pictures.specs.DotText.{arrow_end, edge_text}
 
 -- an arrow up to its label
 abbrev pub front_text : ℕ → ℕ → List ℕ
@@ -19,6 +17,3 @@ lines_text names shown es ps = joined_by (codes "\\n") (map (λ p. edge_text nam
 -- the arrow to a target with the edges with these indices
 abbrev pub placed_text : List Name → Bool → Bool → ℕ → List Edge → ℕ → List ℕ → List ℕ
 placed_text names shown colour k es t ps = front_text k t ++ (lines_text names shown es ps ++ arrow_end colour)
-
-abbrev pub states_text : MarkedAutomaton → List ℕ
-states_text A = flat_map (state_text A) (range_with_len 0 A.states)

@@ -1,5 +1,5 @@
 use Rattle.std.proofs.lemmas.Result.{err_from_is_err_and}
-use Rattle.ltl_draw.proofs.TimelineLaws.{both_cut_off, both_printed, formula_unread, word_beside_unread}
+use Rattle.ltl_draw.proofs.TimelineLaws.{both_ended, formula_unread, word_beside_unread}
 use Rattle.ltl_draw.proofs.timeline.both_shown.Goals as goal
 
 pub returns-in_err-read : goal.returns-in_err-read
@@ -12,8 +12,5 @@ returns-in_err-word g c =
     let p = err_from_is_err_and c.from_residual-in_err-word.result c.from_residual-in_err-word.ensures.1 in
     rw (p.1, p.2) (λ input. word_beside_unread input _ c.requires _ _ c.in_ok-read.read c.in_ok-read.ensures.step _ c.in_err-word.ensures)
 
-pub returns-in-Ok : goal.returns-in-Ok
-returns-in-Ok g c = λ input. both_printed input _ c.requires _ _ _ c.in_ok-read.read c.in_ok-read.ensures.formula c.in_ok-read.ensures.step c.in_ok-word.word c.in_ok-word.ensures _ c.in-Ok.ensures
-
 pub returns : goal.returns
-returns g c = λ input. both_cut_off input _ c.requires _ _ _ c.in_ok-read.read c.in_ok-read.ensures.formula c.in_ok-read.ensures.step c.in_ok-word.word c.in_ok-word.ensures _ _ c.refused.ensures c.in-Err.ensures
+returns g c = λ input. both_ended input _ c.requires _ _ _ c.in_ok-read.read c.in_ok-read.ensures.formula c.in_ok-read.ensures.step c.in_ok-word.word c.in_ok-word.ensures c.send_both.result _ c.outcome.ensures c.send_both.ensures
