@@ -3,7 +3,7 @@ use Rattle.std.specs.Prelude.{flat_map}
 use Rattle.ltl_hoa.specs.MarkedView.{edge_of}
 use Rattle.ltl_pictures.proofs.PrintLaws.{lacks_all, lacks_last, lacks_step, prints_as, prints_nothing}
 use Rattle.ltl_pictures.specs.DotText.{disc}
-use Rattle.ltl_pictures.proofs.PutLaws.{edge_pieces, plain_edge, shown_edge}
+use Rattle.ltl_pictures.proofs.PutLaws.{plain_edge, shown_edge}
 use Rattle.ltl_pictures.proofs.label.put_edge.Goals as goal
 
 pub returns-else-shown : goal.returns-else-shown
