@@ -236,7 +236,7 @@ fn each_byte_of_output(rt: HostRuntime) {
             let outcome = ended(rt.alloc(), &rt.alloc(), words, Given { rest, left }, room);
             expect(
                 &rt,
-                &ended,
+                &outcome,
                 5,
                 &wanted.as_bytes()[..room],
                 "ltldraw: cannot write\n",
