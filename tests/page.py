@@ -201,7 +201,7 @@ def try_hostile(page, count):
 
 def try_minutes(page, count):
     begun = time.monotonic()
-    text = seen(page.ask("[](" + " U ".join(f"<>p{k}" for k in range(11)) + ")"))
+    text = seen(page.ask("[](" + " U ".join(f"<>p{k}" for k in range(16)) + ")"))
     told = "ltl2ba was stopped: a run has 10 seconds" in text or "ltl2ba: out of memory" in text
     count.expect("a formula that takes minutes is stopped", (told, time.monotonic() - begun < 60), (True, True))
 
