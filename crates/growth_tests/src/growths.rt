@@ -13,10 +13,10 @@ use ltl_buchi::{Ba, BaFault, Options, generalized, levels, merge, merge_ba, renu
 use ltl_check::{CheckFault, Graph, PRODUCT_LIMIT, Product, Steps, check, find};
 use ltl_formula::{BuildFault, Table};
 use ltl_hoa::{HoaFault, Marked, hoa_read};
+use ltl_pictures::{TimelineFault, timeline_to};
 use ltl_sets::RowSet;
 use ltl_streams::WriterSink;
 use ltl_syntax::{Formula, ReadFault, read};
-use ltl_pictures::{TimelineFault, timeline_to};
 use ltl_word::{Lasso, WordFault, holds};
 use refusing::Refusing;
 use std::alloc::{Allocator, Global};

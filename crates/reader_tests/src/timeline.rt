@@ -1,8 +1,8 @@
 //! Tests of timelines. The tables were made by hand.
 
+use ltl_pictures::{timeline_to, word_timeline_to};
 use ltl_streams::WriterSink;
 use ltl_syntax::read;
-use ltl_pictures::{timeline_to, word_timeline_to};
 use ltl_word::Lasso;
 use refusing::Refusing;
 use std::alloc::{Allocator, Global};
