@@ -1,4 +1,4 @@
--- Equal pairs, joins that are remembered, and components that are joined one conjunct after another.
+-- Equal pairs, joins that are remembered, and what is kept of the joins of a component.
 use Rattle.std.proofs.Common.{◌≡◌, ℕ, ◌<◌, Bool, true, false, ◌&&◌, inl, inr, List, [], ◌∷◌, length, map, refl, sym, ◌∙◌, ap, subst}
 use Rattle.std.specs.Prelude.{nat_eq}
 use Rattle.std.specs.Cmp.{first_so, second_so}

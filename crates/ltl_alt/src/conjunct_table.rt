@@ -278,8 +278,8 @@ fn is_release<A: Allocator>(table: &Table<'_, A>, place: usize) -> bool {
     }
 }
 
-/// The one of these places whose row is split next: the first place of a release row, or the first place if there is no release row. Conjuncts are joined
-/// in the order of their numbers. Release rows stay in the sets of rows that follow, so their joins come first and are made once.
+/// The one of these places whose row is split next: the first place of a release row, or the first place if there is no release row. Of joins that cost the
+/// same, that of the conjuncts with the lowest numbers comes first. Release rows stay in the sets of rows that follow, so their joins are needed again.
 fn next_row<A: Allocator>(table: &Table<'_, A>, rest: &RowSet) -> Option<usize>
     ensures { MatchOption result (rest.now ≡ []) (λ i. Has rest.now i) }
 {
