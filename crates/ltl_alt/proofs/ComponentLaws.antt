@@ -24,27 +24,6 @@ joined_on f ps is = fold (λ xs k. join xs (f k)) ps is
 pub joined_pruned : {A : Type 0} (T : Table) (r : Rule) (f : Fulfilment A) (ps js zs : List Pair) → IsFit T r f → set_of pair_cmp js ≡ set_of pair_cmp ps → IsPruned r f js zs → IsListed (StandsFor T r) ps zs
 joined_pruned T r f ps js zs fit e w = pruned_of T r f ps js zs fit (kept_same (stands_in T r) ps js e) w
 
-pub joins_begin : (T : Table) (r : Rule) (f : ℕ → List Pair) (e is : List ℕ) (ps : List Pair) → is ≡ e → ps ≡ empty_pair ∷ [] → IsKeptBy (StandsFor T r) (joined_on f (empty_pair ∷ []) e) (joined_on f ps is)
-joins_begin T r f e is ps d g =
-    subst (λ js. IsKeptBy (StandsFor T r) (joined_on f (empty_pair ∷ []) e) (joined_on f ps js)) (sym d)
-    (subst (λ xs. IsKeptBy (StandsFor T r) (joined_on f (empty_pair ∷ []) e) (joined_on f xs e)) (sym g) (kept_all (stands_in T r) (joined_on f (empty_pair ∷ []) e)))
-
-pub one_rises : (ps : List Pair) → ps ≡ empty_pair ∷ [] → IsRising pair_cmp ps
-one_rises ps f = subst (IsRising pair_cmp) (sym f) (tt, tt)
-
--- a member more
-pub joins_step : (T : Table) (r : Rule) (f : ℕ → List Pair) (all : List Pair) (is rest : List ℕ) (ps qs xs : List Pair) (i : ℕ) → is ≡ i ∷ rest → ps ≡ xs → IsKeptBy (StandsFor T r) all (joined_on f ps is)
-    → IsListed (StandsFor T r) (join xs (f i)) qs → IsKeptBy (StandsFor T r) all (joined_on f qs rest)
-joins_step T r f all is rest ps qs xs i d e k l =
-    let o = stands_in T r in
-    let start : IsKeptBy (StandsFor T r) all (joined_on f xs (i ∷ rest)) = subst (λ ys. IsKeptBy (StandsFor T r) all (joined_on f ys (i ∷ rest))) e
-    (subst (λ js. IsKeptBy (StandsFor T r) all (joined_on f ps js)) d k) in
-    kept_on o all (joined_on f (join xs (f i)) rest) (joined_on f qs rest) start (kept_rest o f rest (join xs (f i)) qs l.kept)
-
--- all members were joined
-pub joins_end : (T : Table) (r : Rule) (f : ℕ → List Pair) (all : List Pair) (is : List ℕ) (ps : List Pair) → is ≡ [] → IsKeptBy (StandsFor T r) all (joined_on f ps is) → IsRising pair_cmp ps → IsListed (StandsFor T r) all ps
-joins_end T r f all is ps d k rising = record { kept = subst (λ js. IsKeptBy (StandsFor T r) all (joined_on f ps js)) d k; rising = rising }
-
 -- they are sound where the conjuncts are
 pub joined_sound : (conjunct : ℕ → List Pair) → ((k : ℕ) → AreSound (conjunct k)) → (g : List ℕ) → AreSound (joined_on conjunct (empty_pair ∷ []) g)
 joined_sound conjunct sound g =

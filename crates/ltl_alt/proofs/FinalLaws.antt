@@ -12,9 +12,7 @@ use Rattle.ltl_spec.proofs.Collections.Orders.{pair_linear}
 use Rattle.ltl_spec.proofs.Collections.SetLaws.{Has-set_of, IsRising-set_of, set_of_same}
 use Rattle.ltl_spec.proofs.Transitions.ProductTransitions.{transitions_of}
 use Rattle.ltl_alt.specs.TransitionView.{AllSets}
-use Rattle.ltl_alt.specs.declared.finals.Factor.{Factor}
-use Rattle.ltl_alt.specs.declared.finals.Factor.TheVariants as factor
-use Rattle.ltl_alt.specs.FinalView.{AreFinals, AreWithin, IsFinal, IsListOf, IsLonger, IsWithin, list_of}
+use Rattle.ltl_alt.specs.FinalView.{AreFinals, AreWithin, IsFinal, IsListOf, IsLonger, made_of}
 use Rattle.ltl_alt.specs.declared.memo.JoinKey.{JoinKey}
 use Rattle.ltl_alt.specs.ConjunctTableView as conjuncts
 use Rattle.ltl_alt.proofs.JoinLaws.{same_key, key_exact}
@@ -46,31 +44,19 @@ list_longer T keep pairs more lists new key n g h w = record {
 pub final_longer : (T : Table) (keep : Bool) (ps : List (List Pair)) (lists new : List (List Transition)) (component : RowSet) (n : ℕ) → IsLonger lists new → IsFinal T keep ps lists component n → IsFinal T keep ps new component n
 final_longer T keep ps lists new component n h w = (longer_within lists new h n w.0, longer_there [] lists new h n w.0 ∙ w.1)
 
-some_longer : (T : Table) (keep : Bool) (ps : List (List Pair)) (lists new : List (List Transition)) (component : RowSet) (o : Option ℕ) → IsLonger lists new → IfSome o (IsFinal T keep ps lists component) → IfSome o (IsFinal T keep ps new component)
-some_longer T keep ps lists new component None h w = tt
-some_longer T keep ps lists new component (Some n) h w = final_longer T keep ps lists new component n h w
-
-pub finals_longer : (T : Table) (keep : Bool) (ps pairs more : List (List Pair)) (lists new : List (List Transition)) (of_joins : List (JoinKey × ℕ)) (of_components : List (RowSet × Option ℕ)) → conjuncts.IsLonger pairs more → IsLonger lists new
+pub finals_longer : (T : Table) (keep : Bool) (ps pairs more : List (List Pair)) (lists new : List (List Transition)) (of_joins : List (JoinKey × ℕ)) (of_components : List (RowSet × ℕ)) → conjuncts.IsLonger pairs more → IsLonger lists new
     → AreFinals T keep ps pairs lists of_joins of_components → AreFinals T keep ps more new of_joins of_components
 finals_longer T keep ps pairs more lists new of_joins of_components g h w = record {
   of_joins = λ key n k. list_longer T keep pairs more lists new key n g h (w.of_joins key n k);
-  of_components = λ component o k. some_longer T keep ps lists new component o h (w.of_components component o k);
+  of_components = λ component n k. final_longer T keep ps lists new component n h (w.of_components component n k);
 }
 
 -- factors stay what they are
-pub within_longer : {A : Type 0} (lists new : List (List Transition)) (f : Factor A) → IsLonger lists new → IsWithin lists f → IsWithin new f
-within_longer lists new (factor.Known k) h w = longer_within lists new h k w
-within_longer lists new (factor.Made ts) h w = tt
-
-pub factor_longer : {A : Type 0} (lists new : List (List Transition)) (f : Factor A) → IsLonger lists new → IsWithin lists f → list_of new f ≡ list_of lists f
-factor_longer lists new (factor.Known k) h w = longer_there [] lists new h k w
-factor_longer lists new (factor.Made ts) h w = refl
-
-pub factors_longer : {A : Type 0} (lists new : List (List Transition)) (fs : List (Factor A)) → IsLonger lists new → AreWithin lists fs → map (list_of new) fs ≡ map (list_of lists) fs
+pub factors_longer : (lists new : List (List Transition)) (ks : List ℕ) → IsLonger lists new → AreWithin lists ks → map (made_of new) ks ≡ map (made_of lists) ks
 factors_longer lists new [] h w = refl
-factors_longer lists new (f ∷ fs) h w =
-    let first = factor_longer lists new f h (w f (inl refl)) in
-    let rest = factors_longer lists new fs h (λ x k. w x (inr k)) in
+factors_longer lists new (k ∷ ks) h w =
+    let first = longer_there [] lists new h k (w k (inl refl)) in
+    let rest = factors_longer lists new ks h (λ x m. w x (inr m)) in
     λ i. first i ∷ rest i
 
 -- ---- one more
@@ -78,7 +64,7 @@ factors_longer lists new (f ∷ fs) h w =
 pub set_exact : (x y : RowSet) → pointwise nat_eq x y ≡ true → x ≡ y
 set_exact x y e = (bytes_decides x y).0 e
 
-pub lists_more : (T : Table) (keep : Bool) (ps pairs : List (List Pair)) (lists : List (List Transition)) (of_joins more : List (JoinKey × ℕ)) (of_components : List (RowSet × Option ℕ)) (key : JoinKey) (n : ℕ) → AreFinals T keep ps pairs lists of_joins of_components
+pub lists_more : (T : Table) (keep : Bool) (ps pairs : List (List Pair)) (lists : List (List Transition)) (of_joins more : List (JoinKey × ℕ)) (of_components : List (RowSet × ℕ)) (key : JoinKey) (n : ℕ) → AreFinals T keep ps pairs lists of_joins of_components
     → IsListOf T keep pairs lists key n → more ≡ insert_entry same_key of_joins key n → AreFinals T keep ps pairs lists more of_components
 lists_more T keep ps pairs lists of_joins more of_components key n w is e = record {
   of_joins = λ l m h. elim (exact_cases same_key key_exact of_joins key l n m (subst (λ es. Has es (l, m)) e h)) [
@@ -88,22 +74,22 @@ lists_more T keep ps pairs lists of_joins more of_components key n w is e = reco
   of_components = w.of_components;
 }
 
-pub components_more : (T : Table) (keep : Bool) (ps pairs : List (List Pair)) (lists : List (List Transition)) (of_joins : List (JoinKey × ℕ)) (of_components more : List (RowSet × Option ℕ)) (component : RowSet) (o : Option ℕ) → AreFinals T keep ps pairs lists of_joins of_components
-    → IfSome o (IsFinal T keep ps lists component) → more ≡ insert_entry (pointwise nat_eq) of_components component o → AreFinals T keep ps pairs lists of_joins more
+pub components_more : (T : Table) (keep : Bool) (ps pairs : List (List Pair)) (lists : List (List Transition)) (of_joins : List (JoinKey × ℕ)) (of_components more : List (RowSet × ℕ)) (component : RowSet) (o : ℕ) → AreFinals T keep ps pairs lists of_joins of_components
+    → IsFinal T keep ps lists component o → more ≡ insert_entry (pointwise nat_eq) of_components component o → AreFinals T keep ps pairs lists of_joins more
 components_more T keep ps pairs lists of_joins of_components more component o w is e = record {
   of_joins = w.of_joins;
   of_components = λ g p h. elim (exact_cases (pointwise nat_eq) set_exact of_components component g o p (subst (λ es. Has es (g, p)) e h)) [
     | inl k ↦ w.of_components g p k
-    | inr k ↦ subst (λ x. IfSome p (IsFinal T keep ps lists x)) (sym k.0) (subst (λ q. IfSome q (IsFinal T keep ps lists component)) (sym k.1) is)
+    | inr k ↦ subst (λ x. IsFinal T keep ps lists x p) (sym k.0) (subst (IsFinal T keep ps lists component) (sym k.1) is)
   ];
 }
 
 -- what is found
-pub list_known : (T : Table) (keep : Bool) (ps pairs : List (List Pair)) (lists : List (List Transition)) (of_joins : List (JoinKey × ℕ)) (of_components : List (RowSet × Option ℕ)) (key : JoinKey) (n : ℕ) → AreFinals T keep ps pairs lists of_joins of_components
+pub list_known : (T : Table) (keep : Bool) (ps pairs : List (List Pair)) (lists : List (List Transition)) (of_joins : List (JoinKey × ℕ)) (of_components : List (RowSet × ℕ)) (key : JoinKey) (n : ℕ) → AreFinals T keep ps pairs lists of_joins of_components
     → Some n ≡ lookup (same_key key) of_joins → IsListOf T keep pairs lists key n
 list_known T keep ps pairs lists of_joins of_components key n w e = map_known same_key key_exact (IsListOf T keep pairs lists key) key of_joins (Some n) e (λ m h. w.of_joins key m h)
 
-pub component_known : (T : Table) (keep : Bool) (ps pairs : List (List Pair)) (lists : List (List Transition)) (of_joins : List (JoinKey × ℕ)) (of_components : List (RowSet × Option ℕ)) (component : RowSet) (o : Option ℕ) → AreFinals T keep ps pairs lists of_joins of_components
-    → Some o ≡ lookup (pointwise nat_eq component) of_components → IfSome o (IsFinal T keep ps lists component)
+pub component_known : (T : Table) (keep : Bool) (ps pairs : List (List Pair)) (lists : List (List Transition)) (of_joins : List (JoinKey × ℕ)) (of_components : List (RowSet × ℕ)) (component : RowSet) (o : ℕ) → AreFinals T keep ps pairs lists of_joins of_components
+    → Some o ≡ lookup (pointwise nat_eq component) of_components → IsFinal T keep ps lists component o
 component_known T keep ps pairs lists of_joins of_components component o w e =
-    map_known (pointwise nat_eq) set_exact (λ p. IfSome p (IsFinal T keep ps lists component)) component of_components (Some o) e (λ p h. w.of_components component p h)
+    map_known (pointwise nat_eq) set_exact (IsFinal T keep ps lists component) component of_components (Some o) e (λ p h. w.of_components component p h)

@@ -47,11 +47,6 @@ pub kept_of : {A : Type 0} (T : Table) (r : Rule) (f : Fulfilment A) (lists : Li
 kept_of T r f lists left right xs ys js zs fit e d g w =
     joined_pruned T r f (join (conjunct_of lists left) (conjunct_of lists right)) js zs fit (g ∙ (λ i. set_of pair_cmp (join (e i) (d i)))) w
 
--- with a conjunct more
-pub conjunct_joined : {A : Type 0} (T : Table) (r : Rule) (f : Fulfilment A) (conjuncts : List (List Pair)) (ps : List Pair) (conjunct : ℕ) (ys js zs : List Pair) → IsFit T r f → ys ≡ conjunct_of conjuncts conjunct
-    → set_of pair_cmp js ≡ set_of pair_cmp (join ps ys) → IsPruned r f js zs → IsListed (StandsFor T r) (join ps (conjunct_of conjuncts conjunct)) zs
-conjunct_joined T r f conjuncts ps conjunct ys js zs fit d g w = joined_pruned T r f (join ps (conjunct_of conjuncts conjunct)) js zs fit (g ∙ ap (λ xs. set_of pair_cmp (join ps xs)) d) w
-
 module _ (T : Table) (r : Rule) where
   -- a join that was made
   pub new_join : (old new : List (List Pair)) (key : JoinKey) (joined : ℕ) (zs : List Pair) → key.left < length old → key.right < length old → IsLonger old new → IsListAt new zs joined

@@ -22,11 +22,10 @@ use Rattle.ltl_spec.proofs.Transitions.ConjunctJoins.{join_of, sound_join_of}
 use Rattle.ltl_spec.proofs.Transitions.ProductTransitions.{in_order, product, transitions_of_cases}
 use Rattle.ltl_spec.proofs.Transitions.SameJoins.{AreSound}
 use Rattle.ltl_spec.proofs.Transitions.UnimpliedLaws.{marks_too_linear}
-use Rattle.ltl_alt.specs.declared.finals.Factor.{Factor}
-use Rattle.ltl_alt.specs.declared.finals.Factor.TheVariants as factor
-use Rattle.ltl_alt.specs.FinalView.{IsLonger, list_of, made_of}
+use Rattle.ltl_alt.specs.FinalView.{IsLonger, made_of}
 use Rattle.ltl_alt.specs.KeyView.{AreKeys, AreNumbersOf, IsKeyOf, IsMoved, HasSameTransitions}
-use Rattle.ltl_alt.proofs.MapLaws.{entry_cases, entry_passes, longer_there, longer_within}
+use Rattle.ltl_alt.proofs.FinalLaws.{factors_longer}
+use Rattle.ltl_alt.proofs.MapLaws.{entry_cases, entry_passes, longer_within}
 
 -- ---- two at once in another order
 
@@ -167,19 +166,12 @@ map_insert f (y ∷ xs) (suc i) x = ap (λ ys. f y ∷ ys) (map_insert f xs i x)
 -- ---- keys
 
 -- the numbers of the factors of a set
-pub key_of : {A : Type 0} (T : Table) (keep : Bool) (lists : List (List Transition)) (factors : List (Factor A)) (numbers : List ℕ) (state : RowSet) → AreNumbersOf lists factors numbers → AllListsProper (map (list_of lists) factors)
-    → transitions T keep state ≡ in_order (all_products T (map (list_of lists) factors)) → IsKeyOf T keep lists numbers state
+pub key_of : (T : Table) (keep : Bool) (lists : List (List Transition)) (factors numbers : List ℕ) (state : RowSet) → AreNumbersOf lists factors numbers → AllListsProper (map (made_of lists) factors)
+    → transitions T keep state ≡ in_order (all_products T (map (made_of lists) factors)) → IsKeyOf T keep lists numbers state
 key_of T keep lists factors numbers state w proper e = record {
   within = w.within;
-  transitions = e ∙ moved_order T (map (list_of lists) factors) (map (made_of lists) numbers) w.moved proper;
+  transitions = e ∙ moved_order T (map (made_of lists) factors) (map (made_of lists) numbers) w.moved proper;
 }
-
-made_longer : (lists new : List (List Transition)) (ns : List ℕ) → IsLonger lists new → ((k : ℕ) → Has ns k → k < length lists) → map (made_of new) ns ≡ map (made_of lists) ns
-made_longer lists new [] g f = refl
-made_longer lists new (n ∷ ns) g f =
-    let first = longer_there [] lists new g n (f n (inl refl)) in
-    let rest = made_longer lists new ns g (λ k h. f k (inr h)) in
-    λ i. first i ∷ rest i
 
 -- keys stay keys where more lists are listed
 pub keys_longer : {A : Type 0} (T : Table) (keep : Bool) (lists new : List (List Transition)) (states : List (Vec ℕ A × RowSet)) → IsLonger lists new → AreKeys T keep lists states → AreKeys T keep new states
@@ -187,17 +179,17 @@ keys_longer T keep lists new states g w key state h =
     let is = w key state h in
     record {
       within = λ k m. longer_within lists new g k (is.within k m);
-      transitions = is.transitions ∙ ap (λ tss. in_order (all_products T tss)) (sym (made_longer lists new key.items g is.within));
+      transitions = is.transitions ∙ ap (λ tss. in_order (all_products T tss)) (sym (factors_longer lists new key.items g is.within));
     }
 
 -- none yet
-pub numbers_none : {A : Type 0} (lists : List (List Transition)) (factors : List (Factor A)) (numbers : List ℕ) → factors ≡ [] → numbers ≡ [] → AreNumbersOf lists factors numbers
+pub numbers_none : (lists : List (List Transition)) (factors numbers : List ℕ) → factors ≡ [] → numbers ≡ [] → AreNumbersOf lists factors numbers
 numbers_none lists factors numbers e d = subst (λ fs. AreNumbersOf lists fs numbers) (sym e) (subst (AreNumbersOf lists []) (sym d) (record { within = λ k h. absurd h; moved = refl }))
 
 -- one more
-pub numbers_more : {A : Type 0} (lists : List (List Transition)) (factors more : List (Factor A)) (numbers new : List ℕ) (n i : ℕ) → AreNumbersOf lists factors numbers → n < length lists → i ≤ length numbers → more ≡ factor.Known n ∷ factors → new ≡ insert numbers i n
+pub numbers_more : (lists : List (List Transition)) (factors more numbers new : List ℕ) (n i : ℕ) → AreNumbersOf lists factors numbers → n < length lists → i ≤ length numbers → more ≡ n ∷ factors → new ≡ insert numbers i n
     → AreNumbersOf lists more new
-numbers_more lists factors more numbers new n i w l m e d = subst (λ fs. AreNumbersOf lists fs new) (sym e) (subst (AreNumbersOf lists (factor.Known n ∷ factors)) (sym d) (record {
+numbers_more lists factors more numbers new n i w l m e d = subst (λ fs. AreNumbersOf lists fs new) (sym e) (subst (AreNumbersOf lists (n ∷ factors)) (sym d) (record {
   within = λ k h. elim (inserted_cases numbers i n k h) [ inl x ↦ w.within k x | inr q ↦ subst (λ x. x < length lists) (sym q) l ];
   moved = (map (made_of lists) numbers, i, w.moved, (let c = map_length (made_of lists) numbers in omega arith), map_insert (made_of lists) numbers i n);
 }))
@@ -223,13 +215,13 @@ keys_more T keep lists states more key state is w e k s h =
     ]
 
 -- what is behind a place
-pub dropped_is : {X : Type 0} (xs : List X) (j : ℕ) (x : X) → j < length xs → x ≡ slice_index_or xs j x → drop j xs ≡ x ∷ drop (j + 1) xs
-dropped_is {X = X} xs j x l e = by_suc xs j l e ∙ ap (λ n. x ∷ drop n xs) (let s : suc j ≡ j + 1 = omega arith in s)
+pub dropped_is : (ks : List ℕ) (j : ℕ) → j < length ks → drop j ks ≡ slice_index_or ks j 0 ∷ drop (j + 1) ks
+dropped_is ks j l = by_suc ks j l ∙ ap (λ n. slice_index_or ks j 0 ∷ drop n ks) (let s : suc j ≡ j + 1 = omega arith in s)
   where
-    by_suc : (ys : List X) (i : ℕ) → i < length ys → x ≡ slice_index_or ys i x → drop i ys ≡ x ∷ drop (suc i) ys
-    by_suc [] i m d = absurd (omega arith)
-    by_suc (y ∷ ys) zero m d = ap (λ z. z ∷ ys) (sym d)
-    by_suc (y ∷ ys) (suc i) m d = by_suc ys i (omega arith) d
+    by_suc : (ns : List ℕ) (i : ℕ) → i < length ns → drop i ns ≡ slice_index_or ns i 0 ∷ drop (suc i) ns
+    by_suc [] i m = absurd (omega arith)
+    by_suc (n ∷ ns) zero m = refl
+    by_suc (n ∷ ns) (suc i) m = by_suc ns i (omega arith)
 
 pub nothing_behind : {X : Type 0} (xs : List X) (n : ℕ) → n ≡ length xs → drop n xs ≡ []
 nothing_behind xs n e = ap (λ m. drop m xs) e ∙ all xs

@@ -73,10 +73,10 @@ dropped_at tss j l = by_suc tss j l ∙ ap (λ n. slice_index_or tss j [] ∷ dr
     by_suc (us ∷ uss) zero m = refl
     by_suc (us ∷ uss) (suc i) m = by_suc uss i (omega arith)
 
-pub mapped_at : {X : Type 0} (h : X → List Transition) (xs : List X) (j : ℕ) (x : X) → j < length xs → x ≡ slice_index_or xs j x → slice_index_or (map h xs) j [] ≡ h x
-mapped_at h [] j x l e = absurd (omega arith)
-mapped_at h (y ∷ ys) zero x l e = ap h (sym e)
-mapped_at h (y ∷ ys) (suc j) x l e = mapped_at h ys j x (omega arith) e
+pub mapped_at : (h : ℕ → List Transition) (ks : List ℕ) (j : ℕ) → j < length ks → slice_index_or (map h ks) j [] ≡ h (slice_index_or ks j 0)
+mapped_at h [] j l = absurd (omega arith)
+mapped_at h (k ∷ ks) zero l = refl
+mapped_at h (k ∷ ks) (suc j) l = mapped_at h ks j (omega arith)
 
 -- what the second list has in another order, and so the product
 products_moved : (ts us vs : List Transition) → IsPermutation us vs → IsPermutation (product ts us) (product ts vs)

@@ -1,5 +1,5 @@
--- The memo table of the transitions of components, and the factors of a set of rows.
-use Rattle.std.specs.Prelude.{◌≡◌, ℕ, ◌<◌, Bool, List, [], ◌++◌, length, map, Option, IfSome, slice_index_or}
+-- The memo table of the transitions of components, and the factors of a set of rows, which are numbers of its lists.
+use Rattle.std.specs.Prelude.{◌≡◌, ℕ, ◌<◌, Bool, List, [], ◌++◌, length, map, slice_index_or}
 use Rattle.ltl_spec.specs.Collections.Sets.{Has}
 use Rattle.ltl_spec.specs.Transitions.Pairs.{RowSet, Pair}
 use Rattle.ltl_spec.specs.Transitions.RowTransitions.{Table, Transition}
@@ -8,8 +8,6 @@ use Rattle.ltl_spec.proofs.Transitions.FactorLaws.{AreTakenOut, component_transi
 use Rattle.ltl_spec.proofs.Transitions.ConjunctJoins.{join_of}
 use Rattle.ltl_spec.proofs.Transitions.ProductTransitions.{transitions_of}
 use Rattle.ltl_alt.specs.declared.basis.Basis.{Basis}
-use Rattle.ltl_alt.specs.declared.finals.Factor.{Factor}
-use Rattle.ltl_alt.specs.declared.finals.Factor.TheVariants as factor
 use Rattle.ltl_alt.specs.declared.finals.Finals.{Finals}
 use Rattle.ltl_alt.specs.declared.memo.JoinKey.{JoinKey}
 use Rattle.ltl_alt.specs.ComponentView.{HasComponents}
@@ -17,20 +15,12 @@ use Rattle.ltl_alt.specs.MemoView.{last_list}
 use Rattle.ltl_alt.specs.ConjunctTableView.{conjunct_of}
 use Rattle.ltl_alt.specs.TransitionView.{table_at}
 
--- the stored list with a number, and the transitions of a factor
+-- the stored list with a number
 abbrev pub made_of : List (List Transition) → ℕ → List Transition
 made_of lists k = slice_index_or lists k []
 
-abbrev pub list_of : {A : Type 0} → List (List Transition) → Factor A → List Transition
-list_of lists (factor.Known k) = made_of lists k
-list_of lists (factor.Made ts) = ts
-
-abbrev pub IsWithin : {A : Type 0} → List (List Transition) → Factor A → Type 0
-IsWithin lists (factor.Known k) = k < length lists
-IsWithin lists (factor.Made ts) = Unit {0}
-
-abbrev pub AreWithin : {A : Type 0} → List (List Transition) → List (Factor A) → Type 0
-AreWithin {A} lists factors = (f : Factor A) → Has factors f → IsWithin lists f
+abbrev pub AreWithin : List (List Transition) → List ℕ → Type 0
+AreWithin lists factors = (k : ℕ) → Has factors k → k < length lists
 
 -- some lists were appended
 abbrev pub IsLonger : List (List Transition) → List (List Transition) → Type 0
@@ -46,14 +36,10 @@ pub record IsListOf (T : Table) (keep : Bool) (pairs : List (List Pair)) (lists 
 abbrev pub IsFinal : Table → Bool → List (List Pair) → List (List Transition) → RowSet → ℕ → Type 0
 IsFinal T keep conjuncts lists component n = (n < length lists) × (made_of lists n ≡ transitions_of T keep (join_of (conjunct_of conjuncts) component))
 
--- the factor has the transitions of this component
-abbrev pub IsFactorOf : {A : Type 0} → Table → Bool → List (List Pair) → List (List Transition) → RowSet → Factor A → Type 0
-IsFactorOf T keep conjuncts lists component f = IsWithin lists f × (list_of lists f ≡ transitions_of T keep (join_of (conjunct_of conjuncts) component))
-
 -- each remembered answer is right
-pub record AreFinals (T : Table) (keep : Bool) (conjuncts pairs : List (List Pair)) (lists : List (List Transition)) (ns : List (JoinKey × ℕ)) (os : List (RowSet × Option ℕ)) : Type 0 where
+pub record AreFinals (T : Table) (keep : Bool) (conjuncts pairs : List (List Pair)) (lists : List (List Transition)) (ns : List (JoinKey × ℕ)) (os : List (RowSet × ℕ)) : Type 0 where
   pub of_joins : (key : JoinKey) (n : ℕ) → Has ns (key, n) → IsListOf T keep pairs lists key n
-  pub of_components : (component : RowSet) (o : Option ℕ) → Has os (component, o) → IfSome o (IsFinal T keep conjuncts lists component)
+  pub of_components : (component : RowSet) (n : ℕ) → Has os (component, n) → IsFinal T keep conjuncts lists component n
 
 abbrev pub HasFinals : {A : Type 0} → Basis A → Finals A → Type 0
 HasFinals b f = HasComponents b f.components × AreFinals (table_at b.table.now) b.keep_implied b.conjuncts.lists.items f.components.memo.lists.keys f.lists.keys f.of_joins.entries f.of_components.entries
@@ -64,6 +50,6 @@ pub record AreLists (T : Table) (keep : Bool) (conjuncts : List (List Pair)) (al
   pub taken : AreTakenOut T (fulfilling_pairs T) (conjunct_of conjuncts) all components rest
   pub lists : tss ≡ component_transitions T (conjunct_of conjuncts) keep components
 
-abbrev pub AreFactorsOf : {A : Type 0} → Basis A → List (List Transition) → RowSet → List (Factor A) → RowSet → Type 0
+abbrev pub AreFactorsOf : {A : Type 0} → Basis A → List (List Transition) → RowSet → List ℕ → RowSet → Type 0
 AreFactorsOf b lists all factors rest =
-    AreWithin lists factors × AreLists (table_at b.table.now) b.keep_implied b.conjuncts.lists.items all (map (list_of lists) factors) rest
+    AreWithin lists factors × AreLists (table_at b.table.now) b.keep_implied b.conjuncts.lists.items all (map (made_of lists) factors) rest

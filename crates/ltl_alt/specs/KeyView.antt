@@ -6,8 +6,7 @@ use Rattle.ltl_spec.specs.Transitions.Pairs.{RowSet}
 use Rattle.ltl_spec.specs.Transitions.RowTransitions.{Table, Transition, transitions}
 use Rattle.ltl_spec.proofs.Transitions.FactorLaws.{all_products}
 use Rattle.ltl_spec.proofs.Transitions.ProductTransitions.{in_order}
-use Rattle.ltl_alt.specs.declared.finals.Factor.{Factor}
-use Rattle.ltl_alt.specs.FinalView.{list_of, made_of}
+use Rattle.ltl_alt.specs.FinalView.{made_of}
 
 -- the second list is a permutation of the first one, made by insertions
 abbrev pub IsMoved : {X : Type 0} → List X → List X → Type 0
@@ -15,9 +14,9 @@ IsMoved [] ys = ys ≡ []
 IsMoved {X} (x ∷ xs) ys = (zs : List X) × (i : ℕ) × IsMoved xs zs × (i ≤ length zs) × (ys ≡ insert zs i x)
 
 -- the numbers of these factors in some order
-pub record AreNumbersOf {A : Type 0} (lists : List (List Transition)) (factors : List (Factor A)) (numbers : List ℕ) : Type 0 where
+pub record AreNumbersOf (lists : List (List Transition)) (factors numbers : List ℕ) : Type 0 where
   pub within : (k : ℕ) → Has numbers k → k < length lists
-  pub moved : IsMoved (map (list_of lists) factors) (map (made_of lists) numbers)
+  pub moved : IsMoved (map (made_of lists) factors) (map (made_of lists) numbers)
 
 -- the transitions of a set of rows are the product of the lists with these numbers
 pub record IsKeyOf (T : Table) (keep : Bool) (lists : List (List Transition)) (numbers : List ℕ) (state : RowSet) : Type 0 where

@@ -1,23 +1,19 @@
 //! The pruned joins of a component's conjuncts, which the memo table keeps.
 
-ghost use Rattle.std.specs.Prelude.{◌≡◌, ℕ, ◌<◌, ◌∷◌, [], fold, length, map, slice_index_or, IfOk, IfSome, OnOk};
+ghost use Rattle.std.specs.Prelude.{◌≡◌, ℕ, ◌<◌, length, map, slice_index_or, IfOk, OnOk};
 ghost use Rattle.ltl_spec.specs.Collections.Sets.{Has};
-ghost use Rattle.ltl_spec.specs.Transitions.Pairs as spec_pairs;
 ghost use Rattle.ltl_spec.specs.Transitions.RowTransitions as spec;
 ghost use Rattle.ltl_alt.specs.declared.rule.Rule as made_rule;
 ghost use Rattle.ltl_alt.specs.BasisView.{IsBasis};
 ghost use Rattle.ltl_alt.specs.ComponentView.{AreComponents, AreStarts, HasComponents, IsLastOf, start_of};
-ghost use Rattle.ltl_alt.specs.ConjunctTableView.{IsLonger, conjunct_of};
-ghost use Rattle.ltl_alt.specs.StandIns.{IsListed, StandsFor};
+ghost use Rattle.ltl_alt.specs.ConjunctTableView.{IsLonger};
 ghost use Rattle.ltl_alt.specs.TransitionView.{table_at};
 
 use crate::basis::Basis;
 use crate::conjunct_table::ConjunctTable;
-use crate::lists::join;
 use crate::memo::{JoinKey, Memo};
 use crate::pair::Pair;
 use crate::pair_set::PairSet;
-use crate::prune::prune;
 use ltl_sets::RowSet;
 use std::alloc::{AllocError, Allocator};
 
@@ -59,41 +55,6 @@ fn number_at(numbers: &[usize], place: usize, otherwise: usize) -> usize
     } else {
         otherwise
     }
-}
-
-/// The pruned join of some pairs with the pairs of one more conjunct.
-fn with_conjunct<'a, A: Allocator>(
-    basis: &Basis<'_, '_, '_, 'a, A>,
-    pairs: &[Pair],
-    conjunct: usize,
-) -> Result<Vec<Pair, &'a A>, AllocError>
-    requires basis { IsBasis basis.now }
-    requires within { conjunct < length basis.now.conjuncts.lists.items }
-    ensures { IfOk result (λ v. IsListed (StandsFor (table_at basis.now.table.now) basis.now.pruning.rule)
-        (spec_pairs.join pairs.now (conjunct_of basis.now.conjuncts.lists.items conjunct)) v.items) }
-{
-    let right = basis.conjuncts.pairs(conjunct);
-    let joined = join(basis.alloc, pairs, right)?;
-    let pruned = prune(basis.alloc, &basis.pruning, joined)?;
-    Ok(pruned)
-}
-
-/// The pruned join of all conjuncts of a component. It isn't put into the memo table.
-pub(crate) fn component_pairs<'a, A: Allocator>(
-    basis: &Basis<'_, '_, '_, 'a, A>,
-    component: &RowSet,
-) -> Result<Vec<Pair, &'a A>, AllocError>
-    requires basis { IsBasis basis.now }
-    requires inside { (k : ℕ) → Has component.now k → k < length basis.now.conjuncts.lists.items }
-    ensures { IfOk result (λ v. IsListed (StandsFor (table_at basis.now.table.now) basis.now.pruning.rule)
-        (fold (λ ps k. spec_pairs.join ps (conjunct_of basis.now.conjuncts.lists.items k)) (spec_pairs.empty_pair ∷ []) component.now) v.items) }
-{
-    let mut pairs = Vec::from_slice(basis.alloc, &[Pair::empty()])?;
-    let mut rest = component.iter();
-    'members: while let Some(conjunct) = rest.next() {
-        pairs = with_conjunct(basis, pairs.as_slice(), conjunct)?;
-    }
-    Ok(pairs)
 }
 
 impl<'a, A: Allocator> Components<'a, A> {
@@ -150,18 +111,18 @@ impl<'a, A: Allocator> Components<'a, A> {
     }
 
     /// The operands of a component's last join, by their numbers. The lists of the conjuncts are joined two by two, the two whose join costs least first,
-    /// until two lists are left. The result is `None` if there is no room for one of the joins before the last one.
+    /// until two lists are left.
     pub(crate) fn last(
         &mut self,
         basis: &Basis<'_, '_, '_, 'a, A>,
         component: &RowSet,
-    ) -> Result<Option<JoinKey>, AllocError>
+    ) -> Result<JoinKey, AllocError>
         requires basis { IsBasis basis.now }
         requires components { HasComponents basis.now self.old }
         requires inside { (k : ℕ) → Has component.now k → k < length basis.now.conjuncts.lists.items }
         ensures components { OnOk result (HasComponents basis.now self.new) }
-        ensures last { IfOk result (λ o. IfSome o (IsLastOf
-            (table_at basis.now.table.now) basis.now.pruning.rule basis.now.conjuncts.lists.items self.new.memo.lists.keys component.now)) }
+        ensures last { IfOk result (IsLastOf
+            (table_at basis.now.table.now) basis.now.pruning.rule basis.now.conjuncts.lists.items self.new.memo.lists.keys component.now) }
         ensures longer { OnOk result (IsLonger self.old.memo.lists.keys self.new.memo.lists.keys) }
     {
         let mut lists = self.numbers(basis.alloc, component)?;
@@ -169,14 +130,12 @@ impl<'a, A: Allocator> Components<'a, A> {
             let (first, second) = self.cheapest(lists.as_slice());
             let right = lists.remove(second);
             let left = lists.remove(first);
-            let Some(joined) = self.memo.join(basis.alloc, &basis.pruning, left, right)? else {
-                return Ok(None);
-            };
+            let joined = self.memo.join(basis.alloc, &basis.pruning, left, right)?;
             lists.push(joined)?;
         }
-        Ok(Some(JoinKey {
+        Ok(JoinKey {
             left: number_at(lists.as_slice(), 0, self.nothing),
             right: number_at(lists.as_slice(), 1, self.nothing),
-        }))
+        })
     }
 }

@@ -1,6 +1,6 @@
 //! The transitions of a set of rows, as products over its independent components.
 
-ghost use Rattle.std.specs.Prelude.{◌≡◌, ℕ, ◌<◌, ◌≤◌, [], true, length, IsSome, OnOk, IfOk, IfSome, IsErrOf};
+ghost use Rattle.std.specs.Prelude.{◌≡◌, ℕ, ◌<◌, ◌≤◌, [], length, OnOk, IfOk, IsErrOf};
 ghost use Rattle.ltl_spec.specs.Collections.Sets.{Has};
 ghost use Rattle.ltl_spec.specs.Transitions.RowTransitions as spec;
 ghost use Rattle.ltl_alt.specs.BasisView.{IsBasis};
@@ -8,7 +8,7 @@ ghost use Rattle.ltl_alt.specs.FinalView.{AreFactorsOf, HasFinals, IsLonger};
 ghost use Rattle.ltl_alt.specs.TransitionView.{table_at};
 
 use crate::basis::Basis;
-use crate::finals::{Factor, Finals};
+use crate::finals::Finals;
 use crate::place::first;
 use crate::product::{all_products, combinations, sort};
 use crate::transition::Transition;
@@ -17,20 +17,17 @@ use ltl_sets::RowSet;
 use std::alloc::{AllocError, Allocator};
 
 impl<'a, A: Allocator> Finals<'a, A> {
-    /// The factors of these conjuncts: the transitions of each of their components. If `is_asked` is false and there is no room for the list of a component,
-    /// the result is `None`.
+    /// The factors of these conjuncts: for each of their components the number of its transitions.
     pub(crate) fn factors(
         &mut self,
         basis: &Basis<'_, '_, '_, 'a, A>,
         all: &RowSet,
-        is_asked: bool,
-    ) -> Result<Option<Vec<Factor<'a, A>, &'a A>>, AllocError>
+    ) -> Result<Vec<usize, &'a A>, AllocError>
         requires basis { IsBasis basis.now }
         requires finals { HasFinals basis.now self.old }
         requires inside { (k : ℕ) → Has all.now k → k < length basis.now.conjuncts.lists.items }
         ensures finals { OnOk result (HasFinals basis.now self.new) }
-        ensures factors { IfOk result (λ o. IfSome o (λ v. AreFactorsOf basis.now self.new.lists.keys all.now v.items [])) }
-        ensures asked { is_asked ≡ true → IfOk result (λ o. IsSome o) }
+        ensures factors { IfOk result (λ v. AreFactorsOf basis.now self.new.lists.keys all.now v.items []) }
         ensures longer { OnOk result (IsLonger self.old.lists.keys self.new.lists.keys) }
     {
         let mut factors = Vec::new(basis.alloc);
@@ -39,16 +36,14 @@ impl<'a, A: Allocator> Finals<'a, A> {
             rest.invariant();
             let component = basis.conjuncts.component(conjunct, &rest);
             component.invariant();
-            let Some(factor) = self.factor(basis, &component, is_asked)? else {
-                return Ok(None);
-            };
+            let factor = self.number(basis, &component)?;
             factors.push(factor)?;
             rest = rest.without(&component);
         }
-        Ok(Some(factors))
+        Ok(factors)
     }
 
-    /// A lower bound on the number of transitions of a set of rows. It is their number, unless there is no room for the list of a component; then it is 0.
+    /// A lower bound on the number of transitions of a set of rows. It is their number, unless that exceeds `usize::MAX`.
     pub(crate) fn transitions_at_least(
         &mut self,
         basis: &Basis<'_, '_, '_, 'a, A>,
@@ -64,10 +59,8 @@ impl<'a, A: Allocator> Finals<'a, A> {
             return Ok(0);
         };
         state.invariant();
-        match self.factors(basis, &all, false)? {
-            Some(factors) => Ok(combinations(self, factors.as_slice())),
-            None => Ok(0),
-        }
+        let factors = self.factors(basis, &all)?;
+        Ok(combinations(self, factors.as_slice()))
     }
 
     /// The transitions of a set of rows, sorted by literals and then by targets. If there are more than `most`, the result is `TooLarge`. They are counted
@@ -89,9 +82,7 @@ impl<'a, A: Allocator> Finals<'a, A> {
             return Ok(Vec::new(basis.alloc));
         };
         state.invariant();
-        let Some(factors) = self.factors(basis, &all, true)? else {
-            return Ok(Vec::new(basis.alloc));
-        };
+        let factors = self.factors(basis, &all)?;
         if combinations(self, factors.as_slice()) > most {
             return Err(AltFault::TooLarge);
         }

@@ -8,7 +8,7 @@ ghost use Rattle.ltl_alt.specs.KeyView.{AreKeys, AreNumbersOf, IsKeyOf, HasSameT
 ghost use Rattle.ltl_alt.specs.TransitionView.{table_at};
 
 use crate::basis::Basis;
-use crate::finals::{Factor, Finals};
+use crate::finals::Finals;
 use indexmap::IndexMap;
 use ltl_sets::RowSet;
 use std::alloc::{AllocError, Allocator};
@@ -35,24 +35,19 @@ fn place_in(numbers: &[usize], number: usize) -> usize
     numbers.len()
 }
 
-/// The sorted numbers of factors, or `None` if the list of one of them isn't stored.
-fn key<'a, A: Allocator>(
-    alloc: &'a A,
-    factors: &[Factor<'a, A>],
-) -> Result<Option<Key<'a, A>>, AllocError>
-    ensures { (lists : List (List spec.Transition)) → AreWithin lists factors.now → IfOk result (λ o. IfSome o (λ v. AreNumbersOf lists factors.now v.items)) }
+/// The sorted numbers of factors.
+fn key<'a, A: Allocator>(alloc: &'a A, factors: &[usize]) -> Result<Key<'a, A>, AllocError>
+    ensures { (lists : List (List spec.Transition)) → AreWithin lists factors.now → IfOk result (λ v. AreNumbersOf lists factors.now v.items) }
 {
     let mut key = Vec::with_capacity(alloc, factors.len())?;
     let mut left = factors.len();
     'factors: while left > 0 {
         left -= 1;
-        let Factor::Known(number) = &factors[left] else {
-            return Ok(None);
-        };
-        let place = place_in(key.as_slice(), *number);
-        key.insert(place, *number)?;
+        let number = factors[left];
+        let place = place_in(key.as_slice(), number);
+        key.insert(place, number)?;
     }
-    Ok(Some(key))
+    Ok(key)
 }
 
 impl<'a, A: Allocator> Keys<'a, A> {
@@ -79,8 +74,7 @@ impl<'a, A: Allocator> Keys<'a, A> {
         Ok(None)
     }
 
-    /// A set of rows that was met before and has the transitions of this one. If none is known, the result is `None`, and this set is remembered, unless
-    /// there is no room for the list of one of its components.
+    /// A set of rows that was met before and has the transitions of this one. If none is known, the result is `None`, and this set is remembered.
     pub(crate) fn same_successors_as(
         &mut self,
         basis: &Basis<'_, '_, '_, 'a, A>,
@@ -98,12 +92,8 @@ impl<'a, A: Allocator> Keys<'a, A> {
             return Ok(None);
         };
         state.invariant();
-        let Some(factors) = finals.factors(basis, &all, false)? else {
-            return Ok(None);
-        };
-        let Some(key) = key(basis.alloc, factors.as_slice())? else {
-            return Ok(None);
-        };
+        let factors = finals.factors(basis, &all)?;
+        let key = key(basis.alloc, factors.as_slice())?;
         self.first(key, state)
     }
 }

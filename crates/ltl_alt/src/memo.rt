@@ -21,9 +21,6 @@ use ltl_automaton::Interner;
 use std::alloc::{AllocError, Allocator};
 use std::hash::{BuildHasherDefault, FoldHasher};
 
-/// The initial room: how many pairs, joins, and transitions of last joins are remembered. The conjuncts' own lists are remembered even if they exceed it.
-const ROOM: usize = 1_048_576;
-
 /// The two sides of a join, by the numbers of their lists.
 #[derive(Clone, Copy, PartialEq, Eq, Hash)]
 pub(crate) struct JoinKey {
@@ -39,8 +36,8 @@ pub(crate) struct Memo<'a, A: Allocator> {
     pub(crate) joins: IndexMap<JoinKey, usize, BuildHasherDefault<FoldHasher>, &'a A>,
     /// The extent of each list.
     extents: Vec<Extent, &'a A>,
-    /// How many more pairs, joins and transitions may be remembered.
-    room: usize,
+    /// The number of pairs and joins that are stored.
+    pub(crate) size: usize,
 }
 
 impl<'a, A: Allocator> Memo<'a, A> {
@@ -53,7 +50,7 @@ impl<'a, A: Allocator> Memo<'a, A> {
             lists: Interner::new(alloc),
             joins: IndexMap::new(alloc),
             extents: Vec::new(alloc),
-            room: ROOM,
+            size: 0,
         }
     }
 
@@ -77,7 +74,7 @@ impl<'a, A: Allocator> Memo<'a, A> {
         let number = self.lists.number(pairs)?;
         if self.lists.len() > count {
             self.extents.push(extent)?;
-            self.room = self.room.saturating_sub(size);
+            self.size = self.size.saturating_add(size);
         }
         Ok(number)
     }
@@ -127,13 +124,6 @@ impl<'a, A: Allocator> Memo<'a, A> {
             .saturating_mul(self.pairs(key.right).len())
     }
 
-    /// Whether there is room for all joins of a pair of each side.
-    pub(crate) fn has_room(&self, key: &JoinKey) -> bool
-        requires within { key.now.left < length self.now.lists.keys × key.now.right < length self.now.lists.keys }
-    {
-        self.ways(key) < self.room
-    }
-
     /// The extent of the list with this number.
     fn extent(&self, list: usize) -> Extent {
         self.extents.get(list).copied().unwrap_or(Extent::nothing())
@@ -148,42 +138,31 @@ impl<'a, A: Allocator> Memo<'a, A> {
         (added, self.ways(key))
     }
 
-    /// Gives up room for `count` items that are stored elsewhere.
-    pub(crate) fn take_room(&mut self, count: usize)
-        ensures lists { self.new.lists.keys ≡ self.old.lists.keys }
-        ensures joins { self.new.joins.entries ≡ self.old.joins.entries }
-    {
-        self.room = self.room.saturating_sub(count);
-    }
-
-    /// The list number of the pruned join of two lists, or `None` if there is no room for it.
+    /// The list number of the pruned join of two lists.
     pub(crate) fn join(
         &mut self,
         alloc: &'a A,
         pruning: &Pruning<'_, 'a, A>,
         left: usize,
         right: usize,
-    ) -> Result<Option<usize>, AllocError>
+    ) -> Result<usize, AllocError>
         requires within { left < length self.old.lists.keys × right < length self.old.lists.keys }
         ensures joins { (T : spec.Table) → IsFit T pruning.now.rule pruning.now.fulfilment.now
             → AreJoins T pruning.now.rule self.old.lists.keys self.old.joins.entries
             → OnOk result (AreJoins T pruning.now.rule self.new.lists.keys self.new.joins.entries) }
         ensures joined { (T : spec.Table) → IsFit T pruning.now.rule pruning.now.fulfilment.now
             → AreJoins T pruning.now.rule self.old.lists.keys self.old.joins.entries
-            → IfOk result (λ o. IfSome o (IsJoin T pruning.now.rule self.new.lists.keys (record { left = left; right = right }))) }
+            → IfOk result (IsJoin T pruning.now.rule self.new.lists.keys (record { left = left; right = right })) }
         ensures longer { OnOk result (IsLonger self.old.lists.keys self.new.lists.keys) }
     {
         let key = JoinKey { left, right };
         if let Some(joined) = self.known(&key) {
-            return Ok(Some(joined));
-        }
-        if !self.has_room(&key) {
-            return Ok(None);
+            return Ok(joined);
         }
         let kept = self.kept(alloc, pruning, &key)?;
         let joined = self.number(kept)?;
         self.joins.insert(key, joined)?;
-        self.room = self.room.saturating_sub(1);
-        Ok(Some(joined))
+        self.size = self.size.saturating_add(1);
+        Ok(joined)
     }
 }

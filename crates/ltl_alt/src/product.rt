@@ -5,12 +5,12 @@ ghost use Rattle.std.specs.List.Sorted.{IsPermutation, IsSorted};
 ghost use Rattle.ltl_spec.specs.Transitions.RowTransitions as spec;
 ghost use Rattle.ltl_spec.proofs.Transitions.FactorLaws.{all_products, product_size};
 ghost use Rattle.ltl_alt.specs.BasisView.{IsBasis};
-ghost use Rattle.ltl_alt.specs.FinalView.{AreWithin, list_of};
+ghost use Rattle.ltl_alt.specs.FinalView.{AreWithin, made_of};
 ghost use Rattle.ltl_alt.specs.ProductView.{AreConsistent, join_transitions, joined_products};
 ghost use Rattle.ltl_alt.specs.TransitionView.{table_at};
 
 use crate::basis::Basis;
-use crate::finals::{Factor, Finals};
+use crate::finals::Finals;
 use crate::marks::marked;
 use crate::pair::Pair;
 use crate::transition::Transition;
@@ -60,12 +60,12 @@ pub(crate) fn sort<A: Allocator>(transitions: &mut Vec<Transition, &A>) -> Resul
 pub(crate) fn all_products<'a, A: Allocator>(
     basis: &Basis<'_, '_, '_, 'a, A>,
     finals: &Finals<'a, A>,
-    factors: &[Factor<'a, A>],
+    factors: &[usize],
 ) -> Result<Vec<Transition, &'a A>, AllocError>
     requires basis { IsBasis basis.now }
     requires within { AreWithin finals.now.lists.keys factors.now }
-    requires consistent { (k : ℕ) → AreConsistent (all_products (table_at basis.now.table.now) (drop k (map (list_of finals.now.lists.keys) factors.now))) }
-    ensures { IfOk result (λ v. IsPermutation (all_products (table_at basis.now.table.now) (map (list_of finals.now.lists.keys) factors.now)) v.items) }
+    requires consistent { (k : ℕ) → AreConsistent (all_products (table_at basis.now.table.now) (drop k (map (made_of finals.now.lists.keys) factors.now))) }
+    ensures { IfOk result (λ v. IsPermutation (all_products (table_at basis.now.table.now) (map (made_of finals.now.lists.keys) factors.now)) v.items) }
 {
     let alloc = basis.alloc;
     let mut products = marked(
@@ -78,7 +78,7 @@ pub(crate) fn all_products<'a, A: Allocator>(
     'factors: while left > 0 {
         left -= 1;
         sort(&mut products)?;
-        let list = (&*finals).of_factor(&factors[left]);
+        let list = finals.transitions(factors[left]);
         products = product(alloc, list, products.as_slice())?;
     }
     Ok(products)
@@ -87,16 +87,16 @@ pub(crate) fn all_products<'a, A: Allocator>(
 /// The number of combinations of one transition of each factor, or `usize::MAX` if it is larger than that.
 pub(crate) fn combinations<'a, A: Allocator>(
     finals: &Finals<'a, A>,
-    factors: &[Factor<'a, A>],
+    factors: &[usize],
 ) -> usize
     requires within { AreWithin finals.now.lists.keys factors.now }
-    ensures { result ≤ product_size (map (list_of finals.now.lists.keys) factors.now) }
+    ensures { result ≤ product_size (map (made_of finals.now.lists.keys) factors.now) }
 {
     let mut count = 1usize;
     let mut left = factors.len();
     'factors: while left > 0 {
         left -= 1;
-        let size = (&*finals).of_factor(&factors[left]).len();
+        let size = finals.transitions(factors[left]).len();
         count = count.saturating_mul(size);
     }
     count

@@ -1,6 +1,6 @@
 //! Breadth-first exploration of the sets of rows that are reachable from the root.
 
-ghost use Rattle.std.specs.Prelude.{◌≡◌, map, IfOk, IsErrOf};
+ghost use Rattle.std.specs.Prelude.{◌≡◌, map, IfOk, OnOk, IsErrOf};
 ghost use Rattle.ltl_spec.specs.Automata.Generalized.{IsGeneralized, IsTooLarge};
 ghost use Rattle.ltl_spec.specs.Tools.Limits.{stated_limits};
 ghost use Rattle.ltl_formula.specs.TableView.{core_of};
@@ -11,7 +11,6 @@ ghost use Rattle.ltl_alt.specs.ReachView.{successor_of, net_of};
 ghost use Rattle.ltl_alt.specs.TransitionView.{table_at};
 
 use crate::basis::Basis;
-use crate::components::Components;
 use crate::conjunct_table::ConjunctTable;
 use crate::finals::Finals;
 use crate::fulfilment::Fulfilment;
@@ -51,6 +50,24 @@ struct RowSets<'b, 't, 's, 'a, A: Allocator> {
     keys: Keys<'a, A>,
 }
 
+impl<'b, 't, 's, 'a, A: Allocator> RowSets<'b, 't, 's, 'a, A> {
+    /// Replaces tables that are full by empty ones. It affects speed and memory alone.
+    fn make_room(&mut self) -> Result<(), AllocError>
+        requires basis { IsBasis self.old.basis }
+        requires finals { HasFinals self.old.basis self.old.finals }
+        requires keys { AreKeys (table_at self.old.basis.table.now) self.old.basis.keep_implied self.old.finals.lists.keys self.old.keys.states.entries }
+        ensures basis { OnOk result (self.new.basis ≡ self.old.basis) }
+        ensures finals { OnOk result (HasFinals self.new.basis self.new.finals) }
+        ensures keys { OnOk result (AreKeys (table_at self.new.basis.table.now) self.new.basis.keep_implied self.new.finals.lists.keys self.new.keys.states.entries) }
+    {
+        if self.finals.is_full() {
+            self.finals = Finals::new(&self.basis)?;
+            self.keys = Keys::new(self.basis.alloc);
+        }
+        Ok(())
+    }
+}
+
 impl<'b, 't, 's, 'a, A: Allocator> Successors<RowSet> for RowSets<'b, 't, 's, 'a, A> {
     ghost net = { λ n. net_of (core_of n.basis.table.now) n.basis.keep_implied };
 
@@ -62,11 +79,13 @@ impl<'b, 't, 's, 'a, A: Allocator> Successors<RowSet> for RowSets<'b, 't, 's, 'a
     }
 
     fn same_successors_as(&mut self, key: &RowSet) -> Result<Option<RowSet>, AllocError> {
+        self.make_room()?;
         self.keys
             .same_successors_as(&self.basis, &mut self.finals, key)
     }
 
     fn edges_at_least(&mut self, key: &RowSet) -> Result<usize, AllocError> {
+        self.make_room()?;
         self.finals.transitions_at_least(&self.basis, key)
     }
 
@@ -76,6 +95,7 @@ impl<'b, 't, 's, 'a, A: Allocator> Successors<RowSet> for RowSets<'b, 't, 's, 'a
         key: &RowSet,
         most: usize,
     ) -> Result<Vec<Successor<RowSet>, &'c B>, AltFault> {
+        self.make_room()?;
         let kept = self.finals.set_transitions(&self.basis, key, most)?;
         Ok(successors_of(alloc, kept.as_slice())?)
     }
@@ -98,16 +118,17 @@ pub(crate) fn reach<'a, A: Allocator>(
         fulfilment: &fulfilment,
     };
     let conjuncts = ConjunctTable::of(alloc, table, &pruning)?;
-    let components = Components::new(alloc, &conjuncts)?;
+    let basis = Basis {
+        alloc,
+        table,
+        pruning,
+        conjuncts,
+        keep_implied,
+    };
+    let finals = Finals::new(&basis)?;
     let mut row_sets = RowSets {
-        basis: Basis {
-            alloc,
-            table,
-            pruning,
-            conjuncts,
-            keep_implied,
-        },
-        finals: Finals::new(alloc, components),
+        basis,
+        finals,
         keys: Keys::new(alloc),
     };
     let root = RowSet::single(place(table, table.root()));

@@ -1,7 +1,6 @@
-use Rattle.std.proofs.Common.{◌≡◌, ◌+◌, ◌-◌, ◌<◌, ◌≤◌, ◌∷◌, ◌∙◌, ap, arith, drop, length, refl, sym, subst}
+use Rattle.std.proofs.Common.{◌≡◌, ◌+◌, ◌-◌, ◌<◌, ◌≤◌, arith, drop, length, refl, slice_index_or, subst}
 use Rattle.ltl_spec.specs.Collections.Sets.{Has}
 use Rattle.ltl_spec.proofs.Collections.ListLaws.{Has-at}
-use Rattle.ltl_alt.specs.FinalView.{IsWithin}
 use Rattle.ltl_alt.specs.KeyView.{AreNumbersOf}
 use Rattle.ltl_alt.proofs.KeyLaws.{dropped_is, nothing_behind, numbers_none, numbers_more}
 use Rattle.ltl_alt.proofs.keys.key.Goals as goal
@@ -22,13 +21,13 @@ factors-preserved g c =
     let left = c.factors.left - 1 in
     let inside : left < length factors = omega (arith, within, some) in
     let next : c.factors.left ≡ left + 1 = omega (arith, some) in
-    let one = c.index-factors-left.result in
-    let there : Has factors one = subst (Has factors) (sym c.index-factors-left.is) (Has-at factors left one inside) in
+    let one = slice_index_or factors left 0 in
+    let there : Has factors one = Has-at factors left 0 inside in
     record {
       within = omega (arith, within);
-      key = λ lists w. numbers_more lists (drop (left + 1) factors) (drop left factors) c.factors.key.items c.insert.new.self.items c.in-Known.number c.place_in-place.result
-          (subst (λ n. AreNumbersOf lists (drop n factors) c.factors.key.items) next (c.factors.invariant.key lists w)) (subst (IsWithin lists) c.in-Known.is (w one there))
-          (subst (λ xs. c.place_in-place.result ≤ length xs) c.as_slice.ensures.value c.place_in-place.ensures) (dropped_is factors left one inside c.index-factors-left.is ∙ ap (λ f. f ∷ drop (left + 1) factors) c.in-Known.is)
+      key = λ lists w. numbers_more lists (drop (left + 1) factors) (drop left factors) c.factors.key.items c.insert.new.self.items one c.place_in-place.result
+          (subst (λ n. AreNumbersOf lists (drop n factors) c.factors.key.items) next (c.factors.invariant.key lists w)) (w one there)
+          (subst (λ xs. c.place_in-place.result ≤ length xs) c.as_slice.ensures.value c.place_in-place.ensures) (dropped_is factors left inside)
           c.in_ok-insert.ensures.items;
     }
 

@@ -1,11 +1,10 @@
-use Rattle.std.proofs.Common.{◌≡◌, ℕ, ◌+◌, ◌-◌, ◌<◌, ◌∙◌, arith, drop, length, map, subst, sym}
+use Rattle.std.proofs.Common.{◌≡◌, ℕ, ◌+◌, ◌-◌, ◌<◌, ◌∙◌, arith, drop, length, map, slice_index_or, subst, sym}
 use Rattle.std.specs.List.Sorted.{IsPermutation}
 use Rattle.std.proofs.lemmas.List.Sorted.{IsPermutation-trans}
-use Rattle.ltl_spec.specs.Collections.Sets.{Has}
 use Rattle.ltl_spec.proofs.Collections.ListLaws.{Has-at}
 use Rattle.ltl_spec.proofs.Collections.MemberLaws.{map_length}
 use Rattle.ltl_spec.proofs.Transitions.FactorLaws.{all_products}
-use Rattle.ltl_alt.specs.FinalView.{list_of}
+use Rattle.ltl_alt.specs.FinalView.{made_of}
 use Rattle.ltl_alt.specs.TransitionView.{table_at}
 use Rattle.ltl_alt.proofs.ProductLaws.{mapped_at, products_step}
 use Rattle.ltl_alt.proofs.product.all_products.Goals as goal
@@ -13,17 +12,17 @@ use Rattle.ltl_alt.proofs.product.all_products.Goals as goal
 pub marked-requires : goal.marked-requires
 marked-requires g c = c.requires.basis.tests
 
-pub of_factor-list-requires : goal.of_factor-list-requires
-of_factor-list-requires g c =
+pub transitions-list-requires : goal.transitions-list-requires
+transitions-list-requires g c =
     let within = c.factors.invariant.within in
     let some = c.factors-test.true in
     let inside : c.factors.left - 1 < length c.args.factors.now = omega arith in
-    c.requires.within c.index-factors-left.result (subst (Has c.args.factors.now) (sym c.index-factors-left.is) (Has-at c.args.factors.now (c.factors.left - 1) c.index-factors-left.result inside))
+    c.requires.within (slice_index_or c.args.factors.now (c.factors.left - 1) 0) (Has-at c.args.factors.now (c.factors.left - 1) 0 inside)
 
 pub factors-preserved : goal.factors-preserved
 factors-preserved g c =
     let T = table_at c.args.basis.now.table.now in
-    let h = list_of c.args.finals.now.lists.keys in
+    let h = made_of c.args.finals.now.lists.keys in
     let factors = c.args.factors.now in
     let tss = map h factors in
     let within = c.factors.invariant.within in
@@ -39,5 +38,5 @@ factors-preserved g c =
     (subst (IsPermutation (rest c.factors.left)) (sym c.as_slice.ensures.value) (IsPermutation-trans (rest c.factors.left) c.factors.products.items c.sort.new.transitions.items c.factors.invariant.products c.in_ok-sort.ensures.permutation)) in
     record {
       within = omega arith;
-      products = products_step T tss left c.of_factor-list.result.now c.as_slice.result.now c.in_ok-products-2.products.items also c.requires.consistent moved (c.of_factor-list.ensures ∙ sym (mapped_at h factors left c.index-factors-left.result inside c.index-factors-left.is)) c.in_ok-products-2.ensures;
+      products = products_step T tss left c.transitions-list.result.now c.as_slice.result.now c.in_ok-products-2.products.items also c.requires.consistent moved (c.transitions-list.ensures ∙ sym (mapped_at h factors left inside)) c.in_ok-products-2.ensures;
     }

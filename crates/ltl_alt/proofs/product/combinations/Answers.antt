@@ -1,22 +1,21 @@
-use Rattle.std.proofs.Common.{◌≡◌, ◌+◌, ◌-◌, ◌<◌, ◌≤◌, ◌∙◌, ap, arith, drop, length, map, subst, sym}
-use Rattle.ltl_spec.specs.Collections.Sets.{Has}
+use Rattle.std.proofs.Common.{◌≡◌, ◌+◌, ◌-◌, ◌<◌, ◌≤◌, ◌∙◌, ap, arith, drop, length, map, slice_index_or, subst, sym}
 use Rattle.ltl_spec.proofs.Collections.ListLaws.{Has-at}
 use Rattle.ltl_spec.proofs.Collections.MemberLaws.{map_length}
 use Rattle.ltl_spec.proofs.Transitions.FactorLaws.{product_size}
-use Rattle.ltl_alt.specs.FinalView.{list_of}
+use Rattle.ltl_alt.specs.FinalView.{made_of}
 use Rattle.ltl_alt.proofs.ProductLaws.{mapped_at, size_at_least}
 use Rattle.ltl_alt.proofs.product.combinations.Goals as goal
 
-pub of_factor-size-requires : goal.of_factor-size-requires
-of_factor-size-requires g c =
+pub transitions-size-requires : goal.transitions-size-requires
+transitions-size-requires g c =
     let within = c.factors.invariant.within in
     let some = c.factors-test.true in
     let inside : c.factors.left - 1 < length c.args.factors.now = omega (arith, within, some) in
-    c.requires.within c.index-factors-left.result (subst (Has c.args.factors.now) (sym c.index-factors-left.is) (Has-at c.args.factors.now (c.factors.left - 1) c.index-factors-left.result inside))
+    c.requires.within (slice_index_or c.args.factors.now (c.factors.left - 1) 0) (Has-at c.args.factors.now (c.factors.left - 1) 0 inside)
 
 pub factors-preserved : goal.factors-preserved
 factors-preserved g c =
-    let h = list_of c.args.finals.now.lists.keys in
+    let h = made_of c.args.finals.now.lists.keys in
     let factors = c.args.factors.now in
     let tss = map h factors in
     let within = c.factors.invariant.within in
@@ -26,7 +25,7 @@ factors-preserved g c =
     let long = map_length h factors in
     let also : left < length tss = omega (arith, inside, long) in
     let next : c.factors.left ≡ left + 1 = omega (arith, some) in
-    let least = size_at_least tss left c.factors.count (length c.of_factor-size.result.now) also (subst (λ n. c.factors.count ≤ product_size (drop n tss)) next c.factors.invariant.count) (ap length (c.of_factor-size.ensures ∙ sym (mapped_at h factors left c.index-factors-left.result inside c.index-factors-left.is))) in
+    let least = size_at_least tss left c.factors.count (length c.transitions-size.result.now) also (subst (λ n. c.factors.count ≤ product_size (drop n tss)) next c.factors.invariant.count) (ap length (c.transitions-size.ensures ∙ sym (mapped_at h factors left inside))) in
     let most = c.saturating_mul-count.ensures in
     record {
       within = omega (arith, within);

@@ -12,7 +12,7 @@ use Rattle.ltl_alt.specs.TransitionView.{table_at}
 use Rattle.ltl_alt.proofs.ComponentLaws.{joined_on}
 use Rattle.ltl_alt.proofs.JoinLaws.{components_longer}
 use Rattle.ltl_alt.proofs.JoinOrderLaws.{at_place, join_same, left_fewer, left_there, mapped_each, order_begins, order_ends, order_step, pushed_cases, taken_there}
-use Rattle.ltl_alt.proofs.MapLaws.{longer_same, longer_there, longer_trans, longer_within, some_is}
+use Rattle.ltl_alt.proofs.MapLaws.{longer_same, longer_there, longer_trans, longer_within}
 use Rattle.ltl_alt.proofs.StandInLaws.{stands_in, tests_fit}
 use Rattle.ltl_alt.proofs.components.Components.last.Goals as goal
 
@@ -51,15 +51,6 @@ join-requires g c =
       );
     }
 
-pub returns-in_default-clause-components : goal.returns-in_default-clause-components
-returns-in_default-clause-components g c =
-    let b = c.args.basis.now in
-    let T = table_at b.table.now in
-    let r = b.pruning.rule in
-    let components = c.joins.invariant.components in
-    let fit = tests_fit T r b.pruning.fulfilment.now c.requires.basis.tests in
-    components_longer T r b.conjuncts.lists.items c.joins.self.memo.lists.keys c.join.new.self.lists.keys _ _ _ _ c.in_ok-joined.ensures.longer (c.in_ok-joined.ensures.joins T fit components.joins) components
-
 pub joins-preserved : goal.joins-preserved
 joins-preserved g c =
     let b = c.args.basis.now in
@@ -73,13 +64,13 @@ joins-preserved g c =
     let j = c.cheapest-first.result.1 in
     let x = c.remove-left.result in
     let y = c.remove-right.result in
-    let n = c.in-Some.joined in
+    let n = c.in_ok-joined.joined in
     let all = joined_on (conjunct_of b.conjuncts.lists.items) (empty_pair ∷ []) c.args.component.now in
     let components = c.joins.invariant.components in
     let longer = c.in_ok-joined.ensures.longer in
     let fit = tests_fit T r b.pruning.fulfilment.now c.requires.basis.tests in
     let joins = c.in_ok-joined.ensures.joins T fit components.joins in
-    let is : IsJoin T r new (record { left = x; right = y }) n = some_is _ _ _ (c.in_ok-joined.ensures.joined T fit components.joins) c.in-Some.is in
+    let is : IsJoin T r new (record { left = x; right = y }) n = c.in_ok-joined.ensures.joined T fit components.joins in
     let below = subst (λ xs. j < length xs) c.as_slice.ensures.value c.cheapest-first.ensures.1 in
     let order = c.cheapest-first.ensures.0 in
     let right = c.remove-right.ensures.value in

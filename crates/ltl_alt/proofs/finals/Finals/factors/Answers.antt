@@ -1,12 +1,12 @@
-use Rattle.std.proofs.Common.{◌<◌, ◌∷◌, [], ◌++◌, ◌∙◌, ap, inl, inr, map, sym, subst}
+use Rattle.std.proofs.Common.{◌<◌, ◌∷◌, [], ◌++◌, ◌∙◌, ap, inl, inr, length, map, sym, subst}
 use Rattle.std.specs.Prelude.{not}
 use Rattle.std.specs.Ordering.{nat_cmp}
 use Rattle.ltl_spec.specs.Collections.Sets.{Has, has}
 use Rattle.ltl_spec.proofs.Collections.SetLaws.{all_at, append_cases, filter_cases}
-use Rattle.ltl_alt.specs.FinalView.{AreFactorsOf, AreLists, IsFactorOf, IsWithin, list_of}
+use Rattle.ltl_alt.specs.FinalView.{AreFactorsOf, AreLists, made_of}
 use Rattle.ltl_alt.specs.TransitionView.{table_at}
-use Rattle.ltl_alt.proofs.FinalLaws.{factors_longer, within_longer}
-use Rattle.ltl_alt.proofs.MapLaws.{longer_same, longer_trans, some_is}
+use Rattle.ltl_alt.proofs.FinalLaws.{factors_longer}
+use Rattle.ltl_alt.proofs.MapLaws.{longer_same, longer_trans, longer_within}
 use Rattle.ltl_alt.proofs.ConjunctTableLaws.{map_behind}
 use Rattle.ltl_alt.proofs.ProductLaws.{fewer_left, lists_more, lists_none}
 use Rattle.ltl_alt.proofs.finals.Finals.factors.Goals as goal
@@ -18,7 +18,7 @@ components-init g c =
       finals = c.requires.finals;
       factors = (
         λ f h. absurd (subst (λ xs. Has xs f) c.new-factors.ensures.items h),
-        subst (λ xs. AreLists (table_at b.table.now) b.keep_implied b.conjuncts.lists.items c.args.all.now (map (list_of c.args.self.now.lists.keys) xs) c.args.all.now) (sym c.new-factors.ensures.items)
+        subst (λ xs. AreLists (table_at b.table.now) b.keep_implied b.conjuncts.lists.items c.args.all.now (map (made_of c.args.self.now.lists.keys) xs) c.args.all.now) (sym c.new-factors.ensures.items)
             (lists_none (table_at b.table.now) b.keep_implied b.conjuncts.lists.items c.args.all.now),
       );
       longer = longer_same c.args.self.now.lists.keys;
@@ -28,8 +28,8 @@ components-init g c =
 pub component-component-requires-clause-first : goal.component-component-requires-clause-first
 component-component-requires-clause-first g c = all_at (λ x. x < 256) c.components.rest c.in-Some.conjunct c.invariant.ensures.below c.in-Some.ensures
 
-pub factor-requires-clause-inside : goal.factor-requires-clause-inside
-factor-requires-clause-inside g c = λ k h. c.components.invariant.inside k (c.component-component.ensures.some k h)
+pub number-requires-clause-inside : goal.number-requires-clause-inside
+number-requires-clause-inside g c = λ k h. c.components.invariant.inside k (c.component-component.ensures.some k h)
 
 pub components-smaller : goal.components-smaller
 components-smaller g c = fewer_left c.components.rest c.component-component.result c.without-rest.result c.in-Some.conjunct c.in-Some.ensures c.component-component.ensures.there c.without-rest.ensures
@@ -39,29 +39,26 @@ components-preserved g c =
     let b = c.args.basis.now in
     let conjuncts = c.requires.basis.conjuncts in
     let old = c.components.self.lists.keys in
-    let new = c.factor.new.self.lists.keys in
+    let new = c.number.new.self.lists.keys in
     let before = c.components.factors.items in
-    let one = c.in-Some-2.factor in
-    let is : IsFactorOf (table_at b.table.now) b.keep_implied b.conjuncts.lists.items new c.component-component.result one = some_is _ _ _ c.in_ok-factor.ensures.factor c.in-Some-2.is in
+    let one = c.in_ok-factor.factor in
+    let is = c.in_ok-factor.ensures.number in
     let longer = c.in_ok-factor.ensures.longer in
     let was = c.components.invariant.factors in
     record {
       finals = c.in_ok-factor.ensures.finals;
       factors = (
         λ f h. elim (append_cases before (one ∷ []) f (subst (λ xs. Has xs f) c.in_ok-push.ensures.items h)) [
-          | inl m ↦ within_longer old new f longer (was.0 f m)
-          | inr m ↦ elim m [ inl e ↦ subst (IsWithin new) (sym e) is.0 | inr z ↦ absurd z ]
+          | inl m ↦ longer_within old new longer f (was.0 f m)
+          | inr m ↦ elim m [ inl e ↦ subst (λ k. k < length new) (sym e) is.0 | inr z ↦ absurd z ]
         ],
-        lists_more (table_at b.table.now) b.keep_implied b.conjuncts.lists.items b.conjuncts.dependencies.items b.conjuncts.links.items c.args.all.now (map (list_of old) before) (map (list_of new) c.push.new.self.items) (list_of new one)
+        lists_more (table_at b.table.now) b.keep_implied b.conjuncts.lists.items b.conjuncts.dependencies.items b.conjuncts.links.items c.args.all.now (map (made_of old) before) (map (made_of new) c.push.new.self.items) (made_of new one)
             c.components.rest c.component-component.result c.without-rest.result c.in-Some.conjunct conjuncts.linked c.components.invariant.inside was.1 c.invariant.ensures.rising c.invariant-in-Some.ensures.rising c.component-component.ensures is.1
-            (ap (map (list_of new)) c.in_ok-push.ensures.items ∙ map_behind (list_of new) before one ∙ ap (λ xs. xs ++ list_of new one ∷ []) (factors_longer old new before longer was.0)) c.without-rest.ensures,
+            (ap (map (made_of new)) c.in_ok-push.ensures.items ∙ map_behind (made_of new) before one ∙ ap (λ xs. xs ++ made_of new one ∷ []) (factors_longer old new before longer was.0)) c.without-rest.ensures,
       );
       longer = longer_trans c.args.self.now.lists.keys old new c.components.invariant.longer longer;
       inside = λ k h. c.components.invariant.inside k (filter_cases (λ i. not (has nat_cmp i c.component-component.result)) c.components.rest k (subst (λ xs. Has xs k) c.without-rest.ensures h)).0;
     }
-
-pub returns-in_default-2-clause-longer : goal.returns-in_default-2-clause-longer
-returns-in_default-2-clause-longer g c = longer_trans c.args.self.now.lists.keys c.components.self.lists.keys c.factor.new.self.lists.keys c.components.invariant.longer c.in_ok-factor.ensures.longer
 
 pub returns-clause-factors : goal.returns-clause-factors
 returns-clause-factors g c =

@@ -3,8 +3,7 @@ use Rattle.ltl_spec.specs.Transitions.RowTransitions as spec
 use Rattle.ltl_spec.proofs.Transitions.ProductTransitions.{transitions_of}
 use Rattle.ltl_spec.specs.Collections.Lists.{HasNoRepeats}
 use Rattle.std.specs.Prelude.{map}
-use Rattle.ltl_alt.specs.FinalView.{AreFinals, IsListOf}
-use Rattle.ltl_alt.specs.ComponentView.{AreComponents}
+use Rattle.ltl_alt.specs.FinalView.{IsListOf}
 use Rattle.ltl_alt.specs.ListHash.{same_transitions, transitions_Decides}
 use Rattle.ltl_alt.specs.TransitionView.{AllSets, table_at}
 use Rattle.ltl_spec.specs.Transitions.Pairs.{join}
@@ -67,8 +66,7 @@ returns-clause-finals g c =
       made = at.1 ∙ sym ((transitions_Decides c.in_ok-transitions.transitions x).0 d) ∙ c.in_ok-transitions.ensures ∙ ap (transitions_of T b.keep_implied) c.as_slice.ensures.value ∙ transitions_by_set T b.keep_implied c.in_ok-pairs.pairs.items js c.in_ok-pairs.ensures.set;
     } in
     let longer = longer_new same_transitions old.lists.keys lists c.in_ok-transitions.transitions c.in_ok-number.ensures.keys in (
-      subst (λ ks. AreComponents T b.pruning.rule b.conjuncts.lists.items ks c.take_room.new.self.joins.entries old.components.nothing old.components.starts.items) (sym c.take_room.ensures.lists)
-          (subst (λ es. AreComponents T b.pruning.rule b.conjuncts.lists.items pairs es old.components.nothing old.components.starts.items) (sym c.take_room.ensures.joins) c.requires.finals.0),
-      subst (λ ks. AreFinals T b.keep_implied b.conjuncts.lists.items ks lists c.insert.new.self.entries old.of_components.entries) (sym c.take_room.ensures.lists) (lists_more T b.keep_implied b.conjuncts.lists.items pairs lists old.of_joins.entries c.insert.new.self.entries old.of_components.entries c.args.key c.in_ok-number.number
-          (finals_longer T b.keep_implied b.conjuncts.lists.items pairs pairs old.lists.keys lists old.of_joins.entries old.of_components.entries (longer_same pairs) longer c.requires.finals.1) is c.in_ok-insert.ensures.entries),
+      c.requires.finals.0,
+      lists_more T b.keep_implied b.conjuncts.lists.items pairs lists old.of_joins.entries c.insert.new.self.entries old.of_components.entries c.args.key c.in_ok-number.number
+          (finals_longer T b.keep_implied b.conjuncts.lists.items pairs pairs old.lists.keys lists old.of_joins.entries old.of_components.entries (longer_same pairs) longer c.requires.finals.1) is c.in_ok-insert.ensures.entries,
     )
