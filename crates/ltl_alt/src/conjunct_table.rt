@@ -21,12 +21,12 @@ use crate::fulfilment::Fulfilment;
 use crate::lists::both;
 use crate::pair::Pair;
 use crate::pair_set::PairSet;
-use crate::place::{elementary_places, elementary_row, first, place, put_if};
+use crate::place::{elementary_places, first, place, put_if};
 use crate::prune::prune;
 use crate::row_lists::RowLists;
 use crate::rule::Pruning;
 use crate::support::Dependencies;
-use ltl_formula::{Row, Table};
+use ltl_formula::Table;
 use ltl_sets::RowSet;
 use std::alloc::{AllocError, Allocator};
 
@@ -180,7 +180,7 @@ impl<'a, A: Allocator> ConjunctTable<'a, A> {
         let mut lists = RowLists::new(alloc, table)?;
         let mut conjuncts = ConjunctTable::new(alloc);
         let mut rest = elementary_places(table);
-        'rows: while let Some(place) = next_row(table, &rest) {
+        'rows: while let Some(place) = first(&rest) {
             rest.invariant();
             rest = rest.without(&RowSet::single(place));
             let most = RowSet::LIMIT - conjuncts.len() - count(&rest);
@@ -265,31 +265,6 @@ fn count(rows: &RowSet) -> usize
         count += 1;
     }
     count
-}
-
-/// Whether the elementary row at a place is a release row.
-fn is_release<A: Allocator>(table: &Table<'_, A>, place: usize) -> bool {
-    match elementary_row(table, place) {
-        Some(row) => {
-            table.invariant();
-            matches!(table.row(row), Row::Release(_, _))
-        }
-        None => false,
-    }
-}
-
-/// The one of these places whose row is split next: the first place of a release row, or the first place if there is no release row. Of joins that cost the
-/// same, that of the conjuncts with the lowest numbers comes first. Release rows stay in the sets of rows that follow, so their joins are needed again.
-fn next_row<A: Allocator>(table: &Table<'_, A>, rest: &RowSet) -> Option<usize>
-    ensures { MatchOption result (rest.now ≡ []) (λ i. Has rest.now i) }
-{
-    let mut members = rest.iter();
-    'members: while let Some(place) = members.next() {
-        if is_release(table, place) {
-            return Some(place);
-        }
-    }
-    first(rest)
 }
 
 /// The pruned pairs of a row.
