@@ -1,19 +1,19 @@
 -- Components of conjuncts, one after another.
-use Rattle.std.proofs.Common.{◌≡◌, ℕ, true, false, List, [], ◌∷◌, map, sym, ◌∙◌, ap, subst}
+use Rattle.std.proofs.Common.{◌≡◌, ℕ, true, false, List, [], ◌∷◌, map, sym, ◌∙◌, ap}
 use Rattle.std.specs.Prelude.{fold}
-use Rattle.ltl_spec.specs.Collections.Sets.{IsRising, set_of}
+use Rattle.ltl_spec.specs.Collections.Sets.{set_of}
 use Rattle.ltl_spec.specs.Transitions.Pairs.{Pair, pair_cmp, join, empty_pair}
 use Rattle.ltl_spec.specs.Transitions.RowTransitions.{Table, with_marks, Transition, unimplied_transitions}
 use Rattle.ltl_spec.proofs.Collections.Orders.{pair_linear}
-use Rattle.ltl_spec.proofs.Collections.SetLaws.{IsRising-set_of, set_of_same}
+use Rattle.ltl_spec.proofs.Collections.SetLaws.{set_of_same}
 use Rattle.ltl_spec.proofs.Transitions.FactorLaws.{component_in_turn, kept_component}
 use Rattle.ltl_spec.proofs.Transitions.ConjunctJoins.{join_of, joined_from_nothing, sound_join_of}
 use Rattle.ltl_spec.proofs.Transitions.ProductTransitions.{transitions_of}
 use Rattle.ltl_spec.proofs.Transitions.SameJoins.{AreSound, sound_alike, alike_sym}
 use Rattle.ltl_alt.specs.declared.rule.Rule.{Rule}
 use Rattle.ltl_alt.specs.declared.fulfilment.Fulfilment.{Fulfilment}
-use Rattle.ltl_alt.specs.StandIns.{IsKeptBy, IsListed, StandsFor, IsFit, IsPruned, rule_of}
-use Rattle.ltl_alt.proofs.StandInLaws.{stands_in, kept_all, kept_same, kept_on, kept_rest, pruned_of, listed_equal, listed_safe}
+use Rattle.ltl_alt.specs.StandIns.{IsListed, StandsFor, IsFit, IsPruned, rule_of}
+use Rattle.ltl_alt.proofs.StandInLaws.{stands_in, kept_same, pruned_of, listed_equal, listed_safe}
 
 -- ---- joins one after another
 

@@ -45,15 +45,6 @@ module _ {K V : Type 0} where
       | inr m ↦ elim m.0 [ inl e ↦ inr (e, m.1) | inr e ↦ inr (sym (exact k a e), m.1) ]
     ]
 
--- what is known of a thing that is there
-pub some_is : {X : Type 0} (P : X → Type 0) (r : Option X) (x : X) → IfSome r P → r ≡ Some x → P x
-some_is P r x h e = subst (λ o. IfSome o P) e h
-
--- what holds of it tells something else
-pub some_through : {X : Type 0} (P Q : X → Type 0) (o : Option X) → ((x : X) → P x → Q x) → IfSome o P → IfSome o Q
-some_through P Q None f h = tt
-some_through P Q (Some x) f h = f x h
-
 -- ---- lists
 
 pub at_last : {K : Type 0} (xs : List K) (y d : K) (i : ℕ) → i ≡ length xs → slice_index_or (xs ++ y ∷ []) i d ≡ y

@@ -1,6 +1,5 @@
 -- Lists in which pairs stand for others.
-use Rattle.std.proofs.Common.{◌≡◌, ℕ, inl, inr, List, [], ◌∷◌, ◌++◌, refl, sym, ◌∙◌, subst, Some}
-use Rattle.std.specs.Prelude.{fold}
+use Rattle.std.proofs.Common.{◌≡◌, inl, inr, List, ◌++◌, refl, sym, ◌∙◌, subst, Some}
 use Rattle.ltl_spec.specs.Collections.Sets.{Has, set_of}
 use Rattle.ltl_spec.specs.Transitions.Pairs.{Pair, pair_cmp, join_pair, join}
 use Rattle.ltl_spec.specs.Transitions.RowTransitions.{Table}
@@ -80,11 +79,6 @@ module _ {S : Pair → Pair → Type 0} (o : IsStandIn S) where
       | inr k ↦ let (q, m, s) = b.covers r k in (q, append_right qs ss q m, s)
     ];
   }
-
-  -- joins with the same pairs one after another
-  pub kept_rest : (f : ℕ → List Pair) (e : List ℕ) (ps qs : List Pair) → IsKeptBy S ps qs → IsKeptBy S (fold (λ xs i. join xs (f i)) ps e) (fold (λ xs i. join xs (f i)) qs e)
-  kept_rest f [] ps qs k = k
-  kept_rest f (i ∷ e) ps qs k = kept_rest f e (join ps (f i)) (join qs (f i)) (kept_join ps qs (f i) (f i) k (kept_all (f i)))
 
 -- what the rule that drops repeated ones alone lists is the set
 pub listed_equal : (T : Table) (ps qs : List Pair) → IsListed (StandsFor T rule.Duplicate) ps qs → qs ≡ set_of pair_cmp ps

@@ -19,8 +19,8 @@
 //! - The pairs of a component's conjuncts are joined (`lists`, `repeats`), the two lists first whose join costs least (`components`). Each join but the
 //!   last one is pruned: it loses the pairs that would stay implied whatever is joined later (`prune`, `rule`, `roots`, `lacks`, `codes`). A memo table
 //!   keeps the joins (`memo`). The pairs of the last join get their marks (`marks`), and implied transitions are removed (`implied`). Tests are evaluated
-//!   for many pairs at once (`columns`). Another table keeps the result of each component (`finals`). If a table has no room for one of the joins, the
-//!   component is joined for its set of rows alone. Then its last join is pruned too.
+//!   for many pairs at once (`columns`). Another table keeps the result of each component (`finals`). Tables that are full are replaced by empty ones
+//!   before the next set of rows (`reach`).
 //! - The transitions of the set are the products of one transition of each component. They are counted first, then made and sorted (`factors`, `product`).
 //!
 //! A set shares the edges of an earlier set if the components of both have the same lists of transitions (`keys`).

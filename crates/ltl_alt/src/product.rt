@@ -85,10 +85,7 @@ pub(crate) fn all_products<'a, A: Allocator>(
 }
 
 /// The number of combinations of one transition of each factor, or `usize::MAX` if it is larger than that.
-pub(crate) fn combinations<'a, A: Allocator>(
-    finals: &Finals<'a, A>,
-    factors: &[usize],
-) -> usize
+pub(crate) fn combinations<'a, A: Allocator>(finals: &Finals<'a, A>, factors: &[usize]) -> usize
     requires within { AreWithin finals.now.lists.keys factors.now }
     ensures { result ≤ product_size (map (made_of finals.now.lists.keys) factors.now) }
 {

@@ -1,7 +1,7 @@
-use Rattle.std.proofs.Common.{◌≡◌, ℕ, List, ◌∷◌, [], ◌∙◌, ap, sym, subst, Result, Err, false}
+use Rattle.std.proofs.Common.{◌≡◌, ℕ, ◌∷◌, [], ◌∙◌, ap, sym, subst, Result, Err, false}
 use Rattle.std.specs.Result.{IsErrOf, IsErrAnd}
 use Rattle.ltl_spec.specs.Collections.Sets.{Has}
-use Rattle.ltl_spec.specs.Transitions.Pairs.{RowSet, Pair}
+use Rattle.ltl_spec.specs.Transitions.Pairs.{RowSet}
 use Rattle.ltl_spec.specs.Automata.Listing.{PassesLimits}
 use Rattle.ltl_spec.specs.Automata.Generalized.{same_row_set, root_set, IsGeneralized}
 use Rattle.ltl_spec.specs.Tools.Limits.{stated_limits}

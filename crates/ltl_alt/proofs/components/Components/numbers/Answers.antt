@@ -1,4 +1,4 @@
-use Rattle.std.proofs.Common.{◌≡◌, ◌<◌, ◌∙◌, arith, inl, inr, length, refl, sym, subst}
+use Rattle.std.proofs.Common.{◌≡◌, ◌∙◌, arith, inl, inr, refl, sym, subst}
 use Rattle.ltl_spec.specs.Collections.Sets.{Has}
 use Rattle.ltl_alt.specs.ComponentView.{start_of}
 use Rattle.ltl_alt.proofs.JoinOrderLaws.{number_pushed}
