@@ -11,6 +11,7 @@ pub mod NumberLaws
 pub mod QuotientLaws
 pub mod ReachedLaws
 pub mod RenumberLaws
+pub mod ReorderLaws
 pub mod RiseLaws
 pub mod RunLaws
 pub mod Sums

@@ -32,6 +32,7 @@ mod owners;
 mod partition;
 mod queue;
 mod quotient;
+mod resorting;
 mod retargeting;
 mod rises;
 mod rising;
