@@ -28,7 +28,7 @@ use std::alloc::{AllocError, Allocator};
 use std::hash::{BuildHasherDefault, FoldHasher};
 
 /// A table that stores more pairs, joins, transitions and components than this in all is replaced by an empty one before the next set of rows.
-const MOST_STORED: usize = 1_048_576;
+const MOST_STORED: usize = 4_194_304;
 
 /// The lists of transitions that components have, each stored once, with a number.
 #[derive(Drop)]
