@@ -11,7 +11,6 @@ pub mod NumberLaws
 pub mod QuotientLaws
 pub mod ReachedLaws
 pub mod RenumberLaws
-pub mod ReorderLaws
 pub mod RiseLaws
 pub mod RunLaws
 pub mod Sums

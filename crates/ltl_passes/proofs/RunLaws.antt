@@ -177,12 +177,12 @@ module _ {K : Type 0} where
       at rest false e m k = let n = filter_short p ys in absurd (omega (arith, m, n))
 
 -- the runs before the rest are done: what is kept are those of their edges that stay
-pub record IsDone (es : List Edge) (order rest : List made.RunEdge) (left : List made.RunEdge) : Type 0 where
+pub record IsDone (es : List Edge) (order rest : List made.RunEdge) (left : List plain.Edge) : Type 0 where
   pub done : List made.RunEdge
   pub whole : done ++ rest ≡ order
   pub below : (k l : made.RunEdge) → Has done k → Has rest l → target_of k < target_of l
   pub sorted : IsNonDecreasingBy target_of rest
-  pub kept : map run_edge left ≡ filter (stays es) (map run_edge done)
+  pub kept : map edge_of left ≡ filter (stays es) (map run_edge done)
 
 pub none_done : (es : List Edge) (order rest : List made.RunEdge) → IsByTarget es order → rest ≡ order → IsDone es order rest []
 none_done es order rest w e = record {
@@ -206,7 +206,7 @@ module _ (es : List Edge) (order : List made.RunEdge) (moved : IsPermutation es 
   back : (e : Edge) → Has (map run_edge order) e → Has es e
   back e h = Has-from_contains es e (Contains-permutation (map run_edge order) es e (IsPermutation-sym es (map run_edge order) moved) (Contains-from_has (map run_edge order) e h))
 
-  module _ (rest : List made.RunEdge) (kept : List made.RunEdge) (d : IsDone es order rest kept) (t : ℕ) (run others : List made.RunEdge) (leads_on : (k : made.RunEdge) → Has rest k → t ≤ target_of k)
+  module _ (rest : List made.RunEdge) (kept : List plain.Edge) (d : IsDone es order rest kept) (t : ℕ) (run others : List made.RunEdge) (leads_on : (k : made.RunEdge) → Has rest k → t ≤ target_of k)
       (front : run ≡ take (prefix_len (leads t) rest) rest) (behind : others ≡ drop (prefix_len (leads t) rest) rest) where
     whole : run ++ others ≡ rest
     whole = (λ i. front i ++ behind i) ∙ take-append-drop (prefix_len (leads t) rest) rest
@@ -256,7 +256,7 @@ module _ (es : List Edge) (order : List made.RunEdge) (moved : IsPermutation es 
     run_stays = filter_agree (stays (map run_edge run)) (stays es) (map run_edge run) (λ e h. let (k, i, c) = map_cases run_edge run e h in
         ap (stays (map run_edge run)) c ∙ stay_alike k i ∙ sym (ap (stays es) c))
 
-    pub run_done : (more : List made.RunEdge) → map run_edge more ≡ map run_edge kept ++ unimplied_edges (map run_edge run) → IsDone es order others more
+    pub run_done : (more : List plain.Edge) → map edge_of more ≡ map edge_of kept ++ unimplied_edges (map run_edge run) → IsDone es order others more
     run_done more e = record {
       done = d.done ++ run;
       whole = append_assoc d.done run others ∙ ap (λ ks. d.done ++ ks) whole ∙ d.whole;
@@ -270,7 +270,7 @@ module _ (es : List Edge) (order : List made.RunEdge) (moved : IsPermutation es 
         passed k l m (inr h) = let a = leads_past l m in let b = leads_to k h in omega (arith, a, b)
 
   -- when nothing is left, those that stay are kept
-  pub all_done : (rest : List made.RunEdge) (kept : List made.RunEdge) → IsDone es order rest kept → rest ≡ [] → IsKept es kept
+  pub all_done : (rest : List made.RunEdge) (kept : List plain.Edge) → IsDone es order rest kept → rest ≡ [] → IsKept es kept
   all_done rest kept d e = record {
     order = order;
     moved = moved;
@@ -285,20 +285,20 @@ module _ (es : List Edge) (order : List made.RunEdge) (moved : IsPermutation es 
       (λ e h. let (i, s) = filter_cases (stays es) es e h in Has-set_of edge_linear (filter (stays es) (map run_edge order)) e (Has-filter (stays es) (map run_edge order) e (there e i) s))
 
   -- where as many are kept as there are, all stay
-  pub none_goes : (kept : List made.RunEdge) (edges : List plain.Edge) → map run_edge kept ≡ filter (stays es) (map run_edge order) → es ≡ map edge_of edges → length kept ≡ length edges → unimplied_edges es ≡ es
+  pub none_goes : (kept edges : List plain.Edge) → map edge_of kept ≡ filter (stays es) (map run_edge order) → es ≡ map edge_of edges → length kept ≡ length edges → unimplied_edges es ≡ es
   none_goes kept edges e f n = filter_all (stays es) es (λ x h. whole_filter (stays es) (map run_edge order) long x (there x h))
     where
       long : length (map run_edge order) ≤ length (filter (stays es) (map run_edge order))
       long =
           let a = ap length e in
-          let b = length-map kept run_edge in
+          let b = length-map kept edge_of in
           let c = length_permutation es (map run_edge order) moved in
           let g = ap length f in
           let h = length-map edges edge_of in
           omega (arith, a, b, c, g, h, n)
 
 -- the same, whatever the order
-pub record AreDone (es : List Edge) (rest : List made.RunEdge) (left : List made.RunEdge) : Type 0 where
+pub record AreDone (es : List Edge) (rest : List made.RunEdge) (left : List plain.Edge) : Type 0 where
   pub order : List made.RunEdge
   pub moved : IsPermutation es (map run_edge order)
   pub done : IsDone es order rest left
@@ -308,7 +308,7 @@ pub first_run : (es : List Edge) (rest : List made.RunEdge) → IsByTarget es re
 first_run es rest w = record { order = rest; moved = w.moved; done = none_done es rest rest w refl }
 
 -- what begins the rest leads no further than the rest
-module _ (es : List Edge) (rest : List made.RunEdge) (kept : List made.RunEdge) (w : AreDone es rest kept) (first : made.RunEdge) (tail run others : List made.RunEdge) (begins : rest ≡ first ∷ tail)
+module _ (es : List Edge) (rest : List made.RunEdge) (kept : List plain.Edge) (w : AreDone es rest kept) (first : made.RunEdge) (tail run others : List made.RunEdge) (begins : rest ≡ first ∷ tail)
     (front : run ≡ take (prefix_len (leads (target_of first)) rest) rest) (behind : others ≡ drop (prefix_len (leads (target_of first)) rest) rest) where
   leads_on : (k : made.RunEdge) → Has rest k → target_of first ≤ target_of k
   leads_on k h = first_least first tail (subst (IsNonDecreasingBy target_of) begins w.done.sorted) k (subst (λ ks. Has ks k) begins h)
@@ -318,7 +318,7 @@ module _ (es : List Edge) (rest : List made.RunEdge) (kept : List made.RunEdge) 
   run_target = All-from_has (λ (k : made.RunEdge). target_of k ≡ target_of first) run (λ k h. run_leads (target_of first) rest k (subst (λ ks. Has ks k) front h))
 
   -- one more run
-  pub next_run : (more : List made.RunEdge) → map run_edge more ≡ map run_edge kept ++ unimplied_edges (map run_edge run) → AreDone es others more
+  pub next_run : (more : List plain.Edge) → map edge_of more ≡ map edge_of kept ++ unimplied_edges (map run_edge run) → AreDone es others more
   next_run more e = record { order = w.order; moved = w.moved; done = run_done es w.order w.moved rest kept w.done (target_of first) run others leads_on front behind more e }
 
   -- and the rest is shorter
@@ -332,15 +332,15 @@ module _ (es : List Edge) (rest : List made.RunEdge) (kept : List made.RunEdge) 
       omega (arith, long, some, there, e)
 
 -- the last run
-pub last_run : (es : List Edge) (rest : List made.RunEdge) (kept : List made.RunEdge) → AreDone es rest kept → rest ≡ [] → IsKept es kept
+pub last_run : (es : List Edge) (rest : List made.RunEdge) (kept : List plain.Edge) → AreDone es rest kept → rest ≡ [] → IsKept es kept
 last_run es rest kept w e = all_done es w.order w.moved rest kept w.done e
 
 -- what is kept, sorted
-pub sorted_kept : (es : List Edge) (kept : List made.RunEdge) → IsKept es kept → IsRising edge_cmp es → set_of edge_cmp (map run_edge kept) ≡ unimplied_edges es
+pub sorted_kept : (es : List Edge) (kept : List plain.Edge) → IsKept es kept → IsRising edge_cmp es → set_of edge_cmp (map edge_of kept) ≡ unimplied_edges es
 sorted_kept es kept w rising = ap (set_of edge_cmp) w.kept ∙ sorted_stay es w.order w.moved rising
 
 -- as many as there are
-pub all_kept : (es : List Edge) (kept : List made.RunEdge) (edges : List plain.Edge) → IsKept es kept → es ≡ map edge_of edges → length kept ≡ length edges → unimplied_edges es ≡ es
+pub all_kept : (es : List Edge) (kept edges : List plain.Edge) → IsKept es kept → es ≡ map edge_of edges → length kept ≡ length edges → unimplied_edges es ≡ es
 all_kept es kept edges w e n = none_goes es w.order w.moved kept edges w.kept e n
 
 -- ---- lists in which edges with one target ask for as much
@@ -433,26 +433,23 @@ noted_stay es noted all = all_stay (map edge_of es) (λ f e h k t.
 
 -- ---- the steps of the code
 
-pub ordered_next : (order more : List made.RunEdge) (taken more_taken : List plain.Edge) (e : plain.Edge) (place : ℕ) → map run_edge order ≡ map edge_of taken → more ≡ order ++ (let k : made.RunEdge = record { edge = e; place = place } in k) ∷ []
+pub ordered_next : (order more : List made.RunEdge) (taken more_taken : List plain.Edge) (e : plain.Edge) → map run_edge order ≡ map edge_of taken → more ≡ order ++ (let k : made.RunEdge = record { edge = e } in k) ∷ []
     → more_taken ≡ taken ++ e ∷ [] → map run_edge more ≡ map edge_of more_taken
-ordered_next order more taken more_taken e place w m t =
-    map_pushed run_edge order more (record { edge = e; place = place }) m ∙ ap (λ l. l ++ edge_of e ∷ []) w ∙ sym (map_pushed edge_of taken more_taken e t)
+ordered_next order more taken more_taken e w m t =
+    map_pushed run_edge order more (record { edge = e }) m ∙ ap (λ l. l ++ edge_of e ∷ []) w ∙ sym (map_pushed edge_of taken more_taken e t)
 
 pub ordered : (es : List plain.Edge) (order sorted : List made.RunEdge) → map run_edge order ≡ map edge_of es → IsPermutation order sorted → IsNonDecreasingBy target_of sorted → IsByTarget (map edge_of es) sorted
 ordered es order sorted w p s = record { moved = subst (λ l. IsPermutation l (map run_edge sorted)) w (IsPermutation-map run_edge order sorted p); sorted = s }
 
-pub put_next : (edges more : List plain.Edge) (taken more_taken : List made.RunEdge) (k : made.RunEdge) → map edge_of edges ≡ map run_edge taken → more ≡ edges ++ k.edge ∷ [] → more_taken ≡ taken ++ k ∷ []
-    → map edge_of more ≡ map run_edge more_taken
-put_next edges more taken more_taken k w m t = map_pushed edge_of edges more k.edge m ∙ ap (λ l. l ++ run_edge k ∷ []) w ∙ sym (map_pushed run_edge taken more_taken k t)
-
--- some more are kept
-pub put_run : (old kept run : List made.RunEdge) (es : List Edge) → kept ≡ old ++ run → map run_edge run ≡ es → map run_edge kept ≡ map run_edge old ++ es
-put_run old kept run es e d = ap (map run_edge) e ∙ map-append run_edge old run ∙ ap (λ l. map run_edge old ++ l) d
+pub put_next : (old : List Edge) (kept more : List plain.Edge) (taken more_taken : List made.RunEdge) (k : made.RunEdge) → map edge_of kept ≡ old ++ map run_edge taken → more ≡ kept ++ k.edge ∷ [] → more_taken ≡ taken ++ k ∷ []
+    → map edge_of more ≡ old ++ map run_edge more_taken
+put_next old kept more taken more_taken k w m t =
+    map_pushed edge_of kept more k.edge m ∙ ap (λ l. l ++ run_edge k ∷ []) w ∙ append_assoc old (map run_edge taken) (run_edge k ∷ []) ∙ ap (λ l. old ++ l) (sym (map_pushed run_edge taken more_taken k t))
 
 pub run_is_len : (t : ℕ) (order : List made.RunEdge) (n : ℕ) → n ≤ length order → ((k : ℕ) (d : made.RunEdge) → k < n → (target_of (slice_index_or order k d) == t) ≡ true) → (n < length order → (d : made.RunEdge) → (target_of (slice_index_or order n d) == t) ≡ false)
     → n ≡ prefix_len (λ k. target_of k == t) order
 run_is_len t order n l same stops =
-    let none : made.RunEdge = record { place = 0; edge = record { cube = []; target = 0; marks = [] } } in
+    let none : made.RunEdge = record { edge = record { cube = []; target = 0; marks = [] } } in
     sym (prefix_len_is (λ (k : made.RunEdge). target_of k == t) order n none l (λ k m. same k none m) (λ m. stops m none))
 
 -- the edge that was looked at leads elsewhere

@@ -57,10 +57,10 @@ abbrev pub IsWeighedLike : List plain.Edge → ℕ → ℕ → Type 0
 IsWeighedLike es f k = (f ≡ k) ⊎ ((w : ℕ) × IsOfWeight w (edge_of (edge_at es f)) × IsOfWeight w (edge_of (edge_at es k)))
 
 -- these are the edges that no other one implies, sorted by target only
-pub record IsKept (es : List Edge) (left : List made.RunEdge) : Type 0 where
+pub record IsKept (es : List Edge) (left : List plain.Edge) : Type 0 where
   pub order : List made.RunEdge
   pub moved : IsPermutation es (map run_edge order)
-  pub kept : map run_edge left ≡ filter (λ e. not (list_any (λ f. implies_other f e) es)) (map run_edge order)
+  pub kept : map edge_of left ≡ filter (λ e. not (list_any (λ f. implies_other f e) es)) (map run_edge order)
 
 -- if both edges have one target, k implies l
 abbrev pub is_below : made.RunEdge → made.RunEdge → Bool

@@ -4,23 +4,21 @@
 
 ghost use Rattle.std.specs.Prelude.{◌≡◌, ◌==◌, ◌<◌, ◌≤◌, ◌++◌, true, length, map, All, IfOk, OnOk};
 ghost use Rattle.std.specs.List.{prefix_len};
-ghost use Rattle.ltl_spec.specs.Collections.Sets.{IsRising, set_of};
+ghost use Rattle.ltl_spec.specs.Collections.Sets.{IsRising};
 ghost use Rattle.ltl_spec.specs.Automata.Automaton.{edge_cmp};
 ghost use Rattle.ltl_spec.specs.Construction.Merging as merging;
 ghost use Rattle.ltl_automaton.specs.EdgeView.{edge_of};
 ghost use Rattle.ltl_passes.specs.Runs.{AllLeadTo, IsByTarget, IsFirstLike, IsKept, IsOfWeight, IsWeighedLike, run_edge, target_of};
 
-use crate::resorting::resort;
 use least::{Below, Counting, Elements, least};
-use ltl_automaton::Edge;
+use ltl_automaton::{Edge, sort_dedup};
 use ltl_sets::RowSet;
 use std::alloc::{AllocError, Allocator};
 
-/// An edge of a run of edges with one target, and its place in the list of all edges.
+/// An edge of a run of edges with one target.
 #[derive(Clone, Copy)]
 struct RunEdge {
     edge: Edge,
-    place: usize,
 }
 
 /// An edge needs its literals, and lacks the acceptance sets that it isn't in. It asks for those that it is in.
@@ -98,8 +96,8 @@ fn by_target<'a, A: Allocator>(
     ensures { IfOk result (λ v. IsByTarget (map edge_of edges.now) v.items) }
 {
     let mut order = Vec::with_capacity(alloc, edges.len())?;
-    for (place, edge) in edges.iter().enumerate() {
-        order.push(RunEdge { edge: *edge, place })?;
+    for edge in edges {
+        order.push(RunEdge { edge: *edge })?;
     }
     order.sort_unstable_by_key(|item| item.edge.target);
     Ok(order)
@@ -141,23 +139,31 @@ fn weigh_alike(run: &[RunEdge], asked: usize) -> bool
     true
 }
 
+/// Appends the edges to those that are kept.
+fn put_all<'a, A: Allocator>(run: &[RunEdge], kept: &mut Vec<Edge, &'a A>) -> Result<(), AllocError>
+    ensures { OnOk result (map edge_of kept.new.items ≡ map edge_of kept.old.items ++ map run_edge run.now) }
+{
+    for item in run {
+        kept.push(item.edge)?;
+    }
+    Ok(())
+}
+
 /// Appends the edges of a run that no other one implies. If all weigh as much as the first one, these are all edges of the run.
 fn put_least<'a, A: Allocator>(
     alloc: &'a A,
     run: &[RunEdge],
     first: &RunEdge,
-    kept: &mut Vec<RunEdge, &'a A>,
+    kept: &mut Vec<Edge, &'a A>,
 ) -> Result<(), AllocError>
     requires { AllLeadTo (target_of first.now) run.now }
-    ensures { OnOk result (map run_edge kept.new.items ≡ map run_edge kept.old.items ++ merging.unimplied_edges (map run_edge run.now)) }
+    ensures { OnOk result (map edge_of kept.new.items ≡ map edge_of kept.old.items ++ merging.unimplied_edges (map run_edge run.now)) }
 {
     if weigh_alike(run, weight(&first.edge)) {
-        kept.extend_from_slice(run)?;
-        return Ok(());
+        return put_all(run, kept);
     }
     let left = least(alloc, &Differing, run)?;
-    kept.extend_from_slice(left.as_slice())?;
-    Ok(())
+    put_all(left.as_slice(), kept)
 }
 
 /// The index of the representative of an edge's target: the noted index, if it is less than `place` and its edge has the same target, else `place`.
@@ -204,11 +210,11 @@ fn are_alike(edges: &[Edge], noted: &mut [usize]) -> bool
 fn least_of_runs<'a, A: Allocator>(
     alloc: &'a A,
     edges: &[Edge],
-) -> Result<Vec<RunEdge, &'a A>, AllocError>
-    ensures { IfOk result (λ ks. IsKept (map edge_of edges.now) ks.items) }
+) -> Result<Vec<Edge, &'a A>, AllocError>
+    ensures { IfOk result (λ es. IsKept (map edge_of edges.now) es.items) }
 {
     let order = by_target(alloc, edges)?;
-    let mut kept = Vec::with_capacity(alloc, edges.len())?;
+    let mut kept = Vec::new(alloc);
     let mut rest = order.as_slice();
     'runs: while let Some((first, _)) = rest.split_first() {
         let (run, others) = rest.split_at(run_len(rest, first.edge.target));
@@ -216,22 +222,6 @@ fn least_of_runs<'a, A: Allocator>(
         rest = others;
     }
     Ok(kept)
-}
-
-/// The edges in their old order, if their places are right. They are sorted by place first, since numbers are compared faster than edges.
-fn in_order<'a, A: Allocator>(
-    alloc: &'a A,
-    mut kept: Vec<RunEdge, &'a A>,
-) -> Result<Vec<Edge, &'a A>, AllocError>
-    ensures { IfOk result (λ es. map edge_of es.items ≡ set_of edge_cmp (map run_edge kept.entry.items)) }
-{
-    kept.sort_unstable_by_key(|item| item.place);
-    let mut edges = Vec::with_capacity(alloc, kept.len())?;
-    for item in kept.as_slice() {
-        edges.push(item.edge)?;
-    }
-    resort(&mut edges);
-    Ok(edges)
 }
 
 /// The edges without those that another one with the same target implies. `noted` has room for an index at each target.
@@ -248,9 +238,10 @@ pub(crate) fn unimplied<'a, A: Allocator>(
     if are_alike(edges.as_slice(), noted) {
         return Ok(edges);
     }
-    let kept = least_of_runs(alloc, edges.as_slice())?;
+    let mut kept = least_of_runs(alloc, edges.as_slice())?;
     if kept.len() == edges.len() {
         return Ok(edges);
     }
-    in_order(alloc, kept)
+    sort_dedup(&mut kept);
+    Ok(kept)
 }

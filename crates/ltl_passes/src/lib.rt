@@ -11,9 +11,8 @@
 //! the numbers of the lists instead. Between two rounds a worklist continues to merge (`worklist`). It visits a state again only if the class of a target gets
 //! another name, and the smaller one of two classes gets the name of the other (`classes`). Mostly the next round changes nothing then.
 //!
-//! If the targets of a list are replaced, its labels still rise, so a few swaps of neighbours sort it (`resorting`). A list is searched for implied edges only
-//! if two of its edges with one target have different weights. Then the edges are sorted by target, and the minimal ones of each target are kept and put in
-//! order by their places (`implied`).
+//! A list is searched for implied edges only if two of its edges with one target have different weights. Then the edges are sorted by target, and the minimal
+//! ones of each target are kept (`implied`).
 //!
 //! The generalized automaton of `[]<>p` has one state after merging, with `[t]` in no set and `[p]` in set 0. Degeneralized, it has two copies with one edge
 //! list:
@@ -33,7 +32,6 @@ mod owners;
 mod partition;
 mod queue;
 mod quotient;
-mod resorting;
 mod retargeting;
 mod rises;
 mod rising;

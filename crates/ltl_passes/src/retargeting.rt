@@ -5,8 +5,7 @@ ghost use Rattle.ltl_spec.specs.Construction.Merging.{retargeted_edge};
 ghost use Rattle.ltl_automaton.specs.EdgeView.{edge_of};
 ghost use Rattle.ltl_passes.specs.Partition.{retargeted_list};
 
-use crate::resorting::resort;
-use ltl_automaton::Edge;
+use ltl_automaton::{Edge, sort_dedup};
 use std::alloc::{AllocError, Allocator};
 
 /// The edges with other targets.
@@ -39,6 +38,6 @@ pub(crate) fn retargeted<'a, A: Allocator>(
     ensures { IfOk result (λ es. map edge_of es.items ≡ retargeted_list (slice_index names.now) (map edge_of edges.now)) }
 {
     let mut made = retargeted_edges(alloc, edges, names)?;
-    resort(&mut made);
+    sort_dedup(&mut made);
     Ok(made)
 }

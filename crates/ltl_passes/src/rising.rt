@@ -10,7 +10,7 @@ use std::alloc::Allocator;
 use std::cmp::Ordering;
 
 /// Whether each edge is less than the next one.
-pub(crate) fn are_rising(edges: &[Edge]) -> bool
+fn are_rising(edges: &[Edge]) -> bool
     ensures { result ≡ true → IsRising edge_cmp (map edge_of edges.now) }
 {
     for place in 1..edges.len() {

@@ -1,7 +1,7 @@
-use Rattle.std.proofs.Common.{◌≡◌, arith, length, refl, subst, sym, List}
-use Rattle.std.specs.Prelude.{map, IfOk}
-use Rattle.ltl_spec.specs.Automata.Automaton.{Edge}
+use Rattle.std.proofs.Common.{◌≡◌, ◌∙◌, arith, length, refl, subst, sym}
+use Rattle.std.specs.Prelude.{map}
 use Rattle.ltl_automaton.specs.EdgeView.{edge_of}
+use Rattle.ltl_automaton.specs.EdgeOrder.{edges_set}
 use Rattle.ltl_passes.specs.Runs.{IsKept}
 use Rattle.ltl_passes.proofs.RunLaws.{all_kept, sorted_kept}
 use Rattle.ltl_passes.proofs.implied.unimplied.Goals as goal
@@ -15,4 +15,4 @@ returns-then-len-clause-edges g c =
 pub returns-clause-edges : goal.returns-clause-edges
 returns-clause-edges g c =
     let kept = subst (λ es. IsKept (map edge_of es) c.in_ok-kept.kept.items) c.as_slice-2.ensures.value c.in_ok-kept.ensures in
-    subst (λ (xs : List Edge). IfOk c.in_order.result (λ es. map edge_of es.items ≡ xs)) (sorted_kept (map edge_of c.args.edges.items) c.in_ok-kept.kept.items kept c.requires.rising) c.in_order.ensures
+    edges_set c.sort_dedup.new.items.items c.in_ok-kept.kept.items c.sort_dedup.ensures ∙ sorted_kept (map edge_of c.args.edges.items) c.in_ok-kept.kept.items kept c.requires.rising

@@ -1,8 +1,0 @@
-use Rattle.std.proofs.Common.{◌≡◌, take}
-use Rattle.std.specs.Prelude.{map}
-use Rattle.ltl_automaton.specs.EdgeView.{edge_of}
-use Rattle.ltl_passes.specs.Runs.{run_edge}
-use Rattle.ltl_passes.proofs.implied.in_order.Given as goal
-
-abbrev pub invariant-loop-item : goal.invariant-loop-item
-invariant-loop-item g l = map edge_of l.edges.items ≡ map run_edge (take l.item-index l.item-items)
