@@ -51,7 +51,8 @@ struct RowSets<'b, 't, 's, 'a, A: Allocator> {
 }
 
 impl<'b, 't, 's, 'a, A: Allocator> RowSets<'b, 't, 's, 'a, A> {
-    /// Replaces tables that are full by empty ones. It affects speed and memory alone.
+    /// Replaces tables that are full by empty ones, before a set of rows is looked up or counted. It affects speed and memory alone. `successors` doesn't call
+    /// it, since the lists of its set were made just before.
     fn make_room(&mut self) -> Result<(), AllocError>
         requires basis { IsBasis self.old.basis }
         requires finals { HasFinals self.old.basis self.old.finals }
@@ -95,7 +96,6 @@ impl<'b, 't, 's, 'a, A: Allocator> Successors<RowSet> for RowSets<'b, 't, 's, 'a
         key: &RowSet,
         most: usize,
     ) -> Result<Vec<Successor<RowSet>, &'c B>, AltFault> {
-        self.make_room()?;
         let kept = self.finals.set_transitions(&self.basis, key, most)?;
         Ok(successors_of(alloc, kept.as_slice())?)
     }
