@@ -6,44 +6,47 @@ use Rattle.std.specs.Cmp.Lexicographic.{pointwise, pointwise_decides}
 use Rattle.std.specs.Hash as fed
 use Rattle.std.proofs.lemmas.Bool.Decides.{same_from_decides}
 use Rattle.std.proofs.lemmas.List.{length-map, map-append}
-use Rattle.ltl_spec.specs.Automata.Automaton.{Edge}
-use Rattle.ltl_sets.specs.CubeEq.{hash_of_cube}
-use Rattle.ltl_sets.specs.Words.{hash_of, words_with}
-use Rattle.ltl_automaton.specs.EdgeView.{edge_of, same_edges, edges_Decides, hash_of_edge, hash_of_edges}
-use Rattle.ltl_automaton.specs.EdgeOrder.{edge_exact, same_code, edge_Decides}
-use Rattle.ltl_automaton.specs.declared.edge.Edge as made
+use Rattle.ltl_spec.specs.Automata.Automaton.{Edge, edge_cmp}
+use Rattle.std.specs.Bool.{Decides}
+use Rattle.std.specs.declared.cmp.Ordering.{Ordering}
+use Rattle.ltl_spec.specs.Collections.Sets.{set_of}
+use Rattle.ltl_spec.proofs.Collections.SortedSets.{set_of_keys}
+use Rattle.ltl_automaton.specs.EdgeView.{same_edges, edges_Decides}
 
--- lists of edges that are seen as equal are equal
-edges_exact : (xs ys : List made.Edge) → map edge_of xs ≡ map edge_of ys → xs ≡ ys
-edges_exact [] [] h = refl
-edges_exact [] (y ∷ ys) h = cc
-edges_exact (x ∷ xs) [] h = cc
-edges_exact (x ∷ xs) (y ∷ ys) h =
-    let p : edge_of x ≡ edge_of y = cc in
-    let q : map edge_of xs ≡ map edge_of ys = cc in
-    let a = edge_exact x y p in
-    let b = edges_exact xs ys q in
-    λ i. a i ∷ b i
+module _ {E : Type 0} (edge_of : E → Edge) where
+  -- lists of edges that are seen as equal are equal
+  edges_exact : ((e f : E) → edge_of e ≡ edge_of f → e ≡ f) → (xs ys : List E) → map edge_of xs ≡ map edge_of ys → xs ≡ ys
+  edges_exact exact [] [] h = refl
+  edges_exact exact [] (y ∷ ys) h = cc
+  edges_exact exact (x ∷ xs) [] h = cc
+  edges_exact exact (x ∷ xs) (y ∷ ys) h =
+      let p : edge_of x ≡ edge_of y = cc in
+      let q : map edge_of xs ≡ map edge_of ys = cc in
+      let a = exact x y p in
+      let b = edges_exact exact xs ys q in
+      λ i. a i ∷ b i
 
--- the test of lists
-list_test : (xs ys : List made.Edge) → pointwise same_code xs ys ≡ same_edges (map edge_of xs) (map edge_of ys)
-list_test xs ys =
-    same_from_decides (pointwise same_code xs ys) (same_edges (map edge_of xs) (map edge_of ys))
-    ((λ h. ap (map edge_of) ((pointwise_decides edge_Decides xs ys).0 h)), λ h. (pointwise_decides edge_Decides xs ys).1 (edges_exact xs ys h)) (edges_Decides (map edge_of xs) (map edge_of ys))
+  -- the test of lists
+  pub list_same : (same : E → E → Bool) → ((e f : E) → Decides (same e f) (e ≡ f)) → ((e f : E) → edge_of e ≡ edge_of f → e ≡ f) → (r : Bool) (xs ys us vs : List E) (s t : List Edge) → r ≡ pointwise same us vs → us ≡ xs → vs ≡ ys → map edge_of xs ≡ s → map edge_of ys ≡ t
+      → r ≡ same_edges s t
+  list_same same decides exact r xs ys us vs s t e p q f g = e ∙ (λ i. pointwise same (p i) (q i)) ∙ test ∙ (λ i. same_edges (f i) (g i))
+    where
+      test : pointwise same xs ys ≡ same_edges (map edge_of xs) (map edge_of ys)
+      test =
+          same_from_decides (pointwise same xs ys) (same_edges (map edge_of xs) (map edge_of ys))
+          ((λ h. ap (map edge_of) ((pointwise_decides decides xs ys).0 h)), λ h. (pointwise_decides decides xs ys).1 (edges_exact exact xs ys h)) (edges_Decides (map edge_of xs) (map edge_of ys))
 
-pub list_same : (r : Bool) (xs ys us vs : List made.Edge) (s t : List Edge) → r ≡ pointwise same_code us vs → us ≡ xs → vs ≡ ys → map edge_of xs ≡ s → map edge_of ys ≡ t → r ≡ same_edges s t
-list_same r xs ys us vs s t e p q f g = e ∙ (λ i. pointwise same_code (p i) (q i)) ∙ list_test xs ys ∙ (λ i. same_edges (f i) (g i))
+  -- what is fed
+  pub list_fed : {S : Type 0} (own : E → List (List ℕ)) (feed : Edge → List (List ℕ)) → ((e : E) → own e ≡ feed (edge_of e)) → (write : S → List ℕ → S) (t u : S) (xs : List E) → u ≡ fold write t (fed.slice own xs) → u ≡ fold write t (fed.slice feed (map edge_of xs))
+  list_fed own feed feeds write t u xs q = fed.fed_along write t u (λ i. fed.usize (sym (length-map xs edge_of) i) ++ edges_fed xs i) q
+    where
+      edges_fed : (xs : List E) → flat_map own xs ≡ flat_map feed (map edge_of xs)
+      edges_fed [] = refl
+      edges_fed (x ∷ xs) = λ i. feeds x i ++ edges_fed xs i
 
--- what is fed
-abbrev pub fed_of : made.Edge → List (List ℕ)
-fed_of e = hash_of_cube e.cube ++ fed.usize e.target ++ hash_of (words_with e.marks)
-
-edges_fed : (xs : List made.Edge) → flat_map fed_of xs ≡ flat_map hash_of_edge (map edge_of xs)
-edges_fed [] = refl
-edges_fed (x ∷ xs) = ap (λ ws. fed_of x ++ ws) (edges_fed xs)
-
-pub list_fed : {S : Type 0} (write : S → List ℕ → S) (t u : S) (xs : List made.Edge) → u ≡ fold write t (fed.slice fed_of xs) → u ≡ fold write t (hash_of_edges (map edge_of xs))
-list_fed write t u xs q = fed.fed_along write t u (λ i. fed.usize (sym (length-map xs edge_of) i) ++ edges_fed xs i) q
+  -- sorted edges without duplicates, as edges of the definitions
+  pub edges_sorted : (order : E → E → Ordering) → ((e f : E) → order e f ≡ edge_cmp (edge_of e) (edge_of f)) → (es fs : List E) → es ≡ set_of order fs → map edge_of es ≡ set_of edge_cmp (map edge_of fs)
+  edges_sorted order ordered es fs h = ap (map edge_of) (h ∙ (λ i. set_of (λ e f. ordered e f i) fs)) ∙ set_of_keys edge_cmp edge_of fs
 
 -- one more on both sides
 pub map_pushed : {X Y : Type 0} (f : X → Y) (xs ys : List X) (x : X) → ys ≡ xs ++ x ∷ [] → map f ys ≡ map f xs ++ f x ∷ []

@@ -40,7 +40,3 @@ edge_Decides e f = (
 -- the comparison of the code
 pub edge_linear_by_view : IsLinearOrder (λ (e f : made.Edge). edge_cmp (edge_of e) (edge_of f))
 edge_linear_by_view = record { total = on_total edge_of edge_linear.total; exact = λ e f h. edge_exact e f (edge_linear.exact (edge_of e) (edge_of f) h) }
-
--- sorted edges without duplicates, as edges of the definitions
-pub edges_set : (es fs : List made.Edge) → es ≡ set_of (λ (e f : made.Edge). edge_cmp (edge_of e) (edge_of f)) fs → map edge_of es ≡ set_of edge_cmp (map edge_of fs)
-edges_set es fs h = ap (map edge_of) h ∙ set_of_keys edge_cmp edge_of fs

@@ -34,8 +34,6 @@ same_equiv = record {
 abbrev pub hash_of_edge : Edge → List (List ℕ)
 hash_of_edge e = hash_of_cube e.cube ++ fed.usize e.target ++ hash_of (words_with e.marks)
 
-abbrev pub hash_of_edges : List Edge → List (List ℕ)
-hash_of_edges = fed.slice hash_of_edge
-
-pub hash_of_same : (s t : List Edge) → IsTrue (same_edges s t) → hash_of_edges s ≡ hash_of_edges t
-hash_of_same s t e = ap hash_of_edges ((edges_Decides s t).0 e)
+-- equal lists feed the same, whatever an edge feeds
+pub hash_of_same : (feed : Edge → List (List ℕ)) (s t : List Edge) → IsTrue (same_edges s t) → fed.slice feed s ≡ fed.slice feed t
+hash_of_same feed s t e = ap (fed.slice feed) ((edges_Decides s t).0 e)

@@ -3,6 +3,7 @@
 ghost use Rattle.std.specs.Prelude.{◌≡◌, ◌<◌, ◌≤◌, ◌+◌, true, length, IfOk, OnOk};
 ghost use Rattle.ltl_automaton.specs.Net.{edges_behind};
 
+use crate::edge::EdgeType;
 use crate::successors::Successors;
 use crate::worklist::{Key, Worklist};
 use std::alloc::{AllocError, Allocator};
@@ -30,7 +31,7 @@ fn is_time<'a, K: Key, A: Allocator>(
 }
 
 /// Whether `count`, together with the lower bounds of `edges_at_least` for the waiting states, is more than `most`.
-fn are_more_behind<'a, K: Key, S: Successors<K>, A: Allocator>(
+fn are_more_behind<'a, K: Key, E: EdgeType, S: Successors<K, E>, A: Allocator>(
     net: &mut S,
     listing: &Worklist<'a, K, A>,
     count: usize,
@@ -57,7 +58,7 @@ fn are_more_behind<'a, K: Key, S: Successors<K>, A: Allocator>(
 
 /// Whether more than `most` edges are certain. The answer is `false` without a computation where this wouldn't be worth it. `looked` is the number of
 /// edges at the last computation, and is updated.
-pub(crate) fn are_too_many_ahead<'a, K: Key, S: Successors<K>, A: Allocator>(
+pub(crate) fn are_too_many_ahead<'a, K: Key, E: EdgeType, S: Successors<K, E>, A: Allocator>(
     net: &mut S,
     listing: &Worklist<'a, K, A>,
     looked: &mut usize,

@@ -5,15 +5,15 @@ ghost use Rattle.std.specs.Prelude.{slice_get, slice_index_or, Some, length, is_
 ghost use Rattle.ltl_spec.specs.Collections.Lists.{with_new};
 ghost use Rattle.ltl_spec.specs.Automata.Listing.{PassesLimits};
 ghost use Rattle.ltl_spec.specs.Automata.Net.{IsReachable};
-ghost use Rattle.ltl_automaton.specs.Net.{edge_in, edges_in, key_of, targets_of, with_made};
+ghost use Rattle.ltl_automaton.specs.Net.{edge_in, edges_in, key_of, move_of, targets_of, with_made};
 ghost use Rattle.ltl_automaton.specs.Net.{moves_of, edges_behind, AreListed, AreTooMany, HasSuccessorsOf, HasBegun};
 ghost use Rattle.ltl_automaton.specs.Bounds.{IsBounded};
-ghost use Rattle.ltl_automaton.specs.EdgeView.{edge_of};
-ghost use Rattle.ltl_spec.specs.Automata.Automaton.{state_at};
+ghost use Rattle.ltl_spec.specs.Automata.Automaton.{edge_cmp, state_at};
+ghost use Rattle.ltl_spec.specs.Collections.Sets.{set_of};
 ghost use Rattle.ltl_automaton.specs.SharedView.{automaton_of, with_state};
 
 use crate::ahead::are_too_many_ahead;
-use crate::edge::Edge;
+use crate::edge::EdgeType;
 use crate::fault::AutomatonFault;
 use crate::shared::SharedStates;
 use crate::sorting::sort_dedup;
@@ -23,49 +23,51 @@ use crate::worklist::{Key, Worklist};
 use std::alloc::{AllocError, Allocator};
 
 /// The edges with numbers as targets. A key that isn't listed is appended.
-fn numbered<'a, K: Key, A: Allocator>(
+fn numbered<'a, K: Key, E: EdgeType, A: Allocator>(
     alloc: &'a A,
     listing: &mut Worklist<'a, K, A>,
-    successors: &[Successor<K>],
-) -> Result<Vec<Edge, &'a A>, AllocError>
-    ensures keys { OnOk result (listing.new.keys ≡ fold (with_new K.eq) listing.old.keys (map key_of successors.now)) }
+    successors: &[Successor<K, E>],
+) -> Result<Vec<E, &'a A>, AllocError>
+    ensures keys { OnOk result (listing.new.keys ≡ fold (with_new K.eq) listing.old.keys (map key_of (map (move_of E.edge_of) successors.now))) }
     ensures explored { listing.new.explored ≡ listing.old.explored }
-    ensures edges { IfOk result (λ es. map edge_of es.items ≡ map (edge_in K.eq listing.new.keys) successors.now) }
+    ensures edges { IfOk result (λ es. map E.edge_of es.items ≡ map (edge_in K.eq listing.new.keys) (map (move_of E.edge_of) successors.now)) }
 {
     let mut edges = Vec::new(alloc);
     edges.reserve(successors.len())?;
     for successor in successors {
         let target = listing.number(successor.key)?;
-        edges.push(Edge {
-            cube: successor.cube,
-            target,
-            marks: successor.marks,
-        })?;
+        edges.push(successor.edge.with_target(target))?;
     }
     Ok(edges)
 }
 
+/// Sorts the edges, and removes duplicates.
+fn sort<E: EdgeType, A: Allocator>(edges: &mut Vec<E, &A>)
+    ensures { map E.edge_of edges.new.items ≡ set_of edge_cmp (map E.edge_of edges.old.items) }
+{
+    sort_dedup(edges);
+}
+
 /// The edges with numbers as targets, sorted and without duplicates if `sorted` is set. `TooLarge` if more than `most` keys are listed then.
-#[tactic(auto, using(crate::specs::EdgeOrder::edges_set))]
-fn numbered_by<'a, K: Key, A: Allocator>(
+fn numbered_by<'a, K: Key, E: EdgeType, A: Allocator>(
     alloc: &'a A,
     listing: &mut Worklist<'a, K, A>,
-    successors: &[Successor<K>],
+    successors: &[Successor<K, E>],
     sorted: bool,
     most: usize,
-) -> Result<Vec<Edge, &'a A>, AutomatonFault>
-    ensures keys { OnOk result (listing.new.keys ≡ fold (with_new K.eq) listing.old.keys (map key_of successors.now)) }
+) -> Result<Vec<E, &'a A>, AutomatonFault>
+    ensures keys { OnOk result (listing.new.keys ≡ fold (with_new K.eq) listing.old.keys (map key_of (map (move_of E.edge_of) successors.now))) }
     ensures explored { listing.new.explored ≡ listing.old.explored }
-    ensures edges { IfOk result (λ es. map edge_of es.items ≡ edges_in K.eq sorted listing.new.keys successors.now) }
+    ensures edges { IfOk result (λ es. map E.edge_of es.items ≡ edges_in K.eq sorted listing.new.keys (map (move_of E.edge_of) successors.now)) }
     ensures fits { OnOk result (length listing.new.keys ≤ most) }
-    ensures large { IsErrOf result AutomatonFault.TooLarge → most < length (fold (with_new K.eq) listing.old.keys (map key_of successors.now)) }
+    ensures large { IsErrOf result AutomatonFault.TooLarge → most < length (fold (with_new K.eq) listing.old.keys (map key_of (map (move_of E.edge_of) successors.now))) }
 {
     let mut edges = numbered(alloc, listing, successors)?;
     if listing.len() > most {
         return Err(AutomatonFault::TooLarge);
     }
     if sorted {
-        sort_dedup(&mut edges);
+        sort(&mut edges);
     }
     Ok(edges)
 }
@@ -91,7 +93,7 @@ pub struct Limits {
 }
 
 /// The number of an explored state that has the edges of `key`, if one is known. The explored states are the first `states` of the listing.
-fn known_place<'a, K: Key, S: Successors<K>, A: Allocator>(
+fn known_place<'a, K: Key, E: EdgeType, S: Successors<K, E>, A: Allocator>(
     net: &mut S,
     listing: &Worklist<'a, K, A>,
     key: &K,
@@ -112,8 +114,8 @@ fn known_place<'a, K: Key, S: Successors<K>, A: Allocator>(
 }
 
 /// Appends a state that shares the edge list of the state `place`. Answers the new number of edges.
-fn put_like<'a, A: Allocator>(
-    made: &mut SharedStates<'a, A>,
+fn put_like<'a, E: EdgeType, A: Allocator>(
+    made: &mut SharedStates<'a, E, A>,
     lengths: &mut Vec<usize, &'a A>,
     place: usize,
     accepting: bool,
@@ -136,11 +138,11 @@ fn put_like<'a, A: Allocator>(
 }
 
 /// Appends the state of `key` with edges of its own, and lists their targets. Answers the new number of edges.
-fn put_new<'a, K: Key, S: Successors<K>, A: Allocator>(
+fn put_new<'a, K: Key, E: EdgeType, S: Successors<K, E>, A: Allocator>(
     alloc: &'a A,
     net: &mut S,
     listing: &mut Worklist<'a, K, A>,
-    made: &mut SharedStates<'a, A>,
+    made: &mut SharedStates<'a, E, A>,
     lengths: &mut Vec<usize, &'a A>,
     key: &K,
     sorted: bool,
@@ -165,7 +167,7 @@ fn put_new<'a, K: Key, S: Successors<K>, A: Allocator>(
 }
 
 /// The next key of the worklist, `None` at its end, or `TooLarge` as soon as more than `most` edges are certain.
-fn take_next<'a, K: Key, S: Successors<K>, A: Allocator>(
+fn take_next<'a, K: Key, E: EdgeType, S: Successors<K, E>, A: Allocator>(
     net: &mut S,
     listing: &mut Worklist<'a, K, A>,
     looked: &mut usize,
@@ -187,12 +189,12 @@ fn take_next<'a, K: Key, S: Successors<K>, A: Allocator>(
 }
 
 /// Explores what the start reaches, until the worklist is empty or a limit is passed.
-fn explore<'a, K: Key, S: Successors<K>, A: Allocator>(
+fn explore<'a, K: Key, E: EdgeType, S: Successors<K, E>, A: Allocator>(
     alloc: &'a A,
     start: K,
     net: &mut S,
     listing: &mut Worklist<'a, K, A>,
-    made: &mut SharedStates<'a, A>,
+    made: &mut SharedStates<'a, E, A>,
     lengths: &mut Vec<usize, &'a A>,
     sorted: bool,
     limits: Limits,
@@ -229,14 +231,14 @@ fn explore<'a, K: Key, S: Successors<K>, A: Allocator>(
 
 /// The automaton of the states that are reachable from `start`. State 0 is `start`; the others are numbered breadth first. The edges of a state keep
 /// the order in which `net` returns them, or are sorted and without duplicates if `sorted` is set. A limit counts edges before duplicates are removed.
-pub fn explore_from<'a, K: Key, S: Successors<K>, A: Allocator>(
+pub fn explore_from<'a, K: Key, E: EdgeType, S: Successors<K, E>, A: Allocator>(
     alloc: &'a A,
     start: K,
     sets: usize,
     net: &mut S,
     sorted: bool,
     limits: Limits,
-) -> Result<SharedStates<'a, A>, AutomatonFault>
+) -> Result<SharedStates<'a, E, A>, AutomatonFault>
     requires some { 0 < limits.states }
     requires ready { S.ready net.old }
     ensures reachable { IfOk result (λ s. IsReachable K.eq sorted (moves_of (S.net net.old)) start sets (automaton_of s)) }

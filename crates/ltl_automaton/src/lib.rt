@@ -36,7 +36,7 @@ pub mod successor;
 pub mod successors;
 pub mod worklist;
 
-pub use edge::Edge;
+pub use edge::{Edge, EdgeType};
 pub use edge_list::EdgeList;
 pub use explore::{Limits, explore_from};
 pub use fault::AutomatonFault;

@@ -2,17 +2,16 @@
 
 ghost use Rattle.std.specs.Prelude.{◌≡◌, ◌<◌, [], length, map, slice_get, Some, OnOk};
 ghost use Rattle.ltl_spec.specs.Automata.Automaton.{state_at};
-ghost use Rattle.ltl_automaton.specs.EdgeView.{edge_of};
 ghost use Rattle.ltl_automaton.specs.SharedView.{automaton_of, with_state, IsShared};
 
-use crate::edge::Edge;
+use crate::edge::EdgeType;
 use crate::edge_list::EdgeList;
 use crate::interner::Interner;
 use std::alloc::{AllocError, Allocator};
 use std::marker::Model;
 
 /// The different edge lists, by number.
-type Lists<'a, A> = Interner<'a, EdgeList<'a, A>, A>;
+type Lists<'a, E, A> = Interner<'a, EdgeList<'a, E, A>, A>;
 
 /// A state: the number of its edge list, and whether it is accepting.
 #[derive(Clone, Copy, Debug, PartialEq, Eq, Hash)]
@@ -24,13 +23,13 @@ pub struct SharedState {
 /// An automaton that grows by one state at a time. Each edge list is stored once. State 0 is the initial one once the automaton is complete; the
 /// type doesn't require that targets exist.
 #[derive(Drop)]
-pub struct SharedStates<'a, A: Allocator> {
+pub struct SharedStates<'a, E: EdgeType, A: Allocator> {
     sets: usize,
-    lists: Lists<'a, A>,
+    lists: Lists<'a, E, A>,
     states: Vec<SharedState, &'a A>,
 }
 
-impl<'a, A: Allocator> Model for SharedStates<'a, A> {
+impl<'a, E: EdgeType, A: Allocator> Model for SharedStates<'a, E, A> {
     ghost use Rattle.ltl_automaton.specs.SharedView.{Shared, IsShared};
 
     ghost Value = { Shared };
@@ -40,7 +39,7 @@ impl<'a, A: Allocator> Model for SharedStates<'a, A> {
     ghost invariant = { λ s. IsShared s.lists.keys s.states.items };
 }
 
-impl<'a, A: Allocator> SharedStates<'a, A> {
+impl<'a, E: EdgeType, A: Allocator> SharedStates<'a, E, A> {
     /// An automaton without states, with this number of acceptance sets.
     pub fn new(alloc: &'a A, sets: usize) -> Self
         ensures { result ≡ record { sets = sets; lists = []; states = [] } }
@@ -74,9 +73,9 @@ impl<'a, A: Allocator> SharedStates<'a, A> {
     }
 
     /// The edge list with this number.
-    pub fn list_edges(&self, list: usize) -> &[Edge]
+    pub fn list_edges(&self, list: usize) -> &[E]
         requires { list < length self.now.lists }
-        ensures { slice_get self.now.lists list ≡ Some (map edge_of result.now) }
+        ensures { slice_get self.now.lists list ≡ Some (map E.edge_of result.now) }
     {
         self.lists.get(list).as_slice()
     }
@@ -108,9 +107,9 @@ impl<'a, A: Allocator> SharedStates<'a, A> {
     }
 
     /// The edges of a state.
-    pub fn edges(&self, i: usize) -> &[Edge]
+    pub fn edges(&self, i: usize) -> &[E]
         requires { i < length (automaton_of self.now).states }
-        ensures { map edge_of result.now ≡ (state_at (automaton_of self.now) i).edges }
+        ensures { map E.edge_of result.now ≡ (state_at (automaton_of self.now) i).edges }
     {
         self.list_edges(self.list(i))
     }
@@ -123,8 +122,8 @@ impl<'a, A: Allocator> SharedStates<'a, A> {
     }
 
     /// Appends a state with these edges.
-    pub fn push(&mut self, accepting: bool, edges: Vec<Edge, &'a A>) -> Result<(), AllocError>
-        ensures ok { OnOk result (automaton_of self.new ≡ with_state (automaton_of self.old) accepting (map edge_of edges.entry.items)) }
+    pub fn push(&mut self, accepting: bool, edges: Vec<E, &'a A>) -> Result<(), AllocError>
+        ensures ok { OnOk result (automaton_of self.new ≡ with_state (automaton_of self.old) accepting (map E.edge_of edges.entry.items)) }
     {
         self.states.reserve(1)?;
         let list = self.lists.number(EdgeList::new(edges))?;

@@ -1,15 +1,16 @@
 //! The transition function of an automaton that is constructed on the fly.
 
-ghost use Rattle.std.specs.Prelude.{◌≡◌, ◌<◌, ◌≤◌, length, IfOk, IfSome, OnOk, IsErrOf};
-ghost use Rattle.ltl_automaton.specs.Net.{Net};
+ghost use Rattle.std.specs.Prelude.{◌≡◌, ◌<◌, ◌≤◌, length, map, IfOk, IfSome, OnOk, IsErrOf};
+ghost use Rattle.ltl_automaton.specs.Net.{Net, move_of};
 
+use crate::edge::EdgeType;
 use crate::fault::AutomatonFault;
 use crate::successor::Successor;
 use crate::worklist::Key;
 use std::alloc::{AllocError, Allocator};
 
 /// An automaton by its transition function: keys stand for states.
-pub trait Successors<K: Key> {
+pub trait Successors<K: Key, E: EdgeType> {
     ghost net: { Self → Net K };
 
     // the invariant of what is remembered between two calls
@@ -39,9 +40,9 @@ pub trait Successors<K: Key> {
         alloc: &'a A,
         key: &K,
         most: usize,
-    ) -> Result<Vec<Successor<K>, &'a A>, AutomatonFault>
+    ) -> Result<Vec<Successor<K, E>, &'a A>, AutomatonFault>
         requires { ready self.old }
-        ensures successors { IfOk result (λ v. v.items ≡ (net self.old).successors key.now) }
+        ensures successors { IfOk result (λ v. map (move_of E.edge_of) v.items ≡ (net self.old).successors key.now) }
         ensures large { IsErrOf result AutomatonFault.TooLarge → most < length ((net self.old).successors key.now) }
         ensures same { OnOk result (net self.new ≡ net self.old) }
         ensures ready { OnOk result (ready self.new) };
