@@ -22,7 +22,7 @@ use Rattle.ltl_spec.proofs.Construction.SetEdges.{generalized_sets}
 use Rattle.ltl_automaton.specs.Bounds.{IsBounded}
 use Rattle.ltl_automaton.specs.Net.{moves_of}
 use Rattle.ltl_models.specs.GbaView.{IsEdgeWithin, IsAcceptingGba}
-use Rattle.ltl_alt.specs.ReachView.{successor_of, net_of}
+use Rattle.ltl_alt.specs.ReachView.{transition_move, net_of}
 
 module _ (F : Normal) (keep : Bool) where
   abbrev moves : RowSet → List Transition
@@ -30,7 +30,7 @@ module _ (F : Normal) (keep : Bool) where
 
   -- the limits are the same
   same_limits : PassesLimits same_row_set (targets_of (moves_of (net_of F keep))) (root_set F keep) ≡ IsTooLarge F keep
-  same_limits = limits_alike same_row_set (row_net F keep) (moves_of (net_of F keep)) successor_of (λ e. refl) (λ t. refl) (λ t n. refl) (λ e. refl) (root_set F keep)
+  same_limits = limits_alike same_row_set (row_net F keep) (moves_of (net_of F keep)) transition_move (λ e. refl) (λ t. refl) (λ t n. refl) (λ e. refl) (root_set F keep)
 
   pub is_too_large : PassesLimits same_row_set (targets_of (moves_of (net_of F keep))) (root_set F keep) stated_limits.states stated_limits.edges → IsTooLarge F keep stated_limits.states stated_limits.edges
   is_too_large = subst (λ (P : ℕ → ℕ → Type 0). P stated_limits.states stated_limits.edges) same_limits
@@ -56,7 +56,7 @@ module _ (F : Normal) (keep : Bool) where
     module _ (A : Automaton) (w : IsReachable same_row_set false (moves_of (net_of F keep)) (root_set F keep) sets A) where
       -- it is the automaton
       way : IsReachable same_row_set false (row_net F keep) (root_set F keep) sets A
-      way = reachable_alike same_row_set (row_net F keep) (moves_of (net_of F keep)) successor_of (λ e. refl) (λ t. refl) (λ t n. refl) (λ e. refl) false (root_set F keep) sets A w
+      way = reachable_alike same_row_set (row_net F keep) (moves_of (net_of F keep)) transition_move (λ e. refl) (λ t. refl) (λ t n. refl) (λ e. refl) false (root_set F keep) sets A w
 
       pub is_generalized : IsGeneralized F keep A
       is_generalized = subst (λ n. IsReachable same_row_set false (row_net F keep) (root_set F keep) n A) s way

@@ -7,7 +7,9 @@ ghost use Rattle.ltl_formula.specs.TableView.{core_of};
 ghost use Rattle.ltl_alt.specs.BasisView.{IsBasis};
 ghost use Rattle.ltl_alt.specs.FinalView.{HasFinals};
 ghost use Rattle.ltl_alt.specs.KeyView.{AreKeys};
-ghost use Rattle.ltl_alt.specs.ReachView.{successor_of, net_of};
+ghost use Rattle.ltl_automaton.specs.EdgeView.{edge_of};
+ghost use Rattle.ltl_automaton.specs.Net.{move_of};
+ghost use Rattle.ltl_alt.specs.ReachView.{transition_move, net_of};
 ghost use Rattle.ltl_alt.specs.TransitionView.{table_at};
 
 use crate::basis::Basis;
@@ -20,7 +22,7 @@ use crate::rule::{Pruning, Rule};
 use crate::transition::Transition;
 use ltl_automaton::{AutomatonFault as AltFault, Limits, Successor, Successors, explore_from};
 use ltl_formula::Table;
-use ltl_models::{Gba, MOST_EDGES, MOST_STATES};
+use ltl_models::{Gba, GbaEdge, MOST_EDGES, MOST_STATES};
 use ltl_sets::RowSet;
 use std::alloc::{AllocError, Allocator};
 
@@ -28,15 +30,19 @@ use std::alloc::{AllocError, Allocator};
 fn successors_of<'c, B: Allocator>(
     alloc: &'c B,
     transitions: &[Transition],
-) -> Result<Vec<Successor<RowSet>, &'c B>, AllocError>
-    ensures { IfOk result (λ v. v.items ≡ map successor_of transitions.now) }
+) -> Result<Vec<Successor<RowSet, GbaEdge>, &'c B>, AllocError>
+    ensures { IfOk result (λ v. map (move_of edge_of) v.items ≡ map transition_move transitions.now) }
 {
     let mut successors = Vec::with_capacity(alloc, transitions.len())?;
     for transition in transitions {
-        successors.push(Successor {
+        let edge = GbaEdge {
             cube: transition.cube,
-            key: transition.targets,
+            target: 0,
             marks: transition.marks,
+        };
+        successors.push(Successor {
+            edge,
+            key: transition.targets,
         })?;
     }
     Ok(successors)
@@ -69,7 +75,7 @@ impl<'b, 't, 's, 'a, A: Allocator> RowSets<'b, 't, 's, 'a, A> {
     }
 }
 
-impl<'b, 't, 's, 'a, A: Allocator> Successors<RowSet> for RowSets<'b, 't, 's, 'a, A> {
+impl<'b, 't, 's, 'a, A: Allocator> Successors<RowSet, GbaEdge> for RowSets<'b, 't, 's, 'a, A> {
     ghost net = { λ n. net_of (core_of n.basis.table.now) n.basis.keep_implied };
 
     ghost ready = { λ n. IsBasis n.basis × HasFinals n.basis n.finals
@@ -95,7 +101,7 @@ impl<'b, 't, 's, 'a, A: Allocator> Successors<RowSet> for RowSets<'b, 't, 's, 'a
         alloc: &'c B,
         key: &RowSet,
         most: usize,
-    ) -> Result<Vec<Successor<RowSet>, &'c B>, AltFault> {
+    ) -> Result<Vec<Successor<RowSet, GbaEdge>, &'c B>, AltFault> {
         let kept = self.finals.set_transitions(&self.basis, key, most)?;
         Ok(successors_of(alloc, kept.as_slice())?)
     }

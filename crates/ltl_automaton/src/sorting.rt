@@ -5,6 +5,7 @@ ghost use Rattle.std.specs.Bool.{Decides};
 ghost use Rattle.std.specs.declared.cmp.Ordering.{Ordering};
 ghost use Rattle.ltl_spec.specs.Collections.Sets.{set_of, IsLinearOrder};
 
+use ltl_sets::{Cube, RowSet};
 use std::alloc::Allocator;
 use std::cmp::Ordering;
 
@@ -19,6 +20,40 @@ pub trait ListOrder: Copy + PartialEq + Drop {
     ghost linear: { IsLinearOrder order };
 
     ghost decides: { (x y : Self) → Decides (Self.eq x y) (x ≡ y) };
+}
+
+impl ListOrder for Cube {
+    ghost use Rattle.ltl_spec.specs.Transitions.Cubes.{cube_cmp};
+    ghost use Rattle.ltl_spec.proofs.Collections.Orders.{cube_linear};
+    ghost use Rattle.ltl_sets.specs.CubeEq.{cube_Decides};
+
+    ghost order = { cube_cmp };
+
+    #[inline(always)]
+    fn cmp_list(&self, other: &Cube) -> Ordering {
+        self.cmp_list(other)
+    }
+
+    ghost linear = { cube_linear };
+
+    ghost decides = { cube_Decides };
+}
+
+impl ListOrder for RowSet {
+    ghost use Rattle.std.specs.Ordering.{nat_cmp};
+    ghost use Rattle.std.specs.Cmp.Lexicographic.{slice_cmp, bytes_decides};
+    ghost use Rattle.ltl_spec.proofs.Collections.Orders.{slice_linear};
+
+    ghost order = { slice_cmp nat_cmp };
+
+    #[inline(always)]
+    fn cmp_list(&self, other: &RowSet) -> Ordering {
+        self.cmp_list(other)
+    }
+
+    ghost linear = { marks_linear };
+
+    ghost decides = { bytes_decides };
 }
 
 /// Sorts the items by `cmp_list`, and removes duplicates.

@@ -15,7 +15,7 @@ ghost use Rattle.ltl_models.specs.Named.{HasNamesOf};
 use ltl_alt::Reach;
 use ltl_formula::Table;
 use ltl_models::{Ba, BaFault, Gba, Gen, Options};
-use ltl_passes::{level_states, merge, merged_states, renumber_generalized, renumbered_states};
+use ltl_passes::{buchi_states, passes};
 use std::alloc::Allocator;
 
 /// The Büchi automaton of a table's formula. It accepts exactly the words that satisfy the formula, whatever the options. Each intermediate automaton is
@@ -40,15 +40,9 @@ pub fn translate<'a, A: Allocator>(
     ensures fits { IfOk result (λ _. ¬ (IsTranslationTooLarge (core_of table.now) options.now stated_limits.states stated_limits.edges)) }
     ensures large { IsErrOf result BaFault.TooLarge → IsTranslationTooLarge (core_of table.now) options.now stated_limits.states stated_limits.edges }
 {
-    let generalized = Gba::reach(alloc, table, options.keep_implied)?;
-    let small = merge(alloc, &generalized, options)?;
-    drop(generalized);
-    let copies = level_states(alloc, &small)?;
-    drop(small);
-    let smaller = merged_states(alloc, &copies, options)?;
-    drop(copies);
-    let numbered = renumbered_states(alloc, &smaller)?;
-    Ok(Ba::new(alloc, numbered)?)
+    let reached = Gba::reach(alloc, table, options.keep_implied)?;
+    let states = buchi_states(alloc, reached, options)?;
+    Ok(Ba::new(alloc, states)?)
 }
 
 /// The generalized Büchi automaton of a table's formula, merged and renumbered. It accepts exactly the words that satisfy the formula, whatever the options.
@@ -75,7 +69,5 @@ pub fn generalized<'a, A: Allocator>(
     ensures large { IsErrOf result BaFault.TooLarge → IsTooLarge (core_of table.now) options.now.keep_implied stated_limits.states stated_limits.edges }
 {
     let reached = Gba::reach(alloc, table, options.keep_implied)?;
-    let merged = merge(alloc, &reached, options)?;
-    drop(reached);
-    renumber_generalized(alloc, &merged)
+    passes::generalized(alloc, reached, options)
 }

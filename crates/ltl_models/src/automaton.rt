@@ -48,7 +48,7 @@ fn places<'a, A: Allocator>(alloc: &'a A, keys: &[u128]) -> Result<Places<'a, A>
 /// `places_by_target` for each edge list.
 fn orders<'a, A: Allocator>(
     alloc: &'a A,
-    states: &SharedStates<'_, A>,
+    states: &SharedStates<'_, Edge, A>,
 ) -> Result<Vec<Places<'a, A>, &'a A>, AllocError>
     ensures { IfOk result (λ v. HaveOrders states.now.lists (map (λ p. p.items) v.items)) }
 {
@@ -63,7 +63,7 @@ fn orders<'a, A: Allocator>(
 /// `by_target` returns.
 #[derive(Drop)]
 pub struct Ba<'a, A: Allocator> {
-    states: SharedStates<'a, A>,
+    states: SharedStates<'a, Edge, A>,
     orders: Vec<Places<'a, A>, &'a A>,
 }
 
@@ -85,7 +85,7 @@ impl<'a, A: Allocator> Model for Ba<'a, A> {
 
 impl<'a, A: Allocator> Ba<'a, A> {
     /// The automaton with these states. The edges of each list are sorted by target once, for `by_target`.
-    pub fn new(alloc: &'a A, states: SharedStates<'a, A>) -> Result<Self, AllocError>
+    pub fn new(alloc: &'a A, states: SharedStates<'a, Edge, A>) -> Result<Self, AllocError>
         requires inside { IsBa (automaton_of states) }
         ensures { IfOk result (λ b. b ≡ automaton_of states.entry) }
     {
@@ -94,7 +94,7 @@ impl<'a, A: Allocator> Ba<'a, A> {
     }
 
     /// The states, which share their edge lists.
-    pub fn states(&self) -> &SharedStates<'a, A>
+    pub fn states(&self) -> &SharedStates<'a, Edge, A>
         ensures { automaton_of result.now ≡ self.now }
     {
         &self.states

@@ -18,7 +18,7 @@ pub const MOST_EDGES: usize = 1_048_576;
 /// A generalized Büchi automaton with acceptance sets of edges. State 0 is the initial one.
 #[derive(Drop)]
 pub struct Gba<'a, A: Allocator> {
-    states: SharedStates<'a, A>,
+    states: SharedStates<'a, GbaEdge, A>,
 }
 
 impl<'a, A: Allocator> Model for Gba<'a, A> {
@@ -37,7 +37,7 @@ impl<'a, A: Allocator> Model for Gba<'a, A> {
 
 impl<'a, A: Allocator> Gba<'a, A> {
     /// The automaton with these states.
-    pub fn new(states: SharedStates<'a, A>) -> Gba<'a, A>
+    pub fn new(states: SharedStates<'a, GbaEdge, A>) -> Gba<'a, A>
         requires { IsAcceptingGba (automaton_of states) }
         ensures { result ≡ automaton_of states.entry }
     {
@@ -45,7 +45,7 @@ impl<'a, A: Allocator> Gba<'a, A> {
     }
 
     /// The states, which share their edge lists.
-    pub fn states(&self) -> &SharedStates<'a, A>
+    pub fn states(&self) -> &SharedStates<'a, GbaEdge, A>
         ensures { automaton_of result.now ≡ self.now }
     {
         &self.states

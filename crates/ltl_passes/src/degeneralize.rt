@@ -10,13 +10,14 @@ ghost use Rattle.ltl_models.specs.GbaView as gba;
 ghost use Rattle.ltl_models.specs.BaView.{IsBa};
 ghost use Rattle.ltl_passes.specs.Degeneralize.{HaveAtLeast, successor_of, level_edge_of, level_net, lifted_edge};
 
-use crate::rises::{count_rises, counted};
+use crate::coded_edge::CodedEdge;
+use crate::label_table::{LabelTable, labelled_states};
+use crate::labels::Labels;
 use ltl_automaton::{
     AutomatonFault, Key, Limits, ListOrder, SharedStates, Successor, Successors, explore_from,
     next_level, sort_dedup,
 };
-use ltl_models::{Ba, BaFault, Gba, GbaEdge, MOST_EDGES, MOST_STATES};
-use ltl_sets::{Cube, RowSet};
+use ltl_models::{Ba, BaFault, Gba, MOST_EDGES, MOST_STATES};
 use std::alloc::{AllocError, Allocator};
 use std::cmp::Ordering;
 use std::hash::{Hash, Hasher};
@@ -101,7 +102,7 @@ impl Key for LevelState {
 /// An edge to a copy, without marks.
 #[derive(Clone, Copy, PartialEq, Eq)]
 pub(crate) struct LevelEdge {
-    pub cube: Cube,
+    pub cube: u32,
     pub copy: LevelState,
 }
 
@@ -113,7 +114,7 @@ impl ListOrder for LevelEdge {
     /// Compares by the literals, then by the state, then by the level.
     #[inline(always)]
     fn cmp_list(&self, other: &LevelEdge) -> Ordering {
-        match self.cube.cmp_list(&other.cube) {
+        match self.cube.cmp(&other.cube) {
             Ordering::Equal => match self.copy.state.cmp(&other.copy.state) {
                 Ordering::Equal => self.copy.level.cmp(&other.copy.level),
                 unequal => unequal,
@@ -129,14 +130,14 @@ impl ListOrder for LevelEdge {
 
 /// The edge of a copy on this level that an edge of the generalized automaton with `sets` acceptance sets becomes.
 #[inline(always)]
-pub(crate) fn level_edge(sets: usize, edge: &GbaEdge, level: usize) -> LevelEdge
+fn level_edge(labels: &Labels<'_>, sets: usize, edge: &CodedEdge, level: usize) -> LevelEdge
     ensures lifted { level_edge_of result ≡ lifted_edge sets level (gba.edge_of edge.now) }
 {
     LevelEdge {
         cube: edge.cube,
         copy: LevelState {
             state: edge.target,
-            level: next_level(sets, &edge.marks, level),
+            level: next_level(sets, &labels.marks(edge.marks), level),
         },
     }
 }
@@ -144,15 +145,16 @@ pub(crate) fn level_edge(sets: usize, edge: &GbaEdge, level: usize) -> LevelEdge
 /// The edges of a copy, sorted and without duplicates.
 fn level_edges<'a, A: Allocator>(
     alloc: &'a A,
+    labels: &Labels<'_>,
     sets: usize,
-    edges: &[GbaEdge],
+    edges: &[CodedEdge],
     level: usize,
 ) -> Result<Vec<LevelEdge, &'a A>, AllocError>
     ensures set { IfOk result (λ es. map level_edge_of es.items ≡ set_of levels_of.level_edge_cmp (map (lifted_edge sets level) (map gba.edge_of edges.now))) }
 {
     let mut copied = Vec::with_capacity(alloc, edges.len())?;
     for edge in edges {
-        copied.push(level_edge(sets, edge, level))?;
+        copied.push(level_edge(labels, sets, edge, level))?;
     }
     sort_dedup(&mut copied);
     Ok(copied)
@@ -162,15 +164,19 @@ fn level_edges<'a, A: Allocator>(
 fn successors_of<'c, B: Allocator>(
     alloc: &'c B,
     edges: &[LevelEdge],
-) -> Result<Vec<Successor<LevelState>, &'c B>, AllocError>
+) -> Result<Vec<Successor<LevelState, CodedEdge>, &'c B>, AllocError>
     ensures { IfOk result (λ v. v.items ≡ map successor_of (map level_edge_of edges.now)) }
 {
     let mut successors = Vec::with_capacity(alloc, edges.len())?;
     for edge in edges {
-        successors.push(Successor {
+        let unmarked = CodedEdge {
             cube: edge.cube,
+            marks: 0,
+            target: 0,
+        };
+        successors.push(Successor {
+            edge: unmarked,
             key: edge.copy,
-            marks: RowSet::empty(),
         })?;
     }
     Ok(successors)
@@ -179,44 +185,39 @@ fn successors_of<'c, B: Allocator>(
 /// The successors of a copy without marks, sorted and without duplicates.
 fn level_successors<'c, B: Allocator>(
     alloc: &'c B,
+    labels: &Labels<'_>,
     sets: usize,
-    edges: &[GbaEdge],
+    edges: &[CodedEdge],
     level: usize,
-) -> Result<Vec<Successor<LevelState>, &'c B>, AllocError>
+) -> Result<Vec<Successor<LevelState, CodedEdge>, &'c B>, AllocError>
     ensures { IfOk result (λ v. v.items ≡ map successor_of (set_of levels_of.level_edge_cmp (map (lifted_edge sets level) (map gba.edge_of edges.now)))) }
 {
-    let copied = level_edges(alloc, sets, edges, level)?;
+    let copied = level_edges(alloc, labels, sets, edges, level)?;
     successors_of(alloc, copied.as_slice())
 }
 
-/// The implicit graph of the copies of an automaton's states. For each edge list there is a lower bound on the number of a copy's edges, once one is needed.
+/// The implicit graph of the copies of an automaton's states.
 #[derive(Drop)]
-struct LevelStates<'b, 'g, 'a, A: Allocator> {
-    automaton: &'b Gba<'g, A>,
-    states: &'b SharedStates<'g, A>,
-    counts: Vec<usize, &'a A>,
+struct LevelStates<'l, 'b, 'g, A: Allocator> {
+    labels: Labels<'l>,
+    states: &'b SharedStates<'g, CodedEdge, A>,
 }
 
-impl<'b, 'g, 'a, A: Allocator> Successors<LevelState> for LevelStates<'b, 'g, 'a, A> {
+impl<'l, 'b, 'g, A: Allocator> Successors<LevelState, CodedEdge> for LevelStates<'l, 'b, 'g, A> {
     ghost net = { λ n. level_net n.automaton.now };
 
     ghost ready = { λ n. (automaton_of n.states.now ≡ n.automaton.now) × HaveAtLeast n.states.now.lists n.counts.items };
 
     fn accepting(&self, key: &LevelState) -> bool {
-        key.level == self.automaton.sets()
+        key.level == self.states.sets()
     }
 
     fn same_successors_as(&mut self, _key: &LevelState) -> Result<Option<LevelState>, AllocError> {
         Ok(None)
     }
 
-    /// The first call computes the bounds of all lists.
-    #[tactic(auto, using(crate::proofs::RiseLaws::at_least))]
-    fn edges_at_least(&mut self, key: &LevelState) -> Result<usize, AllocError> {
-        if self.counts.is_empty() {
-            count_rises(self.states, &mut self.counts)?;
-        }
-        Ok(counted(self.states, self.counts.as_slice(), key))
+    fn edges_at_least(&mut self, _key: &LevelState) -> Result<usize, AllocError> {
+        Ok(0)
     }
 
     #[tactic(auto, using(crate::proofs::LevelStateLaws::no_successors_past, crate::proofs::LevelStateLaws::made_successors))]
@@ -225,12 +226,17 @@ impl<'b, 'g, 'a, A: Allocator> Successors<LevelState> for LevelStates<'b, 'g, 'a
         alloc: &'c B,
         key: &LevelState,
         _most: usize,
-    ) -> Result<Vec<Successor<LevelState>, &'c B>, AutomatonFault> {
-        let automaton = self.automaton;
-        automaton.invariant();
-        if key.state < automaton.len() {
-            let edges = automaton.edges(key.state);
-            Ok(level_successors(alloc, automaton.sets(), edges, key.level)?)
+    ) -> Result<Vec<Successor<LevelState, CodedEdge>, &'c B>, AutomatonFault> {
+        let states = self.states;
+        if key.state < states.len() {
+            let edges = states.edges(key.state);
+            Ok(level_successors(
+                alloc,
+                &self.labels,
+                states.sets(),
+                edges,
+                key.level,
+            )?)
         } else {
             Ok(Vec::new(alloc))
         }
@@ -239,30 +245,22 @@ impl<'b, 'g, 'a, A: Allocator> Successors<LevelState> for LevelStates<'b, 'g, 'a
 
 /// Degeneralizes an automaton. The states of the result are the copies that are reachable from state 0 on level 0, and the copies on the last level are
 /// accepting. The result is `TooLarge` if there are more than `MOST_STATES` copies or `MOST_EDGES` edges.
-pub fn level_states<'a, A: Allocator>(
+pub(crate) fn level_states<'a, A: Allocator>(
     alloc: &'a A,
-    automaton: &Gba<'_, A>,
-) -> Result<SharedStates<'a, A>, BaFault>
-    ensures copies { IfOk result (λ s. automaton_of s ≡ levels_of.level_automaton automaton.now) }
-    ensures inside { IfOk result (λ s. IsBa (automaton_of s)) }
-
-    // The result is `TooLarge` only if a limit is exceeded, and is never `Ok` then. Memory may run out at any time.
-    ensures few { OnOk result (¬ levels_of.HasTooManyLevelStates automaton.now stated_limits.states stated_limits.edges) }
-    ensures many { IsErrOf result BaFault.TooLarge → levels_of.HasTooManyLevelStates automaton.now stated_limits.states stated_limits.edges }
-{
-    automaton.invariant();
+    labels: &Labels<'_>,
+    states: &SharedStates<'_, CodedEdge, A>,
+) -> Result<SharedStates<'a, CodedEdge, A>, BaFault> {
     let start = LevelState { state: 0, level: 0 };
     let limits = Limits {
         states: MOST_STATES,
         edges: MOST_EDGES,
     };
     let mut copies = LevelStates {
-        automaton,
-        states: automaton.states(),
-        counts: Vec::new(alloc),
+        labels: *labels,
+        states,
     };
-    let states = explore_from(alloc, start, 0, &mut copies, true, limits)?;
-    Ok(states)
+    let made = explore_from(alloc, start, 0, &mut copies, true, limits)?;
+    Ok(made)
 }
 
 /// Degeneralizes an automaton, as `level_states` does, into a Büchi automaton.
@@ -273,6 +271,10 @@ pub fn levels<'a, A: Allocator>(alloc: &'a A, automaton: &Gba<'_, A>) -> Result<
     ensures few { OnOk result (¬ levels_of.HasTooManyLevelStates automaton.now stated_limits.states stated_limits.edges) }
     ensures many { IsErrOf result BaFault.TooLarge → levels_of.HasTooManyLevelStates automaton.now stated_limits.states stated_limits.edges }
 {
-    let states = level_states(alloc, automaton)?;
-    Ok(Ba::new(alloc, states)?)
+    let table = LabelTable::of(alloc, automaton.states())?;
+    let labels = table.labels();
+    let states = table.coded(alloc, automaton.states())?;
+    let copies = level_states(alloc, &labels, &states)?;
+    let made = labelled_states(alloc, &labels, &copies)?;
+    Ok(Ba::new(alloc, made)?)
 }

@@ -10,19 +10,36 @@ ghost use Rattle.ltl_spec.specs.Construction.Merging as merging;
 ghost use Rattle.ltl_automaton.specs.EdgeView.{edge_of};
 ghost use Rattle.ltl_passes.specs.Runs.{AllLeadTo, IsByTarget, IsFirstLike, IsKept, IsOfWeight, IsWeighedLike, run_edge, target_of};
 
+use crate::coded_edge::CodedEdge;
+use crate::labels::Labels;
 use least::{Below, Counting, Elements, least};
-use ltl_automaton::{Edge, sort_dedup};
-use ltl_sets::RowSet;
+use ltl_automaton::sort_dedup;
+use ltl_sets::{Cube, RowSet};
 use std::alloc::{AllocError, Allocator};
 
 /// An edge of a run of edges with one target.
 #[derive(Clone, Copy)]
-struct RunEdge {
-    edge: Edge,
+struct RunEdge<'l> {
+    labels: Labels<'l>,
+    edge: CodedEdge,
+}
+
+impl<'l> RunEdge<'l> {
+    /// The label of the edge.
+    #[inline(always)]
+    fn cube(&self) -> Cube {
+        self.labels.cube(self.edge.cube)
+    }
+
+    /// The acceptance sets of the edge.
+    #[inline(always)]
+    fn marks(&self) -> RowSet {
+        self.labels.marks(self.edge.marks)
+    }
 }
 
 /// An edge needs its literals, and lacks the acceptance sets that it isn't in. It asks for those that it is in.
-impl Elements for RunEdge {
+impl<'l> Elements for RunEdge<'l> {
     ghost use Rattle.ltl_passes.specs.Runs.{elements_asked, elements_needed, is_lacked};
 
     ghost needs = { elements_needed };
@@ -33,9 +50,9 @@ impl Elements for RunEdge {
 
     fn needs(&self, kind: usize) -> RowSet {
         if kind == 0 {
-            self.edge.cube.letter()
+            self.cube().letter()
         } else if kind == 1 {
-            self.edge.cube.forbidden()
+            self.cube().forbidden()
         } else {
             RowSet::empty()
         }
@@ -43,7 +60,7 @@ impl Elements for RunEdge {
 
     fn asks(&self, kind: usize) -> RowSet {
         if kind == 0 {
-            self.edge.marks
+            self.marks()
         } else {
             RowSet::empty()
         }
@@ -52,7 +69,7 @@ impl Elements for RunEdge {
     #[tactic(auto, using(crate::proofs::RunLaws::lacks_first, crate::proofs::RunLaws::lacks_none))]
     fn lacks(&self, kind: usize, of: &RowSet) -> RowSet {
         if kind == 0 {
-            of.without(&self.edge.marks)
+            of.without(&self.marks())
         } else {
             RowSet::empty()
         }
@@ -60,13 +77,13 @@ impl Elements for RunEdge {
 }
 
 /// An edge is below those with its target that it implies: its literals are among theirs, and it is in each acceptance set that they are in.
-impl Below for RunEdge {
+impl<'l> Below for RunEdge<'l> {
     ghost use Rattle.ltl_passes.specs.Runs.{is_below, below_asked, below_needed};
 
     ghost below = { is_below };
 
-    fn is_below(&self, other: &RunEdge) -> bool {
-        self.edge.cube.implies_of(&other.edge.cube) && other.edge.marks.is_subset(&self.edge.marks)
+    fn is_below(&self, other: &RunEdge<'l>) -> bool {
+        self.cube().implies_of(&other.cube()) && other.marks().is_subset(&self.marks())
     }
 
     ghost needed = { below_needed };
@@ -77,34 +94,38 @@ impl Below for RunEdge {
 /// Of the edges below an item, only those that differ from it count.
 struct Differing;
 
-impl Counting<RunEdge> for Differing {
+impl<'l> Counting<RunEdge<'l>> for Differing {
     ghost use Rattle.ltl_passes.specs.Runs.{is_other};
 
     ghost counts = { λ _ k l. is_other k l };
 
     #[tactic(auto, using(crate::proofs::RunLaws::same_test))]
-    fn counts(&self, other: &RunEdge, item: &RunEdge) -> bool {
+    fn counts(&self, other: &RunEdge<'l>, item: &RunEdge<'l>) -> bool {
         !(other.edge == item.edge)
     }
 }
 
 /// The edges sorted by target.
-fn by_target<'a, A: Allocator>(
+fn by_target<'a, 'l, A: Allocator>(
     alloc: &'a A,
-    edges: &[Edge],
-) -> Result<Vec<RunEdge, &'a A>, AllocError>
+    labels: &Labels<'l>,
+    edges: &[CodedEdge],
+) -> Result<Vec<RunEdge<'l>, &'a A>, AllocError>
     ensures { IfOk result (λ v. IsByTarget (map edge_of edges.now) v.items) }
 {
     let mut order = Vec::with_capacity(alloc, edges.len())?;
     for edge in edges {
-        order.push(RunEdge { edge: *edge })?;
+        order.push(RunEdge {
+            labels: *labels,
+            edge: *edge,
+        })?;
     }
     order.sort_unstable_by_key(|item| item.edge.target);
     Ok(order)
 }
 
 /// The number of edges at the beginning that lead to this target.
-fn run_len(order: &[RunEdge], target: usize) -> usize
+fn run_len(order: &[RunEdge<'_>], target: usize) -> usize
     ensures { result ≡ prefix_len (λ k. target_of k == target) order.now }
 {
     let mut len = 0;
@@ -117,22 +138,22 @@ fn run_len(order: &[RunEdge], target: usize) -> usize
 /// The weight of an edge: the number of its literals, and the number of sets, of `RowSet::LIMIT`, that it isn't in. An edge that implies another one with its
 /// target weighs less.
 #[inline(always)]
-fn weight(edge: &Edge) -> usize
+fn weight(labels: &Labels<'_>, edge: &CodedEdge) -> usize
     ensures { IsOfWeight result (edge_of edge.now) }
 {
-    edge.cube.invariant();
-    edge.marks.invariant();
-    let literals = edge.cube.count();
-    let marks = edge.marks.count();
-    literals + (RowSet::LIMIT - marks)
+    let cube = labels.cube(edge.cube);
+    let marks = labels.marks(edge.marks);
+    cube.invariant();
+    marks.invariant();
+    cube.count() + (RowSet::LIMIT - marks.count())
 }
 
 /// Whether each edge of a run has this weight.
-fn weigh_alike(run: &[RunEdge], asked: usize) -> bool
+fn weigh_alike(run: &[RunEdge<'_>], asked: usize) -> bool
     ensures { result ≡ true → All (λ k. IsOfWeight asked (run_edge k)) run.now }
 {
     for item in run {
-        if weight(&item.edge) != asked {
+        if weight(&item.labels, &item.edge) != asked {
             return false;
         }
     }
@@ -140,7 +161,10 @@ fn weigh_alike(run: &[RunEdge], asked: usize) -> bool
 }
 
 /// Appends the edges to those that are kept.
-fn put_all<'a, A: Allocator>(run: &[RunEdge], kept: &mut Vec<Edge, &'a A>) -> Result<(), AllocError>
+fn put_all<'a, A: Allocator>(
+    run: &[RunEdge<'_>],
+    kept: &mut Vec<CodedEdge, &'a A>,
+) -> Result<(), AllocError>
     ensures { OnOk result (map edge_of kept.new.items ≡ map edge_of kept.old.items ++ map run_edge run.now) }
 {
     for item in run {
@@ -152,14 +176,14 @@ fn put_all<'a, A: Allocator>(run: &[RunEdge], kept: &mut Vec<Edge, &'a A>) -> Re
 /// Appends the edges of a run that no other one implies. If all weigh as much as the first one, these are all edges of the run.
 fn put_least<'a, A: Allocator>(
     alloc: &'a A,
-    run: &[RunEdge],
-    first: &RunEdge,
-    kept: &mut Vec<Edge, &'a A>,
+    run: &[RunEdge<'_>],
+    first: &RunEdge<'_>,
+    kept: &mut Vec<CodedEdge, &'a A>,
 ) -> Result<(), AllocError>
     requires { AllLeadTo (target_of first.now) run.now }
     ensures { OnOk result (map edge_of kept.new.items ≡ map edge_of kept.old.items ++ merging.unimplied_edges (map run_edge run.now)) }
 {
-    if weigh_alike(run, weight(&first.edge)) {
+    if weigh_alike(run, weight(&first.labels, &first.edge)) {
         return put_all(run, kept);
     }
     let left = least(alloc, &Differing, run)?;
@@ -168,7 +192,7 @@ fn put_least<'a, A: Allocator>(
 
 /// The index of the representative of an edge's target: the noted index, if it is less than `place` and its edge has the same target, else `place`.
 #[inline(always)]
-fn first_like(edges: &[Edge], place: usize, noted: usize) -> usize
+fn first_like(edges: &[CodedEdge], place: usize, noted: usize) -> usize
     requires { place < length edges.now }
     ensures { IsFirstLike edges.now place noted result }
 {
@@ -179,17 +203,17 @@ fn first_like(edges: &[Edge], place: usize, noted: usize) -> usize
 }
 
 /// Whether the two indices are equal or the two edges have the same weight.
-fn weighs_like(edges: &[Edge], first: usize, place: usize) -> bool
+fn weighs_like(labels: &Labels<'_>, edges: &[CodedEdge], first: usize, place: usize) -> bool
     requires place { place < length edges.now }
     requires first { first ≤ place }
     ensures { result ≡ true → IsWeighedLike edges.now first place }
 {
-    first == place || weight(&edges[first]) == weight(&edges[place])
+    first == place || weight(labels, &edges[first]) == weight(labels, &edges[place])
 }
 
 /// Whether all edges with one target have the same weight, for each target; then none is implied. The index of the first edge of each target is noted. The
 /// initial contents of `noted` don't matter.
-fn are_alike(edges: &[Edge], noted: &mut [usize]) -> bool
+fn are_alike(labels: &Labels<'_>, edges: &[CodedEdge], noted: &mut [usize]) -> bool
     requires within { All (λ e. e.target < length noted.old) edges.now }
     ensures wide { length noted.new ≡ length noted.old }
     ensures alike { result ≡ true → merging.unimplied_edges (map edge_of edges.now) ≡ map edge_of edges.now }
@@ -197,7 +221,7 @@ fn are_alike(edges: &[Edge], noted: &mut [usize]) -> bool
     for place in 0..edges.len() {
         let target = edges[place].target;
         let first = first_like(edges, place, noted[target]);
-        if !weighs_like(edges, first, place) {
+        if !weighs_like(labels, edges, first, place) {
             return false;
         }
         noted[target] = first;
@@ -209,11 +233,12 @@ fn are_alike(edges: &[Edge], noted: &mut [usize]) -> bool
 #[tactic(auto, using(crate::proofs::RunLaws::first_run, crate::proofs::RunLaws::last_run))]
 fn least_of_runs<'a, A: Allocator>(
     alloc: &'a A,
-    edges: &[Edge],
-) -> Result<Vec<Edge, &'a A>, AllocError>
+    labels: &Labels<'_>,
+    edges: &[CodedEdge],
+) -> Result<Vec<CodedEdge, &'a A>, AllocError>
     ensures { IfOk result (λ es. IsKept (map edge_of edges.now) es.items) }
 {
-    let order = by_target(alloc, edges)?;
+    let order = by_target(alloc, labels, edges)?;
     let mut kept = Vec::new(alloc);
     let mut rest = order.as_slice();
     'runs: while let Some((first, _)) = rest.split_first() {
@@ -227,18 +252,19 @@ fn least_of_runs<'a, A: Allocator>(
 /// The edges without those that another one with the same target implies. `noted` has room for an index at each target.
 pub(crate) fn unimplied<'a, A: Allocator>(
     alloc: &'a A,
-    edges: Vec<Edge, &'a A>,
+    labels: &Labels<'_>,
+    edges: Vec<CodedEdge, &'a A>,
     noted: &mut [usize],
-) -> Result<Vec<Edge, &'a A>, AllocError>
+) -> Result<Vec<CodedEdge, &'a A>, AllocError>
     requires rising { IsRising edge_cmp (map edge_of edges.items) }
     requires within { All (λ e. e.target < length noted.old) edges.items }
     ensures wide { length noted.new ≡ length noted.old }
     ensures edges { IfOk result (λ es. map edge_of es.items ≡ merging.unimplied_edges (map edge_of edges.entry.items)) }
 {
-    if are_alike(edges.as_slice(), noted) {
+    if are_alike(labels, edges.as_slice(), noted) {
         return Ok(edges);
     }
-    let mut kept = least_of_runs(alloc, edges.as_slice())?;
+    let mut kept = least_of_runs(alloc, labels, edges.as_slice())?;
     if kept.len() == edges.len() {
         return Ok(edges);
     }

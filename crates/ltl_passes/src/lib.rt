@@ -24,20 +24,25 @@
 #![tactic(auto)]
 
 mod classes;
-mod degeneralize;
+mod coded_edge;
+pub mod degeneralize;
 mod implied;
+mod label_table;
+mod labels;
 pub mod merging;
 pub mod numbering;
 mod owners;
 mod partition;
+pub mod passes;
 mod queue;
 mod quotient;
+mod ranked;
 mod retargeting;
-mod rises;
 mod rising;
 mod sources;
 mod worklist;
 
-pub use degeneralize::{level_states, levels};
-pub use merging::{merge, merge_ba, merged_states};
-pub use numbering::{renumber, renumber_generalized, renumbered_states};
+pub use degeneralize::levels;
+pub use merging::{merge, merge_ba};
+pub use numbering::renumber;
+pub use passes::{buchi_states, generalized};

@@ -7,6 +7,9 @@ ghost use Rattle.ltl_automaton.specs.SharedView.{automaton_of};
 ghost use Rattle.ltl_models.specs.BaView.{IsBa};
 ghost use Rattle.ltl_passes.specs.Partition.{IsWithinStates};
 
+use crate::coded_edge::CodedEdge;
+use crate::label_table::{LabelTable, labelled_states};
+use crate::labels::Labels;
 use crate::partition::{class_names, own_names};
 use crate::quotient::quotient;
 use ltl_automaton::SharedStates;
@@ -16,7 +19,7 @@ use std::alloc::{AllocError, Allocator};
 /// The class name of each state. If equal states are kept, each state is a class.
 fn names<'a, A: Allocator>(
     alloc: &'a A,
-    states: &SharedStates<'_, A>,
+    states: &SharedStates<'_, CodedEdge, A>,
     keep_equal: bool,
 ) -> Result<Vec<usize, &'a A>, AllocError>
     requires within { IsWithinStates (automaton_of states.now).states }
@@ -29,16 +32,17 @@ fn names<'a, A: Allocator>(
 }
 
 /// The quotient of an automaton of either kind.
-fn merged<'a, A: Allocator>(
+pub(crate) fn merged<'a, A: Allocator>(
     alloc: &'a A,
-    states: &SharedStates<'_, A>,
+    labels: &Labels<'_>,
+    states: &SharedStates<'_, CodedEdge, A>,
     options: &Options,
-) -> Result<SharedStates<'a, A>, AllocError>
+) -> Result<SharedStates<'a, CodedEdge, A>, AllocError>
     requires within { IsWithinStates (automaton_of states.now).states }
     ensures { IfOk result (λ m. automaton_of m ≡ merged_automaton options.now.keep_implied options.now.keep_equal (automaton_of states.now)) }
 {
     let names = names(alloc, states, options.keep_equal)?;
-    quotient(alloc, states, names.as_slice(), options.keep_implied)
+    quotient(alloc, labels, states, names.as_slice(), options.keep_implied)
 }
 
 /// The generalized automaton with equivalent states merged and without the transitions that another one with the same target implies. Each option turns one
@@ -52,24 +56,11 @@ pub fn merge<'a, A: Allocator>(
     ensures fault { IfErr result (λ f. f ≡ BaFault.OutOfMemory) }
 {
     gba.invariant();
-    let states = merged(alloc, gba.states(), options)?;
-    Ok(Gba::new(states))
-}
-
-/// The states of a Büchi automaton with equivalent ones merged and without the edges that another one with the same target implies. Each option turns one of
-/// these two simplifications off. The only fault is `OutOfMemory`.
-pub fn merged_states<'a, A: Allocator>(
-    alloc: &'a A,
-    states: &SharedStates<'_, A>,
-    options: &Options,
-) -> Result<SharedStates<'a, A>, BaFault>
-    requires inside { IsBa (automaton_of states.now) }
-    ensures merged { IfOk result (λ m. automaton_of m ≡ merged_automaton options.now.keep_implied options.now.keep_equal (automaton_of states.now)) }
-    ensures inside { IfOk result (λ m. IsBa (automaton_of m)) }
-    ensures fault { IfErr result (λ f. f ≡ BaFault.OutOfMemory) }
-{
-    let small = merged(alloc, states, options)?;
-    Ok(small)
+    let table = LabelTable::of(alloc, gba.states())?;
+    let labels = table.labels();
+    let coded = table.coded(alloc, gba.states())?;
+    let small = merged(alloc, &labels, &coded, options)?;
+    Ok(Gba::new(labelled_states(alloc, &labels, &small)?))
 }
 
 /// The Büchi automaton with equivalent states merged and without the edges that another one with the same target implies. Each option turns one of these two
@@ -83,6 +74,10 @@ pub fn merge_ba<'a, A: Allocator>(
     ensures fault { IfErr result (λ f. f ≡ BaFault.OutOfMemory) }
 {
     ba.invariant();
-    let states = merged_states(alloc, ba.states(), options)?;
+    let table = LabelTable::of(alloc, ba.states())?;
+    let labels = table.labels();
+    let coded = table.coded(alloc, ba.states())?;
+    let small = merged(alloc, &labels, &coded, options)?;
+    let states = labelled_states(alloc, &labels, &small)?;
     Ok(Ba::new(alloc, states)?)
 }

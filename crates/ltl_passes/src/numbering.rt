@@ -9,37 +9,38 @@ ghost use Rattle.ltl_automaton.specs.SharedView.{automaton_of};
 ghost use Rattle.ltl_models.specs.BaView.{IsBa};
 ghost use Rattle.ltl_passes.specs.Numbered.{IsNumberable, successor_of, net_of};
 
+use crate::coded_edge::CodedEdge;
+use crate::label_table::{LabelTable, labelled_states};
 use ltl_automaton::{
-    AutomatonFault, Edge, Limits, SharedStates, Successor, Successors, explore_from,
+    AutomatonFault, Limits, SharedStates, Successor, Successors, explore_from,
 };
-use ltl_models::{Ba, BaFault, Gba, Gen, MOST_EDGES, MOST_STATES};
+use ltl_models::{Ba, BaFault, MOST_EDGES, MOST_STATES};
 use std::alloc::{AllocError, Allocator};
 
 /// An automaton as an implicit graph whose nodes are state numbers.
 #[derive(Drop)]
 struct Numbers<'b, 's, A: Allocator> {
-    states: &'b SharedStates<'s, A>,
+    states: &'b SharedStates<'s, CodedEdge, A>,
 }
 
 /// The edges as successors, with their targets' numbers as keys.
 fn successors_of<'c, B: Allocator>(
     alloc: &'c B,
-    edges: &[Edge],
-) -> Result<Vec<Successor<usize>, &'c B>, AllocError>
+    edges: &[CodedEdge],
+) -> Result<Vec<Successor<usize, CodedEdge>, &'c B>, AllocError>
     ensures { IfOk result (λ v. v.items ≡ map successor_of (map edge_of edges.now)) }
 {
     let mut successors = Vec::with_capacity(alloc, edges.len())?;
     for edge in edges {
         successors.push(Successor {
-            cube: edge.cube,
+            edge: *edge,
             key: edge.target,
-            marks: edge.marks,
         })?;
     }
     Ok(successors)
 }
 
-impl<'b, 's, A: Allocator> Successors<usize> for Numbers<'b, 's, A> {
+impl<'b, 's, A: Allocator> Successors<usize, CodedEdge> for Numbers<'b, 's, A> {
     ghost net = { λ n. net_of (automaton_of n.states.now) };
 
     ghost ready = { λ _. ⊤ };
@@ -67,7 +68,7 @@ impl<'b, 's, A: Allocator> Successors<usize> for Numbers<'b, 's, A> {
         alloc: &'c B,
         key: &usize,
         _most: usize,
-    ) -> Result<Vec<Successor<usize>, &'c B>, AutomatonFault> {
+    ) -> Result<Vec<Successor<usize, CodedEdge>, &'c B>, AutomatonFault> {
         if *key < self.states.len() {
             Ok(successors_of(alloc, self.states.edges(*key))?)
         } else {
@@ -78,10 +79,10 @@ impl<'b, 's, A: Allocator> Successors<usize> for Numbers<'b, 's, A> {
 
 /// The states, numbered breadth first. The initial state is 0. States are explored in the order of their new numbers, and the edges of each in the order of
 /// literals, target and marks. A target without a number gets the next one.
-fn renumbered<'a, A: Allocator>(
+pub(crate) fn renumbered<'a, A: Allocator>(
     alloc: &'a A,
-    states: &SharedStates<'_, A>,
-) -> Result<SharedStates<'a, A>, BaFault>
+    states: &SharedStates<'_, CodedEdge, A>,
+) -> Result<SharedStates<'a, CodedEdge, A>, BaFault>
     requires { IsNumberable (automaton_of states.now) }
     ensures renumbered { IfOk result (λ s. automaton_of s ≡ renumbered_automaton (automaton_of states.now)) }
     ensures fits { ¬ IsErrOf result BaFault.TooLarge }
@@ -94,40 +95,16 @@ fn renumbered<'a, A: Allocator>(
     explore_from(alloc, 0, states.sets(), &mut numbers, true, limits)
 }
 
-/// The states of a Büchi automaton, numbered breadth first. The only fault is `OutOfMemory`.
-pub fn renumbered_states<'a, A: Allocator>(
-    alloc: &'a A,
-    states: &SharedStates<'_, A>,
-) -> Result<SharedStates<'a, A>, BaFault>
-    requires inside { IsBa (automaton_of states.now) }
-    ensures renumbered { IfOk result (λ s. automaton_of s ≡ renumbered_automaton (automaton_of states.now)) }
-    ensures inside { IfOk result (λ s. IsBa (automaton_of s)) }
-    ensures fits { ¬ IsErrOf result BaFault.TooLarge }
-{
-    let numbered = renumbered(alloc, states)?;
-    Ok(numbered)
-}
-
 /// The same Büchi automaton with its states numbered breadth first. The only fault is `OutOfMemory`.
 pub fn renumber<'a, A: Allocator>(alloc: &'a A, automaton: &Ba<'_, A>) -> Result<Ba<'a, A>, BaFault>
     ensures renumbered { IfOk result (λ b. b ≡ renumbered_automaton automaton.now) }
     ensures fits { ¬ IsErrOf result BaFault.TooLarge }
 {
     automaton.invariant();
-    let states = renumbered_states(alloc, automaton.states())?;
+    let table = LabelTable::of(alloc, automaton.states())?;
+    let labels = table.labels();
+    let coded = table.coded(alloc, automaton.states())?;
+    let numbered = renumbered(alloc, &coded)?;
+    let states = labelled_states(alloc, &labels, &numbered)?;
     Ok(Ba::new(alloc, states)?)
-}
-
-/// The same generalized automaton with its states numbered breadth first. The only fault is `OutOfMemory`.
-pub fn renumber_generalized<'a, A: Allocator>(
-    alloc: &'a A,
-    automaton: &Gba<'_, A>,
-) -> Result<Gen<'a, A>, BaFault>
-    requires rising { All (λ s. IsRising edge_cmp s.edges) automaton.now.states }
-    ensures renumbered { IfOk result (λ g. g ≡ renumbered_automaton automaton.now) }
-    ensures fits { ¬ IsErrOf result BaFault.TooLarge }
-{
-    automaton.invariant();
-    let states = renumbered(alloc, automaton.states())?;
-    Ok(Gen::new(Gba::new(states)))
 }

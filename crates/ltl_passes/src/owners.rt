@@ -2,11 +2,12 @@
 
 ghost use Rattle.std.specs.Prelude.{◌≡◌, ℕ, ◌<◌, List, [], map, IfOk};
 ghost use Rattle.ltl_spec.specs.Automata.Automaton as spec;
-ghost use Rattle.ltl_automaton.specs.EdgeView.{edge_of};
+ghost use Rattle.ltl_passes.specs.CodedEdges.{coded_edge_of};
 ghost use Rattle.ltl_passes.specs.Worklist.{AreOwners};
 
+use crate::coded_edge::CodedEdge;
 use crate::partition::{ListInterner, signature};
-use ltl_automaton::{Edge, Interner};
+use ltl_automaton::Interner;
 use std::alloc::{AllocError, Allocator};
 
 /// Edge lists up to classes, and for each the first state that had it.
@@ -30,11 +31,11 @@ impl<'a, A: Allocator> Owners<'a, A> {
     /// The first state that had these edges up to classes: this one if none had.
     pub(crate) fn owner(
         &mut self,
-        edges: Vec<Edge, &'a A>,
+        edges: Vec<CodedEdge, &'a A>,
         state: usize,
     ) -> Result<usize, AllocError>
         ensures owners { IfOk result (λ t. (count : ℕ) (own : ℕ → spec.State) (view : List spec.Edge → spec.State) → state < count
-            → own state ≡ view (map edge_of edges.entry.items) → AreOwners count own view self.old.seen.keys self.old.firsts.items
+            → own state ≡ view (map coded_edge_of edges.entry.items) → AreOwners count own view self.old.seen.keys self.old.firsts.items
             → AreOwners count own view self.new.seen.keys self.new.firsts.items × (t < count) × (own t ≡ own state)) }
     {
         let number = signature(&mut self.seen, edges)?;

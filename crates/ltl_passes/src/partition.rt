@@ -5,19 +5,20 @@ ghost use Rattle.std.specs.List.{range_with_len};
 ghost use Rattle.ltl_spec.specs.Collections.Lists.{HasNoRepeats};
 ghost use Rattle.ltl_spec.specs.Automata.Automaton as spec;
 ghost use Rattle.ltl_spec.specs.Construction.Merging as merging;
-ghost use Rattle.ltl_automaton.specs.EdgeView.{edge_of};
+ghost use Rattle.ltl_passes.specs.CodedEdges.{coded_edge_of};
 ghost use Rattle.ltl_automaton.specs.SharedView.{automaton_of};
 ghost use Rattle.ltl_passes.specs.Worklist.{AreFiner, IsRound};
 ghost use Rattle.ltl_passes.specs.Partition.{AreListsWithin, AreSignatures, IsFirstPlaces, IsLeastAlike, IsLeastPlaces, IsWithinStates, place_signature, list_view};
 
+use crate::coded_edge::CodedEdge;
 use crate::retargeting::retargeted;
 use crate::rising::all_rise;
 use crate::worklist::coarsened;
-use ltl_automaton::{Edge, EdgeList, Interner, SharedState, SharedStates};
+use ltl_automaton::{EdgeList, Interner, SharedState, SharedStates};
 use std::alloc::{AllocError, Allocator};
 
 /// An interner of signatures of edge lists: a list with its targets replaced by the names of their classes.
-pub(crate) type ListInterner<'a, A> = Interner<'a, EdgeList<'a, A>, A>;
+pub(crate) type ListInterner<'a, A> = Interner<'a, EdgeList<'a, CodedEdge, A>, A>;
 
 /// An interner of signatures of states: the signature number of its list, and whether it is accepting.
 type StateInterner<'a, A> = Interner<'a, SharedState, A>;
@@ -39,9 +40,9 @@ pub(crate) fn own_names<'a, A: Allocator>(
 /// The number of the signature of an edge list. A new signature gets the next number.
 pub(crate) fn signature<'a, A: Allocator>(
     seen: &mut ListInterner<'a, A>,
-    edges: Vec<Edge, &'a A>,
+    edges: Vec<CodedEdge, &'a A>,
 ) -> Result<usize, AllocError>
-    ensures place { IfOk result (λ i. slice_get seen.new.keys i ≡ Some (map edge_of edges.entry.items)) }
+    ensures place { IfOk result (λ i. slice_get seen.new.keys i ≡ Some (map coded_edge_of edges.entry.items)) }
     ensures distinct { OnOk result (HasNoRepeats seen.old.keys → HasNoRepeats seen.new.keys) }
     ensures extends { OnOk result ((more : List (List spec.Edge)) × (seen.new.keys ≡ seen.old.keys ++ more)) }
 {
@@ -53,7 +54,7 @@ pub(crate) fn signature<'a, A: Allocator>(
 fn list_signatures_under<'a, A: Allocator>(
     alloc: &'a A,
     seen: &mut ListInterner<'a, A>,
-    states: &SharedStates<'_, A>,
+    states: &SharedStates<'_, CodedEdge, A>,
     names: &[usize],
 ) -> Result<Vec<usize, &'a A>, AllocError>
     requires within { AreListsWithin states.now.lists (length names.now) }
@@ -121,7 +122,7 @@ fn state_signature<A: Allocator>(
 fn state_signatures<'a, A: Allocator>(
     alloc: &'a A,
     places: &mut StateInterner<'a, A>,
-    states: &SharedStates<'_, A>,
+    states: &SharedStates<'_, CodedEdge, A>,
     list_signatures: &[usize],
 ) -> Result<Vec<usize, &'a A>, AllocError>
     requires long { length list_signatures.now ≡ length states.now.lists }
@@ -143,7 +144,7 @@ fn state_signatures<'a, A: Allocator>(
 /// For each state the least state with the same acceptance and a list of the same signature.
 fn least_alike<'a, A: Allocator>(
     alloc: &'a A,
-    states: &SharedStates<'_, A>,
+    states: &SharedStates<'_, CodedEdge, A>,
     list_signatures: &[usize],
 ) -> Result<Vec<usize, &'a A>, AllocError>
     requires long { length list_signatures.now ≡ length states.now.lists }
@@ -157,7 +158,7 @@ fn least_alike<'a, A: Allocator>(
 /// The names after one more round.
 fn next_names<'a, A: Allocator>(
     alloc: &'a A,
-    states: &SharedStates<'_, A>,
+    states: &SharedStates<'_, CodedEdge, A>,
     names: &[usize],
 ) -> Result<Vec<usize, &'a A>, AllocError>
     requires within { IsWithinStates (automaton_of states.now).states }
@@ -173,7 +174,7 @@ fn next_names<'a, A: Allocator>(
 /// Merges classes until a round changes nothing. Between rounds, merging goes on by a worklist.
 fn refined<'a, A: Allocator>(
     alloc: &'a A,
-    states: &SharedStates<'_, A>,
+    states: &SharedStates<'_, CodedEdge, A>,
     fine: Vec<usize, &'a A>,
 ) -> Result<Vec<usize, &'a A>, AllocError>
     requires within { IsWithinStates (automaton_of states.now).states }
@@ -196,7 +197,7 @@ fn refined<'a, A: Allocator>(
 /// numbers of the lists as signatures.
 pub(crate) fn class_names<'a, A: Allocator>(
     alloc: &'a A,
-    states: &SharedStates<'_, A>,
+    states: &SharedStates<'_, CodedEdge, A>,
 ) -> Result<Vec<usize, &'a A>, AllocError>
     requires within { IsWithinStates (automaton_of states.now).states }
     ensures { IfOk result (λ v. v.items ≡ merging.class_names (automaton_of states.now) (length (automaton_of states.now).states)) }

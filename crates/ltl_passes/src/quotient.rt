@@ -2,13 +2,15 @@
 
 ghost use Rattle.std.specs.Prelude.{◌≡◌, ◌<◌, length, map, slice_index, All, IfOk};
 ghost use Rattle.ltl_spec.specs.Construction.Merging as merging;
-ghost use Rattle.ltl_automaton.specs.EdgeView.{edge_of};
+ghost use Rattle.ltl_passes.specs.CodedEdges.{coded_edge_of};
 ghost use Rattle.ltl_automaton.specs.SharedView.{automaton_of};
 ghost use Rattle.ltl_passes.specs.Partition.{AreNames, IsNumbering, IsWithinStates, retargeted_list, thinned};
 
+use crate::coded_edge::CodedEdge;
 use crate::implied::unimplied;
+use crate::labels::Labels;
 use crate::retargeting::retargeted;
-use ltl_automaton::{Edge, SharedStates};
+use ltl_automaton::SharedStates;
 use smallvec::SmallVec;
 use std::alloc::{AllocError, Allocator};
 
@@ -48,30 +50,32 @@ type Places<'a, A> = SmallVec<usize, 8, &'a A>;
 /// The edges of a class, which are those of its least state with classes as targets. `noted` has room for an index at each class.
 fn class_edges<'a, A: Allocator>(
     alloc: &'a A,
-    edges: &[Edge],
+    labels: &Labels<'_>,
+    edges: &[CodedEdge],
     numbers: &[usize],
     keep_implied: bool,
     noted: &mut [usize],
-) -> Result<Vec<Edge, &'a A>, AllocError>
+) -> Result<Vec<CodedEdge, &'a A>, AllocError>
     requires within { All (λ e. e.target < length numbers.now) edges.now }
     requires noted { All (λ n. n < length noted.old) numbers.now }
     ensures wide { length noted.new ≡ length noted.old }
-    ensures edges { IfOk result (λ es. map edge_of es.items ≡ thinned keep_implied (retargeted_list (slice_index numbers.now) (map edge_of edges.now))) }
+    ensures edges { IfOk result (λ es. map coded_edge_of es.items ≡ thinned keep_implied (retargeted_list (slice_index numbers.now) (map coded_edge_of edges.now))) }
 {
     let made = retargeted(alloc, edges, numbers)?;
     if keep_implied {
         return Ok(made);
     }
-    unimplied(alloc, made, noted)
+    unimplied(alloc, labels, made, noted)
 }
 
 /// The quotient automaton, with the classes in the order of their names.
 pub(crate) fn quotient<'a, A: Allocator>(
     alloc: &'a A,
-    states: &SharedStates<'_, A>,
+    labels: &Labels<'_>,
+    states: &SharedStates<'_, CodedEdge, A>,
     names: &[usize],
     keep_implied: bool,
-) -> Result<SharedStates<'a, A>, AllocError>
+) -> Result<SharedStates<'a, CodedEdge, A>, AllocError>
     requires within { IsWithinStates (automaton_of states.now).states }
     requires long { length names.now ≡ length (automaton_of states.now).states }
     requires names { AreNames names.now }
@@ -85,6 +89,7 @@ pub(crate) fn quotient<'a, A: Allocator>(
         let numbers = numbering.numbers.as_slice();
         let edges = class_edges(
             alloc,
+            labels,
             states.edges(*class),
             numbers,
             keep_implied,

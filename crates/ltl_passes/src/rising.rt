@@ -3,15 +3,16 @@
 ghost use Rattle.std.specs.Prelude.{◌≡◌, map, true, All};
 ghost use Rattle.ltl_spec.specs.Collections.Sets.{IsRising};
 ghost use Rattle.ltl_spec.specs.Automata.Automaton.{edge_cmp};
-ghost use Rattle.ltl_automaton.specs.EdgeView.{edge_of};
+ghost use Rattle.ltl_passes.specs.CodedEdges.{coded_edge_of};
 
-use ltl_automaton::{Edge, ListOrder, SharedStates};
+use crate::coded_edge::CodedEdge;
+use ltl_automaton::{ListOrder, SharedStates};
 use std::alloc::Allocator;
 use std::cmp::Ordering;
 
 /// Whether each edge is less than the next one.
-fn are_rising(edges: &[Edge]) -> bool
-    ensures { result ≡ true → IsRising edge_cmp (map edge_of edges.now) }
+fn are_rising(edges: &[CodedEdge]) -> bool
+    ensures { result ≡ true → IsRising edge_cmp (map coded_edge_of edges.now) }
 {
     for place in 1..edges.len() {
         match edges[place - 1].cmp_list(&edges[place]) {
@@ -23,7 +24,7 @@ fn are_rising(edges: &[Edge]) -> bool
 }
 
 /// Whether all edge lists are strictly sorted.
-pub(crate) fn all_rise<A: Allocator>(states: &SharedStates<'_, A>) -> bool
+pub(crate) fn all_rise<A: Allocator>(states: &SharedStates<'_, CodedEdge, A>) -> bool
     ensures { result ≡ true → All (λ es. IsRising edge_cmp es) states.now.lists }
 {
     for list in 0..states.list_count() {

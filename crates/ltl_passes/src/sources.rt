@@ -4,8 +4,9 @@ ghost use Rattle.std.specs.Prelude.{◌≡◌, ◌<◌, length, vec_len, All, If
 ghost use Rattle.ltl_automaton.specs.SharedView.{automaton_of};
 ghost use Rattle.ltl_passes.specs.Partition.{IsWithinStates};
 
+use crate::coded_edge::CodedEdge;
 use crate::queue::Queue;
-use ltl_automaton::{Edge, SharedStates};
+use ltl_automaton::SharedStates;
 use std::alloc::{AllocError, Allocator};
 
 /// The source of an edge, and the place of another one with the same target.
@@ -42,7 +43,7 @@ impl<'a, A: Allocator> Sources<'a, A> {
     /// The sources among the states that are their own names.
     pub(crate) fn of(
         alloc: &'a A,
-        states: &SharedStates<'_, A>,
+        states: &SharedStates<'_, CodedEdge, A>,
         names: &[usize],
     ) -> Result<Self, AllocError>
         requires within { IsWithinStates (automaton_of states.now).states }
@@ -59,7 +60,7 @@ impl<'a, A: Allocator> Sources<'a, A> {
     }
 
     /// Adds the source of these edges.
-    fn add_all(&mut self, state: usize, edges: &[Edge]) -> Result<(), AllocError>
+    fn add_all(&mut self, state: usize, edges: &[CodedEdge]) -> Result<(), AllocError>
         requires state { state < vec_len self.old.firsts }
         requires within { All (λ e. e.target < vec_len self.old.firsts) edges.now }
         ensures { OnOk result (vec_len self.new.firsts ≡ vec_len self.old.firsts) }

@@ -5,6 +5,7 @@ ghost use Rattle.ltl_automaton.specs.SharedView.{automaton_of};
 ghost use Rattle.ltl_passes.specs.Partition.{IsWithinStates};
 ghost use Rattle.ltl_passes.specs.Worklist.{AreFiner, IsCoarser, IsMerger, IsOwner, LeadsInside};
 
+use crate::coded_edge::CodedEdge;
 use crate::classes::Classes;
 use crate::owners::Owners;
 use crate::partition::least_places;
@@ -27,7 +28,7 @@ impl<'a, A: Allocator> Merger<'a, A> {
     fn owner(
         &mut self,
         alloc: &'a A,
-        states: &SharedStates<'_, A>,
+        states: &SharedStates<'_, CodedEdge, A>,
         state: usize,
     ) -> Result<usize, AllocError>
         requires within { IsWithinStates (automaton_of states.now).states }
@@ -48,7 +49,7 @@ impl<'a, A: Allocator> Merger<'a, A> {
     fn look(
         &mut self,
         alloc: &'a A,
-        states: &SharedStates<'_, A>,
+        states: &SharedStates<'_, CodedEdge, A>,
         state: usize,
     ) -> Result<Vec<usize, &'a A>, AllocError>
         requires within { IsWithinStates (automaton_of states.now).states }
@@ -96,7 +97,7 @@ fn queue_sources<'a, A: Allocator>(
 /// are at most twice as many as there are states.
 fn run<'a, A: Allocator>(
     alloc: &'a A,
-    states: &SharedStates<'_, A>,
+    states: &SharedStates<'_, CodedEdge, A>,
     sources: &Sources<'a, A>,
     queue: Queue<'a, A>,
     merger: &mut Merger<'a, A>,
@@ -135,7 +136,7 @@ fn is_coarser(fine: &[usize], coarse: &[usize]) -> bool
 /// The names after the classes of a partition are merged by the worklist.
 fn merged<'a, A: Allocator>(
     alloc: &'a A,
-    states: &SharedStates<'_, A>,
+    states: &SharedStates<'_, CodedEdge, A>,
     names: &[usize],
 ) -> Result<Vec<usize, &'a A>, AllocError>
     requires within { IsWithinStates (automaton_of states.now).states }
@@ -158,7 +159,7 @@ fn merged<'a, A: Allocator>(
 /// nothing is proved about the rings of classes.
 pub(crate) fn coarsened<'a, A: Allocator>(
     alloc: &'a A,
-    states: &SharedStates<'_, A>,
+    states: &SharedStates<'_, CodedEdge, A>,
     names: Vec<usize, &'a A>,
 ) -> Result<Vec<usize, &'a A>, AllocError>
     requires within { IsWithinStates (automaton_of states.now).states }
