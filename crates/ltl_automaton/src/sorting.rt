@@ -42,7 +42,7 @@ impl ListOrder for Cube {
 impl ListOrder for RowSet {
     ghost use Rattle.std.specs.Ordering.{nat_cmp};
     ghost use Rattle.std.specs.Cmp.Lexicographic.{slice_cmp, bytes_decides};
-    ghost use Rattle.ltl_spec.proofs.Collections.Orders.{slice_linear};
+    ghost use Rattle.ltl_spec.proofs.Collections.Orders.{row_set_linear};
 
     ghost order = { slice_cmp nat_cmp };
 
@@ -51,7 +51,7 @@ impl ListOrder for RowSet {
         self.cmp_list(other)
     }
 
-    ghost linear = { marks_linear };
+    ghost linear = { row_set_linear };
 
     ghost decides = { bytes_decides };
 }

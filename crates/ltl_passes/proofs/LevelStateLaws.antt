@@ -23,7 +23,7 @@ use Rattle.ltl_spec.proofs.Construction.LevelRuns.{same_level_state_Decides, com
 use Rattle.ltl_spec.proofs.Semantics.Runs.{IsClosed}
 use Rattle.ltl_automaton.specs.Bounds.{IsBounded}
 use Rattle.ltl_automaton.specs.Net.{moves_of}
-use Rattle.ltl_automaton.specs.declared.successor.Successor.{Successor}
+
 use Rattle.ltl_automaton.specs.declared.edge.Edge as plain
 use Rattle.ltl_automaton.proofs.EdgeLaws.{map_pushed}
 use Rattle.ltl_models.specs.GbaView as gba
@@ -46,7 +46,7 @@ pub no_successors_past : (A : Automaton) (p : LevelState) → length A.states �
 no_successors_past A p l = ap (λ (t : State). map successor_of (set_of level_edge_cmp (map (level_edge A p.level) t.edges))) (sym (get_or_past A.states p.state (record { accepting = true; edges = [] }) l))
 
 -- the edges of a copy, as the code makes them
-pub made_successors : (A : Automaton) (sets : ℕ) (p : LevelState) (edges : List plain.Edge) (xs : List (Successor LevelState)) → sets ≡ A.sets → map gba.edge_of edges ≡ (state_at A p.state).edges
+pub made_successors : (A : Automaton) (sets : ℕ) (p : LevelState) (edges : List plain.Edge) (xs : List (Move LevelState)) → sets ≡ A.sets → map gba.edge_of edges ≡ (state_at A p.state).edges
     → xs ≡ map successor_of (set_of level_edge_cmp (map (lifted_edge sets p.level) (map gba.edge_of edges))) → xs ≡ map successor_of (level_edges A p)
 made_successors A sets p edges xs n e h =
     h ∙ ap (map successor_of) (ap (λ m. set_of level_edge_cmp (map (lifted_edge m p.level) (map gba.edge_of edges))) n ∙ ap (λ es. set_of level_edge_cmp (map (lifted_edge A.sets p.level) es)) e)

@@ -1,6 +1,8 @@
 pub mod ClassLaws
 pub mod SignatureLaws
 pub mod LevelStateLaws
+pub mod LabelLaws
+pub mod LabelledReach
 pub mod FirstRoundLaws
 pub mod WithinLaws
 pub mod FinerLaws
@@ -11,7 +13,6 @@ pub mod NumberLaws
 pub mod QuotientLaws
 pub mod ReachedLaws
 pub mod RenumberLaws
-pub mod RiseLaws
 pub mod RunLaws
 pub mod Sums
 pub mod TargetLaws

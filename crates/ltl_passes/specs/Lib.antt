@@ -5,3 +5,6 @@ pub mod LevelCodes
 pub mod LevelEdgeOrder
 pub mod Numbered
 pub mod Runs
+pub mod Labels
+pub mod CodedEdges
+pub mod LabelTables

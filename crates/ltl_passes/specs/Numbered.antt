@@ -4,10 +4,10 @@ use Rattle.ltl_spec.specs.Collections.Sets.{IsRising}
 use Rattle.ltl_spec.specs.Automata.Automaton.{Automaton, Edge, edge_cmp, state_at}
 use Rattle.ltl_spec.specs.Tools.Limits.{stated_limits}
 use Rattle.ltl_automaton.specs.Bounds.{IsBounded}
-use Rattle.ltl_automaton.specs.Net.{Net}
-use Rattle.ltl_automaton.specs.declared.successor.Successor.{Successor}
+use Rattle.ltl_automaton.specs.Net.{Net, Move}
 
-abbrev pub successor_of : Edge → Successor ℕ
+
+abbrev pub successor_of : Edge → Move ℕ
 successor_of e = record { cube = e.cube; key = e.target; marks = e.marks }
 
 abbrev pub net_of : Automaton → Net ℕ

@@ -1,14 +1,17 @@
 //! Degeneralization: a state has a copy for each level. The level is the number of acceptance sets that were met in turn. Acceptance sets of edges
 //! become accepting states.
 
-ghost use Rattle.std.specs.Prelude.{◌≡◌, map, IfOk, OnOk, IsErrOf};
+ghost use Rattle.std.specs.Prelude.{◌≡◌, ⊤, map, IfOk, OnOk, IsErrOf};
 ghost use Rattle.ltl_spec.specs.Collections.Sets.{set_of};
 ghost use Rattle.ltl_spec.specs.Construction.Levels as levels_of;
 ghost use Rattle.ltl_spec.specs.Tools.Limits.{stated_limits};
 ghost use Rattle.ltl_automaton.specs.SharedView.{automaton_of};
 ghost use Rattle.ltl_models.specs.GbaView as gba;
 ghost use Rattle.ltl_models.specs.BaView.{IsBa};
-ghost use Rattle.ltl_passes.specs.Degeneralize.{HaveAtLeast, successor_of, level_edge_of, level_net, lifted_edge};
+ghost use Rattle.ltl_automaton.specs.Net.{move_of};
+ghost use Rattle.ltl_passes.specs.CodedEdges.{coded_edge_of, tables_of};
+ghost use Rattle.ltl_passes.specs.Degeneralize.{coded_level_edge, coded_level_net, coded_successor, level_edge_of};
+ghost use Rattle.ltl_passes.specs.Labels.{AreCoded, AreTables, labelled};
 
 use crate::coded_edge::CodedEdge;
 use crate::label_table::{LabelTable, labelled_states};
@@ -131,7 +134,7 @@ impl ListOrder for LevelEdge {
 /// The edge of a copy on this level that an edge of the generalized automaton with `sets` acceptance sets becomes.
 #[inline(always)]
 fn level_edge(labels: &Labels<'_>, sets: usize, edge: &CodedEdge, level: usize) -> LevelEdge
-    ensures lifted { level_edge_of result ≡ lifted_edge sets level (gba.edge_of edge.now) }
+    ensures lifted { level_edge_of result ≡ coded_level_edge (tables_of labels.now) sets level (coded_edge_of edge.now) }
 {
     LevelEdge {
         cube: edge.cube,
@@ -150,7 +153,8 @@ fn level_edges<'a, A: Allocator>(
     edges: &[CodedEdge],
     level: usize,
 ) -> Result<Vec<LevelEdge, &'a A>, AllocError>
-    ensures set { IfOk result (λ es. map level_edge_of es.items ≡ set_of levels_of.level_edge_cmp (map (lifted_edge sets level) (map gba.edge_of edges.now))) }
+    ensures set { IfOk result (λ es. map level_edge_of es.items
+        ≡ set_of levels_of.level_edge_cmp (map (coded_level_edge (tables_of labels.now) sets level) (map coded_edge_of edges.now))) }
 {
     let mut copied = Vec::with_capacity(alloc, edges.len())?;
     for edge in edges {
@@ -165,7 +169,7 @@ fn successors_of<'c, B: Allocator>(
     alloc: &'c B,
     edges: &[LevelEdge],
 ) -> Result<Vec<Successor<LevelState, CodedEdge>, &'c B>, AllocError>
-    ensures { IfOk result (λ v. v.items ≡ map successor_of (map level_edge_of edges.now)) }
+    ensures { IfOk result (λ v. map (move_of coded_edge_of) v.items ≡ map coded_successor (map level_edge_of edges.now)) }
 {
     let mut successors = Vec::with_capacity(alloc, edges.len())?;
     for edge in edges {
@@ -190,7 +194,8 @@ fn level_successors<'c, B: Allocator>(
     edges: &[CodedEdge],
     level: usize,
 ) -> Result<Vec<Successor<LevelState, CodedEdge>, &'c B>, AllocError>
-    ensures { IfOk result (λ v. v.items ≡ map successor_of (set_of levels_of.level_edge_cmp (map (lifted_edge sets level) (map gba.edge_of edges.now)))) }
+    ensures { IfOk result (λ v. map (move_of coded_edge_of) v.items
+        ≡ map coded_successor (set_of levels_of.level_edge_cmp (map (coded_level_edge (tables_of labels.now) sets level) (map coded_edge_of edges.now)))) }
 {
     let copied = level_edges(alloc, labels, sets, edges, level)?;
     successors_of(alloc, copied.as_slice())
@@ -204,9 +209,9 @@ struct LevelStates<'l, 'b, 'g, A: Allocator> {
 }
 
 impl<'l, 'b, 'g, A: Allocator> Successors<LevelState, CodedEdge> for LevelStates<'l, 'b, 'g, A> {
-    ghost net = { λ n. level_net n.automaton.now };
+    ghost net = { λ n. coded_level_net (tables_of n.labels) (automaton_of n.states.now) };
 
-    ghost ready = { λ n. (automaton_of n.states.now ≡ n.automaton.now) × HaveAtLeast n.states.now.lists n.counts.items };
+    ghost ready = { λ _. ⊤ };
 
     fn accepting(&self, key: &LevelState) -> bool {
         key.level == self.states.sets()
@@ -249,7 +254,18 @@ pub(crate) fn level_states<'a, A: Allocator>(
     alloc: &'a A,
     labels: &Labels<'_>,
     states: &SharedStates<'_, CodedEdge, A>,
-) -> Result<SharedStates<'a, CodedEdge, A>, BaFault> {
+) -> Result<SharedStates<'a, CodedEdge, A>, BaFault>
+    requires tables { AreTables (tables_of labels.now) }
+    requires coded { AreCoded (tables_of labels.now) (automaton_of states.now) }
+    requires inside { gba.IsGba (labelled (tables_of labels.now) (automaton_of states.now)) }
+    ensures copies { IfOk result (λ s. labelled (tables_of labels.now) (automaton_of s) ≡ levels_of.level_automaton (labelled (tables_of labels.now) (automaton_of states.now))) }
+    ensures coded { IfOk result (λ s. AreCoded (tables_of labels.now) (automaton_of s)) }
+    ensures inside { IfOk result (λ s. IsBa (labelled (tables_of labels.now) (automaton_of s))) }
+
+    // The result is `TooLarge` only if a limit is exceeded, and is never `Ok` then. Memory may run out at any time.
+    ensures few { OnOk result (¬ levels_of.HasTooManyLevelStates (labelled (tables_of labels.now) (automaton_of states.now)) stated_limits.states stated_limits.edges) }
+    ensures many { IsErrOf result BaFault.TooLarge → levels_of.HasTooManyLevelStates (labelled (tables_of labels.now) (automaton_of states.now)) stated_limits.states stated_limits.edges }
+{
     let start = LevelState { state: 0, level: 0 };
     let limits = Limits {
         states: MOST_STATES,

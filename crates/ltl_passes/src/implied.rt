@@ -7,7 +7,8 @@ ghost use Rattle.std.specs.List.{prefix_len};
 ghost use Rattle.ltl_spec.specs.Collections.Sets.{IsRising};
 ghost use Rattle.ltl_spec.specs.Automata.Automaton.{edge_cmp};
 ghost use Rattle.ltl_spec.specs.Construction.Merging as merging;
-ghost use Rattle.ltl_automaton.specs.EdgeView.{edge_of};
+ghost use Rattle.ltl_passes.specs.CodedEdges.{HaveLabels, coded_edge_of, labelled_edge_of, tables_of};
+ghost use Rattle.ltl_passes.specs.Labels.{AreTables};
 ghost use Rattle.ltl_passes.specs.Runs.{AllLeadTo, IsByTarget, IsFirstLike, IsKept, IsOfWeight, IsWeighedLike, run_edge, target_of};
 
 use crate::coded_edge::CodedEdge;
@@ -27,13 +28,17 @@ struct RunEdge<'l> {
 impl<'l> RunEdge<'l> {
     /// The label of the edge.
     #[inline(always)]
-    fn cube(&self) -> Cube {
+    fn cube(&self) -> Cube
+        ensures { result ≡ (run_edge self.now).cube }
+    {
         self.labels.cube(self.edge.cube)
     }
 
     /// The acceptance sets of the edge.
     #[inline(always)]
-    fn marks(&self) -> RowSet {
+    fn marks(&self) -> RowSet
+        ensures { result ≡ (run_edge self.now).marks }
+    {
         self.labels.marks(self.edge.marks)
     }
 }
@@ -111,7 +116,7 @@ fn by_target<'a, 'l, A: Allocator>(
     labels: &Labels<'l>,
     edges: &[CodedEdge],
 ) -> Result<Vec<RunEdge<'l>, &'a A>, AllocError>
-    ensures { IfOk result (λ v. IsByTarget (map edge_of edges.now) v.items) }
+    ensures { IfOk result (λ v. IsByTarget labels.now edges.now v.items) }
 {
     let mut order = Vec::with_capacity(alloc, edges.len())?;
     for edge in edges {
@@ -139,7 +144,7 @@ fn run_len(order: &[RunEdge<'_>], target: usize) -> usize
 /// target weighs less.
 #[inline(always)]
 fn weight(labels: &Labels<'_>, edge: &CodedEdge) -> usize
-    ensures { IsOfWeight result (edge_of edge.now) }
+    ensures { IsOfWeight result (labelled_edge_of labels.now edge.now) }
 {
     let cube = labels.cube(edge.cube);
     let marks = labels.marks(edge.marks);
@@ -206,7 +211,7 @@ fn first_like(edges: &[CodedEdge], place: usize, noted: usize) -> usize
 fn weighs_like(labels: &Labels<'_>, edges: &[CodedEdge], first: usize, place: usize) -> bool
     requires place { place < length edges.now }
     requires first { first ≤ place }
-    ensures { result ≡ true → IsWeighedLike edges.now first place }
+    ensures { result ≡ true → IsWeighedLike labels.now edges.now first place }
 {
     first == place || weight(labels, &edges[first]) == weight(labels, &edges[place])
 }
@@ -216,7 +221,7 @@ fn weighs_like(labels: &Labels<'_>, edges: &[CodedEdge], first: usize, place: us
 fn are_alike(labels: &Labels<'_>, edges: &[CodedEdge], noted: &mut [usize]) -> bool
     requires within { All (λ e. e.target < length noted.old) edges.now }
     ensures wide { length noted.new ≡ length noted.old }
-    ensures alike { result ≡ true → merging.unimplied_edges (map edge_of edges.now) ≡ map edge_of edges.now }
+    ensures alike { result ≡ true → merging.unimplied_edges (map (labelled_edge_of labels.now) edges.now) ≡ map (labelled_edge_of labels.now) edges.now }
 {
     for place in 0..edges.len() {
         let target = edges[place].target;
@@ -256,10 +261,13 @@ pub(crate) fn unimplied<'a, A: Allocator>(
     edges: Vec<CodedEdge, &'a A>,
     noted: &mut [usize],
 ) -> Result<Vec<CodedEdge, &'a A>, AllocError>
-    requires rising { IsRising edge_cmp (map edge_of edges.items) }
+    requires tables { AreTables (tables_of labels.now) }
+    requires coded { HaveLabels labels.now edges.items }
+    requires rising { IsRising edge_cmp (map coded_edge_of edges.items) }
     requires within { All (λ e. e.target < length noted.old) edges.items }
     ensures wide { length noted.new ≡ length noted.old }
-    ensures edges { IfOk result (λ es. map edge_of es.items ≡ merging.unimplied_edges (map edge_of edges.entry.items)) }
+    ensures edges { IfOk result (λ es. map (labelled_edge_of labels.now) es.items ≡ merging.unimplied_edges (map (labelled_edge_of labels.now) edges.entry.items)) }
+    ensures coded { IfOk result (λ es. HaveLabels labels.now es.items) }
 {
     if are_alike(labels, edges.as_slice(), noted) {
         return Ok(edges);

@@ -1,5 +1,12 @@
 //! Numbering of an automaton's labels.
 
+ghost use Rattle.std.specs.Prelude.{◌≡◌, map, All, IfOk};
+ghost use Rattle.ltl_automaton.specs.EdgeView.{edge_of};
+ghost use Rattle.ltl_automaton.specs.SharedView.{automaton_of};
+ghost use Rattle.ltl_passes.specs.CodedEdges.{coded_edge_of, tables_of};
+ghost use Rattle.ltl_passes.specs.Labels.{AreCoded, AreTables, HasLabelsFor, HasLabelsOf, IsCoded, labelled, labelled_edge};
+ghost use Rattle.ltl_passes.specs.LabelTables.{table_of};
+
 use crate::coded_edge::CodedEdge;
 use crate::labels::Labels;
 use crate::ranked::Ranked;
@@ -15,7 +22,9 @@ pub(crate) struct LabelTable<'a, A: Allocator> {
 }
 
 /// The number as one of 32 bits. Memory ends before so many labels.
-fn narrow(number: usize) -> Result<u32, AllocError> {
+fn narrow(number: usize) -> Result<u32, AllocError>
+    ensures { IfOk result (λ n. n ≡ number) }
+{
     if number > 4_294_967_295 {
         return Err(AllocError);
     }
@@ -27,7 +36,10 @@ impl<'a, A: Allocator> LabelTable<'a, A> {
     pub(crate) fn of(
         alloc: &'a A,
         states: &SharedStates<'_, Edge, A>,
-    ) -> Result<Self, AllocError> {
+    ) -> Result<Self, AllocError>
+        ensures tables { IfOk result (λ t. AreTables (table_of t)) }
+        ensures labels { IfOk result (λ t. HasLabelsOf (table_of t) (automaton_of states.now)) }
+    {
         let mut cubes: Interner<'a, Cube, A> = Interner::new(alloc);
         let mut marks: Interner<'a, RowSet, A> = Interner::new(alloc);
         marks.number(RowSet::empty())?;
@@ -44,7 +56,9 @@ impl<'a, A: Allocator> LabelTable<'a, A> {
     }
 
     /// The labels by number.
-    pub(crate) fn labels(&self) -> Labels<'_> {
+    pub(crate) fn labels(&self) -> Labels<'_>
+        ensures { tables_of result ≡ table_of self.now }
+    {
         Labels {
             cubes: self.cubes.sorted.as_slice(),
             marks: self.marks.sorted.as_slice(),
@@ -56,7 +70,11 @@ impl<'a, A: Allocator> LabelTable<'a, A> {
         &self,
         alloc: &'a A,
         edges: &[Edge],
-    ) -> Result<Vec<CodedEdge, &'a A>, AllocError> {
+    ) -> Result<Vec<CodedEdge, &'a A>, AllocError>
+        requires { All (HasLabelsFor (table_of self.now)) (map edge_of edges.now) }
+        ensures edges { IfOk result (λ es. map (labelled_edge (table_of self.now)) (map coded_edge_of es.items) ≡ map edge_of edges.now) }
+        ensures coded { IfOk result (λ es. All (IsCoded (table_of self.now)) (map coded_edge_of es.items)) }
+    {
         let mut coded = Vec::with_capacity(alloc, edges.len())?;
         for edge in edges {
             coded.push(CodedEdge {
@@ -73,7 +91,11 @@ impl<'a, A: Allocator> LabelTable<'a, A> {
         &self,
         alloc: &'a A,
         states: &SharedStates<'_, Edge, A>,
-    ) -> Result<SharedStates<'a, CodedEdge, A>, AllocError> {
+    ) -> Result<SharedStates<'a, CodedEdge, A>, AllocError>
+        requires { HasLabelsOf (table_of self.now) (automaton_of states.now) }
+        ensures labelled { IfOk result (λ s. labelled (table_of self.now) (automaton_of s) ≡ automaton_of states.now) }
+        ensures coded { IfOk result (λ s. AreCoded (table_of self.now) (automaton_of s)) }
+    {
         let mut coded = SharedStates::new(alloc, states.sets());
         for state in 0..states.len() {
             let edges = self.coded_edges(alloc, states.edges(state))?;
@@ -88,7 +110,9 @@ fn labelled_edges<'a, A: Allocator>(
     alloc: &'a A,
     labels: &Labels<'_>,
     coded: &[CodedEdge],
-) -> Result<Vec<Edge, &'a A>, AllocError> {
+) -> Result<Vec<Edge, &'a A>, AllocError>
+    ensures { IfOk result (λ es. map edge_of es.items ≡ map (labelled_edge (tables_of labels.now)) (map coded_edge_of coded.now)) }
+{
     let mut edges = Vec::with_capacity(alloc, coded.len())?;
     for edge in coded {
         edges.push(labels.edge(edge))?;
@@ -101,7 +125,9 @@ pub(crate) fn labelled_states<'a, A: Allocator>(
     alloc: &'a A,
     labels: &Labels<'_>,
     states: &SharedStates<'_, CodedEdge, A>,
-) -> Result<SharedStates<'a, Edge, A>, AllocError> {
+) -> Result<SharedStates<'a, Edge, A>, AllocError>
+    ensures { IfOk result (λ s. automaton_of s ≡ labelled (tables_of labels.now) (automaton_of states.now)) }
+{
     let mut made = SharedStates::new(alloc, states.sets());
     for state in 0..states.len() {
         let edges = labelled_edges(alloc, labels, states.edges(state))?;

@@ -5,6 +5,8 @@ ghost use Rattle.ltl_spec.specs.Construction.Merging as merging;
 ghost use Rattle.ltl_spec.specs.Construction.Merging.{merged_automaton};
 ghost use Rattle.ltl_automaton.specs.SharedView.{automaton_of};
 ghost use Rattle.ltl_models.specs.BaView.{IsBa};
+ghost use Rattle.ltl_passes.specs.CodedEdges.{tables_of};
+ghost use Rattle.ltl_passes.specs.Labels.{AreCoded, AreTables, labelled};
 ghost use Rattle.ltl_passes.specs.Partition.{IsWithinStates};
 
 use crate::coded_edge::CodedEdge;
@@ -38,8 +40,12 @@ pub(crate) fn merged<'a, A: Allocator>(
     states: &SharedStates<'_, CodedEdge, A>,
     options: &Options,
 ) -> Result<SharedStates<'a, CodedEdge, A>, AllocError>
+    requires tables { AreTables (tables_of labels.now) }
+    requires coded { AreCoded (tables_of labels.now) (automaton_of states.now) }
     requires within { IsWithinStates (automaton_of states.now).states }
-    ensures { IfOk result (λ m. automaton_of m ≡ merged_automaton options.now.keep_implied options.now.keep_equal (automaton_of states.now)) }
+    ensures merged { IfOk result (λ m. labelled (tables_of labels.now) (automaton_of m)
+        ≡ merged_automaton options.now.keep_implied options.now.keep_equal (labelled (tables_of labels.now) (automaton_of states.now))) }
+    ensures coded { IfOk result (λ m. AreCoded (tables_of labels.now) (automaton_of m)) }
 {
     let names = names(alloc, states, options.keep_equal)?;
     quotient(alloc, labels, states, names.as_slice(), options.keep_implied)

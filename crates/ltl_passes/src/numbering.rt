@@ -4,7 +4,8 @@ ghost use Rattle.std.specs.Prelude.{◌≡◌, ⊤, map, All, IfOk, IsErrOf};
 ghost use Rattle.ltl_spec.specs.Collections.Sets.{IsRising};
 ghost use Rattle.ltl_spec.specs.Automata.Automaton.{edge_cmp};
 ghost use Rattle.ltl_spec.specs.Construction.Renumbered.{renumbered_automaton};
-ghost use Rattle.ltl_automaton.specs.EdgeView.{edge_of};
+ghost use Rattle.ltl_automaton.specs.Net.{move_of};
+ghost use Rattle.ltl_passes.specs.CodedEdges.{coded_edge_of};
 ghost use Rattle.ltl_automaton.specs.SharedView.{automaton_of};
 ghost use Rattle.ltl_models.specs.BaView.{IsBa};
 ghost use Rattle.ltl_passes.specs.Numbered.{IsNumberable, successor_of, net_of};
@@ -28,7 +29,7 @@ fn successors_of<'c, B: Allocator>(
     alloc: &'c B,
     edges: &[CodedEdge],
 ) -> Result<Vec<Successor<usize, CodedEdge>, &'c B>, AllocError>
-    ensures { IfOk result (λ v. v.items ≡ map successor_of (map edge_of edges.now)) }
+    ensures { IfOk result (λ v. map (move_of coded_edge_of) v.items ≡ map successor_of (map coded_edge_of edges.now)) }
 {
     let mut successors = Vec::with_capacity(alloc, edges.len())?;
     for edge in edges {

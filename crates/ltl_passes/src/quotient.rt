@@ -2,7 +2,8 @@
 
 ghost use Rattle.std.specs.Prelude.{◌≡◌, ◌<◌, length, map, slice_index, All, IfOk};
 ghost use Rattle.ltl_spec.specs.Construction.Merging as merging;
-ghost use Rattle.ltl_passes.specs.CodedEdges.{coded_edge_of};
+ghost use Rattle.ltl_passes.specs.CodedEdges.{HaveLabels, labelled_edge_of, tables_of};
+ghost use Rattle.ltl_passes.specs.Labels.{AreCoded, AreTables, labelled};
 ghost use Rattle.ltl_automaton.specs.SharedView.{automaton_of};
 ghost use Rattle.ltl_passes.specs.Partition.{AreNames, IsNumbering, IsWithinStates, retargeted_list, thinned};
 
@@ -56,10 +57,14 @@ fn class_edges<'a, A: Allocator>(
     keep_implied: bool,
     noted: &mut [usize],
 ) -> Result<Vec<CodedEdge, &'a A>, AllocError>
+    requires tables { AreTables (tables_of labels.now) }
+    requires coded { HaveLabels labels.now edges.now }
     requires within { All (λ e. e.target < length numbers.now) edges.now }
     requires noted { All (λ n. n < length noted.old) numbers.now }
     ensures wide { length noted.new ≡ length noted.old }
-    ensures edges { IfOk result (λ es. map coded_edge_of es.items ≡ thinned keep_implied (retargeted_list (slice_index numbers.now) (map coded_edge_of edges.now))) }
+    ensures edges { IfOk result (λ es. map (labelled_edge_of labels.now) es.items
+        ≡ thinned keep_implied (retargeted_list (slice_index numbers.now) (map (labelled_edge_of labels.now) edges.now))) }
+    ensures coded { IfOk result (λ es. HaveLabels labels.now es.items) }
 {
     let made = retargeted(alloc, edges, numbers)?;
     if keep_implied {
@@ -76,10 +81,14 @@ pub(crate) fn quotient<'a, A: Allocator>(
     names: &[usize],
     keep_implied: bool,
 ) -> Result<SharedStates<'a, CodedEdge, A>, AllocError>
+    requires tables { AreTables (tables_of labels.now) }
+    requires coded { AreCoded (tables_of labels.now) (automaton_of states.now) }
     requires within { IsWithinStates (automaton_of states.now).states }
     requires long { length names.now ≡ length (automaton_of states.now).states }
     requires names { AreNames names.now }
-    ensures { IfOk result (λ m. automaton_of m ≡ merging.quotient keep_implied names.now (automaton_of states.now)) }
+    ensures merged { IfOk result (λ m. labelled (tables_of labels.now) (automaton_of m)
+        ≡ merging.quotient keep_implied names.now (labelled (tables_of labels.now) (automaton_of states.now))) }
+    ensures coded { IfOk result (λ m. AreCoded (tables_of labels.now) (automaton_of m)) }
 {
     let numbering = number_classes(alloc, names)?;
     let mut made = SharedStates::new(alloc, states.sets());
