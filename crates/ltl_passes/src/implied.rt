@@ -7,6 +7,7 @@ ghost use Rattle.std.specs.List.{prefix_len};
 ghost use Rattle.ltl_spec.specs.Collections.Sets.{IsRising};
 ghost use Rattle.ltl_spec.specs.Automata.Automaton.{edge_cmp};
 ghost use Rattle.ltl_spec.specs.Construction.Merging as merging;
+ghost use Rattle.ltl_automaton.specs.EdgeView.{edge_of};
 ghost use Rattle.ltl_passes.specs.CodedEdges.{HaveLabels, coded_edge_of, labelled_edge_of, tables_of};
 ghost use Rattle.ltl_passes.specs.Labels.{AreTables};
 ghost use Rattle.ltl_passes.specs.Runs.{AllLeadTo, IsByTarget, IsFirstLike, IsKept, IsOfWeight, IsWeighedLike, run_edge, target_of};
@@ -14,37 +15,19 @@ ghost use Rattle.ltl_passes.specs.Runs.{AllLeadTo, IsByTarget, IsFirstLike, IsKe
 use crate::coded_edge::CodedEdge;
 use crate::labels::Labels;
 use least::{Below, Counting, Elements, least};
-use ltl_automaton::sort_dedup;
-use ltl_sets::{Cube, RowSet};
+use ltl_automaton::{Edge, sort_dedup};
+use ltl_sets::RowSet;
 use std::alloc::{AllocError, Allocator};
 
-/// An edge of a run of edges with one target.
+/// An edge of a run of edges with one target, with its labels and with numbers for them.
 #[derive(Clone, Copy)]
-struct RunEdge<'l> {
-    labels: Labels<'l>,
-    edge: CodedEdge,
-}
-
-impl<'l> RunEdge<'l> {
-    /// The label of the edge.
-    #[inline(always)]
-    fn cube(&self) -> Cube
-        ensures { result ≡ (run_edge self.now).cube }
-    {
-        self.labels.cube(self.edge.cube)
-    }
-
-    /// The acceptance sets of the edge.
-    #[inline(always)]
-    fn marks(&self) -> RowSet
-        ensures { result ≡ (run_edge self.now).marks }
-    {
-        self.labels.marks(self.edge.marks)
-    }
+struct RunEdge {
+    edge: Edge,
+    coded: CodedEdge,
 }
 
 /// An edge needs its literals, and lacks the acceptance sets that it isn't in. It asks for those that it is in.
-impl<'l> Elements for RunEdge<'l> {
+impl Elements for RunEdge {
     ghost use Rattle.ltl_passes.specs.Runs.{elements_asked, elements_needed, is_lacked};
 
     ghost needs = { elements_needed };
@@ -55,9 +38,9 @@ impl<'l> Elements for RunEdge<'l> {
 
     fn needs(&self, kind: usize) -> RowSet {
         if kind == 0 {
-            self.cube().letter()
+            self.edge.cube.letter()
         } else if kind == 1 {
-            self.cube().forbidden()
+            self.edge.cube.forbidden()
         } else {
             RowSet::empty()
         }
@@ -65,7 +48,7 @@ impl<'l> Elements for RunEdge<'l> {
 
     fn asks(&self, kind: usize) -> RowSet {
         if kind == 0 {
-            self.marks()
+            self.edge.marks
         } else {
             RowSet::empty()
         }
@@ -74,7 +57,7 @@ impl<'l> Elements for RunEdge<'l> {
     #[tactic(auto, using(crate::proofs::RunLaws::lacks_first, crate::proofs::RunLaws::lacks_none))]
     fn lacks(&self, kind: usize, of: &RowSet) -> RowSet {
         if kind == 0 {
-            of.without(&self.marks())
+            of.without(&self.edge.marks)
         } else {
             RowSet::empty()
         }
@@ -82,13 +65,13 @@ impl<'l> Elements for RunEdge<'l> {
 }
 
 /// An edge is below those with its target that it implies: its literals are among theirs, and it is in each acceptance set that they are in.
-impl<'l> Below for RunEdge<'l> {
+impl Below for RunEdge {
     ghost use Rattle.ltl_passes.specs.Runs.{is_below, below_asked, below_needed};
 
     ghost below = { is_below };
 
-    fn is_below(&self, other: &RunEdge<'l>) -> bool {
-        self.cube().implies_of(&other.cube()) && other.marks().is_subset(&self.marks())
+    fn is_below(&self, other: &RunEdge) -> bool {
+        self.edge.cube.implies_of(&other.edge.cube) && other.edge.marks.is_subset(&self.edge.marks)
     }
 
     ghost needed = { below_needed };
@@ -99,30 +82,30 @@ impl<'l> Below for RunEdge<'l> {
 /// Of the edges below an item, only those that differ from it count.
 struct Differing;
 
-impl<'l> Counting<RunEdge<'l>> for Differing {
+impl Counting<RunEdge> for Differing {
     ghost use Rattle.ltl_passes.specs.Runs.{is_other};
 
     ghost counts = { λ _ k l. is_other k l };
 
     #[tactic(auto, using(crate::proofs::RunLaws::same_test))]
-    fn counts(&self, other: &RunEdge<'l>, item: &RunEdge<'l>) -> bool {
+    fn counts(&self, other: &RunEdge, item: &RunEdge) -> bool {
         !(other.edge == item.edge)
     }
 }
 
 /// The edges sorted by target.
-fn by_target<'a, 'l, A: Allocator>(
+fn by_target<'a, A: Allocator>(
     alloc: &'a A,
-    labels: &Labels<'l>,
+    labels: &Labels<'_>,
     edges: &[CodedEdge],
-) -> Result<Vec<RunEdge<'l>, &'a A>, AllocError>
+) -> Result<Vec<RunEdge, &'a A>, AllocError>
     ensures { IfOk result (λ v. IsByTarget labels.now edges.now v.items) }
 {
     let mut order = Vec::with_capacity(alloc, edges.len())?;
     for edge in edges {
         order.push(RunEdge {
-            labels: *labels,
-            edge: *edge,
+            edge: labels.edge(edge),
+            coded: *edge,
         })?;
     }
     order.sort_unstable_by_key(|item| item.edge.target);
@@ -130,7 +113,7 @@ fn by_target<'a, 'l, A: Allocator>(
 }
 
 /// The number of edges at the beginning that lead to this target.
-fn run_len(order: &[RunEdge<'_>], target: usize) -> usize
+fn run_len(order: &[RunEdge], target: usize) -> usize
     ensures { result ≡ prefix_len (λ k. target_of k == target) order.now }
 {
     let mut len = 0;
@@ -143,22 +126,22 @@ fn run_len(order: &[RunEdge<'_>], target: usize) -> usize
 /// The weight of an edge: the number of its literals, and the number of sets, of `RowSet::LIMIT`, that it isn't in. An edge that implies another one with its
 /// target weighs less.
 #[inline(always)]
-fn weight(labels: &Labels<'_>, edge: &CodedEdge) -> usize
-    ensures { IsOfWeight result (labelled_edge_of labels.now edge.now) }
+fn weight(edge: &Edge) -> usize
+    ensures { IsOfWeight result (edge_of edge.now) }
 {
-    let cube = labels.cube(edge.cube);
-    let marks = labels.marks(edge.marks);
-    cube.invariant();
-    marks.invariant();
-    cube.count() + (RowSet::LIMIT - marks.count())
+    edge.cube.invariant();
+    edge.marks.invariant();
+    let literals = edge.cube.count();
+    let marks = edge.marks.count();
+    literals + (RowSet::LIMIT - marks)
 }
 
 /// Whether each edge of a run has this weight.
-fn weigh_alike(run: &[RunEdge<'_>], asked: usize) -> bool
+fn weigh_alike(run: &[RunEdge], asked: usize) -> bool
     ensures { result ≡ true → All (λ k. IsOfWeight asked (run_edge k)) run.now }
 {
     for item in run {
-        if weight(&item.labels, &item.edge) != asked {
+        if weight(&item.edge) != asked {
             return false;
         }
     }
@@ -167,13 +150,13 @@ fn weigh_alike(run: &[RunEdge<'_>], asked: usize) -> bool
 
 /// Appends the edges to those that are kept.
 fn put_all<'a, A: Allocator>(
-    run: &[RunEdge<'_>],
+    run: &[RunEdge],
     kept: &mut Vec<CodedEdge, &'a A>,
 ) -> Result<(), AllocError>
     ensures { OnOk result (map edge_of kept.new.items ≡ map edge_of kept.old.items ++ map run_edge run.now) }
 {
     for item in run {
-        kept.push(item.edge)?;
+        kept.push(item.coded)?;
     }
     Ok(())
 }
@@ -181,14 +164,14 @@ fn put_all<'a, A: Allocator>(
 /// Appends the edges of a run that no other one implies. If all weigh as much as the first one, these are all edges of the run.
 fn put_least<'a, A: Allocator>(
     alloc: &'a A,
-    run: &[RunEdge<'_>],
-    first: &RunEdge<'_>,
+    run: &[RunEdge],
+    first: &RunEdge,
     kept: &mut Vec<CodedEdge, &'a A>,
 ) -> Result<(), AllocError>
     requires { AllLeadTo (target_of first.now) run.now }
     ensures { OnOk result (map edge_of kept.new.items ≡ map edge_of kept.old.items ++ merging.unimplied_edges (map run_edge run.now)) }
 {
-    if weigh_alike(run, weight(&first.labels, &first.edge)) {
+    if weigh_alike(run, weight(&first.edge)) {
         return put_all(run, kept);
     }
     let left = least(alloc, &Differing, run)?;
@@ -213,7 +196,7 @@ fn weighs_like(labels: &Labels<'_>, edges: &[CodedEdge], first: usize, place: us
     requires first { first ≤ place }
     ensures { result ≡ true → IsWeighedLike labels.now edges.now first place }
 {
-    first == place || weight(labels, &edges[first]) == weight(labels, &edges[place])
+    first == place || weight(&labels.edge(&edges[first])) == weight(&labels.edge(&edges[place]))
 }
 
 /// Whether all edges with one target have the same weight, for each target; then none is implied. The index of the first edge of each target is noted. The
