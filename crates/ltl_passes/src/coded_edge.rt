@@ -58,7 +58,7 @@ impl ListOrder for CodedEdge {
 
 impl EdgeType for CodedEdge {
     ghost use Rattle.std.proofs.Common.{refl};
-    ghost use Rattle.ltl_passes.specs.CodedEdges.{coded_edge_of, coded_exact, coded_fed, coded_feeds};
+    ghost use Rattle.ltl_passes.specs.CodedEdges.{coded_edge_of, coded_exact, coded_fed};
 
     ghost edge_of = { coded_edge_of };
 
@@ -77,5 +77,5 @@ impl EdgeType for CodedEdge {
 
     ghost ordered = { λ e f. refl };
 
-    ghost feeds = { coded_feeds };
+    ghost feeds = { λ e. refl };
 }
