@@ -40,7 +40,7 @@ struct Two {
     again: bool,
 }
 
-impl Successors<usize> for Two {
+impl Successors<usize, Edge> for Two {
     ghost net = { λ _. record { successors = λ _. record { cube = []; key = 0; marks = [] } ∷ record { cube = []; key = 1; marks = [] } ∷ []; accepts = λ _. true } };
 
     ghost ready = { λ _. ⊤ };
@@ -62,19 +62,16 @@ impl Successors<usize> for Two {
         alloc: &'a A,
         _key: &usize,
         _most: usize,
-    ) -> Result<Vec<Successor<usize>, &'a A>, AutomatonFault> {
+    ) -> Result<Vec<Successor<usize, Edge>, &'a A>, AutomatonFault> {
         self.again = self.made;
         self.made = true;
-        let here = Successor {
+        let edge = Edge {
             cube: Cube::empty(),
-            key: 0usize,
+            target: 0,
             marks: RowSet::empty(),
         };
-        let there = Successor {
-            cube: Cube::empty(),
-            key: 1usize,
-            marks: RowSet::empty(),
-        };
+        let here = Successor { edge, key: 0usize };
+        let there = Successor { edge, key: 1usize };
         Ok(Vec::from_slice(alloc, &[here, there])?)
     }
 }

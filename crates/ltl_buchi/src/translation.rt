@@ -15,7 +15,7 @@ ghost use Rattle.ltl_models.specs.Named.{HasNamesOf};
 use ltl_alt::Reach;
 use ltl_formula::Table;
 use ltl_models::{Ba, BaFault, Gba, Gen, Options};
-use ltl_passes::{buchi_states, passes};
+use ltl_passes::{buchi, passes};
 use std::alloc::Allocator;
 
 /// The Büchi automaton of a table's formula. It accepts exactly the words that satisfy the formula, whatever the options. Each intermediate automaton is
@@ -41,8 +41,7 @@ pub fn translate<'a, A: Allocator>(
     ensures large { IsErrOf result BaFault.TooLarge → IsTranslationTooLarge (core_of table.now) options.now stated_limits.states stated_limits.edges }
 {
     let reached = Gba::reach(alloc, table, options.keep_implied)?;
-    let states = buchi_states(alloc, reached, options)?;
-    Ok(Ba::new(alloc, states)?)
+    buchi(alloc, reached, options)
 }
 
 /// The generalized Büchi automaton of a table's formula, merged and renumbered. It accepts exactly the words that satisfy the formula, whatever the options.

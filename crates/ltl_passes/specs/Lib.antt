@@ -8,3 +8,4 @@ pub mod Runs
 pub mod Labels
 pub mod CodedEdges
 pub mod LabelTables
+pub mod Passes

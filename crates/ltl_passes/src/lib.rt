@@ -25,7 +25,7 @@
 
 mod classes;
 mod coded_edge;
-pub mod degeneralize;
+mod degeneralize;
 mod implied;
 mod label_table;
 mod labels;
@@ -45,4 +45,4 @@ mod worklist;
 pub use degeneralize::levels;
 pub use merging::{merge, merge_ba};
 pub use numbering::renumber;
-pub use passes::{buchi_states, generalized};
+pub use passes::{buchi, generalized};

@@ -1,45 +1,92 @@
-//! The passes in a row.
+//! The passes in a row: from a generalized automaton to the one that is printed.
 
+ghost use Rattle.std.specs.Prelude.{◌≡◌, IfOk, IsErrOf, OnOk};
+ghost use Rattle.ltl_spec.specs.Construction.Levels.{HasTooManyLevelStates};
+ghost use Rattle.ltl_spec.specs.Construction.Renumbered.{renumbered_automaton};
+ghost use Rattle.ltl_spec.specs.Tools.Limits.{stated_limits};
+ghost use Rattle.ltl_automaton.specs.SharedView.{automaton_of};
+ghost use Rattle.ltl_models.specs.GbaView as gba;
+ghost use Rattle.ltl_models.specs.BaView.{IsBa};
+ghost use Rattle.ltl_passes.specs.CodedEdges.{tables_of};
+ghost use Rattle.ltl_passes.specs.Labels.{AreCoded, AreTables, labelled};
+ghost use Rattle.ltl_passes.specs.Passes.{buchi_of, merged_of};
+
+use crate::coded_edge::CodedEdge;
 use crate::degeneralize::level_states;
 use crate::label_table::{LabelTable, labelled_states};
+use crate::labels::Labels;
 use crate::merging::merged;
 use crate::numbering::renumbered;
-use ltl_automaton::{Edge, SharedStates};
-use ltl_models::{BaFault, Gba, Gen, Options};
+use ltl_automaton::SharedStates;
+use ltl_models::{Ba, BaFault, Gba, Gen, Options};
 use std::alloc::Allocator;
 
-/// Merges the automaton, degeneralizes it, merges the result and renumbers it. Each intermediate automaton is dropped as soon as the next one is made.
-pub fn buchi_states<'a, A: Allocator>(
+/// Merges, degeneralizes, merges again and renumbers states with numbers for the labels of their edges. Each intermediate automaton is dropped as soon as the
+/// next one is made.
+fn coded_buchi<'a, A: Allocator>(
+    alloc: &'a A,
+    labels: &Labels<'_>,
+    states: SharedStates<'_, CodedEdge, A>,
+    options: &Options,
+) -> Result<SharedStates<'a, CodedEdge, A>, BaFault>
+    requires tables { AreTables (tables_of labels.now) }
+    requires coded { AreCoded (tables_of labels.now) (automaton_of states) }
+    requires inside { gba.IsGba (labelled (tables_of labels.now) (automaton_of states)) }
+    ensures states { IfOk result (λ s. labelled (tables_of labels.now) (automaton_of s)
+        ≡ buchi_of options.now (labelled (tables_of labels.now) (automaton_of states.entry))) }
+    ensures inside { IfOk result (λ s. IsBa (labelled (tables_of labels.now) (automaton_of s))) }
+    ensures few { OnOk result (¬ HasTooManyLevelStates (merged_of options.now (labelled (tables_of labels.now) (automaton_of states.entry)))
+        stated_limits.states stated_limits.edges) }
+    ensures many { IsErrOf result BaFault.TooLarge → HasTooManyLevelStates (merged_of options.now (labelled (tables_of labels.now) (automaton_of states.entry)))
+        stated_limits.states stated_limits.edges }
+{
+    let small = merged(alloc, labels, &states, options)?;
+    drop(states);
+    let copies = level_states(alloc, labels, &small)?;
+    drop(small);
+    let smaller = merged(alloc, labels, &copies, options)?;
+    drop(copies);
+    renumbered(alloc, &smaller)
+}
+
+/// The Büchi automaton of a generalized one, which is merged, degeneralized, merged again and renumbered. The labels are numbered once, and the passes work
+/// on their numbers.
+pub fn buchi<'a, A: Allocator>(
     alloc: &'a A,
     automaton: Gba<'_, A>,
     options: &Options,
-) -> Result<SharedStates<'a, Edge, A>, BaFault> {
+) -> Result<Ba<'a, A>, BaFault>
+    ensures states { IfOk result (λ b. b ≡ buchi_of options.now automaton.entry) }
+
+    // The result is `TooLarge` only if a limit is exceeded, and is never `Ok` then. Memory may run out at any time.
+    ensures few { OnOk result (¬ HasTooManyLevelStates (merged_of options.now automaton.entry) stated_limits.states stated_limits.edges) }
+    ensures many { IsErrOf result BaFault.TooLarge → HasTooManyLevelStates (merged_of options.now automaton.entry) stated_limits.states stated_limits.edges }
+{
+    automaton.invariant();
     let table = LabelTable::of(alloc, automaton.states())?;
-    let labels = table.labels();
     let coded = table.coded(alloc, automaton.states())?;
     drop(automaton);
-    let small = merged(alloc, &labels, &coded, options)?;
-    drop(coded);
-    let copies = level_states(alloc, &labels, &small)?;
-    drop(small);
-    let smaller = merged(alloc, &labels, &copies, options)?;
-    drop(copies);
-    let numbered = renumbered(alloc, &smaller)?;
-    drop(smaller);
+    let labels = table.labels();
+    let numbered = coded_buchi(alloc, &labels, coded, options)?;
     let states = labelled_states(alloc, &labels, &numbered)?;
-    Ok(states)
+    drop(numbered);
+    Ok(Ba::new(alloc, states)?)
 }
 
-/// Merges the automaton and renumbers it.
+/// The generalized automaton as it is printed: merged and renumbered. The only fault is `OutOfMemory`.
 pub fn generalized<'a, A: Allocator>(
     alloc: &'a A,
     automaton: Gba<'_, A>,
     options: &Options,
-) -> Result<Gen<'a, A>, BaFault> {
+) -> Result<Gen<'a, A>, BaFault>
+    ensures states { IfOk result (λ g. g ≡ renumbered_automaton (merged_of options.now automaton.entry)) }
+    ensures fits { ¬ IsErrOf result BaFault.TooLarge }
+{
+    automaton.invariant();
     let table = LabelTable::of(alloc, automaton.states())?;
-    let labels = table.labels();
     let coded = table.coded(alloc, automaton.states())?;
     drop(automaton);
+    let labels = table.labels();
     let small = merged(alloc, &labels, &coded, options)?;
     drop(coded);
     let numbered = renumbered(alloc, &small)?;
