@@ -15,4 +15,5 @@ pub mod ReachedLaws
 pub mod RenumberLaws
 pub mod RunLaws
 pub mod Sums
+pub mod TableLaws
 pub mod TargetLaws

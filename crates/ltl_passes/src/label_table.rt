@@ -1,11 +1,12 @@
 //! Numbering of an automaton's labels.
 
-ghost use Rattle.std.specs.Prelude.{◌≡◌, map, All, IfOk};
+ghost use Rattle.std.specs.Prelude.{◌≡◌, [], map, All, IfOk, OnOk};
+ghost use Rattle.ltl_spec.specs.Collections.Sets.{Has};
 ghost use Rattle.ltl_automaton.specs.EdgeView.{edge_of};
 ghost use Rattle.ltl_automaton.specs.SharedView.{automaton_of};
 ghost use Rattle.ltl_passes.specs.CodedEdges.{coded_edge_of, tables_of};
 ghost use Rattle.ltl_passes.specs.Labels.{AreCoded, AreTables, HasLabelsFor, HasLabelsOf, IsCoded, labelled, labelled_edge};
-ghost use Rattle.ltl_passes.specs.LabelTables.{table_of};
+ghost use Rattle.ltl_passes.specs.LabelTables.{HasNoted, IsPartOf, noted_of, table_of};
 
 use crate::coded_edge::CodedEdge;
 use crate::labels::Labels;
@@ -31,6 +32,50 @@ fn narrow(number: usize) -> Result<u32, AllocError>
     Ok(number as u32)
 }
 
+/// The different labels that were met.
+#[derive(Drop)]
+struct Noted<'a, A: Allocator> {
+    cubes: Interner<'a, Cube, A>,
+    marks: Interner<'a, RowSet, A>,
+}
+
+impl<'a, A: Allocator> Noted<'a, A> {
+    /// No labels, but the empty set of marks.
+    fn new(alloc: &'a A) -> Result<Self, AllocError>
+        ensures { IfOk result (λ n. Has n.marks.keys []) }
+    {
+        let mut marks: Interner<'a, RowSet, A> = Interner::new(alloc);
+        marks.number(RowSet::empty())?;
+        Ok(Noted {
+            cubes: Interner::new(alloc),
+            marks,
+        })
+    }
+
+    /// Adds the labels of these edges.
+    fn add_edges(&mut self, edges: &[Edge]) -> Result<(), AllocError>
+        ensures { OnOk result (HasNoted (noted_of self.old) (noted_of self.new) (map edge_of edges.now)) }
+    {
+        for edge in edges {
+            self.cubes.number(edge.cube)?;
+            self.marks.number(edge.marks)?;
+        }
+        Ok(())
+    }
+
+    /// Adds the labels of all edges of these states.
+    fn add_states(&mut self, states: &SharedStates<'_, Edge, A>) -> Result<(), AllocError>
+        ensures kept { OnOk result (IsPartOf (noted_of self.old) (noted_of self.new)) }
+        ensures labels { OnOk result (HasLabelsOf (noted_of self.new) (automaton_of states.now)) }
+    {
+        states.invariant();
+        for list in 0..states.list_count() {
+            self.add_edges(states.list_edges(list))?;
+        }
+        Ok(())
+    }
+}
+
 impl<'a, A: Allocator> LabelTable<'a, A> {
     /// The labels of all edges of these states.
     pub(crate) fn of(
@@ -40,18 +85,11 @@ impl<'a, A: Allocator> LabelTable<'a, A> {
         ensures tables { IfOk result (λ t. AreTables (table_of t)) }
         ensures labels { IfOk result (λ t. HasLabelsOf (table_of t) (automaton_of states.now)) }
     {
-        let mut cubes: Interner<'a, Cube, A> = Interner::new(alloc);
-        let mut marks: Interner<'a, RowSet, A> = Interner::new(alloc);
-        marks.number(RowSet::empty())?;
-        for list in 0..states.list_count() {
-            for edge in states.list_edges(list) {
-                cubes.number(edge.cube)?;
-                marks.number(edge.marks)?;
-            }
-        }
+        let mut noted = Noted::new(alloc)?;
+        noted.add_states(states)?;
         Ok(LabelTable {
-            cubes: Ranked::of(alloc, &cubes)?,
-            marks: Ranked::of(alloc, &marks)?,
+            cubes: Ranked::of(alloc, &noted.cubes)?,
+            marks: Ranked::of(alloc, &noted.marks)?,
         })
     }
 
