@@ -1,20 +1,20 @@
 -- Tables of labels, as they are made, and what is found in them.
-use Rattle.std.proofs.Common.{◌≡◌, ℕ, zero, suc, ◌+◌, ◌<◌, ◌≤◌, Bool, true, false, cond, inl, inr, List, [], ◌∷◌, ◌++◌, length, map, refl, sym, ◌∙◌, ap, subst, arith, Option, Some, None}
+use Rattle.std.proofs.Common.{◌≡◌, ℕ, zero, suc, ◌+◌, ◌<◌, Bool, true, false, cond, inl, inr, List, [], ◌∷◌, ◌++◌, length, map, refl, sym, ◌∙◌, ap, subst, arith, Some, None}
 use Rattle.std.specs.Prelude.{slice_get, slice_index_or, take, All, nat_lt, ◌≢◌}
 use Rattle.std.specs.List.{list_any, position}
 use Rattle.std.specs.Bool.{Decides}
 use Rattle.std.specs.declared.cmp.Ordering.{Ordering}
 use Rattle.std.specs.declared.cmp.Ordering.TheVariants.{Less, Greater}
 use Rattle.std.specs.Ordering.{nat_cmp}
-use Rattle.std.specs.Cmp.Lexicographic.{slice_cmp, bytes_decides}
-use Rattle.std.proofs.lemmas.List.{map-append, take_more, take_all}
+use Rattle.std.specs.Cmp.Lexicographic.{slice_cmp}
+use Rattle.std.proofs.lemmas.List.{map-append, take_more}
 use Rattle.std.proofs.lemmas.List.Elements.{All-push, All-weaker}
 use Rattle.ltl_spec.specs.Collections.Sets.{Has, IsRising, IsLinearOrder, set_of}
 use Rattle.ltl_spec.specs.Collections.Lists.{HasNoRepeats, with_new, place_of}
-use Rattle.ltl_spec.specs.Transitions.Cubes.{Cube, cube_cmp}
+use Rattle.ltl_spec.specs.Transitions.Cubes.{cube_cmp}
 use Rattle.ltl_spec.specs.Automata.Automaton.{Automaton, Edge, State, state_at}
 use Rattle.ltl_spec.proofs.Collections.FoundLaws.{index_there}
-use Rattle.ltl_spec.proofs.Collections.ListLaws.{Has-at, All-at_has, All-from_has, any_Decides, place_below, with_new_old, with_new_new, slice_get_has}
+use Rattle.ltl_spec.proofs.Collections.ListLaws.{Has-at, All-at_has, All-from_has, any_Decides, place_below, with_new_old, with_new_new}
 use Rattle.ltl_spec.proofs.Collections.MemberLaws.{map_cases}
 use Rattle.ltl_spec.proofs.Collections.Orders.{cube_linear, row_set_linear}
 use Rattle.ltl_spec.proofs.Collections.ProductLists.{rising_once}
@@ -71,12 +71,11 @@ pub take_read : {K : Type 0} (xs : List K) (n : ℕ) (x : K) → slice_get xs n 
 take_read xs n x e = let w = index_there xs n x x e in took xs n x w.0 (sym w.1)
 
 -- ---- the labels that were met
-pub part_same : (t : Tables) → IsPartOf t t
-part_same t = record { cubes = λ c h. h; marks = λ m h. h }
-
+-- what is part of a part is part of the whole
 pub part_on : (t u v : Tables) → IsPartOf t u → IsPartOf u v → IsPartOf t v
 part_on t u v a b = record { cubes = λ c h. b.cubes c (a.cubes c h); marks = λ m h. b.marks m (a.marks m h) }
 
+-- more tables keep the labels of edges
 pub labels_kept : (t u : Tables) → IsPartOf t u → (es : List Edge) → All (HasLabelsFor t) es → All (HasLabelsFor u) es
 labels_kept t u p es a = All-weaker (HasLabelsFor t) (HasLabelsFor u) (λ e h. record { cube = p.cubes e.cube h.cube; marks = p.marks e.marks h.marks }) es a
 
@@ -113,8 +112,8 @@ pub lists_of_states : (t : Tables) (S : Shared) → IsShared S.lists S.states �
 lists_of_states t S w a =
     let P : State → Type 0 = λ s. All (HasLabelsFor t) s.edges in
     All-from_has P (automaton_of S).states (λ s h.
-        let (p, k, e) = map_cases (state_in S.lists) S.states s h in
-        subst P (sym e) (a p.list [] (All-at_has (λ (q : SharedState). q.list < length S.lists) S.states w.places p k)))
+    let (p, k, e) = map_cases (state_in S.lists) S.states s h in
+    subst P (sym e) (a p.list [] (All-at_has (λ (q : SharedState). q.list < length S.lists) S.states w.places p k)))
 
 -- ---- the tables
 -- no marks come first
@@ -135,12 +134,14 @@ module _ (t u : Tables) (c : u.cubes ≡ set_of cube_cmp t.cubes) (m : u.marks �
         none = none_first u.marks rising (subst (λ xs. Has xs []) (sym m) (Has-set_of row_set_linear t.marks [] h));
       }
 
+  -- none is lost
   ranked_part : IsPartOf t u
   ranked_part = record {
     cubes = λ d h. subst (λ xs. Has xs d) (sym c) (Has-set_of cube_linear t.cubes d h);
     marks = λ n h. subst (λ xs. Has xs n) (sym m) (Has-set_of row_set_linear t.marks n h);
   }
 
+  -- so the edges have their labels there
   pub ranked_labels : (A : Automaton) → HasLabelsOf t A → HasLabelsOf u A
   ranked_labels A a = All-weaker (λ (s : State). All (HasLabelsFor t) s.edges) (λ (s : State). All (HasLabelsFor u) s.edges) (λ s h. labels_kept t u ranked_part s.edges h) A.states a
 
@@ -172,6 +173,7 @@ label_there t edges i e a l s = subst (λ (x : plain.Edge). HasLabelsFor t (edge
 abbrev pub first_states : Automaton → ℕ → Automaton
 first_states A n = record { sets = A.sets; states = take n A.states }
 
+-- the state that is read past the end
 abbrev none : State
 none = record { accepting = true; edges = [] }
 

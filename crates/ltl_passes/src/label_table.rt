@@ -78,10 +78,7 @@ impl<'a, A: Allocator> Noted<'a, A> {
 
 impl<'a, A: Allocator> LabelTable<'a, A> {
     /// The labels of all edges of these states.
-    pub(crate) fn of(
-        alloc: &'a A,
-        states: &SharedStates<'_, Edge, A>,
-    ) -> Result<Self, AllocError>
+    pub(crate) fn of(alloc: &'a A, states: &SharedStates<'_, Edge, A>) -> Result<Self, AllocError>
         ensures tables { IfOk result (λ t. AreTables (table_of t)) }
         ensures labels { IfOk result (λ t. HasLabelsOf (table_of t) (automaton_of states.now)) }
     {
@@ -104,11 +101,7 @@ impl<'a, A: Allocator> LabelTable<'a, A> {
     }
 
     /// The edges with numbers for their labels.
-    fn coded_edges(
-        &self,
-        alloc: &'a A,
-        edges: &[Edge],
-    ) -> Result<Vec<CodedEdge, &'a A>, AllocError>
+    fn coded_edges(&self, alloc: &'a A, edges: &[Edge]) -> Result<Vec<CodedEdge, &'a A>, AllocError>
         requires { All (HasLabelsFor (table_of self.now)) (map edge_of edges.now) }
         ensures edges { IfOk result (λ es. map (labelled_edge (table_of self.now)) (map coded_edge_of es.items) ≡ map edge_of edges.now) }
         ensures coded { IfOk result (λ es. All (IsCoded (table_of self.now)) (map coded_edge_of es.items)) }
