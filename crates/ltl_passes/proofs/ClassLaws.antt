@@ -12,8 +12,8 @@ use Rattle.std.specs.Cmp.{first_so, second_so}
 use Rattle.std.proofs.lemmas.Bool.Decides.{Decides-eqb}
 use Rattle.std.proofs.lemmas.Option.{get_or_from_slice_get, slice_get_within}
 use Rattle.ltl_spec.specs.Automata.Automaton.{Edge}
-use Rattle.ltl_automaton.specs.EdgeView.{edge_of}
-use Rattle.ltl_automaton.specs.declared.edge.Edge as signature
+use Rattle.ltl_passes.specs.CodedEdges.{coded_edge_of}
+use Rattle.ltl_passes.specs.declared.coded_edge.CodedEdge as made
 use Rattle.ltl_automaton.specs.declared.shared.SharedState.{SharedState}
 use Rattle.ltl_models.proofs.Within.{All_from_map}
 use Rattle.ltl_passes.proofs.TargetLaws.{pushed_longer}
@@ -126,7 +126,7 @@ pub list_seen : (lists : List (List Edge)) (f : ℕ → ℕ) (k : ℕ) (es : Lis
 list_seen lists f k es e = ap (retargeted_list f) (sym (get_or_from_slice_get lists k es [] e))
 
 -- the edges of a list lead where those of all lists do
-pub list_within : (lists : List (List Edge)) (n k : ℕ) (edges : List signature.Edge) → AreListsWithin lists n → slice_get lists k ≡ Some (map edge_of edges) → All (λ e. e.target < n) edges
+pub list_within : (lists : List (List Edge)) (n k : ℕ) (edges : List made.CodedEdge) → AreListsWithin lists n → slice_get lists k ≡ Some (map coded_edge_of edges) → All (λ e. e.target < n) edges
 list_within lists n k edges w e =
     let P : Edge → Type 0 = λ f. f.target < n in
-    All_from_map P edge_of edges (subst (All P) (get_or_from_slice_get lists k (map edge_of edges) [] e) (w k [] (slice_get_within lists k (map edge_of edges) e)))
+    All_from_map P coded_edge_of edges (subst (All P) (get_or_from_slice_get lists k (map coded_edge_of edges) [] e) (w k [] (slice_get_within lists k (map coded_edge_of edges) e)))

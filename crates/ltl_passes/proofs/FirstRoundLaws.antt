@@ -1,5 +1,5 @@
 -- Where the edges of all lists rise, the first round of merging sees each list as it is.
-use Rattle.std.proofs.Common.{◌≡◌, ℕ, zero, suc, ◌+◌, ◌<◌, ◌≤◌, List, [], ◌∷◌, map, length, refl, sym, ◌∙◌, ap, subst, arith, Some}
+use Rattle.std.proofs.Common.{◌≡◌, ℕ, suc, ◌+◌, ◌<◌, ◌≤◌, List, [], ◌∷◌, map, length, refl, sym, ◌∙◌, ap, subst, arith, Some}
 use Rattle.std.specs.Prelude.{slice_get, slice_index, slice_index_or, All}
 use Rattle.std.specs.List.{range_with_len}
 use Rattle.std.specs.declared.cmp.Ordering.TheVariants.{Less}
@@ -14,32 +14,30 @@ use Rattle.ltl_spec.proofs.Collections.ListLaws.{All-at_has}
 use Rattle.ltl_spec.proofs.Construction.RoundLaws.{name_first}
 use Rattle.std.proofs.lemmas.Option.{slice_get-get_or}
 use Rattle.ltl_automaton.specs.SharedView.{Shared, IsShared, automaton_of}
-use Rattle.ltl_automaton.specs.declared.edge.Edge as made
-use Rattle.ltl_passes.specs.Runs.{edge_at}
+use Rattle.ltl_passes.specs.declared.coded_edge.CodedEdge as made
 use Rattle.ltl_passes.specs.Worklist.{AreFiner, IsRound}
 use Rattle.ltl_passes.specs.Partition.{AreSignatures, IsLeastAlike, IsWithinStates, place_signature, list_view}
-use Rattle.ltl_passes.proofs.SignatureLaws.{seen_again, lists_within, next_round}
+use Rattle.ltl_passes.proofs.SignatureLaws.{index_any, seen_again, lists_within, next_round}
 use Rattle.ltl_passes.proofs.FinerLaws.{closed_last, next_finer, round_finer}
 
+-- the edge at a place
+abbrev pub coded_at : List made.CodedEdge → ℕ → made.CodedEdge
+coded_at es k = slice_index_or es k (record { cube = 0; marks = 0; target = 0 })
+
 -- edges of which each is below the next one, as they are seen, rise
-pub rising_steps : {K : Type 0} {cmp : K → K → Ordering} → IsLinearOrder cmp → (f : made.Edge → K) (es : List made.Edge) → ((k : ℕ) → k + 1 < length es → cmp (f (edge_at es k)) (f (edge_at es (k + 1))) ≡ Less) → IsRising cmp (map f es)
+pub rising_steps : {K : Type 0} {cmp : K → K → Ordering} → IsLinearOrder cmp → (f : made.CodedEdge → K) (es : List made.CodedEdge) → ((k : ℕ) → k + 1 < length es → cmp (f (coded_at es k)) (f (coded_at es (k + 1))) ≡ Less) → IsRising cmp (map f es)
 rising_steps linear f [] h = tt
 rising_steps linear f (x ∷ []) h = (tt, tt)
 rising_steps {cmp = cmp} linear f (x ∷ y ∷ ys) h =
     let rest = rising_steps linear f (y ∷ ys) (λ k l.
     let z : suc k + 1 ≡ suc (k + 1) = omega arith in
-    subst (λ j. cmp (f (edge_at (x ∷ y ∷ ys) (suc k))) (f (edge_at (x ∷ y ∷ ys) j)) ≡ Less) z (h (suc k) (omega (arith, l)))) in
+    subst (λ j. cmp (f (coded_at (x ∷ y ∷ ys) (suc k))) (f (coded_at (x ∷ y ∷ ys) j)) ≡ Less) z (h (suc k) (omega (arith, l)))) in
     let here : cmp (f x) (f y) ≡ Less = h 0 (omega arith) in
     ((here, all_from (λ z. cmp (f x) z ≡ Less) (map f ys) (λ z m. linear.total.trans (f x) (f y) z here (all_at (λ w. cmp (f y) w ≡ Less) (map f ys) z rest.0 m))), rest)
 
 -- what holds of the lists holds at each place
 pub lists_have : (P : List Edge → Type 0) (lists : List (List Edge)) (n : ℕ) → length lists ≤ n → ((k : ℕ) → k < n → P (slice_index_or lists k [])) → All P lists
-lists_have P lists n l h k d m = subst P (any lists k [] d m) (h k (omega (arith, l, m)))
-  where
-    any : (xs : List (List Edge)) (k : ℕ) (c d : List Edge) → k < length xs → slice_index_or xs k c ≡ slice_index_or xs k d
-    any [] k c d l = absurd (omega arith)
-    any (x ∷ xs) zero c d l = refl
-    any (x ∷ xs) (suc k) c d l = any xs k c d (omega arith)
+lists_have P lists n l h k d m = subst P (index_any lists k [] d m) (h k (omega (arith, l, m)))
 
 -- edges to themselves
 pub retargeted_own : (es : List Edge) → map (retargeted_edge (λ t. t)) es ≡ es

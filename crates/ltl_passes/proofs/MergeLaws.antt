@@ -1,5 +1,5 @@
 -- The steps of reading and making the states of automata that are merged.
-use Rattle.std.proofs.Common.{◌≡◌, ℕ, zero, suc, ◌<◌, Bool, true, false, List, [], ◌∷◌, ◌++◌, map, length, refl, sym, ◌∙◌, ap, subst, arith}
+use Rattle.std.proofs.Common.{◌≡◌, ℕ, ◌<◌, Bool, true, false, List, [], ◌∷◌, ◌++◌, map, length, refl, sym, ◌∙◌, ap, subst, arith}
 use Rattle.std.specs.Prelude.{slice_index, slice_index_or}
 use Rattle.std.specs.Ordering.{nat_cmp}
 use Rattle.std.specs.Prelude.{nat_eq}
@@ -13,15 +13,10 @@ use Rattle.ltl_spec.specs.Automata.Automaton.{Automaton, State, Edge}
 use Rattle.ltl_spec.specs.Construction.Merging.{retargeted_state, without_implied, class_names}
 use Rattle.ltl_spec.proofs.Construction.RoundLaws.{names_length, name_low, name_twice}
 use Rattle.ltl_passes.specs.Partition.{number_in, IsNumbering, AreNames, retargeted_list, thinned}
-use Rattle.ltl_passes.proofs.SignatureLaws.{seen_again}
+use Rattle.ltl_passes.proofs.SignatureLaws.{index_any, seen_again}
 
 pub index_own : (xs : List ℕ) (i d : ℕ) → i < length xs → slice_index_or xs i d ≡ slice_index_or xs i (slice_index_or xs i d)
-index_own xs i d l = any xs i d (slice_index_or xs i d) l
-  where
-    any : (xs : List ℕ) (i c d : ℕ) → i < length xs → slice_index_or xs i c ≡ slice_index_or xs i d
-    any [] i c d l = absurd (omega arith)
-    any (x ∷ xs) zero c d l = refl
-    any (x ∷ xs) (suc i) c d l = any xs i c d (omega arith)
+index_own xs i d l = index_any xs i d (slice_index_or xs i d) l
 
 -- the names of a round are names
 pub names_of_round : (A : Automaton) (n : ℕ) (names : List ℕ) → names ≡ class_names A n → AreNames names

@@ -20,6 +20,7 @@ use Rattle.ltl_spec.proofs.Construction.EdgeBounds.{HasNoRepeats-rising, thin_le
 use Rattle.ltl_models.specs.BaView.{IsReached, start, along}
 use Rattle.ltl_spec.proofs.Collections.SumLaws.{set_of_length}
 use Rattle.ltl_automaton.proofs.WayLaws.{take_whole}
+use Rattle.ltl_passes.proofs.SignatureLaws.{index_any}
 use Rattle.ltl_passes.proofs.Sums.{few_all}
 
 -- sizes
@@ -55,12 +56,6 @@ module _ (A : Automaton) (names : List ℕ) (naming : IsNaming A names) where
   pub classes_inside : (c : ℕ) → Has classes c → c < length A.states
   classes_inside c h =
       named_inside (length A.states) names (λ k l. let e = naming.long in let m : slice_index names k ≤ k = naming.low k (omega arith) in omega arith) c (set_of_cases nat_linear names c h)
-
--- an element at a place is the same whatever stands past the end
-index_any : {K : Type 0} (xs : List K) (k : ℕ) (c d : K) → k < length xs → slice_index_or xs k c ≡ slice_index_or xs k d
-index_any [] k c d l = absurd (omega arith)
-index_any (x ∷ xs) zero c d l = refl
-index_any (x ∷ xs) (suc k) c d l = index_any xs k c d (omega arith)
 
 module _ (keep_implied : Bool) (A : Automaton) (names : List ℕ) (naming : IsNaming A names) where
   abbrev pub Q : Automaton

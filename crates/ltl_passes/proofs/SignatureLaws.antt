@@ -6,9 +6,9 @@ use Rattle.ltl_spec.specs.Collections.Sets.{Has, set_of}
 use Rattle.ltl_spec.specs.Automata.Automaton.{Automaton, State, Edge, edge_cmp, state_at}
 use Rattle.ltl_spec.specs.Construction.Merging.{retargeted_edge, retargeted_state}
 use Rattle.ltl_spec.proofs.Collections.ListLaws.{All-at_has}
-use Rattle.ltl_automaton.specs.EdgeView.{edge_of}
+use Rattle.ltl_passes.specs.CodedEdges.{coded_edge_of}
 use Rattle.ltl_automaton.specs.SharedView.{Shared, IsShared, automaton_of, state_in}
-use Rattle.ltl_automaton.specs.declared.edge.Edge as plain
+use Rattle.ltl_passes.specs.declared.coded_edge.CodedEdge as code
 use Rattle.ltl_automaton.specs.declared.shared.SharedState.{SharedState}
 use Rattle.ltl_automaton.proofs.EdgeLaws.{map_pushed}
 use Rattle.ltl_automaton.proofs.SharedLaws.{got_once}
@@ -26,12 +26,18 @@ seen_again f g es same = ap (set_of edge_cmp) (edges es same)
         let rest = edges es (λ x k. h x (inr k)) in
         λ i. record e { target = here i } ∷ rest i
 
+-- an element at a place is the same whatever stands past the end
+pub index_any : {K : Type 0} (xs : List K) (i : ℕ) (c d : K) → i < length xs → slice_index_or xs i c ≡ slice_index_or xs i d
+index_any [] i c d l = absurd (omega arith)
+index_any (x ∷ xs) zero c d l = refl
+index_any (x ∷ xs) (suc i) c d l = index_any xs i c d (omega arith)
+
 -- one more edge with another target
-pub retargeted_next : (f : ℕ → ℕ) (made more_made : List plain.Edge) (x : plain.Edge) (taken more_taken : List plain.Edge) (e : plain.Edge) → map edge_of made ≡ map (retargeted_edge f) (map edge_of taken)
-    → edge_of x ≡ retargeted_edge f (edge_of e) → more_made ≡ made ++ x ∷ [] → more_taken ≡ taken ++ e ∷ [] → map edge_of more_made ≡ map (retargeted_edge f) (map edge_of more_taken)
+pub retargeted_next : (f : ℕ → ℕ) (made more_made : List code.CodedEdge) (x : code.CodedEdge) (taken more_taken : List code.CodedEdge) (e : code.CodedEdge) → map coded_edge_of made ≡ map (retargeted_edge f) (map coded_edge_of taken)
+    → coded_edge_of x ≡ retargeted_edge f (coded_edge_of e) → more_made ≡ made ++ x ∷ [] → more_taken ≡ taken ++ e ∷ [] → map coded_edge_of more_made ≡ map (retargeted_edge f) (map coded_edge_of more_taken)
 retargeted_next f made more_made x taken more_taken e w p q t =
-    map_pushed edge_of made more_made x q ∙ ap (λ l. l ++ edge_of x ∷ []) w ∙ ap (λ y. map (retargeted_edge f) (map edge_of taken) ++ y ∷ []) p
-    ∙ sym (map_pushed (retargeted_edge f) (map edge_of taken) (map edge_of more_taken) (edge_of e) (map_pushed edge_of taken more_taken e t))
+    map_pushed coded_edge_of made more_made x q ∙ ap (λ l. l ++ coded_edge_of x ∷ []) w ∙ ap (λ y. map (retargeted_edge f) (map coded_edge_of taken) ++ y ∷ []) p
+    ∙ sym (map_pushed (retargeted_edge f) (map coded_edge_of taken) (map coded_edge_of more_taken) (coded_edge_of e) (map_pushed coded_edge_of taken more_taken e t))
 
 module _ (S : Shared) (shared : IsShared S.lists S.states) where
   abbrev A : Automaton
@@ -54,17 +60,12 @@ module _ (S : Shared) (shared : IsShared S.lists S.states) where
   all_lists P w k d l =
       let u = shared.used k l in
       let here = All-at_has (λ (s : State). P s.edges) A.states w (state_in S.lists u.0) (has_state S.states u.0 u.1) in
-      subst P (ap (λ i. slice_index_or S.lists i []) u.2 ∙ any S.lists k [] d l) here
+      subst P (ap (λ i. slice_index_or S.lists i []) u.2 ∙ index_any S.lists k [] d l) here
     where
       has_state : (ps : List SharedState) (p : SharedState) → Has ps p → Has (map (state_in S.lists) ps) (state_in S.lists p)
       has_state [] p h = absurd h
       has_state (q ∷ ps) p (inl e) = inl (ap (state_in S.lists) e)
       has_state (q ∷ ps) p (inr h) = inr (has_state ps p h)
-
-      any : (xs : List (List Edge)) (k : ℕ) (c d : List Edge) → k < length xs → slice_index_or xs k c ≡ slice_index_or xs k d
-      any [] k c d l = absurd (omega arith)
-      any (x ∷ xs) zero c d l = refl
-      any (x ∷ xs) (suc k) c d l = any xs k c d (omega arith)
 
   pub lists_within : IsWithinStates A.states → AreListsWithin S.lists (length A.states)
   lists_within w = all_lists (λ es. All (λ e. e.target < length A.states) es) w

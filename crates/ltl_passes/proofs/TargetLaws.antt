@@ -11,8 +11,8 @@ use Rattle.ltl_spec.proofs.Collections.MemberLaws.{map_cases}
 use Rattle.ltl_spec.proofs.Collections.Orders.{edge_linear}
 use Rattle.ltl_spec.proofs.Collections.SetLaws.{set_of_cases}
 use Rattle.ltl_spec.proofs.Semantics.Runs.{IsClosed}
-use Rattle.ltl_automaton.specs.EdgeView.{edge_of}
-use Rattle.ltl_automaton.specs.declared.edge.Edge as code
+use Rattle.ltl_passes.specs.CodedEdges.{coded_edge_of}
+use Rattle.ltl_passes.specs.declared.coded_edge.CodedEdge as code
 use Rattle.ltl_models.proofs.Within.{All_from_map, edges_within}
 use Rattle.ltl_passes.specs.Partition.{IsWithinStates, retargeted_list}
 
@@ -37,12 +37,12 @@ states_at A P i p a =
     ]
 
 -- edges lead to numbers where their targets have these
-pub retargeted_within : (numbers : List ℕ) (n : ℕ) (edges made : List code.Edge) → All (λ e. e.target < length numbers) edges → All (λ k. k < n) numbers → map edge_of made ≡ retargeted_list (slice_index numbers) (map edge_of edges)
+pub retargeted_within : (numbers : List ℕ) (n : ℕ) (edges made : List code.CodedEdge) → All (λ e. e.target < length numbers) edges → All (λ k. k < n) numbers → map coded_edge_of made ≡ retargeted_list (slice_index numbers) (map coded_edge_of edges)
     → All (λ e. e.target < n) made
 retargeted_within numbers n edges made w h e =
     let P : Edge → Type 0 = λ f. f.target < n in
-    All_from_map P edge_of made (subst (All P) (sym e) (All-from_has P (retargeted_list (slice_index numbers) (map edge_of edges)) (λ f k.
-    let (g, i, c) = map_cases (retargeted_edge (slice_index numbers)) (map edge_of edges) f (set_of_cases edge_linear (map (retargeted_edge (slice_index numbers)) (map edge_of edges)) f k) in
-    let (x, j, d) = map_cases edge_of edges g i in
-    let l : g.target < length numbers = subst (λ (y : Edge). y.target < length numbers) (sym d) (All-at_has (λ (y : code.Edge). y.target < length numbers) edges w x j) in
+    All_from_map P coded_edge_of made (subst (All P) (sym e) (All-from_has P (retargeted_list (slice_index numbers) (map coded_edge_of edges)) (λ f k.
+    let (g, i, c) = map_cases (retargeted_edge (slice_index numbers)) (map coded_edge_of edges) f (set_of_cases edge_linear (map (retargeted_edge (slice_index numbers)) (map coded_edge_of edges)) f k) in
+    let (x, j, d) = map_cases coded_edge_of edges g i in
+    let l : g.target < length numbers = subst (λ (y : Edge). y.target < length numbers) (sym d) (All-at_has (λ (y : code.CodedEdge). y.target < length numbers) edges w x j) in
     subst P (sym c) (h g.target 0 l))))

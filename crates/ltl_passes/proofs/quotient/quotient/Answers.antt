@@ -6,9 +6,9 @@ use Rattle.std.proofs.lemmas.List.{length-map}
 use Rattle.ltl_spec.specs.Collections.Sets.{Has, set_of}
 use Rattle.ltl_spec.specs.Automata.Automaton.{Edge, State, state_at}
 use Rattle.ltl_spec.specs.Construction.Merging.{without_implied, retargeted_state}
-use Rattle.ltl_automaton.specs.EdgeView.{edge_of}
+use Rattle.ltl_passes.specs.CodedEdges.{coded_edge_of}
 use Rattle.ltl_automaton.specs.SharedView.{automaton_of}
-use Rattle.ltl_automaton.specs.declared.edge.Edge as code
+use Rattle.ltl_passes.specs.declared.coded_edge.CodedEdge as made
 use Rattle.ltl_automaton.proofs.NetLaws.{took}
 use Rattle.ltl_passes.specs.Partition.{number_in, retargeted_list, thinned}
 use Rattle.ltl_passes.proofs.NumberLaws.{class_below, numbers_within}
@@ -35,7 +35,7 @@ class_edges-requires g c =
     subst (All (λ k. k < length c.loop-class.noted.items)) (sym c.as_slice-numbers.ensures.value)
     (subst (λ n. All (λ k. k < n) c.in_ok-numbering.numbering.numbers.items) (sym wide) (numbers_within c.args.names.now c.in_ok-numbering.numbering.classes.items c.in_ok-numbering.numbering.numbers.items c.in_ok-numbering.ensures)) in
     record {
-      within = subst (λ m. All (λ (e : code.Edge). e.target < m) c.edges.result.now) (sym count) (seen_within edge_of A (λ (e : Edge). e.target < length A.states) class c.edges.result.now c.edges.ensures c.requires.within);
+      within = subst (λ m. All (λ (e : made.CodedEdge). e.target < m) c.edges.result.now) (sym count) (seen_within coded_edge_of A (λ (e : Edge). e.target < length A.states) class c.edges.result.now c.edges.ensures c.requires.within);
       noted = subst (λ (hs : List ℕ). All (λ k. k < length hs) c.as_slice-numbers.result.now) (sym c.as_mut_slice.ensures.value) numbers;
     }
 
@@ -55,13 +55,13 @@ loop-class-preserved g c =
     let h : ℕ → State = λ k. without_implied keep (retargeted_state (λ s. number_in (set_of nat_cmp c.args.names.now) (slice_index c.args.names.now s)) (state_at A k)) in
     let long = c.requires.long in
     let within : (e : Edge) → Has (state_at A class).edges e → e.target < length c.args.names.now = λ e k. let m = of_all A (λ (x : Edge). x.target < length A.states) c.requires.within class e k in subst (λ n. e.target < n) (sym long) m in
-    let edges : map edge_of c.in_ok-edges.edges.items ≡ thinned keep (retargeted_list (slice_index c.in_ok-numbering.numbering.numbers.items) (state_at A class).edges) =
+    let edges : map coded_edge_of c.in_ok-edges.edges.items ≡ thinned keep (retargeted_list (slice_index c.in_ok-numbering.numbering.numbers.items) (state_at A class).edges) =
     c.in_ok-edges.ensures.edges ∙ (λ i. thinned keep (retargeted_list (slice_index (c.as_slice-numbers.ensures.value i)) (c.edges.ensures i))) in
-    let same : (let t : State = record { accepting = c.accepting.result; edges = map edge_of c.in_ok-edges.edges.items } in t) ≡ h class =
+    let same : (let t : State = record { accepting = c.accepting.result; edges = map coded_edge_of c.in_ok-edges.edges.items } in t) ≡ h class =
     (λ i. let t : State = record { accepting = c.accepting.ensures i; edges = edges i } in t)
     ∙ class_same c.args.names.now c.in_ok-numbering.numbering.classes.items c.in_ok-numbering.numbering.numbers.items keep (state_at A class) c.in_ok-numbering.ensures within in
     record {
-      made = class_pushed (automaton_of c.loop-class.made) (automaton_of c.push.new.self) A.sets h (take c.loop-class.class-index items) _ class c.accepting.result (map edge_of c.in_ok-edges.edges.items) c.loop-class.invariant.made c.in_ok-push.ensures.ok same
+      made = class_pushed (automaton_of c.loop-class.made) (automaton_of c.push.new.self) A.sets h (take c.loop-class.class-index items) _ class c.accepting.result (map coded_edge_of c.in_ok-edges.edges.items) c.loop-class.invariant.made c.in_ok-push.ensures.ok same
           (took items c.loop-class.class-index class c.loop-class-test.true (index_own items c.loop-class.class-index 0 c.loop-class-test.true));
       wide = sym (length_refill (length c.loop-class.noted.items) c.loop-class.noted.items c.class_edges.new.noted refl) ∙ c.loop-class.invariant.wide;
     }

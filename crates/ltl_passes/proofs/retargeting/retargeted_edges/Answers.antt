@@ -1,16 +1,19 @@
-use Rattle.std.proofs.Common.{refl, ap, ◌∙◌}
+use Rattle.std.proofs.Common.{ap, ◌∙◌}
 use Rattle.std.specs.Prelude.{map, take, slice_index}
 use Rattle.ltl_spec.specs.Construction.Merging.{retargeted_edge}
-use Rattle.ltl_automaton.specs.EdgeView.{edge_of}
+use Rattle.ltl_passes.specs.CodedEdges.{coded_edge_of}
 use Rattle.ltl_automaton.proofs.NetLaws.{took}
 use Rattle.ltl_automaton.proofs.WayLaws.{take_whole}
-use Rattle.ltl_passes.proofs.SignatureLaws.{retargeted_next}
+use Rattle.ltl_passes.proofs.FirstRoundLaws.{coded_at}
+use Rattle.ltl_passes.proofs.SignatureLaws.{index_any, retargeted_next}
 use Rattle.ltl_passes.proofs.retargeting.retargeted_edges.Goals as goal
 
 pub loop-edge-preserved : goal.loop-edge-preserved
 loop-edge-preserved g c =
-    retargeted_next (slice_index c.args.names.now) c.loop-edge.made.items c.push.new.self.items _ (take c.loop-edge.edge-index c.args.edges.now) _ c.edge-item.result c.loop-edge.invariant
-    refl c.in_ok-push.ensures.items (took c.args.edges.now c.loop-edge.edge-index c.edge-item.result c.loop-edge-test.true c.edge-item.is)
+    let edges = c.args.edges.now in
+    let i = c.loop-edge.edge-index in
+    retargeted_next (slice_index c.args.names.now) c.loop-edge.made.items c.push.new.self.items c.with_target.result (take i edges) _ (coded_at edges i) c.loop-edge.invariant
+    c.with_target.ensures c.in_ok-push.ensures.items (took edges i (coded_at edges i) c.loop-edge-test.true (index_any edges i _ _ c.loop-edge-test.true))
 
 pub returns : goal.returns
-returns g c = c.loop-edge.invariant ∙ ap (λ es. map (retargeted_edge (slice_index c.args.names.now)) (map edge_of es)) (take_whole c.loop-edge.edge-index c.args.edges.now c.loop-edge-test.false)
+returns g c = c.loop-edge.invariant ∙ ap (λ es. map (retargeted_edge (slice_index c.args.names.now)) (map coded_edge_of es)) (take_whole c.loop-edge.edge-index c.args.edges.now c.loop-edge-test.false)
