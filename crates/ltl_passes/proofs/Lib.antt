@@ -3,6 +3,7 @@ pub mod SignatureLaws
 pub mod LevelStateLaws
 pub mod LabelLaws
 pub mod LabelledReach
+pub mod CodedListLaws
 pub mod FirstRoundLaws
 pub mod WithinLaws
 pub mod FinerLaws
