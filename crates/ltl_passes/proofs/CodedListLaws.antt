@@ -1,10 +1,11 @@
 -- Lists of the code's edges with numbers of labels, by the labels.
-use Rattle.std.proofs.Common.{◌≡◌, ℕ, ◌<◌, Bool, List, [], ◌∷◌, ◌++◌, length, map, sym, ◌∙◌, ap, subst}
+use Rattle.std.proofs.Common.{◌≡◌, ℕ, ◌<◌, Bool, cond, List, [], ◌∷◌, length, map, sym, ◌∙◌, ap, subst}
 use Rattle.std.specs.Prelude.{All}
 use Rattle.std.proofs.lemmas.List.{map-append}
 use Rattle.std.proofs.lemmas.List.Elements.{All-map, All-append, All-cons, All-nil}
 use Rattle.ltl_spec.specs.Collections.Sets.{Has}
 use Rattle.ltl_spec.specs.Automata.Automaton.{Automaton, Edge, State, state_at}
+use Rattle.ltl_spec.specs.Construction.Merging.{class_names}
 use Rattle.ltl_spec.proofs.Collections.FoundLaws.{map_same}
 use Rattle.ltl_spec.proofs.Collections.MemberLaws.{map_cases}
 use Rattle.ltl_automaton.specs.SharedView.{with_state}
@@ -14,8 +15,8 @@ use Rattle.ltl_passes.specs.declared.labels.Labels as slices
 use Rattle.ltl_passes.specs.CodedEdges.{HaveLabels, coded_edge_of, labelled_edge_of, tables_of}
 use Rattle.ltl_passes.specs.Labels.{Tables, AreCoded, AreTables, IsCoded, labelled, labelled_edge, labelled_state}
 use Rattle.ltl_passes.specs.Partition.{IsWithinStates, retargeted_list}
-use Rattle.ltl_passes.proofs.LabelLaws.{coded_retargeted, labelled_retargeted}
-use Rattle.ltl_passes.proofs.LabelledReach.{state_at_labelled}
+use Rattle.ltl_passes.proofs.LabelLaws.{coded_retargeted, labelled_names, labelled_retargeted}
+use Rattle.ltl_passes.proofs.LabelledReach.{labelled_length, state_at_labelled}
 use Rattle.ltl_passes.proofs.MergedLaws.{of_all}
 
 module _ (l : slices.Labels) where
@@ -62,3 +63,9 @@ pub coded_pushed : (t : Tables) (B C : Automaton) (accepting : Bool) (es : List 
 coded_pushed t B C accepting es e b c =
     let P : State → Type 0 = λ s. All (IsCoded t) s.edges in
     subst (AreCoded t) (sym e) (All-append P B.states (record { accepting = accepting; edges = es } ∷ []) b (All-cons P (record { accepting = accepting; edges = es }) [] c (All-nil P)))
+
+-- after merging, the classes have the names of those with numbers for labels
+pub labelled_classes : (t : Tables) (A : Automaton) (keep_equal : Bool) → AreTables t → AreCoded t A
+    → class_names A (cond keep_equal 0 (length A.states)) ≡ class_names (labelled t A) (cond keep_equal 0 (length (labelled t A).states))
+labelled_classes t A keep_equal a c =
+    sym (labelled_names t a A c (cond keep_equal 0 (length A.states))) ∙ ap (λ n. class_names (labelled t A) (cond keep_equal 0 n)) (sym (labelled_length t A))

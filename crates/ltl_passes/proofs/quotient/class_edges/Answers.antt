@@ -1,7 +1,7 @@
-use Rattle.std.proofs.Common.{◌≡◌, ◌∙◌, ap, subst, sym, map, List}
+use Rattle.std.proofs.Common.{◌≡◌, ◌∙◌, ap, subst, sym, map}
 use Rattle.std.specs.Prelude.{slice_index}
 use Rattle.std.proofs.lemmas.Result.{IfOk-weaker}
-use Rattle.ltl_spec.specs.Automata.Automaton.{Edge, edge_cmp}
+use Rattle.ltl_spec.specs.Automata.Automaton.{edge_cmp}
 use Rattle.ltl_spec.specs.Collections.Sets.{IsRising}
 use Rattle.ltl_spec.specs.Construction.Merging.{retargeted_edge, unimplied_edges}
 use Rattle.ltl_spec.proofs.Collections.Orders.{edge_linear}

@@ -50,9 +50,6 @@ accepting-requires g c =
     let e = c.requires.long in
     omega arith
 
-pub loop-class-init : goal.loop-class-init
-loop-class-init g c = ?
-
 pub loop-class-preserved : goal.loop-class-preserved
 loop-class-preserved g c =
     let A = automaton_of c.args.states.now in
