@@ -48,7 +48,13 @@ pub(crate) fn merged<'a, A: Allocator>(
     ensures coded { IfOk result (λ m. AreCoded (tables_of labels.now) (automaton_of m)) }
 {
     let names = names(alloc, states, options.keep_equal)?;
-    quotient(alloc, labels, states, names.as_slice(), options.keep_implied)
+    quotient(
+        alloc,
+        labels,
+        states,
+        names.as_slice(),
+        options.keep_implied,
+    )
 }
 
 /// The generalized automaton with equivalent states merged and without the transitions that another one with the same target implies. Each option turns one

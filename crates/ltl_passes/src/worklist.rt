@@ -5,8 +5,8 @@ ghost use Rattle.ltl_automaton.specs.SharedView.{automaton_of};
 ghost use Rattle.ltl_passes.specs.Partition.{IsWithinStates};
 ghost use Rattle.ltl_passes.specs.Worklist.{AreFiner, IsCoarser, IsMerger, IsOwner, LeadsInside};
 
-use crate::coded_edge::CodedEdge;
 use crate::classes::Classes;
+use crate::coded_edge::CodedEdge;
 use crate::owners::Owners;
 use crate::partition::least_places;
 use crate::queue::Queue;
