@@ -16,8 +16,10 @@ use Rattle.ltl_spec.proofs.Collections.SetLaws.{Has-filter, filter_cases, has_De
 use Rattle.ltl_sets.specs.Words.{forbidden_of, letter_of}
 use Rattle.ltl_sets.specs.declared.row_set.TheConstants.RowSet.{LIMIT}
 use Rattle.ltl_automaton.specs.EdgeView.{edge_of}
-use Rattle.ltl_automaton.specs.declared.edge.Edge as plain
+use Rattle.ltl_passes.specs.CodedEdges.{labelled_edge_of}
+use Rattle.ltl_passes.specs.declared.coded_edge.CodedEdge as coded
 use Rattle.ltl_passes.specs.declared.implied.RunEdge as made
+use Rattle.ltl_passes.specs.declared.labels.Labels as slices
 
 abbrev pub run_edge : made.RunEdge → Edge
 run_edge k = edge_of k.edge
@@ -25,9 +27,13 @@ run_edge k = edge_of k.edge
 abbrev pub target_of : made.RunEdge → ℕ
 target_of k = k.edge.target
 
--- these are the edges sorted by target
-pub record IsByTarget (es : List Edge) (ks : List made.RunEdge) : Type 0 where
-  pub moved : IsPermutation es (map run_edge ks)
+abbrev pub code_of : made.RunEdge → coded.CodedEdge
+code_of k = k.coded
+
+-- these are the edges sorted by target, each with its labels
+pub record IsByTarget (l : slices.Labels) (es : List coded.CodedEdge) (ks : List made.RunEdge) : Type 0 where
+  pub moved : IsPermutation es (map code_of ks)
+  pub labelled : All (λ k. run_edge k ≡ labelled_edge_of l (code_of k)) ks
   pub sorted : IsNonDecreasingBy target_of ks
 
 -- all edges lead to this target
@@ -40,27 +46,35 @@ pub record IsOfWeight (w : ℕ) (e : Edge) : Type 0 where
   pub sets : IsSetEdge e
   pub few : length e.marks ≤ LIMIT
 
-abbrev pub edge_at : List plain.Edge → ℕ → plain.Edge
-edge_at es k = slice_index_or es k (record { cube = []; target = 0; marks = [] })
+abbrev pub edge_at : List coded.CodedEdge → ℕ → coded.CodedEdge
+edge_at es k = slice_index_or es k (record { cube = 0; marks = 0; target = 0 })
 
-abbrev pub target_at : List plain.Edge → ℕ → ℕ
+abbrev pub target_at : List coded.CodedEdge → ℕ → ℕ
 target_at es k = (edge_at es k).target
 
 -- the edge at index f has the target of the one at index k; f is the noted index if the edge there has it too
-pub record IsFirstLike (es : List plain.Edge) (k noted f : ℕ) : Type 0 where
+pub record IsFirstLike (es : List coded.CodedEdge) (k noted f : ℕ) : Type 0 where
   pub low : f ≤ k
   pub same : target_at es f ≡ target_at es k
   pub stays : noted < k → target_at es noted ≡ target_at es k → f ≡ noted
 
 -- the indices are equal, or the edges have the same weight
-abbrev pub IsWeighedLike : List plain.Edge → ℕ → ℕ → Type 0
-IsWeighedLike es f k = (f ≡ k) ⊎ ((w : ℕ) × IsOfWeight w (edge_of (edge_at es f)) × IsOfWeight w (edge_of (edge_at es k)))
+abbrev pub IsWeighedLike : slices.Labels → List coded.CodedEdge → ℕ → ℕ → Type 0
+IsWeighedLike l es f k = (f ≡ k) ⊎ ((w : ℕ) × IsOfWeight w (labelled_edge_of l (edge_at es f)) × IsOfWeight w (labelled_edge_of l (edge_at es k)))
+
+-- no other edge of the list implies this one
+abbrev pub is_left : List Edge → Edge → Bool
+is_left es e = not (list_any (λ f. implies_other f e) es)
+
+-- those of a run that no other one implies
+abbrev pub left_of : List made.RunEdge → List made.RunEdge
+left_of ks = filter (λ k. is_left (map run_edge ks) (run_edge k)) ks
 
 -- these are the edges that no other one implies, sorted by target only
-pub record IsKept (es : List Edge) (left : List plain.Edge) : Type 0 where
+pub record IsKept (l : slices.Labels) (es left : List coded.CodedEdge) : Type 0 where
   pub order : List made.RunEdge
-  pub moved : IsPermutation es (map run_edge order)
-  pub kept : map edge_of left ≡ filter (λ e. not (list_any (λ f. implies_other f e) es)) (map run_edge order)
+  pub by_target : IsByTarget l es order
+  pub kept : left ≡ map code_of (filter (λ k. is_left (map (labelled_edge_of l) es) (run_edge k)) order)
 
 -- if both edges have one target, k implies l
 abbrev pub is_below : made.RunEdge → made.RunEdge → Bool

@@ -10,7 +10,7 @@ ghost use Rattle.ltl_spec.specs.Construction.Merging as merging;
 ghost use Rattle.ltl_automaton.specs.EdgeView.{edge_of};
 ghost use Rattle.ltl_passes.specs.CodedEdges.{HaveLabels, coded_edge_of, labelled_edge_of, tables_of};
 ghost use Rattle.ltl_passes.specs.Labels.{AreTables};
-ghost use Rattle.ltl_passes.specs.Runs.{AllLeadTo, IsByTarget, IsFirstLike, IsKept, IsOfWeight, IsWeighedLike, run_edge, target_of};
+ghost use Rattle.ltl_passes.specs.Runs.{AllLeadTo, IsByTarget, IsFirstLike, IsKept, IsOfWeight, IsWeighedLike, code_of, left_of, run_edge, target_of};
 
 use crate::coded_edge::CodedEdge;
 use crate::labels::Labels;
@@ -153,7 +153,7 @@ fn put_all<'a, A: Allocator>(
     run: &[RunEdge],
     kept: &mut Vec<CodedEdge, &'a A>,
 ) -> Result<(), AllocError>
-    ensures { OnOk result (map edge_of kept.new.items ≡ map edge_of kept.old.items ++ map run_edge run.now) }
+    ensures { OnOk result (kept.new.items ≡ kept.old.items ++ map code_of run.now) }
 {
     for item in run {
         kept.push(item.coded)?;
@@ -169,7 +169,7 @@ fn put_least<'a, A: Allocator>(
     kept: &mut Vec<CodedEdge, &'a A>,
 ) -> Result<(), AllocError>
     requires { AllLeadTo (target_of first.now) run.now }
-    ensures { OnOk result (map edge_of kept.new.items ≡ map edge_of kept.old.items ++ merging.unimplied_edges (map run_edge run.now)) }
+    ensures { OnOk result (kept.new.items ≡ kept.old.items ++ map code_of (left_of run.now)) }
 {
     if weigh_alike(run, weight(&first.edge)) {
         return put_all(run, kept);
@@ -224,7 +224,7 @@ fn least_of_runs<'a, A: Allocator>(
     labels: &Labels<'_>,
     edges: &[CodedEdge],
 ) -> Result<Vec<CodedEdge, &'a A>, AllocError>
-    ensures { IfOk result (λ es. IsKept (map edge_of edges.now) es.items) }
+    ensures { IfOk result (λ es. IsKept labels.now edges.now es.items) }
 {
     let order = by_target(alloc, labels, edges)?;
     let mut kept = Vec::new(alloc);

@@ -5,5 +5,5 @@ use Rattle.ltl_passes.proofs.implied.are_alike.Given as goal
 abbrev pub invariant-loop-place : goal.invariant-loop-place
 invariant-loop-place l = record {
   wide : length l.noted ≡ length l.initial.noted;
-  noted : AreNoted l.edges l.noted l.place;
+  noted : AreNoted l.labels l.edges l.noted l.place;
 }

@@ -1,8 +1,11 @@
-use Rattle.std.proofs.Common.{◌≡◌, take}
-use Rattle.std.specs.Prelude.{map}
-use Rattle.ltl_automaton.specs.EdgeView.{edge_of}
-use Rattle.ltl_passes.specs.Runs.{run_edge}
+use Rattle.std.proofs.Common.{◌≡◌, map, take}
+use Rattle.std.specs.Prelude.{All}
+use Rattle.ltl_passes.specs.CodedEdges.{labelled_edge_of}
+use Rattle.ltl_passes.specs.Runs.{code_of, run_edge}
 use Rattle.ltl_passes.proofs.implied.by_target.Given as goal
 
 abbrev pub invariant-loop-edge : goal.invariant-loop-edge
-invariant-loop-edge g l = map run_edge l.order.items ≡ map edge_of (take l.edge-index l.edges)
+invariant-loop-edge g l = record {
+  codes : map code_of l.order.items ≡ take l.edge-index l.edges;
+  labelled : All (λ k. run_edge k ≡ labelled_edge_of l.labels (code_of k)) l.order.items;
+}
