@@ -6,7 +6,7 @@ use Rattle.std.specs.List.Sorted.{IsPermutation, IsNonDecreasingBy}
 use Rattle.std.specs.Ordering.{nat_cmp}
 use Rattle.std.proofs.lemmas.Bool.Decides.{same_from_decides}
 use Rattle.std.proofs.lemmas.List.{append-nil, append_assoc, length-drop, length-map, map-append, take-append-drop, get_or-set_same, get_or-set_other}
-use Rattle.std.proofs.lemmas.List.Elements.{filter-append}
+use Rattle.std.proofs.lemmas.List.Elements.{All-push, filter-append}
 use Rattle.std.proofs.lemmas.List.Sums.{prefix_len_is}
 use Rattle.std.proofs.lemmas.List.Sorted.{Contains-permutation, IsPermutation-sym, IsNonDecreasingBy-drop, IsPermutation-map, length_permutation}
 use Rattle.ltl_spec.specs.Collections.Sets.{Has, IsRising, has, is_subset, set_of}
@@ -514,6 +514,12 @@ noted_stay labels es noted all = all_stay (map (labelled_edge_of labels) es) (λ
 pub ordered_next : (order more : List made.RunEdge) (taken more_taken : List coded.CodedEdge) (k : made.RunEdge) (e : coded.CodedEdge) → map code_of order ≡ taken → code_of k ≡ e → more ≡ order ++ k ∷ []
     → more_taken ≡ taken ++ e ∷ [] → map code_of more ≡ more_taken
 ordered_next order more taken more_taken k e w c m t = map_pushed code_of order more k m ∙ (λ i. w i ++ c i ∷ []) ∙ sym t
+
+pub labelled_next : (l : slices.Labels) (order more : List made.RunEdge) (k : made.RunEdge) → All (λ k. run_edge k ≡ labelled_edge_of l (code_of k)) order → run_edge k ≡ labelled_edge_of l (code_of k)
+    → more ≡ order ++ k ∷ [] → All (λ k. run_edge k ≡ labelled_edge_of l (code_of k)) more
+labelled_next l order more k all e m =
+    let P : made.RunEdge → Type 0 = λ k. run_edge k ≡ labelled_edge_of l (code_of k) in
+    subst (All P) (sym m) (All-push P order k all e)
 
 pub ordered : (l : slices.Labels) (es : List coded.CodedEdge) (order sorted : List made.RunEdge) → map code_of order ≡ es → All (λ k. run_edge k ≡ labelled_edge_of l (code_of k)) order → IsPermutation order sorted
     → IsNonDecreasingBy target_of sorted → IsByTarget l es sorted

@@ -96,13 +96,15 @@ abbrev pub is_lacked : made.RunEdge → ℕ → ℕ → Bool
 is_lacked k kind e = nat_eq kind 0 && not (has nat_cmp e k.edge.marks)
 
 -- the propositions of those literals of a cube that pass are among those of a larger one
-propositions_grow : (p : Literal → Bool) (c d : Cube) (e : ℕ) → ((l : Literal) → Has c l → Has d l) → Has (map (λ l. l.proposition) (filter p c)) e → Has (map (λ l. l.proposition) (filter p d)) e
+propositions_grow : (p : Literal → Bool) (c d : Cube) (e : ℕ) → ((l : Literal) → Has c l → Has d l)
+    → Has (map (λ l. l.proposition) (filter p c)) e → Has (map (λ l. l.proposition) (filter p d)) e
 propositions_grow p c d e f h =
     let (l, m, s) = map_cases (λ (l : Literal). l.proposition) (filter p c) e h in
     let (n, t) = filter_cases p c l m in
     subst (λ x. Has (map (λ l. l.proposition) (filter p d)) x) (sym s) (Has-map (λ (l : Literal). l.proposition) (filter p d) l (Has-filter p d l (f l n) t))
 
-by_kind : (b c : Bool) (xs ys zs us : List ℕ) (e : ℕ) → (Has xs e → Has zs e) → (Has ys e → Has us e) → Has (cond b xs (cond c ys [])) e → Has (cond b zs (cond c us [])) e
+by_kind : (b c : Bool) (xs ys zs us : List ℕ) (e : ℕ) → (Has xs e → Has zs e) → (Has ys e → Has us e)
+    → Has (cond b xs (cond c ys [])) e → Has (cond b zs (cond c us [])) e
 by_kind true c xs ys zs us e f g h = f h
 by_kind false true xs ys zs us e f g h = g h
 by_kind false false xs ys zs us e f g h = h
@@ -110,7 +112,8 @@ by_kind false false xs ys zs us e f g h = h
 pub below_needed : (k l : made.RunEdge) (kind e : ℕ) → is_below k l ≡ true → Has (elements_needed k kind) e → Has (elements_needed l kind) e
 below_needed k l kind e b =
     let within = (is_subset_Decides literal_linear k.edge.cube l.edge.cube).0 (left_true _ _ b) in
-    by_kind (nat_eq kind 0) (nat_eq kind 1) _ _ _ _ e (propositions_grow (λ m. m.positive) k.edge.cube l.edge.cube e within) (propositions_grow (λ m. not m.positive) k.edge.cube l.edge.cube e within)
+    by_kind (nat_eq kind 0) (nat_eq kind 1) _ _ _ _ e (propositions_grow (λ m. m.positive) k.edge.cube l.edge.cube e within)
+    (propositions_grow (λ m. not m.positive) k.edge.cube l.edge.cube e within)
 
 not_lacked : (b c : Bool) (xs : List ℕ) (e : ℕ) → (Has xs e → c ≡ true) → Has (cond b xs []) e → (b && not c) ≡ false
 not_lacked true c xs e f h = ap not (f h)
@@ -118,4 +121,5 @@ not_lacked false c xs e f h = refl
 
 pub below_asked : (k l : made.RunEdge) (kind e : ℕ) → is_below k l ≡ true → Has (elements_asked l kind) e → is_lacked k kind e ≡ false
 below_asked k l kind e b =
-    not_lacked (nat_eq kind 0) (has nat_cmp e k.edge.marks) l.edge.marks e (λ h. (has_Decides nat_linear e k.edge.marks).1 ((is_subset_Decides nat_linear l.edge.marks k.edge.marks).0 (right_true _ _ b) e h))
+    not_lacked (nat_eq kind 0) (has nat_cmp e k.edge.marks) l.edge.marks e
+    (λ h. (has_Decides nat_linear e k.edge.marks).1 ((is_subset_Decides nat_linear l.edge.marks k.edge.marks).0 (right_true _ _ b) e h))

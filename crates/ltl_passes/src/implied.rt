@@ -249,7 +249,8 @@ pub(crate) fn unimplied<'a, A: Allocator>(
     requires rising { IsRising edge_cmp (map coded_edge_of edges.items) }
     requires within { All (λ e. e.target < length noted.old) edges.items }
     ensures wide { length noted.new ≡ length noted.old }
-    ensures edges { IfOk result (λ es. map (labelled_edge_of labels.now) es.items ≡ merging.unimplied_edges (map (labelled_edge_of labels.now) edges.entry.items)) }
+    ensures edges { IfOk result (λ es. map (labelled_edge_of labels.now) es.items
+        ≡ merging.unimplied_edges (map (labelled_edge_of labels.now) edges.entry.items)) }
     ensures coded { IfOk result (λ es. HaveLabels labels.now es.items) }
 {
     if are_alike(labels, edges.as_slice(), noted) {

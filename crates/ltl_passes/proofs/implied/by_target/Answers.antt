@@ -1,24 +1,20 @@
-use Rattle.std.proofs.Common.{rules, refl, subst, sym, take, ◌≡◌, ◌∙◌}
-use Rattle.std.specs.Prelude.{All}
+use Rattle.std.proofs.Common.{rules, refl, take, ◌∙◌}
 use Rattle.std.proofs.lemmas.List.{take_more}
-use Rattle.std.proofs.lemmas.List.Elements.{All-push}
 use Rattle.std.proofs.lemmas.List.Sorted.{IsNonDecreasingBy-from_sort_by_key}
 use Rattle.ltl_automaton.proofs.WayLaws.{take_whole}
-use Rattle.ltl_passes.specs.CodedEdges.{labelled_edge_of}
 use Rattle.ltl_passes.specs.declared.implied.RunEdge as made
-use Rattle.ltl_passes.specs.Runs.{code_of, edge_at, run_edge, target_of}
-use Rattle.ltl_passes.proofs.RunLaws.{ordered, ordered_next}
+use Rattle.ltl_passes.specs.Runs.{edge_at, target_of}
+use Rattle.ltl_passes.proofs.RunLaws.{labelled_next, ordered, ordered_next}
 use Rattle.ltl_passes.proofs.implied.by_target.Goals as goal
 
 pub loop-edge-preserved : goal.loop-edge-preserved
 loop-edge-preserved g c =
-    let P : made.RunEdge → Type 0 = λ k. run_edge k ≡ labelled_edge_of c.args.labels.now (code_of k) in
     let coded = edge_at c.args.edges.now c.loop-edge.edge-index in
     let taken = take_more c.args.edges.now c.loop-edge.edge-index _ c.loop-edge-test.true in
     let item : made.RunEdge = record { edge = c.edge.result; coded = coded } in
     record {
       codes = ordered_next c.loop-edge.order.items c.push.new.self.items (take c.loop-edge.edge-index c.args.edges.now) _ item coded c.loop-edge.invariant.codes refl c.in_ok-push.ensures.items taken;
-      labelled = subst (All P) (sym c.in_ok-push.ensures.items) (All-push P c.loop-edge.order.items item c.loop-edge.invariant.labelled c.edge.ensures);
+      labelled = labelled_next c.args.labels.now c.loop-edge.order.items c.push.new.self.items item c.loop-edge.invariant.labelled c.edge.ensures c.in_ok-push.ensures.items;
     }
 
 pub returns : goal.returns
