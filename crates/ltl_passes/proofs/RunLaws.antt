@@ -85,6 +85,7 @@ run_test : (t : ℕ) (k l : made.RunEdge) → target_of k ≡ t → target_of l 
 run_test t k l e f =
     sym (ap (λ b. is_other k l && (b && is_subset literal_cmp k.edge.cube l.edge.cube && is_subset nat_cmp l.edge.marks k.edge.marks)) (nat_eq_same (target_of k) (target_of l) (e ∙ sym f)))
 
+-- tests that agree on the items of a list and on their edges find alike
 any_same : (p : made.RunEdge → Bool) (q : Edge → Bool) (ks : List made.RunEdge) → ((k : made.RunEdge) → Has ks k → p k ≡ q (run_edge k)) → list_any p ks ≡ list_any q (map run_edge ks)
 any_same p q [] h = refl
 any_same p q (k ∷ ks) h = λ i. h k (inl refl) i || any_same p q ks (λ l m. h l (inr m)) i
@@ -511,16 +512,19 @@ noted_stay labels es noted all = all_stay (map (labelled_edge_of labels) es) (λ
 
 -- ---- the steps of the code
 
+-- one more item: its code
 pub ordered_next : (order more : List made.RunEdge) (taken more_taken : List coded.CodedEdge) (k : made.RunEdge) (e : coded.CodedEdge) → map code_of order ≡ taken → code_of k ≡ e → more ≡ order ++ k ∷ []
     → more_taken ≡ taken ++ e ∷ [] → map code_of more ≡ more_taken
 ordered_next order more taken more_taken k e w c m t = map_pushed code_of order more k m ∙ (λ i. w i ++ c i ∷ []) ∙ sym t
 
+-- one more item: its labels
 pub labelled_next : (l : slices.Labels) (order more : List made.RunEdge) (k : made.RunEdge) → All (λ k. run_edge k ≡ labelled_edge_of l (code_of k)) order → run_edge k ≡ labelled_edge_of l (code_of k)
     → more ≡ order ++ k ∷ [] → All (λ k. run_edge k ≡ labelled_edge_of l (code_of k)) more
 labelled_next l order more k all e m =
     let P : made.RunEdge → Type 0 = λ k. run_edge k ≡ labelled_edge_of l (code_of k) in
     subst (All P) (sym m) (All-push P order k all e)
 
+-- the items in another order
 pub ordered : (l : slices.Labels) (es : List coded.CodedEdge) (order sorted : List made.RunEdge) → map code_of order ≡ es → All (λ k. run_edge k ≡ labelled_edge_of l (code_of k)) order → IsPermutation order sorted
     → IsNonDecreasingBy target_of sorted → IsByTarget l es sorted
 ordered l es order sorted w all p s = record {
@@ -531,6 +535,7 @@ ordered l es order sorted w all p s = record {
   sorted = s;
 }
 
+-- one more code that is kept
 pub put_next : (old kept more : List coded.CodedEdge) (taken more_taken : List made.RunEdge) (k : made.RunEdge) → kept ≡ old ++ map code_of taken → more ≡ kept ++ code_of k ∷ [] → more_taken ≡ taken ++ k ∷ []
     → more ≡ old ++ map code_of more_taken
 put_next old kept more taken more_taken k w m t =
