@@ -22,34 +22,38 @@ use Rattle.ltl_spec.proofs.Automata.NetLaws.{limits_alike, reachable_alike, stat
 use Rattle.ltl_spec.proofs.Construction.LevelRuns.{same_level_state_Decides, complete_copies}
 use Rattle.ltl_spec.proofs.Semantics.Runs.{IsClosed}
 use Rattle.ltl_automaton.specs.Bounds.{IsBounded}
-use Rattle.ltl_automaton.specs.Net.{moves_of}
-
-use Rattle.ltl_automaton.specs.declared.edge.Edge as plain
+use Rattle.ltl_automaton.specs.Net.{Move, moves_of}
 use Rattle.ltl_automaton.proofs.EdgeLaws.{map_pushed}
 use Rattle.ltl_models.specs.GbaView as gba
 use Rattle.ltl_models.specs.BaView.{IsBa, IsPlain, IsReached}
-use Rattle.ltl_passes.specs.Degeneralize.{successor_of, level_edge_of, level_net, lifted_edge}
+use Rattle.ltl_passes.specs.CodedEdges.{coded_edge_of}
+use Rattle.ltl_passes.specs.Degeneralize.{successor_of, level_edge_of, level_net, coded_level_edge, coded_successor, coded_level_net}
+use Rattle.ltl_passes.specs.Labels.{Tables, AreTables, AreCoded, labelled}
+use Rattle.ltl_passes.specs.declared.coded_edge.CodedEdge as coded
 use Rattle.ltl_passes.specs.declared.degeneralize.LevelEdge as code
+use Rattle.ltl_passes.proofs.LabelledPasses.{bounded_labelled}
+use Rattle.ltl_passes.proofs.LabelledReach.{levels_labelled, levels_limits}
 use Rattle.ltl_passes.proofs.MergedLaws.{gba_within, of_all}
 use Rattle.ltl_passes.proofs.ReachedLaws.{listed_reached}
 use Rattle.ltl_passes.proofs.TargetLaws.{closed_within}
 
 -- one more edge of a copy
-pub lifted_next : (sets level : ℕ) (made more_made : List code.LevelEdge) (x : code.LevelEdge) (taken more_taken : List plain.Edge) (e : plain.Edge) → map level_edge_of made ≡ map (lifted_edge sets level) (map gba.edge_of taken)
-    → level_edge_of x ≡ lifted_edge sets level (gba.edge_of e) → more_made ≡ made ++ x ∷ [] → more_taken ≡ taken ++ e ∷ [] → map level_edge_of more_made ≡ map (lifted_edge sets level) (map gba.edge_of more_taken)
-lifted_next sets level made more_made x taken more_taken e w p q t =
-    map_pushed level_edge_of made more_made x q ∙ ap (λ l. l ++ level_edge_of x ∷ []) w ∙ ap (λ y. map (lifted_edge sets level) (map gba.edge_of taken) ++ y ∷ []) p
-    ∙ sym (map_pushed (lifted_edge sets level) (map gba.edge_of taken) (map gba.edge_of more_taken) (gba.edge_of e) (map_pushed gba.edge_of taken more_taken e t))
+pub coded_next : (t : Tables) (sets level : ℕ) (made more_made : List code.LevelEdge) (x : code.LevelEdge) (taken more_taken : List coded.CodedEdge) (e : coded.CodedEdge)
+    → map level_edge_of made ≡ map (coded_level_edge t sets level) (map coded_edge_of taken) → level_edge_of x ≡ coded_level_edge t sets level (coded_edge_of e) → more_made ≡ made ++ x ∷ [] → more_taken ≡ taken ++ e ∷ []
+    → map level_edge_of more_made ≡ map (coded_level_edge t sets level) (map coded_edge_of more_taken)
+coded_next t sets level made more_made x taken more_taken e w p q r =
+    map_pushed level_edge_of made more_made x q ∙ ap (λ l. l ++ level_edge_of x ∷ []) w ∙ ap (λ y. map (coded_level_edge t sets level) (map coded_edge_of taken) ++ y ∷ []) p
+    ∙ sym (map_pushed (coded_level_edge t sets level) (map coded_edge_of taken) (map coded_edge_of more_taken) (coded_edge_of e) (map_pushed coded_edge_of taken more_taken e r))
 
 -- a state past the end has no copies
-pub no_successors_past : (A : Automaton) (p : LevelState) → length A.states ≤ p.state → [] ≡ map successor_of (level_edges A p)
-no_successors_past A p l = ap (λ (t : State). map successor_of (set_of level_edge_cmp (map (level_edge A p.level) t.edges))) (sym (get_or_past A.states p.state (record { accepting = true; edges = [] }) l))
+pub no_successors_past : (t : Tables) (A : Automaton) (p : LevelState) → length A.states ≤ p.state → [] ≡ (coded_level_net t A).successors p
+no_successors_past t A p l =
+    ap (λ (s : State). map coded_successor (set_of level_edge_cmp (map (coded_level_edge t A.sets p.level) s.edges))) (sym (get_or_past A.states p.state (record { accepting = true; edges = [] }) l))
 
 -- the edges of a copy, as the code makes them
-pub made_successors : (A : Automaton) (sets : ℕ) (p : LevelState) (edges : List plain.Edge) (xs : List (Move LevelState)) → sets ≡ A.sets → map gba.edge_of edges ≡ (state_at A p.state).edges
-    → xs ≡ map successor_of (set_of level_edge_cmp (map (lifted_edge sets p.level) (map gba.edge_of edges))) → xs ≡ map successor_of (level_edges A p)
-made_successors A sets p edges xs n e h =
-    h ∙ ap (map successor_of) (ap (λ m. set_of level_edge_cmp (map (lifted_edge m p.level) (map gba.edge_of edges))) n ∙ ap (λ es. set_of level_edge_cmp (map (lifted_edge A.sets p.level) es)) e)
+pub made_successors : (t : Tables) (A : Automaton) (sets : ℕ) (p : LevelState) (edges : List coded.CodedEdge) (xs : List (Move LevelState)) → sets ≡ A.sets → map coded_edge_of edges ≡ (state_at A p.state).edges
+    → xs ≡ map coded_successor (set_of level_edge_cmp (map (coded_level_edge t sets p.level) (map coded_edge_of edges))) → xs ≡ (coded_level_net t A).successors p
+made_successors t A sets p edges xs n e h = h ∙ (λ i. map coded_successor (set_of level_edge_cmp (map (coded_level_edge t (n i) p.level) (e i))))
 
 module _ (A : Automaton) where
   abbrev net : Net LevelState LevelEdge
@@ -125,3 +129,18 @@ module _ (A : Automaton) where
       reached = subst (λ (X : Automaton). (s : ℕ) → s < length X.states → IsReached X s) (sym way.2)
           (listed_reached same_level_state same_level_state_Decides (targets_of net) start_copy copy_state 0 n (let e = way.1 in omega arith) has_edge);
     }
+
+-- the copies that were listed with numbers for labels are, with the labels, those of the automaton with the labels
+module _ (t : Tables) (a : AreTables t) (A : Automaton) (c : AreCoded t A) where
+  pub coded_too_large : PassesLimits same_level_state (targets_of (moves_of (coded_level_net t A))) start_copy stated_limits.states stated_limits.edges → HasTooManyLevelStates (labelled t A) stated_limits.states stated_limits.edges
+  coded_too_large p = is_too_large (labelled t A) (subst (λ (P : ℕ → ℕ → Type 0). P stated_limits.states stated_limits.edges) (sym (levels_limits t a A c)) p)
+
+  pub coded_not_too_large : ¬ (PassesLimits same_level_state (targets_of (moves_of (coded_level_net t A))) start_copy stated_limits.states stated_limits.edges) → ¬ (HasTooManyLevelStates (labelled t A) stated_limits.states stated_limits.edges)
+  coded_not_too_large n = is_not_too_large (labelled t A) (subst (λ (P : ℕ → ℕ → Type 0). ¬ (P stated_limits.states stated_limits.edges)) (sym (levels_limits t a A c)) n)
+
+  module _ (inside : gba.IsGba (labelled t A)) (B : Automaton) (w : IsReachable same_level_state true (moves_of (coded_level_net t A)) start_copy 0 B) where
+    pub coded_leveled : labelled t B ≡ level_automaton (labelled t A)
+    coded_leveled = is_leveled (labelled t A) inside (labelled t B) (levels_labelled t a A c B w)
+
+    pub coded_ba : IsBounded stated_limits.states stated_limits.edges B → IsBa (labelled t B)
+    coded_ba b = is_ba (labelled t A) inside (labelled t B) (levels_labelled t a A c B w) (bounded_labelled t B stated_limits.states stated_limits.edges b)

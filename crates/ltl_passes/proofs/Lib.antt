@@ -4,6 +4,7 @@ pub mod LevelStateLaws
 pub mod LabelLaws
 pub mod LabelledReach
 pub mod CodedListLaws
+pub mod LabelledPasses
 pub mod FirstRoundLaws
 pub mod WithinLaws
 pub mod FinerLaws
