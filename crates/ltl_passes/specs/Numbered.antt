@@ -6,7 +6,6 @@ use Rattle.ltl_spec.specs.Tools.Limits.{stated_limits}
 use Rattle.ltl_automaton.specs.Bounds.{IsBounded}
 use Rattle.ltl_automaton.specs.Net.{Net, Move}
 
-
 abbrev pub successor_of : Edge → Move ℕ
 successor_of e = record { cube = e.cube; key = e.target; marks = e.marks }
 

@@ -102,7 +102,7 @@ impl Key for LevelState {
     ghost exact = { λ p q. (same_level_state_Decides p q).0 };
 }
 
-/// An edge to a copy, without marks.
+/// An edge to a copy, without marks. Its cube is a number in the table.
 #[derive(Clone, Copy, PartialEq, Eq)]
 pub(crate) struct LevelEdge {
     pub cube: u32,
@@ -114,7 +114,7 @@ impl ListOrder for LevelEdge {
 
     ghost order = { λ e f. levels_of.level_edge_cmp (level_edge_of e) (level_edge_of f) };
 
-    /// Compares by the literals, then by the state, then by the level.
+    /// Compares by the number of the cube, then by the state, then by the level.
     #[inline(always)]
     fn cmp_list(&self, other: &LevelEdge) -> Ordering {
         match self.cube.cmp(&other.cube) {
