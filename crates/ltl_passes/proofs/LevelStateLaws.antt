@@ -66,10 +66,10 @@ module _ (A : Automaton) where
   same_limits : PassesLimits same_level_state (targets_of (moves_of (level_net A))) start_copy ≡ HasTooManyLevelStates A
   same_limits = limits_alike same_level_state net (moves_of (level_net A)) successor_of (λ p. refl) (λ e. refl) (λ e n. refl) (λ p. refl) start_copy
 
-  pub is_too_large : PassesLimits same_level_state (targets_of (moves_of (level_net A))) start_copy stated_limits.states stated_limits.edges → HasTooManyLevelStates A stated_limits.states stated_limits.edges
+  is_too_large : PassesLimits same_level_state (targets_of (moves_of (level_net A))) start_copy stated_limits.states stated_limits.edges → HasTooManyLevelStates A stated_limits.states stated_limits.edges
   is_too_large = subst (λ (P : ℕ → ℕ → Type 0). P stated_limits.states stated_limits.edges) same_limits
 
-  pub is_not_too_large : ¬ (PassesLimits same_level_state (targets_of (moves_of (level_net A))) start_copy stated_limits.states stated_limits.edges) → ¬ (HasTooManyLevelStates A stated_limits.states stated_limits.edges)
+  is_not_too_large : ¬ (PassesLimits same_level_state (targets_of (moves_of (level_net A))) start_copy stated_limits.states stated_limits.edges) → ¬ (HasTooManyLevelStates A stated_limits.states stated_limits.edges)
   is_not_too_large = subst (λ (P : ℕ → ℕ → Type 0). ¬ (P stated_limits.states stated_limits.edges)) same_limits
 
   module _ (inside : gba.IsGba A) (B : Automaton) (w : IsReachable same_level_state true (moves_of (level_net A)) start_copy 0 B) where
@@ -85,7 +85,7 @@ module _ (A : Automaton) where
     abbrev listed : List LevelState
     listed = listing same_level_state (targets_of net) start_copy n
 
-    pub is_leveled : B ≡ level_automaton A
+    is_leveled : B ≡ level_automaton A
     is_leveled = way.2 ∙ ap (λ ks. let X : Automaton = record { sets = 0; states = map (copy_state ks) ks } in X) (complete_copies A closed n way.1)
 
     -- what holds of each state
@@ -113,7 +113,7 @@ module _ (A : Automaton) where
     is_plain : IsPlain B
     is_plain = each (λ s. All (λ e. e.marks ≡ []) s.edges) (λ p. All-from_has (λ (e : Edge). e.marks ≡ []) (copy_state listed p).edges (unmarked p))
 
-    pub is_ba : IsBounded stated_limits.states stated_limits.edges B → IsBa B
+    is_ba : IsBounded stated_limits.states stated_limits.edges B → IsBa B
     is_ba b = record {
       no_sets = ap (λ (X : Automaton). X.sets) way.2;
       some = b.some;

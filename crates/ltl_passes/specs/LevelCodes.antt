@@ -14,7 +14,9 @@ level_state_code = code_by (ℕ × ℕ) (coded× coded_ℕ coded_ℕ) (λ p. (p.
 pub same_equiv : IsEquivalence same_level_state
 same_equiv = record {
   refl = λ p. (same_level_state_Decides p p).1 refl;
-  symm = λ p q. same_from_decides (same_level_state p q) (same_level_state q p) (same_level_state_Decides p q) ((λ e. sym ((same_level_state_Decides q p).0 e)), λ e. (same_level_state_Decides q p).1 (sym e));
+  symm = λ p q.
+      let back = same_level_state_Decides q p in
+      same_from_decides (same_level_state p q) (same_level_state q p) (same_level_state_Decides p q) ((λ e. sym (back.0 e)), λ e. back.1 (sym e));
   congr = λ p q r e. ap (λ x. same_level_state x r) ((same_level_state_Decides p q).0 e);
 }
 

@@ -27,7 +27,10 @@ level_edge_Decides e f = (
       let c = (Decides-eqb e.cube f.cube).0 (first_so _ _ t) in
       let p = (same_level_state_Decides e.copy f.copy).0 (second_so (nat_eq e.cube f.cube) _ t) in
       λ i. let g : code.LevelEdge = record { cube = c i; copy = p i } in g),
-  (λ h. both _ _ ((Decides-eqb e.cube f.cube).1 (ap (λ (g : code.LevelEdge). g.cube) h)) ((same_level_state_Decides e.copy f.copy).1 (ap (λ (g : code.LevelEdge). g.copy) h))),
+  (λ h.
+      let c = (Decides-eqb e.cube f.cube).1 (ap (λ (g : code.LevelEdge). g.cube) h) in
+      let p = (same_level_state_Decides e.copy f.copy).1 (ap (λ (g : code.LevelEdge). g.copy) h) in
+      both _ _ c p),
 )
   where
     both : (a b : Bool) → a ≡ true → b ≡ true → (a && b) ≡ true
@@ -35,8 +38,12 @@ level_edge_Decides e f = (
 
 -- the comparison of the code
 pub level_edge_linear_by_view : IsLinearOrder (λ (e f : code.LevelEdge). level_edge_cmp (level_edge_of e) (level_edge_of f))
-level_edge_linear_by_view = record { total = on_total level_edge_of level_edge_linear.total; exact = λ e f h. level_edge_exact e f (level_edge_linear.exact (level_edge_of e) (level_edge_of f) h) }
+level_edge_linear_by_view = record {
+  total = on_total level_edge_of level_edge_linear.total;
+  exact = λ e f h. level_edge_exact e f (level_edge_linear.exact (level_edge_of e) (level_edge_of f) h);
+}
 
 -- sorted edges without duplicates, as edges of the definitions
-pub level_edges_set : (es fs : List code.LevelEdge) → es ≡ set_of (λ (e f : code.LevelEdge). level_edge_cmp (level_edge_of e) (level_edge_of f)) fs → map level_edge_of es ≡ set_of level_edge_cmp (map level_edge_of fs)
+pub level_edges_set : (es fs : List code.LevelEdge) → es ≡ set_of (λ (e f : code.LevelEdge). level_edge_cmp (level_edge_of e) (level_edge_of f)) fs
+    → map level_edge_of es ≡ set_of level_edge_cmp (map level_edge_of fs)
 level_edges_set es fs h = ap (map level_edge_of) h ∙ set_of_keys level_edge_cmp level_edge_of fs

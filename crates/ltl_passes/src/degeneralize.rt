@@ -235,13 +235,7 @@ impl<'l, 'b, 'g, A: Allocator> Successors<LevelState, CodedEdge> for LevelStates
         let states = self.states;
         if key.state < states.len() {
             let edges = states.edges(key.state);
-            Ok(level_successors(
-                alloc,
-                &self.labels,
-                states.sets(),
-                edges,
-                key.level,
-            )?)
+            Ok(level_successors(alloc, &self.labels, states.sets(), edges, key.level)?)
         } else {
             Ok(Vec::new(alloc))
         }
@@ -258,13 +252,16 @@ pub(crate) fn level_states<'a, A: Allocator>(
     requires tables { AreTables (tables_of labels.now) }
     requires coded { AreCoded (tables_of labels.now) (automaton_of states.now) }
     requires inside { gba.IsGba (labelled (tables_of labels.now) (automaton_of states.now)) }
-    ensures copies { IfOk result (λ s. labelled (tables_of labels.now) (automaton_of s) ≡ levels_of.level_automaton (labelled (tables_of labels.now) (automaton_of states.now))) }
+    ensures copies { IfOk result (λ s. labelled (tables_of labels.now) (automaton_of s)
+        ≡ levels_of.level_automaton (labelled (tables_of labels.now) (automaton_of states.now))) }
     ensures coded { IfOk result (λ s. AreCoded (tables_of labels.now) (automaton_of s)) }
     ensures inside { IfOk result (λ s. IsBa (labelled (tables_of labels.now) (automaton_of s))) }
 
     // The result is `TooLarge` only if a limit is exceeded, and is never `Ok` then. Memory may run out at any time.
-    ensures few { OnOk result (¬ levels_of.HasTooManyLevelStates (labelled (tables_of labels.now) (automaton_of states.now)) stated_limits.states stated_limits.edges) }
-    ensures many { IsErrOf result BaFault.TooLarge → levels_of.HasTooManyLevelStates (labelled (tables_of labels.now) (automaton_of states.now)) stated_limits.states stated_limits.edges }
+    ensures few { OnOk result (¬ levels_of.HasTooManyLevelStates (labelled (tables_of labels.now) (automaton_of states.now))
+        stated_limits.states stated_limits.edges) }
+    ensures many { IsErrOf result BaFault.TooLarge → levels_of.HasTooManyLevelStates (labelled (tables_of labels.now) (automaton_of states.now))
+        stated_limits.states stated_limits.edges }
 {
     let start = LevelState { state: 0, level: 0 };
     let limits = Limits {

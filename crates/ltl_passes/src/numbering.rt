@@ -12,9 +12,7 @@ ghost use Rattle.ltl_passes.specs.Numbered.{IsNumberable, successor_of, net_of};
 
 use crate::coded_edge::CodedEdge;
 use crate::label_table::{LabelTable, labelled_states};
-use ltl_automaton::{
-    AutomatonFault, Limits, SharedStates, Successor, Successors, explore_from,
-};
+use ltl_automaton::{AutomatonFault, Limits, SharedStates, Successor, Successors, explore_from};
 use ltl_models::{Ba, BaFault, MOST_EDGES, MOST_STATES};
 use std::alloc::{AllocError, Allocator};
 
