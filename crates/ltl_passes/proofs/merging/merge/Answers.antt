@@ -1,21 +1,21 @@
-use Rattle.std.proofs.Common.{◌∙◌, ap, sym, subst}
-use Rattle.ltl_spec.specs.Automata.Automaton.{Automaton}
+use Rattle.std.proofs.Common.{rules, ◌≡◌, if◌then◌else◌, length, IfOk, IfErr, ℕ, ◌+◌, ◌-◌, ◌*◌, ◌<◌, ◌≤◌, ◌/◌, ◌%◌, Bool, true, false, nat_eq, nat_lt, List, [], ◌∷◌, ◌++◌, slice_index_or, slice_set, bit_and, bit_or, Fits, w8, w32, w64, Bor, MutBor}
+use Rattle.ltl_spec.specs.Construction.Merging as merging
 use Rattle.ltl_spec.specs.Construction.Merging.{merged_automaton}
-use Rattle.ltl_models.specs.GbaView.{IsAcceptingGba}
+use Rattle.ltl_automaton.specs.SharedView.{automaton_of}
+use Rattle.ltl_models.specs.BaView.{IsBa}
+use Rattle.ltl_passes.specs.CodedEdges.{tables_of}
+use Rattle.ltl_passes.specs.Labels.{AreCoded, AreTables, labelled}
 use Rattle.ltl_passes.specs.Partition.{IsWithinStates}
-use Rattle.ltl_passes.proofs.MergedLaws.{merged_accepting_gba, gba_within}
 use Rattle.ltl_passes.proofs.merging.merge.Goals as goal
 
-pub merged-requires : goal.merged-requires
-merged-requires g c = record { within = subst (λ (B : Automaton). IsWithinStates B.states) (sym c.states.ensures) (gba_within c.args.gba.now c.invariant.ensures.inside) }
+-- src/merging.rt:74:17
+pub merged-requires-clause-within : goal.merged-requires-clause-within
+merged-requires-clause-within g c = ?
 
+-- src/merging.rt:75:17
+pub returns-in_err-labelled_states-clause-fault : goal.returns-in_err-labelled_states-clause-fault
+returns-in_err-labelled_states-clause-fault g c = ?
+
+-- src/merging.rt:75:8
 pub new-requires : goal.new-requires
-new-requires g c =
-    let o = c.args.options.now in
-    let e = c.in_ok-states.ensures ∙ ap (merged_automaton o.keep_implied o.keep_equal) c.states.ensures in
-    subst IsAcceptingGba (sym e) (merged_accepting_gba c.args.gba.now o.keep_implied o.keep_equal c.invariant.ensures.inside c.invariant.ensures.accepting)
-
-pub returns-clause-merged : goal.returns-clause-merged
-returns-clause-merged g c =
-    let o = c.args.options.now in
-    c.new.ensures ∙ c.in_ok-states.ensures ∙ ap (merged_automaton o.keep_implied o.keep_equal) c.states.ensures
+new-requires g c = ?

@@ -3,7 +3,7 @@ use Rattle.std.specs.Prelude.{OnOk}
 use Rattle.ltl_alt.specs.BasisView.{IsBasis}
 use Rattle.ltl_alt.specs.TransitionView.{table_at}
 use Rattle.ltl_alt.proofs.KeyLaws.{keys_longer}
-use Rattle.ltl_alt.proofs.reach.RowSetsSuccessorsRowSet.edges_at_least.Goals as goal
+use Rattle.ltl_alt.proofs.reach.RowSetsSuccessorsRowSetGbaEdge.edges_at_least.Goals as goal
 
 on_both : {T E : Type 0} (r : Result T E) (P Q R : Type 0) → OnOk r P → OnOk r Q → (P → Q → R) → OnOk r R
 on_both (Ok v) P Q R p q f = f p q

@@ -1,6 +1,6 @@
 use Rattle.ltl_alt.specs.TransitionView.{table_at}
 use Rattle.ltl_alt.proofs.KeyLaws.{keys_longer}
-use Rattle.ltl_alt.proofs.reach.RowSetsSuccessorsRowSet.successors.Goals as goal
+use Rattle.ltl_alt.proofs.reach.RowSetsSuccessorsRowSetGbaEdge.successors.Goals as goal
 
 pub returns-clause-ready : goal.returns-clause-ready
 returns-clause-ready g c =
