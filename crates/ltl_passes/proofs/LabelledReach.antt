@@ -17,7 +17,6 @@ use Rattle.ltl_spec.proofs.Collections.MemberLaws.{map_cases, map_length}
 use Rattle.ltl_spec.proofs.Collections.Orders.{cube_linear, level_edge_linear}
 use Rattle.ltl_spec.proofs.Collections.SetLaws.{set_of_cases}
 use Rattle.ltl_automaton.specs.Net.{Move, moves_of}
-
 use Rattle.ltl_models.proofs.Within.{edges_within}
 use Rattle.ltl_passes.specs.Degeneralize as levels
 use Rattle.ltl_passes.specs.Degeneralize.{coded_level_edge, coded_successor, coded_level_net, level_net}

@@ -284,6 +284,7 @@ pub fn levels<'a, A: Allocator>(alloc: &'a A, automaton: &Gba<'_, A>) -> Result<
     ensures few { OnOk result (¬ levels_of.HasTooManyLevelStates automaton.now stated_limits.states stated_limits.edges) }
     ensures many { IsErrOf result BaFault.TooLarge → levels_of.HasTooManyLevelStates automaton.now stated_limits.states stated_limits.edges }
 {
+    automaton.invariant();
     let table = LabelTable::of(alloc, automaton.states())?;
     let labels = table.labels();
     let states = table.coded(alloc, automaton.states())?;

@@ -72,7 +72,8 @@ pub fn merge<'a, A: Allocator>(
     let labels = table.labels();
     let coded = table.coded(alloc, gba.states())?;
     let small = merged(alloc, &labels, &coded, options)?;
-    Ok(Gba::new(labelled_states(alloc, &labels, &small)?))
+    let states = labelled_states(alloc, &labels, &small)?;
+    Ok(Gba::new(states))
 }
 
 /// The Büchi automaton with equivalent states merged and without the edges that another one with the same target implies. Each option turns one of these two

@@ -1,27 +1,60 @@
-use Rattle.std.proofs.Common.{rules, ◌≡◌, IfOk, IsErrOf, OnOk, ℕ, ◌+◌, ◌-◌, ◌*◌, ◌<◌, ◌≤◌, length, ◌/◌, ◌%◌, Bool, true, false, nat_eq, nat_lt, List, [], ◌∷◌, ◌++◌, slice_index_or, slice_set, bit_and, bit_or, Fits, w8, w32, w64, Bor, MutBor}
-use Rattle.ltl_spec.specs.Construction.Levels.{HasTooManyLevelStates}
+use Rattle.std.proofs.Common.{rules, ◌≡◌, ◌∙◌, ap, sym, subst, Result, Ok, Err}
+use Rattle.ltl_spec.specs.Automata.Automaton.{Automaton}
 use Rattle.ltl_spec.specs.Construction.Renumbered.{renumbered_automaton}
-use Rattle.ltl_spec.specs.Tools.Limits.{stated_limits}
 use Rattle.ltl_automaton.specs.SharedView.{automaton_of}
-use Rattle.ltl_models.specs.GbaView as gba
-use Rattle.ltl_models.specs.BaView.{IsBa}
+use Rattle.ltl_models.specs.GbaView.{IsAcceptingGba}
 use Rattle.ltl_passes.specs.CodedEdges.{tables_of}
-use Rattle.ltl_passes.specs.Labels.{AreCoded, AreTables, labelled}
-use Rattle.ltl_passes.specs.Passes.{buchi_of, merged_of}
+use Rattle.ltl_passes.specs.Labels.{AreTables, labelled}
+use Rattle.ltl_passes.specs.Partition.{IsWithinStates}
+use Rattle.ltl_passes.specs.Numbered.{IsNumberable}
+use Rattle.ltl_passes.specs.Passes.{merged_of}
+use Rattle.ltl_passes.proofs.LabelledPasses.{labelled_renumbered, numberable_coded, within_coded}
+use Rattle.ltl_passes.proofs.MergedLaws.{gba_within, merged_accepting_gba, merged_gba, merged_rising}
+use Rattle.ltl_passes.proofs.RenumberLaws.{gba_numberable, numbered_gba}
 use Rattle.ltl_passes.proofs.passes.generalized.Goals as goal
 
--- src/passes.rt:90:17
 pub merged-requires-clause-within : goal.merged-requires-clause-within
-merged-requires-clause-within g c = ?
+merged-requires-clause-within g c =
+    let t = tables_of c.labels-labels.result in
+    let C = automaton_of c.in_ok-coded.coded in
+    let same : labelled t C ≡ c.args.automaton = (λ i. labelled (c.labels-labels.ensures i) C) ∙ c.in_ok-coded.ensures.labelled ∙ c.states-2.ensures in
+    within_coded t C (subst (λ (X : Automaton). IsWithinStates X.states) (sym same) (gba_within c.args.automaton c.invariant.ensures.inside))
 
--- src/passes.rt:92:20
 pub renumbered-requires : goal.renumbered-requires
-renumbered-requires g c = ?
+renumbered-requires g c =
+    let t = tables_of c.labels-labels.result in
+    let o = c.args.options.now in
+    let A = c.args.automaton in
+    let C = automaton_of c.in_ok-coded.coded in
+    let S = automaton_of c.in_ok-small.small in
+    let tables : AreTables t = subst AreTables (sym c.labels-labels.ensures) c.in_ok-table.ensures.tables in
+    let same : labelled t C ≡ A = (λ i. labelled (c.labels-labels.ensures i) C) ∙ c.in_ok-coded.ensures.labelled ∙ c.states-2.ensures in
+    let small : labelled t S ≡ merged_of o A = c.in_ok-small.ensures.merged ∙ ap (merged_of o) same in
+    numberable_coded t tables S c.in_ok-small.ensures.coded
+    (subst IsNumberable (sym small) (gba_numberable (merged_of o A) (merged_gba A o.keep_implied o.keep_equal c.invariant.ensures.inside) (merged_rising A o.keep_implied o.keep_equal)))
 
--- src/passes.rt:95:17
 pub new-requires : goal.new-requires
-new-requires g c = ?
+new-requires g c =
+    let t = tables_of c.labels-labels.result in
+    let o = c.args.options.now in
+    let A = c.args.automaton in
+    let C = automaton_of c.in_ok-coded.coded in
+    let S = automaton_of c.in_ok-small.small in
+    let tables : AreTables t = subst AreTables (sym c.labels-labels.ensures) c.in_ok-table.ensures.tables in
+    let same : labelled t C ≡ A = (λ i. labelled (c.labels-labels.ensures i) C) ∙ c.in_ok-coded.ensures.labelled ∙ c.states-2.ensures in
+    let small : labelled t S ≡ merged_of o A = c.in_ok-small.ensures.merged ∙ ap (merged_of o) same in
+    let made = c.in_ok-states.ensures ∙ ap (labelled t) c.in_ok-numbered.ensures.renumbered ∙ labelled_renumbered t tables S c.in_ok-small.ensures.coded ∙ ap renumbered_automaton small in
+    let accepting = merged_accepting_gba A o.keep_implied o.keep_equal c.invariant.ensures.inside c.invariant.ensures.accepting in
+    subst IsAcceptingGba (sym made) (numbered_gba (merged_of o A) accepting.inside accepting.accepting)
 
--- src/passes.rt:77:1
 pub returns-clause-states : goal.returns-clause-states
-returns-clause-states g c = ?
+returns-clause-states g c =
+    let t = tables_of c.labels-labels.result in
+    let o = c.args.options.now in
+    let A = c.args.automaton in
+    let C = automaton_of c.in_ok-coded.coded in
+    let S = automaton_of c.in_ok-small.small in
+    let tables : AreTables t = subst AreTables (sym c.labels-labels.ensures) c.in_ok-table.ensures.tables in
+    let same : labelled t C ≡ A = (λ i. labelled (c.labels-labels.ensures i) C) ∙ c.in_ok-coded.ensures.labelled ∙ c.states-2.ensures in
+    let small : labelled t S ≡ merged_of o A = c.in_ok-small.ensures.merged ∙ ap (merged_of o) same in
+    c.new-2.ensures ∙ c.new.ensures ∙ c.in_ok-states.ensures ∙ ap (labelled t) c.in_ok-numbered.ensures.renumbered ∙ labelled_renumbered t tables S c.in_ok-small.ensures.coded ∙ ap renumbered_automaton small
