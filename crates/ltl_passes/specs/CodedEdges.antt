@@ -1,13 +1,13 @@
 -- The edges of the code whose labels are numbers: their view, their order and their hash.
-use Rattle.std.specs.Prelude.{◌≡◌, ℕ, ◌+◌, ◌*◌, ◌%◌, ◌^◌, Bool, true, ◌&&◌, List, IsTrue, nat_eq, slice_get, slice_index_or, Some, All}
+use Rattle.std.specs.Prelude.{◌≡◌, ℕ, ◌+◌, ◌*◌, ◌%◌, ◌^◌, Bool, true, ◌&&◌, List, IsTrue, nat_eq, slice_index_or, All}
 use Rattle.std.proofs.Common.{ap, ◌∙◌}
 use Rattle.std.specs.Bool.{Decides}
 use Rattle.std.specs.Cmp.{first_so, second_so}
 use Rattle.std.specs.Hash as fed
 use Rattle.std.proofs.lemmas.Bool.Decides.{Decides-eqb}
 use Rattle.std.proofs.lemmas.Cmp.{on_total}
-use Rattle.ltl_spec.specs.Automata.Automaton.{Automaton, Edge, State, edge_cmp}
-use Rattle.ltl_spec.specs.Collections.Sets.{Has, IsLinearOrder}
+use Rattle.ltl_spec.specs.Automata.Automaton.{Edge, edge_cmp}
+use Rattle.ltl_spec.specs.Collections.Sets.{IsLinearOrder}
 use Rattle.ltl_spec.proofs.Collections.Orders.{edge_linear}
 use Rattle.ltl_passes.specs.Labels.{Tables, IsCoded, coded_edge, labelled_edge, number_of_cube}
 use Rattle.ltl_passes.specs.declared.coded_edge.CodedEdge as made

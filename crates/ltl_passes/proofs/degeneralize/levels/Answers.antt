@@ -1,10 +1,9 @@
-use Rattle.std.proofs.Common.{rules, ◌≡◌, ◌∙◌, ap, sym, subst, Result, Ok, Err}
+use Rattle.std.proofs.Common.{rules, ◌≡◌, ◌∙◌, sym, subst}
 use Rattle.ltl_spec.specs.Automata.Automaton.{Automaton}
-use Rattle.ltl_spec.specs.Construction.Levels.{level_automaton, HasTooManyLevelStates}
+use Rattle.ltl_spec.specs.Construction.Levels.{HasTooManyLevelStates}
 use Rattle.ltl_spec.specs.Tools.Limits.{stated_limits}
 use Rattle.ltl_automaton.specs.SharedView.{automaton_of}
 use Rattle.ltl_models.specs.GbaView as gba
-use Rattle.ltl_models.specs.BaView.{IsBa}
 use Rattle.ltl_passes.specs.CodedEdges.{tables_of}
 use Rattle.ltl_passes.specs.Labels.{labelled}
 use Rattle.ltl_passes.proofs.degeneralize.levels.Goals as goal

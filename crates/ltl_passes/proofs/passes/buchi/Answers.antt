@@ -1,4 +1,4 @@
-use Rattle.std.proofs.Common.{rules, ◌≡◌, ◌∙◌, ap, sym, subst, Result, Ok, Err}
+use Rattle.std.proofs.Common.{rules, ◌∙◌, ap, subst}
 use Rattle.ltl_spec.specs.Automata.Automaton.{Automaton}
 use Rattle.ltl_spec.specs.Construction.Levels.{HasTooManyLevelStates}
 use Rattle.ltl_spec.specs.Tools.Limits.{stated_limits}

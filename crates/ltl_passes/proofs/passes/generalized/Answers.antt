@@ -1,4 +1,4 @@
-use Rattle.std.proofs.Common.{rules, ◌≡◌, ◌∙◌, ap, sym, subst, Result, Ok, Err}
+use Rattle.std.proofs.Common.{◌≡◌, ◌∙◌, ap, sym, subst}
 use Rattle.ltl_spec.specs.Automata.Automaton.{Automaton}
 use Rattle.ltl_spec.specs.Construction.Renumbered.{renumbered_automaton}
 use Rattle.ltl_automaton.specs.SharedView.{automaton_of}
