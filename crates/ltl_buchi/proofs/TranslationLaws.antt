@@ -1,6 +1,6 @@
 -- The translation by its steps.
 use Rattle.std.proofs.Common.{◌≡◌, ℕ, Bool, true, false, inl, inr, sym, ◌∙◌, ap, subst, Result, Ok, Err}
-use Rattle.std.specs.Prelude.{IfOk}
+use Rattle.std.specs.Prelude.{IfOk, OnOk}
 use Rattle.ltl_spec.specs.Formulas.Formula.{Formula}
 use Rattle.ltl_spec.specs.NormalForms.Normal.{Normal}
 use Rattle.ltl_spec.specs.NormalForms.NormalForm.{core}
@@ -41,7 +41,7 @@ module _ (F : Normal) (o : Options) (keep : Bool) (same : keep ≡ o.keep_implie
       let e = one_generalized F o.keep_implied C A g found in
       second (subst (λ D. HasTooManyLevelStates D states edges) (ap (merged_automaton o.keep_implied o.keep_equal) e ∙ sym small) t)
 
-  pub fitting : {E : Type 0} (states edges : ℕ) (r : Result Automaton E) → ¬ (IsTooLarge F keep states edges) → ¬ (HasTooManyLevelStates S states edges) → IfOk r (λ _. ¬ (IsTranslationTooLarge F o states edges))
+  pub fitting : {E : Type 0} (states edges : ℕ) (r : Result Automaton E) → ¬ (IsTooLarge F keep states edges) → OnOk r (¬ (HasTooManyLevelStates S states edges)) → IfOk r (λ _. ¬ (IsTranslationTooLarge F o states edges))
   fitting states edges (Err f) first second = tt
   fitting states edges (Ok B) first second = both_fit states edges first second
 

@@ -1,44 +1,39 @@
-use Rattle.std.proofs.Common.{rules, ap, ◌∙◌, Result, Ok}
-use Rattle.ltl_spec.specs.Automata.Automaton.{Automaton}
+use Rattle.std.proofs.Common.{ap, refl}
+use Rattle.ltl_spec.specs.Construction.Levels.{level_automaton}
 use Rattle.ltl_spec.specs.Tools.Limits.{stated_limits}
 use Rattle.ltl_formula.specs.TableView.{core_of}
-use Rattle.ltl_automaton.specs.declared.fault.AutomatonFault.{AutomatonFault}
+use Rattle.ltl_passes.specs.Passes.{merged_of}
 use Rattle.ltl_buchi.proofs.TranslationLaws.{translated, fitting, copies_too_large, language, models, violations, named}
 use Rattle.ltl_buchi.proofs.translation.translate.Goals as goal
 
-pub returns-in_err-copies-clause-large : goal.returns-in_err-copies-clause-large
-returns-in_err-copies-clause-large g c = λ e.
-    copies_too_large (core_of c.args.table.now) c.args.options.now c.options.inside.keep_implied (ap (λ o. o.keep_implied) c.options.view_is) _ _ c.in_ok-generalized.ensures.generalized c.in_ok-small.ensures.merged stated_limits.states stated_limits.edges
-    (c.in_err-copies.ensures.many (search rules))
+pub returns-clause-large : goal.returns-clause-large
+returns-clause-large g c = λ e.
+    let o = c.args.options.now in
+    let A = c.in_ok-reached.reached in
+    copies_too_large (core_of c.args.table.now) o c.options.inside.keep_implied (ap (λ p. p.keep_implied) c.options.view_is) A (merged_of o A) c.in_ok-reached.ensures.generalized refl stated_limits.states stated_limits.edges (c.buchi.ensures.many e)
 
 pub returns-clause-definition : goal.returns-clause-definition
 returns-clause-definition g c =
-    let made : Result Automaton AutomatonFault = Ok c.in_ok-new.field-0 in
-    translated (core_of c.args.table.now) c.args.options.now c.options.inside.keep_implied (ap (λ o. o.keep_implied) c.options.view_is) _ _ c.in_ok-generalized.ensures.generalized c.in_ok-small.ensures.merged _ _ made
-    c.in_ok-copies.ensures.copies c.in_ok-smaller.ensures.merged (c.in_ok-new.ensures ∙ c.in_ok-numbered.ensures.renumbered)
+    let o = c.args.options.now in
+    let A = c.in_ok-reached.reached in
+    let L = level_automaton (merged_of o A) in
+    translated (core_of c.args.table.now) o c.options.inside.keep_implied (ap (λ p. p.keep_implied) c.options.view_is) A (merged_of o A) c.in_ok-reached.ensures.generalized refl L (merged_of o L) c.buchi.result refl refl c.buchi.ensures.states
 
 pub returns-clause-fits : goal.returns-clause-fits
 returns-clause-fits g c =
-    let made : Result Automaton AutomatonFault = Ok c.in_ok-new.field-0 in
-    fitting (core_of c.args.table.now) c.args.options.now c.options.inside.keep_implied (ap (λ o. o.keep_implied) c.options.view_is) _ _ c.in_ok-generalized.ensures.generalized c.in_ok-small.ensures.merged stated_limits.states stated_limits.edges made
-    c.in_ok-generalized.ensures.fits c.in_ok-copies.ensures.few
+    let o = c.args.options.now in
+    let A = c.in_ok-reached.reached in
+    fitting (core_of c.args.table.now) o c.options.inside.keep_implied (ap (λ p. p.keep_implied) c.options.view_is) A (merged_of o A) c.in_ok-reached.ensures.generalized refl stated_limits.states stated_limits.edges c.buchi.result
+    c.in_ok-reached.ensures.fits c.buchi.ensures.few
 
 pub returns-clause-language : goal.returns-clause-language
-returns-clause-language g c =
-    let made : Result Automaton AutomatonFault = Ok c.in_ok-new.field-0 in
-    language (core_of c.args.table.now) c.args.options.now made (returns-clause-definition g c)
+returns-clause-language g c = language (core_of c.args.table.now) c.args.options.now c.buchi.result (returns-clause-definition g c)
 
 pub returns-clause-models : goal.returns-clause-models
-returns-clause-models g c =
-    let made : Result Automaton AutomatonFault = Ok c.in_ok-new.field-0 in
-    models (core_of c.args.table.now) c.args.options.now made (returns-clause-definition g c)
+returns-clause-models g c = models (core_of c.args.table.now) c.args.options.now c.buchi.result (returns-clause-definition g c)
 
 pub returns-clause-violations : goal.returns-clause-violations
-returns-clause-violations g c =
-    let made : Result Automaton AutomatonFault = Ok c.in_ok-new.field-0 in
-    violations (core_of c.args.table.now) c.args.options.now made (returns-clause-definition g c)
+returns-clause-violations g c = violations (core_of c.args.table.now) c.args.options.now c.buchi.result (returns-clause-definition g c)
 
 pub returns-clause-named : goal.returns-clause-named
-returns-clause-named g c =
-    let made : Result Automaton AutomatonFault = Ok c.in_ok-new.field-0 in
-    named (core_of c.args.table.now) c.args.options.now made (returns-clause-definition g c)
+returns-clause-named g c = named (core_of c.args.table.now) c.args.options.now c.buchi.result (returns-clause-definition g c)
