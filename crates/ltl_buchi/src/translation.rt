@@ -67,6 +67,6 @@ pub fn generalized<'a, A: Allocator>(
     ensures fits { IfOk result (λ _. ¬ (IsTooLarge (core_of table.now) options.now.keep_implied stated_limits.states stated_limits.edges)) }
     ensures large { IsErrOf result BaFault.TooLarge → IsTooLarge (core_of table.now) options.now.keep_implied stated_limits.states stated_limits.edges }
 {
-    let reached = Gba::reach(alloc, table, options.keep_implied)?;
-    passes::generalized(alloc, reached, options)
+    let made = Gba::reach(alloc, table, options.keep_implied)?;
+    passes::generalized(alloc, made, options)
 }

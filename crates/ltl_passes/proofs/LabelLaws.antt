@@ -110,10 +110,6 @@ module _ (t : Tables) (a : AreTables t) where
       ∙ numbers_cmp c.cube e.target c.marks d.cube f.target d.marks c.cube_within c.marks_within d.cube_within d.marks_within
       ∙ (λ i. edge_cmp (sym c.is i) (sym d.is i))
 
-  -- edges with equal labels have equal numbers
-  pub labelled_exact : (e f : Edge) → IsCoded t e → IsCoded t f → labelled_edge t e ≡ labelled_edge t f → e ≡ f
-  labelled_exact e f c d h = edge_linear.exact e f (sym (labelled_cmp e f c d) ∙ ap (edge_cmp (labelled_edge t e)) (sym h) ∙ tied_itself edge_linear.total (labelled_edge t e))
-
   -- the edges of a set get their labels
   pub labelled_set : (es : List Edge) → All (IsCoded t) es → map (labelled_edge t) (set_of edge_cmp es) ≡ set_of edge_cmp (map (labelled_edge t) es)
   labelled_set es c = sym (embedded_set edge_cmp edge_cmp (labelled_edge t) (IsCoded t) labelled_cmp es (All-at_has (IsCoded t) es c))

@@ -18,7 +18,7 @@ use Rattle.ltl_models.proofs.Within.{edges_within}
 use Rattle.ltl_passes.specs.Labels.{Tables, AreTables, labelled_edge, labelled_state, labelled, IsCoded, AreCoded}
 use Rattle.ltl_passes.specs.Numbered.{IsNumberable}
 use Rattle.ltl_passes.specs.Partition.{IsWithinStates, retargeted_list}
-use Rattle.ltl_passes.proofs.LabelLaws.{labelled_cmp, labelled_set, labelled_retargeted, coded_set, coded_retargeted}
+use Rattle.ltl_passes.proofs.LabelLaws.{labelled_cmp, labelled_set, labelled_retargeted, coded_set}
 use Rattle.ltl_passes.proofs.LabelledReach.{state_at_labelled, labelled_length, labelled_sum}
 
 -- edges lead to states if they do with their labels
@@ -123,11 +123,3 @@ module _ (t : Tables) (a : AreTables t) where
             map_same (state_in ◌==◌ true (state_net A) reached) (labelled_state t) reached
             ∙ map_equal (λ s. labelled_state t (state_in ◌==◌ true (state_net A) reached s)) (state_in ◌==◌ true (state_net (labelled t A)) reached) reached (λ s _. state_alike reached s)
             ∙ ap (λ ks. map (state_in ◌==◌ true (state_net (labelled t A)) ks) ks) (sym keys)
-
-    -- numbered states keep the numbers of their labels
-    pub renumbered_coded : AreCoded t (renumbered_automaton A)
-    renumbered_coded =
-        let IsCodedState : State → Type 0 = λ s. All (IsCoded t) s.edges in
-        All-from_has IsCodedState (renumbered_automaton A).states (λ s h.
-        let (k, m, e) = map_cases (state_in ◌==◌ true (state_net A) reached) reached s h in
-        subst IsCodedState (sym e) (coded_retargeted t (λ x. place_of ◌==◌ x reached) (edges_at k) (coded_at k)))

@@ -1,6 +1,6 @@
 -- What is listed of things whose labels are numbers is, with the labels, what is listed of the things with labels.
 use Rattle.std.proofs.Common.{◌≡◌, ℕ, ◌+◌, ◌<◌, Bool, true, false, cond, List, [], ◌∷◌, length, map, refl, sym, ◌∙◌, ap, subst}
-use Rattle.std.specs.Prelude.{sum_by, ◌==◌, All}
+use Rattle.std.specs.Prelude.{sum_by, All}
 use Rattle.std.specs.Ordering.{nat_cmp, ordering_then}
 use Rattle.std.proofs.Math.ListN.{get_or-map}
 use Rattle.std.proofs.lemmas.List.Sums.{sum_by-cons}
@@ -21,8 +21,7 @@ use Rattle.ltl_models.proofs.Within.{edges_within}
 use Rattle.ltl_passes.specs.Degeneralize as levels
 use Rattle.ltl_passes.specs.Degeneralize.{coded_level_edge, coded_successor, coded_level_net, level_net}
 use Rattle.ltl_passes.specs.Labels.{Tables, AreTables, coded_edge, cube_in, marks_in, labelled_edge, labelled_state, labelled, IsCoded, AreCoded}
-use Rattle.ltl_passes.specs.Numbered.{successor_of, net_of}
-use Rattle.ltl_passes.proofs.LabelLaws.{embedded_set, rising_cmp, coded_cube_cmp, labelled_set, coded_retargeted_edge}
+use Rattle.ltl_passes.proofs.LabelLaws.{embedded_set, rising_cmp, coded_cube_cmp, labelled_set}
 
 -- the move with the labels that stand in the tables
 abbrev pub labelled_successor : {K : Type 0} → Tables → Move K → Move K
@@ -113,44 +112,6 @@ module _ (t : Tables) (a : AreTables t) (A : Automaton) (c : AreCoded t A) where
   state_coded : (s : ℕ) (e : Edge) → Has (state_at A s).edges e → IsCoded t e
   state_coded s e h = All-at_has (IsCoded t) (state_at A s).edges (edges_within A (IsCoded t) s c) e h
 
-  -- ---- the states, numbered from the start
-  numbered_moves : (s : ℕ) → (net_of (labelled t A)).successors s ≡ map (labelled_successor t) ((net_of A).successors s)
-  numbered_moves s =
-      ap (λ (r : State). map successor_of r.edges) (state_at_labelled t A s)
-      ∙ map_same (labelled_edge t) successor_of (state_at A s).edges
-      ∙ sym (map_same successor_of (labelled_successor t) (state_at A s).edges)
-
-  numbered_accepts : (s : ℕ) → (net_of (labelled t A)).accepts s ≡ (net_of A).accepts s
-  numbered_accepts s = ap (λ (r : State). r.accepting) (state_at_labelled t A s)
-
-  numbered_coded : (s : ℕ) (m : Move ℕ) → Has ((net_of A).successors s) m → (n : ℕ) → IsCoded t ((moves_of (net_of A)).edge m n)
-  numbered_coded s m h n =
-      let (e, i, d) = map_cases successor_of (state_at A s).edges m h in
-      subst (λ (x : Move ℕ). IsCoded t ((moves_of (net_of A)).edge x n)) (sym d) (coded_retargeted_edge t (λ _. n) e (state_coded s e i))
-
-  -- numbering states and giving them their labels may change places
-  pub numbered_labelled : (B : Automaton) → IsReachable ◌==◌ true (moves_of (net_of A)) 0 A.sets B → IsReachable ◌==◌ true (moves_of (net_of (labelled t A))) 0 A.sets (labelled t B)
-  numbered_labelled =
-      labelled_reachable t a ◌==◌ (moves_of (net_of A)) (moves_of (net_of (labelled t A))) (labelled_successor t) numbered_moves (λ m. refl) (λ m n. refl) numbered_accepts numbered_coded true 0 A.sets
-
-  -- numbering keeps the numbers of labels
-  pub numbered_are_coded : (B : Automaton) → IsReachable ◌==◌ true (moves_of (net_of A)) 0 A.sets B → AreCoded t B
-  numbered_are_coded =
-      reachable_coded t a ◌==◌ (moves_of (net_of A)) (moves_of (net_of (labelled t A))) (labelled_successor t) numbered_moves (λ m. refl) (λ m n. refl) numbered_accepts numbered_coded true 0 A.sets
-
-  -- as many states and edges are found with labels as with their numbers
-  pub numbered_limits : PassesLimits ◌==◌ (targets_of (moves_of (net_of (labelled t A)))) 0 ≡ PassesLimits ◌==◌ (targets_of (moves_of (net_of A))) 0
-  numbered_limits =
-      labelled_limits t a ◌==◌ (moves_of (net_of A)) (moves_of (net_of (labelled t A))) (labelled_successor t) numbered_moves (λ m. refl) (λ m n. refl) numbered_accepts numbered_coded 0
-
-  -- so the labels pass the limits where the numbers do
-  pub numbered_limits_labelled : (m n : ℕ) → PassesLimits ◌==◌ (targets_of (moves_of (net_of A))) 0 m n → PassesLimits ◌==◌ (targets_of (moves_of (net_of (labelled t A)))) 0 m n
-  numbered_limits_labelled m n = subst (λ (P : ℕ → ℕ → Type 0). P m n) (sym numbered_limits)
-
-  -- and the other way round
-  pub numbered_limits_coded : (m n : ℕ) → PassesLimits ◌==◌ (targets_of (moves_of (net_of (labelled t A)))) 0 m n → PassesLimits ◌==◌ (targets_of (moves_of (net_of A))) 0 m n
-  numbered_limits_coded m n = subst (λ (P : ℕ → ℕ → Type 0). P m n) numbered_limits
-
   -- ---- the copies on levels
   -- a cube is the number of one in the tables
   abbrev IsCodedLevel : LevelEdge → Type 0
@@ -218,11 +179,3 @@ module _ (t : Tables) (a : AreTables t) (A : Automaton) (c : AreCoded t A) where
   pub levels_limits : PassesLimits same_level_state (targets_of (moves_of (level_net (labelled t A)))) start_copy ≡ PassesLimits same_level_state (targets_of (moves_of (coded_level_net t A))) start_copy
   levels_limits =
       labelled_limits t a same_level_state (moves_of (coded_level_net t A)) (moves_of (level_net (labelled t A))) (labelled_successor t) level_moves (λ m. refl) (λ m n. refl) (λ p. refl) level_move_coded start_copy
-
-  -- so the labels pass the limits where the numbers do
-  pub levels_limits_labelled : (m n : ℕ) → PassesLimits same_level_state (targets_of (moves_of (coded_level_net t A))) start_copy m n → PassesLimits same_level_state (targets_of (moves_of (level_net (labelled t A)))) start_copy m n
-  levels_limits_labelled m n = subst (λ (P : ℕ → ℕ → Type 0). P m n) (sym levels_limits)
-
-  -- and the other way round
-  pub levels_limits_coded : (m n : ℕ) → PassesLimits same_level_state (targets_of (moves_of (level_net (labelled t A)))) start_copy m n → PassesLimits same_level_state (targets_of (moves_of (coded_level_net t A))) start_copy m n
-  levels_limits_coded m n = subst (λ (P : ℕ → ℕ → Type 0). P m n) levels_limits

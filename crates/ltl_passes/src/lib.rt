@@ -3,9 +3,12 @@
 //! In the field's words: the quotient by bisimilarity, found by partition refinement (`merge`, `merge_ba`); degeneralization, with a copy of a state for each
 //! number of acceptance sets that were met in turn (`levels`); and numbering breadth first (`renumber`). No pass knows a formula.
 //!
-//! The translation merges a `Gba`, degeneralizes it, merges the result and renumbers it: that is a `Ba`. A merged `Gba` that is renumbered is a `Gen`
-//! (`renumber_generalized`). `levels`, `merge_ba` and `renumber` make a `Ba`; the translation calls the same passes over states alone (`level_states`,
-//! `merged_states`, `renumbered_states`), because a `Ba` keeps the order of its edges by target, which is needed only for the last one.
+//! The labels of an automaton are numbered once (`label_table`): its different cubes and its different sets of marks are two sorted tables, and an edge is two
+//! numbers and a target (`coded_edge`). The order of numbers is that of the labels. So the passes sort, compare and hash numbers, and read a label only to
+//! find implied edges and levels. The result gets its labels back.
+//!
+//! The translation merges a `Gba`, degeneralizes it, merges the result and renumbers it: that is a `Ba` (`buchi`). A merged `Gba` that is renumbered is a `Gen`
+//! (`generalized`). `merge`, `levels`, `merge_ba` and `renumber` are the same passes, one at a time.
 //!
 //! Each round of refinement compares all edge lists up to the classes of their targets. If all lists are strictly sorted (`rising`), the first round compares
 //! the numbers of the lists instead. Between two rounds a worklist continues to merge (`worklist`). It visits a state again only if the class of a target gets

@@ -90,7 +90,7 @@ pub fn merge_ba<'a, A: Allocator>(
     let table = LabelTable::of(alloc, ba.states())?;
     let labels = table.labels();
     let coded = table.coded(alloc, ba.states())?;
-    let small = merged(alloc, &labels, &coded, options)?;
-    let states = labelled_states(alloc, &labels, &small)?;
+    let smaller = merged(alloc, &labels, &coded, options)?;
+    let states = labelled_states(alloc, &labels, &smaller)?;
     Ok(Ba::new(alloc, states)?)
 }

@@ -17,14 +17,14 @@ use Rattle.ltl_buchi.proofs.translation.generalized.Goals as goal
 
 pub returns-clause-definition : goal.returns-clause-definition
 returns-clause-definition g c =
-    numbered (core_of c.args.table.now) c.args.options.now c.options.inside.keep_implied (ap (λ o. o.keep_implied) c.options.view_is) c.in_ok-reached.reached (merged_of c.args.options.now c.in_ok-reached.reached) c.in_ok-reached.ensures.generalized refl c.generalized.result
+    numbered (core_of c.args.table.now) c.args.options.now c.options.inside.keep_implied (ap (λ o. o.keep_implied) c.options.view_is) c.in_ok-made.made (merged_of c.args.options.now c.in_ok-made.made) c.in_ok-made.ensures.generalized refl c.generalized.result
     c.generalized.ensures.states
 
 pub returns-clause-fits : goal.returns-clause-fits
 returns-clause-fits g c =
     let N = core_of c.args.table.now in
-    IfOk-weaker c.generalized.result (λ A. A ≡ renumbered_automaton (merged_of c.args.options.now c.in_ok-reached.reached)) (λ _. ¬ (IsTooLarge N c.args.options.now.keep_implied stated_limits.states stated_limits.edges))
-    (λ A e. subst (λ k. ¬ (IsTooLarge N k stated_limits.states stated_limits.edges)) (ap (λ o. o.keep_implied) c.options.view_is) c.in_ok-reached.ensures.fits) c.generalized.ensures.states
+    IfOk-weaker c.generalized.result (λ A. A ≡ renumbered_automaton (merged_of c.args.options.now c.in_ok-made.made)) (λ _. ¬ (IsTooLarge N c.args.options.now.keep_implied stated_limits.states stated_limits.edges))
+    (λ A e. subst (λ k. ¬ (IsTooLarge N k stated_limits.states stated_limits.edges)) (ap (λ o. o.keep_implied) c.options.view_is) c.in_ok-made.ensures.fits) c.generalized.ensures.states
 
 pub returns-clause-language : goal.returns-clause-language
 returns-clause-language g c =

@@ -32,7 +32,7 @@ new-requires g c =
     let o = c.args.options.now in
     let C = automaton_of c.in_ok-coded.coded in
     let same : labelled t C ≡ c.args.ba.now = (λ i. labelled (c.labels-labels.ensures i) C) ∙ c.in_ok-coded.ensures.labelled ∙ c.states-2.ensures in
-    let made = c.in_ok-states.ensures ∙ c.in_ok-small.ensures.merged ∙ ap (merged_automaton o.keep_implied o.keep_equal) same in
+    let made = c.in_ok-states.ensures ∙ c.in_ok-smaller.ensures.merged ∙ ap (merged_automaton o.keep_implied o.keep_equal) same in
     record { inside = subst IsBa (sym made) (merged_ba c.args.ba.now o.keep_implied o.keep_equal c.invariant.ensures) }
 
 pub returns-clause-merged : goal.returns-clause-merged
@@ -41,7 +41,7 @@ returns-clause-merged g c =
     let o = c.args.options.now in
     let C = automaton_of c.in_ok-coded.coded in
     let same : labelled t C ≡ c.args.ba.now = (λ i. labelled (c.labels-labels.ensures i) C) ∙ c.in_ok-coded.ensures.labelled ∙ c.states-2.ensures in
-    c.in_ok-new.ensures ∙ c.in_ok-states.ensures ∙ c.in_ok-small.ensures.merged ∙ ap (merged_automaton o.keep_implied o.keep_equal) same
+    c.in_ok-new.ensures ∙ c.in_ok-states.ensures ∙ c.in_ok-smaller.ensures.merged ∙ ap (merged_automaton o.keep_implied o.keep_equal) same
 
 pub returns-in_err-states-clause-fault : goal.returns-in_err-states-clause-fault
 returns-in_err-states-clause-fault g c = fault_of c.from_residual-in_err-states.result (λ (f : AutomatonFault). f ≡ OutOfMemory) c.from_residual-in_err-states.ensures.1
