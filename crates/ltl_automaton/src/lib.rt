@@ -2,7 +2,8 @@
 //!
 //! In the field's words: one representation of every automaton that is made here, generalized or not. A state is accepting or not, and has outgoing
 //! edges. An edge has a label (a cube), a target, and the acceptance sets that it belongs to. Many states of these automata have equal edges, so each
-//! edge list is stored once, and a state holds the number of its list.
+//! edge list is stored once, and a state holds the number of its list. How an edge is stored is a parameter (`EdgeType`): an `Edge` has its label, and
+//! the edges of `ltl_passes` have numbers for theirs.
 //!
 //! What flows: `explore_from` takes a start and a type with the trait `Successors`. A state is known by its *key*. In `ltl_alt` a key is a set of rows.
 //! In `ltl_passes` it is a copy of a state on a level, or the number of a state of an automaton that is numbered anew. For a key, `Successors` returns

@@ -9,7 +9,7 @@ use ltl_automaton::Edge as GbaEdge;
 use std::alloc::Allocator;
 use std::marker::Model;
 
-/// A generalized Büchi automaton as it is printed. Where `renumber_generalized` makes it, its states are numbered breadth first. State 0 is the
+/// A generalized Büchi automaton as it is printed. Where `passes::generalized` of `ltl_passes` makes it, its states are numbered breadth first. State 0 is the
 /// initial one. Every state is accepting, so that only the acceptance sets count.
 #[derive(Drop)]
 pub struct Gen<'a, A: Allocator> {
@@ -52,7 +52,7 @@ impl<'a, A: Allocator> Gen<'a, A> {
         self.automaton.sets()
     }
 
-    /// The edges of a state. `renumber_generalized` sorts them by label, then by target, then by acceptance sets.
+    /// The edges of a state. `passes::generalized` sorts them by label, then by target, then by acceptance sets.
     pub fn edges(&self, i: usize) -> &[GbaEdge]
         requires { i < length self.now.states }
         ensures edges { map edge_of result.now ≡ (state_at self.now i).edges }
