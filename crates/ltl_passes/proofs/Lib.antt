@@ -5,7 +5,6 @@ pub mod LabelLaws
 pub mod LabelledReach
 pub mod CodedListLaws
 pub mod LabelledPasses
-pub mod FirstRoundLaws
 pub mod WithinLaws
 pub mod FinerLaws
 pub mod OwnerLaws

@@ -10,9 +10,9 @@
 //! The translation merges a `Gba`, degeneralizes it, merges the result and renumbers it: that is a `Ba` (`buchi`). A merged `Gba` that is renumbered is a `Gen`
 //! (`generalized`). `merge`, `levels`, `merge_ba` and `renumber` are the same passes, one at a time.
 //!
-//! Each round of refinement compares all edge lists up to the classes of their targets. If all lists are strictly sorted (`rising`), the first round compares
-//! the numbers of the lists instead. Between two rounds a worklist continues to merge (`worklist`). It visits a state again only if the class of a target gets
-//! another name, and the smaller one of two classes gets the name of the other (`classes`). Mostly the next round changes nothing then.
+//! Each round of refinement compares all edge lists up to the classes of their targets. Between two rounds a worklist continues to merge (`worklist`). It
+//! visits a state again only if the class of a target gets another name, and the smaller one of two classes gets the name of the other (`classes`). Mostly the
+//! next round changes nothing then.
 //!
 //! A list is searched for implied edges only if two of its edges with one target have different weights. Then the edges are sorted by target, and the minimal
 //! ones of each target are kept (`implied`).
@@ -41,7 +41,6 @@ mod queue;
 mod quotient;
 mod ranked;
 mod retargeting;
-mod rising;
 mod sources;
 mod worklist;
 

@@ -12,7 +12,6 @@ ghost use Rattle.ltl_passes.specs.Partition.{AreListsWithin, AreSignatures, IsFi
 
 use crate::coded_edge::CodedEdge;
 use crate::retargeting::retargeted;
-use crate::rising::all_rise;
 use crate::worklist::coarsened;
 use ltl_automaton::{EdgeList, Interner, SharedState, SharedStates};
 use std::alloc::{AllocError, Allocator};
@@ -193,8 +192,7 @@ fn refined<'a, A: Allocator>(
 }
 
 /// For each state the name of its class, which is the least state of the class. Two states are in one class if both or neither is accepting and their edges
-/// are equal up to the classes of the targets. If all lists are strictly sorted, different lists are different sets of edges; then the first round uses the
-/// numbers of the lists as signatures.
+/// are equal up to the classes of the targets.
 pub(crate) fn class_names<'a, A: Allocator>(
     alloc: &'a A,
     states: &SharedStates<'_, CodedEdge, A>,
@@ -202,15 +200,6 @@ pub(crate) fn class_names<'a, A: Allocator>(
     requires within { IsWithinStates (automaton_of states.now).states }
     ensures { IfOk result (λ v. v.items ≡ merging.class_names (automaton_of states.now) (length (automaton_of states.now).states)) }
 {
-    states.invariant();
     let names = own_names(alloc, states.len())?;
-    if !all_rise(states) {
-        return refined(alloc, states, names);
-    }
-    let signatures = own_names(alloc, states.list_count())?;
-    let next = least_alike(alloc, states, signatures.as_slice())?;
-    if next.as_slice() == names.as_slice() {
-        return Ok(names);
-    }
-    refined(alloc, states, next)
+    refined(alloc, states, names)
 }
