@@ -7,7 +7,7 @@ use Rattle.std.specs.declared.cmp.Ordering.{Ordering}
 use Rattle.std.specs.declared.cmp.Ordering.TheVariants.{Less, Greater}
 use Rattle.std.specs.Ordering.{nat_cmp}
 use Rattle.std.specs.Cmp.Lexicographic.{slice_cmp}
-use Rattle.std.proofs.lemmas.List.{map-append, take_more}
+use Rattle.std.proofs.lemmas.List.{map-append, take_more, length-take-le, get_or-take}
 use Rattle.std.proofs.lemmas.List.Elements.{All-push, All-weaker}
 use Rattle.ltl_spec.specs.Collections.Sets.{Has, IsRising, IsLinearOrder, set_of}
 use Rattle.ltl_spec.specs.Collections.Lists.{HasNoRepeats, with_new, place_of}
@@ -29,7 +29,9 @@ use Rattle.ltl_automaton.proofs.NetLaws.{took}
 use Rattle.ltl_models.proofs.Within.{All_from_map}
 use Rattle.ltl_passes.specs.CodedEdges.{coded_edge_of}
 use Rattle.ltl_passes.specs.Labels.{Tables, AreTables, labelled_edge, labelled_state, labelled, IsCoded, AreCoded, HasLabelsFor, HasLabelsOf}
-use Rattle.ltl_passes.specs.LabelTables.{IsPartOf, HasNoted}
+use Rattle.ltl_passes.specs.LabelTables.{IsPartOf, HasNoted, AreStatesMade}
+use Rattle.ltl_passes.proofs.LabelledReach.{labelled_length, state_at_labelled}
+use Rattle.ltl_passes.proofs.TargetLaws.{states_at}
 use Rattle.ltl_passes.specs.declared.coded_edge.CodedEdge as numbered
 
 -- ---- different values one after the other
@@ -169,18 +171,9 @@ coded_next t made more_made x taken more_taken e w c m g p q =
 pub label_there : (t : Tables) (edges : List plain.Edge) (i : ℕ) (e : plain.Edge) → All (HasLabelsFor t) (map edge_of edges) → i < length edges → e ≡ slice_index_or edges i e → HasLabelsFor t (edge_of e)
 label_there t edges i e a l s = subst (λ (x : plain.Edge). HasLabelsFor t (edge_of x)) (sym s) (All_from_map (HasLabelsFor t) edge_of edges a i e l)
 
--- the first states
-abbrev pub first_states : Automaton → ℕ → Automaton
-first_states A n = record { sets = A.sets; states = take n A.states }
-
 -- the state that is read past the end
 abbrev none : State
 none = record { accepting = true; edges = [] }
-
--- what was made of the first states
-pub record AreStatesMade (t : Tables) (A B : Automaton) (n : ℕ) : Type 0 where
-  pub labelled : labelled t B ≡ first_states A n
-  pub coded : AreCoded t B
 
 -- one more state with numbers
 pub coded_state_next : (t : Tables) (A B C : Automaton) (n : ℕ) (accepting : Bool) (es : List Edge) → AreStatesMade t A B n → n < length A.states → C ≡ with_state B accepting es → accepting ≡ (state_at A n).accepting
@@ -196,3 +189,22 @@ coded_state_next t A B C n accepting es w l c p e d =
           ∙ (λ i. let D : Automaton = record { sets = A.sets; states = sym (take_more A.states n none l) i } in D);
       coded = subst (AreCoded t) (sym c) (All-push P B.states s w.coded d);
     }
+
+-- there is a state for each of the first ones
+pub made_count : (t : Tables) (A B : Automaton) (n : ℕ) → AreStatesMade t A B n → n < length A.states → length B.states ≡ n
+made_count t A B n w l = sym (labelled_length t B) ∙ ap (λ (X : Automaton). length X.states) w.labelled ∙ length-take-le n A.states (omega arith)
+
+-- one more state with the edges of an earlier one
+pub coded_state_again : (t : Tables) (A B C : Automaton) (n f : ℕ) (accepting : Bool) → AreStatesMade t A B n → n < length A.states → f < n → (state_at A f).edges ≡ (state_at A n).edges → C ≡ with_state B accepting (state_at B f).edges
+    → accepting ≡ (state_at A n).accepting → AreStatesMade t A C (n + 1)
+coded_state_again t A B C n f accepting w l m e c p =
+    let P : State → Type 0 = λ r. All (IsCoded t) r.edges in
+    let seen : labelled_state t (state_at B f) ≡ state_at A f = sym (state_at_labelled t B f) ∙ ap (λ X. state_at X f) w.labelled ∙ get_or-take n A.states f none m in
+    coded_state_next t A B C n accepting (state_at B f).edges w l c p (ap (λ (r : State). r.edges) seen ∙ e) (states_at B P f (λ k d h. absurd (omega arith)) w.coded)
+
+-- lists with one number are one list
+pub one_list : (lists : List (List Edge)) (i j : ℕ) (es fs : List Edge) → i ≡ j → slice_get lists i ≡ Some es → slice_get lists j ≡ Some fs → es ≡ fs
+one_list lists i j es fs e a b = some_same es fs (sym a ∙ ap (slice_get lists) e ∙ b)
+  where
+    some_same : (x y : List Edge) → Some x ≡ Some y → x ≡ y
+    some_same x y e = cc

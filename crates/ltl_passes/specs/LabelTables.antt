@@ -1,9 +1,9 @@
 -- The tables of an automaton's labels, and the labels that were met, as the code holds them.
-use Rattle.std.specs.Prelude.{ℕ, List, All}
+use Rattle.std.specs.Prelude.{◌≡◌, ℕ, List, take, All}
 use Rattle.ltl_spec.specs.Collections.Sets.{Has}
 use Rattle.ltl_spec.specs.Transitions.Cubes.{Cube}
-use Rattle.ltl_spec.specs.Automata.Automaton.{Edge}
-use Rattle.ltl_passes.specs.Labels.{Tables, HasLabelsFor}
+use Rattle.ltl_spec.specs.Automata.Automaton.{Automaton, Edge}
+use Rattle.ltl_passes.specs.Labels.{AreCoded, Tables, HasLabelsFor, labelled}
 use Rattle.ltl_passes.specs.declared.label_table.LabelTable as made
 use Rattle.ltl_passes.specs.declared.label_table.Noted as met
 
@@ -23,3 +23,12 @@ pub record IsPartOf (t u : Tables) : Type 0 where
 pub record HasNoted (t u : Tables) (edges : List Edge) : Type 0 where
   pub kept : IsPartOf t u
   pub labels : All (HasLabelsFor u) edges
+
+-- the first states
+abbrev pub first_states : Automaton → ℕ → Automaton
+first_states A n = record { sets = A.sets; states = take n A.states }
+
+-- what was made of the first states
+pub record AreStatesMade (t : Tables) (A B : Automaton) (n : ℕ) : Type 0 where
+  pub labelled : labelled t B ≡ first_states A n
+  pub coded : AreCoded t B

@@ -1,12 +1,12 @@
 //! Numbering of an automaton's labels.
 
-ghost use Rattle.std.specs.Prelude.{◌≡◌, [], map, All, IfOk, OnOk};
+ghost use Rattle.std.specs.Prelude.{◌≡◌, ◌+◌, ◌<◌, [], length, map, All, IfOk, OnOk};
 ghost use Rattle.ltl_spec.specs.Collections.Sets.{Has};
 ghost use Rattle.ltl_automaton.specs.EdgeView.{edge_of};
 ghost use Rattle.ltl_automaton.specs.SharedView.{automaton_of};
 ghost use Rattle.ltl_passes.specs.CodedEdges.{coded_edge_of, tables_of};
 ghost use Rattle.ltl_passes.specs.Labels.{AreCoded, AreTables, HasLabelsFor, HasLabelsOf, IsCoded, labelled, labelled_edge};
-ghost use Rattle.ltl_passes.specs.LabelTables.{HasNoted, IsPartOf, noted_of, table_of};
+ghost use Rattle.ltl_passes.specs.LabelTables.{AreStatesMade, HasNoted, IsPartOf, noted_of, table_of};
 
 use crate::coded_edge::CodedEdge;
 use crate::labels::Labels;
@@ -117,7 +117,30 @@ impl<'a, A: Allocator> LabelTable<'a, A> {
         Ok(coded)
     }
 
-    /// The states with numbers for the labels of their edges.
+    /// Appends a state with numbers for its labels. If `last` is a state before it with the same list, the two share one.
+    fn push_coded(
+        &self,
+        alloc: &'a A,
+        states: &SharedStates<'_, Edge, A>,
+        coded: &mut SharedStates<'a, CodedEdge, A>,
+        state: usize,
+        last: usize,
+    ) -> Result<(), AllocError>
+        requires labels { HasLabelsOf (table_of self.now) (automaton_of states.now) }
+        requires made { AreStatesMade (table_of self.now) (automaton_of states.now) (automaton_of coded.old) state }
+        requires within { state < length (automaton_of states.now).states }
+        ensures { OnOk result (AreStatesMade (table_of self.now) (automaton_of states.now) (automaton_of coded.new) (state + 1)) }
+    {
+        if last < state && states.list(last) == states.list(state) {
+            coded.push_like(states.accepting(state), last)?;
+        } else {
+            let edges = self.coded_edges(alloc, states.edges(state))?;
+            coded.push(states.accepting(state), edges)?;
+        }
+        Ok(())
+    }
+
+    /// The states with numbers for the labels of their edges. Each list is coded once.
     pub(crate) fn coded(
         &self,
         alloc: &'a A,
@@ -128,9 +151,12 @@ impl<'a, A: Allocator> LabelTable<'a, A> {
         ensures coded { IfOk result (λ s. AreCoded (table_of self.now) (automaton_of s)) }
     {
         let mut coded = SharedStates::new(alloc, states.sets());
+        let mut lasts: Vec<usize, &'a A> = Vec::new(alloc);
+        lasts.resize(states.list_count(), 0)?;
         for state in 0..states.len() {
-            let edges = self.coded_edges(alloc, states.edges(state))?;
-            coded.push(states.accepting(state), edges)?;
+            let list = states.list(state);
+            self.push_coded(alloc, states, &mut coded, state, lasts[list])?;
+            lasts[list] = state;
         }
         Ok(coded)
     }
