@@ -1,6 +1,6 @@
 //! Digests of values, made without an allocation.
 
-use ltl_alt::{Gba, GbaEdge, PairSet};
+use ltl_alt::{Edges, Gba, PairSet};
 use ltl_buchi::{Ba, Gen};
 use ltl_check::{Outcome, Taken, Verdict, Walk};
 use ltl_formula::{Row, Table};
@@ -88,8 +88,9 @@ impl Digest {
         self.take(usize::MAX);
     }
 
-    fn edges(&mut self, edges: &[GbaEdge]) {
-        for edge in edges {
+    fn edges(&mut self, edges: Edges<'_>) {
+        for place in 0..edges.len() {
+            let edge = edges.get(place);
             self.cube(&edge.cube);
             self.take(edge.target);
             self.rows(&edge.marks);
@@ -153,7 +154,9 @@ pub(crate) fn of_ba<A: Allocator>(automaton: &Ba<'_, A>) -> Digest {
     let mut digest = Digest::new();
     for i in 0..automaton.len() {
         digest.take(automaton.accepting(i) as usize);
-        for edge in automaton.edges(i) {
+        let edges = automaton.edges(i);
+        for place in 0..edges.len() {
+            let edge = edges.get(place);
             digest.cube(&edge.cube);
             digest.take(edge.target);
         }

@@ -8,10 +8,11 @@
 //! other until rows. A transition t implies a transition u if t needs no more than u, and is in each acceptance set that u is in. Implied transitions are
 //! removed, unless the caller keeps them.
 //!
-//! `Gba::reach` (`of_table`) explores the sets of rows that are reachable from the root, breadth first (`reach`). The data that all sets share is made
-//! before the first set, and doesn't change (`basis`). One part of it is the tests of which until rows a pair fulfils (`program`, `fulfilment`, `leaves`).
-//! The other part is the conjuncts of each elementary row (`conjuncts`). Each conjunct has a number and a list of pairs (`conjunct_table`, `row_lists`). Two
-//! conjuncts are linked if they share a proposition or a target, or if one may fulfil an until row that the other one postpones (`support`).
+//! `Gba::reach` (`of_table`) explores the sets of rows that are reachable from the root, breadth first (`reach`). The edges get numbers for their
+//! labels as they are made (`CodedBuilder` of `ltl_automaton`). The data that all sets share is made before the first set, and doesn't change
+//! (`basis`). One part of it is the tests of which until rows a pair fulfils (`program`, `fulfilment`, `leaves`). The other part is the conjuncts of
+//! each elementary row (`conjuncts`). Each conjunct has a number and a list of pairs (`conjunct_table`, `row_lists`). Two conjuncts are linked if they
+//! share a proposition or a target, or if one may fulfil an until row that the other one postpones (`support`).
 //!
 //! The transitions of a set of rows are made in three steps:
 //!
@@ -72,7 +73,7 @@ mod support;
 mod transition;
 mod transition_list;
 
-pub use ltl_models::{AltFault, Gba, GbaEdge, MOST_EDGES, MOST_STATES};
+pub use ltl_models::{AltFault, Edges, Gba, GbaEdge, MOST_EDGES, MOST_STATES};
 pub use of_table::Reach;
 pub use pair::Pair;
 pub use pair_set::{PairSet, pairs};

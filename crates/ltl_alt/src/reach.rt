@@ -8,7 +8,9 @@ ghost use Rattle.ltl_alt.specs.BasisView.{IsBasis};
 ghost use Rattle.ltl_alt.specs.FinalView.{HasFinals};
 ghost use Rattle.ltl_alt.specs.KeyView.{AreKeys};
 ghost use Rattle.ltl_automaton.specs.EdgeView.{edge_of};
+ghost use Rattle.ltl_automaton.specs.LabelTables.{IsBuilt, built_of};
 ghost use Rattle.ltl_automaton.specs.Net.{move_of};
+ghost use Rattle.ltl_models.specs.GbaView.{IsAcceptingGba};
 ghost use Rattle.ltl_alt.specs.ReachView.{transition_move, net_of};
 ghost use Rattle.ltl_alt.specs.TransitionView.{table_at};
 
@@ -20,7 +22,9 @@ use crate::keys::Keys;
 use crate::place::{place, until_count};
 use crate::rule::{Pruning, Rule};
 use crate::transition::Transition;
-use ltl_automaton::{AutomatonFault as AltFault, Limits, Successor, Successors, explore_from};
+use ltl_automaton::{
+    AutomatonFault as AltFault, CodedBuilder, Limits, Successor, Successors, explore_from,
+};
 use ltl_formula::Table;
 use ltl_models::{Gba, GbaEdge, MOST_EDGES, MOST_STATES};
 use ltl_sets::RowSet;
@@ -107,13 +111,15 @@ impl<'b, 't, 's, 'a, A: Allocator> Successors<RowSet, GbaEdge> for RowSets<'b, '
     }
 }
 
-/// The automaton of a table's formula, or `TooLarge` if it exceeds the limits of `Gba`.
-pub(crate) fn reach<'a, A: Allocator>(
+/// The builder with the automaton of a table's formula, or `TooLarge` if the automaton exceeds the limits of `Gba`.
+fn explored<'a, A: Allocator>(
     alloc: &'a A,
     table: &Table<'_, A>,
     keep_implied: bool,
-) -> Result<Gba<'a, A>, AltFault>
-    ensures generalized { IfOk result (IsGeneralized (core_of table.now) keep_implied) }
+) -> Result<CodedBuilder<'a, A>, AltFault>
+    ensures generalized { IfOk result (λ b. IsGeneralized (core_of table.now) keep_implied (built_of b)) }
+    ensures inside { IfOk result (λ b. IsAcceptingGba (built_of b)) }
+    ensures built { IfOk result (λ b. IsBuilt b) }
     ensures fits { IfOk result (λ _. ¬ (IsTooLarge (core_of table.now) keep_implied stated_limits.states stated_limits.edges)) }
     ensures large { IsErrOf result AltFault.TooLarge → IsTooLarge (core_of table.now) keep_implied stated_limits.states stated_limits.edges }
 {
@@ -142,13 +148,21 @@ pub(crate) fn reach<'a, A: Allocator>(
         states: MOST_STATES,
         edges: MOST_EDGES,
     };
-    let states = explore_from(
-        alloc,
-        root,
-        until_count(table),
-        &mut row_sets,
-        false,
-        limits,
-    )?;
-    Ok(Gba::new(states))
+    let builder = CodedBuilder::new(alloc, until_count(table))?;
+    let built = explore_from(alloc, root, builder, &mut row_sets, false, limits)?;
+    Ok(built)
+}
+
+/// The automaton of a table's formula, or `TooLarge` if it exceeds the limits of `Gba`.
+pub(crate) fn reach<'a, A: Allocator>(
+    alloc: &'a A,
+    table: &Table<'_, A>,
+    keep_implied: bool,
+) -> Result<Gba<'a, A>, AltFault>
+    ensures generalized { IfOk result (IsGeneralized (core_of table.now) keep_implied) }
+    ensures fits { IfOk result (λ _. ¬ (IsTooLarge (core_of table.now) keep_implied stated_limits.states stated_limits.edges)) }
+    ensures large { IsErrOf result AltFault.TooLarge → IsTooLarge (core_of table.now) keep_implied stated_limits.states stated_limits.edges }
+{
+    let built = explored(alloc, table, keep_implied)?;
+    Ok(Gba::new(built.finish()?))
 }

@@ -3,3 +3,4 @@ pub mod NetLaws
 pub mod ReachableLaws
 pub mod SharedLaws
 pub mod WayLaws
+pub mod TableLaws

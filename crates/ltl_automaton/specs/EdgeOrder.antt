@@ -1,5 +1,5 @@
 -- The order of the edges of the code: it is linear, and the test of the code finds equal edges.
-use Rattle.std.specs.Prelude.{◌≡◌, Bool, List, true, ◌&&◌, nat_eq, map}
+use Rattle.std.specs.Prelude.{◌≡◌, Bool, true, ◌&&◌, nat_eq}
 use Rattle.std.proofs.Common.{ap, ◌∙◌}
 use Rattle.std.specs.Bool.{Decides}
 use Rattle.std.specs.Cmp.{first_so, second_so}
@@ -7,9 +7,8 @@ use Rattle.std.specs.Cmp.Lexicographic.{pointwise, bytes_decides}
 use Rattle.std.proofs.lemmas.Bool.Decides.{Decides-eqb}
 use Rattle.std.proofs.lemmas.Cmp.{on_total}
 use Rattle.ltl_spec.specs.Automata.Automaton.{Edge, edge_cmp}
-use Rattle.ltl_spec.specs.Collections.Sets.{IsLinearOrder, set_of}
+use Rattle.ltl_spec.specs.Collections.Sets.{IsLinearOrder}
 use Rattle.ltl_spec.proofs.Collections.Orders.{edge_linear}
-use Rattle.ltl_spec.proofs.Collections.SortedSets.{set_of_keys}
 use Rattle.ltl_sets.specs.CubeEq.{same_cube, cube_Decides}
 use Rattle.ltl_automaton.specs.EdgeView.{edge_of}
 use Rattle.ltl_automaton.specs.declared.edge.Edge as made

@@ -5,3 +5,6 @@ pub mod EdgeView
 pub mod WorklistView
 pub mod Net
 pub mod SharedView
+pub mod Labels
+pub mod CodedEdges
+pub mod LabelTables

@@ -10,12 +10,12 @@ ghost use Rattle.ltl_automaton.specs.Net.{moves_of, edges_behind, AreListed, Are
 ghost use Rattle.ltl_automaton.specs.Bounds.{IsBounded};
 ghost use Rattle.ltl_spec.specs.Automata.Automaton.{edge_cmp, state_at};
 ghost use Rattle.ltl_spec.specs.Collections.Sets.{set_of};
-ghost use Rattle.ltl_automaton.specs.SharedView.{automaton_of, with_state};
+ghost use Rattle.ltl_automaton.specs.SharedView.{with_state};
 
 use crate::ahead::are_too_many_ahead;
+use crate::builder::Builder;
 use crate::edge::EdgeType;
 use crate::fault::AutomatonFault;
-use crate::shared::SharedStates;
 use crate::sorting::sort_dedup;
 use crate::successor::Successor;
 use crate::successors::Successors;
@@ -113,18 +113,20 @@ fn known_place<'a, K: Key, E: EdgeType, S: Successors<K, E>, A: Allocator>(
     }
 }
 
-/// Appends a state that shares the edge list of the state `place`. Answers the new number of edges.
-fn put_like<'a, E: EdgeType, A: Allocator>(
-    made: &mut SharedStates<'a, E, A>,
+/// Appends a state that shares the edge list of the state `place`. Returns the new number of edges.
+fn put_like<'a, E: EdgeType, M: Builder<E> + Drop, A: Allocator>(
+    made: &mut M,
     lengths: &mut Vec<usize, &'a A>,
     place: usize,
     accepting: bool,
     count: usize,
     most: usize,
 ) -> Result<usize, AutomatonFault>
-    requires within { place < length lengths.old.items × place < length (automaton_of made.old).states }
+    requires within { place < length lengths.old.items × place < length (M.built made.old).states }
+    requires ready { M.ready made.old }
     requires few { count ≤ most }
-    ensures made { IfOk result (λ _. automaton_of made.new ≡ with_state (automaton_of made.old) accepting (state_at (automaton_of made.old) place).edges) }
+    ensures made { IfOk result (λ _. M.built made.new ≡ with_state (M.built made.old) accepting (state_at (M.built made.old) place).edges) }
+    ensures ready { OnOk result (M.ready made.new) }
     ensures lengths { IfOk result (λ _. lengths.new.items ≡ lengths.old.items ++ slice_index_or lengths.old.items place 0 ∷ []) }
     ensures sum { IfOk result (λ n. n ≡ count + slice_index_or lengths.old.items place 0) }
     ensures fits { IfOk result (λ n. n ≤ most) }
@@ -137,23 +139,23 @@ fn put_like<'a, E: EdgeType, A: Allocator>(
     Ok(count)
 }
 
-/// Appends the state of `key` with edges of its own, and lists their targets. Answers the new number of edges.
-fn put_new<'a, K: Key, E: EdgeType, S: Successors<K, E>, A: Allocator>(
+/// Appends the state of `key` with edges of its own, and lists their targets. Returns the new number of edges.
+fn put_new<'a, K: Key, E: EdgeType, S: Successors<K, E>, M: Builder<E> + Drop, A: Allocator>(
     alloc: &'a A,
     net: &mut S,
     listing: &mut Worklist<'a, K, A>,
-    made: &mut SharedStates<'a, E, A>,
+    made: &mut M,
     lengths: &mut Vec<usize, &'a A>,
     key: &K,
     sorted: bool,
     count: usize,
     limits: Limits,
 ) -> Result<usize, AutomatonFault>
-    requires ready { S.ready net.old }
+    requires ready { S.ready net.old × M.ready made.old }
     requires few { count ≤ limits.edges }
     ensures net { OnOk result ((S.net net.new ≡ S.net net.old) × S.ready net.new) }
     ensures listed { OnOk result (AreListed K.eq (S.net net.old) key.now listing.old listing.new × length listing.new.keys ≤ limits.states) }
-    ensures made { IfOk result (λ _. automaton_of made.new ≡ with_made K.eq sorted (S.net net.old) key.now listing.new.keys (automaton_of made.old)) }
+    ensures made { OnOk result ((M.built made.new ≡ with_made K.eq sorted (S.net net.old) key.now listing.new.keys (M.built made.old)) × M.ready made.new) }
     ensures lengths { IfOk result (λ _. lengths.new.items ≡ lengths.old.items ++ length ((S.net net.old).successors key.now) ∷ []) }
     ensures sum { IfOk result (λ n. n ≡ count + length ((S.net net.old).successors key.now) × n ≤ limits.edges) }
     ensures large { IsErrOf result AutomatonFault.TooLarge → AreTooMany K.eq (S.net net.old) key.now listing.old count limits.states limits.edges }
@@ -162,7 +164,7 @@ fn put_new<'a, K: Key, E: EdgeType, S: Successors<K, E>, A: Allocator>(
     let count = counted(count, successors.len(), limits.edges)?;
     lengths.push(successors.len())?;
     let edges = numbered_by(alloc, listing, successors.as_slice(), sorted, limits.states)?;
-    made.push(net.accepting(key), edges)?;
+    made.push(net.accepting(key), edges.as_slice())?;
     Ok(count)
 }
 
@@ -189,21 +191,22 @@ fn take_next<'a, K: Key, E: EdgeType, S: Successors<K, E>, A: Allocator>(
 }
 
 /// Explores what the start reaches, until the worklist is empty or a limit is passed.
-fn explore<'a, K: Key, E: EdgeType, S: Successors<K, E>, A: Allocator>(
+fn explore<'a, K: Key, E: EdgeType, S: Successors<K, E>, M: Builder<E> + Drop, A: Allocator>(
     alloc: &'a A,
     start: K,
     net: &mut S,
     listing: &mut Worklist<'a, K, A>,
-    made: &mut SharedStates<'a, E, A>,
+    made: &mut M,
     lengths: &mut Vec<usize, &'a A>,
     sorted: bool,
     limits: Limits,
 ) -> Result<(), AutomatonFault>
     requires some { 0 < limits.states }
-    requires ready { S.ready net.old }
-    requires begun { HasBegun listing.old (automaton_of made.old) lengths.old.items }
-    ensures reachable { IfOk result (λ _. IsReachable K.eq sorted (moves_of (S.net net.old)) start (automaton_of made.old).sets (automaton_of made.new)) }
-    ensures bounded { IfOk result (λ _. IsBounded limits.states limits.edges (automaton_of made.new)) }
+    requires ready { S.ready net.old × M.ready made.old }
+    requires begun { HasBegun listing.old (M.built made.old) lengths.old.items }
+    ensures reachable { IfOk result (λ _. IsReachable K.eq sorted (moves_of (S.net net.old)) start (M.built made.old).sets (M.built made.new)) }
+    ensures bounded { IfOk result (λ _. IsBounded limits.states limits.edges (M.built made.new)) }
+    ensures ready { OnOk result (M.ready made.new) }
     ensures fits { OnOk result (¬ (PassesLimits K.eq (targets_of (S.net net.old)) start limits.states limits.edges)) }
     ensures large { IsErrOf result AutomatonFault.TooLarge → PassesLimits K.eq (targets_of (S.net net.old)) start limits.states limits.edges }
 {
@@ -231,25 +234,35 @@ fn explore<'a, K: Key, E: EdgeType, S: Successors<K, E>, A: Allocator>(
 
 /// The automaton of the states that are reachable from `start`. State 0 is `start`; the others are numbered breadth first. The edges of a state keep
 /// the order in which `net` returns them, or are sorted and without duplicates if `sorted` is set. A limit counts edges before duplicates are removed.
-pub fn explore_from<'a, K: Key, E: EdgeType, S: Successors<K, E>, A: Allocator>(
+/// The states are appended to `builder`, which has none yet and whose number of acceptance sets stays. The result is this builder.
+pub fn explore_from<
+    'a,
+    K: Key,
+    E: EdgeType,
+    S: Successors<K, E>,
+    M: Builder<E> + Drop,
+    A: Allocator,
+>(
     alloc: &'a A,
     start: K,
-    sets: usize,
+    builder: M,
     net: &mut S,
     sorted: bool,
     limits: Limits,
-) -> Result<SharedStates<'a, E, A>, AutomatonFault>
+) -> Result<M, AutomatonFault>
     requires some { 0 < limits.states }
-    requires ready { S.ready net.old }
-    ensures reachable { IfOk result (λ s. IsReachable K.eq sorted (moves_of (S.net net.old)) start sets (automaton_of s)) }
-    ensures bounded { IfOk result (λ s. IsBounded limits.states limits.edges (automaton_of s)) }
+    requires ready { S.ready net.old × M.ready builder }
+    requires begun { (M.built builder).states ≡ [] }
+    ensures reachable { IfOk result (λ m. IsReachable K.eq sorted (moves_of (S.net net.old)) start (M.built builder).sets (M.built m)) }
+    ensures bounded { IfOk result (λ m. IsBounded limits.states limits.edges (M.built m)) }
+    ensures built { IfOk result (λ m. M.ready m) }
 
     // The result is `TooLarge` if and only if a limit is passed, unless memory is refused before.
     ensures fits { OnOk result (¬ (PassesLimits K.eq (targets_of (S.net net.old)) start limits.states limits.edges)) }
     ensures large { IsErrOf result AutomatonFault.TooLarge → PassesLimits K.eq (targets_of (S.net net.old)) start limits.states limits.edges }
 {
     let mut listing = Worklist::new(alloc);
-    let mut made = SharedStates::new(alloc, sets);
+    let mut made = builder;
     let mut lengths = Vec::new(alloc);
     explore(
         alloc,

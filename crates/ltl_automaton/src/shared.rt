@@ -20,10 +20,11 @@ pub struct SharedState {
     pub accepting: bool,
 }
 
-/// An automaton that grows by one state at a time. Each edge list is stored once. State 0 is the initial one once the automaton is complete; the
-/// type doesn't require that targets exist.
+/// An automaton to which states are appended one at a time. Each edge list is stored once. State 0 is the initial one once the automaton is complete;
+/// the type doesn't require that targets exist.
 #[derive(Drop)]
 pub struct SharedStates<'a, E: EdgeType, A: Allocator> {
+    alloc: &'a A,
     sets: usize,
     lists: Lists<'a, E, A>,
     states: Vec<SharedState, &'a A>,
@@ -45,6 +46,7 @@ impl<'a, E: EdgeType, A: Allocator> SharedStates<'a, E, A> {
         ensures { result ≡ record { sets = sets; lists = []; states = [] } }
     {
         SharedStates {
+            alloc,
             sets,
             lists: Interner::new(alloc),
             states: Vec::new(alloc),
@@ -121,7 +123,7 @@ impl<'a, E: EdgeType, A: Allocator> SharedStates<'a, E, A> {
         let _ = &self.states;
     }
 
-    /// Appends a state with these edges.
+    /// Appends a state with these edges, in their order.
     pub fn push(&mut self, accepting: bool, edges: Vec<E, &'a A>) -> Result<(), AllocError>
         ensures ok { OnOk result (automaton_of self.new ≡ with_state (automaton_of self.old) accepting (map E.edge_of edges.entry.items)) }
     {
@@ -129,6 +131,15 @@ impl<'a, E: EdgeType, A: Allocator> SharedStates<'a, E, A> {
         let list = self.lists.number(EdgeList::new(edges))?;
         self.states.push(SharedState { list, accepting })?;
         Ok(())
+    }
+
+    /// Appends a state with a copy of these edges, in their order.
+    pub(crate) fn push_slice(&mut self, accepting: bool, edges: &[E]) -> Result<(), AllocError>
+        ensures ok { OnOk result (automaton_of self.new ≡ with_state (automaton_of self.old) accepting (map E.edge_of edges.now)) }
+    {
+        let mut own = Vec::with_capacity(self.alloc, edges.len())?;
+        own.extend_from_slice(edges)?;
+        self.push(accepting, own)
     }
 
     /// Appends a state that shares the edge list of state `i`.

@@ -4,8 +4,8 @@
 //! automaton, each simplified (`translate`); and the same without degeneralization (`generalized`).
 //!
 //! `ltl_alt` makes a `Gba` of a `Table`. The passes of `ltl_passes` merge it, degeneralize it, merge the result and renumber it: that is a `Ba`. A `Gen` is
-//! the merged `Gba`, renumbered. Each automaton is dropped as soon as the next one is made. This crate exports the types of `ltl_models` and the single
-//! passes as well.
+//! the merged `Gba`, renumbered. The states of each automaton are dropped as soon as the next one is made, and the table of labels moves into the result.
+//! This crate exports the types of `ltl_models` and the single passes as well.
 //!
 //! ```
 //! let formula = ltl_formula::read(&alloc, b"[]<>p")?;

@@ -8,8 +8,8 @@ use Rattle.std.proofs.lemmas.List.{drop_all, flat_map_more, get_or-set_other, ge
 use Rattle.std.proofs.lemmas.List.Concat.{length-flat_map}
 use Rattle.std.proofs.lemmas.List.Folds.{length-flat_map-take}
 use Rattle.ltl_spec.specs.Automata.Automaton.{Edge, State}
-use Rattle.ltl_automaton.specs.EdgeView.{edge_of}
-use Rattle.ltl_automaton.specs.declared.edge.Edge as made
+use Rattle.ltl_automaton.specs.CodedEdges.{edges_in, labelled_edge_of}
+use Rattle.ltl_automaton.specs.declared.labels.Edges as lent
 use Rattle.ltl_spec.specs.Collections.Sets.{has}
 use Rattle.ltl_sets.specs.WordLaws.{IsWords-words_of, bit_in-words_of, place_below, same_words}
 use Rattle.ltl_sets.specs.Words.{IsWords, bit_in, words_with}
@@ -120,29 +120,25 @@ state_put ss k d h old array fit e row r =
     ∙ ap (λ x. put_over (w ++ x ∷ []) old) r
     ∙ ap (λ l. put_over l old) (sym (states_next ss k d h))
 
-map_twice : {X Y Z : Type 0} (f : Y → Z) (g : X → Y) (xs : List X) → map (λ x. f (g x)) xs ≡ map f (map g xs)
-map_twice f g [] = refl
-map_twice f g (x ∷ xs) = ap (λ l. f (g x) ∷ l) (map_twice f g xs)
-
 -- and that of edges the rows of its edges
-pub edges_put : (ss : List State) (k : ℕ) (d : State) → k < length ss → (old array more : List EdgeRow) (at : ℕ) (list : List made.Edge) → array ≡ put_over (edge_rows (take k ss)) old
-    → at ≡ length (edge_rows (take k ss)) → more ≡ put_at at (map (λ e. edge_row (edge_of e)) list) array → map edge_of list ≡ (get_or ss k d).edges → more ≡ put_over (edge_rows (take (k + 1) ss)) old
+pub edges_put : (ss : List State) (k : ℕ) (d : State) → k < length ss → (old array more : List EdgeRow) (at : ℕ) (list : lent.Edges) → array ≡ put_over (edge_rows (take k ss)) old
+    → at ≡ length (edge_rows (take k ss)) → more ≡ put_at at (map edge_row (edges_in list)) array → edges_in list ≡ (get_or ss k d).edges → more ≡ put_over (edge_rows (take (k + 1) ss)) old
 edges_put ss k d h old array more at list ea ep em el =
-    behind_over (edge_rows (take k ss)) (map (λ (e : made.Edge). edge_row (edge_of e)) list) old array more at ea ep em
-    ∙ ap (λ l. put_over (edge_rows (take k ss) ++ l) old) (map_twice edge_row edge_of list ∙ ap (map edge_row) el)
+    behind_over (edge_rows (take k ss)) (map edge_row (edges_in list)) old array more at ea ep em
+    ∙ ap (λ l. put_over (edge_rows (take k ss) ++ map edge_row l) old) el
     ∙ ap (λ l. put_over l old) (sym (edges_next ss k d h))
 
 -- how many edges a state has
-pub edges_listed : (list : List made.Edge) (es : List Edge) → map edge_of list ≡ es → length list ≡ length es
-edges_listed list es e = sym (length-map list edge_of) ∙ ap length e
+pub edges_listed : (list : lent.Edges) (es : List Edge) → edges_in list ≡ es → length list.coded.now ≡ length es
+edges_listed list es e = sym (length-map list.coded.now (labelled_edge_of list.labels)) ∙ ap length e
 
-pub end_next : (ss : List State) (k : ℕ) (d : State) → k < length ss → (at end : ℕ) (list : List made.Edge) → at ≡ length (edge_rows (take k ss)) → end ≡ at + length list
-    → map edge_of list ≡ (get_or ss k d).edges → end ≡ length (edge_rows (take (k + 1) ss))
+pub end_next : (ss : List State) (k : ℕ) (d : State) → k < length ss → (at end : ℕ) (list : lent.Edges) → at ≡ length (edge_rows (take k ss)) → end ≡ at + length list.coded.now
+    → edges_in list ≡ (get_or ss k d).edges → end ≡ length (edge_rows (take (k + 1) ss))
 end_next ss k d h at end list ea ee el =
     omega (arith, ea, ee, edges_listed list (get_or ss k d).edges el, ap length (edges_next ss k d h), length-append (edge_rows (take k ss)) (map edge_row (get_or ss k d).edges), length-map (get_or ss k d).edges edge_row)
 
-pub room_next : (ss : List State) (k : ℕ) (d : State) → k < length ss → (at : ℕ) (list : List made.Edge) → at ≡ length (edge_rows (take k ss)) → map edge_of list ≡ (get_or ss k d).edges
-    → at + length list ≤ length (edge_rows ss)
+pub room_next : (ss : List State) (k : ℕ) (d : State) → k < length ss → (at : ℕ) (list : lent.Edges) → at ≡ length (edge_rows (take k ss)) → edges_in list ≡ (get_or ss k d).edges
+    → at + length list.coded.now ≤ length (edge_rows ss)
 room_next ss k d h at list ea el = omega (arith, ea, edges_listed list (get_or ss k d).edges el, edges_within ss k d h)
 
 -- ---- bits

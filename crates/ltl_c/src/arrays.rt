@@ -1,13 +1,14 @@
 //! Writing of states and edges into the caller's arrays.
 
 ghost use Rattle.std.specs.Prelude.{◌≡◌, ◌+◌, ◌≤◌, length, map};
+ghost use Rattle.ltl_automaton.specs.CodedEdges.{edges_in};
 ghost use Rattle.ltl_automaton.specs.EdgeView.{edge_of};
 ghost use Rattle.ltl_c.specs.Arrays.{automaton_in, edge_row, edge_rows, put_at, put_over, state_rows};
 
 use crate::rows::{EdgeRow, StateRow};
 use crate::set_words::words_of;
 use crate::shown::Shown;
-use ltl_automaton::Edge;
+use ltl_automaton::{Edge, Edges};
 use std::alloc::Allocator;
 
 /// The number of edges of an automaton.
@@ -36,13 +37,13 @@ fn edge_row(edge: &Edge) -> EdgeRow
 
 /// Writes the rows of edges from index `at` on, and returns the index after the last one.
 #[tactic(auto, using(crate::proofs::ArrayLaws::none_over))]
-fn put_edges(list: &[Edge], rows: &mut [EdgeRow], at: usize) -> usize
-    requires { at + length list.now ≤ length rows.old }
-    ensures end { result ≡ at + length list.now }
-    ensures rows { rows.new ≡ put_at at (map (λ e. edge_row (edge_of e)) list.now) rows.old }
+fn put_edges(list: Edges<'_>, rows: &mut [EdgeRow], at: usize) -> usize
+    requires { at + length list.coded.now ≤ length rows.old }
+    ensures end { result ≡ at + length list.entry.coded.now }
+    ensures rows { rows.new ≡ put_at at (map edge_row (edges_in list.entry)) rows.old }
 {
     for i in 0..list.len() {
-        rows[at + i] = edge_row(&list[i]);
+        rows[at + i] = edge_row(&list.get(i));
     }
     at + list.len()
 }

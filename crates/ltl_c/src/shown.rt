@@ -1,16 +1,16 @@
 //! An automaton in one of the layouts, state-based or transition-based.
 
-ghost use Rattle.std.specs.Prelude.{◌≡◌, ◌<◌, ◌≤◌, length, map, sum_by};
+ghost use Rattle.std.specs.Prelude.{◌≡◌, ◌<◌, ◌≤◌, length, sum_by};
 ghost use Rattle.ltl_spec.specs.Automata.Automaton.{state_at};
 ghost use Rattle.ltl_spec.specs.Tools.Limits.{stated_limits};
 ghost use Rattle.ltl_syntax.specs.FormulaView.{reading_of};
-ghost use Rattle.ltl_automaton.specs.EdgeView.{edge_of};
+ghost use Rattle.ltl_automaton.specs.CodedEdges.{edges_in};
 ghost use Rattle.ltl_words.specs.Plans.{layout_in};
 ghost use Rattle.ltl_cli.specs.Refusals.{TakesStep};
 ghost use Rattle.ltl_c.specs.Arrays.{MakesShown, automaton_in};
 
 use crate::steps::{automaton_of, generalized_of};
-use ltl_automaton::Edge;
+use ltl_automaton::Edges;
 use ltl_buchi::{Ba, Gen, Options};
 use ltl_cli::Refusal;
 use ltl_syntax::Formula;
@@ -82,9 +82,9 @@ impl<A: Allocator> Shown<'_, A> {
     }
 
     /// The edges of a state.
-    pub(crate) fn edges(&self, k: usize) -> &[Edge]
+    pub(crate) fn edges(&self, k: usize) -> Edges<'_>
         requires { k < length (automaton_in self.now).states }
-        ensures { map edge_of result.now ≡ (state_at (automaton_in self.now) k).edges }
+        ensures { edges_in result ≡ (state_at (automaton_in self.now) k).edges }
     {
         match self {
             Shown::Buchi(automaton) => automaton.states().edges(k),

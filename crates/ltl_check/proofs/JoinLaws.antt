@@ -1,18 +1,21 @@
 -- The literals of two cubes, one after the other.
-use Rattle.std.proofs.Common.{◌≡◌, ℕ, ◌<◌, ◌%◌, Bool, true, false, cond, List, [], ◌∷◌, map, length, Option, Some, None, inl, inr, refl, sym, ◌∙◌, ap, subst}
+use Rattle.std.proofs.Common.{◌≡◌, ℕ, ◌<◌, Bool, true, false, cond, List, [], ◌∷◌, map, length, Option, Some, None, inl, inr, refl, sym, ◌∙◌, ap, subst}
 use Rattle.ltl_spec.specs.Collections.Sets.{Has, IsRising, put, set_of, union}
 use Rattle.ltl_spec.specs.Transitions.Cubes.{Literal, Cube, literal_cmp, is_contradictory, join_cubes}
 use Rattle.ltl_spec.specs.Checking.Product.{renamed_literal, renamed_cube}
 use Rattle.ltl_spec.proofs.Collections.SetLaws.{IsRising-set_of, union_cases, union_left, union_right, union_assoc, union_nil, Has-put}
-use Rattle.ltl_spec.proofs.Collections.MemberLaws.{Has-map, map_length}
+use Rattle.ltl_spec.proofs.Collections.MemberLaws.{at_map, map_length}
 use Rattle.ltl_spec.proofs.Collections.Orders.{literal_linear}
 use Rattle.ltl_spec.proofs.Transitions.CubeLaws.{join_cubes_is}
-use Rattle.std.specs.Prelude.{slice_index_or}
+use Rattle.std.specs.Prelude.{slice_get, slice_index_or, option_map}
 use Rattle.ltl_spec.specs.Automata.Automaton.{Automaton, Edge, state_at}
 use Rattle.ltl_spec.specs.Checking.Bounds.{HasNamesBelow}
+use Rattle.ltl_spec.proofs.Collections.FoundLaws.{index_there}
 use Rattle.ltl_spec.proofs.Collections.ListLaws.{Has-at}
-use Rattle.ltl_automaton.specs.declared.edge.Edge as code
-use Rattle.ltl_models.specs.BaView.{edge_of}
+use Rattle.ltl_sets.specs.Words.{letter_of}
+use Rattle.ltl_check.specs.ProductView.{joined_step, no_edge, pair_marks, step_with}
+use Rattle.ltl_check.specs.declared.graph.Step.{Step}
+use Rattle.ltl_check.specs.declared.product.ProductState.{ProductState}
 use Rattle.ltl_sets.specs.declared.literal.Literal as made
 use Rattle.ltl_sets.specs.Literals.{literal_of, cube_of}
 use Rattle.ltl_spec.proofs.Transitions.SafeLaws.{contradiction_grows}
@@ -69,11 +72,24 @@ first_below n ls rest x e h = h (literal_of x) (subst (λ (m : List made.Literal
 pub rest_below : (n : ℕ) (ls rest : List made.Literal) (x : made.Literal) → ls ≡ x ∷ rest → AreBelow n ls → AreBelow n rest
 rest_below n ls rest x e h l k = h l (subst (λ (m : List made.Literal). Has (cube_of m) l) (sym e) (inr k))
 
--- so are those of an edge of an automaton, as the code sees it
-pub edge_named : (n : ℕ) (B : Automaton) (t : ℕ) (es : List code.Edge) (m : ℕ) (e : code.Edge) → HasNamesBelow n B → map edge_of es ≡ (state_at B t).edges → m % length (state_at B t).edges < length (state_at B t).edges
-    → e ≡ slice_index_or es (m % length es) e → (l : Literal) → Has e.cube l → l.proposition < n
-edge_named n B t es m e h q i is l k =
-    let c : length (state_at B t).edges ≡ length es = ap length (sym q) ∙ map_length edge_of es in
-    let i' : m % length es < length es = subst (λ w. m % w < w) c i in
-    let there : Has es e = subst (Has es) (sym is) (Has-at es (m % length es) e i') in
-    h t (edge_of e) (subst (λ (xs : List Edge). Has xs (edge_of e)) q (Has-map edge_of es e there)) l k
+-- so are those of an edge of an automaton
+pub edge_named : (n : ℕ) (B : Automaton) (t : ℕ) (es : List Edge) (m : ℕ) (e : Edge) → HasNamesBelow n B → es ≡ (state_at B t).edges → slice_get es m ≡ Some e → (l : Literal) → Has e.cube l → l.proposition < n
+edge_named n B t es m e h q i l k = let w = index_there es m e e i in h t e (subst (λ (xs : List Edge). Has xs e) q (subst (Has es) w.1 (Has-at es m e w.0))) l k
+
+-- the edges at which a look is taken
+pub first_seen : {X : Type 0} (view : X → Edge) (es : List X) (all : List Edge) (i j : ℕ) (e : X) → map view es ≡ all → i ≡ j → j < length all → e ≡ slice_index_or es i e → slice_index_or all j no_edge ≡ view e
+first_seen view es all i j e q s l h =
+    let within : i < length es = subst (λ n. n < length es) (sym s) (subst (λ n. j < n) (sym (ap length q) ∙ map_length view es) l) in
+    (λ x. slice_index_or (sym q x) (sym s x) no_edge) ∙ at_map view es i e no_edge within ∙ ap view (sym h)
+
+pub second_seen : (es all : List Edge) (i j : ℕ) (f : Edge) → es ≡ all → i ≡ j → slice_get es i ≡ Some f → slice_index_or all j no_edge ≡ f
+second_seen es all i j f q s h = (λ x. slice_index_or (sym q x) (sym s x) no_edge) ∙ (index_there es i f no_edge h).1
+
+-- what is found where the literals of both are joined, or contradict each other
+pub step_found : (sets : ℕ) (accepting : Bool) (number : ℕ → ℕ) (e f : Edge) (r : Option Cube) (marks letter : List ℕ) (c : Cube) → r ≡ join_cubes e.cube (renamed_cube number f.cube) → r ≡ Some c → marks ≡ pair_marks sets accepting e.marks → letter ≡ letter_of c
+    → Some (let x : Step ProductState = record { target = record { first = e.target; second = f.target }; marks = marks; letter = letter } in x) ≡ joined_step sets accepting number e f
+step_found sets accepting number e f r marks letter c j s m l =
+    (λ i. Some (let x : Step ProductState = record { target = record { first = e.target; second = f.target }; marks = m i; letter = l i } in x)) ∙ ap (option_map (step_with sets accepting e f)) (sym s ∙ j)
+
+pub step_missed : (sets : ℕ) (accepting : Bool) (number : ℕ → ℕ) (e f : Edge) (r : Option Cube) → r ≡ join_cubes e.cube (renamed_cube number f.cube) → r ≡ None → None ≡ joined_step sets accepting number e f
+step_missed sets accepting number e f r j s = ap (option_map (step_with sets accepting e f)) (sym s ∙ j)

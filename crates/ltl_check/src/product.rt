@@ -173,7 +173,7 @@ impl<'p, 'a, A: Allocator> Graph for Product<'p, 'a, A> {
         looks.count = looks.count.saturating_add(1);
         let others = self.second.edges(s.second);
         let edge = self.first.edges(s.first)[k / others.len()];
-        let other = others[k % others.len()];
+        let other = others.get(k % others.len());
         match joined(&edge.cube, &other.cube, self.numbers) {
             Some(cube) => Some(Step {
                 target: ProductState {

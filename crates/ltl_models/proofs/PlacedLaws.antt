@@ -1,10 +1,10 @@
 -- The places of the edges by target.
 use Rattle.std.proofs.Common.{◌≡◌, ℕ, zero, suc, Some, length-append, ◌+◌, ◌*◌, ◌%◌, ◌^◌, ◌<◌, ◌≤◌, inl, inr, List, [], ◌∷◌, ◌++◌, length, map, refl, sym, ◌∙◌, ap, subst, arith, IsPermutation}
-use Rattle.std.specs.Prelude.{slice_get, slice_index_or, take}
+use Rattle.std.specs.Prelude.{slice_get, slice_index_or, take, All}
 use Rattle.std.specs.declared.cmp.Ordering.TheVariants.{Less}
 use Rattle.std.specs.List.Sorted.{IsSorted}
-use Rattle.std.specs.Ordering.{nat_cmp, ordering_then}
-use Rattle.std.proofs.lemmas.List.{get_or-map, map_push, take_more}
+use Rattle.std.specs.Ordering.{nat_cmp, on, ordering_then, then_cmp}
+use Rattle.std.proofs.lemmas.List.{get_or-map, length-map, map_push, take_more}
 use Rattle.std.proofs.lemmas.List.Sorted.{Contains-permutation, IsPermutation-sym}
 use Rattle.std.proofs.lemmas.Bool.Decides.{nat_tests}
 use Rattle.std.proofs.lemmas.Nat.{mod-mul-add}
@@ -19,9 +19,9 @@ use Rattle.ltl_spec.proofs.Collections.CaseLaws.{below_equal_above, below_or_las
 use Rattle.ltl_spec.proofs.Collections.SortedOnce.{once_permuted, sorted_rises}
 use Rattle.std.proofs.lemmas.Option.{slice_get_within}
 use Rattle.ltl_automaton.proofs.WayLaws.{take_got}
-use Rattle.ltl_automaton.specs.EdgeView.{edge_of}
+use Rattle.ltl_automaton.specs.CodedEdges.{coded_edge_of}
 use Rattle.ltl_models.specs.BaView.{target_at, place_cmp, HaveOrders, IsTargetOrder}
-use Rattle.ltl_automaton.specs.declared.edge.Edge as code
+use Rattle.ltl_automaton.specs.declared.coded_edge.CodedEdge as code
 
 -- a target and a place as one number, and the place in it
 abbrev pub key_of : ℕ → ℕ → ℕ
@@ -98,9 +98,25 @@ placed_order es n xs ys small w e p s =
     }
 
 -- an edge of the code at its place
-pub placed_here : (edges : List code.Edge) (k : ℕ) (e : code.Edge) → k < length edges → e ≡ slice_index_or edges k e → key_of e.target k ≡ key_at (map edge_of edges) k
-placed_here edges k e l h =
-    ap (λ t. key_of t k) (ap (λ (f : code.Edge). f.target) h ∙ sym (ap (λ (f : Edge). f.target) (get_or-map edge_of edges k e (record { cube = []; target = 0; marks = [] }) l)))
+pub placed_here : (edges : List code.CodedEdge) (k : ℕ) (d : code.CodedEdge) → k < length edges → key_of (slice_index_or edges k d).target k ≡ key_at (map coded_edge_of edges) k
+placed_here edges k d l = ap (λ t. key_of t k) (sym (ap (λ (f : Edge). f.target) (get_or-map coded_edge_of edges k d (record { cube = []; target = 0; marks = [] }) l)))
+
+-- edges with other labels have the same places by target
+module _ (f : Edge → Edge) (keeps : (e : Edge) → (f e).target ≡ e.target) where
+  same_target : (es : List Edge) (k : ℕ) → target_at (map f es) k ≡ target_at es k
+  same_target [] k = refl
+  same_target (e ∷ es) zero = keeps e
+  same_target (e ∷ es) (suc k) = same_target es k
+
+  pub order_kept : (es : List Edge) (ps : List ℕ) → IsTargetOrder es ps → IsTargetOrder (map f es) ps
+  order_kept es ps o =
+      let same : target_at (map f es) ≡ target_at es = λ i k. same_target es k i in
+      let long = length-map es f in
+      record {
+        within = subst (λ n. All (λ k. k < n) ps) (sym long) o.within;
+        rising = subst (λ (t : ℕ → ℕ). IsRising (then_cmp (on t nat_cmp) nat_cmp) ps) (sym same) o.rising;
+        whole = λ k l. o.whole k (subst (λ n. k < n) long l);
+      }
 
 -- the places of one key more
 pub places_more : (keys : List ℕ) (i : ℕ) (ps : List ℕ) (d : ℕ) → i < length keys → ps ≡ map place_in (take i keys) → ps ++ place_in (slice_index_or keys i d) ∷ [] ≡ map place_in (take (i + 1) keys)

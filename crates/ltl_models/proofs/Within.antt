@@ -1,18 +1,11 @@
 -- What holds of all edges.
-use Rattle.std.proofs.Common.{◌≡◌, ℕ, refl, true, inl, inr, List, [], ◌∷◌, length, map, sym, subst}
+use Rattle.std.proofs.Common.{◌≡◌, ℕ, true, inl, inr, List, [], length, map, sym, subst}
 use Rattle.std.specs.Prelude.{All}
 use Rattle.std.proofs.lemmas.List.{get_or_past}
-use Rattle.std.proofs.lemmas.List.Elements.{All-cons, All-head, All-tail, All-get_or, All-nil}
+use Rattle.std.proofs.lemmas.List.Elements.{All-get_or, All-nil}
 use Rattle.std.proofs.lemmas.Bool.{cases_lt}
 use Rattle.ltl_spec.specs.Automata.Automaton.{Automaton, State, Edge, state_at}
-use Rattle.ltl_automaton.specs.EdgeView.{edge_of}
-use Rattle.ltl_automaton.specs.declared.edge.Edge as code
-use Rattle.ltl_models.specs.BaView as ba
-
--- a function's values have it where each element's has
-pub All_from_map : {X Y : Type 0} (P : Y → Type 0) (f : X → Y) (xs : List X) → All P (map f xs) → All (λ x. P (f x)) xs
-All_from_map P f [] a = All-nil (λ x. P (f x))
-All_from_map P f (x ∷ xs) a = All-cons (λ y. P (f y)) x xs (All-head P (f x) (map f xs) a) (All_from_map P f xs (All-tail P (f x) (map f xs) a))
+use Rattle.ltl_automaton.proofs.EdgeLaws.{All_from_map}
 
 -- what holds of the edges of all states holds of those of one
 pub edges_within : (A : Automaton) (P : Edge → Type 0) (i : ℕ) → All (λ s. All P s.edges) A.states → All P (state_at A i).edges
@@ -26,11 +19,3 @@ edges_within A P i a =
 -- and of the edges of the code, where those are the ones that are seen
 pub seen_within : {X : Type 0} (f : X → Edge) (A : Automaton) (P : Edge → Type 0) (i : ℕ) (xs : List X) → map f xs ≡ (state_at A i).edges → All (λ s. All P s.edges) A.states → All (λ x. P (f x)) xs
 seen_within f A P i xs e a = All_from_map P f xs (subst (All P) (sym e) (edges_within A P i a))
-
--- edges with no marks
-pub plain_edges : (xs : List code.Edge) → All (λ e. e.marks ≡ []) (map edge_of xs) → map ba.edge_of xs ≡ map edge_of xs
-plain_edges [] a = refl
-plain_edges (x ∷ xs) a =
-    let here = All-head (λ (e : Edge). e.marks ≡ []) (edge_of x) (map edge_of xs) a in
-    let rest = plain_edges xs (All-tail (λ (e : Edge). e.marks ≡ []) (edge_of x) (map edge_of xs) a) in
-    λ i. (let e : Edge = record { cube = x.cube; target = x.target; marks = sym here i } in e) ∷ rest i

@@ -7,12 +7,8 @@ use Rattle.ltl_spec.specs.Transitions.Cubes.{is_contradictory}
 use Rattle.ltl_spec.specs.Automata.Automaton.{Automaton, Edge, edge_cmp, state_at}
 use Rattle.ltl_spec.specs.Construction.ImpliedEdges.{IsSetEdge}
 use Rattle.ltl_spec.specs.Tools.Limits.{stated_limits}
-use Rattle.ltl_automaton.specs.SharedView.{Shared, automaton_of}
-use Rattle.ltl_automaton.specs.declared.edge.Edge as made
-
--- the edges of the code as those of an automaton without acceptance sets
-abbrev pub edge_of : made.Edge → Edge
-edge_of e = record { cube = e.cube; target = e.target; marks = [] }
+use Rattle.ltl_automaton.specs.LabelTables.{HasLabels, labelled_of}
+use Rattle.ltl_automaton.specs.declared.coded_states.CodedStates as coded
 
 -- the target of the edge at a place
 abbrev pub target_at : List Edge → ℕ → ℕ
@@ -57,6 +53,7 @@ pub record HaveOrders (lists : List (List Edge)) (places : List (List ℕ)) : Ty
   pub orders : (k : ℕ) (edges : List Edge) → slice_get lists k ≡ Some edges → IsTargetOrder edges (slice_index_or places k [])
 
 -- what the type holds
-pub record IsOrderedBa (s : Shared) (places : List (List ℕ)) : Type 0 where
-  pub inside : IsBa (automaton_of s)
-  pub ordered : HaveOrders s.lists places
+pub record IsOrderedBa {A : Type 0} (c : coded.CodedStates A) (places : List (List ℕ)) : Type 0 where
+  pub inside : IsBa (labelled_of c)
+  pub labels : HasLabels c
+  pub ordered : HaveOrders c.states.lists places

@@ -4,6 +4,8 @@ use Rattle.ltl_spec.specs.Transitions.Cubes.{is_contradictory}
 use Rattle.ltl_spec.specs.Automata.Automaton.{Automaton, Edge}
 use Rattle.ltl_spec.specs.Construction.ImpliedEdges.{IsSetEdge}
 use Rattle.ltl_spec.specs.Tools.Limits.{stated_limits}
+use Rattle.ltl_automaton.specs.LabelTables.{HasLabels, labelled_of}
+use Rattle.ltl_automaton.specs.declared.coded_states.CodedStates as coded
 pub use Rattle.ltl_automaton.specs.Codes.{literal_code, edge_code, state_code, automaton_code}
 pub use Rattle.ltl_automaton.specs.EdgeView.{edge_of}
 
@@ -27,3 +29,8 @@ pub record IsGba (g : Automaton) : Type 0 where
 pub record IsAcceptingGba (g : Automaton) : Type 0 where
   pub inside : IsGba g
   pub accepting : All (λ s. s.accepting ≡ true) g.states
+
+-- what the type holds
+pub record IsCodedGba {A : Type 0} (c : coded.CodedStates A) : Type 0 where
+  pub inside : IsAcceptingGba (labelled_of c)
+  pub labels : HasLabels c

@@ -3,11 +3,11 @@
 ghost use Rattle.std.specs.Prelude.{◌≡◌, ◌%◌, ◌<◌, ◌≤◌, [], length, map, All, IfOk};
 ghost use Rattle.ltl_spec.specs.Automata.Automaton.{state_at};
 ghost use Rattle.ltl_spec.specs.Tools.Limits.{stated_limits};
-ghost use Rattle.ltl_automaton.specs.EdgeView as view;
-ghost use Rattle.ltl_automaton.specs.SharedView.{automaton_of};
-ghost use Rattle.ltl_models.specs.BaView.{IsBa, IsTargetOrder, HaveOrders, edge_of};
+ghost use Rattle.ltl_automaton.specs.CodedEdges.{coded_edge_of, edges_in};
+ghost use Rattle.ltl_automaton.specs.LabelTables.{HasLabels, labelled_of};
+ghost use Rattle.ltl_models.specs.BaView.{IsBa, IsTargetOrder, HaveOrders};
 
-use ltl_automaton::{Edge, SharedStates};
+use ltl_automaton::{CodedEdge, CodedStates, Edges, SharedStates};
 use smallvec::SmallVec;
 use std::alloc::{AllocError, Allocator};
 use std::marker::Model;
@@ -21,9 +21,9 @@ const PLACES: u128 = 18_446_744_073_709_551_616;
 /// The positions of the edges, sorted by target and then by position. Target and position are sorted as one number of 128 bits.
 fn places_by_target<'a, A: Allocator>(
     alloc: &'a A,
-    edges: &[Edge],
+    edges: &[CodedEdge],
 ) -> Result<Places<'a, A>, AllocError>
-    ensures order { IfOk result (λ ps. IsTargetOrder (map view.edge_of edges.now) ps.items) }
+    ensures order { IfOk result (λ ps. IsTargetOrder (map coded_edge_of edges.now) ps.items) }
 {
     let mut keys: SmallVec<u128, 4, &'a A> = SmallVec::with_capacity(alloc, edges.len())?;
     for (place, edge) in edges.iter().enumerate() {
@@ -48,7 +48,7 @@ fn places<'a, A: Allocator>(alloc: &'a A, keys: &[u128]) -> Result<Places<'a, A>
 /// `places_by_target` for each edge list.
 fn orders<'a, A: Allocator>(
     alloc: &'a A,
-    states: &SharedStates<'_, Edge, A>,
+    states: &SharedStates<'_, CodedEdge, A>,
 ) -> Result<Vec<Places<'a, A>, &'a A>, AllocError>
     ensures { IfOk result (λ v. HaveOrders states.now.lists (map (λ p. p.items) v.items)) }
 {
@@ -63,7 +63,7 @@ fn orders<'a, A: Allocator>(
 /// `by_target` returns.
 #[derive(Drop)]
 pub struct Ba<'a, A: Allocator> {
-    states: SharedStates<'a, Edge, A>,
+    states: CodedStates<'a, A>,
     orders: Vec<Places<'a, A>, &'a A>,
 }
 
@@ -71,31 +71,33 @@ impl<'a, A: Allocator> Model for Ba<'a, A> {
     ghost use Rattle.std.specs.Prelude.{map};
     ghost use Rattle.ltl_spec.specs.Automata.Automaton.{Automaton};
     ghost use Rattle.ltl_automaton.specs.Codes.{automaton_code};
-    ghost use Rattle.ltl_automaton.specs.SharedView.{automaton_of};
+    ghost use Rattle.ltl_automaton.specs.LabelTables.{labelled_of};
     ghost use Rattle.ltl_models.specs.BaView.{IsOrderedBa};
 
     ghost Value = { Automaton };
 
     ghost coded = { automaton_code };
 
-    ghost view = { λ b. automaton_of b.states };
+    ghost view = { λ b. labelled_of b.states };
 
     ghost invariant = { λ b. IsOrderedBa b.states (map (λ p. p.items) b.orders.items) };
 }
 
 impl<'a, A: Allocator> Ba<'a, A> {
     /// The automaton with these states. The edges of each list are sorted by target once, for `by_target`.
-    pub fn new(alloc: &'a A, states: SharedStates<'a, Edge, A>) -> Result<Self, AllocError>
-        requires inside { IsBa (automaton_of states) }
-        ensures { IfOk result (λ b. b ≡ automaton_of states.entry) }
+    pub fn new(alloc: &'a A, states: CodedStates<'a, A>) -> Result<Self, AllocError>
+        requires inside { IsBa (labelled_of states) }
+        requires labels { HasLabels states }
+        ensures { IfOk result (λ b. b ≡ labelled_of states.entry) }
     {
-        let orders = orders(alloc, &states)?;
+        let orders = orders(alloc, &states.states)?;
         Ok(Ba { states, orders })
     }
 
-    /// The states, which share their edge lists.
-    pub fn states(&self) -> &SharedStates<'a, Edge, A>
-        ensures { automaton_of result.now ≡ self.now }
+    /// The states, and the table of the labels of their edges.
+    pub fn states(&self) -> &CodedStates<'a, A>
+        ensures automaton { labelled_of result.now ≡ self.now }
+        ensures labels { HasLabels result.now }
     {
         &self.states
     }
@@ -117,12 +119,12 @@ impl<'a, A: Allocator> Ba<'a, A> {
         self.states.accepting(i)
     }
 
-    /// The edges of a state, sorted by label and then by target, without duplicates.
-    pub fn edges(&self, i: usize) -> &[Edge]
+    /// The edges of a state, with their labels, sorted by label and then by target, without duplicates.
+    pub fn edges(&self, i: usize) -> Edges<'_>
         requires { i < length self.now.states }
-        ensures edges { map edge_of result.now ≡ (state_at self.now i).edges }
-        ensures within { All (λ e. e.target < length self.now.states) result.now }
-        ensures plain { All (λ e. e.marks ≡ []) result.now }
+        ensures edges { edges_in result ≡ (state_at self.now i).edges }
+        ensures within { All (λ e. e.target < length self.now.states) result.coded.now }
+        ensures plain { All (λ e. e.marks ≡ []) (edges_in result) }
     {
         self.states.edges(i)
     }
@@ -132,7 +134,7 @@ impl<'a, A: Allocator> Ba<'a, A> {
         requires { i < length self.now.states }
         ensures order { IsTargetOrder (state_at self.now i).edges result.now }
     {
-        let list = self.states.list(i);
+        let list = self.states.states.list(i);
         self.orders[list].as_slice()
     }
 

@@ -1,11 +1,12 @@
 //! Generalized Büchi automata as they are printed.
 
-ghost use Rattle.std.specs.Prelude.{◌≡◌, ◌<◌, ◌≤◌, length, map, All};
+ghost use Rattle.std.specs.Prelude.{◌≡◌, ◌<◌, ◌≤◌, length, All};
 ghost use Rattle.ltl_spec.specs.Automata.Automaton.{state_at};
-ghost use Rattle.ltl_models.specs.GbaView.{IsAcceptingGba, IsEdgeWithin, edge_of};
+ghost use Rattle.ltl_automaton.specs.CodedEdges.{edges_in};
+ghost use Rattle.ltl_models.specs.GbaView.{IsAcceptingGba, IsEdgeWithin};
 
 use crate::gba::Gba;
-use ltl_automaton::Edge as GbaEdge;
+use ltl_automaton::Edges;
 use std::alloc::Allocator;
 use std::marker::Model;
 
@@ -18,6 +19,7 @@ pub struct Gen<'a, A: Allocator> {
 
 impl<'a, A: Allocator> Model for Gen<'a, A> {
     ghost use Rattle.ltl_spec.specs.Automata.Automaton.{Automaton};
+    ghost use Rattle.ltl_automaton.specs.CodedEdges.{edges_in};
     ghost use Rattle.ltl_models.specs.GbaView.{automaton_code};
 
     ghost Value = { Automaton };
@@ -52,11 +54,11 @@ impl<'a, A: Allocator> Gen<'a, A> {
         self.automaton.sets()
     }
 
-    /// The edges of a state. `passes::generalized` sorts them by label, then by target, then by acceptance sets.
-    pub fn edges(&self, i: usize) -> &[GbaEdge]
+    /// The edges of a state, with their labels. `passes::generalized` sorts them by label, then by target, then by acceptance sets.
+    pub fn edges(&self, i: usize) -> Edges<'_>
         requires { i < length self.now.states }
-        ensures edges { map edge_of result.now ≡ (state_at self.now i).edges }
-        ensures within { All (λ e. IsEdgeWithin (length self.now.states) self.now.sets (edge_of e)) result.now }
+        ensures edges { edges_in result ≡ (state_at self.now i).edges }
+        ensures within { All (IsEdgeWithin (length self.now.states) self.now.sets) (edges_in result) }
     {
         self.automaton.invariant();
         self.automaton.edges(i)

@@ -12,10 +12,10 @@ use Rattle.std.specs.Cmp.{first_so, second_so}
 use Rattle.std.proofs.lemmas.Bool.Decides.{Decides-eqb}
 use Rattle.std.proofs.lemmas.Option.{get_or_from_slice_get, slice_get_within}
 use Rattle.ltl_spec.specs.Automata.Automaton.{Edge}
-use Rattle.ltl_passes.specs.CodedEdges.{coded_edge_of}
-use Rattle.ltl_passes.specs.declared.coded_edge.CodedEdge as made
+use Rattle.ltl_automaton.specs.CodedEdges.{coded_edge_of}
+use Rattle.ltl_automaton.specs.declared.coded_edge.CodedEdge as made
 use Rattle.ltl_automaton.specs.declared.shared.SharedState.{SharedState}
-use Rattle.ltl_models.proofs.Within.{All_from_map}
+use Rattle.ltl_automaton.proofs.EdgeLaws.{All_from_map}
 use Rattle.ltl_passes.proofs.TargetLaws.{pushed_longer}
 use Rattle.ltl_passes.specs.Partition.{AreListsWithin, AreSignatures, IsFirstPlaces, IsLeastAlike, IsLeastPlaces, place_signature, list_view, retargeted_list}
 

@@ -9,21 +9,17 @@ use Rattle.ltl_spec.specs.Construction.Merging.{class_names}
 use Rattle.ltl_spec.proofs.Collections.FoundLaws.{map_same}
 use Rattle.ltl_spec.proofs.Collections.MemberLaws.{map_cases}
 use Rattle.ltl_automaton.specs.SharedView.{with_state}
-use Rattle.ltl_models.proofs.Within.{All_from_map}
-use Rattle.ltl_passes.specs.declared.coded_edge.CodedEdge as code
-use Rattle.ltl_passes.specs.declared.labels.Labels as slices
-use Rattle.ltl_passes.specs.CodedEdges.{HaveLabels, coded_edge_of, labelled_edge_of, tables_of}
-use Rattle.ltl_passes.specs.Labels.{Tables, AreCoded, AreTables, IsCoded, labelled, labelled_edge, labelled_state}
+use Rattle.ltl_automaton.proofs.EdgeLaws.{All_from_map}
+use Rattle.ltl_automaton.specs.declared.coded_edge.CodedEdge as code
+use Rattle.ltl_automaton.specs.declared.labels.Labels as slices
+use Rattle.ltl_automaton.specs.CodedEdges.{HaveLabels, coded_edge_of, labelled_edge_of, tables_of}
+use Rattle.ltl_automaton.specs.Labels.{Tables, AreCoded, AreTables, IsCoded, labelled, labelled_edge, labelled_state}
 use Rattle.ltl_passes.specs.Partition.{IsWithinStates, retargeted_list}
 use Rattle.ltl_passes.proofs.LabelLaws.{coded_retargeted, labelled_names, labelled_retargeted}
-use Rattle.ltl_passes.proofs.LabelledReach.{labelled_length, state_at_labelled}
+use Rattle.ltl_automaton.proofs.TableLaws.{labelled_length, labels_seen, state_at_labelled}
 use Rattle.ltl_passes.proofs.MergedLaws.{of_all}
 
 module _ (l : slices.Labels) where
-  -- the labels are those of the edges that are seen
-  pub labels_seen : (es : List code.CodedEdge) → map (labelled_edge_of l) es ≡ map (labelled_edge (tables_of l)) (map coded_edge_of es)
-  labels_seen es = sym (map_same coded_edge_of (labelled_edge (tables_of l)) es)
-
   -- edges have labels where those that are seen are coded
   pub labels_had : (es : List code.CodedEdge) → All (IsCoded (tables_of l)) (map coded_edge_of es) → HaveLabels l es
   labels_had es c = All_from_map (IsCoded (tables_of l)) coded_edge_of es c
@@ -32,16 +28,12 @@ module _ (l : slices.Labels) where
   pub labels_coded : (es : List code.CodedEdge) → HaveLabels l es → All (IsCoded (tables_of l)) (map coded_edge_of es)
   labels_coded es c = All-map (IsCoded (tables_of l)) coded_edge_of es c
 
-  -- the labels of the edges of a state
-  pub state_labels : (A : Automaton) (s : ℕ) (es : List code.CodedEdge) → map coded_edge_of es ≡ (state_at A s).edges → map (labelled_edge_of l) es ≡ (state_at (labelled (tables_of l) A) s).edges
-  state_labels A s es e = labels_seen es ∙ ap (map (labelled_edge (tables_of l))) e ∙ ap (λ (r : State). r.edges) (sym (state_at_labelled (tables_of l) A s))
-
   module _ (f : ℕ → ℕ) (edges made : List code.CodedEdge) (had : HaveLabels l edges) (e : map coded_edge_of made ≡ retargeted_list f (map coded_edge_of edges)) where
     -- with other targets, edges keep their labels
     pub labels_retargeted : AreTables (tables_of l) → map (labelled_edge_of l) made ≡ retargeted_list f (map (labelled_edge_of l) edges)
     labels_retargeted a =
-        labels_seen made ∙ ap (map (labelled_edge (tables_of l))) e ∙ labelled_retargeted (tables_of l) a f (map coded_edge_of edges) (labels_coded edges had)
-        ∙ ap (retargeted_list f) (sym (labels_seen edges))
+        labels_seen l made ∙ ap (map (labelled_edge (tables_of l))) e ∙ labelled_retargeted (tables_of l) a f (map coded_edge_of edges) (labels_coded edges had)
+        ∙ ap (retargeted_list f) (sym (labels_seen l edges))
 
     pub labels_kept : HaveLabels l made
     labels_kept = labels_had made (subst (All (IsCoded (tables_of l))) (sym e) (coded_retargeted (tables_of l) f (map coded_edge_of edges) (labels_coded edges had)))
@@ -51,18 +43,6 @@ pub labelled_within : (t : Tables) (A : Automaton) → IsWithinStates A.states �
 labelled_within t A w s e h =
     let (f, k, d) = map_cases (labelled_edge t) (state_at A s).edges e (subst (λ (r : State). Has r.edges e) (state_at_labelled t A s) h) in
     subst (λ (x : Edge). x.target < length A.states) (sym d) (of_all A (λ (x : Edge). x.target < length A.states) w s f k)
-
--- one more state, with its labels
-pub labelled_pushed : (t : Tables) (B C : Automaton) (accepting : Bool) (es : List Edge) → C ≡ with_state B accepting es → labelled t C ≡ with_state (labelled t B) accepting (map (labelled_edge t) es)
-labelled_pushed t B C accepting es e =
-    ap (labelled t) e
-    ∙ (λ i. let X : Automaton = record { sets = B.sets; states = map-append (labelled_state t) B.states (record { accepting = accepting; edges = es } ∷ []) i } in X)
-
--- is coded, where its edges are
-pub coded_pushed : (t : Tables) (B C : Automaton) (accepting : Bool) (es : List Edge) → C ≡ with_state B accepting es → AreCoded t B → All (IsCoded t) es → AreCoded t C
-coded_pushed t B C accepting es e b c =
-    let P : State → Type 0 = λ s. All (IsCoded t) s.edges in
-    subst (AreCoded t) (sym e) (All-append P B.states (record { accepting = accepting; edges = es } ∷ []) b (All-cons P (record { accepting = accepting; edges = es }) [] c (All-nil P)))
 
 -- after merging, the classes have the names of those with numbers for labels
 pub labelled_classes : (t : Tables) (A : Automaton) (keep_equal : Bool) → AreTables t → AreCoded t A

@@ -21,7 +21,7 @@ use Rattle.ltl_spec.proofs.Collections.Orders.{nat_linear, cube_linear, edge_lin
 use Rattle.ltl_spec.proofs.Collections.SetLaws.{all_at, put_cases, set_of_cases}
 use Rattle.ltl_sets.specs.PlaceLaws.{less}
 use Rattle.ltl_passes.specs.Partition.{retargeted_list}
-use Rattle.ltl_passes.specs.Labels.{Tables, AreTables, coded_edge, labelled_edge, labelled_state, labelled, IsCoded, AreCoded}
+use Rattle.ltl_automaton.specs.Labels.{Tables, AreTables, coded_edge, labelled_edge, labelled_state, labelled, IsCoded, AreCoded}
 
 -- sets of images, where images of things of a kind compare as the things do
 module _ {X Y : Type 0} (order : Y → Y → Ordering) (cmp : X → X → Ordering) (g : X → Y) (D : X → Type 0) (alike : (x y : X) → D x → D y → order (g x) (g y) ≡ cmp x y) where

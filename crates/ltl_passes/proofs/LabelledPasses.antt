@@ -15,11 +15,12 @@ use Rattle.ltl_spec.proofs.Collections.ListLaws.{All-at_has, All-from_has}
 use Rattle.ltl_spec.proofs.Collections.MemberLaws.{Has-map, map_cases}
 use Rattle.ltl_automaton.specs.Bounds.{IsBounded}
 use Rattle.ltl_models.proofs.Within.{edges_within}
-use Rattle.ltl_passes.specs.Labels.{Tables, AreTables, labelled_edge, labelled_state, labelled, IsCoded, AreCoded}
+use Rattle.ltl_automaton.specs.Labels.{Tables, AreTables, labelled_edge, labelled_state, labelled, IsCoded, AreCoded}
 use Rattle.ltl_passes.specs.Numbered.{IsNumberable}
 use Rattle.ltl_passes.specs.Partition.{IsWithinStates, retargeted_list}
-use Rattle.ltl_passes.proofs.LabelLaws.{labelled_cmp, labelled_set, labelled_retargeted, coded_set}
-use Rattle.ltl_passes.proofs.LabelledReach.{state_at_labelled, labelled_length, labelled_sum}
+use Rattle.ltl_passes.proofs.LabelLaws.{labelled_cmp, labelled_set, labelled_retargeted, coded_retargeted, coded_set}
+use Rattle.ltl_automaton.proofs.TableLaws.{state_at_labelled, labelled_length}
+use Rattle.ltl_passes.proofs.LabelledReach.{labelled_sum}
 
 -- edges lead to states if they do with their labels
 pub within_coded : (t : Tables) (A : Automaton) → IsWithinStates (labelled t A).states → IsWithinStates A.states
@@ -123,3 +124,11 @@ module _ (t : Tables) (a : AreTables t) where
             map_same (state_in ◌==◌ true (state_net A) reached) (labelled_state t) reached
             ∙ map_equal (λ s. labelled_state t (state_in ◌==◌ true (state_net A) reached s)) (state_in ◌==◌ true (state_net (labelled t A)) reached) reached (λ s _. state_alike reached s)
             ∙ ap (λ ks. map (state_in ◌==◌ true (state_net (labelled t A)) ks) ks) (sym keys)
+
+    -- and leaves them numbers of the tables
+    pub coded_renumbered : AreCoded t (renumbered_automaton A)
+    coded_renumbered =
+        let P : State → Type 0 = λ s. All (IsCoded t) s.edges in
+        All-from_has P (renumbered_automaton A).states (λ s h.
+        let (k, l, e) = map_cases (state_in ◌==◌ true (state_net A) reached) reached s h in
+        subst P (sym e) (coded_retargeted t (λ x. place_of ◌==◌ x reached) (edges_at k) (coded_at k)))

@@ -17,10 +17,11 @@ use Rattle.ltl_spec.proofs.Collections.MemberLaws.{map_cases, map_length}
 use Rattle.ltl_spec.proofs.Collections.Orders.{cube_linear, level_edge_linear}
 use Rattle.ltl_spec.proofs.Collections.SetLaws.{set_of_cases}
 use Rattle.ltl_automaton.specs.Net.{Move, moves_of}
+use Rattle.ltl_automaton.proofs.TableLaws.{state_at_labelled, labelled_length}
 use Rattle.ltl_models.proofs.Within.{edges_within}
 use Rattle.ltl_passes.specs.Degeneralize as levels
 use Rattle.ltl_passes.specs.Degeneralize.{coded_level_edge, coded_successor, coded_level_net, level_net}
-use Rattle.ltl_passes.specs.Labels.{Tables, AreTables, coded_edge, cube_in, marks_in, labelled_edge, labelled_state, labelled, IsCoded, AreCoded}
+use Rattle.ltl_automaton.specs.Labels.{Tables, AreTables, coded_edge, cube_in, marks_in, labelled_edge, labelled_state, labelled, IsCoded, AreCoded}
 use Rattle.ltl_passes.proofs.LabelLaws.{embedded_set, rising_cmp, coded_cube_cmp, labelled_set}
 
 -- the move with the labels that stand in the tables
@@ -90,14 +91,7 @@ module _ (t : Tables) (a : AreTables t) {K M Q : Type 0} (same : K → K → Boo
   pub labelled_limits : (start : K) → PassesLimits same (targets_of P) start ≡ PassesLimits same (targets_of N) start
   labelled_limits start = ap (λ T. PassesLimits same T start) labelled_targets
 
--- the state of a number, with its labels
-pub state_at_labelled : (t : Tables) (A : Automaton) (s : ℕ) → state_at (labelled t A) s ≡ labelled_state t (state_at A s)
-state_at_labelled t A s = get_or-map (labelled_state t) A.states s (record { accepting = true; edges = [] })
-
--- there are as many states and edges
-pub labelled_length : (t : Tables) (A : Automaton) → length (labelled t A).states ≡ length A.states
-labelled_length t A = map_length (labelled_state t) A.states
-
+-- there are as many edges
 pub labelled_sum : (t : Tables) (A : Automaton) → sum_by (λ s. length s.edges) (labelled t A).states ≡ sum_by (λ s. length s.edges) A.states
 labelled_sum t A = summed A.states
   where

@@ -26,10 +26,10 @@ use Rattle.ltl_automaton.specs.Net.{Move, moves_of}
 use Rattle.ltl_automaton.proofs.EdgeLaws.{map_pushed}
 use Rattle.ltl_models.specs.GbaView as gba
 use Rattle.ltl_models.specs.BaView.{IsBa, IsPlain, IsReached}
-use Rattle.ltl_passes.specs.CodedEdges.{coded_edge_of}
+use Rattle.ltl_automaton.specs.CodedEdges.{coded_edge_of}
 use Rattle.ltl_passes.specs.Degeneralize.{successor_of, level_edge_of, level_net, coded_level_edge, coded_successor, coded_level_net}
-use Rattle.ltl_passes.specs.Labels.{Tables, AreTables, AreCoded, labelled}
-use Rattle.ltl_passes.specs.declared.coded_edge.CodedEdge as coded
+use Rattle.ltl_automaton.specs.Labels.{Tables, AreTables, AreCoded, labelled}
+use Rattle.ltl_automaton.specs.declared.coded_edge.CodedEdge as coded
 use Rattle.ltl_passes.specs.declared.degeneralize.LevelEdge as code
 use Rattle.ltl_passes.proofs.LabelledPasses.{bounded_labelled}
 use Rattle.ltl_passes.proofs.LabelledReach.{levels_labelled, levels_limits}

@@ -16,5 +16,4 @@ pub mod ReachedLaws
 pub mod RenumberLaws
 pub mod RunLaws
 pub mod Sums
-pub mod TableLaws
 pub mod TargetLaws

@@ -17,7 +17,7 @@ use Rattle.ltl_models.specs.GbaView as gba
 use Rattle.ltl_models.specs.BaView.{IsBa, IsPlain}
 use Rattle.ltl_passes.specs.Partition.{IsWithinStates}
 use Rattle.ltl_models.proofs.Within.{edges_within}
-use Rattle.ltl_passes.proofs.TargetLaws.{states_at}
+use Rattle.ltl_automaton.proofs.TableLaws.{states_at}
 use Rattle.ltl_passes.proofs.QuotientLaws.{quotient_some, quotient_few, quotient_few_edges, quotient_all, quotient_rising, quotient_reached, class_at, listed}
 
 abbrev IsConsistent : Edge → Type 0

@@ -34,7 +34,8 @@ use Rattle.ltl_passes.proofs.MergedLaws.{of_all, gba_within}
 use Rattle.ltl_passes.proofs.ReachedLaws.{listed_reached}
 use Rattle.ltl_passes.proofs.Sums.{HasNoRepeats_take}
 use Rattle.ltl_models.proofs.Within.{edges_within}
-use Rattle.ltl_passes.proofs.TargetLaws.{states_at, closed_within}
+use Rattle.ltl_automaton.proofs.TableLaws.{states_at}
+use Rattle.ltl_passes.proofs.TargetLaws.{closed_within}
 
 -- past the last state
 pub accepts_past : (A : Automaton) (s : ℕ) → length A.states ≤ s → true ≡ (state_at A s).accepting

@@ -27,11 +27,11 @@ use Rattle.ltl_automaton.specs.EdgeView.{edge_of}
 use Rattle.ltl_automaton.specs.declared.edge.Edge as plain
 use Rattle.ltl_automaton.specs.EdgeOrder.{same_code, edge_Decides, edge_exact}
 use Rattle.ltl_automaton.proofs.EdgeLaws.{map_pushed}
-use Rattle.ltl_passes.specs.CodedEdges.{HaveLabels, coded_edge_of, coded_linear_by_view, labelled_edge_of, tables_of}
-use Rattle.ltl_passes.specs.Labels.{AreTables, IsCoded, labelled_edge}
-use Rattle.ltl_passes.specs.declared.coded_edge.CodedEdge as coded
+use Rattle.ltl_automaton.specs.CodedEdges.{HaveLabels, coded_edge_of, coded_linear_by_view, labelled_edge_of, tables_of}
+use Rattle.ltl_automaton.specs.Labels.{AreTables, IsCoded, labelled_edge}
+use Rattle.ltl_automaton.specs.declared.coded_edge.CodedEdge as coded
 use Rattle.ltl_passes.specs.declared.implied.RunEdge as made
-use Rattle.ltl_passes.specs.declared.labels.Labels as slices
+use Rattle.ltl_automaton.specs.declared.labels.Labels as slices
 use Rattle.ltl_passes.specs.Runs.{AllLeadTo, IsByTarget, IsFirstLike, IsKept, IsOfWeight, IsWeighedLike, code_of, edge_at, is_below, is_lacked, is_left, is_other, left_of, run_edge, target_at, target_of}
 use Rattle.ltl_passes.proofs.LabelLaws.{embedded_set, labelled_cmp, labelled_set}
 

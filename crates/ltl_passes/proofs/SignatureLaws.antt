@@ -6,9 +6,9 @@ use Rattle.ltl_spec.specs.Collections.Sets.{Has, set_of}
 use Rattle.ltl_spec.specs.Automata.Automaton.{Automaton, State, Edge, edge_cmp, state_at}
 use Rattle.ltl_spec.specs.Construction.Merging.{retargeted_edge, retargeted_state}
 use Rattle.ltl_spec.proofs.Collections.ListLaws.{All-at_has}
-use Rattle.ltl_passes.specs.CodedEdges.{coded_edge_of}
+use Rattle.ltl_automaton.specs.CodedEdges.{coded_edge_of}
 use Rattle.ltl_automaton.specs.SharedView.{Shared, IsShared, automaton_of, state_in}
-use Rattle.ltl_passes.specs.declared.coded_edge.CodedEdge as code
+use Rattle.ltl_automaton.specs.declared.coded_edge.CodedEdge as code
 use Rattle.ltl_automaton.specs.declared.shared.SharedState.{SharedState}
 use Rattle.ltl_automaton.proofs.EdgeLaws.{map_pushed}
 use Rattle.ltl_automaton.proofs.SharedLaws.{got_once}

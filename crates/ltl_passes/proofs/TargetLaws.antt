@@ -11,9 +11,10 @@ use Rattle.ltl_spec.proofs.Collections.MemberLaws.{map_cases}
 use Rattle.ltl_spec.proofs.Collections.Orders.{edge_linear}
 use Rattle.ltl_spec.proofs.Collections.SetLaws.{set_of_cases}
 use Rattle.ltl_spec.proofs.Semantics.Runs.{IsClosed}
-use Rattle.ltl_passes.specs.CodedEdges.{coded_edge_of}
-use Rattle.ltl_passes.specs.declared.coded_edge.CodedEdge as code
-use Rattle.ltl_models.proofs.Within.{All_from_map, edges_within}
+use Rattle.ltl_automaton.specs.CodedEdges.{coded_edge_of}
+use Rattle.ltl_automaton.specs.declared.coded_edge.CodedEdge as code
+use Rattle.ltl_automaton.proofs.EdgeLaws.{All_from_map}
+use Rattle.ltl_models.proofs.Within.{edges_within}
 use Rattle.ltl_passes.specs.Partition.{IsWithinStates, retargeted_list}
 
 -- an automaton whose edges lead to states is closed
@@ -26,15 +27,6 @@ closed_within A some within = record {
 -- one more is one longer
 pub pushed_longer : {K : Type 0} (xs ys : List K) (x : K) → ys ≡ xs ++ x ∷ [] → length ys ≡ length xs + 1
 pushed_longer xs ys x e = ap length e ∙ length-append xs (x ∷ [])
-
--- what holds of all states, and where there is none, holds at each number
-pub states_at : (A : Automaton) (P : State → Type 0) (i : ℕ) → P (record { accepting = true; edges = [] }) → All P A.states → P (state_at A i)
-states_at A P i p a =
-    let none : State = record { accepting = true; edges = [] } in
-    elim (cases_lt i (length A.states)) [
-      | inl l ↦ All-get_or P A.states i none l a
-      | inr l ↦ subst P (sym (get_or_past A.states i none l)) p
-    ]
 
 -- edges lead to numbers where their targets have these
 pub retargeted_within : (numbers : List ℕ) (n : ℕ) (edges made : List code.CodedEdge) → All (λ e. e.target < length numbers) edges → All (λ k. k < n) numbers → map coded_edge_of made ≡ retargeted_list (slice_index numbers) (map coded_edge_of edges)

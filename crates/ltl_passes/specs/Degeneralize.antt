@@ -4,7 +4,7 @@ use Rattle.ltl_spec.specs.Collections.Sets.{set_of}
 use Rattle.ltl_spec.specs.Automata.Automaton.{Automaton, Edge, state_at}
 use Rattle.ltl_spec.specs.Construction.Levels.{LevelState, LevelEdge, level_edge_cmp, level_edges, next_level}
 use Rattle.ltl_automaton.specs.Net.{Net, Move}
-use Rattle.ltl_passes.specs.Labels.{Tables, marks_in}
+use Rattle.ltl_automaton.specs.Labels.{Tables, marks_in}
 use Rattle.ltl_passes.specs.declared.degeneralize.LevelEdge as code
 
 -- an edge of the code, with its number as a cube

@@ -11,7 +11,7 @@ use Rattle.ltl_spec.proofs.Collections.Orders.{level_edge_linear}
 use Rattle.ltl_spec.proofs.Collections.SortedSets.{set_of_keys}
 use Rattle.ltl_spec.proofs.Construction.LevelRuns.{same_level_state_Decides}
 use Rattle.ltl_passes.specs.Degeneralize.{level_edge_of}
-use Rattle.ltl_passes.specs.Labels.{number_of_cube}
+use Rattle.ltl_automaton.specs.Labels.{number_of_cube}
 use Rattle.ltl_passes.specs.declared.degeneralize.LevelEdge as code
 
 -- edges with the same parts are the same

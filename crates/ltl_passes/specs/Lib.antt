@@ -5,7 +5,4 @@ pub mod LevelCodes
 pub mod LevelEdgeOrder
 pub mod Numbered
 pub mod Runs
-pub mod Labels
-pub mod CodedEdges
-pub mod LabelTables
 pub mod Passes

@@ -16,10 +16,10 @@ use Rattle.ltl_spec.proofs.Collections.SetLaws.{Has-filter, filter_cases, has_De
 use Rattle.ltl_sets.specs.Words.{forbidden_of, letter_of}
 use Rattle.ltl_sets.specs.declared.row_set.TheConstants.RowSet.{LIMIT}
 use Rattle.ltl_automaton.specs.EdgeView.{edge_of}
-use Rattle.ltl_passes.specs.CodedEdges.{labelled_edge_of}
-use Rattle.ltl_passes.specs.declared.coded_edge.CodedEdge as coded
+use Rattle.ltl_automaton.specs.CodedEdges.{labelled_edge_of}
+use Rattle.ltl_automaton.specs.declared.coded_edge.CodedEdge as coded
 use Rattle.ltl_passes.specs.declared.implied.RunEdge as made
-use Rattle.ltl_passes.specs.declared.labels.Labels as slices
+use Rattle.ltl_automaton.specs.declared.labels.Labels as slices
 
 abbrev pub run_edge : made.RunEdge → Edge
 run_edge k = edge_of k.edge

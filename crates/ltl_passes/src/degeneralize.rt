@@ -9,16 +9,13 @@ ghost use Rattle.ltl_automaton.specs.SharedView.{automaton_of};
 ghost use Rattle.ltl_models.specs.GbaView as gba;
 ghost use Rattle.ltl_models.specs.BaView.{IsBa};
 ghost use Rattle.ltl_automaton.specs.Net.{move_of};
-ghost use Rattle.ltl_passes.specs.CodedEdges.{coded_edge_of, tables_of};
+ghost use Rattle.ltl_automaton.specs.CodedEdges.{coded_edge_of, tables_of};
 ghost use Rattle.ltl_passes.specs.Degeneralize.{coded_level_edge, coded_level_net, coded_successor, level_edge_of};
-ghost use Rattle.ltl_passes.specs.Labels.{AreCoded, AreTables, labelled};
+ghost use Rattle.ltl_automaton.specs.Labels.{AreCoded, AreTables, labelled};
 
-use crate::coded_edge::CodedEdge;
-use crate::label_table::{LabelTable, labelled_states};
-use crate::labels::Labels;
 use ltl_automaton::{
-    AutomatonFault, Key, Limits, ListOrder, SharedStates, Successor, Successors, explore_from,
-    next_level, sort_dedup,
+    AutomatonFault, CodedEdge, CodedStates, Key, Labels, Limits, ListOrder, SharedStates,
+    Successor, Successors, explore_from, next_level, sort_dedup,
 };
 use ltl_models::{Ba, BaFault, Gba, MOST_EDGES, MOST_STATES};
 use std::alloc::{AllocError, Allocator};
@@ -272,7 +269,8 @@ pub(crate) fn level_states<'a, A: Allocator>(
         labels: *labels,
         states,
     };
-    let made = explore_from(alloc, start, 0, &mut copies, true, limits)?;
+    let empty = SharedStates::new(alloc, 0);
+    let made = explore_from(alloc, start, empty, &mut copies, true, limits)?;
     Ok(made)
 }
 
@@ -285,10 +283,12 @@ pub fn levels<'a, A: Allocator>(alloc: &'a A, automaton: &Gba<'_, A>) -> Result<
     ensures many { IsErrOf result BaFault.TooLarge → levels_of.HasTooManyLevelStates automaton.now stated_limits.states stated_limits.edges }
 {
     automaton.invariant();
-    let table = LabelTable::of(alloc, automaton.states())?;
-    let labels = table.labels();
-    let states = table.coded(alloc, automaton.states())?;
-    let copies = level_states(alloc, &labels, &states)?;
-    let made = labelled_states(alloc, &labels, &copies)?;
+    let input = automaton.states();
+    let labels = input.table.labels();
+    let copies = level_states(alloc, &labels, &input.states)?;
+    let made = CodedStates {
+        table: labels.table(alloc)?,
+        states: copies,
+    };
     Ok(Ba::new(alloc, made)?)
 }

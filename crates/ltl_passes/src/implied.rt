@@ -8,14 +8,12 @@ ghost use Rattle.ltl_spec.specs.Collections.Sets.{IsRising};
 ghost use Rattle.ltl_spec.specs.Automata.Automaton.{edge_cmp};
 ghost use Rattle.ltl_spec.specs.Construction.Merging as merging;
 ghost use Rattle.ltl_automaton.specs.EdgeView.{edge_of};
-ghost use Rattle.ltl_passes.specs.CodedEdges.{HaveLabels, coded_edge_of, labelled_edge_of, tables_of};
-ghost use Rattle.ltl_passes.specs.Labels.{AreTables};
+ghost use Rattle.ltl_automaton.specs.CodedEdges.{HaveLabels, coded_edge_of, labelled_edge_of, tables_of};
+ghost use Rattle.ltl_automaton.specs.Labels.{AreTables};
 ghost use Rattle.ltl_passes.specs.Runs.{AllLeadTo, IsByTarget, IsFirstLike, IsKept, IsOfWeight, IsWeighedLike, code_of, left_of, run_edge, target_of};
 
-use crate::coded_edge::CodedEdge;
-use crate::labels::Labels;
 use least::{Below, Counting, Elements, least};
-use ltl_automaton::{Edge, sort_dedup};
+use ltl_automaton::{CodedEdge, Edge, Labels, sort_dedup};
 use ltl_sets::RowSet;
 use std::alloc::{AllocError, Allocator};
 

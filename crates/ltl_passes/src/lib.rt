@@ -3,9 +3,10 @@
 //! In the field's words: the quotient by bisimilarity, found by partition refinement (`merge`, `merge_ba`); degeneralization, with a copy of a state for each
 //! number of acceptance sets that were met in turn (`levels`); and numbering breadth first (`renumber`). No pass knows a formula.
 //!
-//! The labels of an automaton are numbered once (`label_table`): its different cubes and its different sets of marks are two sorted tables, and an edge is two
-//! numbers and a target (`coded_edge`). The order of numbers is that of the labels. So the passes sort, compare and hash numbers, and read a label only to
-//! find implied edges and levels. The result gets its labels back.
+//! The passes work on the edges as the automaton stores them, with numbers for their labels (`CodedEdge` of `ltl_automaton`). The order of the numbers is that
+//! of the labels. So the passes sort, compare and hash numbers, and read a label only to find implied edges and levels. No pass makes a new label, so each
+//! result has the table of its input: `buchi` and `generalized` move it, and the single passes copy it. A label stays in the table even if no edge has it any
+//! more.
 //!
 //! The translation merges a `Gba`, degeneralizes it, merges the result and renumbers it: that is a `Ba` (`buchi`). A merged `Gba` that is renumbered is a `Gen`
 //! (`generalized`). `merge`, `levels`, `merge_ba` and `renumber` are the same passes, one at a time.
@@ -27,11 +28,8 @@
 #![tactic(auto)]
 
 mod classes;
-mod coded_edge;
 mod degeneralize;
 mod implied;
-mod label_table;
-mod labels;
 pub mod merging;
 pub mod numbering;
 mod owners;
@@ -39,7 +37,6 @@ mod partition;
 pub mod passes;
 mod queue;
 mod quotient;
-mod ranked;
 mod retargeting;
 mod sources;
 mod worklist;

@@ -3,18 +3,16 @@
 ghost use Rattle.std.specs.Prelude.{◌≡◌, if◌then◌else◌, length, IfOk, IfErr};
 ghost use Rattle.ltl_spec.specs.Construction.Merging as merging;
 ghost use Rattle.ltl_spec.specs.Construction.Merging.{merged_automaton};
+ghost use Rattle.ltl_automaton.specs.LabelTables.{HasLabels, labelled_of};
 ghost use Rattle.ltl_automaton.specs.SharedView.{automaton_of};
 ghost use Rattle.ltl_models.specs.BaView.{IsBa};
-ghost use Rattle.ltl_passes.specs.CodedEdges.{tables_of};
-ghost use Rattle.ltl_passes.specs.Labels.{AreCoded, AreTables, labelled};
+ghost use Rattle.ltl_automaton.specs.CodedEdges.{tables_of};
+ghost use Rattle.ltl_automaton.specs.Labels.{AreCoded, AreTables, labelled};
 ghost use Rattle.ltl_passes.specs.Partition.{IsWithinStates};
 
-use crate::coded_edge::CodedEdge;
-use crate::label_table::{LabelTable, labelled_states};
-use crate::labels::Labels;
 use crate::partition::{class_names, own_names};
 use crate::quotient::quotient;
-use ltl_automaton::SharedStates;
+use ltl_automaton::{CodedEdge, CodedStates, Labels, SharedStates};
 use ltl_models::{Ba, BaFault, Gba, Options};
 use std::alloc::{AllocError, Allocator};
 
@@ -57,6 +55,25 @@ pub(crate) fn merged<'a, A: Allocator>(
     )
 }
 
+/// The quotient, with a copy of the table of labels.
+fn merged_states<'a, A: Allocator>(
+    alloc: &'a A,
+    input: &CodedStates<'_, A>,
+    options: &Options,
+) -> Result<CodedStates<'a, A>, AllocError>
+    requires labels { HasLabels input.now }
+    requires within { IsWithinStates (labelled_of input.now).states }
+    ensures merged { IfOk result (λ m. labelled_of m ≡ merged_automaton options.now.keep_implied options.now.keep_equal (labelled_of input.now)) }
+    ensures labels { IfOk result (λ m. HasLabels m) }
+{
+    let labels = input.table.labels();
+    let small = merged(alloc, &labels, &input.states, options)?;
+    Ok(CodedStates {
+        table: labels.table(alloc)?,
+        states: small,
+    })
+}
+
 /// The generalized automaton with equivalent states merged and without the transitions that another one with the same target implies. Each option turns one
 /// of these two simplifications off. The only fault is `OutOfMemory`.
 pub fn merge<'a, A: Allocator>(
@@ -68,12 +85,8 @@ pub fn merge<'a, A: Allocator>(
     ensures fault { IfErr result (λ f. f ≡ BaFault.OutOfMemory) }
 {
     gba.invariant();
-    let table = LabelTable::of(alloc, gba.states())?;
-    let labels = table.labels();
-    let coded = table.coded(alloc, gba.states())?;
-    let small = merged(alloc, &labels, &coded, options)?;
-    let states = labelled_states(alloc, &labels, &small)?;
-    Ok(Gba::new(states))
+    let small = merged_states(alloc, gba.states(), options)?;
+    Ok(Gba::new(small))
 }
 
 /// The Büchi automaton with equivalent states merged and without the edges that another one with the same target implies. Each option turns one of these two
@@ -87,10 +100,6 @@ pub fn merge_ba<'a, A: Allocator>(
     ensures fault { IfErr result (λ f. f ≡ BaFault.OutOfMemory) }
 {
     ba.invariant();
-    let table = LabelTable::of(alloc, ba.states())?;
-    let labels = table.labels();
-    let coded = table.coded(alloc, ba.states())?;
-    let smaller = merged(alloc, &labels, &coded, options)?;
-    let states = labelled_states(alloc, &labels, &smaller)?;
-    Ok(Ba::new(alloc, states)?)
+    let small = merged_states(alloc, ba.states(), options)?;
+    Ok(Ba::new(alloc, small)?)
 }

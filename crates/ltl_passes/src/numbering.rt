@@ -5,14 +5,15 @@ ghost use Rattle.ltl_spec.specs.Collections.Sets.{IsRising};
 ghost use Rattle.ltl_spec.specs.Automata.Automaton.{edge_cmp};
 ghost use Rattle.ltl_spec.specs.Construction.Renumbered.{renumbered_automaton};
 ghost use Rattle.ltl_automaton.specs.Net.{move_of};
-ghost use Rattle.ltl_passes.specs.CodedEdges.{coded_edge_of};
+ghost use Rattle.ltl_automaton.specs.CodedEdges.{coded_edge_of};
 ghost use Rattle.ltl_automaton.specs.SharedView.{automaton_of};
 ghost use Rattle.ltl_models.specs.BaView.{IsBa};
 ghost use Rattle.ltl_passes.specs.Numbered.{IsNumberable, successor_of, net_of};
 
-use crate::coded_edge::CodedEdge;
-use crate::label_table::{LabelTable, labelled_states};
-use ltl_automaton::{AutomatonFault, Limits, SharedStates, Successor, Successors, explore_from};
+use ltl_automaton::{
+    AutomatonFault, CodedEdge, CodedStates, Limits, SharedStates, Successor, Successors,
+    explore_from,
+};
 use ltl_models::{Ba, BaFault, MOST_EDGES, MOST_STATES};
 use std::alloc::{AllocError, Allocator};
 
@@ -91,7 +92,8 @@ pub(crate) fn renumbered<'a, A: Allocator>(
         states: MOST_STATES,
         edges: MOST_EDGES,
     };
-    explore_from(alloc, 0, states.sets(), &mut numbers, true, limits)
+    let made = SharedStates::new(alloc, states.sets());
+    explore_from(alloc, 0, made, &mut numbers, true, limits)
 }
 
 /// The same Büchi automaton with its states numbered breadth first. The only fault is `OutOfMemory`.
@@ -100,10 +102,11 @@ pub fn renumber<'a, A: Allocator>(alloc: &'a A, automaton: &Ba<'_, A>) -> Result
     ensures fits { ¬ IsErrOf result BaFault.TooLarge }
 {
     automaton.invariant();
-    let table = LabelTable::of(alloc, automaton.states())?;
-    let labels = table.labels();
-    let coded = table.coded(alloc, automaton.states())?;
-    let numbered = renumbered(alloc, &coded)?;
-    let states = labelled_states(alloc, &labels, &numbered)?;
-    Ok(Ba::new(alloc, states)?)
+    let input = automaton.states();
+    let numbered = renumbered(alloc, &input.states)?;
+    let made = CodedStates {
+        table: input.table.labels().table(alloc)?,
+        states: numbered,
+    };
+    Ok(Ba::new(alloc, made)?)
 }

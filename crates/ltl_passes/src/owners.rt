@@ -2,12 +2,11 @@
 
 ghost use Rattle.std.specs.Prelude.{◌≡◌, ℕ, ◌<◌, List, [], map, IfOk};
 ghost use Rattle.ltl_spec.specs.Automata.Automaton as spec;
-ghost use Rattle.ltl_passes.specs.CodedEdges.{coded_edge_of};
+ghost use Rattle.ltl_automaton.specs.CodedEdges.{coded_edge_of};
 ghost use Rattle.ltl_passes.specs.Worklist.{AreOwners};
 
-use crate::coded_edge::CodedEdge;
 use crate::partition::{ListInterner, signature};
-use ltl_automaton::Interner;
+use ltl_automaton::{CodedEdge, Interner};
 use std::alloc::{AllocError, Allocator};
 
 /// Edge lists up to classes, and for each the first state that had it.

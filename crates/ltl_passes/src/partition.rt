@@ -5,15 +5,14 @@ ghost use Rattle.std.specs.List.{range_with_len};
 ghost use Rattle.ltl_spec.specs.Collections.Lists.{HasNoRepeats};
 ghost use Rattle.ltl_spec.specs.Automata.Automaton as spec;
 ghost use Rattle.ltl_spec.specs.Construction.Merging as merging;
-ghost use Rattle.ltl_passes.specs.CodedEdges.{coded_edge_of};
+ghost use Rattle.ltl_automaton.specs.CodedEdges.{coded_edge_of};
 ghost use Rattle.ltl_automaton.specs.SharedView.{automaton_of};
 ghost use Rattle.ltl_passes.specs.Worklist.{AreFiner, IsRound};
 ghost use Rattle.ltl_passes.specs.Partition.{AreListsWithin, AreSignatures, IsFirstPlaces, IsLeastAlike, IsLeastPlaces, IsWithinStates, place_signature, list_view};
 
-use crate::coded_edge::CodedEdge;
 use crate::retargeting::retargeted;
 use crate::worklist::coarsened;
-use ltl_automaton::{EdgeList, Interner, SharedState, SharedStates};
+use ltl_automaton::{CodedEdge, EdgeList, Interner, SharedState, SharedStates};
 use std::alloc::{AllocError, Allocator};
 
 /// An interner of signatures of edge lists: a list with its targets replaced by the names of their classes.

@@ -7,17 +7,14 @@ ghost use Rattle.ltl_spec.specs.Tools.Limits.{stated_limits};
 ghost use Rattle.ltl_automaton.specs.SharedView.{automaton_of};
 ghost use Rattle.ltl_models.specs.GbaView as gba;
 ghost use Rattle.ltl_models.specs.BaView.{IsBa};
-ghost use Rattle.ltl_passes.specs.CodedEdges.{tables_of};
-ghost use Rattle.ltl_passes.specs.Labels.{AreCoded, AreTables, labelled};
+ghost use Rattle.ltl_automaton.specs.CodedEdges.{tables_of};
+ghost use Rattle.ltl_automaton.specs.Labels.{AreCoded, AreTables, labelled};
 ghost use Rattle.ltl_passes.specs.Passes.{buchi_of, merged_of};
 
-use crate::coded_edge::CodedEdge;
 use crate::degeneralize::level_states;
-use crate::label_table::{LabelTable, labelled_states};
-use crate::labels::Labels;
 use crate::merging::merged;
 use crate::numbering::renumbered;
-use ltl_automaton::SharedStates;
+use ltl_automaton::{CodedEdge, CodedStates, Labels, SharedStates};
 use ltl_models::{Ba, BaFault, Gba, Gen, Options};
 use std::alloc::Allocator;
 
@@ -35,6 +32,7 @@ fn coded_buchi<'a, A: Allocator>(
     ensures states { IfOk result (λ s. labelled (tables_of labels.now) (automaton_of s)
         ≡ buchi_of options.now (labelled (tables_of labels.now) (automaton_of states.entry))) }
     ensures inside { IfOk result (λ s. IsBa (labelled (tables_of labels.now) (automaton_of s))) }
+    ensures coded { IfOk result (λ s. AreCoded (tables_of labels.now) (automaton_of s)) }
     ensures few { OnOk result (¬ HasTooManyLevelStates (merged_of options.now (labelled (tables_of labels.now) (automaton_of states.entry)))
         stated_limits.states stated_limits.edges) }
     ensures many { IsErrOf result BaFault.TooLarge → HasTooManyLevelStates (merged_of options.now (labelled (tables_of labels.now) (automaton_of states.entry)))
@@ -49,11 +47,10 @@ fn coded_buchi<'a, A: Allocator>(
     renumbered(alloc, &smaller)
 }
 
-/// The Büchi automaton of a generalized one, which is merged, degeneralized, merged again and renumbered. The labels are numbered once, and the passes work
-/// on their numbers.
+/// The Büchi automaton of a generalized one, which is merged, degeneralized, merged again and renumbered. The result owns the table of labels of the input.
 pub fn buchi<'a, A: Allocator>(
     alloc: &'a A,
-    automaton: Gba<'_, A>,
+    automaton: Gba<'a, A>,
     options: &Options,
 ) -> Result<Ba<'a, A>, BaFault>
     ensures states { IfOk result (λ b. b ≡ buchi_of options.now automaton.entry) }
@@ -63,34 +60,32 @@ pub fn buchi<'a, A: Allocator>(
     ensures many { IsErrOf result BaFault.TooLarge → HasTooManyLevelStates (merged_of options.now automaton.entry) stated_limits.states stated_limits.edges }
 {
     automaton.invariant();
-    let table = LabelTable::of(alloc, automaton.states())?;
-    let coded = table.coded(alloc, automaton.states())?;
-    drop(automaton);
-    let labels = table.labels();
-    let numbered = coded_buchi(alloc, &labels, coded, options)?;
-    let states = labelled_states(alloc, &labels, &numbered)?;
-    drop(numbered);
-    Ok(Ba::new(alloc, states)?)
+    let CodedStates { table, states } = automaton.into_states();
+    let numbered = coded_buchi(alloc, &table.labels(), states, options)?;
+    let made = CodedStates {
+        table,
+        states: numbered,
+    };
+    Ok(Ba::new(alloc, made)?)
 }
 
 /// The generalized automaton as it is printed: merged and renumbered. The only fault is `OutOfMemory`.
 pub fn generalized<'a, A: Allocator>(
     alloc: &'a A,
-    automaton: Gba<'_, A>,
+    automaton: Gba<'a, A>,
     options: &Options,
 ) -> Result<Gen<'a, A>, BaFault>
     ensures states { IfOk result (λ g. g ≡ renumbered_automaton (merged_of options.now automaton.entry)) }
     ensures fits { ¬ IsErrOf result BaFault.TooLarge }
 {
     automaton.invariant();
-    let table = LabelTable::of(alloc, automaton.states())?;
-    let coded = table.coded(alloc, automaton.states())?;
-    drop(automaton);
-    let labels = table.labels();
-    let small = merged(alloc, &labels, &coded, options)?;
-    drop(coded);
+    let CodedStates { table, states } = automaton.into_states();
+    let small = merged(alloc, &table.labels(), &states, options)?;
+    drop(states);
     let numbered = renumbered(alloc, &small)?;
-    drop(small);
-    let states = labelled_states(alloc, &labels, &numbered)?;
-    Ok(Gen::new(Gba::new(states)))
+    let made = CodedStates {
+        table,
+        states: numbered,
+    };
+    Ok(Gen::new(Gba::new(made)))
 }

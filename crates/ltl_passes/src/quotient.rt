@@ -2,16 +2,14 @@
 
 ghost use Rattle.std.specs.Prelude.{◌≡◌, ◌<◌, length, map, slice_index, All, IfOk};
 ghost use Rattle.ltl_spec.specs.Construction.Merging as merging;
-ghost use Rattle.ltl_passes.specs.CodedEdges.{HaveLabels, labelled_edge_of, tables_of};
-ghost use Rattle.ltl_passes.specs.Labels.{AreCoded, AreTables, labelled};
+ghost use Rattle.ltl_automaton.specs.CodedEdges.{HaveLabels, labelled_edge_of, tables_of};
+ghost use Rattle.ltl_automaton.specs.Labels.{AreCoded, AreTables, labelled};
 ghost use Rattle.ltl_automaton.specs.SharedView.{automaton_of};
 ghost use Rattle.ltl_passes.specs.Partition.{AreNames, IsNumbering, IsWithinStates, retargeted_list, thinned};
 
-use crate::coded_edge::CodedEdge;
 use crate::implied::unimplied;
-use crate::labels::Labels;
 use crate::retargeting::retargeted;
-use ltl_automaton::SharedStates;
+use ltl_automaton::{CodedEdge, Labels, SharedStates};
 use smallvec::SmallVec;
 use std::alloc::{AllocError, Allocator};
 

@@ -2,11 +2,10 @@
 
 ghost use Rattle.std.specs.Prelude.{◌≡◌, ◌<◌, length, map, slice_index, All, IfOk};
 ghost use Rattle.ltl_spec.specs.Construction.Merging.{retargeted_edge};
-ghost use Rattle.ltl_passes.specs.CodedEdges.{coded_edge_of};
+ghost use Rattle.ltl_automaton.specs.CodedEdges.{coded_edge_of};
 ghost use Rattle.ltl_passes.specs.Partition.{retargeted_list};
 
-use crate::coded_edge::CodedEdge;
-use ltl_automaton::{EdgeType, sort_dedup};
+use ltl_automaton::{CodedEdge, EdgeType, sort_dedup};
 use std::alloc::{AllocError, Allocator};
 
 /// The edges with other targets.

@@ -4,9 +4,8 @@ ghost use Rattle.std.specs.Prelude.{◌≡◌, ◌<◌, length, vec_len, All, If
 ghost use Rattle.ltl_automaton.specs.SharedView.{automaton_of};
 ghost use Rattle.ltl_passes.specs.Partition.{IsWithinStates};
 
-use crate::coded_edge::CodedEdge;
 use crate::queue::Queue;
-use ltl_automaton::SharedStates;
+use ltl_automaton::{CodedEdge, SharedStates};
 use std::alloc::{AllocError, Allocator};
 
 /// The source of an edge, and the place of another one with the same target.

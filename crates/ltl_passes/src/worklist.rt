@@ -6,13 +6,12 @@ ghost use Rattle.ltl_passes.specs.Partition.{IsWithinStates};
 ghost use Rattle.ltl_passes.specs.Worklist.{AreFiner, IsCoarser, IsMerger, IsOwner, LeadsInside};
 
 use crate::classes::Classes;
-use crate::coded_edge::CodedEdge;
 use crate::owners::Owners;
 use crate::partition::least_places;
 use crate::queue::Queue;
 use crate::retargeting::retargeted;
 use crate::sources::Sources;
-use ltl_automaton::SharedStates;
+use ltl_automaton::{CodedEdge, SharedStates};
 use std::alloc::{AllocError, Allocator};
 
 /// A partition, and the owners of the lists of accepting states and of others.

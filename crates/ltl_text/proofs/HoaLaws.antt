@@ -10,7 +10,7 @@ use Rattle.ltl_spec.specs.Formulas.Formula.{Reading}
 use Rattle.ltl_spec.specs.Formulas.Canonical.{canonical_text}
 use Rattle.ltl_spec.specs.Transitions.Cubes.{Literal, Cube}
 use Rattle.ltl_spec.specs.Automata.Automaton.{Automaton, Edge, state_at}
-use Rattle.ltl_spec.specs.Automata.HoaText.{edge_line, hoa_text, label_literal, label_text, quoted, state_lines, text_with}
+use Rattle.ltl_spec.specs.Automata.HoaText.{edge_line, hoa_text, label_literal, label_text, state_lines, text_with}
 use Rattle.ltl_spec.specs.Automata.GeneralizedText as acceptance
 use Rattle.ltl_spec.specs.Automata.GeneralizedText.{acceptance_name, generalized_text, marked_edge_line, marked_state_lines, marks_text}
 use Rattle.ltl_spec.specs.Automata.ClaimText.{line}
@@ -75,10 +75,10 @@ module _ (lines : ℕ → List ℕ) (count : ℕ) where
 
 -- the edges from a place on
 module _ {X : Type 0} (view : X → Edge) (text : Edge → List ℕ) where
-  pub edges_go_on : (es : List X) (i : ℕ) (e : X) → i < length es → e ≡ slice_index_or es i e
-      → flat_map text (map view (drop i es)) ≡ text (view e) ++ flat_map text (map view (drop (i + 1) es))
-  edges_go_on es i e lt is =
-      ap (λ l. flat_map text (map view l)) (drop_more es i e lt) ∙ ap (λ x. text (view x) ++ flat_map text (map view (drop (i + 1) es))) (sym is)
+  pub edges_go_on : (es : List X) (i : ℕ) (d : X) (e : Edge) → i < length es → e ≡ view (slice_index_or es i d)
+      → flat_map text (map view (drop i es)) ≡ text e ++ flat_map text (map view (drop (i + 1) es))
+  edges_go_on es i d e lt is =
+      ap (λ l. flat_map text (map view l)) (drop_more es i d lt) ∙ ap (λ x. text x ++ flat_map text (map view (drop (i + 1) es))) (sym is)
 
 -- ---- the sets of an edge
 pub marks_begin : (marks rest : List ℕ) (k : ℕ) (ks : List ℕ) → rest ≡ marks → rest ≡ k ∷ ks

@@ -2,7 +2,7 @@
 use Rattle.std.specs.Prelude.{ℕ, ◌<◌, List, length, slice_index_or}
 use Rattle.ltl_spec.specs.Collections.Sets.{Has}
 use Rattle.ltl_spec.specs.Transitions.Cubes.{Literal, Cube}
-use Rattle.ltl_automaton.specs.declared.edge.Edge.{Edge}
+use Rattle.ltl_spec.specs.Automata.Automaton.{Edge}
 
 -- the propositions of the literals are below n
 abbrev pub HasNames : ℕ → Cube → Type 0

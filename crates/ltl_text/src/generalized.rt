@@ -1,18 +1,19 @@
 //! The printer of a generalized Büchi automaton in the Hanoi Omega-Automata format.
 
-ghost use Rattle.std.specs.Prelude.{◌≡◌, ◌<◌, length, map, OnOk, OnErr};
+ghost use Rattle.std.specs.Prelude.{◌≡◌, ◌<◌, length, OnOk, OnErr};
 ghost use Rattle.std.specs.List.{flat_map};
 ghost use Rattle.std.specs.Io.KnownBytes.{Appends};
 ghost use Rattle.ltl_spec.specs.Automata.GeneralizedText as text;
 ghost use Rattle.ltl_streams.specs.Streams.{AppendsBeginning, Breaks, Takes};
 ghost use Rattle.ltl_syntax.specs.FormulaView.{reading_of};
-ghost use Rattle.ltl_models.specs.GbaView.{edge_of};
+ghost use Rattle.ltl_automaton.specs.CodedEdges.{edges_in};
+ghost use Rattle.ltl_automaton.specs.EdgeView.{edge_of};
 ghost use Rattle.ltl_text.specs.HoaPieces.{condition_text, marked_states_text, set_text};
 ghost use Rattle.ltl_text.specs.Writing.{Writes};
 
 use crate::hoa::{put_counts, put_number, put_state_number, put_step, write_title};
 use crate::output::Output;
-use ltl_models::{GbaEdge, Gen};
+use ltl_models::{Edges, GbaEdge, Gen};
 use ltl_sets::RowSet;
 use ltl_streams::{ByteSink, WriteFault, WriterSink};
 use ltl_syntax::Formula;
@@ -44,11 +45,11 @@ fn put_edge<S: ByteSink>(edge: &GbaEdge, output: &mut Output<'_, S>) -> Result<(
     output.put(b"\n")
 }
 
-fn put_edges<S: ByteSink>(edges: &[GbaEdge], output: &mut Output<'_, S>) -> Result<(), WriteFault>
-    ensures { Writes S.state result output.old output.new (flat_map text.marked_edge_line (map edge_of edges.now)) }
+fn put_edges<S: ByteSink>(edges: Edges<'_>, output: &mut Output<'_, S>) -> Result<(), WriteFault>
+    ensures { Writes S.state result output.old output.new (flat_map text.marked_edge_line (edges_in edges.entry)) }
 {
-    for edge in edges {
-        put_edge(edge, output)?;
+    for edge in edges.coded {
+        put_edge(&edges.labels.edge(edge), output)?;
     }
     Ok(())
 }

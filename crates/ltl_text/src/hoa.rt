@@ -1,6 +1,6 @@
 //! The printer of a Büchi automaton in the Hanoi Omega-Automata format.
 
-ghost use Rattle.std.specs.Prelude.{◌≡◌, ◌<◌, length, map, OnOk, OnErr};
+ghost use Rattle.std.specs.Prelude.{◌≡◌, ◌<◌, length, OnOk, OnErr};
 ghost use Rattle.std.specs.Fmt.{decimal};
 ghost use Rattle.std.specs.List.{flat_map};
 ghost use Rattle.std.specs.Io.KnownBytes.{Appends};
@@ -8,13 +8,14 @@ ghost use Rattle.ltl_spec.specs.Automata.HoaText as text;
 ghost use Rattle.ltl_sets.specs.Literals.{literal_of};
 ghost use Rattle.ltl_streams.specs.Streams.{AppendsBeginning, Breaks, Takes};
 ghost use Rattle.ltl_syntax.specs.FormulaView.{reading_of};
-ghost use Rattle.ltl_models.specs.BaView.{edge_of};
+ghost use Rattle.ltl_automaton.specs.CodedEdges.{edges_in};
+ghost use Rattle.ltl_automaton.specs.EdgeView.{edge_of};
 ghost use Rattle.ltl_text.specs.HoaPieces.{acceptance_text, counts_text, quoted_names, state_number, states_text, step_text, title_text};
 ghost use Rattle.ltl_text.specs.Writing.{Writes};
 
 use crate::digits::Digits;
 use crate::output::Output;
-use ltl_models::{Ba, Edge};
+use ltl_models::{Ba, Edge, Edges};
 use ltl_sets::{Cube, Literal};
 use ltl_streams::{ByteSink, WriteFault, WriterSink, write_whole};
 use ltl_syntax::{Formula, put_text};
@@ -78,11 +79,11 @@ fn put_edge<S: ByteSink>(edge: &Edge, output: &mut Output<'_, S>) -> Result<(), 
     output.put(b"\n")
 }
 
-fn put_edges<S: ByteSink>(edges: &[Edge], output: &mut Output<'_, S>) -> Result<(), WriteFault>
-    ensures { Writes S.state result output.old output.new (flat_map text.edge_line (map edge_of edges.now)) }
+fn put_edges<S: ByteSink>(edges: Edges<'_>, output: &mut Output<'_, S>) -> Result<(), WriteFault>
+    ensures { Writes S.state result output.old output.new (flat_map text.edge_line (edges_in edges.entry)) }
 {
-    for edge in edges {
-        put_edge(edge, output)?;
+    for edge in edges.coded {
+        put_edge(&edges.labels.edge(edge), output)?;
     }
     Ok(())
 }

@@ -1,17 +1,17 @@
 //! The names of states in a never claim.
 
-ghost use Rattle.std.specs.Prelude.{◌≡◌, ◌<◌, ◌++◌, [], ◌∷◌, length, map};
+ghost use Rattle.std.specs.Prelude.{◌≡◌, ◌<◌, ◌++◌, [], ◌∷◌, length, All};
 ghost use Rattle.std.specs.Fmt.{decimal};
 ghost use Rattle.std.specs.Cmp.Lexicographic.{pointwise};
 ghost use Rattle.ltl_spec.specs.Automata.ClaimText as claim;
 ghost use Rattle.ltl_spec.specs.Construction.Merging.{same_edge};
-ghost use Rattle.ltl_models.specs.BaView.{edge_of};
+ghost use Rattle.ltl_automaton.specs.CodedEdges.{edges_in};
 ghost use Rattle.ltl_text.specs.Options.{is_empty};
 ghost use Rattle.ltl_text.specs.Writing.{Writes};
 
 use crate::digits::Digits;
 use crate::output::Output;
-use ltl_models::{Ba, Edge};
+use ltl_models::{Ba, Edges};
 use ltl_sets::Cube;
 use ltl_streams::{ByteSink, WriteFault};
 use std::alloc::Allocator;
@@ -24,11 +24,12 @@ fn has_no_literals(cube: &Cube) -> bool
 }
 
 /// Whether the only edge is one to state `k` without literals.
-fn is_free_loop(edges: &[Edge], k: usize) -> bool
-    ensures { result ≡ pointwise same_edge (map edge_of edges.now) (record { cube = []; target = k; marks = [] } ∷ []) }
+fn is_free_loop(edges: Edges<'_>, k: usize) -> bool
+    requires { All (λ e. e.marks ≡ []) (edges_in edges) }
+    ensures { result ≡ pointwise same_edge (edges_in edges.entry) (record { cube = []; target = k; marks = [] } ∷ []) }
 {
-    match edges {
-        [edge] => edge.target == k && has_no_literals(&edge.cube),
+    match edges.coded {
+        [edge] => edge.target == k && has_no_literals(&edges.labels.cube(edge.cube)),
         _ => false,
     }
 }

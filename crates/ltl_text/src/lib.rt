@@ -4,9 +4,9 @@
 //! accepting states (`hoa_to`). A generalized automaton is printed in HOA with acceptance sets on edges (`gen_to`). The reader of HOA, `hoa_read` of
 //! `ltl_hoa`, is exported here too, so that users of texts need this crate alone.
 //!
-//! What flows: a printer takes an automaton and its formula, whose text and names go into the output. It writes to a buffer of 16 KiB, and from there
-//! to a sink (`put_claim`, `put_hoa`, `put_generalized`) or to a standard writer. It allocates nothing. The first error of the sink ends it; a prefix
-//! of the text was written then.
+//! What flows: a printer takes an automaton and its formula, whose text and names go into the output. It looks up the labels of each edge as it prints
+//! the edge (`Edges` of `ltl_models`). It writes to a buffer of 16 KiB, and from there to a sink (`put_claim`, `put_hoa`, `put_generalized`) or to a
+//! standard writer. It allocates nothing. The first error of the sink ends it; a prefix of the text was written then.
 //!
 //! ```
 //! let mut text = Vec::new(alloc);

@@ -1,11 +1,12 @@
 //! The options of a state in a never claim: one for each target.
 
-ghost use Rattle.std.specs.Prelude.{◌≡◌, ◌<◌, ◌≤◌, ◌==◌, length, map, All};
+ghost use Rattle.std.specs.Prelude.{◌≡◌, ◌<◌, ◌≤◌, ◌==◌, length, All};
 ghost use Rattle.std.specs.List.{prefix_len};
 ghost use Rattle.ltl_spec.specs.Automata.Automaton.{state_at};
 ghost use Rattle.ltl_spec.specs.Automata.ClaimText.{skip_state};
 ghost use Rattle.ltl_spec.specs.Checking.Bounds.{HasNamesBelow};
-ghost use Rattle.ltl_models.specs.BaView.{edge_of, target_at};
+ghost use Rattle.ltl_automaton.specs.CodedEdges.{edges_in};
+ghost use Rattle.ltl_models.specs.BaView.{target_at};
 ghost use Rattle.ltl_text.specs.Names.{AllHaveNames};
 ghost use Rattle.ltl_text.specs.Options.{guards_text, options_text};
 ghost use Rattle.ltl_text.specs.Writing.{Writes};
@@ -13,19 +14,19 @@ ghost use Rattle.ltl_text.specs.Writing.{Writes};
 use crate::guard::put_guard;
 use crate::label::put_label;
 use crate::output::Output;
-use ltl_models::{Ba, Edge};
+use ltl_models::{Ba, Edges};
 use ltl_streams::{ByteSink, WriteFault};
 use ltl_syntax::Formula;
 use std::alloc::Allocator;
 
 /// The number of positions at the beginning of the list whose edges lead to this target.
-fn group_len(edges: &[Edge], places: &[usize], target: usize) -> usize
-    requires { All (λ p. p < length edges.now) places.now }
+fn group_len(edges: &Edges<'_>, places: &[usize], target: usize) -> usize
+    requires { All (λ p. p < length edges.now.coded.now) places.now }
     ensures within { result ≤ length places.now }
-    ensures group { result ≡ prefix_len (λ p. target_at (map edge_of edges.now) p == target) places.now }
+    ensures group { result ≡ prefix_len (λ p. target_at (edges_in edges.now) p == target) places.now }
 {
     let mut len = 0;
-    'group: while len < places.len() && edges[places[len]].target == target {
+    'group: while len < places.len() && edges.coded[places[len]].target == target {
         len += 1;
     }
     len
@@ -33,22 +34,22 @@ fn group_len(edges: &[Edge], places: &[usize], target: usize) -> usize
 
 /// Writes the guards of the edges at these positions, with `||` between them.
 fn put_guards<A: Allocator, S: ByteSink>(
-    edges: &[Edge],
+    edges: &Edges<'_>,
     places: &[usize],
     formula: &Formula<'_, A>,
     output: &mut Output<'_, S>,
 ) -> Result<(), WriteFault>
-    requires within { All (λ p. p < length edges.now) places.now }
-    requires named { AllHaveNames (length formula.now.names) edges.now }
-    ensures { Writes S.state result output.old output.new (guards_text formula.now.names (map edge_of edges.now) places.now) }
+    requires within { All (λ p. p < length edges.now.coded.now) places.now }
+    requires named { AllHaveNames (length formula.now.names) (edges_in edges.now) }
+    ensures { Writes S.state result output.old output.new (guards_text formula.now.names (edges_in edges.now) places.now) }
 {
     let Some((first, others)) = places.split_first() else {
         return Ok(());
     };
-    put_guard(&edges[*first].cube, formula, output)?;
+    put_guard(&edges.get(*first).cube, formula, output)?;
     for place in others {
         output.put(b" || ")?;
-        put_guard(&edges[*place].cube, formula, output)?;
+        put_guard(&edges.get(*place).cube, formula, output)?;
     }
     Ok(())
 }
@@ -69,10 +70,10 @@ pub fn put_options<A: Allocator, B: Allocator, S: ByteSink>(
     let edges = automaton.edges(k);
     let mut rest = automaton.by_target(k);
     'options: while let Some((place, _)) = rest.split_first() {
-        let target = edges[*place].target;
-        let (group, others) = rest.split_at(group_len(edges, rest, target));
+        let target = edges.coded[*place].target;
+        let (group, others) = rest.split_at(group_len(&edges, rest, target));
         output.put(b"\t:: ")?;
-        put_guards(edges, group, formula, output)?;
+        put_guards(&edges, group, formula, output)?;
         output.put(b" -> goto ")?;
         put_label(automaton, skip, target, output)?;
         output.put(b"\n")?;

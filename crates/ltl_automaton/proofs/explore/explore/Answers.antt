@@ -8,7 +8,7 @@ use Rattle.ltl_automaton.specs.WorklistView.{WorklistView}
 use Rattle.ltl_automaton.specs.Net.{Net, HasSuccessorsOf, edges_behind, edges_in, lengths_of, targets_of, with_made}
 use Rattle.ltl_automaton.specs.declared.fault.AutomatonFault.{AutomatonFault}
 use Rattle.ltl_automaton.specs.declared.fault.AutomatonFault.TheVariants.{TooLarge}
-use Rattle.ltl_automaton.specs.SharedView.{automaton_of, with_state}
+use Rattle.ltl_automaton.specs.SharedView.{with_state}
 use Rattle.ltl_automaton.proofs.NetLaws.{decides_from}
 use Rattle.ltl_automaton.proofs.ReachableLaws.{bounded}
 use Rattle.ltl_automaton.proofs.WayLaws.{begins, goes_on, goes_on_like, keys_stay, length_at, lengths_next, states_count, same_successors_here, too_many_ahead, too_many_edges, too_many_states, arrives, fits_within}
@@ -26,7 +26,7 @@ things-init g c =
     let same = g.K.PartialEq.eq in
     let decides = decides_from same g.met.K.Eq.laws g.met.K.Key.exact in
     let N = g.S.Successors.net c.args.net.now in
-    let sets = c.args.made.now.sets in
+    let sets = (g.M.Builder.built c.args.made.now).sets in
     let empty : c.args.listing.now ≡ (let x : WorklistView g.row.K.Denot = record { keys = []; explored = 0 } in x) = c.requires.begun.0 in
     let keys = c.in_ok-number.ensures.keys ∙ ap (λ (l : WorklistView g.row.K.Denot). with_new same l.keys c.args.start) empty in
     let explored = c.in_ok-number.ensures.explored ∙ ap (λ (l : WorklistView g.row.K.Denot). l.explored) empty in
@@ -34,10 +34,11 @@ things-init g c =
     let some = c.requires.some in
     let one = ap (λ (l : WorklistView g.row.K.Denot). length l.keys) is in
     record {
-      way = begins same decides c.args.sorted N c.args.start sets c.number.new.self (automaton_of c.args.made.now) is (ap (λ ss. let X : Automaton = record { sets = sets; states = ss } in X) c.requires.begun.1);
+      way = begins same decides c.args.sorted N c.args.start sets c.number.new.self (g.M.Builder.built c.args.made.now) is (ap (λ ss. let X : Automaton = record { sets = sets; states = ss } in X) c.requires.begun.1);
       lengths = c.requires.begun.2 ∙ ap (lengths_of N) (sym is);
       net = refl;
-      ready = c.requires.ready;
+      ready = c.requires.ready.0;
+      built = c.requires.ready.1;
       few_states = omega (arith, one, some);
       few_edges = omega arith;
     }
@@ -48,7 +49,7 @@ returns-in_err-key-clause-large g c = λ e.
     let N = g.S.Successors.net c.args.net.now in
     let decides = decides_from same g.met.K.Eq.laws g.met.K.Key.exact in
     let large = c.in_err-key.ensures.large (ap (λ (f : AutomatonFault). Err f) (sym (passed_on _ _ c.from_residual-in_err-key.ensures.1 e))) in
-    too_many_ahead same decides c.args.sorted N c.args.start c.args.made.now.sets c.things.listing c.things.count (automaton_of c.things.made) c.things.invariant.way c.args.limits.states c.args.limits.edges
+    too_many_ahead same decides c.args.sorted N c.args.start (g.M.Builder.built c.args.made.now).sets c.things.listing c.things.count (g.M.Builder.built c.things.made) c.things.invariant.way c.args.limits.states c.args.limits.edges
     (subst (λ (n : Net g.row.K.Denot). c.args.limits.edges < c.things.count + edges_behind n c.things.listing.keys c.things.listing.explored) c.things.invariant.net large)
 
 pub returns-in_err-count-clause-large : goal.returns-in_err-count-clause-large
@@ -58,8 +59,8 @@ returns-in_err-count-clause-large g c = λ e.
     let decides = decides_from same g.met.K.Eq.laws g.met.K.Key.exact in
     let key = c.in-Some.key in
     let way = c.things.invariant.way in
-    let A = automaton_of c.things.made in
-    let sets = c.args.made.now.sets in
+    let A = g.M.Builder.built c.things.made in
+    let sets = (g.M.Builder.built c.args.made.now).sets in
     let found : slice_get c.things.listing.keys c.things.listing.explored ≡ Some key = sym c.in_ok-key.ensures.next ∙ c.in-Some.is in
     let net = c.in_ok-key.ensures.net.0 ∙ c.things.invariant.net in
     let place = c.in-Some-2.place in
@@ -85,8 +86,8 @@ things-preserved-in-Some-2 g c =
     let decides = decides_from same g.met.K.Eq.laws g.met.K.Key.exact in
     let key = c.in-Some.key in
     let way = c.things.invariant.way in
-    let A = automaton_of c.things.made in
-    let sets = c.args.made.now.sets in
+    let A = g.M.Builder.built c.things.made in
+    let sets = (g.M.Builder.built c.args.made.now).sets in
     let found : slice_get c.things.listing.keys c.things.listing.explored ≡ Some key = sym c.in_ok-key.ensures.next ∙ c.in-Some.is in
     let net = c.in_ok-key.ensures.net.0 ∙ c.things.invariant.net in
     let place = c.in-Some-2.place in
@@ -97,14 +98,15 @@ things-preserved-in-Some-2 g c =
     let explored : c.take_next.new.listing.explored ≡ c.things.listing.explored + 1 = c.in_ok-key.ensures.explored ∙ ap (λ o. if is_some o then c.things.listing.explored + 1 else c.things.listing.explored) c.in-Some.is in
     let stay = c.in_ok-key.ensures.keys ∙ sym (keys_stay same decides c.args.sorted N c.args.start sets c.things.listing c.things.count A way key found place before same_successors_as) in
     let accepts = c.accepting.ensures ∙ ap (λ (n : Net g.row.K.Denot). n.accepts key) (c.in_ok-place.ensures.same ∙ net) in
-    let made : automaton_of c.put_like.new.made ≡ with_state A (N.accepts key) (state_at A place).edges = c.in_ok-count.ensures.made ∙ ap (λ b. with_state A b (state_at A place).edges) accepts in
+    let made : g.M.Builder.built c.put_like.new.made ≡ with_state A (N.accepts key) (state_at A place).edges = c.in_ok-count.ensures.made ∙ ap (λ b. with_state A b (state_at A place).edges) accepts in
     record {
-      way = goes_on_like same decides c.args.sorted N c.args.start sets c.things.listing c.things.count A way key found place c.take_next.new.listing c.in_ok-count.count (automaton_of c.put_like.new.made) before same_successors_as
+      way = goes_on_like same decides c.args.sorted N c.args.start sets c.things.listing c.things.count A way key found place c.take_next.new.listing c.in_ok-count.count (g.M.Builder.built c.put_like.new.made) before same_successors_as
           c.in_ok-key.ensures.keys explored (c.in_ok-count.ensures.sum ∙ ap (λ n. c.things.count + n) more) made;
       lengths = lengths_next same decides c.args.sorted N c.args.start sets c.things.listing c.things.count A way key found c.take_next.new.listing (slice_index_or c.things.lengths.items place 0) c.things.lengths.items c.put_like.new.lengths.items
           stay explored c.things.invariant.lengths more c.in_ok-count.ensures.lengths;
       net = c.in_ok-place.ensures.same ∙ net;
       ready = c.in_ok-place.ensures.ready;
+      built = c.in_ok-count.ensures.ready;
       few_states = subst (λ (ks : List g.row.K.Denot). length ks ≤ c.args.limits.states) (sym c.in_ok-key.ensures.keys) c.things.invariant.few_states;
       few_edges = c.in_ok-count.ensures.fits;
     }
@@ -115,8 +117,8 @@ returns-in_err-count-2-clause-large g c = λ e.
     let N = g.S.Successors.net c.args.net.now in
     let decides = decides_from same g.met.K.Eq.laws g.met.K.Key.exact in
     let key = c.in-Some.key in
-    let A = automaton_of c.things.made in
-    let sets = c.args.made.now.sets in
+    let A = g.M.Builder.built c.things.made in
+    let sets = (g.M.Builder.built c.args.made.now).sets in
     let way = c.things.invariant.way in
     let found : slice_get c.things.listing.keys c.things.listing.explored ≡ Some key = sym c.in_ok-key.ensures.next ∙ c.in-Some.is in
     let net = c.in_ok-place.ensures.same ∙ c.in_ok-key.ensures.net.0 ∙ c.things.invariant.net in
@@ -144,8 +146,8 @@ things-preserved g c =
     let N = g.S.Successors.net c.args.net.now in
     let decides = decides_from same g.met.K.Eq.laws g.met.K.Key.exact in
     let key = c.in-Some.key in
-    let A = automaton_of c.things.made in
-    let sets = c.args.made.now.sets in
+    let A = g.M.Builder.built c.things.made in
+    let sets = (g.M.Builder.built c.args.made.now).sets in
     let way = c.things.invariant.way in
     let found : slice_get c.things.listing.keys c.things.listing.explored ≡ Some key = sym c.in_ok-key.ensures.next ∙ c.in-Some.is in
     let net = c.in_ok-place.ensures.same ∙ c.in_ok-key.ensures.net.0 ∙ c.things.invariant.net in
@@ -155,15 +157,16 @@ things-preserved g c =
     let explored : c.put_new.new.listing.explored ≡ c.things.listing.explored + 1 =
     c.in_ok-count-2.ensures.listed.0.1 ∙ c.in_ok-key.ensures.explored ∙ ap (λ o. if is_some o then c.things.listing.explored + 1 else c.things.listing.explored) c.in-Some.is in
     let sum : c.in_ok-count-2.count ≡ c.things.count + length (N.successors key) = c.in_ok-count-2.ensures.sum.0 ∙ ap (λ (n : Net g.row.K.Denot). c.things.count + length (n.successors key)) net in
-    let made : automaton_of c.put_new.new.made ≡ with_made same c.args.sorted N key keys A = c.in_ok-count-2.ensures.made ∙ ap (λ (n : Net g.row.K.Denot). with_made same c.args.sorted n key keys A) net in
+    let made : g.M.Builder.built c.put_new.new.made ≡ with_made same c.args.sorted N key keys A = c.in_ok-count-2.ensures.made.0 ∙ ap (λ (n : Net g.row.K.Denot). with_made same c.args.sorted n key keys A) net in
     let long : c.put_new.new.lengths.items ≡ c.things.lengths.items ++ length (N.successors key) ∷ [] = c.in_ok-count-2.ensures.lengths ∙ ap (λ (n : Net g.row.K.Denot). c.things.lengths.items ++ length (n.successors key) ∷ []) net in
     record {
       way = goes_on same decides c.args.sorted N c.args.start sets c.things.listing c.things.count A way key found c.put_new.new.listing c.in_ok-count-2.count (edges_in same c.args.sorted keys (N.successors key))
-          (automaton_of c.put_new.new.made) grown explored sum refl made;
+          (g.M.Builder.built c.put_new.new.made) grown explored sum refl made;
       lengths = lengths_next same decides c.args.sorted N c.args.start sets c.things.listing c.things.count A way key found c.put_new.new.listing (length (N.successors key)) c.things.lengths.items
           c.put_new.new.lengths.items grown explored c.things.invariant.lengths refl long;
       net = c.in_ok-count-2.ensures.net.0 ∙ net;
       ready = c.in_ok-count-2.ensures.net.1;
+      built = c.in_ok-count-2.ensures.made.1;
       few_states = c.in_ok-count-2.ensures.listed.1;
       few_edges = c.in_ok-count-2.ensures.sum.1;
     }
@@ -174,18 +177,18 @@ returns-clause-reachable g c =
     let N = g.S.Successors.net c.args.net.now in
     let decides = decides_from same g.met.K.Eq.laws g.met.K.Key.exact in
     let none : slice_get c.things.listing.keys c.things.listing.explored ≡ None = sym c.in_ok-key.ensures.next ∙ c.in_default.is in
-    arrives same decides c.args.sorted N c.args.start c.args.made.now.sets c.things.listing c.things.count (automaton_of c.things.made) c.things.invariant.way none
+    arrives same decides c.args.sorted N c.args.start (g.M.Builder.built c.args.made.now).sets c.things.listing c.things.count (g.M.Builder.built c.things.made) c.things.invariant.way none
 
 pub returns-clause-bounded : goal.returns-clause-bounded
 returns-clause-bounded g c =
     let same = g.K.PartialEq.eq in
     let N = g.S.Successors.net c.args.net.now in
     let decides = decides_from same g.met.K.Eq.laws g.met.K.Key.exact in
-    let sets = c.args.made.now.sets in
+    let sets = (g.M.Builder.built c.args.made.now).sets in
     let none : slice_get c.things.listing.keys c.things.listing.explored ≡ None = sym c.in_ok-key.ensures.next ∙ c.in_default.is in
-    bounded same decides c.args.sorted N c.args.start sets c.args.limits.states c.args.limits.edges (automaton_of c.things.made)
-    (arrives same decides c.args.sorted N c.args.start sets c.things.listing c.things.count (automaton_of c.things.made) c.things.invariant.way none)
-    (fits_within same decides c.args.sorted N c.args.start sets c.things.listing c.things.count (automaton_of c.things.made) c.things.invariant.way none c.args.limits.states c.args.limits.edges c.things.invariant.few_states c.things.invariant.few_edges)
+    bounded same decides c.args.sorted N c.args.start sets c.args.limits.states c.args.limits.edges (g.M.Builder.built c.things.made)
+    (arrives same decides c.args.sorted N c.args.start sets c.things.listing c.things.count (g.M.Builder.built c.things.made) c.things.invariant.way none)
+    (fits_within same decides c.args.sorted N c.args.start sets c.things.listing c.things.count (g.M.Builder.built c.things.made) c.things.invariant.way none c.args.limits.states c.args.limits.edges c.things.invariant.few_states c.things.invariant.few_edges)
 
 pub returns-clause-fits : goal.returns-clause-fits
 returns-clause-fits g c =
@@ -193,4 +196,4 @@ returns-clause-fits g c =
     let N = g.S.Successors.net c.args.net.now in
     let decides = decides_from same g.met.K.Eq.laws g.met.K.Key.exact in
     let none : slice_get c.things.listing.keys c.things.listing.explored ≡ None = sym c.in_ok-key.ensures.next ∙ c.in_default.is in
-    fits_within same decides c.args.sorted N c.args.start c.args.made.now.sets c.things.listing c.things.count (automaton_of c.things.made) c.things.invariant.way none c.args.limits.states c.args.limits.edges c.things.invariant.few_states c.things.invariant.few_edges
+    fits_within same decides c.args.sorted N c.args.start (g.M.Builder.built c.args.made.now).sets c.things.listing c.things.count (g.M.Builder.built c.things.made) c.things.invariant.way none c.args.limits.states c.args.limits.edges c.things.invariant.few_states c.things.invariant.few_edges

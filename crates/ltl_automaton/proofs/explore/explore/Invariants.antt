@@ -1,14 +1,14 @@
 use Rattle.std.proofs.Common.{◌≡◌, ◌≤◌, ◌-◌, length}
 use Rattle.ltl_automaton.specs.Net.{IsUnderWay, lengths_of}
-use Rattle.ltl_automaton.specs.SharedView.{automaton_of}
 use Rattle.ltl_automaton.proofs.explore.explore.Given as goal
 
 abbrev pub invariant-things : goal.invariant-things
 invariant-things g l = record {
-  way : IsUnderWay g.K.PartialEq.eq l.sorted (g.S.Successors.net l.fn.net) l.fn.start (automaton_of l.fn.made).sets l.listing l.count (automaton_of l.made);
+  way : IsUnderWay g.K.PartialEq.eq l.sorted (g.S.Successors.net l.fn.net) l.fn.start (g.M.Builder.built l.fn.made).sets l.listing l.count (g.M.Builder.built l.made);
   lengths : l.lengths.items ≡ lengths_of (g.S.Successors.net l.fn.net) l.listing;
   net : g.S.Successors.net l.net ≡ g.S.Successors.net l.fn.net;
   ready : g.S.Successors.ready l.net;
+  built : g.M.Builder.ready l.made;
   few_states : length l.listing.keys ≤ l.limits.states;
   few_edges : l.count ≤ l.limits.edges;
 }

@@ -7,5 +7,5 @@ pub overflow_add-count : goal.overflow_add-count
 overflow_add-count g c =
     let ss = (automaton_in c.args.automaton.now).states in
     let below : c.loop-k.k < length ss = omega (arith, c.len-k-end.ensures, c.loop-k-test.true) in
-    let room = room_next ss c.loop-k.k (record { accepting = true; edges = [] }) below c.loop-k.count c.edges.result.now c.loop-k.invariant c.edges.ensures in
+    let room = room_next ss c.loop-k.k (record { accepting = true; edges = [] }) below c.loop-k.count c.edges.result c.loop-k.invariant c.edges.ensures in
     omega (arith, room, edges_counted ss, c.invariant.ensures)

@@ -9,7 +9,7 @@ pub put_edges-at-requires : goal.put_edges-at-requires
 put_edges-at-requires g c =
     let ss = (automaton_in c.args.automaton.now).states in
     let below : c.loop-k.k < length ss = omega (arith, c.len-k-end.ensures, c.loop-k-test.true) in
-    omega (arith, room_next ss c.loop-k.k (record { accepting = true; edges = [] }) below c.loop-k.at c.edges.result.now c.loop-k.invariant.at c.edges.ensures, c.requires.edges_fit, c.loop-k.auto.edges)
+    omega (arith, room_next ss c.loop-k.k (record { accepting = true; edges = [] }) below c.loop-k.at c.edges.result c.loop-k.invariant.at c.edges.ensures, c.requires.edges_fit, c.loop-k.auto.edges)
 
 pub loop-k-preserved : goal.loop-k-preserved
 loop-k-preserved g c =
@@ -18,8 +18,8 @@ loop-k-preserved g c =
     let below : c.loop-k.k < length ss = omega (arith, c.len-k-end.ensures, c.loop-k-test.true) in
     let row : StateRow = record { first_edge = c.loop-k.at; accepting = c.accepting.result } in
     record {
-      at = end_next ss c.loop-k.k none below c.loop-k.at c.put_edges-at.result c.edges.result.now c.loop-k.invariant.at c.put_edges-at.ensures.end c.edges.ensures;
+      at = end_next ss c.loop-k.k none below c.loop-k.at c.put_edges-at.result c.edges.result c.loop-k.invariant.at c.put_edges-at.ensures.end c.edges.ensures;
       states = state_put ss c.loop-k.k none below c.args.states.now c.loop-k.states c.requires.states_fit c.loop-k.invariant.states row
           (λ i. let r : StateRow = record { first_edge = c.loop-k.invariant.at i; accepting = c.accepting.ensures i } in r);
-      edges = edges_put ss c.loop-k.k none below c.args.edges.now c.loop-k.edges c.put_edges-at.new.rows c.loop-k.at c.edges.result.now c.loop-k.invariant.edges c.loop-k.invariant.at c.put_edges-at.ensures.rows c.edges.ensures;
+      edges = edges_put ss c.loop-k.k none below c.args.edges.now c.loop-k.edges c.put_edges-at.new.rows c.loop-k.at c.edges.result c.loop-k.invariant.edges c.loop-k.invariant.at c.put_edges-at.ensures.rows c.edges.ensures;
     }

@@ -2,26 +2,26 @@ use Rattle.std.proofs.Common.{◌≡◌, sym, subst, arith, ◌∙◌, ap, lengt
 use Rattle.std.specs.Prelude.{map}
 use Rattle.std.proofs.lemmas.List.{length-map}
 use Rattle.ltl_models.proofs.SortLaws.{refilled}
-use Rattle.ltl_automaton.specs.EdgeView.{edge_of}
+use Rattle.ltl_automaton.specs.CodedEdges.{coded_edge_of}
 use Rattle.ltl_models.specs.BaView.{IsTargetOrder}
 use Rattle.ltl_models.proofs.PlacedLaws.{place_in, IsPlaced, placed_none, placed_next, placed_order, placed_here}
 use Rattle.ltl_models.proofs.automaton.places_by_target.Goals as goal
 
 pub loop-place-init : goal.loop-place-init
-loop-place-init g c = subst (λ items. IsPlaced (map edge_of c.args.edges.now) 0 items) (sym c.in_ok-keys.ensures.items) (placed_none (map edge_of c.args.edges.now))
+loop-place-init g c = subst (λ items. IsPlaced (map coded_edge_of c.args.edges.now) 0 items) (sym c.in_ok-keys.ensures.items) (placed_none (map coded_edge_of c.args.edges.now))
 
 pub loop-place-preserved : goal.loop-place-preserved
 loop-place-preserved g c =
-    placed_next (map edge_of c.args.edges.now) c.loop-place.place c.loop-place.keys.items c.push.new.self.items _ (omega arith) c.loop-place.invariant
-    (placed_here c.args.edges.now c.loop-place.place c.index-edges-place.result c.loop-place-test.true c.index-edges-place.is) c.in_ok-push.ensures.ok
+    placed_next (map coded_edge_of c.args.edges.now) c.loop-place.place c.loop-place.keys.items c.push.new.self.items _ (omega arith) c.loop-place.invariant
+    (placed_here c.args.edges.now c.loop-place.place _ c.loop-place-test.true) c.in_ok-push.ensures.ok
 
 pub returns : goal.returns
 returns g c =
-    let long = length-map c.args.edges.now edge_of in
-    let all : c.loop-place.place ≡ length (map edge_of c.args.edges.now) = omega arith in
+    let long = length-map c.args.edges.now coded_edge_of in
+    let all : c.loop-place.place ≡ length (map coded_edge_of c.args.edges.now) = omega arith in
     let shown = c.as_mut_slice.ensures.value in
     let new = c.sort_unstable.new.self in
     let moved = subst (λ xs. IsPermutation xs new) shown c.sort_unstable.ensures.permutation in
-    let ordered = placed_order (map edge_of c.args.edges.now) c.loop-place.place c.loop-place.keys.items new (omega arith) c.loop-place.invariant all moved c.sort_unstable.ensures.sorted in
+    let ordered = placed_order (map coded_edge_of c.args.edges.now) c.loop-place.place c.loop-place.keys.items new (omega arith) c.loop-place.invariant all moved c.sort_unstable.ensures.sorted in
     let listed = c.as_slice.ensures ∙ refilled c.loop-place.keys.items c.as_mut_slice.result.now new shown c.sort_unstable.ensures.len in
-    record { order = subst (IsTargetOrder (map edge_of c.args.edges.now)) (sym (c.in_ok-places.ensures ∙ ap (map place_in) listed)) ordered }
+    record { order = subst (IsTargetOrder (map coded_edge_of c.args.edges.now)) (sym (c.in_ok-places.ensures ∙ ap (map place_in) listed)) ordered }

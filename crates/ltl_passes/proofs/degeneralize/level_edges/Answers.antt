@@ -4,7 +4,7 @@ use Rattle.std.proofs.lemmas.List.{take_more}
 use Rattle.ltl_spec.specs.Collections.Sets.{set_of}
 use Rattle.ltl_spec.specs.Construction.Levels.{level_edge_cmp}
 use Rattle.ltl_automaton.proofs.WayLaws.{take_whole}
-use Rattle.ltl_passes.specs.CodedEdges.{coded_edge_of, tables_of}
+use Rattle.ltl_automaton.specs.CodedEdges.{coded_edge_of, tables_of}
 use Rattle.ltl_passes.specs.Degeneralize.{coded_level_edge}
 use Rattle.ltl_passes.specs.LevelEdgeOrder.{level_edges_set}
 use Rattle.ltl_passes.proofs.LevelStateLaws.{coded_next}

@@ -1,6 +1,6 @@
 use Rattle.std.proofs.Common.{◌≡◌}
 use Rattle.std.specs.Prelude.{map, take}
-use Rattle.ltl_passes.specs.CodedEdges.{coded_edge_of, tables_of}
+use Rattle.ltl_automaton.specs.CodedEdges.{coded_edge_of, tables_of}
 use Rattle.ltl_passes.specs.Degeneralize.{level_edge_of, coded_level_edge}
 use Rattle.ltl_passes.proofs.degeneralize.level_edges.Given as goal
 

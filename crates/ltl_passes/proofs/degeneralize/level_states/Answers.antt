@@ -1,9 +1,13 @@
-use Rattle.std.proofs.Common.{ap, subst, sym, Result, Err}
+use Rattle.std.proofs.Common.{ap, subst, sym, Result, Err, true}
 use Rattle.std.specs.Result.{IsErrOf, IsErrAnd}
-use Rattle.ltl_automaton.specs.SharedView.{automaton_of}
+use Rattle.ltl_spec.specs.Automata.Net.{IsReachable}
+use Rattle.ltl_spec.specs.Construction.Levels.{same_level_state, start_copy}
+use Rattle.ltl_automaton.specs.Net.{moves_of}
+use Rattle.ltl_automaton.specs.SharedView.{Shared, automaton_of}
+use Rattle.ltl_passes.specs.Degeneralize.{coded_level_net}
 use Rattle.ltl_automaton.specs.declared.fault.AutomatonFault.{AutomatonFault}
 use Rattle.ltl_automaton.specs.declared.fault.AutomatonFault.TheVariants.{TooLarge}
-use Rattle.ltl_passes.specs.CodedEdges.{tables_of}
+use Rattle.ltl_automaton.specs.CodedEdges.{tables_of}
 use Rattle.ltl_passes.proofs.LabelledReach.{levels_are_coded}
 use Rattle.ltl_passes.proofs.LevelStateLaws.{coded_ba, coded_leveled, coded_too_large, coded_not_too_large}
 use Rattle.ltl_passes.proofs.degeneralize.level_states.Goals as goal
@@ -18,17 +22,23 @@ returns-in_err-made-clause-many g c =
 pub returns-clause-inside : goal.returns-clause-inside
 returns-clause-inside g c =
     let t = tables_of c.args.labels.now in
-    coded_ba t c.requires.tables (automaton_of c.args.states.now) c.requires.coded c.requires.inside (automaton_of c.in_ok-made.made) c.in_ok-made.ensures.reachable c.in_ok-made.ensures.bounded
+    let reachable =
+    subst (λ n. IsReachable same_level_state true (moves_of (coded_level_net t (automaton_of c.args.states.now))) start_copy n (automaton_of c.in_ok-made.made)) (ap (λ (s : Shared). s.sets) c.new-empty.ensures) c.in_ok-made.ensures.reachable in
+    coded_ba t c.requires.tables (automaton_of c.args.states.now) c.requires.coded c.requires.inside (automaton_of c.in_ok-made.made) reachable c.in_ok-made.ensures.bounded
 
 pub returns-clause-copies : goal.returns-clause-copies
 returns-clause-copies g c =
     let t = tables_of c.args.labels.now in
-    coded_leveled t c.requires.tables (automaton_of c.args.states.now) c.requires.coded c.requires.inside (automaton_of c.in_ok-made.made) c.in_ok-made.ensures.reachable
+    let reachable =
+    subst (λ n. IsReachable same_level_state true (moves_of (coded_level_net t (automaton_of c.args.states.now))) start_copy n (automaton_of c.in_ok-made.made)) (ap (λ (s : Shared). s.sets) c.new-empty.ensures) c.in_ok-made.ensures.reachable in
+    coded_leveled t c.requires.tables (automaton_of c.args.states.now) c.requires.coded c.requires.inside (automaton_of c.in_ok-made.made) reachable
 
 pub returns-clause-coded : goal.returns-clause-coded
 returns-clause-coded g c =
     let t = tables_of c.args.labels.now in
-    levels_are_coded t c.requires.tables (automaton_of c.args.states.now) c.requires.coded (automaton_of c.in_ok-made.made) c.in_ok-made.ensures.reachable
+    let reachable =
+    subst (λ n. IsReachable same_level_state true (moves_of (coded_level_net t (automaton_of c.args.states.now))) start_copy n (automaton_of c.in_ok-made.made)) (ap (λ (s : Shared). s.sets) c.new-empty.ensures) c.in_ok-made.ensures.reachable in
+    levels_are_coded t c.requires.tables (automaton_of c.args.states.now) c.requires.coded (automaton_of c.in_ok-made.made) reachable
 
 pub returns-clause-few : goal.returns-clause-few
 returns-clause-few g c = coded_not_too_large (tables_of c.args.labels.now) c.requires.tables (automaton_of c.args.states.now) c.requires.coded c.in_ok-made.ensures.fits

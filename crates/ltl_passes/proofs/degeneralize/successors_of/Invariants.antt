@@ -1,6 +1,6 @@
 use Rattle.std.proofs.Common.{◌≡◌, take, map}
 use Rattle.ltl_automaton.specs.Net.{move_of}
-use Rattle.ltl_passes.specs.CodedEdges.{coded_edge_of}
+use Rattle.ltl_automaton.specs.CodedEdges.{coded_edge_of}
 use Rattle.ltl_passes.specs.Degeneralize.{coded_successor, level_edge_of}
 use Rattle.ltl_passes.proofs.degeneralize.successors_of.Given as goal
 

@@ -1,6 +1,6 @@
 use Rattle.std.proofs.Common.{◌≡◌, map, take}
 use Rattle.std.specs.Prelude.{All}
-use Rattle.ltl_passes.specs.CodedEdges.{labelled_edge_of}
+use Rattle.ltl_automaton.specs.CodedEdges.{labelled_edge_of}
 use Rattle.ltl_passes.specs.Runs.{code_of, run_edge}
 use Rattle.ltl_passes.proofs.implied.by_target.Given as goal
 

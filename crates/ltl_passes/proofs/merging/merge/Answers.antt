@@ -1,47 +1,16 @@
-use Rattle.std.proofs.Common.{◌≡◌, ◌∙◌, ap, sym, subst, Result, Ok, Err}
-use Rattle.std.specs.Prelude.{IfErr}
-use Rattle.std.specs.Result.{IsErrAnd}
+use Rattle.std.proofs.Common.{◌∙◌, ap, sym, subst}
 use Rattle.ltl_spec.specs.Automata.Automaton.{Automaton}
 use Rattle.ltl_spec.specs.Construction.Merging.{merged_automaton}
-use Rattle.ltl_automaton.specs.SharedView.{automaton_of}
-use Rattle.ltl_automaton.specs.declared.fault.AutomatonFault.{AutomatonFault}
-use Rattle.ltl_automaton.specs.declared.fault.AutomatonFault.TheVariants.{OutOfMemory}
 use Rattle.ltl_models.specs.GbaView.{IsAcceptingGba}
-use Rattle.ltl_passes.specs.CodedEdges.{tables_of}
-use Rattle.ltl_passes.specs.Labels.{labelled}
 use Rattle.ltl_passes.specs.Partition.{IsWithinStates}
-use Rattle.ltl_passes.proofs.LabelledPasses.{within_coded}
 use Rattle.ltl_passes.proofs.MergedLaws.{gba_within, merged_accepting_gba}
 use Rattle.ltl_passes.proofs.merging.merge.Goals as goal
 
--- an error that has a property has it if there is an error
-fault_of : {T E : Type 0} (r : Result T E) (P : E → Type 0) → IsErrAnd r P → IfErr r P
-fault_of (Ok v) P a = tt
-fault_of (Err e) P a = a
+pub merged_states-requires-clause-within : goal.merged_states-requires-clause-within
+merged_states-requires-clause-within g c = subst (λ (X : Automaton). IsWithinStates X.states) (sym c.states.ensures.automaton) (gba_within c.args.gba.now c.invariant.ensures.inside)
 
-pub merged-requires-clause-within : goal.merged-requires-clause-within
-merged-requires-clause-within g c =
-    let t = tables_of c.labels-labels.result in
-    let C = automaton_of c.in_ok-coded.coded in
-    let same : labelled t C ≡ c.args.gba.now = (λ i. labelled (c.labels-labels.ensures i) C) ∙ c.in_ok-coded.ensures.labelled ∙ c.states-2.ensures in
-    within_coded t C (subst (λ (X : Automaton). IsWithinStates X.states) (sym same) (gba_within c.args.gba.now c.invariant.ensures.inside))
-
-pub new-requires : goal.new-requires
-new-requires g c =
-    let t = tables_of c.labels-labels.result in
+pub new-requires-clause-inside : goal.new-requires-clause-inside
+new-requires-clause-inside g c =
     let o = c.args.options.now in
-    let C = automaton_of c.in_ok-coded.coded in
-    let same : labelled t C ≡ c.args.gba.now = (λ i. labelled (c.labels-labels.ensures i) C) ∙ c.in_ok-coded.ensures.labelled ∙ c.states-2.ensures in
-    let made = c.in_ok-states.ensures ∙ c.in_ok-small.ensures.merged ∙ ap (merged_automaton o.keep_implied o.keep_equal) same in
+    let made = c.in_ok-small.ensures.merged ∙ ap (merged_automaton o.keep_implied o.keep_equal) c.states.ensures.automaton in
     subst IsAcceptingGba (sym made) (merged_accepting_gba c.args.gba.now o.keep_implied o.keep_equal c.invariant.ensures.inside c.invariant.ensures.accepting)
-
-pub returns-clause-merged : goal.returns-clause-merged
-returns-clause-merged g c =
-    let t = tables_of c.labels-labels.result in
-    let o = c.args.options.now in
-    let C = automaton_of c.in_ok-coded.coded in
-    let same : labelled t C ≡ c.args.gba.now = (λ i. labelled (c.labels-labels.ensures i) C) ∙ c.in_ok-coded.ensures.labelled ∙ c.states-2.ensures in
-    c.new.ensures ∙ c.in_ok-states.ensures ∙ c.in_ok-small.ensures.merged ∙ ap (merged_automaton o.keep_implied o.keep_equal) same
-
-pub returns-in_err-states-clause-fault : goal.returns-in_err-states-clause-fault
-returns-in_err-states-clause-fault g c = fault_of c.from_residual-in_err-states.result (λ (f : AutomatonFault). f ≡ OutOfMemory) c.from_residual-in_err-states.ensures.1

@@ -2,8 +2,8 @@ use Rattle.std.proofs.Common.{◌≡◌, ◌∙◌, ap, sym, subst, length, cond
 use Rattle.std.proofs.lemmas.Result.{IfOk-weaker}
 use Rattle.ltl_spec.specs.Construction.Merging.{class_names, merged_automaton, quotient}
 use Rattle.ltl_automaton.specs.SharedView.{automaton_of}
-use Rattle.ltl_passes.specs.CodedEdges.{tables_of}
-use Rattle.ltl_passes.specs.Labels.{labelled}
+use Rattle.ltl_automaton.specs.CodedEdges.{tables_of}
+use Rattle.ltl_automaton.specs.Labels.{labelled}
 use Rattle.ltl_passes.specs.Partition.{AreNames}
 use Rattle.ltl_passes.proofs.CodedListLaws.{labelled_classes}
 use Rattle.ltl_passes.proofs.MergeLaws.{long_of_round, names_of_round}

@@ -1,6 +1,6 @@
 use Rattle.std.proofs.Common.{◌≡◌, take, map}
 use Rattle.ltl_automaton.specs.Net.{move_of}
-use Rattle.ltl_passes.specs.CodedEdges.{coded_edge_of}
+use Rattle.ltl_automaton.specs.CodedEdges.{coded_edge_of}
 use Rattle.ltl_passes.specs.Numbered.{successor_of}
 use Rattle.ltl_passes.proofs.numbering.successors_of.Given as goal
 

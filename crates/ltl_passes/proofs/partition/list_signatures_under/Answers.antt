@@ -1,7 +1,7 @@
 use Rattle.std.proofs.Common.{List, ◌∙◌, ap, length, map, Some}
 use Rattle.std.specs.Prelude.{slice_index}
 use Rattle.ltl_spec.specs.Automata.Automaton.{Edge}
-use Rattle.ltl_passes.specs.CodedEdges.{coded_edge_of}
+use Rattle.ltl_automaton.specs.CodedEdges.{coded_edge_of}
 use Rattle.ltl_passes.specs.Partition.{list_view}
 use Rattle.ltl_passes.proofs.ClassLaws.{coded_push, list_seen, list_within}
 use Rattle.ltl_passes.proofs.partition.list_signatures_under.Goals as goal

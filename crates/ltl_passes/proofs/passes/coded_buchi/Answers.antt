@@ -8,10 +8,10 @@ use Rattle.ltl_spec.specs.Tools.Limits.{stated_limits}
 use Rattle.ltl_automaton.specs.SharedView.{automaton_of}
 use Rattle.ltl_models.specs.GbaView as gba
 use Rattle.ltl_models.specs.BaView.{IsBa}
-use Rattle.ltl_passes.specs.CodedEdges.{tables_of}
-use Rattle.ltl_passes.specs.Labels.{labelled}
+use Rattle.ltl_automaton.specs.CodedEdges.{tables_of}
+use Rattle.ltl_automaton.specs.Labels.{AreCoded, labelled}
 use Rattle.ltl_passes.specs.Passes.{buchi_of, merged_of}
-use Rattle.ltl_passes.proofs.LabelledPasses.{labelled_renumbered, numberable_coded, within_coded}
+use Rattle.ltl_passes.proofs.LabelledPasses.{coded_renumbered, labelled_renumbered, numberable_coded, within_coded}
 use Rattle.ltl_passes.proofs.MergedLaws.{gba_within, merged_ba, merged_gba}
 use Rattle.ltl_passes.proofs.RenumberLaws.{ba_numberable, numbered_ba}
 use Rattle.ltl_passes.proofs.passes.coded_buchi.Goals as goal
@@ -65,6 +65,13 @@ returns-clause-inside g c =
     let ba = subst IsBa (sym c.in_ok-smaller.ensures.merged) (merged_ba (labelled t (automaton_of c.in_ok-copies.copies)) o.keep_implied o.keep_equal c.in_ok-copies.ensures.inside) in
     IfOk-weaker c.renumbered.result (λ s. automaton_of s ≡ renumbered_automaton C) (λ s. IsBa (labelled t (automaton_of s)))
     (λ s e. subst IsBa (sym (ap (labelled t) e ∙ labelled_renumbered t c.requires.tables C c.in_ok-smaller.ensures.coded)) (numbered_ba (labelled t C) ba)) c.renumbered.ensures.renumbered
+
+pub returns-clause-coded : goal.returns-clause-coded
+returns-clause-coded g c =
+    let t = tables_of c.args.labels.now in
+    let C = automaton_of c.in_ok-smaller.smaller in
+    IfOk-weaker c.renumbered.result (λ s. automaton_of s ≡ renumbered_automaton C) (λ s. AreCoded t (automaton_of s))
+    (λ s e. subst (AreCoded t) (sym e) (coded_renumbered t c.requires.tables C c.in_ok-smaller.ensures.coded)) c.renumbered.ensures.renumbered
 
 pub returns-clause-few : goal.returns-clause-few
 returns-clause-few g c =

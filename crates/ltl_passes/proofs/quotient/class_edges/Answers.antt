@@ -6,7 +6,7 @@ use Rattle.ltl_spec.specs.Collections.Sets.{IsRising}
 use Rattle.ltl_spec.specs.Construction.Merging.{retargeted_edge, unimplied_edges}
 use Rattle.ltl_spec.proofs.Collections.Orders.{edge_linear}
 use Rattle.ltl_spec.proofs.Collections.SetLaws.{IsRising-set_of}
-use Rattle.ltl_passes.specs.CodedEdges.{coded_edge_of, labelled_edge_of}
+use Rattle.ltl_automaton.specs.CodedEdges.{coded_edge_of, labelled_edge_of}
 use Rattle.ltl_passes.specs.Partition.{retargeted_list, thinned}
 use Rattle.ltl_passes.proofs.CodedListLaws.{labels_kept, labels_retargeted}
 use Rattle.ltl_passes.proofs.TargetLaws.{retargeted_within}

@@ -6,16 +6,17 @@ use Rattle.std.proofs.lemmas.List.{length-map}
 use Rattle.ltl_spec.specs.Collections.Sets.{Has, set_of}
 use Rattle.ltl_spec.specs.Automata.Automaton.{Edge, State, state_at}
 use Rattle.ltl_spec.specs.Construction.Merging.{without_implied, retargeted_state}
-use Rattle.ltl_passes.specs.CodedEdges.{coded_edge_of, labelled_edge_of, tables_of}
-use Rattle.ltl_passes.specs.Labels.{IsCoded, labelled}
+use Rattle.ltl_automaton.specs.CodedEdges.{coded_edge_of, labelled_edge_of, tables_of}
+use Rattle.ltl_automaton.specs.Labels.{IsCoded, labelled}
 use Rattle.ltl_automaton.specs.SharedView.{automaton_of, with_state}
-use Rattle.ltl_passes.specs.declared.coded_edge.CodedEdge as made
+use Rattle.ltl_automaton.specs.declared.coded_edge.CodedEdge as made
 use Rattle.ltl_automaton.proofs.NetLaws.{took}
 use Rattle.ltl_passes.specs.Partition.{number_in, retargeted_list, thinned}
 use Rattle.ltl_passes.proofs.NumberLaws.{class_below, numbers_within}
 use Rattle.ltl_passes.proofs.MergeLaws.{index_own, class_same, class_pushed}
-use Rattle.ltl_passes.proofs.LabelledReach.{state_at_labelled}
-use Rattle.ltl_passes.proofs.CodedListLaws.{coded_pushed, labelled_pushed, labelled_within, labels_coded, labels_seen, state_labels}
+use Rattle.ltl_automaton.proofs.TableLaws.{state_at_labelled}
+use Rattle.ltl_automaton.proofs.TableLaws.{coded_pushed, labelled_pushed, labels_seen, state_labels}
+use Rattle.ltl_passes.proofs.CodedListLaws.{labelled_within, labels_coded}
 use Rattle.ltl_models.proofs.Within.{seen_within}
 use Rattle.ltl_passes.proofs.quotient.quotient.Goals as goal
 
@@ -63,7 +64,7 @@ loop-class-preserved g c =
     let within : (e : Edge) → Has (state_at B class).edges e → e.target < length c.args.names.now = λ e k. subst (λ n. e.target < n) (sym c.requires.long) (labelled_within t A c.requires.within class e k) in
     let made = c.in_ok-edges.edges.items in
     let edges : map (labelled_edge_of l) made ≡ thinned keep (retargeted_list (slice_index c.in_ok-numbering.numbering.numbers.items) (state_at B class).edges) =
-    c.in_ok-edges.ensures.edges ∙ (λ i. thinned keep (retargeted_list (slice_index (c.as_slice-numbers.ensures.value i)) (state_labels l A class c.edges.result.now c.edges.ensures i))) in
+    c.in_ok-edges.ensures.edges ∙ (λ i. thinned keep (retargeted_list (slice_index (c.as_slice-numbers.ensures.value i)) (state_labels l t A class c.edges.result.now refl c.edges.ensures i))) in
     let accepting : c.accepting.result ≡ (state_at B class).accepting = c.accepting.ensures ∙ ap (λ (s : State). s.accepting) (sym (state_at_labelled t A class)) in
     let same : (let s : State = record { accepting = c.accepting.result; edges = map (labelled_edge_of l) made } in s) ≡ h class =
     (λ i. let s : State = record { accepting = accepting i; edges = edges i } in s)

@@ -5,8 +5,8 @@ use Rattle.ltl_spec.specs.Collections.Sets.{set_of}
 use Rattle.ltl_spec.specs.Automata.Automaton.{state_at}
 use Rattle.ltl_spec.specs.Construction.Merging.{without_implied, retargeted_state}
 use Rattle.ltl_automaton.specs.SharedView.{automaton_of}
-use Rattle.ltl_passes.specs.CodedEdges.{tables_of}
-use Rattle.ltl_passes.specs.Labels.{AreCoded, labelled}
+use Rattle.ltl_automaton.specs.CodedEdges.{tables_of}
+use Rattle.ltl_automaton.specs.Labels.{AreCoded, labelled}
 use Rattle.ltl_passes.specs.Partition.{number_in}
 use Rattle.ltl_passes.proofs.quotient.quotient.Given as goal
 

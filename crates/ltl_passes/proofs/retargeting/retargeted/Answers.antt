@@ -2,7 +2,7 @@ use Rattle.std.proofs.Common.{refl, ◌∙◌, ap}
 use Rattle.ltl_spec.specs.Collections.Sets.{set_of}
 use Rattle.ltl_spec.specs.Automata.Automaton.{edge_cmp}
 use Rattle.ltl_automaton.proofs.EdgeLaws.{edges_sorted}
-use Rattle.ltl_passes.specs.CodedEdges.{coded_edge_of}
+use Rattle.ltl_automaton.specs.CodedEdges.{coded_edge_of}
 use Rattle.ltl_passes.proofs.retargeting.retargeted.Goals as goal
 
 pub returns : goal.returns

@@ -1,8 +1,8 @@
 use Rattle.std.proofs.Common.{ap, ◌∙◌}
 use Rattle.std.specs.Prelude.{map, take, slice_index, slice_index_or}
 use Rattle.ltl_spec.specs.Construction.Merging.{retargeted_edge}
-use Rattle.ltl_passes.specs.declared.coded_edge.CodedEdge as code
-use Rattle.ltl_passes.specs.CodedEdges.{coded_edge_of}
+use Rattle.ltl_automaton.specs.declared.coded_edge.CodedEdge as code
+use Rattle.ltl_automaton.specs.CodedEdges.{coded_edge_of}
 use Rattle.ltl_automaton.proofs.NetLaws.{took}
 use Rattle.ltl_automaton.proofs.WayLaws.{take_whole}
 use Rattle.ltl_passes.proofs.SignatureLaws.{index_any, retargeted_next}

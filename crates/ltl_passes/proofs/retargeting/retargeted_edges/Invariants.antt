@@ -1,7 +1,7 @@
 use Rattle.std.proofs.Common.{◌≡◌}
 use Rattle.std.specs.Prelude.{map, take, slice_index}
 use Rattle.ltl_spec.specs.Construction.Merging.{retargeted_edge}
-use Rattle.ltl_passes.specs.CodedEdges.{coded_edge_of}
+use Rattle.ltl_automaton.specs.CodedEdges.{coded_edge_of}
 use Rattle.ltl_passes.proofs.retargeting.retargeted_edges.Given as goal
 
 abbrev pub invariant-loop-edge : goal.invariant-loop-edge

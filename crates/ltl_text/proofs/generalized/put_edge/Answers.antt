@@ -1,5 +1,5 @@
 use Rattle.std.proofs.Common.{refl}
-use Rattle.ltl_models.specs.GbaView.{edge_of}
+use Rattle.ltl_automaton.specs.EdgeView.{edge_of}
 use Rattle.ltl_text.proofs.OutputLaws.{halts_first, halts_then, writes_halted, writes_then}
 use Rattle.ltl_text.proofs.HoaLaws.{marked_edge_pieces}
 use Rattle.ltl_text.proofs.generalized.put_edge.Goals as goal

@@ -1,4 +1,4 @@
-use Rattle.ltl_models.specs.BaView.{edge_of}
+use Rattle.ltl_automaton.specs.EdgeView.{edge_of}
 use Rattle.ltl_text.proofs.OutputLaws.{halts_first, writes_halted, writes_then}
 use Rattle.ltl_text.proofs.HoaLaws.{edge_pieces}
 use Rattle.ltl_text.proofs.hoa.put_edge.Goals as goal

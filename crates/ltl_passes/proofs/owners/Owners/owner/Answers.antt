@@ -1,6 +1,6 @@
 use Rattle.std.proofs.Common.{◌<◌, length, refl, map, arith}
 use Rattle.std.proofs.lemmas.List.{get_or_read}
-use Rattle.ltl_passes.specs.CodedEdges.{coded_edge_of}
+use Rattle.ltl_automaton.specs.CodedEdges.{coded_edge_of}
 use Rattle.ltl_passes.proofs.OwnerLaws.{owners_grown, owner_known, owner_new}
 use Rattle.ltl_passes.proofs.owners.Owners.owner.Goals as goal
 

@@ -1,9 +1,9 @@
 use Rattle.std.proofs.Common.{◌≡◌, ◌<◌, vec_len, length, subst, sym, ◌∙◌}
 use Rattle.std.specs.Prelude.{All}
 use Rattle.ltl_spec.specs.Automata.Automaton.{Edge}
-use Rattle.ltl_passes.specs.CodedEdges.{coded_edge_of}
+use Rattle.ltl_automaton.specs.CodedEdges.{coded_edge_of}
 use Rattle.ltl_automaton.specs.SharedView.{automaton_of}
-use Rattle.ltl_passes.specs.declared.coded_edge.CodedEdge as made
+use Rattle.ltl_automaton.specs.declared.coded_edge.CodedEdge as made
 use Rattle.ltl_models.proofs.Within.{seen_within}
 use Rattle.ltl_passes.proofs.sources.Sources.of.Goals as goal
 

@@ -1,9 +1,9 @@
 use Rattle.std.proofs.Common.{◌≡◌, ◌<◌, true, false, length, map, sym, ◌∙◌, ap, subst}
 use Rattle.std.specs.Prelude.{All, slice_index}
 use Rattle.ltl_spec.specs.Automata.Automaton.{Edge}
-use Rattle.ltl_passes.specs.CodedEdges.{coded_edge_of}
+use Rattle.ltl_automaton.specs.CodedEdges.{coded_edge_of}
 use Rattle.ltl_automaton.specs.SharedView.{automaton_of}
-use Rattle.ltl_passes.specs.declared.coded_edge.CodedEdge as code
+use Rattle.ltl_automaton.specs.declared.coded_edge.CodedEdge as code
 use Rattle.ltl_models.proofs.Within.{seen_within}
 use Rattle.ltl_passes.specs.Partition.{retargeted_list}
 use Rattle.ltl_passes.specs.Worklist.{LeadsWithin, last_name, own_view, edge_view}

@@ -1,0 +1,298 @@
+-- Labels that are numbered as they come, and in their order: what their numbers stand for.
+use Rattle.std.proofs.Common.{◌≡◌, ℕ, zero, suc, ◌+◌, ◌<◌, Bool, true, false, cond, inl, inr, List, [], ◌∷◌, ◌++◌, length, map, refl, sym, ◌∙◌, ap, subst, arith, length-append, Some, None}
+use Rattle.std.specs.Prelude.{slice_get, slice_index_or, take, All, nat_lt, ◌≢◌}
+use Rattle.std.specs.List.{list_any, position}
+use Rattle.std.specs.Bool.{Decides}
+use Rattle.std.specs.declared.cmp.Ordering.{Ordering}
+use Rattle.std.specs.declared.cmp.Ordering.TheVariants.{Less, Greater}
+use Rattle.std.specs.Ordering.{nat_cmp}
+use Rattle.std.specs.Cmp.Lexicographic.{slice_cmp}
+use Rattle.std.proofs.lemmas.List.{map-append, take_more, length-take-le, get_or-take, get_or_past, append-nil, append_assoc}
+use Rattle.std.proofs.lemmas.List.Elements.{All-push, All-weaker, All-get_or, All-append, All-cons, All-nil}
+use Rattle.std.proofs.lemmas.Bool.{cases_lt}
+use Rattle.std.proofs.Math.ListN.{get_or-map}
+use Rattle.ltl_spec.specs.Collections.Sets.{Has, IsRising, IsLinearOrder, set_of}
+use Rattle.ltl_spec.specs.Collections.Lists.{HasNoRepeats, with_new, place_of}
+use Rattle.ltl_spec.specs.Transitions.Cubes.{Cube, cube_cmp}
+use Rattle.ltl_spec.specs.Automata.Automaton.{Automaton, Edge, State, state_at}
+use Rattle.ltl_spec.proofs.Automata.ListingLaws.{with_new_behind}
+use Rattle.ltl_spec.proofs.Collections.FoundLaws.{index_there, map_equal, map_same}
+use Rattle.ltl_spec.proofs.Collections.ListLaws.{Has-at, All-at_has, any_Decides, index_append, place_below}
+use Rattle.ltl_spec.proofs.Collections.MemberLaws.{at_map, map_length}
+use Rattle.ltl_spec.proofs.Collections.Orders.{cube_linear, row_set_linear}
+use Rattle.ltl_spec.proofs.Collections.ProductLists.{rising_once}
+use Rattle.ltl_spec.proofs.Collections.SetLaws.{all_at, append_left, Has-set_of, IsRising-set_of}
+use Rattle.ltl_sets.specs.CubeEq.{same_cube}
+use Rattle.ltl_automaton.specs.SharedView.{with_state}
+use Rattle.ltl_automaton.specs.declared.coded_edge.CodedEdge as numbered
+use Rattle.ltl_automaton.specs.declared.labels.Labels as slices
+use Rattle.ltl_automaton.proofs.EdgeLaws.{map_pushed, All_from_map}
+use Rattle.ltl_automaton.proofs.NetLaws.{took}
+use Rattle.ltl_automaton.specs.CodedEdges.{coded_edge_of, labelled_edge_of, tables_of}
+use Rattle.ltl_automaton.specs.Labels.{Tables, AreTables, labelled_edge, labelled_state, labelled, number_of_cube, IsCoded, AreCoded}
+use Rattle.ltl_automaton.specs.LabelTables.{AreMade, AreRanks, AreStatesMade, Extends}
+
+-- ---- the labels of states
+-- the state of a number, with its labels
+pub state_at_labelled : (t : Tables) (A : Automaton) (s : ℕ) → state_at (labelled t A) s ≡ labelled_state t (state_at A s)
+state_at_labelled t A s = get_or-map (labelled_state t) A.states s (record { accepting = true; edges = [] })
+
+-- there are as many states
+pub labelled_length : (t : Tables) (A : Automaton) → length (labelled t A).states ≡ length A.states
+labelled_length t A = map_length (labelled_state t) A.states
+
+-- the labels are those of the edges that are seen
+pub labels_seen : (l : slices.Labels) (es : List numbered.CodedEdge) → map (labelled_edge_of l) es ≡ map (labelled_edge (tables_of l)) (map coded_edge_of es)
+labels_seen l es = sym (map_same coded_edge_of (labelled_edge (tables_of l)) es)
+
+-- the labels of the edges of a state
+pub state_labels : (l : slices.Labels) (t : Tables) (A : Automaton) (s : ℕ) (es : List numbered.CodedEdge) → tables_of l ≡ t → map coded_edge_of es ≡ (state_at A s).edges → map (labelled_edge_of l) es ≡ (state_at (labelled t A) s).edges
+state_labels l t A s es q e =
+    labels_seen l es ∙ (λ i. map (labelled_edge (q i)) (map coded_edge_of es)) ∙ ap (map (labelled_edge t)) e ∙ ap (λ (r : State). r.edges) (sym (state_at_labelled t A s))
+
+-- what holds of all states, and where there is none, holds at each number
+pub states_at : (A : Automaton) (P : State → Type 0) (i : ℕ) → P (record { accepting = true; edges = [] }) → All P A.states → P (state_at A i)
+states_at A P i p a =
+    let none : State = record { accepting = true; edges = [] } in
+    elim (cases_lt i (length A.states)) [
+      | inl l ↦ All-get_or P A.states i none l a
+      | inr l ↦ subst P (sym (get_or_past A.states i none l)) p
+    ]
+
+-- the edges of a state are coded
+pub state_coded : (t : Tables) (A : Automaton) (s : ℕ) (es : List Edge) → AreCoded t A → es ≡ (state_at A s).edges → All (IsCoded t) es
+state_coded t A s es a e = subst (All (IsCoded t)) (sym e) (states_at A (λ (r : State). All (IsCoded t) r.edges) s (All-nil (IsCoded t)) a)
+
+-- one more state, with its labels
+pub labelled_pushed : (t : Tables) (B C : Automaton) (accepting : Bool) (es : List Edge) → C ≡ with_state B accepting es → labelled t C ≡ with_state (labelled t B) accepting (map (labelled_edge t) es)
+labelled_pushed t B C accepting es e =
+    ap (labelled t) e
+    ∙ (λ i. let X : Automaton = record { sets = B.sets; states = map-append (labelled_state t) B.states (record { accepting = accepting; edges = es } ∷ []) i } in X)
+
+-- is coded, where its edges are
+pub coded_pushed : (t : Tables) (B C : Automaton) (accepting : Bool) (es : List Edge) → C ≡ with_state B accepting es → AreCoded t B → All (IsCoded t) es → AreCoded t C
+coded_pushed t B C accepting es e b c =
+    let P : State → Type 0 = λ s. All (IsCoded t) s.edges in
+    subst (AreCoded t) (sym e) (All-append P B.states (record { accepting = accepting; edges = es } ∷ []) b (All-cons P (record { accepting = accepting; edges = es }) [] c (All-nil P)))
+
+-- ---- different values one after the other
+-- in a list without repeats no element stands before its place
+not_before : {K : Type 0} (xs : List K) (i : ℕ) (d : K) → HasNoRepeats xs → i < length xs → ¬ (Has (take i xs) (slice_index_or xs i d))
+not_before [] i d r l h = absurd (omega arith)
+not_before (x ∷ xs) zero d r l h = h
+not_before (x ∷ xs) (suc i) d r l (inl e) = r.0 (subst (Has xs) e (Has-at xs i d (omega arith)))
+not_before (x ∷ xs) (suc i) d r l (inr h) = not_before xs i d r.1 (omega arith) h
+
+module _ {K : Type 0} (same : K → K → Bool) (decides : (x y : K) → Decides (same x y) (x ≡ y)) where
+  -- what isn't there is put behind
+  put_behind : (x : K) (xs : List K) → ¬ (Has xs x) → with_new same xs x ≡ xs ++ x ∷ []
+  put_behind x xs n =
+      elim (list_any (same x) xs) as (λ b. Decides b (Has xs x) → cond b xs (xs ++ x ∷ []) ≡ xs ++ x ∷ []) [
+        | true ↦ λ d. absurd (n (d.0 refl))
+        | false ↦ λ d. refl
+      ] (any_Decides same decides x xs)
+
+  -- the elements of a rising list, each put in if it isn't there, are that list
+  pub interned_next : {R : K → K → Ordering} → IsLinearOrder R → (items xs keys more_keys : List K) (i : ℕ) (x : K) → items ≡ set_of R xs → i < length items → x ≡ slice_index_or items i x → keys ≡ take i items
+      → more_keys ≡ with_new same keys x → more_keys ≡ take (i + 1) items
+  interned_next {R = R} o items xs keys more_keys i x s l t k m =
+      let once : HasNoRepeats items = rising_once o items (subst (IsRising R) (sym s) (IsRising-set_of o xs)) in
+      let new : ¬ (Has (take i items) x) = λ h. not_before items i x once l (subst (Has (take i items)) t h) in
+      m ∙ ap (λ ks. with_new same ks x) k ∙ put_behind x (take i items) new ∙ ap (λ y. take i items ++ y ∷ []) t ∙ sym (take_more items i x l)
+
+  -- what is there is found
+  pub not_missed : (x : K) (xs : List K) → Has xs x → None ≢ position (same x) xs
+  not_missed x xs h e =
+      let l : place_of same x xs < length xs = place_below same decides x xs h in
+      let there : nat_lt (place_of same x xs) (length xs) ≡ true = grind arith in
+      let found : position (same x) xs ≡ Some (place_of same x xs) = ap (λ b. cond b (Some (place_of same x xs)) None) there in
+      let q : None ≡ Some (place_of same x xs) = e ∙ found in
+      cc
+
+-- the beginning with the element that was read
+pub take_read : {K : Type 0} (xs : List K) (n : ℕ) (x : K) → slice_get xs n ≡ Some x → take (n + 1) xs ≡ take n xs ++ x ∷ []
+take_read xs n x e = let w = index_there xs n x x e in took xs n x w.0 (sym w.1)
+
+-- ---- labels that are numbered as they come
+-- with more labels behind
+pub extends_none : (t : Tables) → Extends t t
+extends_none t = record { cubes = ([], sym (append-nil t.cubes)); marks = ([], sym (append-nil t.marks)) }
+
+pub extends_on : (t u v : Tables) → Extends t u → Extends u v → Extends t v
+extends_on t u v a b = record {
+  cubes = (a.cubes.0 ++ b.cubes.0, b.cubes.1 ∙ ap (λ xs. xs ++ b.cubes.0) a.cubes.1 ∙ append_assoc t.cubes a.cubes.0 b.cubes.0);
+  marks = (a.marks.0 ++ b.marks.0, b.marks.1 ∙ ap (λ xs. xs ++ b.marks.0) a.marks.1 ∙ append_assoc t.marks a.marks.0 b.marks.0);
+}
+
+-- one label more, of each kind
+pub extends_next : (same_marks : List ℕ → List ℕ → Bool) (t u : Tables) (c : Cube) (m : List ℕ) → u.cubes ≡ with_new same_cube t.cubes c → u.marks ≡ with_new same_marks t.marks m → Extends t u
+extends_next same_marks t u c m e f =
+    let x = with_new_behind same_cube t.cubes c in
+    let y = with_new_behind same_marks t.marks m in
+    record { cubes = (x.0, e ∙ x.1); marks = (y.0, f ∙ y.1) }
+
+-- the label stands at its number
+pub met_there : {K : Type 0} (same : K → K → Bool) → ((x y : K) → Decides (same x y) (x ≡ y)) → (keys : List K) (x : K) (i : ℕ) → (k : K) × (slice_get keys i ≡ Some k) × (same x k ≡ true) → slice_get keys i ≡ Some x
+met_there same decides keys x i w = w.1 ∙ ap Some (sym ((decides x w.0).0 w.2))
+
+module _ (t u : Tables) (x : Extends t u) where
+  -- an edge keeps its labels
+  labels_stay : (e : Edge) → IsCoded t e → labelled_edge u e ≡ labelled_edge t e
+  labels_stay e c =
+      let cube : slice_index_or u.cubes c.cube [] ≡ slice_index_or t.cubes c.cube [] = ap (λ xs. slice_index_or xs c.cube []) x.cubes.1 ∙ index_append t.cubes x.cubes.0 c.cube [] c.cube_within in
+      let marks : slice_index_or u.marks c.marks [] ≡ slice_index_or t.marks c.marks [] = ap (λ xs. slice_index_or xs c.marks []) x.marks.1 ∙ index_append t.marks x.marks.0 c.marks [] c.marks_within in
+      ap (labelled_edge u) c.is ∙ (λ i. let f : Edge = record { cube = cube i; target = e.target; marks = marks i } in f) ∙ ap (labelled_edge t) (sym c.is)
+
+  coded_still : (e : Edge) → IsCoded t e → IsCoded u e
+  coded_still e c = record {
+    cube = c.cube;
+    marks = c.marks;
+    is = c.is;
+    cube_within = longer t.cubes u.cubes c.cube x.cubes c.cube_within;
+    marks_within = longer t.marks u.marks c.marks x.marks c.marks_within;
+  }
+    where
+      longer : {K : Type 0} (xs ys : List K) (n : ℕ) → (more : List K) × (ys ≡ xs ++ more) → n < length xs → n < length ys
+      longer xs ys n w l = let long = ap length w.1 ∙ length-append xs w.0 in omega arith
+
+  edges_stay : (es : List Edge) → All (IsCoded t) es → map (labelled_edge u) es ≡ map (labelled_edge t) es
+  edges_stay es c = map_equal (labelled_edge u) (labelled_edge t) es (λ e h. labels_stay e (All-at_has (IsCoded t) es c e h))
+
+  edges_coded : (es : List Edge) → All (IsCoded t) es → All (IsCoded u) es
+  edges_coded es c = All-weaker (IsCoded t) (IsCoded u) coded_still es c
+
+  -- so do the edges that were made, and those of all states
+  pub made_stay : (made : List numbered.CodedEdge) (es : List Edge) → AreMade t made es → AreMade u made es
+  made_stay made es w = record { edges = edges_stay (map coded_edge_of made) w.coded ∙ w.edges; coded = edges_coded (map coded_edge_of made) w.coded }
+
+  pub states_stay : (A : Automaton) → AreCoded t A → labelled u A ≡ labelled t A
+  states_stay A a =
+      let P : State → Type 0 = λ s. All (IsCoded t) s.edges in
+      let same = map_equal (labelled_state u) (labelled_state t) A.states (λ s h.
+      let es = edges_stay s.edges (All-at_has P A.states a s h) in
+      λ i. let r : State = record { accepting = s.accepting; edges = es i } in r) in
+      λ i. let X : Automaton = record { sets = A.sets; states = same i } in X
+
+  pub states_coded : (A : Automaton) → AreCoded t A → AreCoded u A
+  states_coded A a = All-weaker (λ (s : State). All (IsCoded t) s.edges) (λ (s : State). All (IsCoded u) s.edges) (λ s. edges_coded s.edges) A.states a
+
+  -- one more state
+  pub built_next : (A B : Automaton) (accepting : Bool) (es xs : List Edge) → AreCoded t A → B ≡ with_state A accepting es → map (labelled_edge u) es ≡ xs → labelled u B ≡ with_state (labelled t A) accepting xs
+  built_next A B accepting es xs a e f = labelled_pushed u A B accepting es e ∙ (λ i. with_state (states_stay A a i) accepting (f i))
+
+  pub built_coded : (A B : Automaton) (accepting : Bool) (es : List Edge) → AreCoded t A → B ≡ with_state A accepting es → All (IsCoded u) es → AreCoded u B
+  built_coded A B accepting es a e c = coded_pushed u A B accepting es e (states_coded A a) c
+
+  -- no marks are still there
+  pub none_still : Has t.marks [] → Has u.marks []
+  none_still h = subst (λ ms. Has ms []) (sym x.marks.1) (append_left t.marks x.marks.0 [] h)
+
+-- no edge yet
+pub none_made : (t : Tables) (made : List numbered.CodedEdge) → made ≡ [] → AreMade t made []
+none_made t made e = subst (λ (xs : List numbered.CodedEdge). AreMade t xs []) (sym e) (record { edges = refl; coded = All-nil (IsCoded t) })
+
+-- one more edge with numbers
+pub coded_next : (t : Tables) (made more_made : List numbered.CodedEdge) (x : numbered.CodedEdge) (es more_es : List Edge) (e : Edge) → AreMade t made es → slice_get t.cubes x.cube ≡ Some e.cube → slice_get t.marks x.marks ≡ Some e.marks
+    → x.target ≡ e.target → more_made ≡ made ++ x ∷ [] → more_es ≡ es ++ e ∷ [] → AreMade t more_made more_es
+coded_next t made more_made x es more_es e w c m g p q =
+    let cube = index_there t.cubes x.cube e.cube [] c in
+    let marks = index_there t.marks x.marks e.marks [] m in
+    let pushed : map coded_edge_of more_made ≡ map coded_edge_of made ++ coded_edge_of x ∷ [] = map_pushed coded_edge_of made more_made x p in
+    let same : labelled_edge t (coded_edge_of x) ≡ e = λ i. let f : Edge = record { cube = cube.1 i; target = g i; marks = marks.1 i } in f in
+    record {
+      edges = map_pushed (labelled_edge t) (map coded_edge_of made) (map coded_edge_of more_made) (coded_edge_of x) pushed ∙ (λ i. w.edges i ++ same i ∷ []) ∙ sym q;
+      coded = subst (All (IsCoded t)) (sym pushed)
+          (All-push (IsCoded t) (map coded_edge_of made) (coded_edge_of x) w.coded (record { cube = x.cube; marks = x.marks; is = refl; cube_within = cube.0; marks_within = marks.0 }));
+    }
+
+-- ---- the tables
+-- no marks come first
+none_first : (ms : List (List ℕ)) → IsRising (slice_cmp nat_cmp) ms → Has ms [] → slice_get ms 0 ≡ Some []
+none_first [] r h = absurd h
+none_first ([] ∷ ms) r h = refl
+none_first ((n ∷ m) ∷ ms) r (inl e) = absurd (cc)
+none_first ((n ∷ m) ∷ ms) r (inr h) = let d : Greater ≡ Less = all_at (λ y. slice_cmp nat_cmp (n ∷ m) y ≡ Less) ms [] r.0 h in absurd (cc)
+
+-- the labels that came, in their order
+pub ranked_tables : (t u : Tables) → u.cubes ≡ set_of cube_cmp t.cubes → u.marks ≡ set_of (slice_cmp nat_cmp) t.marks → Has t.marks [] → AreTables u
+ranked_tables t u c m h =
+    let rising : IsRising (slice_cmp nat_cmp) u.marks = subst (IsRising (slice_cmp nat_cmp)) (sym m) (IsRising-set_of row_set_linear t.marks) in
+    record {
+      cubes = subst (IsRising cube_cmp) (sym c) (IsRising-set_of cube_linear t.cubes);
+      marks = rising;
+      none = none_first u.marks rising (subst (λ xs. Has xs []) (sym m) (Has-set_of row_set_linear t.marks [] h));
+    }
+
+-- a value that came is among the sorted ones
+pub ranked_has : {K : Type 0} {R : K → K → Ordering} → IsLinearOrder R → (values sorted : List K) (i : ℕ) (x : K) → sorted ≡ set_of R values → slice_get values i ≡ Some x → Has sorted x
+ranked_has o values sorted i x e h =
+    let w = index_there values i x x h in
+    subst (λ xs. Has xs x) (sym e) (Has-set_of o values x (subst (Has values) w.1 (Has-at values i x w.0)))
+
+-- one more place
+pub ranks_next : {K : Type 0} (values more_values sorted : List K) (ranks more_ranks : List ℕ) (x : K) (r s : ℕ) → AreRanks values sorted ranks → slice_get sorted r ≡ Some x → s ≡ r → more_ranks ≡ ranks ++ s ∷ [] → more_values ≡ values ++ x ∷ []
+    → AreRanks more_values sorted more_ranks
+ranks_next values more_values sorted ranks more_ranks x r s w h q p v =
+    map_pushed (slice_get sorted) ranks more_ranks s p ∙ (λ i. w i ++ (ap (slice_get sorted) q ∙ h) i ∷ []) ∙ sym (map_pushed Some values more_values x v)
+
+-- there is a place for each value, and the value stands there
+pub ranks_within : {K : Type 0} (values sorted : List K) (ranks : List ℕ) (n : ℕ) → AreRanks values sorted ranks → n < length values → n < length ranks
+ranks_within values sorted ranks n w l =
+    let long : length ranks ≡ length values = sym (map_length (slice_get sorted) ranks) ∙ ap length w ∙ map_length Some values in
+    omega arith
+
+pub rank_there : {K : Type 0} (values sorted : List K) (ranks : List ℕ) (n r k : ℕ) (d : K) → AreRanks values sorted ranks → n < length values → r ≡ slice_index_or ranks n k → slice_get sorted r ≡ Some (slice_index_or values n d)
+rank_there values sorted ranks n r k d w l e =
+    ap (slice_get sorted) e
+    ∙ sym (at_map (slice_get sorted) ranks n k None (ranks_within values sorted ranks n w l))
+    ∙ ap (λ xs. slice_index_or xs n None) w
+    ∙ at_map Some values n d None l
+
+-- the numbers of a coded edge are places in the tables
+pub numbers_within : (t : Tables) (x : numbered.CodedEdge) → IsCoded t (coded_edge_of x) → (x.cube < length t.cubes) × (x.marks < length t.marks)
+numbers_within t x c =
+    let cube : x.cube ≡ c.cube = ap (λ (g : Edge). number_of_cube g.cube) c.is in
+    let marks : x.marks ≡ c.marks = ap (λ (g : Edge). slice_index_or g.marks 0 0) c.is in
+    (subst (λ n. n < length t.cubes) (sym cube) c.cube_within, subst (λ n. n < length t.marks) (sym marks) c.marks_within)
+
+-- the edge at a place is coded
+pub coded_there : (t : Tables) (edges : List numbered.CodedEdge) (i : ℕ) (d : numbered.CodedEdge) → All (IsCoded t) (map coded_edge_of edges) → i < length edges → IsCoded t (coded_edge_of (slice_index_or edges i d))
+coded_there t edges i d a l = All_from_map (IsCoded t) coded_edge_of edges a i d l
+
+-- the state that is read past the end
+abbrev none : State
+none = record { accepting = true; edges = [] }
+
+-- one more state with numbers
+pub coded_state_next : (t : Tables) (A B C : Automaton) (n : ℕ) (accepting : Bool) (es : List Edge) → AreStatesMade t A B n → n < length A.states → C ≡ with_state B accepting es → accepting ≡ (state_at A n).accepting
+    → map (labelled_edge t) es ≡ (state_at A n).edges → All (IsCoded t) es → AreStatesMade t A C (n + 1)
+coded_state_next t A B C n accepting es w l c p e d =
+    let s : State = record { accepting = accepting; edges = es } in
+    let P : State → Type 0 = λ r. All (IsCoded t) r.edges in
+    let same : labelled_state t s ≡ state_at A n = λ i. let r : State = record { accepting = p i; edges = e i } in r in
+    record {
+      labelled = ap (labelled t) c
+          ∙ (λ i. let D : Automaton = record { sets = B.sets; states = map-append (labelled_state t) B.states (s ∷ []) i } in D)
+          ∙ (λ i. with_state (w.labelled i) (same i).accepting (same i).edges)
+          ∙ (λ i. let D : Automaton = record { sets = A.sets; states = sym (take_more A.states n none l) i } in D);
+      coded = subst (AreCoded t) (sym c) (All-push P B.states s w.coded d);
+    }
+
+-- there is a state for each of the first ones
+pub made_count : (t : Tables) (A B : Automaton) (n : ℕ) → AreStatesMade t A B n → n < length A.states → length B.states ≡ n
+made_count t A B n w l = sym (labelled_length t B) ∙ ap (λ (X : Automaton). length X.states) w.labelled ∙ length-take-le n A.states (omega arith)
+
+-- one more state with the edges of an earlier one
+pub coded_state_again : (t : Tables) (A B C : Automaton) (n f : ℕ) (accepting : Bool) → AreStatesMade t A B n → n < length A.states → f < n → (state_at A f).edges ≡ (state_at A n).edges → C ≡ with_state B accepting (state_at B f).edges
+    → accepting ≡ (state_at A n).accepting → AreStatesMade t A C (n + 1)
+coded_state_again t A B C n f accepting w l m e c p =
+    let P : State → Type 0 = λ r. All (IsCoded t) r.edges in
+    let seen : labelled_state t (state_at B f) ≡ state_at A f = sym (state_at_labelled t B f) ∙ ap (λ X. state_at X f) w.labelled ∙ get_or-take n A.states f none m in
+    coded_state_next t A B C n accepting (state_at B f).edges w l c p (ap (λ (r : State). r.edges) seen ∙ e) (states_at B P f (λ k d h. absurd (omega arith)) w.coded)
+
+-- lists with one number are one list
+pub one_list : (lists : List (List Edge)) (i j : ℕ) (es fs : List Edge) → i ≡ j → slice_get lists i ≡ Some es → slice_get lists j ≡ Some fs → es ≡ fs
+one_list lists i j es fs e a b = some_same es fs (sym a ∙ ap (slice_get lists) e ∙ b)
+  where
+    some_same : (x y : List Edge) → Some x ≡ Some y → x ≡ y
+    some_same x y e = cc

@@ -1,0 +1,61 @@
+-- The labels of an automaton, as the code keeps them: in the order in which they come, and in a table.
+use Rattle.std.specs.Prelude.{◌≡◌, ℕ, List, [], ◌++◌, map, slice_get, take, Some, All}
+use Rattle.ltl_spec.specs.Collections.Sets.{Has}
+use Rattle.ltl_spec.specs.Transitions.Cubes.{Cube}
+use Rattle.ltl_spec.specs.Automata.Automaton.{Automaton, Edge}
+use Rattle.ltl_automaton.specs.CodedEdges.{coded_edge_of, table_of}
+use Rattle.ltl_automaton.specs.Labels.{AreCoded, AreTables, IsCoded, Tables, labelled, labelled_edge}
+use Rattle.ltl_automaton.specs.SharedView.{automaton_of}
+use Rattle.ltl_automaton.specs.declared.coded_builder.CodedBuilder as building
+use Rattle.ltl_automaton.specs.declared.coded_builder.Ranks as ranking
+use Rattle.ltl_automaton.specs.declared.coded_edge.CodedEdge as numbered
+use Rattle.ltl_automaton.specs.declared.coded_states.CodedStates as made
+
+-- the automaton with its labels
+abbrev pub labelled_of : {A : Type 0} → made.CodedStates A → Automaton
+labelled_of c = labelled (table_of c.table) (automaton_of c.states)
+
+-- its labels are strictly sorted, and its edges have numbers of them
+pub record HasLabels {A : Type 0} (c : made.CodedStates A) : Type 0 where
+  pub tables : AreTables (table_of c.table)
+  pub coded : AreCoded (table_of c.table) (automaton_of c.states)
+
+-- the labels in the order in which they came
+abbrev pub met_of : {A : Type 0} → building.CodedBuilder A → Tables
+met_of b = record { cubes = b.cubes.keys; marks = b.marks.keys }
+
+abbrev pub built_of : {A : Type 0} → building.CodedBuilder A → Automaton
+built_of b = labelled (met_of b) (automaton_of b.states)
+
+-- the edges have numbers of labels that came, and no marks are among these
+pub record IsBuilt {A : Type 0} (b : building.CodedBuilder A) : Type 0 where
+  pub coded : AreCoded (met_of b) (automaton_of b.states)
+  pub none : Has b.marks.keys []
+
+-- the second tables begin with the first
+pub record Extends (t u : Tables) : Type 0 where
+  pub cubes : (more : List Cube) × (u.cubes ≡ t.cubes ++ more)
+  pub marks : (more : List (List ℕ)) × (u.marks ≡ t.marks ++ more)
+
+-- these edges, with numbers for their labels
+pub record AreMade (t : Tables) (made : List numbered.CodedEdge) (es : List Edge) : Type 0 where
+  pub edges : map (labelled_edge t) (map coded_edge_of made) ≡ es
+  pub coded : All (IsCoded t) (map coded_edge_of made)
+
+-- for each value its place among the sorted ones
+abbrev pub AreRanks : {K : Type 0} → List K → List K → List ℕ → Type 0
+AreRanks values sorted ranks = map (slice_get sorted) ranks ≡ map Some values
+
+-- the same for both kinds of labels
+pub record HaveRanks {A : Type 0} (t : Tables) (r : ranking.Ranks A) : Type 0 where
+  pub cubes : AreRanks t.cubes r.table.cubes.items r.cubes.items
+  pub marks : AreRanks t.marks r.table.marks.items r.marks.items
+
+-- the first states
+abbrev pub first_states : Automaton → ℕ → Automaton
+first_states A n = record { sets = A.sets; states = take n A.states }
+
+-- what was made of the first states
+pub record AreStatesMade (t : Tables) (A B : Automaton) (n : ℕ) : Type 0 where
+  pub labelled : labelled t B ≡ first_states A n
+  pub coded : AreCoded t B

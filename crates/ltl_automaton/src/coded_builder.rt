@@ -1,0 +1,188 @@
+//! The construction of an automaton with a table of its labels. The labels are numbered as they come, and sorted at the end.
+
+ghost use Rattle.std.specs.Prelude.{◌≡◌, ◌+◌, ◌<◌, [], length, map, All, IfOk, OnOk};
+ghost use Rattle.ltl_spec.specs.Collections.Sets.{Has};
+ghost use Rattle.ltl_automaton.specs.CodedEdges.{coded_edge_of, table_of};
+ghost use Rattle.ltl_automaton.specs.EdgeView.{edge_of};
+ghost use Rattle.ltl_automaton.specs.LabelTables.{AreMade, AreStatesMade, Extends, HasLabels, HaveRanks, IsBuilt, built_of, labelled_of, met_of};
+ghost use Rattle.ltl_automaton.specs.Labels.{AreCoded, AreTables, IsCoded, labelled, labelled_edge};
+ghost use Rattle.ltl_automaton.specs.SharedView.{automaton_of};
+
+use crate::builder::Builder;
+use crate::coded_edge::CodedEdge;
+use crate::coded_states::CodedStates;
+use crate::edge::Edge;
+use crate::interner::Interner;
+use crate::label_table::LabelTable;
+use crate::ranked::{Ranked, narrow};
+use crate::shared::SharedStates;
+use ltl_sets::{Cube, RowSet};
+use std::alloc::{AllocError, Allocator};
+
+/// An automaton under construction, with the different labels of its edges in the order in which they came. An edge has the numbers of its labels in this
+/// order.
+#[derive(Drop)]
+pub struct CodedBuilder<'a, A: Allocator> {
+    alloc: &'a A,
+    cubes: Interner<'a, Cube, A>,
+    marks: Interner<'a, RowSet, A>,
+    states: SharedStates<'a, CodedEdge, A>,
+}
+
+/// The labels, sorted. For each label, by its number in the builder, `cubes` or `marks` has its place in the table.
+#[derive(Drop)]
+struct Ranks<'a, A: Allocator> {
+    table: LabelTable<'a, A>,
+    cubes: Vec<u32, &'a A>,
+    marks: Vec<u32, &'a A>,
+}
+
+impl<'a, A: Allocator> CodedBuilder<'a, A> {
+    /// An automaton without states, with this number of acceptance sets. The empty set of marks gets a number at once, since each table has it.
+    pub fn new(alloc: &'a A, sets: usize) -> Result<Self, AllocError>
+        ensures empty { IfOk result (λ b. built_of b ≡ record { sets = sets; states = [] }) }
+        ensures built { IfOk result (λ b. IsBuilt b) }
+    {
+        let mut marks: Interner<'a, RowSet, A> = Interner::new(alloc);
+        marks.number(RowSet::empty())?;
+        Ok(CodedBuilder {
+            alloc,
+            cubes: Interner::new(alloc),
+            marks,
+            states: SharedStates::new(alloc, sets),
+        })
+    }
+
+    /// The edges with numbers for their labels. A label that didn't come before gets the next number of its kind.
+    fn coded_edges(&mut self, edges: &[Edge]) -> Result<Vec<CodedEdge, &'a A>, AllocError>
+        ensures more { OnOk result (Extends (met_of self.old) (met_of self.new)) }
+        ensures edges { IfOk result (λ es. AreMade (met_of self.new) es.items (map edge_of edges.now)) }
+        ensures states { OnOk result (self.new.states ≡ self.old.states) }
+    {
+        let mut coded = Vec::with_capacity(self.alloc, edges.len())?;
+        for edge in edges {
+            coded.push(CodedEdge {
+                cube: narrow(self.cubes.number(edge.cube)?)?,
+                marks: narrow(self.marks.number(edge.marks)?)?,
+                target: edge.target,
+            })?;
+        }
+        Ok(coded)
+    }
+
+    /// The table of the labels so far, and their places there.
+    fn ranks(&self) -> Result<Ranks<'a, A>, AllocError>
+        requires { Has self.now.marks.keys [] }
+        ensures tables { IfOk result (λ r. AreTables (table_of r.table)) }
+        ensures ranks { IfOk result (λ r. HaveRanks (met_of self.now) r) }
+    {
+        let cubes = Ranked::of(self.alloc, &self.cubes)?;
+        let marks = Ranked::of(self.alloc, &self.marks)?;
+        Ok(Ranks {
+            cubes: cubes.ranks(self.alloc, &self.cubes)?,
+            marks: marks.ranks(self.alloc, &self.marks)?,
+            table: LabelTable {
+                cubes: cubes.sorted,
+                marks: marks.sorted,
+            },
+        })
+    }
+
+    /// The edges with the places of their labels in the table in place of their numbers.
+    fn ranked_edges(
+        &self,
+        ranks: &Ranks<'a, A>,
+        edges: &[CodedEdge],
+    ) -> Result<Vec<CodedEdge, &'a A>, AllocError>
+        requires ranks { HaveRanks (met_of self.now) ranks.now }
+        requires coded { All (IsCoded (met_of self.now)) (map coded_edge_of edges.now) }
+        ensures { IfOk result (λ es. AreMade (table_of ranks.now.table) es.items (map (labelled_edge (met_of self.now)) (map coded_edge_of edges.now))) }
+    {
+        let mut ranked = Vec::with_capacity(self.alloc, edges.len())?;
+        for edge in edges {
+            ranked.push(CodedEdge {
+                cube: ranks.cubes[edge.cube as usize],
+                marks: ranks.marks[edge.marks as usize],
+                target: edge.target,
+            })?;
+        }
+        Ok(ranked)
+    }
+
+    /// Appends the state to `ranked`, with the places of the labels of its edges. If `last` is an earlier state with the same list, both share one list.
+    fn push_ranked(
+        &self,
+        ranks: &Ranks<'a, A>,
+        ranked: &mut SharedStates<'a, CodedEdge, A>,
+        state: usize,
+        last: usize,
+    ) -> Result<(), AllocError>
+        requires built { IsBuilt self.now }
+        requires ranks { HaveRanks (met_of self.now) ranks.now }
+        requires made { AreStatesMade (table_of ranks.now.table) (built_of self.now) (automaton_of ranked.old) state }
+        requires within { state < length (automaton_of self.now.states).states }
+        ensures { OnOk result (AreStatesMade (table_of ranks.now.table) (built_of self.now) (automaton_of ranked.new) (state + 1)) }
+    {
+        let accepting = self.states.accepting(state);
+        if last < state && self.states.list(last) == self.states.list(state) {
+            ranked.push_like(accepting, last)?;
+        } else {
+            let edges = self.ranked_edges(ranks, self.states.edges(state))?;
+            ranked.push(accepting, edges)?;
+        }
+        Ok(())
+    }
+
+    /// The states with the places of the labels of their edges. Each list is renumbered once.
+    fn ranked(&self, ranks: &Ranks<'a, A>) -> Result<SharedStates<'a, CodedEdge, A>, AllocError>
+        requires built { IsBuilt self.now }
+        requires ranks { HaveRanks (met_of self.now) ranks.now }
+        ensures labelled { IfOk result (λ s. labelled (table_of ranks.now.table) (automaton_of s) ≡ built_of self.now) }
+        ensures coded { IfOk result (λ s. AreCoded (table_of ranks.now.table) (automaton_of s)) }
+    {
+        let mut ranked = SharedStates::new(self.alloc, self.states.sets());
+        let mut lasts: Vec<usize, &'a A> = Vec::new(self.alloc);
+        lasts.resize(self.states.list_count(), 0)?;
+        for state in 0..self.states.len() {
+            let list = self.states.list(state);
+            self.push_ranked(ranks, &mut ranked, state, lasts[list])?;
+            lasts[list] = state;
+        }
+        Ok(ranked)
+    }
+
+    /// The automaton. Its labels are sorted, and its edges have the places of their labels as numbers.
+    pub fn finish(self) -> Result<CodedStates<'a, A>, AllocError>
+        requires { IsBuilt self }
+        ensures automaton { IfOk result (λ c. labelled_of c ≡ built_of self.entry) }
+        ensures labels { IfOk result (λ c. HasLabels c) }
+    {
+        let ranks = self.ranks()?;
+        let states = self.ranked(&ranks)?;
+        Ok(CodedStates {
+            table: ranks.table,
+            states,
+        })
+    }
+}
+
+impl<'a, A: Allocator> Builder<Edge> for CodedBuilder<'a, A> {
+    ghost built = { built_of };
+
+    ghost ready = { λ b. IsBuilt b };
+
+    fn len(&self) -> usize {
+        self.states.len()
+    }
+
+    fn push(&mut self, accepting: bool, edges: &[Edge]) -> Result<(), AllocError> {
+        let coded = self.coded_edges(edges)?;
+        self.states.push(accepting, coded)?;
+        Ok(())
+    }
+
+    fn push_like(&mut self, accepting: bool, i: usize) -> Result<(), AllocError> {
+        self.states.push_like(accepting, i)?;
+        Ok(())
+    }
+}
