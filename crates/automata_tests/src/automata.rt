@@ -87,7 +87,14 @@ fn edges_of_an_equal_state_are_not_made(rt: HostRuntime) -> Result<(), Fail> {
         states: 2,
         edges: 4,
     };
-    let automaton = explore_from(&alloc, 0usize, SharedStates::new(&alloc, 0), &mut two, true, limits)?;
+    let automaton = explore_from(
+        &alloc,
+        0usize,
+        SharedStates::new(&alloc, 0),
+        &mut two,
+        true,
+        limits,
+    )?;
     assert!(rt; two.made && !two.again);
     assert_eq!(rt; automaton.len(), 2);
     assert_eq!(rt; automaton.list_count(), 1);
@@ -96,7 +103,14 @@ fn edges_of_an_equal_state_are_not_made(rt: HostRuntime) -> Result<(), Fail> {
         states: 2,
         edges: 3,
     };
-    let refused = explore_from(&alloc, 0usize, SharedStates::new(&alloc, 0), &mut two, true, few);
+    let refused = explore_from(
+        &alloc,
+        0usize,
+        SharedStates::new(&alloc, 0),
+        &mut two,
+        true,
+        few,
+    );
     assert!(rt; matches!(refused, Err(AutomatonFault::TooLarge)));
     Ok(())
 }
