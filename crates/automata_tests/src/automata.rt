@@ -1,12 +1,14 @@
 //! Tests of shared edge lists: equal lists are stored once, and a twin's edges aren't made again. No contract says so.
 
-ghost use Rattle.std.specs.Prelude.{◌∷◌, [], true, ⊤};
+ghost use Rattle.std.specs.Prelude.{map, true, ⊤};
+ghost use Rattle.ltl_automaton.specs.CodedEdges.{coded_edge_of};
+ghost use Rattle.ltl_automaton.specs.Net.{successor_of};
 
 use ltl_automaton::{
-    AutomatonFault, Edge, Limits, SharedStates, Successor, Successors, explore_from,
+    AutomatonFault, CodedEdge, Edge, Limits, SharedStates, Successors, explore_from,
 };
 use ltl_sets::{Cube, RowSet};
-use std::alloc::{AllocError, Allocator};
+use std::alloc::AllocError;
 use std::test::Fail;
 
 #[test]
@@ -33,17 +35,20 @@ fn equal_lists_stand_once(rt: HostRuntime) -> Result<(), Fail> {
     Ok(())
 }
 
-/// Two states with the same edges. It records whether the edges were made, and whether they were made again.
+/// Two states with the same edges. It records whether the edges were prepared, and whether they were prepared again.
 #[derive(Drop)]
 struct Two {
+    edges: [CodedEdge; 2],
     made: bool,
     again: bool,
 }
 
-impl Successors<usize, Edge> for Two {
-    ghost net = { λ _. record { successors = λ _. record { cube = []; key = 0; marks = [] } ∷ record { cube = []; key = 1; marks = [] } ∷ []; accepts = λ _. true } };
+impl Successors<usize, CodedEdge, CodedEdge> for Two {
+    ghost net = { λ t. record { successors = λ _. map (λ e. successor_of (coded_edge_of e)) t.edges; accepts = λ _. true } };
 
     ghost ready = { λ _. ⊤ };
+
+    ghost lent = { λ t. map (λ e. successor_of (coded_edge_of e)) t.edges };
 
     fn accepting(&self, _key: &usize) -> bool {
         true
@@ -57,29 +62,27 @@ impl Successors<usize, Edge> for Two {
         Ok(2)
     }
 
-    fn successors<'a, A: Allocator>(
-        &mut self,
-        alloc: &'a A,
-        _key: &usize,
-        _most: usize,
-    ) -> Result<Vec<Successor<usize, Edge>, &'a A>, AutomatonFault> {
+    fn prepare(&mut self, _key: &usize, _most: usize) -> Result<(), AutomatonFault> {
         self.again = self.made;
         self.made = true;
-        let edge = Edge {
-            cube: Cube::empty(),
-            target: 0,
-            marks: RowSet::empty(),
-        };
-        let here = Successor { edge, key: 0usize };
-        let there = Successor { edge, key: 1usize };
-        Ok(Vec::from_slice(alloc, &[here, there])?)
+        Ok(())
+    }
+
+    fn steps(&self) -> &[CodedEdge] {
+        &self.edges
     }
 }
 
 #[test]
 fn edges_of_an_equal_state_are_not_made(rt: HostRuntime) -> Result<(), Fail> {
     let alloc = rt.alloc();
+    let edge = CodedEdge {
+        cube: 0,
+        marks: 0,
+        target: 0,
+    };
     let mut two = Two {
+        edges: [edge, CodedEdge { target: 1, ..edge }],
         made: false,
         again: false,
     };
@@ -92,7 +95,6 @@ fn edges_of_an_equal_state_are_not_made(rt: HostRuntime) -> Result<(), Fail> {
         0usize,
         SharedStates::new(&alloc, 0),
         &mut two,
-        true,
         limits,
     )?;
     assert!(rt; two.made && !two.again);
@@ -103,14 +105,7 @@ fn edges_of_an_equal_state_are_not_made(rt: HostRuntime) -> Result<(), Fail> {
         states: 2,
         edges: 3,
     };
-    let refused = explore_from(
-        &alloc,
-        0usize,
-        SharedStates::new(&alloc, 0),
-        &mut two,
-        true,
-        few,
-    );
+    let refused = explore_from(&alloc, 0usize, SharedStates::new(&alloc, 0), &mut two, few);
     assert!(rt; matches!(refused, Err(AutomatonFault::TooLarge)));
     Ok(())
 }

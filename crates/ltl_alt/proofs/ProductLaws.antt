@@ -20,7 +20,7 @@ use Rattle.ltl_spec.proofs.Transitions.IndependentMarks.{common, at_once}
 use Rattle.ltl_spec.proofs.Transitions.IndependentPairs.{independent_sym}
 use Rattle.ltl_spec.proofs.Transitions.IndependenceTests.{independent_by_test}
 use Rattle.ltl_spec.proofs.Transitions.FactorLaws.{AreTakenOut, all_products, product_size, component_transitions, factors_law}
-use Rattle.ltl_spec.proofs.Transitions.FactoredTransitions.{AreListedFor, sorted_by_factors, count_by_factors, transitions_by_factors}
+use Rattle.ltl_spec.proofs.Transitions.FactoredTransitions.{AreListedFor, sorted_by_factors, count_by_factors, transitions_by_factors, transitions_by_set}
 use Rattle.ltl_spec.proofs.Transitions.LinkLaws.{LinksTell, without, taken_closed}
 use Rattle.ltl_spec.proofs.Transitions.JoinLaws.{join_parts, within_refl}
 use Rattle.ltl_spec.proofs.Transitions.LeastPairs.{enough_from}
@@ -195,6 +195,15 @@ listed_for : (T : Table) (keep : Bool) (ps qs : List Pair) → IsKeptBy (StandsF
 listed_for T true ps qs k = record { there = λ p h. let (q, m, e) = k.covers p h in subst (Has qs) (sym e) m; back = k.from }
 listed_for T false ps qs k = record { from = k.from; covers = k.covers }
 
+-- what leaves nothing out is the whole
+filter_whole : (test : ℕ → Bool) (xs : List ℕ) → filter (λ i. not (test i)) xs ≡ [] → filter test xs ≡ xs
+filter_whole test [] e = refl
+filter_whole test (x ∷ xs) e =
+    elim (test x) as (λ b. cond (not b) (x ∷ filter (λ i. not (test i)) xs) (filter (λ i. not (test i)) xs) ≡ [] → cond b (x ∷ filter test xs) (filter test xs) ≡ x ∷ xs) [
+      | true ↦ λ d. ap (λ ys. x ∷ ys) (filter_whole test xs d)
+      | false ↦ λ d. absurd (cc)
+    ] e
+
 -- ---- a set of rows, its conjuncts, and the transitions of their components
 
 module _ {A : Type 0} (t : TableView) (keep : Bool) (r : Rule) (f : Fulfilment A) (made owners : List ℕ) (conjuncts : List (List Pair)) (dependencies : List Dependencies) (links : List RowSet)
@@ -221,6 +230,20 @@ module _ {A : Type 0} (t : TableView) (keep : Bool) (r : Rule) (f : Fulfilment A
   set_sorted products sorted moved permuted order =
       sorted_by_factors (table_at t) (fulfilling_pairs (table_at t)) (fulfilling_enough (table_at t)) (conjunct_of conjuncts) b.conjuncts.linked.sound keep (numbers_of owners) state (numbers_in owners state) (parts_of_state owners state rising) listed a.components taken sorted
       (subst (λ x. IsPermutation (all_products (table_at t) x) sorted) a.lists (IsPermutation-trans (all_products (table_at t) tss) products sorted moved permuted)) order
+
+  -- of one list alone it is this list
+  one_list : (l : List Transition) (gs : List RowSet) → AreTakenOut (table_at t) (fulfilling_pairs (table_at t)) (conjunct_of conjuncts) (numbers_in owners state) gs [] → l ∷ [] ≡ component_transitions (table_at t) (conjunct_of conjuncts) keep gs
+      → l ≡ transitions (table_at t) keep state
+  one_list l [] w d = absurd (cc)
+  one_list l (g ∷ h ∷ gs) w d = absurd (cc)
+  one_list l (g ∷ []) w d =
+      let here : l ≡ transitions_of (table_at t) keep (join_of (conjunct_of conjuncts) g) = cc in
+      let whole : g ≡ numbers_in owners state = w.1 ∙ filter_whole w.0 (numbers_in owners state) w.3 in
+      here ∙ ap (λ x. transitions_of (table_at t) keep (join_of (conjunct_of conjuncts) x)) whole
+      ∙ sym (transitions_by_set (table_at t) (fulfilling_pairs (table_at t)) (fulfilling_enough (table_at t)) (conjunct_of conjuncts) b.conjuncts.linked.sound keep (numbers_of owners) state (numbers_in owners state) (parts_of_state owners state rising) listed)
+
+  pub set_of_one : (l : List Transition) → tss ≡ l ∷ [] → l ≡ transitions (table_at t) keep state
+  set_of_one l d = one_list l a.components taken (sym d ∙ a.lists)
 
   pub set_consistent : (k : ℕ) → AreConsistent (all_products (table_at t) (drop k tss))
   set_consistent k = subst (λ x. AreConsistent (all_products (table_at t) (drop k x))) (sym a.lists) (suffix_consistent (table_at t) (conjunct_of conjuncts) b.conjuncts.linked.sound keep all a.components k a.taken)

@@ -10,13 +10,13 @@ use Rattle.ltl_spec.specs.Transitions.RowTransitions.{Table}
 use Rattle.ltl_spec.proofs.Collections.CaseLaws.{left_true, right_true}
 use Rattle.ltl_spec.proofs.Collections.MemberLaws.{any_cases}
 use Rattle.ltl_spec.proofs.Collections.Orders.{pair_linear}
-use Rattle.ltl_spec.proofs.Collections.SetLaws.{append_cases, filter_cases, Has-filter, set_of_same, IsRising-filter, IsRising-set_of}
+use Rattle.ltl_spec.proofs.Collections.SetLaws.{append_cases, filter_cases, Has-filter, set_of_same, IsRising-set_of}
 use Rattle.ltl_spec.proofs.Transitions.IndependenceTests.{Support, shares_some, support_of}
 use Rattle.ltl_spec.proofs.Transitions.JoinLaws.{within_refl}
 use Rattle.ltl_spec.proofs.Transitions.LeastPairs.{is_within_Decides}
 use Rattle.ltl_alt.specs.CodeView.{AreOpenSteps}
 use Rattle.ltl_alt.specs.Elements.{may_replace}
-use Rattle.ltl_alt.specs.StandIns.{AreAmong, AreSpares, IsFit, IsListed, IsPruned, IsPrunedSafely, StandsFor, is_replaced, size_of}
+use Rattle.ltl_alt.specs.StandIns.{AreAmong, AreKept, AreSpares, IsFit, IsKeptBy, IsPruned, IsPrunedSafely, StandsFor, is_replaced, size_of}
 use Rattle.ltl_alt.specs.Tests.{AreTests}
 use Rattle.ltl_alt.specs.declared.fulfilment.Fulfilment.{Fulfilment}
 use Rattle.ltl_alt.specs.declared.lacks.Spare.{Spare}
@@ -32,24 +32,23 @@ not_true false e = refl
 smaller_is : (m n : ℕ) → nat_lt m n ≡ true → m < n
 smaller_is m n e = grind (arith, nat_tests)
 
--- repeated ones alone are dropped
-pub pruned_equal : {A : Type 0} (r : Rule) (f : Fulfilment A) (ps qs : List Pair) → qs ≡ set_of pair_cmp ps → IsPruned r f ps qs
-pruned_equal r f ps qs e T fit = subst (IsListed (StandsFor T r) ps) (sym e) (record {
-  kept = kept_same (stands_in T r) ps (set_of pair_cmp ps) (set_of_same pair_linear (set_of pair_cmp ps) (IsRising-set_of pair_linear ps));
-  rising = IsRising-set_of pair_linear ps;
-})
+-- then repeated ones are dropped
+pub pruned_once : {A : Type 0} (r : Rule) (f : Fulfilment A) (ps ds qs : List Pair) → AreKept r f ps ds → qs ≡ set_of pair_cmp ds → IsPruned r f ps qs
+pruned_once r f ps ds qs w e T fit =
+    let o = stands_in T r in
+    let rising = subst (IsRising pair_cmp) (sym e) (IsRising-set_of pair_linear ds) in
+    record { kept = kept_on o ps ds qs (w T fit) (kept_same o ds qs (ap (set_of pair_cmp) e ∙ set_of_same pair_linear (set_of pair_cmp ds) (IsRising-set_of pair_linear ds))); rising = rising }
 
--- then some that are safe to drop
-pub pruned_safely : {A : Type 0} (r : Rule) (f : Fulfilment A) (ps ds qs : List Pair) → r ≡ rule.SafelySubsumed → ds ≡ set_of pair_cmp ps → IsPrunedSafely f ds qs → IsPruned r f ps qs
-pruned_safely r f ps ds qs n e w T fit =
-    let o = stands_in T rule.SafelySubsumed in
-    let k = w T (subst (λ x. IsFit T x f) n fit) in
-    subst (λ x. IsListed (StandsFor T x) ps qs) (sym n)
-    (record { kept = kept_on o ps ds qs (kept_same o ps ds (ap (set_of pair_cmp) e ∙ set_of_same pair_linear (set_of pair_cmp ps) (IsRising-set_of pair_linear ps))) k.kept; rising = k.rising })
+-- those that are safe to drop are dropped
+pub kept_safely : {A : Type 0} (r : Rule) (f : Fulfilment A) (ps qs : List Pair) → r ≡ rule.SafelySubsumed → IsPrunedSafely f ps qs → AreKept r f ps qs
+kept_safely r f ps qs n w T fit = subst (λ x. IsKeptBy (StandsFor T x) ps qs) (sym n) (w T (subst (λ x. IsFit T x f) n fit))
 
 -- or none
-pub nothing_pruned : {A : Type 0} (f : Fulfilment A) (ps : List Pair) → IsRising pair_cmp ps → IsPrunedSafely f ps ps
-nothing_pruned f ps up T tests = record { kept = kept_all (stands_in T rule.SafelySubsumed) ps; rising = up }
+pub none_dropped : {A : Type 0} (r : Rule) (f : Fulfilment A) (ps : List Pair) → AreKept r f ps ps
+none_dropped r f ps T fit = kept_all (stands_in T r) ps
+
+pub nothing_pruned : {A : Type 0} (f : Fulfilment A) (ps : List Pair) → IsPrunedSafely f ps ps
+nothing_pruned f ps T tests = kept_all (stands_in T rule.SafelySubsumed) ps
 
 -- one more is among them
 pub among_more : (ps qs new : List Pair) (p : Pair) → Has ps p → new ≡ qs ++ p ∷ [] → AreAmong ps qs → AreAmong ps new
@@ -82,16 +81,13 @@ module _ {A : Type 0} (T : Table) (f : Fulfilment A) (tests : AreTests T f) (roo
         (v, j, (stands_in T rule.SafelySubsumed).on t s.pair v safe y)
   ] refl
 
-  left_listed : IsRising pair_cmp ps → IsListed (IsSafeToDrop T) ps qs
-  left_listed up = record {
-    kept = record {
-      from = λ p h. (filter_cases (λ q. not (is_replaced ss q)) ps p (subst (λ xs. Has xs p) left h)).0;
-      covers = λ p h. climb (suc (size_of p)) p (omega arith) h;
-    };
-    rising = subst (IsRising pair_cmp) (sym left) (IsRising-filter pair_cmp (λ q. not (is_replaced ss q)) ps up);
+  left_kept : IsKeptBy (IsSafeToDrop T) ps qs
+  left_kept = record {
+    from = λ p h. (filter_cases (λ q. not (is_replaced ss q)) ps p (subst (λ xs. Has xs p) left h)).0;
+    covers = λ p h. climb (suc (size_of p)) p (omega arith) h;
   }
 
 -- those are left that no smaller one of some of them may replace
-pub left_pruned : {A : Type 0} (f : Fulfilment A) (roots : List ℕ) (ps chosen qs : List Pair) (ss : List Spare) → IsRising pair_cmp ps → AreOpenSteps f.untils.items f.leaves.items ps roots → AreAmong ps chosen
+pub left_pruned : {A : Type 0} (f : Fulfilment A) (roots : List ℕ) (ps chosen qs : List Pair) (ss : List Spare) → AreOpenSteps f.untils.items f.leaves.items ps roots → AreAmong ps chosen
     → AreSpares f roots chosen ss → qs ≡ filter (λ p. not (is_replaced ss p)) ps → IsPrunedSafely f ps qs
-left_pruned f roots ps chosen qs ss up opens among spares left T tests = left_listed T f tests roots ps chosen qs ss opens among spares left up
+left_pruned f roots ps chosen qs ss opens among spares left T tests = left_kept T f tests roots ps chosen qs ss opens among spares left

@@ -8,6 +8,8 @@ use Rattle.ltl_spec.proofs.Transitions.FactorLaws.{AreTakenOut, component_transi
 use Rattle.ltl_spec.proofs.Transitions.ConjunctJoins.{join_of}
 use Rattle.ltl_spec.proofs.Transitions.ProductTransitions.{transitions_of}
 use Rattle.ltl_alt.specs.declared.basis.Basis.{Basis}
+use Rattle.ltl_alt.specs.declared.factors.SetTransitions.{SetTransitions}
+use Rattle.ltl_alt.specs.declared.factors.SetTransitions.TheVariants as set
 use Rattle.ltl_alt.specs.declared.finals.Finals.{Finals}
 use Rattle.ltl_alt.specs.declared.memo.JoinKey.{JoinKey}
 use Rattle.ltl_alt.specs.ComponentView.{HasComponents}
@@ -18,6 +20,11 @@ use Rattle.ltl_alt.specs.TransitionView.{table_at}
 -- the stored list with a number
 abbrev pub made_of : List (List Transition) → ℕ → List Transition
 made_of lists k = slice_index_or lists k []
+
+-- the transitions of a set of rows, where a number stands for a stored list
+abbrev pub listed_in : {A : Type 0} → List (List Transition) → SetTransitions A → List Transition
+listed_in lists (set.Owned v) = v.items
+listed_in lists (set.Stored n) = made_of lists n
 
 abbrev pub AreWithin : List (List Transition) → List ℕ → Type 0
 AreWithin lists factors = (k : ℕ) → Has factors k → k < length lists

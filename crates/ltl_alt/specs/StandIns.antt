@@ -34,9 +34,13 @@ abbrev pub IsFit : {A : Type 0} → Table → Rule → Fulfilment A → Type 0
 IsFit T rule.Duplicate f = Unit {0}
 IsFit T rule.SafelySubsumed f = AreTests T f
 
--- ps were pruned to qs, and each dropped pair was safe to drop
+-- qs are kept of ps, and each dropped pair was safe to drop
 abbrev pub IsPrunedSafely : {A : Type 0} → Fulfilment A → List Pair → List Pair → Type 0
-IsPrunedSafely f ps qs = (T : Table) → AreTests T f → IsListed (IsSafeToDrop T) ps qs
+IsPrunedSafely f ps qs = (T : Table) → AreTests T f → IsKeptBy (IsSafeToDrop T) ps qs
+
+-- qs are kept of ps by the rule
+abbrev pub AreKept : {A : Type 0} → Rule → Fulfilment A → List Pair → List Pair → Type 0
+AreKept r f ps qs = (T : Table) → IsFit T r f → IsKeptBy (StandsFor T r) ps qs
 
 -- ps were pruned to qs by the rule
 abbrev pub IsPruned : {A : Type 0} → Rule → Fulfilment A → List Pair → List Pair → Type 0

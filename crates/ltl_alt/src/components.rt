@@ -79,7 +79,7 @@ impl<'a, A: Allocator> Components<'a, A> {
         requires inside { (k : ℕ) → Has component.now k → k < length self.now.starts.items }
         ensures { IfOk result (λ v. v.items ≡ map (start_of self.now.starts.items) component.now) }
     {
-        let mut numbers = Vec::new(alloc);
+        let mut numbers = Vec::with_capacity(alloc, component.count())?;
         let mut rest = component.iter();
         'members: while let Some(conjunct) = rest.next() {
             numbers.push(self.starts[conjunct])?;
@@ -94,13 +94,19 @@ impl<'a, A: Allocator> Components<'a, A> {
         ensures { result.0 < result.1 × result.1 < length lists.now }
     {
         let mut best = (0, 1);
-        let mut least = (usize::MAX, usize::MAX);
+        let mut least = (u32::MAX, usize::MAX);
         'second: for second in 1..lists.len() {
+            let right = lists[second];
+            let Some(extent) = self.memo.extent(right) else {
+                continue;
+            };
             'first: for first in 0..second {
-                let cost = self.memo.cost(&JoinKey {
-                    left: lists[first],
-                    right: lists[second],
-                });
+                let left = lists[first];
+                let added = self.memo.added(left, extent);
+                if added > least.0 {
+                    continue;
+                }
+                let cost = (added, self.memo.ways(&JoinKey { left, right }));
                 if cost < least {
                     least = cost;
                     best = (first, second);

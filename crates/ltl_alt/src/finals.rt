@@ -95,12 +95,15 @@ impl<'a, A: Allocator> Finals<'a, A> {
         self.size.saturating_add(self.components.memo.size) > MOST_STORED
     }
 
-    /// The stored list with this number.
+    /// The stored list with this number, or an empty one if there is none.
     pub(crate) fn transitions(&self, number: usize) -> &[Transition]
-        requires { number < length self.now.lists.keys }
         ensures { result.now ≡ made_of self.now.lists.keys number }
     {
-        self.lists.get(number).as_slice()
+        if number < self.lists.len() {
+            self.lists.get(number).as_slice()
+        } else {
+            &[]
+        }
     }
 
     /// The number of the transitions of a last join. Its pairs aren't pruned before they get their marks.

@@ -31,7 +31,7 @@ fn lighter<'a, A: Allocator>(
 ) -> Result<Vec<Transition, &'a A>, AllocError>
     ensures { IfOk result (λ v. v.items ≡ filter (λ t. not (is_heavy most t)) transitions.now) }
 {
-    let mut lighter = Vec::new(alloc);
+    let mut lighter = Vec::with_capacity(alloc, transitions.len())?;
     'transitions: for transition in transitions {
         if transition.weight() < most {
             lighter.push(*transition)?;

@@ -114,7 +114,7 @@ pub(crate) fn spares_of<'a, A: Allocator>(
     ensures { IfOk result (λ v. AreSpares fulfilment.now roots.now pairs.now v.items) }
 {
     let mut spares = Vec::with_capacity(alloc, pairs.len())?;
-    let mut codes = Vec::new(alloc);
+    let mut codes = Vec::with_capacity(alloc, fulfilment.steps.len())?;
     let mut from = 0;
     'rounds: while from < pairs.len() {
         let end = pairs.len().min(from.saturating_add(BLOCK));

@@ -111,7 +111,7 @@ pub(crate) fn marked<'a, A: Allocator>(
     ensures { IfOk result (λ v. v.items ≡ map (spec.with_marks (table_at table.now)) pairs.now) }
 {
     let every = every(table, fulfilment);
-    let mut columns = Vec::new(alloc);
+    let mut columns = Vec::with_capacity(alloc, fulfilment.steps.len())?;
     let mut all = Vec::with_capacity(alloc, pairs.len())?;
     let mut from = 0;
     'slices: while from < pairs.len() {

@@ -116,7 +116,7 @@ impl<'a, A: Allocator> Memo<'a, A> {
     }
 
     /// The number of ways to choose a pair of each side.
-    fn ways(&self, key: &JoinKey) -> usize
+    pub(crate) fn ways(&self, key: &JoinKey) -> usize
         requires within { key.now.left < length self.now.lists.keys × key.now.right < length self.now.lists.keys }
     {
         self.pairs(key.left)
@@ -125,17 +125,17 @@ impl<'a, A: Allocator> Memo<'a, A> {
     }
 
     /// The extent of the list with this number.
-    fn extent(&self, list: usize) -> Extent {
-        self.extents.get(list).copied().unwrap_or(Extent::nothing())
+    pub(crate) fn extent(&self, list: usize) -> Option<&Extent> {
+        self.extents.get(list)
     }
 
-    /// What a join costs: first the number of literals and targets that it has and the larger list hasn't, then the number of ways. It affects the order
-    /// of joins alone.
-    pub(crate) fn cost(&self, key: &JoinKey) -> (usize, usize)
-        requires within { key.now.left < length self.now.lists.keys × key.now.right < length self.now.lists.keys }
-    {
-        let added = self.extent(key.left).added(&self.extent(key.right));
-        (added, self.ways(key))
+    /// The number of literals and targets that a join of this list and one of the given extent has and the larger list hasn't.
+    #[inline(always)]
+    pub(crate) fn added(&self, list: usize, other: &Extent) -> u32 {
+        match self.extents.get(list) {
+            Some(extent) => extent.added(other),
+            None => 0,
+        }
     }
 
     /// The list number of the pruned join of two lists.

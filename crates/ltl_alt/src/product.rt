@@ -5,7 +5,7 @@ ghost use Rattle.std.specs.List.Sorted.{IsPermutation, IsSorted};
 ghost use Rattle.ltl_spec.specs.Transitions.RowTransitions as spec;
 ghost use Rattle.ltl_spec.proofs.Transitions.FactorLaws.{all_products, product_size};
 ghost use Rattle.ltl_alt.specs.BasisView.{IsBasis};
-ghost use Rattle.ltl_alt.specs.FinalView.{AreWithin, made_of};
+ghost use Rattle.ltl_alt.specs.FinalView.{made_of};
 ghost use Rattle.ltl_alt.specs.ProductView.{AreConsistent, join_transitions, joined_products};
 ghost use Rattle.ltl_alt.specs.TransitionView.{table_at};
 
@@ -63,7 +63,6 @@ pub(crate) fn all_products<'a, A: Allocator>(
     factors: &[usize],
 ) -> Result<Vec<Transition, &'a A>, AllocError>
     requires basis { IsBasis basis.now }
-    requires within { AreWithin finals.now.lists.keys factors.now }
     requires consistent { (k : ℕ) → AreConsistent (all_products (table_at basis.now.table.now) (drop k (map (made_of finals.now.lists.keys) factors.now))) }
     ensures { IfOk result (λ v. IsPermutation (all_products (table_at basis.now.table.now) (map (made_of finals.now.lists.keys) factors.now)) v.items) }
 {
@@ -86,7 +85,6 @@ pub(crate) fn all_products<'a, A: Allocator>(
 
 /// The number of combinations of one transition of each factor, or `usize::MAX` if it is larger than that.
 pub(crate) fn combinations<'a, A: Allocator>(finals: &Finals<'a, A>, factors: &[usize]) -> usize
-    requires within { AreWithin finals.now.lists.keys factors.now }
     ensures { result ≤ product_size (map (made_of finals.now.lists.keys) factors.now) }
 {
     let mut count = 1usize;

@@ -1,10 +1,8 @@
 //! Pruning of lists of pairs: removal of pairs that a smaller pair may replace.
 
-ghost use Rattle.std.specs.Prelude.{◌≡◌, not, IfOk, OnOk};
+ghost use Rattle.std.specs.Prelude.{◌≡◌, not, IfOk};
 ghost use Rattle.std.specs.List.{filter};
-ghost use Rattle.ltl_spec.specs.Collections.Sets.{IsRising};
-ghost use Rattle.ltl_spec.specs.Transitions.Pairs.{pair_cmp};
-ghost use Rattle.ltl_alt.specs.StandIns.{AreAmong, IsPruned, IsPrunedSafely, is_replaced};
+ghost use Rattle.ltl_alt.specs.StandIns.{AreAmong, AreKept, IsPruned, IsPrunedSafely, is_replaced};
 
 use crate::fulfilment::Fulfilment;
 use crate::lacks::{Smaller, Spare, spares_of};
@@ -30,7 +28,7 @@ fn smaller<'a, A: Allocator>(alloc: &'a A, pairs: &[Pair]) -> Result<Vec<Pair, &
     ensures { IfOk result (λ v. AreAmong pairs.now v.items) }
 {
     let most = largest(pairs);
-    let mut smaller = Vec::new(alloc);
+    let mut smaller = Vec::with_capacity(alloc, pairs.len())?;
     'pairs: for pair in pairs {
         if pair.size() < most {
             smaller.push(*pair)?;
@@ -56,44 +54,48 @@ fn left<'a, A: Allocator>(
     Ok(rest)
 }
 
-/// Removes the pairs that another pair of the list may replace.
-fn prune_safely<'a, A: Allocator>(
+/// The pairs that no other pair of the list may replace.
+fn pruned_safely<'a, A: Allocator>(
     alloc: &'a A,
     fulfilment: &Fulfilment<'_, A>,
-    pairs: &mut Vec<Pair, &'a A>,
-) -> Result<(), AllocError>
-    requires { IsRising pair_cmp pairs.old.items }
-    ensures { OnOk result (IsPrunedSafely fulfilment.now pairs.old.items pairs.new.items) }
+    pairs: Vec<Pair, &'a A>,
+) -> Result<Vec<Pair, &'a A>, AllocError>
+    ensures { IfOk result (λ v. IsPrunedSafely fulfilment.now pairs.entry.items v.items) }
 {
     let smaller = smaller(alloc, pairs.as_slice())?;
     if smaller.is_empty() {
-        return Ok(());
+        return Ok(pairs);
     }
     let roots = open_steps(alloc, fulfilment, pairs.as_slice())?;
     let spares = spares_of(alloc, fulfilment, roots.as_slice(), smaller.as_slice())?;
     let lookup = Lookup::new(alloc, spares.as_slice())?;
     let kept = left(alloc, &lookup, pairs.as_slice())?;
-    *pairs = kept;
-    Ok(())
+    Ok(kept)
 }
 
-/// Sorts the pairs, removes duplicates, and removes the pairs that another, smaller pair may replace by the rule.
+/// The pairs that no other, smaller pair may replace by the rule. There may be duplicates.
+fn kept<'a, A: Allocator>(
+    alloc: &'a A,
+    pruning: &Pruning<'_, '_, A>,
+    pairs: Vec<Pair, &'a A>,
+) -> Result<Vec<Pair, &'a A>, AllocError>
+    ensures { IfOk result (λ v. AreKept pruning.now.rule pruning.now.fulfilment.now pairs.entry.items v.items) }
+{
+    match pruning.rule {
+        Rule::Duplicate => Ok(pairs),
+        Rule::SafelySubsumed => pruned_safely(alloc, pruning.fulfilment, pairs),
+    }
+}
+
+/// The pairs that no other, smaller pair may replace by the rule, sorted and without duplicates. They are sorted last, since most are removed.
 pub(crate) fn prune<'a, A: Allocator>(
     alloc: &'a A,
     pruning: &Pruning<'_, '_, A>,
-    mut pairs: Vec<Pair, &'a A>,
+    pairs: Vec<Pair, &'a A>,
 ) -> Result<Vec<Pair, &'a A>, AllocError>
     ensures { IfOk result (λ v. IsPruned pruning.now.rule pruning.now.fulfilment.now pairs.entry.items v.items) }
 {
-    sort_dedup(&mut pairs);
-    if pairs.len() < 2 {
-        return Ok(pairs);
-    }
-    match pruning.rule {
-        Rule::Duplicate => Ok(pairs),
-        Rule::SafelySubsumed => {
-            prune_safely(alloc, pruning.fulfilment, &mut pairs)?;
-            Ok(pairs)
-        }
-    }
+    let mut kept = kept(alloc, pruning, pairs)?;
+    sort_dedup(&mut kept);
+    Ok(kept)
 }

@@ -5,17 +5,16 @@ ghost use Rattle.ltl_spec.specs.Automata.Generalized.{IsGeneralized, IsTooLarge}
 ghost use Rattle.ltl_spec.specs.Tools.Limits.{stated_limits};
 ghost use Rattle.ltl_formula.specs.TableView.{core_of};
 ghost use Rattle.ltl_alt.specs.BasisView.{IsBasis};
-ghost use Rattle.ltl_alt.specs.FinalView.{HasFinals};
+ghost use Rattle.ltl_alt.specs.FinalView.{HasFinals, listed_in};
 ghost use Rattle.ltl_alt.specs.KeyView.{AreKeys};
-ghost use Rattle.ltl_automaton.specs.EdgeView.{edge_of};
 ghost use Rattle.ltl_automaton.specs.LabelTables.{IsBuilt, built_of};
-ghost use Rattle.ltl_automaton.specs.Net.{move_of};
 ghost use Rattle.ltl_models.specs.GbaView.{IsAcceptingGba};
 ghost use Rattle.ltl_alt.specs.ReachView.{transition_move, net_of};
 ghost use Rattle.ltl_alt.specs.TransitionView.{table_at};
 
 use crate::basis::Basis;
 use crate::conjunct_table::ConjunctTable;
+use crate::factors::SetTransitions;
 use crate::finals::Finals;
 use crate::fulfilment::Fulfilment;
 use crate::keys::Keys;
@@ -23,33 +22,31 @@ use crate::place::{place, until_count};
 use crate::rule::{Pruning, Rule};
 use crate::transition::Transition;
 use ltl_automaton::{
-    AutomatonFault as AltFault, CodedBuilder, Limits, Successor, Successors, explore_from,
+    AutomatonFault as AltFault, CodedBuilder, Limits, Step, Successors, explore_from,
 };
 use ltl_formula::Table;
 use ltl_models::{Gba, GbaEdge, MOST_EDGES, MOST_STATES};
 use ltl_sets::RowSet;
 use std::alloc::{AllocError, Allocator};
 
-/// The transitions as edges to sets of rows.
-fn successors_of<'c, B: Allocator>(
-    alloc: &'c B,
-    transitions: &[Transition],
-) -> Result<Vec<Successor<RowSet, GbaEdge>, &'c B>, AllocError>
-    ensures { IfOk result (λ v. map (move_of edge_of) v.items ≡ map transition_move transitions.now) }
-{
-    let mut successors = Vec::with_capacity(alloc, transitions.len())?;
-    for transition in transitions {
-        let edge = GbaEdge {
-            cube: transition.cube,
-            target: 0,
-            marks: transition.marks,
-        };
-        successors.push(Successor {
-            edge,
-            key: transition.targets,
-        })?;
+impl Step<RowSet, GbaEdge> for Transition {
+    ghost use Rattle.ltl_alt.specs.ReachView.{transition_move};
+
+    ghost move_of = { transition_move };
+
+    #[inline(always)]
+    fn key(&self) -> RowSet {
+        self.targets
     }
-    Ok(successors)
+
+    #[inline(always)]
+    fn edge_to(&self, target: usize) -> GbaEdge {
+        GbaEdge {
+            cube: self.cube,
+            target,
+            marks: self.marks,
+        }
+    }
 }
 
 /// The implicit graph of sets of rows, with its memo tables.
@@ -58,6 +55,8 @@ struct RowSets<'b, 't, 's, 'a, A: Allocator> {
     basis: Basis<'b, 't, 's, 'a, A>,
     finals: Finals<'a, A>,
     keys: Keys<'a, A>,
+    /// The transitions of the set of rows that was prepared last.
+    prepared: SetTransitions<'a, A>,
 }
 
 impl<'b, 't, 's, 'a, A: Allocator> RowSets<'b, 't, 's, 'a, A> {
@@ -79,11 +78,14 @@ impl<'b, 't, 's, 'a, A: Allocator> RowSets<'b, 't, 's, 'a, A> {
     }
 }
 
-impl<'b, 't, 's, 'a, A: Allocator> Successors<RowSet, GbaEdge> for RowSets<'b, 't, 's, 'a, A> {
+impl<'b, 't, 's, 'a, A: Allocator> Successors<RowSet, GbaEdge, Transition>
+    for RowSets<'b, 't, 's, 'a, A> {
     ghost net = { λ n. net_of (core_of n.basis.table.now) n.basis.keep_implied };
 
     ghost ready = { λ n. IsBasis n.basis × HasFinals n.basis n.finals
         × AreKeys (table_at n.basis.table.now) n.basis.keep_implied n.finals.lists.keys n.keys.states.entries };
+
+    ghost lent = { λ n. map transition_move (listed_in n.finals.lists.keys n.prepared) };
 
     fn accepting(&self, _key: &RowSet) -> bool {
         true
@@ -100,14 +102,13 @@ impl<'b, 't, 's, 'a, A: Allocator> Successors<RowSet, GbaEdge> for RowSets<'b, '
         self.finals.transitions_at_least(&self.basis, key)
     }
 
-    fn successors<'c, B: Allocator>(
-        &mut self,
-        alloc: &'c B,
-        key: &RowSet,
-        most: usize,
-    ) -> Result<Vec<Successor<RowSet, GbaEdge>, &'c B>, AltFault> {
-        let kept = self.finals.set_transitions(&self.basis, key, most)?;
-        Ok(successors_of(alloc, kept.as_slice())?)
+    fn prepare(&mut self, key: &RowSet, most: usize) -> Result<(), AltFault> {
+        self.prepared = self.finals.set_transitions(&self.basis, key, most)?;
+        Ok(())
+    }
+
+    fn steps(&self) -> &[Transition] {
+        self.finals.listed(&self.prepared)
     }
 }
 
@@ -142,6 +143,7 @@ fn explored<'a, A: Allocator>(
         basis,
         finals,
         keys: Keys::new(alloc),
+        prepared: SetTransitions::Owned(Vec::new(alloc)),
     };
     let root = RowSet::single(place(table, table.root()));
     let limits = Limits {
@@ -149,7 +151,7 @@ fn explored<'a, A: Allocator>(
         edges: MOST_EDGES,
     };
     let builder = CodedBuilder::new(alloc, until_count(table))?;
-    let built = explore_from(alloc, root, builder, &mut row_sets, false, limits)?;
+    let built = explore_from(alloc, root, builder, &mut row_sets, limits)?;
     Ok(built)
 }
 

@@ -89,14 +89,6 @@ impl Support {
         }
     }
 
-    /// The number of its literals and targets.
-    fn size(&self) -> usize {
-        self.positive.invariant();
-        self.negative.invariant();
-        self.targets.invariant();
-        self.positive.count() + self.negative.count() + self.targets.count()
-    }
-
     /// Whether a literal or a row is in both.
     pub(crate) fn shares_some(&self, other: &Support) -> bool
         ensures { result ≡ independence.shares_some self.now other.now }
@@ -130,35 +122,56 @@ impl Clone for Support {
 
 impl Copy for Support {}
 
-/// The literals and targets of a list of pairs, and their number.
+/// The members of a set modulo 64, as the bits of a word.
+fn folded(set: &RowSet) -> u64 {
+    let mut word = 0u64;
+    for member in set.iter() {
+        word |= 1u64 << (member % 64);
+    }
+    word
+}
+
+/// The literals and targets of a list of pairs modulo 64, as the bits of a word for each kind. It affects the order of joins alone.
 #[derive(Clone, Copy)]
 pub(crate) struct Extent {
-    support: Support,
-    size: usize,
+    positive: u64,
+    negative: u64,
+    targets: u64,
 }
 
 impl Extent {
-    /// That of a list without pairs.
-    pub(crate) fn nothing() -> Extent {
-        Extent {
-            support: Support::nothing(),
-            size: 0,
-        }
-    }
-
     /// That of these pairs.
     pub(crate) fn of(pairs: &[Pair]) -> Extent {
         let support = Support::of(pairs);
         Extent {
-            support,
-            size: support.size(),
+            positive: folded(&support.positive),
+            negative: folded(&support.negative),
+            targets: folded(&support.targets),
         }
     }
 
+    /// The number of literals and targets.
+    #[inline(always)]
+    fn size(&self) -> u32 {
+        self.positive.count_ones() + self.negative.count_ones() + self.targets.count_ones()
+    }
+
     /// The number of literals and targets that a join of both lists has and the larger list hasn't.
-    pub(crate) fn added(&self, other: &Extent) -> usize {
-        let both = self.support.together(&other.support);
-        both.size().saturating_sub(self.size.max(other.size))
+    #[inline(always)]
+    pub(crate) fn added(&self, other: &Extent) -> u32 {
+        let mine = self.without(other).size();
+        let others = other.without(self).size();
+        mine.min(others)
+    }
+
+    /// What the other one hasn't.
+    #[inline(always)]
+    fn without(&self, other: &Extent) -> Extent {
+        Extent {
+            positive: self.positive & !other.positive,
+            negative: self.negative & !other.negative,
+            targets: self.targets & !other.targets,
+        }
     }
 }
 

@@ -4,6 +4,7 @@ ghost use Rattle.std.specs.Prelude.{◌≡◌, ◌<◌, ◌≤◌, ◌+◌, true
 ghost use Rattle.ltl_automaton.specs.Net.{edges_behind};
 
 use crate::edge::EdgeType;
+use crate::step::Step;
 use crate::successors::Successors;
 use crate::worklist::{Key, Worklist};
 use std::alloc::{AllocError, Allocator};
@@ -31,7 +32,7 @@ fn is_time<'a, K: Key, A: Allocator>(
 }
 
 /// Whether `count`, together with the lower bounds of `edges_at_least` for the waiting states, is more than `most`.
-fn are_more_behind<'a, K: Key, E: EdgeType, S: Successors<K, E>, A: Allocator>(
+fn are_more_behind<'a, K: Key, E: EdgeType, T: Step<K, E>, S: Successors<K, E, T>, A: Allocator>(
     net: &mut S,
     listing: &Worklist<'a, K, A>,
     count: usize,
@@ -58,7 +59,14 @@ fn are_more_behind<'a, K: Key, E: EdgeType, S: Successors<K, E>, A: Allocator>(
 
 /// Whether more than `most` edges are certain. The answer is `false` without a computation where this wouldn't be worth it. `looked` is the number of
 /// edges at the last computation, and is updated.
-pub(crate) fn are_too_many_ahead<'a, K: Key, E: EdgeType, S: Successors<K, E>, A: Allocator>(
+pub(crate) fn are_too_many_ahead<
+    'a,
+    K: Key,
+    E: EdgeType,
+    T: Step<K, E>,
+    S: Successors<K, E, T>,
+    A: Allocator,
+>(
     net: &mut S,
     listing: &Worklist<'a, K, A>,
     looked: &mut usize,

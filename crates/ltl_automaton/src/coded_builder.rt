@@ -1,11 +1,11 @@
 //! The construction of an automaton with a table of its labels. The labels are numbered as they come, and sorted at the end.
 
-ghost use Rattle.std.specs.Prelude.{◌≡◌, ◌+◌, ◌<◌, [], length, map, All, IfOk, OnOk};
+ghost use Rattle.std.specs.Prelude.{◌≡◌, ◌+◌, ◌<◌, [], false, length, map, All, IfOk, OnOk};
 ghost use Rattle.ltl_spec.specs.Collections.Sets.{Has};
 ghost use Rattle.ltl_automaton.specs.CodedEdges.{coded_edge_of, table_of};
-ghost use Rattle.ltl_automaton.specs.EdgeView.{edge_of};
 ghost use Rattle.ltl_automaton.specs.LabelTables.{AreMade, AreStatesMade, Extends, HasLabels, HaveRanks, IsBuilt, built_of, labelled_of, met_of};
 ghost use Rattle.ltl_automaton.specs.Labels.{AreCoded, AreTables, IsCoded, labelled, labelled_edge};
+ghost use Rattle.ltl_automaton.specs.Net.{edges_to};
 ghost use Rattle.ltl_automaton.specs.SharedView.{automaton_of};
 
 use crate::builder::Builder;
@@ -16,6 +16,8 @@ use crate::interner::Interner;
 use crate::label_table::LabelTable;
 use crate::ranked::{Ranked, narrow};
 use crate::shared::SharedStates;
+use crate::step::Step;
+use crate::worklist::Key;
 use ltl_sets::{Cube, RowSet};
 use std::alloc::{AllocError, Allocator};
 
@@ -53,14 +55,21 @@ impl<'a, A: Allocator> CodedBuilder<'a, A> {
         })
     }
 
-    /// The edges with numbers for their labels. A label that didn't come before gets the next number of its kind.
-    fn coded_edges(&mut self, edges: &[Edge]) -> Result<Vec<CodedEdge, &'a A>, AllocError>
+    /// The edges of `steps` to the states with the numbers `targets`, with numbers for their labels. A label that didn't come before gets the next number
+    /// of its kind.
+    fn coded_edges<K: Key, T: Step<K, Edge>>(
+        &mut self,
+        steps: &[T],
+        targets: &[usize],
+    ) -> Result<Vec<CodedEdge, &'a A>, AllocError>
+        requires { length steps.now ≡ length targets.now }
         ensures more { OnOk result (Extends (met_of self.old) (met_of self.new)) }
-        ensures edges { IfOk result (λ es. AreMade (met_of self.new) es.items (map edge_of edges.now)) }
+        ensures edges { IfOk result (λ es. AreMade (met_of self.new) es.items (edges_to (map T.move_of steps.now) targets.now)) }
         ensures states { OnOk result (self.new.states ≡ self.old.states) }
     {
-        let mut coded = Vec::with_capacity(self.alloc, edges.len())?;
-        for edge in edges {
+        let mut coded = Vec::with_capacity(self.alloc, steps.len())?;
+        for i in 0..steps.len() {
+            let edge = steps[i].edge_to(targets[i]);
             coded.push(CodedEdge {
                 cube: narrow(self.cubes.number(edge.cube)?)?,
                 marks: narrow(self.marks.number(edge.marks)?)?,
@@ -169,14 +178,21 @@ impl<'a, A: Allocator> CodedBuilder<'a, A> {
 impl<'a, A: Allocator> Builder<Edge> for CodedBuilder<'a, A> {
     ghost built = { built_of };
 
+    ghost sorts = { false };
+
     ghost ready = { λ b. IsBuilt b };
 
     fn len(&self) -> usize {
         self.states.len()
     }
 
-    fn push(&mut self, accepting: bool, edges: &[Edge]) -> Result<(), AllocError> {
-        let coded = self.coded_edges(edges)?;
+    fn push_steps<K: Key, T: Step<K, Edge>>(
+        &mut self,
+        accepting: bool,
+        steps: &[T],
+        targets: &[usize],
+    ) -> Result<(), AllocError> {
+        let coded = self.coded_edges(steps, targets)?;
         self.states.push(accepting, coded)?;
         Ok(())
     }

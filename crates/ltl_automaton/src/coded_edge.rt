@@ -4,6 +4,7 @@ ghost use Rattle.std.specs.Prelude.{◌≡◌};
 
 use crate::edge::EdgeType;
 use crate::sorting::ListOrder;
+use crate::step::Step;
 use std::cmp::Ordering;
 use std::hash::{Hash, Hasher};
 
@@ -83,4 +84,22 @@ impl EdgeType for CodedEdge {
     ghost ordered = { λ e f. refl };
 
     ghost feeds = { λ e. refl };
+}
+
+/// The target's number is its key.
+impl Step<usize, CodedEdge> for CodedEdge {
+    ghost use Rattle.ltl_automaton.specs.CodedEdges.{coded_edge_of};
+    ghost use Rattle.ltl_automaton.specs.Net.{successor_of};
+
+    ghost move_of = { λ e. successor_of (coded_edge_of e) };
+
+    #[inline(always)]
+    fn key(&self) -> usize {
+        self.target
+    }
+
+    #[inline(always)]
+    fn edge_to(&self, target: usize) -> CodedEdge {
+        self.with_target(target)
+    }
 }

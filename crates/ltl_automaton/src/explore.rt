@@ -5,71 +5,44 @@ ghost use Rattle.std.specs.Prelude.{slice_get, slice_index_or, Some, length, is_
 ghost use Rattle.ltl_spec.specs.Collections.Lists.{with_new};
 ghost use Rattle.ltl_spec.specs.Automata.Listing.{PassesLimits};
 ghost use Rattle.ltl_spec.specs.Automata.Net.{IsReachable};
-ghost use Rattle.ltl_automaton.specs.Net.{edge_in, edges_in, key_of, move_of, targets_of, with_made};
+ghost use Rattle.ltl_automaton.specs.Net.{edge_in, edges_to, key_of, targets_of, with_made};
 ghost use Rattle.ltl_automaton.specs.Net.{moves_of, edges_behind, AreListed, AreTooMany, HasSuccessorsOf, HasBegun};
 ghost use Rattle.ltl_automaton.specs.Bounds.{IsBounded};
-ghost use Rattle.ltl_spec.specs.Automata.Automaton.{edge_cmp, state_at};
-ghost use Rattle.ltl_spec.specs.Collections.Sets.{set_of};
+ghost use Rattle.ltl_spec.specs.Automata.Automaton.{state_at};
 ghost use Rattle.ltl_automaton.specs.SharedView.{with_state};
 
 use crate::ahead::are_too_many_ahead;
 use crate::builder::Builder;
 use crate::edge::EdgeType;
 use crate::fault::AutomatonFault;
-use crate::sorting::sort_dedup;
-use crate::successor::Successor;
+use crate::step::Step;
 use crate::successors::Successors;
 use crate::worklist::{Key, Worklist};
 use std::alloc::{AllocError, Allocator};
 
-/// The edges with numbers as targets. A key that isn't listed is appended.
-fn numbered<'a, K: Key, E: EdgeType, A: Allocator>(
+/// The numbers of the targets. A key that isn't listed is appended. `TooLarge` if more than `most` keys are listed then.
+fn numbered<'a, K: Key, E: EdgeType, T: Step<K, E>, A: Allocator>(
     alloc: &'a A,
     listing: &mut Worklist<'a, K, A>,
-    successors: &[Successor<K, E>],
-) -> Result<Vec<E, &'a A>, AllocError>
-    ensures keys { OnOk result (listing.new.keys ≡ fold (with_new K.eq) listing.old.keys (map key_of (map (move_of E.edge_of) successors.now))) }
-    ensures explored { listing.new.explored ≡ listing.old.explored }
-    ensures edges { IfOk result (λ es. map E.edge_of es.items ≡ map (edge_in K.eq listing.new.keys) (map (move_of E.edge_of) successors.now)) }
-{
-    let mut edges = Vec::new(alloc);
-    edges.reserve(successors.len())?;
-    for successor in successors {
-        let target = listing.number(successor.key)?;
-        edges.push(successor.edge.with_target(target))?;
-    }
-    Ok(edges)
-}
-
-/// Sorts the edges, and removes duplicates.
-fn sort<E: EdgeType, A: Allocator>(edges: &mut Vec<E, &A>)
-    ensures { map E.edge_of edges.new.items ≡ set_of edge_cmp (map E.edge_of edges.old.items) }
-{
-    sort_dedup(edges);
-}
-
-/// The edges with numbers as targets, sorted and without duplicates if `sorted` is set. `TooLarge` if more than `most` keys are listed then.
-fn numbered_by<'a, K: Key, E: EdgeType, A: Allocator>(
-    alloc: &'a A,
-    listing: &mut Worklist<'a, K, A>,
-    successors: &[Successor<K, E>],
-    sorted: bool,
+    steps: &[T],
     most: usize,
-) -> Result<Vec<E, &'a A>, AutomatonFault>
-    ensures keys { OnOk result (listing.new.keys ≡ fold (with_new K.eq) listing.old.keys (map key_of (map (move_of E.edge_of) successors.now))) }
+) -> Result<Vec<usize, &'a A>, AutomatonFault>
+    ensures keys { OnOk result (listing.new.keys ≡ fold (with_new K.eq) listing.old.keys (map key_of (map T.move_of steps.now))) }
     ensures explored { listing.new.explored ≡ listing.old.explored }
-    ensures edges { IfOk result (λ es. map E.edge_of es.items ≡ edges_in K.eq sorted listing.new.keys (map (move_of E.edge_of) successors.now)) }
+    ensures edges { IfOk result (λ v. edges_to (map T.move_of steps.now) v.items ≡ map (edge_in K.eq listing.new.keys) (map T.move_of steps.now)) }
+    ensures long { IfOk result (λ v. length steps.now ≡ length v.items) }
     ensures fits { OnOk result (length listing.new.keys ≤ most) }
-    ensures large { IsErrOf result AutomatonFault.TooLarge → most < length (fold (with_new K.eq) listing.old.keys (map key_of (map (move_of E.edge_of) successors.now))) }
+    ensures large { IsErrOf result AutomatonFault.TooLarge → most < length (fold (with_new K.eq) listing.old.keys (map key_of (map T.move_of steps.now))) }
 {
-    let mut edges = numbered(alloc, listing, successors)?;
+    let mut targets = Vec::with_capacity(alloc, steps.len())?;
+    for step in steps {
+        let target = listing.number(step.key())?;
+        targets.push(target)?;
+    }
     if listing.len() > most {
         return Err(AutomatonFault::TooLarge);
     }
-    if sorted {
-        sort(&mut edges);
-    }
-    Ok(edges)
+    Ok(targets)
 }
 
 /// The sum `count + more`, or `TooLarge` if it is above `most`.
@@ -93,7 +66,7 @@ pub struct Limits {
 }
 
 /// The number of an explored state that has the edges of `key`, if one is known. The explored states are the first `states` of the listing.
-fn known_place<'a, K: Key, E: EdgeType, S: Successors<K, E>, A: Allocator>(
+fn known_place<'a, K: Key, E: EdgeType, T: Step<K, E>, S: Successors<K, E, T>, A: Allocator>(
     net: &mut S,
     listing: &Worklist<'a, K, A>,
     key: &K,
@@ -140,14 +113,21 @@ fn put_like<'a, E: EdgeType, M: Builder<E> + Drop, A: Allocator>(
 }
 
 /// Appends the state of `key` with edges of its own, and lists their targets. Returns the new number of edges.
-fn put_new<'a, K: Key, E: EdgeType, S: Successors<K, E>, M: Builder<E> + Drop, A: Allocator>(
+fn put_new<
+    'a,
+    K: Key,
+    E: EdgeType,
+    T: Step<K, E>,
+    S: Successors<K, E, T>,
+    M: Builder<E> + Drop,
+    A: Allocator,
+>(
     alloc: &'a A,
     net: &mut S,
     listing: &mut Worklist<'a, K, A>,
     made: &mut M,
     lengths: &mut Vec<usize, &'a A>,
     key: &K,
-    sorted: bool,
     count: usize,
     limits: Limits,
 ) -> Result<usize, AutomatonFault>
@@ -155,21 +135,22 @@ fn put_new<'a, K: Key, E: EdgeType, S: Successors<K, E>, M: Builder<E> + Drop, A
     requires few { count ≤ limits.edges }
     ensures net { OnOk result ((S.net net.new ≡ S.net net.old) × S.ready net.new) }
     ensures listed { OnOk result (AreListed K.eq (S.net net.old) key.now listing.old listing.new × length listing.new.keys ≤ limits.states) }
-    ensures made { OnOk result ((M.built made.new ≡ with_made K.eq sorted (S.net net.old) key.now listing.new.keys (M.built made.old)) × M.ready made.new) }
+    ensures made { OnOk result ((M.built made.new ≡ with_made K.eq M.sorts (S.net net.old) key.now listing.new.keys (M.built made.old)) × M.ready made.new) }
     ensures lengths { IfOk result (λ _. lengths.new.items ≡ lengths.old.items ++ length ((S.net net.old).successors key.now) ∷ []) }
     ensures sum { IfOk result (λ n. n ≡ count + length ((S.net net.old).successors key.now) × n ≤ limits.edges) }
     ensures large { IsErrOf result AutomatonFault.TooLarge → AreTooMany K.eq (S.net net.old) key.now listing.old count limits.states limits.edges }
 {
-    let successors = net.successors(alloc, key, limits.edges - count)?;
-    let count = counted(count, successors.len(), limits.edges)?;
-    lengths.push(successors.len())?;
-    let edges = numbered_by(alloc, listing, successors.as_slice(), sorted, limits.states)?;
-    made.push(net.accepting(key), edges.as_slice())?;
+    net.prepare(key, limits.edges - count)?;
+    let steps = net.steps();
+    let count = counted(count, steps.len(), limits.edges)?;
+    lengths.push(steps.len())?;
+    let targets = numbered(alloc, listing, steps, limits.states)?;
+    made.push_steps(net.accepting(key), steps, targets.as_slice())?;
     Ok(count)
 }
 
 /// The next key of the worklist, `None` at its end, or `TooLarge` as soon as more than `most` edges are certain.
-fn take_next<'a, K: Key, E: EdgeType, S: Successors<K, E>, A: Allocator>(
+fn take_next<'a, K: Key, E: EdgeType, T: Step<K, E>, S: Successors<K, E, T>, A: Allocator>(
     net: &mut S,
     listing: &mut Worklist<'a, K, A>,
     looked: &mut usize,
@@ -191,20 +172,27 @@ fn take_next<'a, K: Key, E: EdgeType, S: Successors<K, E>, A: Allocator>(
 }
 
 /// Explores what the start reaches, until the worklist is empty or a limit is passed.
-fn explore<'a, K: Key, E: EdgeType, S: Successors<K, E>, M: Builder<E> + Drop, A: Allocator>(
+fn explore<
+    'a,
+    K: Key,
+    E: EdgeType,
+    T: Step<K, E>,
+    S: Successors<K, E, T>,
+    M: Builder<E> + Drop,
+    A: Allocator,
+>(
     alloc: &'a A,
     start: K,
     net: &mut S,
     listing: &mut Worklist<'a, K, A>,
     made: &mut M,
     lengths: &mut Vec<usize, &'a A>,
-    sorted: bool,
     limits: Limits,
 ) -> Result<(), AutomatonFault>
     requires some { 0 < limits.states }
     requires ready { S.ready net.old × M.ready made.old }
     requires begun { HasBegun listing.old (M.built made.old) lengths.old.items }
-    ensures reachable { IfOk result (λ _. IsReachable K.eq sorted (moves_of (S.net net.old)) start (M.built made.old).sets (M.built made.new)) }
+    ensures reachable { IfOk result (λ _. IsReachable K.eq M.sorts (moves_of (S.net net.old)) start (M.built made.old).sets (M.built made.new)) }
     ensures bounded { IfOk result (λ _. IsBounded limits.states limits.edges (M.built made.new)) }
     ensures ready { OnOk result (M.ready made.new) }
     ensures fits { OnOk result (¬ (PassesLimits K.eq (targets_of (S.net net.old)) start limits.states limits.edges)) }
@@ -224,9 +212,7 @@ fn explore<'a, K: Key, E: EdgeType, S: Successors<K, E>, M: Builder<E> + Drop, A
                 limits.edges,
             )?;
         } else {
-            count = put_new(
-                alloc, net, listing, made, lengths, &key, sorted, count, limits,
-            )?;
+            count = put_new(alloc, net, listing, made, lengths, &key, count, limits)?;
         }
     }
     Ok(())
@@ -239,21 +225,15 @@ pub fn explore_from<
     'a,
     K: Key,
     E: EdgeType,
-    S: Successors<K, E>,
+    T: Step<K, E>,
+    S: Successors<K, E, T>,
     M: Builder<E> + Drop,
     A: Allocator,
->(
-    alloc: &'a A,
-    start: K,
-    builder: M,
-    net: &mut S,
-    sorted: bool,
-    limits: Limits,
-) -> Result<M, AutomatonFault>
+>(alloc: &'a A, start: K, builder: M, net: &mut S, limits: Limits) -> Result<M, AutomatonFault>
     requires some { 0 < limits.states }
     requires ready { S.ready net.old × M.ready builder }
     requires begun { (M.built builder).states ≡ [] }
-    ensures reachable { IfOk result (λ m. IsReachable K.eq sorted (moves_of (S.net net.old)) start (M.built builder).sets (M.built m)) }
+    ensures reachable { IfOk result (λ m. IsReachable K.eq M.sorts (moves_of (S.net net.old)) start (M.built builder).sets (M.built m)) }
     ensures bounded { IfOk result (λ m. IsBounded limits.states limits.edges (M.built m)) }
     ensures built { IfOk result (λ m. M.ready m) }
 
@@ -271,7 +251,6 @@ pub fn explore_from<
         &mut listing,
         &mut made,
         &mut lengths,
-        sorted,
         limits,
     )?;
     Ok(made)

@@ -11,11 +11,12 @@
 //!
 //! What flows: `explore_from` takes a start, a type with the trait `Successors`, and a `Builder`, to which it appends the states. A state is known by
 //! its *key*. In `ltl_alt` a key is a set of rows. In `ltl_passes` it is a copy of a state on a level, or the number of a state of an automaton that is
-//! numbered anew. For a key, `Successors` returns whether the state is accepting, and its outgoing edges as `Successor`s. The target of a `Successor`
-//! is a key. A `Worklist` numbers the keys as they are met. The result is the builder with all states, or `TooLarge` if a limit is passed.
+//! numbered anew. For a key, `Successors` returns whether the state is accepting, and lends its outgoing edges as steps (`Step`), whose targets are keys.
+//! A `Worklist` numbers the keys as they are met. The builder gets the steps with the numbers of their targets, and makes edges of them. The result is
+//! the builder with all states, or `TooLarge` if a limit is passed.
 //!
-//! There are two builders. `SharedStates` stores the edges as they come. `CodedBuilder` takes edges with labels, and numbers the labels as they come;
-//! its `finish` sorts the labels, renumbers the edges, and returns a `CodedStates`.
+//! There are two builders. `SharedStates` sorts the edges of a state. `CodedBuilder` takes steps with labels, and numbers the labels as they come; its
+//! `finish` sorts the labels, renumbers the edges, and returns a `CodedStates`.
 //!
 //! Two devices save work. `same_successors_as` may return a state that was explored before and has the same edges; both states share one list then.
 //! While many states wait in the worklist, `ahead` adds a lower bound on their edges to the edges so far. The construction ends early if the sum is
@@ -49,7 +50,7 @@ pub mod level;
 mod ranked;
 pub mod shared;
 pub mod sorting;
-pub mod successor;
+pub mod step;
 pub mod successors;
 pub mod worklist;
 
@@ -67,6 +68,6 @@ pub use labels::{Edges, Labels};
 pub use level::next_level;
 pub use shared::{SharedState, SharedStates};
 pub use sorting::{ListOrder, sort_dedup};
-pub use successor::Successor;
+pub use step::Step;
 pub use successors::Successors;
 pub use worklist::{Key, Worklist};

@@ -1,12 +1,17 @@
 //! Explicit automata whose states share edge lists.
 
-ghost use Rattle.std.specs.Prelude.{◌≡◌, ◌<◌, [], length, map, slice_get, Some, OnOk};
-ghost use Rattle.ltl_spec.specs.Automata.Automaton.{state_at};
+ghost use Rattle.std.specs.Prelude.{◌≡◌, ◌<◌, [], length, map, slice_get, Some, IfOk, OnOk};
+ghost use Rattle.ltl_spec.specs.Automata.Automaton.{edge_cmp, state_at};
+ghost use Rattle.ltl_spec.specs.Collections.Sets.{set_of};
+ghost use Rattle.ltl_automaton.specs.Net.{edges_to};
 ghost use Rattle.ltl_automaton.specs.SharedView.{automaton_of, with_state, IsShared};
 
 use crate::edge::EdgeType;
 use crate::edge_list::EdgeList;
 use crate::interner::Interner;
+use crate::sorting::sort_dedup;
+use crate::step::Step;
+use crate::worklist::Key;
 use std::alloc::{AllocError, Allocator};
 use std::marker::Model;
 
@@ -38,6 +43,29 @@ impl<'a, E: EdgeType, A: Allocator> Model for SharedStates<'a, E, A> {
     ghost view = { λ s. record { sets = s.sets; lists = s.lists.keys; states = s.states.items } };
 
     ghost invariant = { λ s. IsShared s.lists.keys s.states.items };
+}
+
+/// The edges of `steps` to the states with the numbers `targets`.
+fn edges_of<'a, K: Key, E: EdgeType, T: Step<K, E>, A: Allocator>(
+    alloc: &'a A,
+    steps: &[T],
+    targets: &[usize],
+) -> Result<Vec<E, &'a A>, AllocError>
+    requires { length steps.now ≡ length targets.now }
+    ensures { IfOk result (λ es. map E.edge_of es.items ≡ edges_to (map T.move_of steps.now) targets.now) }
+{
+    let mut edges = Vec::with_capacity(alloc, steps.len())?;
+    for i in 0..steps.len() {
+        edges.push(steps[i].edge_to(targets[i]))?;
+    }
+    Ok(edges)
+}
+
+/// Sorts the edges, and removes duplicates.
+fn sort<E: EdgeType, A: Allocator>(edges: &mut Vec<E, &A>)
+    ensures { map E.edge_of edges.new.items ≡ set_of edge_cmp (map E.edge_of edges.old.items) }
+{
+    sort_dedup(edges);
 }
 
 impl<'a, E: EdgeType, A: Allocator> SharedStates<'a, E, A> {
@@ -133,13 +161,20 @@ impl<'a, E: EdgeType, A: Allocator> SharedStates<'a, E, A> {
         Ok(())
     }
 
-    /// Appends a state with a copy of these edges, in their order.
-    pub(crate) fn push_slice(&mut self, accepting: bool, edges: &[E]) -> Result<(), AllocError>
-        ensures ok { OnOk result (automaton_of self.new ≡ with_state (automaton_of self.old) accepting (map E.edge_of edges.now)) }
+    /// Appends a state with the edges of `steps` to the states with the numbers `targets`, sorted and without duplicates.
+    pub(crate) fn push_steps<K: Key, T: Step<K, E>>(
+        &mut self,
+        accepting: bool,
+        steps: &[T],
+        targets: &[usize],
+    ) -> Result<(), AllocError>
+        requires { length steps.now ≡ length targets.now }
+        ensures ok { OnOk result (automaton_of self.new ≡ with_state (automaton_of self.old) accepting
+            (set_of edge_cmp (edges_to (map T.move_of steps.now) targets.now))) }
     {
-        let mut own = Vec::with_capacity(self.alloc, edges.len())?;
-        own.extend_from_slice(edges)?;
-        self.push(accepting, own)
+        let mut edges = edges_of(self.alloc, steps, targets)?;
+        sort(&mut edges);
+        self.push(accepting, edges)
     }
 
     /// Appends a state that shares the edge list of state `i`.

@@ -1,20 +1,23 @@
 //! The transition function of an automaton that is constructed on the fly.
 
-ghost use Rattle.std.specs.Prelude.{◌≡◌, ◌<◌, ◌≤◌, length, map, IfOk, IfSome, OnOk, IsErrOf};
-ghost use Rattle.ltl_automaton.specs.Net.{Net, move_of};
+ghost use Rattle.std.specs.Prelude.{◌≡◌, ◌<◌, ◌≤◌, List, length, map, IfOk, IfSome, OnOk, IsErrOf};
+ghost use Rattle.ltl_automaton.specs.Net.{Move, Net};
 
 use crate::edge::EdgeType;
 use crate::fault::AutomatonFault;
-use crate::successor::Successor;
+use crate::step::Step;
 use crate::worklist::Key;
-use std::alloc::{AllocError, Allocator};
+use std::alloc::AllocError;
 
 /// An automaton by its transition function: keys stand for states.
-pub trait Successors<K: Key, E: EdgeType> {
+pub trait Successors<K: Key, E: EdgeType, T: Step<K, E>> {
     ghost net: { Self → Net K };
 
     // the invariant of what is remembered between two calls
     ghost ready: { Self → Type 0 };
+
+    // the edges that `steps` lends
+    ghost lent: { Self → List (Move K) };
 
     /// Whether the state of a key is accepting.
     fn accepting(&self, key: &K) -> bool
@@ -34,16 +37,17 @@ pub trait Successors<K: Key, E: EdgeType> {
         ensures same { OnOk result (net self.new ≡ net self.old) }
         ensures ready { OnOk result (ready self.new) };
 
-    /// The outgoing edges of a state. If there are more than `most`, the result may be `TooLarge`; it needn't be.
-    fn successors<'a, A: Allocator>(
-        &mut self,
-        alloc: &'a A,
-        key: &K,
-        most: usize,
-    ) -> Result<Vec<Successor<K, E>, &'a A>, AutomatonFault>
+    /// Finds the outgoing edges of a state, which `steps` lends until the next call. If there are more than `most`, the result may be `TooLarge`; it
+    /// needn't be.
+    fn prepare(&mut self, key: &K, most: usize) -> Result<(), AutomatonFault>
         requires { ready self.old }
-        ensures successors { IfOk result (λ v. map (move_of E.edge_of) v.items ≡ (net self.old).successors key.now) }
+        ensures lent { OnOk result (lent self.new ≡ (net self.old).successors key.now) }
         ensures large { IsErrOf result AutomatonFault.TooLarge → most < length ((net self.old).successors key.now) }
         ensures same { OnOk result (net self.new ≡ net self.old) }
         ensures ready { OnOk result (ready self.new) };
+
+    /// The edges of the last call of `prepare`.
+    fn steps(&self) -> &[T]
+        requires { ready self.now }
+        ensures { map T.move_of result.now ≡ lent self.now };
 }

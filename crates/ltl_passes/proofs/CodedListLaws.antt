@@ -1,19 +1,16 @@
 -- Lists of the code's edges with numbers of labels, by the labels.
-use Rattle.std.proofs.Common.{◌≡◌, ℕ, ◌<◌, Bool, cond, List, [], ◌∷◌, length, map, sym, ◌∙◌, ap, subst}
+use Rattle.std.proofs.Common.{◌≡◌, ℕ, ◌<◌, Bool, cond, List, length, map, sym, ◌∙◌, ap, subst}
 use Rattle.std.specs.Prelude.{All}
-use Rattle.std.proofs.lemmas.List.{map-append}
-use Rattle.std.proofs.lemmas.List.Elements.{All-map, All-append, All-cons, All-nil}
+use Rattle.std.proofs.lemmas.List.Elements.{All-map}
 use Rattle.ltl_spec.specs.Collections.Sets.{Has}
 use Rattle.ltl_spec.specs.Automata.Automaton.{Automaton, Edge, State, state_at}
 use Rattle.ltl_spec.specs.Construction.Merging.{class_names}
-use Rattle.ltl_spec.proofs.Collections.FoundLaws.{map_same}
 use Rattle.ltl_spec.proofs.Collections.MemberLaws.{map_cases}
-use Rattle.ltl_automaton.specs.SharedView.{with_state}
 use Rattle.ltl_automaton.proofs.EdgeLaws.{All_from_map}
 use Rattle.ltl_automaton.specs.declared.coded_edge.CodedEdge as code
 use Rattle.ltl_automaton.specs.declared.labels.Labels as slices
 use Rattle.ltl_automaton.specs.CodedEdges.{HaveLabels, coded_edge_of, labelled_edge_of, tables_of}
-use Rattle.ltl_automaton.specs.Labels.{Tables, AreCoded, AreTables, IsCoded, labelled, labelled_edge, labelled_state}
+use Rattle.ltl_automaton.specs.Labels.{Tables, AreCoded, AreTables, IsCoded, labelled, labelled_edge}
 use Rattle.ltl_passes.specs.Partition.{IsWithinStates, retargeted_list}
 use Rattle.ltl_passes.proofs.LabelLaws.{coded_retargeted, labelled_names, labelled_retargeted}
 use Rattle.ltl_automaton.proofs.TableLaws.{labelled_length, labels_seen, state_at_labelled}

@@ -2,7 +2,6 @@
 use Rattle.std.proofs.Common.{◌≡◌, ℕ, ◌+◌, ◌<◌, Bool, true, false, cond, List, [], ◌∷◌, length, map, refl, sym, ◌∙◌, ap, subst}
 use Rattle.std.specs.Prelude.{sum_by, All}
 use Rattle.std.specs.Ordering.{nat_cmp, ordering_then}
-use Rattle.std.proofs.Math.ListN.{get_or-map}
 use Rattle.std.proofs.lemmas.List.Sums.{sum_by-cons}
 use Rattle.ltl_spec.specs.Collections.Sets.{Has, set_of}
 use Rattle.ltl_spec.specs.Transitions.Cubes.{cube_cmp}
@@ -17,7 +16,7 @@ use Rattle.ltl_spec.proofs.Collections.MemberLaws.{map_cases, map_length}
 use Rattle.ltl_spec.proofs.Collections.Orders.{cube_linear, level_edge_linear}
 use Rattle.ltl_spec.proofs.Collections.SetLaws.{set_of_cases}
 use Rattle.ltl_automaton.specs.Net.{Move, moves_of}
-use Rattle.ltl_automaton.proofs.TableLaws.{state_at_labelled, labelled_length}
+use Rattle.ltl_automaton.proofs.TableLaws.{state_at_labelled}
 use Rattle.ltl_models.proofs.Within.{edges_within}
 use Rattle.ltl_passes.specs.Degeneralize as levels
 use Rattle.ltl_passes.specs.Degeneralize.{coded_level_edge, coded_successor, coded_level_net, level_net}

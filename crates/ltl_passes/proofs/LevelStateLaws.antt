@@ -3,6 +3,7 @@ use Rattle.std.proofs.Common.{◌≡◌, ℕ, ◌<◌, ◌≤◌, true, false, L
 use Rattle.std.specs.Prelude.{slice_index_or, All}
 use Rattle.std.specs.Ordering.{nat_cmp}
 use Rattle.std.proofs.lemmas.List.{get_or_past}
+use Rattle.std.proofs.lemmas.Simd.{map-map}
 use Rattle.std.proofs.lemmas.List.Elements.{All-map}
 use Rattle.ltl_spec.specs.Collections.Sets.{Has, IsRising, set_of}
 use Rattle.ltl_spec.specs.Collections.Lists.{place_of}
@@ -22,12 +23,12 @@ use Rattle.ltl_spec.proofs.Automata.NetLaws.{limits_alike, reachable_alike, stat
 use Rattle.ltl_spec.proofs.Construction.LevelRuns.{same_level_state_Decides, complete_copies}
 use Rattle.ltl_spec.proofs.Semantics.Runs.{IsClosed}
 use Rattle.ltl_automaton.specs.Bounds.{IsBounded}
-use Rattle.ltl_automaton.specs.Net.{Move, moves_of}
+use Rattle.ltl_automaton.specs.Net.{moves_of}
 use Rattle.ltl_automaton.proofs.EdgeLaws.{map_pushed}
 use Rattle.ltl_models.specs.GbaView as gba
 use Rattle.ltl_models.specs.BaView.{IsBa, IsPlain, IsReached}
 use Rattle.ltl_automaton.specs.CodedEdges.{coded_edge_of}
-use Rattle.ltl_passes.specs.Degeneralize.{successor_of, level_edge_of, level_net, coded_level_edge, coded_successor, coded_level_net}
+use Rattle.ltl_passes.specs.Degeneralize.{successor_of, level_edge_of, level_net, coded_level_edge, coded_successor, coded_level_net, level_move}
 use Rattle.ltl_automaton.specs.Labels.{Tables, AreTables, AreCoded, labelled}
 use Rattle.ltl_automaton.specs.declared.coded_edge.CodedEdge as coded
 use Rattle.ltl_passes.specs.declared.degeneralize.LevelEdge as code
@@ -51,9 +52,9 @@ no_successors_past t A p l =
     ap (λ (s : State). map coded_successor (set_of level_edge_cmp (map (coded_level_edge t A.sets p.level) s.edges))) (sym (get_or_past A.states p.state (record { accepting = true; edges = [] }) l))
 
 -- the edges of a copy, as the code makes them
-pub made_successors : (t : Tables) (A : Automaton) (sets : ℕ) (p : LevelState) (edges : List coded.CodedEdge) (xs : List (Move LevelState)) → sets ≡ A.sets → map coded_edge_of edges ≡ (state_at A p.state).edges
-    → xs ≡ map coded_successor (set_of level_edge_cmp (map (coded_level_edge t sets p.level) (map coded_edge_of edges))) → xs ≡ (coded_level_net t A).successors p
-made_successors t A sets p edges xs n e h = h ∙ (λ i. map coded_successor (set_of level_edge_cmp (map (coded_level_edge t (n i) p.level) (e i))))
+pub made_successors : (t : Tables) (A : Automaton) (sets : ℕ) (p : LevelState) (edges : List coded.CodedEdge) (xs : List code.LevelEdge) → sets ≡ A.sets → map coded_edge_of edges ≡ (state_at A p.state).edges
+    → map level_edge_of xs ≡ set_of level_edge_cmp (map (coded_level_edge t sets p.level) (map coded_edge_of edges)) → map level_move xs ≡ (coded_level_net t A).successors p
+made_successors t A sets p edges xs n e h = sym (map-map coded_successor level_edge_of xs) ∙ ap (map coded_successor) h ∙ (λ i. map coded_successor (set_of level_edge_cmp (map (coded_level_edge t (n i) p.level) (e i))))
 
 module _ (A : Automaton) where
   abbrev net : Net LevelState LevelEdge

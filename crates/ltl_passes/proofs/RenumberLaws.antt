@@ -3,6 +3,7 @@ use Rattle.std.proofs.Common.{◌≡◌, ℕ, ◌<◌, ◌≤◌, true, false, i
 use Rattle.std.specs.Prelude.{slice_index_or, sum_by, take, ◌==◌, All}
 use Rattle.std.proofs.lemmas.Bool.Decides.{Decides-eqb}
 use Rattle.std.proofs.lemmas.List.{length-map, get_or_past}
+use Rattle.std.proofs.lemmas.Simd.{map-map}
 use Rattle.std.proofs.lemmas.List.Sums.{sum_by-cons}
 use Rattle.std.proofs.lemmas.List.Elements.{All-map}
 use Rattle.ltl_spec.specs.Collections.Sets.{Has, IsRising, set_of}
@@ -29,7 +30,9 @@ use Rattle.ltl_automaton.specs.Net.{Net, moves_of}
 use Rattle.ltl_automaton.proofs.WayLaws.{Has_taken_at, take_whole}
 use Rattle.ltl_models.specs.GbaView as gba
 use Rattle.ltl_models.specs.BaView.{IsBa, IsPlain}
-use Rattle.ltl_passes.specs.Numbered.{IsNumberable, successor_of, net_of}
+use Rattle.ltl_automaton.specs.CodedEdges.{coded_edge_of}
+use Rattle.ltl_automaton.specs.declared.coded_edge.CodedEdge as coded
+use Rattle.ltl_passes.specs.Numbered.{IsNumberable, number_move, successor_of, net_of}
 use Rattle.ltl_passes.proofs.MergedLaws.{of_all, gba_within}
 use Rattle.ltl_passes.proofs.ReachedLaws.{listed_reached}
 use Rattle.ltl_passes.proofs.Sums.{HasNoRepeats_take}
@@ -43,6 +46,10 @@ accepts_past A s l = ap (λ (t : State). t.accepting) (sym (get_or_past A.states
 
 pub no_successors_past : (A : Automaton) (s : ℕ) → length A.states ≤ s → [] ≡ map successor_of (state_at A s).edges
 no_successors_past A s l = ap (λ (t : State). map successor_of t.edges) (sym (get_or_past A.states s (record { accepting = true; edges = [] }) l))
+
+-- the edges of a state, as the code lends them
+pub lent_successors : (A : Automaton) (s : ℕ) (edges : List coded.CodedEdge) → map coded_edge_of edges ≡ (state_at A s).edges → map number_move edges ≡ (net_of A).successors s
+lent_successors A s edges e = sym (map-map successor_of coded_edge_of edges) ∙ ap (map successor_of) e
 
 sums_less : {K : Type 0} (f g : K → ℕ) (xs : List K) → ((x : K) → f x ≤ g x) → sum_by f xs ≤ sum_by g xs
 sums_less f g [] h = omega arith

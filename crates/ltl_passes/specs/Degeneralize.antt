@@ -26,6 +26,10 @@ coded_level_edge t sets level e = record { cube = e.cube; copy = record { state 
 abbrev pub coded_successor : LevelEdge → Move LevelState
 coded_successor e = record { cube = e.cube; key = e.copy; marks = 0 ∷ [] }
 
+-- an edge of the code as such a successor
+abbrev pub level_move : code.LevelEdge → Move LevelState
+level_move e = coded_successor (level_edge_of e)
+
 abbrev pub coded_level_net : Tables → Automaton → Net LevelState
 coded_level_net t A = record {
   successors = λ p. map coded_successor (set_of level_edge_cmp (map (coded_level_edge t A.sets p.level) (state_at A p.state).edges));

@@ -8,14 +8,13 @@ ghost use Rattle.ltl_spec.specs.Tools.Limits.{stated_limits};
 ghost use Rattle.ltl_automaton.specs.SharedView.{automaton_of};
 ghost use Rattle.ltl_models.specs.GbaView as gba;
 ghost use Rattle.ltl_models.specs.BaView.{IsBa};
-ghost use Rattle.ltl_automaton.specs.Net.{move_of};
 ghost use Rattle.ltl_automaton.specs.CodedEdges.{coded_edge_of, tables_of};
-ghost use Rattle.ltl_passes.specs.Degeneralize.{coded_level_edge, coded_level_net, coded_successor, level_edge_of};
+ghost use Rattle.ltl_passes.specs.Degeneralize.{coded_level_edge, coded_level_net, level_edge_of, level_move};
 ghost use Rattle.ltl_automaton.specs.Labels.{AreCoded, AreTables, labelled};
 
 use ltl_automaton::{
-    AutomatonFault, CodedEdge, CodedStates, Key, Labels, Limits, ListOrder, SharedStates,
-    Successor, Successors, explore_from, next_level, sort_dedup,
+    AutomatonFault, CodedEdge, CodedStates, Key, Labels, Limits, ListOrder, SharedStates, Step,
+    Successors, explore_from, next_level, sort_dedup,
 };
 use ltl_models::{Ba, BaFault, Gba, MOST_EDGES, MOST_STATES};
 use std::alloc::{AllocError, Allocator};
@@ -142,73 +141,63 @@ fn level_edge(labels: &Labels<'_>, sets: usize, edge: &CodedEdge, level: usize) 
     }
 }
 
-/// The edges of a copy, sorted and without duplicates.
-fn level_edges<'a, A: Allocator>(
-    alloc: &'a A,
+/// Replaces what `copied` has by the edges of a copy, sorted and without duplicates.
+fn level_edges<A: Allocator>(
+    copied: &mut Vec<LevelEdge, &A>,
     labels: &Labels<'_>,
     sets: usize,
     edges: &[CodedEdge],
     level: usize,
-) -> Result<Vec<LevelEdge, &'a A>, AllocError>
-    ensures set { IfOk result (λ es. map level_edge_of es.items
+) -> Result<(), AllocError>
+    ensures set { OnOk result (map level_edge_of copied.new.items
         ≡ set_of levels_of.level_edge_cmp (map (coded_level_edge (tables_of labels.now) sets level) (map coded_edge_of edges.now))) }
 {
-    let mut copied = Vec::with_capacity(alloc, edges.len())?;
+    copied.clear();
+    copied.reserve(edges.len())?;
     for edge in edges {
         copied.push(level_edge(labels, sets, edge, level))?;
     }
-    sort_dedup(&mut copied);
-    Ok(copied)
+    sort_dedup(copied);
+    Ok(())
 }
 
-/// The edges as successors without marks.
-fn successors_of<'c, B: Allocator>(
-    alloc: &'c B,
-    edges: &[LevelEdge],
-) -> Result<Vec<Successor<LevelState, CodedEdge>, &'c B>, AllocError>
-    ensures { IfOk result (λ v. map (move_of coded_edge_of) v.items ≡ map coded_successor (map level_edge_of edges.now)) }
-{
-    let mut successors = Vec::with_capacity(alloc, edges.len())?;
-    for edge in edges {
-        let unmarked = CodedEdge {
-            cube: edge.cube,
-            marks: 0,
-            target: 0,
-        };
-        successors.push(Successor {
-            edge: unmarked,
-            key: edge.copy,
-        })?;
+impl Step<LevelState, CodedEdge> for LevelEdge {
+    ghost use Rattle.ltl_passes.specs.Degeneralize.{level_move};
+
+    ghost move_of = { level_move };
+
+    #[inline(always)]
+    fn key(&self) -> LevelState {
+        self.copy
     }
-    Ok(successors)
-}
 
-/// The successors of a copy without marks, sorted and without duplicates.
-fn level_successors<'c, B: Allocator>(
-    alloc: &'c B,
-    labels: &Labels<'_>,
-    sets: usize,
-    edges: &[CodedEdge],
-    level: usize,
-) -> Result<Vec<Successor<LevelState, CodedEdge>, &'c B>, AllocError>
-    ensures { IfOk result (λ v. map (move_of coded_edge_of) v.items
-        ≡ map coded_successor (set_of levels_of.level_edge_cmp (map (coded_level_edge (tables_of labels.now) sets level) (map coded_edge_of edges.now)))) }
-{
-    let copied = level_edges(alloc, labels, sets, edges, level)?;
-    successors_of(alloc, copied.as_slice())
+    /// The edge has no marks, which have number 0.
+    #[inline(always)]
+    fn edge_to(&self, target: usize) -> CodedEdge {
+        CodedEdge {
+            cube: self.cube,
+            marks: 0,
+            target,
+        }
+    }
 }
 
 /// The implicit graph of the copies of an automaton's states.
 #[derive(Drop)]
-struct LevelStates<'l, 'b, 'g, A: Allocator> {
+struct LevelStates<'a, 'l, 'b, 'g, A: Allocator> {
     labels: Labels<'l>,
     states: &'b SharedStates<'g, CodedEdge, A>,
+    /// The edges of the copy that was prepared last.
+    edges: Vec<LevelEdge, &'a A>,
 }
 
-impl<'l, 'b, 'g, A: Allocator> Successors<LevelState, CodedEdge> for LevelStates<'l, 'b, 'g, A> {
+impl<'a, 'l, 'b, 'g, A: Allocator> Successors<LevelState, CodedEdge, LevelEdge>
+    for LevelStates<'a, 'l, 'b, 'g, A> {
     ghost net = { λ n. coded_level_net (tables_of n.labels) (automaton_of n.states.now) };
 
     ghost ready = { λ _. ⊤ };
+
+    ghost lent = { λ n. map level_move n.edges.items };
 
     fn accepting(&self, key: &LevelState) -> bool {
         key.level == self.states.sets()
@@ -222,20 +211,25 @@ impl<'l, 'b, 'g, A: Allocator> Successors<LevelState, CodedEdge> for LevelStates
         Ok(0)
     }
 
-    #[tactic(auto, using(crate::proofs::LevelStateLaws::no_successors_past, crate::proofs::LevelStateLaws::made_successors))]
-    fn successors<'c, B: Allocator>(
-        &mut self,
-        alloc: &'c B,
-        key: &LevelState,
-        _most: usize,
-    ) -> Result<Vec<Successor<LevelState, CodedEdge>, &'c B>, AutomatonFault> {
+    #[tactic(auto, using(crate::proofs::LevelStateLaws::no_successors_past))]
+    fn prepare(&mut self, key: &LevelState, _most: usize) -> Result<(), AutomatonFault> {
         let states = self.states;
         if key.state < states.len() {
-            let edges = states.edges(key.state);
-            Ok(level_successors(alloc, &self.labels, states.sets(), edges, key.level)?)
+            level_edges(
+                &mut self.edges,
+                &self.labels,
+                states.sets(),
+                states.edges(key.state),
+                key.level,
+            )?;
         } else {
-            Ok(Vec::new(alloc))
+            self.edges.clear();
         }
+        Ok(())
+    }
+
+    fn steps(&self) -> &[LevelEdge] {
+        self.edges.as_slice()
     }
 }
 
@@ -268,9 +262,10 @@ pub(crate) fn level_states<'a, A: Allocator>(
     let mut copies = LevelStates {
         labels: *labels,
         states,
+        edges: Vec::new(alloc),
     };
     let empty = SharedStates::new(alloc, 0);
-    let made = explore_from(alloc, start, empty, &mut copies, true, limits)?;
+    let made = explore_from(alloc, start, empty, &mut copies, limits)?;
     Ok(made)
 }
 

@@ -4,15 +4,12 @@ ghost use Rattle.std.specs.Prelude.{◌≡◌, ⊤, map, All, IfOk, IsErrOf};
 ghost use Rattle.ltl_spec.specs.Collections.Sets.{IsRising};
 ghost use Rattle.ltl_spec.specs.Automata.Automaton.{edge_cmp};
 ghost use Rattle.ltl_spec.specs.Construction.Renumbered.{renumbered_automaton};
-ghost use Rattle.ltl_automaton.specs.Net.{move_of};
-ghost use Rattle.ltl_automaton.specs.CodedEdges.{coded_edge_of};
 ghost use Rattle.ltl_automaton.specs.SharedView.{automaton_of};
 ghost use Rattle.ltl_models.specs.BaView.{IsBa};
-ghost use Rattle.ltl_passes.specs.Numbered.{IsNumberable, successor_of, net_of};
+ghost use Rattle.ltl_passes.specs.Numbered.{IsNumberable, net_of, number_move};
 
 use ltl_automaton::{
-    AutomatonFault, CodedEdge, CodedStates, Limits, SharedStates, Successor, Successors,
-    explore_from,
+    AutomatonFault, CodedEdge, CodedStates, Limits, SharedStates, Successors, explore_from,
 };
 use ltl_models::{Ba, BaFault, MOST_EDGES, MOST_STATES};
 use std::alloc::{AllocError, Allocator};
@@ -21,29 +18,16 @@ use std::alloc::{AllocError, Allocator};
 #[derive(Drop)]
 struct Numbers<'b, 's, A: Allocator> {
     states: &'b SharedStates<'s, CodedEdge, A>,
+    /// The edges of the state that was prepared last.
+    edges: &'b [CodedEdge],
 }
 
-/// The edges as successors, with their targets' numbers as keys.
-fn successors_of<'c, B: Allocator>(
-    alloc: &'c B,
-    edges: &[CodedEdge],
-) -> Result<Vec<Successor<usize, CodedEdge>, &'c B>, AllocError>
-    ensures { IfOk result (λ v. map (move_of coded_edge_of) v.items ≡ map successor_of (map coded_edge_of edges.now)) }
-{
-    let mut successors = Vec::with_capacity(alloc, edges.len())?;
-    for edge in edges {
-        successors.push(Successor {
-            edge: *edge,
-            key: edge.target,
-        })?;
-    }
-    Ok(successors)
-}
-
-impl<'b, 's, A: Allocator> Successors<usize, CodedEdge> for Numbers<'b, 's, A> {
+impl<'b, 's, A: Allocator> Successors<usize, CodedEdge, CodedEdge> for Numbers<'b, 's, A> {
     ghost net = { λ n. net_of (automaton_of n.states.now) };
 
     ghost ready = { λ _. ⊤ };
+
+    ghost lent = { λ n. map number_move n.edges.now };
 
     #[tactic(auto, using(crate::proofs::RenumberLaws::accepts_past))]
     fn accepting(&self, key: &usize) -> bool {
@@ -63,17 +47,18 @@ impl<'b, 's, A: Allocator> Successors<usize, CodedEdge> for Numbers<'b, 's, A> {
     }
 
     #[tactic(auto, using(crate::proofs::RenumberLaws::no_successors_past))]
-    fn successors<'c, B: Allocator>(
-        &mut self,
-        alloc: &'c B,
-        key: &usize,
-        _most: usize,
-    ) -> Result<Vec<Successor<usize, CodedEdge>, &'c B>, AutomatonFault> {
-        if *key < self.states.len() {
-            Ok(successors_of(alloc, self.states.edges(*key))?)
+    fn prepare(&mut self, key: &usize, _most: usize) -> Result<(), AutomatonFault> {
+        let states = self.states;
+        if *key < states.len() {
+            self.edges = states.edges(*key);
         } else {
-            Ok(Vec::new(alloc))
+            self.edges = &[];
         }
+        Ok(())
+    }
+
+    fn steps(&self) -> &[CodedEdge] {
+        self.edges
     }
 }
 
@@ -87,13 +72,13 @@ pub(crate) fn renumbered<'a, A: Allocator>(
     ensures renumbered { IfOk result (λ s. automaton_of s ≡ renumbered_automaton (automaton_of states.now)) }
     ensures fits { ¬ IsErrOf result BaFault.TooLarge }
 {
-    let mut numbers = Numbers { states };
+    let mut numbers = Numbers { states, edges: &[] };
     let limits = Limits {
         states: MOST_STATES,
         edges: MOST_EDGES,
     };
     let made = SharedStates::new(alloc, states.sets());
-    explore_from(alloc, 0, made, &mut numbers, true, limits)
+    explore_from(alloc, 0, made, &mut numbers, limits)
 }
 
 /// The same Büchi automaton with its states numbered breadth first. The only fault is `OutOfMemory`.

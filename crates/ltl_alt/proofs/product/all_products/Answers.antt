@@ -1,7 +1,6 @@
-use Rattle.std.proofs.Common.{◌≡◌, ℕ, ◌+◌, ◌-◌, ◌<◌, ◌∙◌, arith, drop, length, map, slice_index_or, subst, sym}
+use Rattle.std.proofs.Common.{◌≡◌, ℕ, ◌+◌, ◌-◌, ◌<◌, ◌∙◌, arith, drop, length, map, subst, sym}
 use Rattle.std.specs.List.Sorted.{IsPermutation}
 use Rattle.std.proofs.lemmas.List.Sorted.{IsPermutation-trans}
-use Rattle.ltl_spec.proofs.Collections.ListLaws.{Has-at}
 use Rattle.ltl_spec.proofs.Collections.MemberLaws.{map_length}
 use Rattle.ltl_spec.proofs.Transitions.FactorLaws.{all_products}
 use Rattle.ltl_alt.specs.FinalView.{made_of}
@@ -11,13 +10,6 @@ use Rattle.ltl_alt.proofs.product.all_products.Goals as goal
 
 pub marked-requires : goal.marked-requires
 marked-requires g c = c.requires.basis.tests
-
-pub transitions-list-requires : goal.transitions-list-requires
-transitions-list-requires g c =
-    let within = c.factors.invariant.within in
-    let some = c.factors-test.true in
-    let inside : c.factors.left - 1 < length c.args.factors.now = omega arith in
-    c.requires.within (slice_index_or c.args.factors.now (c.factors.left - 1) 0) (Has-at c.args.factors.now (c.factors.left - 1) 0 inside)
 
 pub factors-preserved : goal.factors-preserved
 factors-preserved g c =

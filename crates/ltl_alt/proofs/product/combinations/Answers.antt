@@ -1,17 +1,9 @@
-use Rattle.std.proofs.Common.{◌≡◌, ◌+◌, ◌-◌, ◌<◌, ◌≤◌, ◌∙◌, ap, arith, drop, length, map, slice_index_or, subst, sym}
-use Rattle.ltl_spec.proofs.Collections.ListLaws.{Has-at}
+use Rattle.std.proofs.Common.{◌≡◌, ◌+◌, ◌-◌, ◌<◌, ◌≤◌, ◌∙◌, ap, arith, drop, length, map, subst, sym}
 use Rattle.ltl_spec.proofs.Collections.MemberLaws.{map_length}
 use Rattle.ltl_spec.proofs.Transitions.FactorLaws.{product_size}
 use Rattle.ltl_alt.specs.FinalView.{made_of}
 use Rattle.ltl_alt.proofs.ProductLaws.{mapped_at, size_at_least}
 use Rattle.ltl_alt.proofs.product.combinations.Goals as goal
-
-pub transitions-size-requires : goal.transitions-size-requires
-transitions-size-requires g c =
-    let within = c.factors.invariant.within in
-    let some = c.factors-test.true in
-    let inside : c.factors.left - 1 < length c.args.factors.now = omega (arith, within, some) in
-    c.requires.within (slice_index_or c.args.factors.now (c.factors.left - 1) 0) (Has-at c.args.factors.now (c.factors.left - 1) 0 inside)
 
 pub factors-preserved : goal.factors-preserved
 factors-preserved g c =

@@ -7,7 +7,7 @@ use Rattle.ltl_alt.proofs.prune.smaller.Goals as goal
 use Rattle.ltl_alt.proofs.prune.smaller.Goals.{then-size-most+in_ok-push, else-size-most}
 
 pub pairs-init : goal.pairs-init
-pairs-init g c = λ p h. absurd (subst (λ xs. Has xs p) c.new-smaller.ensures.items h)
+pairs-init g c = λ p h. absurd (subst (λ xs. Has xs p) c.in_ok-smaller.ensures.items h)
 
 pub pairs-preserved : goal.pairs-preserved
 pairs-preserved g c =

@@ -34,7 +34,7 @@ things-init g c =
     let some = c.requires.some in
     let one = ap (λ (l : WorklistView g.row.K.Denot). length l.keys) is in
     record {
-      way = begins same decides c.args.sorted N c.args.start sets c.number.new.self (g.M.Builder.built c.args.made.now) is (ap (λ ss. let X : Automaton = record { sets = sets; states = ss } in X) c.requires.begun.1);
+      way = begins same decides g.M.Builder.sorts N c.args.start sets c.number.new.self (g.M.Builder.built c.args.made.now) is (ap (λ ss. let X : Automaton = record { sets = sets; states = ss } in X) c.requires.begun.1);
       lengths = c.requires.begun.2 ∙ ap (lengths_of N) (sym is);
       net = refl;
       ready = c.requires.ready.0;
@@ -49,7 +49,7 @@ returns-in_err-key-clause-large g c = λ e.
     let N = g.S.Successors.net c.args.net.now in
     let decides = decides_from same g.met.K.Eq.laws g.met.K.Key.exact in
     let large = c.in_err-key.ensures.large (ap (λ (f : AutomatonFault). Err f) (sym (passed_on _ _ c.from_residual-in_err-key.ensures.1 e))) in
-    too_many_ahead same decides c.args.sorted N c.args.start (g.M.Builder.built c.args.made.now).sets c.things.listing c.things.count (g.M.Builder.built c.things.made) c.things.invariant.way c.args.limits.states c.args.limits.edges
+    too_many_ahead same decides g.M.Builder.sorts N c.args.start (g.M.Builder.built c.args.made.now).sets c.things.listing c.things.count (g.M.Builder.built c.things.made) c.things.invariant.way c.args.limits.states c.args.limits.edges
     (subst (λ (n : Net g.row.K.Denot). c.args.limits.edges < c.things.count + edges_behind n c.things.listing.keys c.things.listing.explored) c.things.invariant.net large)
 
 pub returns-in_err-count-clause-large : goal.returns-in_err-count-clause-large
@@ -65,11 +65,11 @@ returns-in_err-count-clause-large g c = λ e.
     let net = c.in_ok-key.ensures.net.0 ∙ c.things.invariant.net in
     let place = c.in-Some-2.place in
     let known = known_there _ _ place c.in_ok-place.ensures.place c.in-Some-2.is in
-    let before : place < c.things.listing.explored = subst (λ n. place < n) (c.len.ensures ∙ states_count same decides c.args.sorted N c.args.start sets c.things.listing c.things.count A way) known.0 in
+    let before : place < c.things.listing.explored = subst (λ n. place < n) (c.len.ensures ∙ states_count same decides g.M.Builder.sorts N c.args.start sets c.things.listing c.things.count A way) known.0 in
     let same_successors_as : HasSuccessorsOf N c.things.listing.keys place key = same_successors_here _ N c.take_next.new.listing.keys c.things.listing.keys place key net c.in_ok-key.ensures.keys known.1 in
-    let more = length_at same decides c.args.sorted N c.args.start sets c.things.listing c.things.count A way key found place before same_successors_as c.things.lengths.items 0 c.things.invariant.lengths in
+    let more = length_at same decides g.M.Builder.sorts N c.args.start sets c.things.listing c.things.count A way key found place before same_successors_as c.things.lengths.items 0 c.things.invariant.lengths in
     let large = c.in_err-count.ensures.large (ap (λ (f : AutomatonFault). Err f) (sym (passed_on _ _ c.from_residual-in_err-count.ensures.1 e))) in
-    too_many_edges same decides c.args.sorted N c.args.start sets c.things.listing c.things.count A way key found c.args.limits.states c.args.limits.edges (subst (λ n. c.args.limits.edges < c.things.count + n) more large)
+    too_many_edges same decides g.M.Builder.sorts N c.args.start sets c.things.listing c.things.count A way key found c.args.limits.states c.args.limits.edges (subst (λ n. c.args.limits.edges < c.things.count + n) more large)
 
 pub things-smaller-in-Some-2 : goal.things-smaller-in-Some-2
 things-smaller-in-Some-2 g c =
@@ -92,17 +92,17 @@ things-preserved-in-Some-2 g c =
     let net = c.in_ok-key.ensures.net.0 ∙ c.things.invariant.net in
     let place = c.in-Some-2.place in
     let known = known_there _ _ place c.in_ok-place.ensures.place c.in-Some-2.is in
-    let before : place < c.things.listing.explored = subst (λ n. place < n) (c.len.ensures ∙ states_count same decides c.args.sorted N c.args.start sets c.things.listing c.things.count A way) known.0 in
+    let before : place < c.things.listing.explored = subst (λ n. place < n) (c.len.ensures ∙ states_count same decides g.M.Builder.sorts N c.args.start sets c.things.listing c.things.count A way) known.0 in
     let same_successors_as : HasSuccessorsOf N c.things.listing.keys place key = same_successors_here _ N c.take_next.new.listing.keys c.things.listing.keys place key net c.in_ok-key.ensures.keys known.1 in
-    let more = length_at same decides c.args.sorted N c.args.start sets c.things.listing c.things.count A way key found place before same_successors_as c.things.lengths.items 0 c.things.invariant.lengths in
+    let more = length_at same decides g.M.Builder.sorts N c.args.start sets c.things.listing c.things.count A way key found place before same_successors_as c.things.lengths.items 0 c.things.invariant.lengths in
     let explored : c.take_next.new.listing.explored ≡ c.things.listing.explored + 1 = c.in_ok-key.ensures.explored ∙ ap (λ o. if is_some o then c.things.listing.explored + 1 else c.things.listing.explored) c.in-Some.is in
-    let stay = c.in_ok-key.ensures.keys ∙ sym (keys_stay same decides c.args.sorted N c.args.start sets c.things.listing c.things.count A way key found place before same_successors_as) in
+    let stay = c.in_ok-key.ensures.keys ∙ sym (keys_stay same decides g.M.Builder.sorts N c.args.start sets c.things.listing c.things.count A way key found place before same_successors_as) in
     let accepts = c.accepting.ensures ∙ ap (λ (n : Net g.row.K.Denot). n.accepts key) (c.in_ok-place.ensures.same ∙ net) in
     let made : g.M.Builder.built c.put_like.new.made ≡ with_state A (N.accepts key) (state_at A place).edges = c.in_ok-count.ensures.made ∙ ap (λ b. with_state A b (state_at A place).edges) accepts in
     record {
-      way = goes_on_like same decides c.args.sorted N c.args.start sets c.things.listing c.things.count A way key found place c.take_next.new.listing c.in_ok-count.count (g.M.Builder.built c.put_like.new.made) before same_successors_as
+      way = goes_on_like same decides g.M.Builder.sorts N c.args.start sets c.things.listing c.things.count A way key found place c.take_next.new.listing c.in_ok-count.count (g.M.Builder.built c.put_like.new.made) before same_successors_as
           c.in_ok-key.ensures.keys explored (c.in_ok-count.ensures.sum ∙ ap (λ n. c.things.count + n) more) made;
-      lengths = lengths_next same decides c.args.sorted N c.args.start sets c.things.listing c.things.count A way key found c.take_next.new.listing (slice_index_or c.things.lengths.items place 0) c.things.lengths.items c.put_like.new.lengths.items
+      lengths = lengths_next same decides g.M.Builder.sorts N c.args.start sets c.things.listing c.things.count A way key found c.take_next.new.listing (slice_index_or c.things.lengths.items place 0) c.things.lengths.items c.put_like.new.lengths.items
           stay explored c.things.invariant.lengths more c.in_ok-count.ensures.lengths;
       net = c.in_ok-place.ensures.same ∙ net;
       ready = c.in_ok-place.ensures.ready;
@@ -126,9 +126,9 @@ returns-in_err-count-2-clause-large g c = λ e.
     λ i. fold (with_new same) (c.in_ok-key.ensures.keys i) (targets_of (net i) key) in
     let large = c.in_err-count-2.ensures.large (ap (λ (f : AutomatonFault). Err f) (sym (passed_on _ _ c.from_residual-in_err-count-2.ensures.1 e))) in
     elim large [
-      | inl l ↦ too_many_edges same decides c.args.sorted N c.args.start sets c.things.listing c.things.count A way key found c.args.limits.states c.args.limits.edges
+      | inl l ↦ too_many_edges same decides g.M.Builder.sorts N c.args.start sets c.things.listing c.things.count A way key found c.args.limits.states c.args.limits.edges
           (subst (λ (n : Net g.row.K.Denot). c.args.limits.edges < c.things.count + length (n.successors key)) net l)
-      | inr l ↦ too_many_states same decides c.args.sorted N c.args.start sets c.things.listing c.things.count A way key found c.args.limits.states c.args.limits.edges _ grown l
+      | inr l ↦ too_many_states same decides g.M.Builder.sorts N c.args.start sets c.things.listing c.things.count A way key found c.args.limits.states c.args.limits.edges _ grown l
     ]
 
 pub things-smaller : goal.things-smaller
@@ -157,12 +157,12 @@ things-preserved g c =
     let explored : c.put_new.new.listing.explored ≡ c.things.listing.explored + 1 =
     c.in_ok-count-2.ensures.listed.0.1 ∙ c.in_ok-key.ensures.explored ∙ ap (λ o. if is_some o then c.things.listing.explored + 1 else c.things.listing.explored) c.in-Some.is in
     let sum : c.in_ok-count-2.count ≡ c.things.count + length (N.successors key) = c.in_ok-count-2.ensures.sum.0 ∙ ap (λ (n : Net g.row.K.Denot). c.things.count + length (n.successors key)) net in
-    let made : g.M.Builder.built c.put_new.new.made ≡ with_made same c.args.sorted N key keys A = c.in_ok-count-2.ensures.made.0 ∙ ap (λ (n : Net g.row.K.Denot). with_made same c.args.sorted n key keys A) net in
+    let made : g.M.Builder.built c.put_new.new.made ≡ with_made same g.M.Builder.sorts N key keys A = c.in_ok-count-2.ensures.made.0 ∙ ap (λ (n : Net g.row.K.Denot). with_made same g.M.Builder.sorts n key keys A) net in
     let long : c.put_new.new.lengths.items ≡ c.things.lengths.items ++ length (N.successors key) ∷ [] = c.in_ok-count-2.ensures.lengths ∙ ap (λ (n : Net g.row.K.Denot). c.things.lengths.items ++ length (n.successors key) ∷ []) net in
     record {
-      way = goes_on same decides c.args.sorted N c.args.start sets c.things.listing c.things.count A way key found c.put_new.new.listing c.in_ok-count-2.count (edges_in same c.args.sorted keys (N.successors key))
+      way = goes_on same decides g.M.Builder.sorts N c.args.start sets c.things.listing c.things.count A way key found c.put_new.new.listing c.in_ok-count-2.count (edges_in same g.M.Builder.sorts keys (N.successors key))
           (g.M.Builder.built c.put_new.new.made) grown explored sum refl made;
-      lengths = lengths_next same decides c.args.sorted N c.args.start sets c.things.listing c.things.count A way key found c.put_new.new.listing (length (N.successors key)) c.things.lengths.items
+      lengths = lengths_next same decides g.M.Builder.sorts N c.args.start sets c.things.listing c.things.count A way key found c.put_new.new.listing (length (N.successors key)) c.things.lengths.items
           c.put_new.new.lengths.items grown explored c.things.invariant.lengths refl long;
       net = c.in_ok-count-2.ensures.net.0 ∙ net;
       ready = c.in_ok-count-2.ensures.net.1;
@@ -177,7 +177,7 @@ returns-clause-reachable g c =
     let N = g.S.Successors.net c.args.net.now in
     let decides = decides_from same g.met.K.Eq.laws g.met.K.Key.exact in
     let none : slice_get c.things.listing.keys c.things.listing.explored ≡ None = sym c.in_ok-key.ensures.next ∙ c.in_default.is in
-    arrives same decides c.args.sorted N c.args.start (g.M.Builder.built c.args.made.now).sets c.things.listing c.things.count (g.M.Builder.built c.things.made) c.things.invariant.way none
+    arrives same decides g.M.Builder.sorts N c.args.start (g.M.Builder.built c.args.made.now).sets c.things.listing c.things.count (g.M.Builder.built c.things.made) c.things.invariant.way none
 
 pub returns-clause-bounded : goal.returns-clause-bounded
 returns-clause-bounded g c =
@@ -186,9 +186,9 @@ returns-clause-bounded g c =
     let decides = decides_from same g.met.K.Eq.laws g.met.K.Key.exact in
     let sets = (g.M.Builder.built c.args.made.now).sets in
     let none : slice_get c.things.listing.keys c.things.listing.explored ≡ None = sym c.in_ok-key.ensures.next ∙ c.in_default.is in
-    bounded same decides c.args.sorted N c.args.start sets c.args.limits.states c.args.limits.edges (g.M.Builder.built c.things.made)
-    (arrives same decides c.args.sorted N c.args.start sets c.things.listing c.things.count (g.M.Builder.built c.things.made) c.things.invariant.way none)
-    (fits_within same decides c.args.sorted N c.args.start sets c.things.listing c.things.count (g.M.Builder.built c.things.made) c.things.invariant.way none c.args.limits.states c.args.limits.edges c.things.invariant.few_states c.things.invariant.few_edges)
+    bounded same decides g.M.Builder.sorts N c.args.start sets c.args.limits.states c.args.limits.edges (g.M.Builder.built c.things.made)
+    (arrives same decides g.M.Builder.sorts N c.args.start sets c.things.listing c.things.count (g.M.Builder.built c.things.made) c.things.invariant.way none)
+    (fits_within same decides g.M.Builder.sorts N c.args.start sets c.things.listing c.things.count (g.M.Builder.built c.things.made) c.things.invariant.way none c.args.limits.states c.args.limits.edges c.things.invariant.few_states c.things.invariant.few_edges)
 
 pub returns-clause-fits : goal.returns-clause-fits
 returns-clause-fits g c =
@@ -196,4 +196,4 @@ returns-clause-fits g c =
     let N = g.S.Successors.net c.args.net.now in
     let decides = decides_from same g.met.K.Eq.laws g.met.K.Key.exact in
     let none : slice_get c.things.listing.keys c.things.listing.explored ≡ None = sym c.in_ok-key.ensures.next ∙ c.in_default.is in
-    fits_within same decides c.args.sorted N c.args.start (g.M.Builder.built c.args.made.now).sets c.things.listing c.things.count (g.M.Builder.built c.things.made) c.things.invariant.way none c.args.limits.states c.args.limits.edges c.things.invariant.few_states c.things.invariant.few_edges
+    fits_within same decides g.M.Builder.sorts N c.args.start (g.M.Builder.built c.args.made.now).sets c.things.listing c.things.count (g.M.Builder.built c.things.made) c.things.invariant.way none c.args.limits.states c.args.limits.edges c.things.invariant.few_states c.things.invariant.few_edges

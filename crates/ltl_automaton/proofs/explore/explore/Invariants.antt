@@ -4,7 +4,7 @@ use Rattle.ltl_automaton.proofs.explore.explore.Given as goal
 
 abbrev pub invariant-things : goal.invariant-things
 invariant-things g l = record {
-  way : IsUnderWay g.K.PartialEq.eq l.sorted (g.S.Successors.net l.fn.net) l.fn.start (g.M.Builder.built l.fn.made).sets l.listing l.count (g.M.Builder.built l.made);
+  way : IsUnderWay g.K.PartialEq.eq g.M.Builder.sorts (g.S.Successors.net l.fn.net) l.fn.start (g.M.Builder.built l.fn.made).sets l.listing l.count (g.M.Builder.built l.made);
   lengths : l.lengths.items ≡ lengths_of (g.S.Successors.net l.fn.net) l.listing;
   net : g.S.Successors.net l.net ≡ g.S.Successors.net l.fn.net;
   ready : g.S.Successors.ready l.net;

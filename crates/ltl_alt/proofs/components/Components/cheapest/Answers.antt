@@ -3,8 +3,8 @@ use Rattle.ltl_alt.proofs.JoinOrderLaws.{taken_there}
 use Rattle.ltl_alt.proofs.TransitionLaws.{index_same}
 use Rattle.ltl_alt.proofs.components.Components.cheapest.Goals as goal
 
-pub cost-cost-requires : goal.cost-cost-requires
-cost-cost-requires g c =
+pub ways-requires : goal.ways-requires
+ways-requires g c =
     let lists = c.args.lists.now in
     let outer = c.second-test.true in
     let inner = c.first-test.true in

@@ -17,8 +17,8 @@ components-init g c =
     record {
       finals = c.requires.finals;
       factors = (
-        λ f h. absurd (subst (λ xs. Has xs f) c.new-factors.ensures.items h),
-        subst (λ xs. AreLists (table_at b.table.now) b.keep_implied b.conjuncts.lists.items c.args.all.now (map (made_of c.args.self.now.lists.keys) xs) c.args.all.now) (sym c.new-factors.ensures.items)
+        λ f h. absurd (subst (λ xs. Has xs f) c.in_ok-factors.ensures.items h),
+        subst (λ xs. AreLists (table_at b.table.now) b.keep_implied b.conjuncts.lists.items c.args.all.now (map (made_of c.args.self.now.lists.keys) xs) c.args.all.now) (sym c.in_ok-factors.ensures.items)
             (lists_none (table_at b.table.now) b.keep_implied b.conjuncts.lists.items c.args.all.now),
       );
       longer = longer_same c.args.self.now.lists.keys;

@@ -1,10 +1,11 @@
 use Rattle.std.proofs.Common.{◌≤◌, ◌∙◌, arith, drop, map, sym, subst}
 use Rattle.std.specs.List.Sorted.{IsPermutation}
 use Rattle.ltl_spec.proofs.Transitions.FactorLaws.{all_products, product_size}
-use Rattle.ltl_alt.specs.FinalView.{AreWithin, made_of}
+use Rattle.ltl_alt.specs.FinalView.{made_of}
 use Rattle.ltl_alt.specs.ProductView.{AreConsistent}
 use Rattle.ltl_alt.specs.TransitionView.{table_at}
-use Rattle.ltl_alt.proofs.ProductLaws.{no_transitions, numbers_inside, set_consistent, set_count, set_sorted}
+use Rattle.ltl_alt.proofs.ProductLaws.{no_transitions, numbers_inside, set_consistent, set_count, set_of_one, set_sorted}
+use Rattle.ltl_alt.proofs.FinalLaws.{one_factor}
 use Rattle.ltl_alt.proofs.finals.Finals.set_transitions.Goals as goal
 
 pub returns-in_default-clause-transitions : goal.returns-in_default-clause-transitions
@@ -17,9 +18,6 @@ factors-requires-clause-inside g c =
     let b = c.args.basis.now in
     numbers_inside b.conjuncts.owners.items b.conjuncts.lists.items c.args.state.now c.in-Some.all c.requires.basis.conjuncts.rows.owner_count c.in-Some.ensures.0
 
-pub combinations-requires : goal.combinations-requires
-combinations-requires g c = record { within = subst (AreWithin c.factors.new.self.lists.keys) (sym c.as_slice.ensures.value) c.in_ok-factors.ensures.factors.0 }
-
 pub returns-then-combinations-most-clause-large : goal.returns-then-combinations-most-clause-large
 returns-then-combinations-most-clause-large g c = λ _.
     let b = c.args.basis.now in
@@ -28,9 +26,6 @@ returns-then-combinations-most-clause-large g c = λ _.
     c.invariant.ensures.rising c.in-Some.ensures.1 c.in-Some.ensures.0 (map (made_of new) c.in_ok-factors.factors.items) c.in_ok-factors.ensures.factors.1 in
     let least = subst (λ fs. c.combinations.result ≤ product_size (map (made_of new) fs)) c.as_slice.ensures.value c.combinations.ensures in
     omega (arith, count, least, c.if-combinations-most.true)
-
-pub all_products-requires-clause-within : goal.all_products-requires-clause-within
-all_products-requires-clause-within g c = subst (AreWithin c.factors.new.self.lists.keys) (sym c.as_slice-2.ensures.value) c.in_ok-factors.ensures.factors.0
 
 pub all_products-requires-clause-consistent : goal.all_products-requires-clause-consistent
 all_products-requires-clause-consistent g c = λ k.
@@ -47,3 +42,10 @@ returns-clause-transitions g c =
     set_sorted b.table.now b.keep_implied b.pruning.rule b.pruning.fulfilment.now b.conjuncts.made b.conjuncts.owners.items b.conjuncts.lists.items b.conjuncts.dependencies.items b.conjuncts.links.items c.requires.basis c.args.state.now c.in-Some.all
     c.invariant.ensures.rising c.in-Some.ensures.1 c.in-Some.ensures.0 (map (made_of new) c.in_ok-factors.factors.items) c.in_ok-factors.ensures.factors.1 c.in_ok-products.products.items c.sort.new.transitions.items
     (subst (λ fs. IsPermutation (all_products (table_at b.table.now) (map (made_of new) fs)) c.in_ok-products.products.items) c.as_slice-2.ensures.value c.in_ok-products.ensures) c.in_ok-sort.ensures.permutation c.in_ok-sort.ensures.sorted
+
+pub returns-then-len-eq1-clause-transitions : goal.returns-then-len-eq1-clause-transitions
+returns-then-len-eq1-clause-transitions g c =
+    let b = c.args.basis.now in
+    let new = c.factors.new.self.lists.keys in
+    set_of_one b.table.now b.keep_implied b.pruning.rule b.pruning.fulfilment.now b.conjuncts.made b.conjuncts.owners.items b.conjuncts.lists.items b.conjuncts.dependencies.items b.conjuncts.links.items c.requires.basis c.args.state.now c.in-Some.all
+    c.invariant.ensures.rising c.in-Some.ensures.1 c.in-Some.ensures.0 (map (made_of new) c.in_ok-factors.factors.items) c.in_ok-factors.ensures.factors.1 (made_of new c.index.result.now) (one_factor new c.in_ok-factors.factors.items c.index.result.now _ (omega (arith, c.in_ok-factors.factors.ok.0, c.len.ensures, c.if-len-eq1.true)) c.index.ensures)

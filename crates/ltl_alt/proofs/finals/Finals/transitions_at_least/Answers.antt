@@ -1,6 +1,6 @@
-use Rattle.std.proofs.Common.{◌≤◌, arith, map, sym, subst}
+use Rattle.std.proofs.Common.{◌≤◌, arith, map, subst}
 use Rattle.ltl_spec.proofs.Transitions.FactorLaws.{product_size}
-use Rattle.ltl_alt.specs.FinalView.{AreWithin, made_of}
+use Rattle.ltl_alt.specs.FinalView.{made_of}
 use Rattle.ltl_alt.proofs.ProductLaws.{numbers_inside, set_count}
 use Rattle.ltl_alt.proofs.finals.Finals.transitions_at_least.Goals as goal
 
@@ -8,9 +8,6 @@ pub factors-requires-clause-inside : goal.factors-requires-clause-inside
 factors-requires-clause-inside g c =
     let b = c.args.basis.now in
     numbers_inside b.conjuncts.owners.items b.conjuncts.lists.items c.args.state.now c.in-Some.all c.requires.basis.conjuncts.rows.owner_count c.in-Some.ensures.0
-
-pub combinations-requires : goal.combinations-requires
-combinations-requires g c = record { within = subst (AreWithin c.factors.new.self.lists.keys) (sym c.as_slice.ensures.value) c.in_ok-factors.ensures.factors.0 }
 
 pub returns-clause-least : goal.returns-clause-least
 returns-clause-least g c =
