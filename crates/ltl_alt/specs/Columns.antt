@@ -6,11 +6,11 @@ use Rattle.ltl_spec.specs.NormalForms.Normal.{Bottom}
 use Rattle.ltl_spec.specs.Transitions.Cubes.{is_contradictory}
 use Rattle.ltl_spec.specs.Transitions.Pairs.{Pair}
 use Rattle.ltl_spec.specs.Transitions.RowTransitions.{Table, is_marked}
-use Rattle.ltl_sets.specs.Words.{forbidden_of, letter_of}
 use Rattle.ltl_spec.proofs.Transitions.Fulfilment.{passes}
 use Rattle.ltl_spec.proofs.Transitions.Steps as steps
 use Rattle.ltl_spec.proofs.Transitions.Steps.{step_passes, tests_of}
 use Rattle.least.specs.Columns.{AreColumnsOf, ColumnTable, column_at}
+use Rattle.ltl_alt.specs.Elements.{needs_of}
 use Rattle.ltl_alt.specs.declared.columns.Needing.{Needing}
 use Rattle.ltl_alt.specs.declared.fulfilment.UntilTest.{UntilTest}
 
@@ -21,9 +21,9 @@ IsColumn f ps c = (j : ℕ) (p : Pair) → slice_get ps j ≡ Some p → has nat
 -- the pairs of a block by what they need: the propositions of their positive and of their negative literals, and the places of their targets
 pub record IsNeeding {A : Type 0} (ps : List Pair) (n : Needing A) : Type 0 where
   pub all : IsColumn (λ p. true) ps n.all
-  pub positive : AreColumnsOf (map (λ p. letter_of p.cube) ps) n.positive
-  pub negative : AreColumnsOf (map (λ p. forbidden_of p.cube) ps) n.negative
-  pub targets : AreColumnsOf (map (λ p. p.targets) ps) n.targets
+  pub positive : AreColumnsOf (map (λ p. needs_of p 0) ps) n.positive
+  pub negative : AreColumnsOf (map (λ p. needs_of p 1) ps) n.negative
+  pub targets : AreColumnsOf (map (λ p. needs_of p 2) ps) n.targets
 
 -- whether index j is in each of the sets
 abbrev pub answers_at : ℕ → List (List ℕ) → List Bool

@@ -3,17 +3,19 @@
 ghost use Rattle.std.specs.Prelude.{◌≡◌, ◌≤◌, [], List, true, length, map, slice_index_or, IfOk, OnOk};
 ghost use Rattle.std.specs.Ordering.{nat_cmp};
 ghost use Rattle.ltl_sets.specs.Literals.{literal_of};
-ghost use Rattle.ltl_sets.specs.Words.{forbidden_of, letter_of};
 ghost use Rattle.ltl_spec.specs.Collections.Sets.{has};
 ghost use Rattle.ltl_spec.specs.Transitions.Cubes.{literal_cmp};
 ghost use Rattle.ltl_spec.specs.Transitions.Pairs as spec_pairs;
 ghost use Rattle.least.specs.Columns as by_number;
+ghost use Rattle.least.specs.Columns.{AreColumnsOf};
 ghost use Rattle.ltl_alt.specs.Columns.{AreColumns, IsColumn, IsNeeding, IsStepColumn};
+ghost use Rattle.ltl_alt.specs.Elements.{needs_of};
 ghost use Rattle.ltl_alt.specs.Tests.{step_of, steps_of};
 
 use crate::fulfilment::Fulfilment;
 use crate::pair::Pair;
 use crate::program::Step;
+use crate::support::needs;
 use least::Columns;
 use ltl_sets::{Literal, RowSet};
 use std::alloc::{AllocError, Allocator};
@@ -45,40 +47,32 @@ fn everyone(block: &[Pair]) -> RowSet
     column
 }
 
-/// The propositions of the positive literals of each pair.
-fn letters<'a, A: Allocator>(alloc: &'a A, block: &[Pair]) -> Result<Vec<RowSet, &'a A>, AllocError>
-    ensures { IfOk result (λ v. v.items ≡ map (λ p. letter_of p.cube) block.now) }
-{
-    let mut sets = Vec::with_capacity(alloc, block.len())?;
-    'pairs: for pair in block {
-        sets.push(pair.cube.letter())?;
-    }
-    Ok(sets)
-}
-
-/// The propositions of the negative literals of each pair.
-fn forbidden<'a, A: Allocator>(
+/// The numbers of one kind that each pair needs.
+fn sets_of<'a, A: Allocator>(
     alloc: &'a A,
     block: &[Pair],
+    kind: usize,
 ) -> Result<Vec<RowSet, &'a A>, AllocError>
-    ensures { IfOk result (λ v. v.items ≡ map (λ p. forbidden_of p.cube) block.now) }
+    ensures { IfOk result (λ v. v.items ≡ map (λ p. needs_of p kind) block.now) }
 {
     let mut sets = Vec::with_capacity(alloc, block.len())?;
     'pairs: for pair in block {
-        sets.push(pair.cube.forbidden())?;
+        sets.push(needs(&pair.cube, &pair.targets, kind))?;
     }
     Ok(sets)
 }
 
-/// The places of the targets of each pair.
-fn targets<'a, A: Allocator>(alloc: &'a A, block: &[Pair]) -> Result<Vec<RowSet, &'a A>, AllocError>
-    ensures { IfOk result (λ v. v.items ≡ map (λ p. p.targets) block.now) }
+/// The columns of the numbers of one kind.
+fn columns_of<'a, A: Allocator>(
+    alloc: &'a A,
+    block: &[Pair],
+    kind: usize,
+) -> Result<Columns<'a, A>, AllocError>
+    requires few { length block.now ≤ RowSet.LIMIT }
+    ensures { IfOk result (AreColumnsOf (map (λ p. needs_of p kind) block.now)) }
 {
-    let mut sets = Vec::with_capacity(alloc, block.len())?;
-    'pairs: for pair in block {
-        sets.push(pair.targets)?;
-    }
-    Ok(sets)
+    let sets = sets_of(alloc, block, kind)?;
+    Columns::of(alloc, sets.as_slice())
 }
 
 /// The pairs of a block, and those of them that need a literal or have a row as a target, for each literal and each row.
@@ -96,14 +90,11 @@ impl<'a, A: Allocator> Needing<'a, A> {
         requires few { length block.now ≤ RowSet.LIMIT }
         ensures { IfOk result (IsNeeding block.now) }
     {
-        let positive = letters(alloc, block)?;
-        let negative = forbidden(alloc, block)?;
-        let targets = targets(alloc, block)?;
         Ok(Needing {
             all: everyone(block),
-            positive: Columns::of(alloc, positive.as_slice())?,
-            negative: Columns::of(alloc, negative.as_slice())?,
-            targets: Columns::of(alloc, targets.as_slice())?,
+            positive: columns_of(alloc, block, 0)?,
+            negative: columns_of(alloc, block, 1)?,
+            targets: columns_of(alloc, block, 2)?,
         })
     }
 

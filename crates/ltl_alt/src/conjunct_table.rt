@@ -17,6 +17,7 @@ ghost use Rattle.ltl_alt.specs.Tests.{AreTests};
 ghost use Rattle.ltl_alt.specs.TransitionView.{table_at};
 
 use crate::conjuncts::{Conjunct, conjunct_at, conjuncts};
+use crate::context::Context;
 use crate::fulfilment::Fulfilment;
 use crate::lists::both;
 use crate::pair::Pair;
@@ -24,7 +25,6 @@ use crate::pair_set::PairSet;
 use crate::place::{elementary_places, first, place, put_if};
 use crate::prune::prune;
 use crate::row_lists::RowLists;
-use crate::rule::Pruning;
 use crate::support::Dependencies;
 use ltl_formula::Table;
 use ltl_sets::RowSet;
@@ -116,26 +116,24 @@ impl<'a, A: Allocator> ConjunctTable<'a, A> {
     /// Appends these conjuncts of the row at a place.
     fn push_conjuncts(
         &mut self,
-        alloc: &'a A,
-        table: &Table<'_, A>,
+        context: &Context<'_, '_, '_, 'a, A>,
         rows: &mut RowLists<'a, A>,
-        pruning: &Pruning<'_, 'a, A>,
         place: usize,
         conjuncts: &[Conjunct],
     ) -> Result<(), AllocError>
-        requires lists { AreLists table.now pruning.now.rule rows.old.pairs.items rows.old.sets.items }
-        requires tests { AreTests (table_at table.now) pruning.now.fulfilment.now }
-        requires linked { AreLinked (table_at table.now) self.old.lists.items self.old.dependencies.items self.old.links.items }
-        requires conjuncts { AreFew table.now conjuncts.now (length self.old.lists.items) }
-        ensures lists { OnOk result (AreLists table.now pruning.now.rule rows.new.pairs.items rows.new.sets.items) }
-        ensures linked { OnOk result (AreLinked (table_at table.now) self.new.lists.items self.new.dependencies.items self.new.links.items) }
-        ensures added { OnOk result (AreAdded (table_at table.now) pruning.now.rule place
-            (map (conjunct_pairs table.now) conjuncts.now) self.old.owners.items self.new.owners.items self.old.lists.items self.new.lists.items) }
+        requires lists { AreLists context.now.table.now context.now.pruning.rule rows.old.pairs.items rows.old.sets.items }
+        requires tests { AreTests (table_at context.now.table.now) context.now.pruning.fulfilment.now }
+        requires linked { AreLinked (table_at context.now.table.now) self.old.lists.items self.old.dependencies.items self.old.links.items }
+        requires conjuncts { AreFew context.now.table.now conjuncts.now (length self.old.lists.items) }
+        ensures lists { OnOk result (AreLists context.now.table.now context.now.pruning.rule rows.new.pairs.items rows.new.sets.items) }
+        ensures linked { OnOk result (AreLinked (table_at context.now.table.now) self.new.lists.items self.new.dependencies.items self.new.links.items) }
+        ensures added { OnOk result (AreAdded (table_at context.now.table.now) context.now.pruning.rule place
+            (map (conjunct_pairs context.now.table.now) conjuncts.now) self.old.owners.items self.new.owners.items self.old.lists.items self.new.lists.items) }
         ensures made { OnOk result (self.new.made ≡ self.old.made) }
     {
         'conjuncts: for conjunct in conjuncts {
-            let pairs = conjunct_pairs(alloc, table, rows, pruning, *conjunct)?;
-            self.push(table, pruning.fulfilment, place, pairs)?;
+            let pairs = conjunct_pairs(context, rows, *conjunct)?;
+            self.push(context.table, context.pruning.fulfilment, place, pairs)?;
         }
         Ok(())
     }
@@ -143,25 +141,27 @@ impl<'a, A: Allocator> ConjunctTable<'a, A> {
     /// Splits the row at a place into at most `most` conjuncts, and appends them.
     fn add(
         &mut self,
-        alloc: &'a A,
-        table: &Table<'_, A>,
+        context: &Context<'_, '_, '_, 'a, A>,
         rows: &mut RowLists<'a, A>,
-        pruning: &Pruning<'_, 'a, A>,
         place: usize,
         most: usize,
     ) -> Result<(), AllocError>
-        requires lists { AreLists table.now pruning.now.rule rows.old.pairs.items rows.old.sets.items }
-        requires tests { AreTests (table_at table.now) pruning.now.fulfilment.now }
-        requires conjuncts { HasConjuncts (table_at table.now) pruning.now.rule self.old }
-        requires new { Has self.old.made place → ⊥ }
-        requires room { IsRoom place most self.old.lists.items }
-        ensures lists { OnOk result (AreLists table.now pruning.now.rule rows.new.pairs.items rows.new.sets.items) }
-        ensures conjuncts { OnOk result (HasConjuncts (table_at table.now) pruning.now.rule self.new) }
+        requires lists { AreLists context.now.table.now context.now.pruning.rule rows.old.pairs.items rows.old.sets.items }
+        requires tests { AreTests (table_at context.now.table.now) context.now.pruning.fulfilment.now }
+        requires conjuncts { HasConjuncts (table_at context.now.table.now) context.now.pruning.rule self.old }
+        requires room { (Has self.old.made place → ⊥) × IsRoom place most self.old.lists.items }
+        ensures lists { OnOk result (AreLists context.now.table.now context.now.pruning.rule rows.new.pairs.items rows.new.sets.items) }
+        ensures conjuncts { OnOk result (HasConjuncts (table_at context.now.table.now) context.now.pruning.rule self.new) }
         ensures made { OnOk result (self.new.made ≡ put nat_cmp place self.old.made) }
         ensures few { OnOk result (length self.new.lists.items ≤ length self.old.lists.items + most) }
     {
-        let conjuncts = conjuncts(alloc, table, conjunct_at(table, place), most)?;
-        self.push_conjuncts(alloc, table, rows, pruning, place, conjuncts.as_slice())?;
+        let conjuncts = conjuncts(
+            context.alloc,
+            context.table,
+            conjunct_at(context.table, place),
+            most,
+        )?;
+        self.push_conjuncts(context, rows, place, conjuncts.as_slice())?;
         self.made.insert(place);
         Ok(())
     }
@@ -169,22 +169,20 @@ impl<'a, A: Allocator> ConjunctTable<'a, A> {
     /// Splits all elementary rows of a table into conjuncts. A table has at most `RowSet::LIMIT` conjuncts. Each row gets at least
     /// one. A row takes as many more as it can use, as long as one is left for each later row.
     pub(crate) fn of(
-        alloc: &'a A,
-        table: &Table<'_, A>,
-        pruning: &Pruning<'_, 'a, A>,
+        context: &Context<'_, '_, '_, 'a, A>,
     ) -> Result<ConjunctTable<'a, A>, AllocError>
-        requires tests { AreTests (table_at table.now) pruning.now.fulfilment.now }
-        ensures conjuncts { IfOk result (HasAllParts table.now pruning.now.rule) }
+        requires tests { AreTests (table_at context.now.table.now) context.now.pruning.fulfilment.now }
+        ensures conjuncts { IfOk result (HasAllParts context.now.table.now context.now.pruning.rule) }
     {
-        table.invariant();
-        let mut lists = RowLists::new(alloc, table)?;
-        let mut conjuncts = ConjunctTable::new(alloc);
-        let mut rest = elementary_places(table);
+        context.table.invariant();
+        let mut lists = RowLists::new(context.alloc, context.table)?;
+        let mut conjuncts = ConjunctTable::new(context.alloc);
+        let mut rest = elementary_places(context.table);
         'rows: while let Some(place) = first(&rest) {
             rest.invariant();
             rest = rest.without(&RowSet::single(place));
             let most = RowSet::LIMIT - conjuncts.len() - count(&rest);
-            conjuncts.add(alloc, table, &mut lists, pruning, place, most)?;
+            conjuncts.add(context, &mut lists, place, most)?;
         }
         Ok(conjuncts)
     }
@@ -269,64 +267,60 @@ fn count(rows: &RowSet) -> usize
 
 /// The pruned pairs of a row.
 fn row_pairs<'a, A: Allocator>(
-    alloc: &'a A,
-    table: &Table<'_, A>,
+    context: &Context<'_, '_, '_, 'a, A>,
     rows: &mut RowLists<'a, A>,
-    pruning: &Pruning<'_, 'a, A>,
     row: usize,
 ) -> Result<PairSet<'a, A>, AllocError>
-    requires lists { AreLists table.now pruning.now.rule rows.old.pairs.items rows.old.sets.items }
-    requires tests { AreTests (table_at table.now) pruning.now.fulfilment.now }
-    requires within { row < length table.now.rows }
-    ensures lists { OnOk result (AreLists table.now pruning.now.rule rows.new.pairs.items rows.new.sets.items) }
-    ensures pairs { IfOk result (IsListedRow table.now pruning.now.rule row) }
+    requires lists { AreLists context.now.table.now context.now.pruning.rule rows.old.pairs.items rows.old.sets.items }
+    requires tests { AreTests (table_at context.now.table.now) context.now.pruning.fulfilment.now }
+    requires within { row < length context.now.table.now.rows }
+    ensures lists { OnOk result (AreLists context.now.table.now context.now.pruning.rule rows.new.pairs.items rows.new.sets.items) }
+    ensures pairs { IfOk result (IsListedRow context.now.table.now context.now.pruning.rule row) }
 {
-    rows.prepare(alloc, table, pruning, row)?;
-    let pairs = Vec::from_slice(alloc, rows.pairs(row))?;
+    rows.prepare(context, row)?;
+    let pairs = Vec::from_slice(context.alloc, rows.pairs(row))?;
     Ok(PairSet { pairs })
 }
 
 /// The pruned pairs of the left operand of a release row, and the pair that has the release row as its target and needs nothing else.
 fn released_pairs<'a, A: Allocator>(
-    alloc: &'a A,
-    table: &Table<'_, A>,
+    context: &Context<'_, '_, '_, 'a, A>,
     rows: &mut RowLists<'a, A>,
-    pruning: &Pruning<'_, 'a, A>,
     left: usize,
     row: usize,
 ) -> Result<PairSet<'a, A>, AllocError>
-    requires lists { AreLists table.now pruning.now.rule rows.old.pairs.items rows.old.sets.items }
-    requires tests { AreTests (table_at table.now) pruning.now.fulfilment.now }
-    requires conjunct { IsConjunct table.now (made_conjunct.Released left row) }
-    ensures lists { OnOk result (AreLists table.now pruning.now.rule rows.new.pairs.items rows.new.sets.items) }
-    ensures pairs { IfOk result (IsListed (StandsFor (table_at table.now) pruning.now.rule) (conjunct_pairs table.now (made_conjunct.Released left row))) }
+    requires lists { AreLists context.now.table.now context.now.pruning.rule rows.old.pairs.items rows.old.sets.items }
+    requires tests { AreTests (table_at context.now.table.now) context.now.pruning.fulfilment.now }
+    requires conjunct { IsConjunct context.now.table.now (made_conjunct.Released left row) }
+    ensures lists { OnOk result (AreLists context.now.table.now context.now.pruning.rule rows.new.pairs.items rows.new.sets.items) }
+    ensures pairs { IfOk result (IsListed (StandsFor (table_at context.now.table.now) context.now.pruning.rule)
+        (conjunct_pairs context.now.table.now (made_conjunct.Released left row))) }
 {
-    rows.prepare(alloc, table, pruning, left)?;
-    let later = [Pair::later(RowSet::single(place(table, row)))];
-    let all = both(alloc, rows.pairs(left), &later)?;
-    let pairs = prune(alloc, pruning, all)?;
+    rows.prepare(context, left)?;
+    let later = [Pair::later(RowSet::single(place(context.table, row)))];
+    let all = both(context.alloc, rows.pairs(left), &later)?;
+    let pairs = prune(context.alloc, &context.pruning, all)?;
     Ok(PairSet { pairs })
 }
 
 /// The pruned pairs of a conjunct.
 fn conjunct_pairs<'a, A: Allocator>(
-    alloc: &'a A,
-    table: &Table<'_, A>,
+    context: &Context<'_, '_, '_, 'a, A>,
     rows: &mut RowLists<'a, A>,
-    pruning: &Pruning<'_, 'a, A>,
     conjunct: Conjunct,
 ) -> Result<PairSet<'a, A>, AllocError>
-    requires lists { AreLists table.now pruning.now.rule rows.old.pairs.items rows.old.sets.items }
-    requires tests { AreTests (table_at table.now) pruning.now.fulfilment.now }
-    requires conjunct { IsConjunct table.now conjunct }
-    ensures lists { OnOk result (AreLists table.now pruning.now.rule rows.new.pairs.items rows.new.sets.items) }
-    ensures pairs { IfOk result (IsListed (StandsFor (table_at table.now) pruning.now.rule) (conjunct_pairs table.now conjunct)) }
+    requires lists { AreLists context.now.table.now context.now.pruning.rule rows.old.pairs.items rows.old.sets.items }
+    requires tests { AreTests (table_at context.now.table.now) context.now.pruning.fulfilment.now }
+    requires conjunct { IsConjunct context.now.table.now conjunct }
+    ensures lists { OnOk result (AreLists context.now.table.now context.now.pruning.rule rows.new.pairs.items rows.new.sets.items) }
+    ensures pairs { IfOk result (IsListed (StandsFor (table_at context.now.table.now) context.now.pruning.rule)
+        (conjunct_pairs context.now.table.now conjunct)) }
 {
     match conjunct {
         Conjunct::Never => Ok(PairSet {
-            pairs: Vec::new(alloc),
+            pairs: Vec::new(context.alloc),
         }),
-        Conjunct::Whole(row) => row_pairs(alloc, table, rows, pruning, row),
-        Conjunct::Released(left, row) => released_pairs(alloc, table, rows, pruning, left, row),
+        Conjunct::Whole(row) => row_pairs(context, rows, row),
+        Conjunct::Released(left, row) => released_pairs(context, rows, left, row),
     }
 }

@@ -93,7 +93,8 @@ impl<'a, A: Allocator> Finals<'a, A> {
         requires basis { IsBasis basis.now }
         requires finals { HasFinals basis.now self.old }
         ensures finals { OnOk result (HasFinals basis.now self.new) }
-        ensures transitions { IfOk result (λ s. listed_in self.new.lists.keys s ≡ spec.transitions (table_at basis.now.table.now) basis.now.keep_implied state.now) }
+        ensures transitions { IfOk result (λ s. listed_in self.new.lists.keys s
+            ≡ spec.transitions (table_at basis.now.table.now) basis.now.keep_implied state.now) }
         ensures large { IsErrOf result AltFault.TooLarge → most < length (spec.transitions (table_at basis.now.table.now) basis.now.keep_implied state.now) }
         ensures longer { OnOk result (IsLonger self.old.lists.keys self.new.lists.keys) }
     {

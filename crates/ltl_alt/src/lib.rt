@@ -46,6 +46,7 @@ mod columns;
 mod components;
 mod conjunct_table;
 mod conjuncts;
+mod context;
 mod factors;
 mod finals;
 mod fulfilment;

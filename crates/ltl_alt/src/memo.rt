@@ -96,7 +96,8 @@ impl<'a, A: Allocator> Memo<'a, A> {
     ) -> Result<PairSet<'a, A>, AllocError>
         requires within { key.now.left < length self.now.lists.keys × key.now.right < length self.now.lists.keys }
         ensures { (T : spec.Table) → IsFit T pruning.now.rule pruning.now.fulfilment.now
-            → IfOk result (IsListed (StandsFor T pruning.now.rule) (join (conjunct_of self.now.lists.keys key.now.left) (conjunct_of self.now.lists.keys key.now.right))) }
+            → IfOk result (IsListed (StandsFor T pruning.now.rule)
+            (join (conjunct_of self.now.lists.keys key.now.left) (conjunct_of self.now.lists.keys key.now.right))) }
     {
         let left = self.pairs(key.left);
         let right = self.pairs(key.right);

@@ -3,6 +3,7 @@
 ghost use Rattle.std.specs.Prelude.{◌≡◌, ◌<◌, length, IfOk};
 ghost use Rattle.ltl_alt.specs.RowLists.{row_pairs};
 
+use crate::context::Context;
 use crate::fulfilment::Fulfilment;
 use crate::pair::Pair;
 use crate::row_lists::RowLists;
@@ -81,12 +82,16 @@ pub fn pairs<'a, A: Allocator>(
     ensures { IfOk result (λ s. s ≡ row_pairs table.now row) }
 {
     let none = Fulfilment::nothing(alloc);
-    let pruning = Pruning {
-        rule: Rule::Duplicate,
-        fulfilment: &none,
+    let context = Context {
+        alloc,
+        table,
+        pruning: Pruning {
+            rule: Rule::Duplicate,
+            fulfilment: &none,
+        },
     };
     let mut lists = RowLists::new(alloc, table)?;
-    lists.prepare(alloc, table, &pruning, row)?;
+    lists.prepare(&context, row)?;
     let pairs = Vec::from_slice(alloc, lists.pairs(row))?;
     Ok(PairSet { pairs })
 }

@@ -14,6 +14,7 @@ ghost use Rattle.ltl_alt.specs.TransitionView.{table_at};
 
 use crate::basis::Basis;
 use crate::conjunct_table::ConjunctTable;
+use crate::context::Context;
 use crate::factors::SetTransitions;
 use crate::finals::Finals;
 use crate::fulfilment::Fulfilment;
@@ -68,7 +69,8 @@ impl<'b, 't, 's, 'a, A: Allocator> RowSets<'b, 't, 's, 'a, A> {
         requires keys { AreKeys (table_at self.old.basis.table.now) self.old.basis.keep_implied self.old.finals.lists.keys self.old.keys.states.entries }
         ensures basis { OnOk result (self.new.basis ≡ self.old.basis) }
         ensures finals { OnOk result (HasFinals self.new.basis self.new.finals) }
-        ensures keys { OnOk result (AreKeys (table_at self.new.basis.table.now) self.new.basis.keep_implied self.new.finals.lists.keys self.new.keys.states.entries) }
+        ensures keys { OnOk result (AreKeys
+            (table_at self.new.basis.table.now) self.new.basis.keep_implied self.new.finals.lists.keys self.new.keys.states.entries) }
     {
         if self.finals.is_full() {
             self.finals = Finals::new(&self.basis)?;
@@ -126,15 +128,19 @@ fn explored<'a, A: Allocator>(
 {
     table.invariant();
     let fulfilment = Fulfilment::of(alloc, table)?;
-    let pruning = Pruning {
-        rule: Rule::of(keep_implied),
-        fulfilment: &fulfilment,
+    let context = Context {
+        alloc,
+        table,
+        pruning: Pruning {
+            rule: Rule::of(keep_implied),
+            fulfilment: &fulfilment,
+        },
     };
-    let conjuncts = ConjunctTable::of(alloc, table, &pruning)?;
+    let conjuncts = ConjunctTable::of(&context)?;
     let basis = Basis {
         alloc,
         table,
-        pruning,
+        pruning: context.pruning,
         conjuncts,
         keep_implied,
     };

@@ -11,13 +11,13 @@ ghost use Rattle.ltl_alt.specs.RowLists.{list_at, is_made, pairs_from, sets_from
 ghost use Rattle.ltl_alt.specs.StandIns.{IsFit};
 ghost use Rattle.ltl_alt.specs.TransitionView.{table_at};
 
+use crate::context::Context;
 use crate::lists::{both, join};
 use crate::needs::needs;
 use crate::pair::Pair;
 use crate::pair_set::PairSet;
 use crate::place::place;
 use crate::prune::prune;
-use crate::rule::Pruning;
 use ltl_formula::{Row, Table};
 use ltl_sets::RowSet;
 use std::alloc::{AllocError, Allocator};
@@ -86,26 +86,24 @@ impl<'a, A: Allocator> RowLists<'a, A> {
     /// Lists the pairs of a row, and all lists of which they are made.
     pub(crate) fn prepare(
         &mut self,
-        alloc: &'a A,
-        table: &Table<'_, A>,
-        pruning: &Pruning<'_, 'a, A>,
+        context: &Context<'_, '_, '_, 'a, A>,
         row: usize,
     ) -> Result<(), AllocError>
-        requires lists { AreLists table.now pruning.now.rule self.old.pairs.items self.old.sets.items }
-        requires fit { IsFit (table_at table.now) pruning.now.rule pruning.now.fulfilment.now }
-        requires within { row < length table.now.rows }
-        ensures lists { OnOk result (AreLists table.now pruning.now.rule self.new.pairs.items self.new.sets.items) }
-        ensures pairs { OnOk result (IsListedRow table.now pruning.now.rule row (list_at self.new.pairs.items row)) }
+        requires lists { AreLists context.now.table.now context.now.pruning.rule self.old.pairs.items self.old.sets.items }
+        requires fit { IsFit (table_at context.now.table.now) context.now.pruning.rule context.now.pruning.fulfilment.now }
+        requires within { row < length context.now.table.now.rows }
+        ensures lists { OnOk result (AreLists context.now.table.now context.now.pruning.rule self.new.pairs.items self.new.sets.items) }
+        ensures pairs { OnOk result (IsListedRow context.now.table.now context.now.pruning.rule row (list_at self.new.pairs.items row)) }
     {
         if self.has_pairs(row) {
             return Ok(());
         }
-        let needs = needs(alloc, table, row)?;
+        let needs = needs(context.alloc, context.table, row)?;
         'rows: for k in 0..row + 1 {
-            let _ = table.row(k);
+            let _ = context.table.row(k);
             let need = needs[k];
-            self.list_needed_pairs(alloc, table, pruning, k, need.pairs)?;
-            self.list_needed_sets(alloc, table, pruning, k, need.sets)?;
+            self.list_needed_pairs(context, k, need.pairs)?;
+            self.list_needed_sets(context, k, need.sets)?;
         }
         Ok(())
     }
@@ -113,98 +111,49 @@ impl<'a, A: Allocator> RowLists<'a, A> {
     /// Lists the pairs of a row if they are needed and haven't been listed.
     fn list_needed_pairs(
         &mut self,
-        alloc: &'a A,
-        table: &Table<'_, A>,
-        pruning: &Pruning<'_, 'a, A>,
+        context: &Context<'_, '_, '_, 'a, A>,
         row: usize,
         is_needed: bool,
     ) -> Result<(), AllocError>
-        requires lists { AreLists table.now pruning.now.rule self.old.pairs.items self.old.sets.items }
-        requires fit { IsFit (table_at table.now) pruning.now.rule pruning.now.fulfilment.now }
-        requires within { row < length table.now.rows }
-        requires have { is_needed ≡ true → (r : made.Row) → slice_get table.now.rows row ≡ Some r
-            → HavePairs table.now pruning.now.rule (list_at self.old.pairs.items) (list_at self.old.sets.items) r }
-        ensures lists { OnOk result (AreLists table.now pruning.now.rule self.new.pairs.items self.new.sets.items) }
+        requires lists { AreLists context.now.table.now context.now.pruning.rule self.old.pairs.items self.old.sets.items }
+        requires fit { IsFit (table_at context.now.table.now) context.now.pruning.rule context.now.pruning.fulfilment.now }
+        requires within { row < length context.now.table.now.rows }
+        requires have { is_needed ≡ true → (r : made.Row) → slice_get context.now.table.now.rows row ≡ Some r
+            → HavePairs context.now.table.now context.now.pruning.rule (list_at self.old.pairs.items) (list_at self.old.sets.items) r }
+        ensures lists { OnOk result (AreLists context.now.table.now context.now.pruning.rule self.new.pairs.items self.new.sets.items) }
         ensures more { OnOk result (IsMore self.old.pairs.items self.new.pairs.items) }
         ensures made { OnOk result (is_needed ≡ true → is_made self.new.pairs.items row ≡ true) }
         ensures sets { self.new.sets.items ≡ self.old.sets.items }
     {
-        if !is_needed {
+        if !is_needed || self.has_pairs(row) {
             return Ok(());
         }
-        if self.has_pairs(row) {
-            return Ok(());
-        }
-        self.add_pairs(alloc, table, pruning, row)?;
+        let pairs = self.list_pairs(context, row)?;
+        self.pairs[row] = Some(pairs);
         Ok(())
     }
 
     /// Lists the sets of a row if they are needed and haven't been listed.
     fn list_needed_sets(
         &mut self,
-        alloc: &'a A,
-        table: &Table<'_, A>,
-        pruning: &Pruning<'_, 'a, A>,
+        context: &Context<'_, '_, '_, 'a, A>,
         row: usize,
         is_needed: bool,
     ) -> Result<(), AllocError>
-        requires lists { AreLists table.now pruning.now.rule self.old.pairs.items self.old.sets.items }
-        requires fit { IsFit (table_at table.now) pruning.now.rule pruning.now.fulfilment.now }
-        requires within { row < length table.now.rows }
-        requires have { is_needed ≡ true → (r : made.Row) → slice_get table.now.rows row ≡ Some r
-            → HaveSets table.now pruning.now.rule (list_at self.old.sets.items) r }
-        ensures lists { OnOk result (AreLists table.now pruning.now.rule self.new.pairs.items self.new.sets.items) }
+        requires lists { AreLists context.now.table.now context.now.pruning.rule self.old.pairs.items self.old.sets.items }
+        requires fit { IsFit (table_at context.now.table.now) context.now.pruning.rule context.now.pruning.fulfilment.now }
+        requires within { row < length context.now.table.now.rows }
+        requires have { is_needed ≡ true → (r : made.Row) → slice_get context.now.table.now.rows row ≡ Some r
+            → HaveSets context.now.table.now context.now.pruning.rule (list_at self.old.sets.items) r }
+        ensures lists { OnOk result (AreLists context.now.table.now context.now.pruning.rule self.new.pairs.items self.new.sets.items) }
         ensures more { OnOk result (IsMore self.old.sets.items self.new.sets.items) }
         ensures made { OnOk result (is_needed ≡ true → is_made self.new.sets.items row ≡ true) }
         ensures pairs { self.new.pairs.items ≡ self.old.pairs.items }
     {
-        if !is_needed {
+        if !is_needed || self.has_sets(row) {
             return Ok(());
         }
-        if self.has_sets(row) {
-            return Ok(());
-        }
-        self.add_sets(alloc, table, pruning, row)?;
-        Ok(())
-    }
-
-    /// Lists the pairs of a row, and stores them.
-    fn add_pairs(
-        &mut self,
-        alloc: &'a A,
-        table: &Table<'_, A>,
-        pruning: &Pruning<'_, 'a, A>,
-        row: usize,
-    ) -> Result<(), AllocError>
-        requires lists { AreLists table.now pruning.now.rule self.old.pairs.items self.old.sets.items }
-        requires fit { IsFit (table_at table.now) pruning.now.rule pruning.now.fulfilment.now }
-        requires within { row < length table.now.rows }
-        requires have { (r : made.Row) → slice_get table.now.rows row ≡ Some r
-            → HavePairs table.now pruning.now.rule (list_at self.old.pairs.items) (list_at self.old.sets.items) r }
-        ensures pairs { OnOk result (HasAdded (IsListedRow table.now pruning.now.rule row) row self.old.pairs.items self.new.pairs.items) }
-        ensures sets { self.new.sets.items ≡ self.old.sets.items }
-    {
-        let pairs = self.list_pairs(alloc, table, pruning, row)?;
-        self.pairs[row] = Some(pairs);
-        Ok(())
-    }
-
-    /// Lists the sets of a row, and stores them.
-    fn add_sets(
-        &mut self,
-        alloc: &'a A,
-        table: &Table<'_, A>,
-        pruning: &Pruning<'_, 'a, A>,
-        row: usize,
-    ) -> Result<(), AllocError>
-        requires lists { AreLists table.now pruning.now.rule self.old.pairs.items self.old.sets.items }
-        requires fit { IsFit (table_at table.now) pruning.now.rule pruning.now.fulfilment.now }
-        requires within { row < length table.now.rows }
-        requires have { (r : made.Row) → slice_get table.now.rows row ≡ Some r → HaveSets table.now pruning.now.rule (list_at self.old.sets.items) r }
-        ensures sets { OnOk result (HasAdded (IsListedSet table.now pruning.now.rule row) row self.old.sets.items self.new.sets.items) }
-        ensures pairs { self.new.pairs.items ≡ self.old.pairs.items }
-    {
-        let sets = self.list_sets(alloc, table, pruning, row)?;
+        let sets = self.list_sets(context, row)?;
         self.sets[row] = Some(sets);
         Ok(())
     }
@@ -212,21 +161,23 @@ impl<'a, A: Allocator> RowLists<'a, A> {
     /// The pruned pairs of a row, from the lists of its operands.
     fn list_pairs(
         &self,
-        alloc: &'a A,
-        table: &Table<'_, A>,
-        pruning: &Pruning<'_, 'a, A>,
+        context: &Context<'_, '_, '_, 'a, A>,
         row: usize,
     ) -> Result<PairSet<'a, A>, AllocError>
-        requires lists { AreLists table.now pruning.now.rule self.now.pairs.items self.now.sets.items }
-        requires fit { IsFit (table_at table.now) pruning.now.rule pruning.now.fulfilment.now }
-        requires within { row < length table.now.rows }
-        requires have { (r : made.Row) → slice_get table.now.rows row ≡ Some r
-            → HavePairs table.now pruning.now.rule (list_at self.now.pairs.items) (list_at self.now.sets.items) r }
-        ensures { IfOk result (IsListedRow table.now pruning.now.rule row) }
+        requires lists { AreLists context.now.table.now context.now.pruning.rule self.now.pairs.items self.now.sets.items }
+        requires fit { IsFit (table_at context.now.table.now) context.now.pruning.rule context.now.pruning.fulfilment.now }
+        requires within { row < length context.now.table.now.rows }
+        requires have { (r : made.Row) → slice_get context.now.table.now.rows row ≡ Some r
+            → HavePairs context.now.table.now context.now.pruning.rule (list_at self.now.pairs.items) (list_at self.now.sets.items) r }
+        ensures { IfOk result (IsListedRow context.now.table.now context.now.pruning.rule row) }
     {
-        table.invariant();
-        let all = self.pairs_from(alloc, table.row(row), place(table, row))?;
-        let pairs = prune(alloc, pruning, all)?;
+        context.table.invariant();
+        let all = self.pairs_from(
+            context.alloc,
+            context.table.row(row),
+            place(context.table, row),
+        )?;
+        let pairs = prune(context.alloc, &context.pruning, all)?;
         Ok(PairSet { pairs })
     }
 
@@ -268,20 +219,23 @@ impl<'a, A: Allocator> RowLists<'a, A> {
     /// The pruned sets of a row, from the lists of its operands.
     fn list_sets(
         &self,
-        alloc: &'a A,
-        table: &Table<'_, A>,
-        pruning: &Pruning<'_, 'a, A>,
+        context: &Context<'_, '_, '_, 'a, A>,
         row: usize,
     ) -> Result<PairSet<'a, A>, AllocError>
-        requires lists { AreLists table.now pruning.now.rule self.now.pairs.items self.now.sets.items }
-        requires fit { IsFit (table_at table.now) pruning.now.rule pruning.now.fulfilment.now }
-        requires within { row < length table.now.rows }
-        requires have { (r : made.Row) → slice_get table.now.rows row ≡ Some r → HaveSets table.now pruning.now.rule (list_at self.now.sets.items) r }
-        ensures { IfOk result (IsListedSet table.now pruning.now.rule row) }
+        requires lists { AreLists context.now.table.now context.now.pruning.rule self.now.pairs.items self.now.sets.items }
+        requires fit { IsFit (table_at context.now.table.now) context.now.pruning.rule context.now.pruning.fulfilment.now }
+        requires within { row < length context.now.table.now.rows }
+        requires have { (r : made.Row) → slice_get context.now.table.now.rows row ≡ Some r
+            → HaveSets context.now.table.now context.now.pruning.rule (list_at self.now.sets.items) r }
+        ensures { IfOk result (IsListedSet context.now.table.now context.now.pruning.rule row) }
     {
-        table.invariant();
-        let all = self.sets_from(alloc, table.row(row), place(table, row))?;
-        let pairs = prune(alloc, pruning, all)?;
+        context.table.invariant();
+        let all = self.sets_from(
+            context.alloc,
+            context.table.row(row),
+            place(context.table, row),
+        )?;
+        let pairs = prune(context.alloc, &context.pruning, all)?;
         Ok(PairSet { pairs })
     }
 

@@ -1,13 +1,14 @@
 -- Labels that are numbered as they come, and in their order: what their numbers stand for.
-use Rattle.std.proofs.Common.{◌≡◌, ℕ, zero, suc, ◌+◌, ◌<◌, Bool, true, false, cond, inl, inr, List, [], ◌∷◌, ◌++◌, length, map, refl, sym, ◌∙◌, ap, subst, arith, length-append, Some, None}
-use Rattle.std.specs.Prelude.{slice_get, slice_index_or, take, All, nat_lt, ◌≢◌}
-use Rattle.std.specs.List.{list_any, position}
+use Rattle.std.proofs.Common.{◌≡◌, ℕ, zero, suc, ◌+◌, ◌<◌, Bool, true, cond, inl, inr, List, [], ◌∷◌, ◌++◌, length, map, refl, sym, ◌∙◌, ap, subst, arith, length-append, Some, None}
+use Rattle.std.specs.Prelude.{nat_eq, slice_get, slice_index_or, slice_set, take, All, nat_lt, ◌≢◌, ◌≤◌}
+use Rattle.std.specs.List.{position}
 use Rattle.std.specs.Bool.{Decides}
 use Rattle.std.specs.declared.cmp.Ordering.{Ordering}
 use Rattle.std.specs.declared.cmp.Ordering.TheVariants.{Less, Greater}
 use Rattle.std.specs.Ordering.{nat_cmp}
-use Rattle.std.specs.Cmp.Lexicographic.{slice_cmp}
-use Rattle.std.proofs.lemmas.List.{map-append, take_more, length-take-le, get_or-take, get_or_past, append-nil, append_assoc}
+use Rattle.std.specs.Cmp.Lexicographic.{slice_cmp, pointwise, bytes_decides}
+use Rattle.std.proofs.lemmas.Option.{slice_get_within}
+use Rattle.std.proofs.lemmas.List.{get_or-set_other, get_or-set_same, length-set, same_lists, map-append, take_more, length-take-le, get_or-take, get_or_past, append-nil, append_assoc}
 use Rattle.std.proofs.lemmas.List.Elements.{All-push, All-weaker, All-get_or, All-append, All-cons, All-nil}
 use Rattle.std.proofs.lemmas.Bool.{cases_lt}
 use Rattle.std.proofs.Math.ListN.{get_or-map}
@@ -17,12 +18,12 @@ use Rattle.ltl_spec.specs.Transitions.Cubes.{Cube, cube_cmp}
 use Rattle.ltl_spec.specs.Automata.Automaton.{Automaton, Edge, State, state_at}
 use Rattle.ltl_spec.proofs.Automata.ListingLaws.{with_new_behind}
 use Rattle.ltl_spec.proofs.Collections.FoundLaws.{index_there, map_equal, map_same}
-use Rattle.ltl_spec.proofs.Collections.ListLaws.{Has-at, All-at_has, any_Decides, index_append, place_below}
+use Rattle.ltl_spec.proofs.Collections.ListLaws.{HasNoRepeats-with_new, Has-at, All-at_has, index_append, place_below, slice_get_has}
 use Rattle.ltl_spec.proofs.Collections.MemberLaws.{at_map, map_length}
 use Rattle.ltl_spec.proofs.Collections.Orders.{cube_linear, row_set_linear}
 use Rattle.ltl_spec.proofs.Collections.ProductLists.{rising_once}
-use Rattle.ltl_spec.proofs.Collections.SetLaws.{all_at, append_left, Has-set_of, IsRising-set_of}
-use Rattle.ltl_sets.specs.CubeEq.{same_cube}
+use Rattle.ltl_spec.proofs.Collections.SetLaws.{all_at, append_left, Has-set_of, IsRising-set_of, set_of_cases}
+use Rattle.ltl_sets.specs.CubeEq.{same_cube, cube_Decides}
 use Rattle.ltl_automaton.specs.SharedView.{with_state}
 use Rattle.ltl_automaton.specs.declared.coded_edge.CodedEdge as numbered
 use Rattle.ltl_automaton.specs.declared.labels.Labels as slices
@@ -30,7 +31,7 @@ use Rattle.ltl_automaton.proofs.EdgeLaws.{map_pushed, All_from_map}
 use Rattle.ltl_automaton.proofs.NetLaws.{took}
 use Rattle.ltl_automaton.specs.CodedEdges.{coded_edge_of, labelled_edge_of, tables_of}
 use Rattle.ltl_automaton.specs.Labels.{Tables, AreTables, labelled_edge, labelled_state, labelled, number_of_cube, IsCoded, AreCoded}
-use Rattle.ltl_automaton.specs.LabelTables.{AreMade, AreRanks, AreStatesMade, Extends}
+use Rattle.ltl_automaton.specs.LabelTables.{AreOnce, HavePlaces, AreMade, AreRanks, AreStatesMade, Extends}
 
 -- ---- the labels of states
 -- the state of a number, with its labels
@@ -75,31 +76,22 @@ coded_pushed t B C accepting es e b c =
     let P : State → Type 0 = λ s. All (IsCoded t) s.edges in
     subst (AreCoded t) (sym e) (All-append P B.states (record { accepting = accepting; edges = es } ∷ []) b (All-cons P (record { accepting = accepting; edges = es }) [] c (All-nil P)))
 
--- ---- different values one after the other
--- in a list without repeats no element stands before its place
-not_before : {K : Type 0} (xs : List K) (i : ℕ) (d : K) → HasNoRepeats xs → i < length xs → ¬ (Has (take i xs) (slice_index_or xs i d))
-not_before [] i d r l h = absurd (omega arith)
-not_before (x ∷ xs) zero d r l h = h
-not_before (x ∷ xs) (suc i) d r l (inl e) = r.0 (subst (Has xs) e (Has-at xs i d (omega arith)))
-not_before (x ∷ xs) (suc i) d r l (inr h) = not_before xs i d r.1 (omega arith) h
+-- ---- different values
+-- in a list without repeats no element stands twice
+once_at : {K : Type 0} (xs : List K) (i j : ℕ) (x : K) → HasNoRepeats xs → slice_get xs i ≡ Some x → slice_get xs j ≡ Some x → i ≡ j
+once_at [] i j x r e f = absurd (cc)
+once_at (y ∷ ys) zero zero x r e f = refl
+once_at (y ∷ ys) zero (suc j) x r e f = absurd (r.0 (slice_get_has ys j y (f ∙ sym e)))
+once_at (y ∷ ys) (suc i) zero x r e f = absurd (r.0 (slice_get_has ys i y (e ∙ sym f)))
+once_at (y ∷ ys) (suc i) (suc j) x r e f = ap suc (once_at ys i j x r.1 e f)
+
+-- what is there stands at a place
+found_at : {K : Type 0} (xs : List K) (x : K) → Has xs x → (k : ℕ) × (slice_get xs k ≡ Some x)
+found_at [] x h = absurd h
+found_at (y ∷ ys) x (inl e) = (zero, ap (λ z. Some z) (sym e))
+found_at (y ∷ ys) x (inr h) = let w = found_at ys x h in (suc w.0, w.1)
 
 module _ {K : Type 0} (same : K → K → Bool) (decides : (x y : K) → Decides (same x y) (x ≡ y)) where
-  -- what isn't there is put behind
-  put_behind : (x : K) (xs : List K) → ¬ (Has xs x) → with_new same xs x ≡ xs ++ x ∷ []
-  put_behind x xs n =
-      elim (list_any (same x) xs) as (λ b. Decides b (Has xs x) → cond b xs (xs ++ x ∷ []) ≡ xs ++ x ∷ []) [
-        | true ↦ λ d. absurd (n (d.0 refl))
-        | false ↦ λ d. refl
-      ] (any_Decides same decides x xs)
-
-  -- the elements of a rising list, each put in if it isn't there, are that list
-  pub interned_next : {R : K → K → Ordering} → IsLinearOrder R → (items xs keys more_keys : List K) (i : ℕ) (x : K) → items ≡ set_of R xs → i < length items → x ≡ slice_index_or items i x → keys ≡ take i items
-      → more_keys ≡ with_new same keys x → more_keys ≡ take (i + 1) items
-  interned_next {R = R} o items xs keys more_keys i x s l t k m =
-      let once : HasNoRepeats items = rising_once o items (subst (IsRising R) (sym s) (IsRising-set_of o xs)) in
-      let new : ¬ (Has (take i items) x) = λ h. not_before items i x once l (subst (Has (take i items)) t h) in
-      m ∙ ap (λ ks. with_new same ks x) k ∙ put_behind x (take i items) new ∙ ap (λ y. take i items ++ y ∷ []) t ∙ sym (take_more items i x l)
-
   -- what is there is found
   pub not_missed : (x : K) (xs : List K) → Has xs x → None ≢ position (same x) xs
   not_missed x xs h e =
@@ -114,6 +106,11 @@ pub take_read : {K : Type 0} (xs : List K) (n : ℕ) (x : K) → slice_get xs n 
 take_read xs n x e = let w = index_there xs n x x e in took xs n x w.0 (sym w.1)
 
 -- ---- labels that are numbered as they come
+-- each is still there once
+pub once_next : (t u : Tables) (cube : Cube) (marks : List ℕ) → AreOnce t → u.cubes ≡ with_new same_cube t.cubes cube → u.marks ≡ with_new (pointwise nat_eq) t.marks marks → AreOnce u
+once_next t u cube marks h c m =
+    (subst HasNoRepeats (sym c) (HasNoRepeats-with_new same_cube cube_Decides t.cubes cube h.0), subst HasNoRepeats (sym m) (HasNoRepeats-with_new (pointwise nat_eq) bytes_decides t.marks marks h.1))
+
 -- with more labels behind
 pub extends_none : (t : Tables) → Extends t t
 extends_none t = record { cubes = ([], sym (append-nil t.cubes)); marks = ([], sym (append-nil t.marks)) }
@@ -229,11 +226,54 @@ ranked_has o values sorted i x e h =
     let w = index_there values i x x h in
     subst (λ xs. Has xs x) (sym e) (Has-set_of o values x (subst (Has values) w.1 (Has-at values i x w.0)))
 
+-- a sorted value is one that came
+pub ranked_there : {K : Type 0} {R : K → K → Ordering} → IsLinearOrder R → (values sorted : List K) (k : ℕ) (x : K) → sorted ≡ set_of R values → slice_get sorted k ≡ Some x → Has values x
+ranked_there o values sorted k x e h = set_of_cases o values x (subst (λ xs. Has xs x) e (slice_get_has sorted k x h))
+
 -- one more place
-pub ranks_next : {K : Type 0} (values more_values sorted : List K) (ranks more_ranks : List ℕ) (x : K) (r s : ℕ) → AreRanks values sorted ranks → slice_get sorted r ≡ Some x → s ≡ r → more_ranks ≡ ranks ++ s ∷ [] → more_values ≡ values ++ x ∷ []
-    → AreRanks more_values sorted more_ranks
-ranks_next values more_values sorted ranks more_ranks x r s w h q p v =
-    map_pushed (slice_get sorted) ranks more_ranks s p ∙ (λ i. w i ++ (ap (slice_get sorted) q ∙ h) i ∷ []) ∙ sym (map_pushed Some values more_values x v)
+pub places_next : {K : Type 0} {R : K → K → Ordering} → IsLinearOrder R → (values sorted : List K) (ranks more_ranks : List ℕ) (n number r : ℕ) (x : K) → HasNoRepeats values → sorted ≡ set_of R values → HavePlaces values sorted ranks n
+    → slice_get sorted n ≡ Some x → slice_get values number ≡ Some x → r ≡ n → more_ranks ≡ slice_set ranks number r → HavePlaces values sorted more_ranks (n + 1)
+places_next {K = K} {R = R} o values sorted ranks more_ranks n number r x once is w s v q p =
+    let inside : number < length ranks = subst (λ m. number < m) (sym w.long) (slice_get_within values number x v) in
+    let rising : HasNoRepeats sorted = rising_once o sorted (subst (IsRising R) (sym is) (IsRising-set_of o values)) in
+    let same : (k i : ℕ) (y : K) → k ≡ n → slice_get sorted k ≡ Some y → slice_get values i ≡ Some y → slice_index_or (slice_set ranks number r) i 0 ≡ k =
+    λ k i y e t u.
+    let there : slice_get sorted n ≡ Some y = subst (λ j. slice_get sorted j ≡ Some y) e t in
+    let here : slice_get values i ≡ Some x = u ∙ sym there ∙ s in
+    let at : i ≡ number = once_at values i number x once here v in
+    subst (λ j. slice_index_or (slice_set ranks number r) j 0 ≡ k) (sym at) (get_or-set_same ranks number r 0 inside ∙ q ∙ sym e) in
+    let other : (k i : ℕ) (y : K) → k < n → slice_get sorted k ≡ Some y → slice_get values i ≡ Some y → slice_index_or (slice_set ranks number r) i 0 ≡ k =
+    λ k i y l t u.
+    let apart : i ≢ number = λ at.
+    let here : slice_get values number ≡ Some y = subst (λ j. slice_get values j ≡ Some y) at u in
+    let both : k ≡ n = once_at sorted k n x rising (t ∙ sym here ∙ v) s in
+    omega (arith, l, both) in
+    get_or-set_other ranks number i r 0 apart ∙ w.there k i y l t u in
+    record {
+      long = ap length p ∙ length-set ranks number r ∙ w.long;
+      there = λ k i y l t u. ap (λ rs. slice_index_or rs i 0) p ∙ elim (cases_lt k n) [ inl m ↦ other k i y m t u | inr m ↦ same k i y (omega (arith, l, m)) t u ];
+    }
+
+-- a list has an element at each place
+value_at : {K : Type 0} (xs : List K) (i : ℕ) → i < length xs → (x : K) × (slice_get xs i ≡ Some x)
+value_at [] i l = absurd (omega (arith, l))
+value_at (x ∷ xs) zero l = (x, refl)
+value_at (x ∷ xs) (suc i) l = value_at xs i (omega (arith, l))
+
+-- behind the last one
+pub places_done : {K : Type 0} {R : K → K → Ordering} → IsLinearOrder R → (values sorted : List K) (ranks : List ℕ) (n : ℕ) → sorted ≡ set_of R values → HavePlaces values sorted ranks n → length sorted ≤ n → AreRanks values sorted ranks
+places_done o values sorted ranks n is w l =
+    same_lists (map (slice_get sorted) ranks) (map Some values) (map_length (slice_get sorted) ranks ∙ w.long ∙ sym (map_length Some values)) (λ i d m.
+    let inside : i < length ranks = subst (λ z. i < z) (map_length (slice_get sorted) ranks) m in
+    let within : i < length values = subst (λ z. i < z) w.long inside in
+    let v = value_at values i within in
+    let f = found_at sorted v.0 (ranked_has o values sorted i v.0 is v.1) in
+    let before : f.0 < n = let k = slice_get_within sorted f.0 v.0 f.1 in omega (arith, k, l) in
+    at_map (slice_get sorted) ranks i 0 d inside
+    ∙ ap (slice_get sorted) (w.there f.0 i v.0 before f.1 v.1)
+    ∙ f.1
+    ∙ ap (λ z. Some z) (sym (index_there values i v.0 v.0 v.1).1)
+    ∙ sym (at_map Some values i v.0 d within))
 
 -- there is a place for each value, and the value stands there
 pub ranks_within : {K : Type 0} (values sorted : List K) (ranks : List ℕ) (n : ℕ) → AreRanks values sorted ranks → n < length values → n < length ranks

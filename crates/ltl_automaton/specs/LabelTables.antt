@@ -1,5 +1,6 @@
 -- The labels of an automaton, as the code keeps them: in the order in which they come, and in a table.
-use Rattle.std.specs.Prelude.{◌≡◌, ℕ, List, [], ◌++◌, map, slice_get, take, Some, All}
+use Rattle.std.specs.Prelude.{◌≡◌, ℕ, ◌<◌, List, [], ◌++◌, length, map, slice_get, slice_index_or, take, Some, All}
+use Rattle.ltl_spec.specs.Collections.Lists.{HasNoRepeats}
 use Rattle.ltl_spec.specs.Collections.Sets.{Has}
 use Rattle.ltl_spec.specs.Transitions.Cubes.{Cube}
 use Rattle.ltl_spec.specs.Automata.Automaton.{Automaton, Edge}
@@ -27,10 +28,15 @@ met_of b = record { cubes = b.cubes.keys; marks = b.marks.keys }
 abbrev pub built_of : {A : Type 0} → building.CodedBuilder A → Automaton
 built_of b = labelled (met_of b) (automaton_of b.states)
 
--- the edges have numbers of labels that came, and no marks are among these
+-- each label is there once
+abbrev pub AreOnce : Tables → Type 0
+AreOnce t = HasNoRepeats t.cubes × HasNoRepeats t.marks
+
+-- the edges have numbers of labels that came, each of which is there once, and no marks are among these
 pub record IsBuilt {A : Type 0} (b : building.CodedBuilder A) : Type 0 where
   pub coded : AreCoded (met_of b) (automaton_of b.states)
   pub none : Has b.marks.keys []
+  pub once : AreOnce (met_of b)
 
 -- the second tables begin with the first
 pub record Extends (t u : Tables) : Type 0 where
@@ -45,6 +51,11 @@ pub record AreMade (t : Tables) (made : List numbered.CodedEdge) (es : List Edge
 -- for each value its place among the sorted ones
 abbrev pub AreRanks : {K : Type 0} → List K → List K → List ℕ → Type 0
 AreRanks values sorted ranks = map (slice_get sorted) ranks ≡ map Some values
+
+-- the first n sorted values have their places
+pub record HavePlaces {K : Type 0} (values sorted : List K) (ranks : List ℕ) (n : ℕ) : Type 0 where
+  pub long : length ranks ≡ length values
+  pub there : (k i : ℕ) (x : K) → k < n → slice_get sorted k ≡ Some x → slice_get values i ≡ Some x → slice_index_or ranks i 0 ≡ k
 
 -- the same for both kinds of labels
 pub record HaveRanks {A : Type 0} (t : Tables) (r : ranking.Ranks A) : Type 0 where

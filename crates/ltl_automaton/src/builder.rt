@@ -37,7 +37,8 @@ pub trait Builder<E: EdgeType> {
     ) -> Result<(), AllocError>
         requires ready { ready self.old }
         requires long { length steps.now ≡ length targets.now }
-        ensures built { OnOk result (built self.new ≡ with_state (built self.old) accepting (listed_by sorts (edges_to (map T.move_of steps.now) targets.now))) }
+        ensures built { OnOk result (built self.new
+            ≡ with_state (built self.old) accepting (listed_by sorts (edges_to (map T.move_of steps.now) targets.now))) }
         ensures ready { OnOk result (ready self.new) };
 
     /// Appends a state with the edges of state `i`, which was appended before.

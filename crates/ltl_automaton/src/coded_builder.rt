@@ -3,7 +3,7 @@
 ghost use Rattle.std.specs.Prelude.{◌≡◌, ◌+◌, ◌<◌, [], false, length, map, All, IfOk, OnOk};
 ghost use Rattle.ltl_spec.specs.Collections.Sets.{Has};
 ghost use Rattle.ltl_automaton.specs.CodedEdges.{coded_edge_of, table_of};
-ghost use Rattle.ltl_automaton.specs.LabelTables.{AreMade, AreStatesMade, Extends, HasLabels, HaveRanks, IsBuilt, built_of, labelled_of, met_of};
+ghost use Rattle.ltl_automaton.specs.LabelTables.{AreMade, AreOnce, AreStatesMade, Extends, HasLabels, HaveRanks, IsBuilt, built_of, labelled_of, met_of};
 ghost use Rattle.ltl_automaton.specs.Labels.{AreCoded, AreTables, IsCoded, labelled, labelled_edge};
 ghost use Rattle.ltl_automaton.specs.Net.{edges_to};
 ghost use Rattle.ltl_automaton.specs.SharedView.{automaton_of};
@@ -66,6 +66,7 @@ impl<'a, A: Allocator> CodedBuilder<'a, A> {
         ensures more { OnOk result (Extends (met_of self.old) (met_of self.new)) }
         ensures edges { IfOk result (λ es. AreMade (met_of self.new) es.items (edges_to (map T.move_of steps.now) targets.now)) }
         ensures states { OnOk result (self.new.states ≡ self.old.states) }
+        ensures once { AreOnce (met_of self.old) → OnOk result (AreOnce (met_of self.new)) }
     {
         let mut coded = Vec::with_capacity(self.alloc, steps.len())?;
         for i in 0..steps.len() {
@@ -81,15 +82,16 @@ impl<'a, A: Allocator> CodedBuilder<'a, A> {
 
     /// The table of the labels so far, and their places there.
     fn ranks(&self) -> Result<Ranks<'a, A>, AllocError>
-        requires { Has self.now.marks.keys [] }
+        requires none { Has self.now.marks.keys [] }
+        requires once { AreOnce (met_of self.now) }
         ensures tables { IfOk result (λ r. AreTables (table_of r.table)) }
         ensures ranks { IfOk result (λ r. HaveRanks (met_of self.now) r) }
     {
         let cubes = Ranked::of(self.alloc, &self.cubes)?;
         let marks = Ranked::of(self.alloc, &self.marks)?;
         Ok(Ranks {
-            cubes: cubes.ranks(self.alloc, &self.cubes)?,
-            marks: marks.ranks(self.alloc, &self.marks)?,
+            cubes: cubes.ranks,
+            marks: marks.ranks,
             table: LabelTable {
                 cubes: cubes.sorted,
                 marks: marks.sorted,

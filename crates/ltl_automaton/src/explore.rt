@@ -65,6 +65,34 @@ pub struct Limits {
     pub edges: usize,
 }
 
+/// How far an exploration is.
+#[derive(Drop)]
+struct Progress<'a, K: Key, A: Allocator> {
+    listing: Worklist<'a, K, A>,
+    /// For each explored state the number of its edges, before duplicates are removed.
+    lengths: Vec<usize, &'a A>,
+    /// The sum of these numbers.
+    edges: usize,
+    /// That sum when the bound on the edges still to come was last computed.
+    looked: usize,
+}
+
+impl<'a, K: Key, A: Allocator> Progress<'a, K, A> {
+    /// Nothing is explored yet, and `start` waits.
+    fn begin(alloc: &'a A, start: K) -> Result<Self, AllocError>
+        ensures { IfOk result (λ p. HasBegun start p.listing p.lengths.items × p.edges ≡ 0) }
+    {
+        let mut listing = Worklist::new(alloc);
+        listing.number(start)?;
+        Ok(Progress {
+            listing,
+            lengths: Vec::new(alloc),
+            edges: 0,
+            looked: 0,
+        })
+    }
+}
+
 /// The number of an explored state that has the edges of `key`, if one is known. The explored states are the first `states` of the listing.
 fn known_place<'a, K: Key, E: EdgeType, T: Step<K, E>, S: Successors<K, E, T>, A: Allocator>(
     net: &mut S,
@@ -86,33 +114,31 @@ fn known_place<'a, K: Key, E: EdgeType, T: Step<K, E>, S: Successors<K, E, T>, A
     }
 }
 
-/// Appends a state that shares the edge list of the state `place`. Returns the new number of edges.
-fn put_like<'a, E: EdgeType, M: Builder<E> + Drop, A: Allocator>(
+/// Appends a state that shares the edge list of the state `place`. `TooLarge` if there are more than `most` edges then.
+fn put_like<'a, K: Key, E: EdgeType, M: Builder<E> + Drop, A: Allocator>(
+    progress: &mut Progress<'a, K, A>,
     made: &mut M,
-    lengths: &mut Vec<usize, &'a A>,
     place: usize,
     accepting: bool,
-    count: usize,
     most: usize,
-) -> Result<usize, AutomatonFault>
-    requires within { place < length lengths.old.items × place < length (M.built made.old).states }
+) -> Result<(), AutomatonFault>
+    requires within { place < length progress.old.lengths.items × place < length (M.built made.old).states }
     requires ready { M.ready made.old }
-    requires few { count ≤ most }
-    ensures made { IfOk result (λ _. M.built made.new ≡ with_state (M.built made.old) accepting (state_at (M.built made.old) place).edges) }
-    ensures ready { OnOk result (M.ready made.new) }
-    ensures lengths { IfOk result (λ _. lengths.new.items ≡ lengths.old.items ++ slice_index_or lengths.old.items place 0 ∷ []) }
-    ensures sum { IfOk result (λ n. n ≡ count + slice_index_or lengths.old.items place 0) }
-    ensures fits { IfOk result (λ n. n ≤ most) }
-    ensures large { IsErrOf result AutomatonFault.TooLarge → most < count + slice_index_or lengths.old.items place 0 }
+    requires few { progress.old.edges ≤ most }
+    ensures made { OnOk result ((M.built made.new ≡ with_state (M.built made.old) accepting (state_at (M.built made.old) place).edges) × M.ready made.new) }
+    ensures listing { progress.new.listing ≡ progress.old.listing }
+    ensures lengths { OnOk result (progress.new.lengths.items ≡ progress.old.lengths.items ++ slice_index_or progress.old.lengths.items place 0 ∷ []) }
+    ensures sum { OnOk result (progress.new.edges ≡ progress.old.edges + slice_index_or progress.old.lengths.items place 0 × progress.new.edges ≤ most) }
+    ensures large { IsErrOf result AutomatonFault.TooLarge → most < progress.old.edges + slice_index_or progress.old.lengths.items place 0 }
 {
-    let length = lengths[place];
-    let count = counted(count, length, most)?;
-    lengths.push(length)?;
+    let length = progress.lengths[place];
+    progress.edges = counted(progress.edges, length, most)?;
+    progress.lengths.push(length)?;
     made.push_like(accepting, place)?;
-    Ok(count)
+    Ok(())
 }
 
-/// Appends the state of `key` with edges of its own, and lists their targets. Returns the new number of edges.
+/// Appends the state of `key` with edges of its own, and lists their targets. `TooLarge` if a limit is exceeded then.
 fn put_new<
     'a,
     K: Key,
@@ -124,102 +150,58 @@ fn put_new<
 >(
     alloc: &'a A,
     net: &mut S,
-    listing: &mut Worklist<'a, K, A>,
+    progress: &mut Progress<'a, K, A>,
     made: &mut M,
-    lengths: &mut Vec<usize, &'a A>,
     key: &K,
-    count: usize,
     limits: Limits,
-) -> Result<usize, AutomatonFault>
+) -> Result<(), AutomatonFault>
     requires ready { S.ready net.old × M.ready made.old }
-    requires few { count ≤ limits.edges }
+    requires few { progress.old.edges ≤ limits.edges }
     ensures net { OnOk result ((S.net net.new ≡ S.net net.old) × S.ready net.new) }
-    ensures listed { OnOk result (AreListed K.eq (S.net net.old) key.now listing.old listing.new × length listing.new.keys ≤ limits.states) }
-    ensures made { OnOk result ((M.built made.new ≡ with_made K.eq M.sorts (S.net net.old) key.now listing.new.keys (M.built made.old)) × M.ready made.new) }
-    ensures lengths { IfOk result (λ _. lengths.new.items ≡ lengths.old.items ++ length ((S.net net.old).successors key.now) ∷ []) }
-    ensures sum { IfOk result (λ n. n ≡ count + length ((S.net net.old).successors key.now) × n ≤ limits.edges) }
-    ensures large { IsErrOf result AutomatonFault.TooLarge → AreTooMany K.eq (S.net net.old) key.now listing.old count limits.states limits.edges }
+    ensures listed { OnOk result (AreListed K.eq (S.net net.old) key.now progress.old.listing progress.new.listing
+        × length progress.new.listing.keys ≤ limits.states) }
+    ensures made { OnOk result ((M.built made.new ≡ with_made K.eq M.sorts (S.net net.old) key.now progress.new.listing.keys (M.built made.old))
+        × M.ready made.new) }
+    ensures lengths { OnOk result (progress.new.lengths.items ≡ progress.old.lengths.items ++ length ((S.net net.old).successors key.now) ∷ []) }
+    ensures sum { OnOk result (progress.new.edges ≡ progress.old.edges + length ((S.net net.old).successors key.now) × progress.new.edges ≤ limits.edges) }
+    ensures large { IsErrOf result AutomatonFault.TooLarge
+        → AreTooMany K.eq (S.net net.old) key.now progress.old.listing progress.old.edges limits.states limits.edges }
 {
-    net.prepare(key, limits.edges - count)?;
+    net.prepare(key, limits.edges - progress.edges)?;
     let steps = net.steps();
-    let count = counted(count, steps.len(), limits.edges)?;
-    lengths.push(steps.len())?;
-    let targets = numbered(alloc, listing, steps, limits.states)?;
+    progress.edges = counted(progress.edges, steps.len(), limits.edges)?;
+    progress.lengths.push(steps.len())?;
+    let targets = numbered(alloc, &mut progress.listing, steps, limits.states)?;
     made.push_steps(net.accepting(key), steps, targets.as_slice())?;
-    Ok(count)
+    Ok(())
 }
 
 /// The next key of the worklist, `None` at its end, or `TooLarge` as soon as more than `most` edges are certain.
 fn take_next<'a, K: Key, E: EdgeType, T: Step<K, E>, S: Successors<K, E, T>, A: Allocator>(
     net: &mut S,
-    listing: &mut Worklist<'a, K, A>,
-    looked: &mut usize,
-    count: usize,
+    progress: &mut Progress<'a, K, A>,
     most: usize,
 ) -> Result<Option<K>, AutomatonFault>
     requires ready { S.ready net.old }
-    requires few { count ≤ most }
-    ensures next { IfOk result (λ k. k ≡ slice_get listing.old.keys listing.old.explored) }
-    ensures explored { IfOk result (λ k. listing.new.explored ≡ (if is_some k then listing.old.explored + 1 else listing.old.explored)) }
-    ensures keys { listing.new.keys ≡ listing.old.keys }
+    requires few { progress.old.edges ≤ most }
+    ensures next { IfOk result (λ k. k ≡ slice_get progress.old.listing.keys progress.old.listing.explored) }
+    ensures explored { IfOk result (λ k. progress.new.listing.explored
+        ≡ (if is_some k then progress.old.listing.explored + 1 else progress.old.listing.explored)) }
+    ensures keys { progress.new.listing.keys ≡ progress.old.listing.keys }
+    ensures same { progress.new.edges ≡ progress.old.edges × progress.new.lengths.items ≡ progress.old.lengths.items }
     ensures net { OnOk result ((S.net net.new ≡ S.net net.old) × S.ready net.new) }
-    ensures large { IsErrOf result AutomatonFault.TooLarge → most < count + edges_behind (S.net net.old) listing.old.keys listing.old.explored }
+    ensures large { IsErrOf result AutomatonFault.TooLarge
+        → most < progress.old.edges + edges_behind (S.net net.old) progress.old.listing.keys progress.old.listing.explored }
 {
-    if are_too_many_ahead(net, listing, looked, count, most)? {
+    let count = progress.edges;
+    if are_too_many_ahead(net, &progress.listing, &mut progress.looked, count, most)? {
         return Err(AutomatonFault::TooLarge);
     }
-    Ok(listing.next())
+    Ok(progress.listing.next())
 }
 
-/// Explores what the start reaches, until the worklist is empty or a limit is passed.
-fn explore<
-    'a,
-    K: Key,
-    E: EdgeType,
-    T: Step<K, E>,
-    S: Successors<K, E, T>,
-    M: Builder<E> + Drop,
-    A: Allocator,
->(
-    alloc: &'a A,
-    start: K,
-    net: &mut S,
-    listing: &mut Worklist<'a, K, A>,
-    made: &mut M,
-    lengths: &mut Vec<usize, &'a A>,
-    limits: Limits,
-) -> Result<(), AutomatonFault>
-    requires some { 0 < limits.states }
-    requires ready { S.ready net.old × M.ready made.old }
-    requires begun { HasBegun listing.old (M.built made.old) lengths.old.items }
-    ensures reachable { IfOk result (λ _. IsReachable K.eq M.sorts (moves_of (S.net net.old)) start (M.built made.old).sets (M.built made.new)) }
-    ensures bounded { IfOk result (λ _. IsBounded limits.states limits.edges (M.built made.new)) }
-    ensures ready { OnOk result (M.ready made.new) }
-    ensures fits { OnOk result (¬ (PassesLimits K.eq (targets_of (S.net net.old)) start limits.states limits.edges)) }
-    ensures large { IsErrOf result AutomatonFault.TooLarge → PassesLimits K.eq (targets_of (S.net net.old)) start limits.states limits.edges }
-{
-    listing.number(start)?;
-    let mut count = 0usize;
-    let mut looked = 0usize;
-    'things: while let Some(key) = take_next(net, listing, &mut looked, count, limits.edges)? {
-        if let Some(place) = known_place(net, listing, &key, made.len())? {
-            count = put_like(
-                made,
-                lengths,
-                place,
-                net.accepting(&key),
-                count,
-                limits.edges,
-            )?;
-        } else {
-            count = put_new(alloc, net, listing, made, lengths, &key, count, limits)?;
-        }
-    }
-    Ok(())
-}
-
-/// The automaton of the states that are reachable from `start`. State 0 is `start`; the others are numbered breadth first. The edges of a state keep
-/// the order in which `net` returns them, or are sorted and without duplicates if `sorted` is set. A limit counts edges before duplicates are removed.
+/// The automaton of the states that are reachable from `start`. State 0 is `start`; the others are numbered breadth first. The builder determines whether
+/// the edges of a state keep the order in which `net` lends them, or are sorted and without duplicates. A limit counts edges before duplicates are removed.
 /// The states are appended to `builder`, which has none yet and whose number of acceptance sets stays. The result is this builder.
 pub fn explore_from<
     'a,
@@ -241,17 +223,15 @@ pub fn explore_from<
     ensures fits { OnOk result (¬ (PassesLimits K.eq (targets_of (S.net net.old)) start limits.states limits.edges)) }
     ensures large { IsErrOf result AutomatonFault.TooLarge → PassesLimits K.eq (targets_of (S.net net.old)) start limits.states limits.edges }
 {
-    let mut listing = Worklist::new(alloc);
+    let mut progress = Progress::begin(alloc, start)?;
     let mut made = builder;
-    let mut lengths = Vec::new(alloc);
-    explore(
-        alloc,
-        start,
-        net,
-        &mut listing,
-        &mut made,
-        &mut lengths,
-        limits,
-    )?;
+    'things: while let Some(key) = take_next(net, &mut progress, limits.edges)? {
+        if let Some(place) = known_place(net, &progress.listing, &key, made.len())? {
+            let accepting = net.accepting(&key);
+            put_like(&mut progress, &mut made, place, accepting, limits.edges)?;
+        } else {
+            put_new(alloc, net, &mut progress, &mut made, &key, limits)?;
+        }
+    }
     Ok(made)
 }

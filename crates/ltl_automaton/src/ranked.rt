@@ -1,7 +1,8 @@
-//! Different values in their order, with a search for the place of a value.
+//! Different values in their order, and the place of each value there.
 
-ghost use Rattle.std.specs.Prelude.{◌≡◌, map, slice_get, Some, IfOk};
-ghost use Rattle.ltl_spec.specs.Collections.Sets.{Has, IsRising, set_of};
+ghost use Rattle.std.specs.Prelude.{◌≡◌, IfOk, length};
+ghost use Rattle.ltl_spec.specs.Collections.Lists.{HasNoRepeats};
+ghost use Rattle.ltl_spec.specs.Collections.Sets.{set_of};
 ghost use Rattle.ltl_automaton.specs.LabelTables.{AreRanks};
 
 use crate::interner::Interner;
@@ -9,12 +10,12 @@ use crate::sorting::{ListOrder, sort_dedup};
 use std::alloc::{AllocError, Allocator};
 use std::hash::Hash;
 
-/// Different values, strictly sorted. The number of a value is its place.
+/// The values of an interner, strictly sorted.
 #[derive(Drop)]
-pub(crate) struct Ranked<'a, T: ListOrder + Eq + Hash, A: Allocator> {
+pub(crate) struct Ranked<'a, T: ListOrder, A: Allocator> {
     pub(crate) sorted: Vec<T, &'a A>,
-    places: Interner<'a, T, A>,
-    ghost same: { places.keys ≡ sorted.items },
+    /// For each value, by its number in the interner, its place in `sorted`.
+    pub(crate) ranks: Vec<u32, &'a A>,
 }
 
 /// The number in 32 bits. A number that needs more bits is reported as lack of memory.
@@ -27,48 +28,50 @@ pub(crate) fn narrow(number: usize) -> Result<u32, AllocError>
     Ok(number as u32)
 }
 
+/// The values of an interner, sorted.
+fn sorted<'a, T: ListOrder + Eq + Hash, A: Allocator>(
+    alloc: &'a A,
+    values: &Interner<'_, T, A>,
+) -> Result<Vec<T, &'a A>, AllocError>
+    ensures { IfOk result (λ v. v.items ≡ set_of T.order values.now.keys) }
+{
+    let mut sorted = Vec::with_capacity(alloc, values.len())?;
+    for number in 0..values.len() {
+        sorted.push(*values.get(number))?;
+    }
+    sort_dedup(&mut sorted);
+    Ok(sorted)
+}
+
+/// For each value of the interner its place among the sorted ones.
+fn ranks<'a, T: ListOrder + Eq + Hash, A: Allocator>(
+    alloc: &'a A,
+    values: &Interner<'_, T, A>,
+    sorted: &[T],
+) -> Result<Vec<u32, &'a A>, AllocError>
+    requires once { HasNoRepeats values.now.keys }
+    requires sorted { sorted.now ≡ set_of T.order values.now.keys }
+    ensures { IfOk result (λ v. AreRanks values.now.keys sorted.now v.items) }
+{
+    let mut ranks: Vec<u32, &'a A> = Vec::new(alloc);
+    ranks.resize(values.len(), 0)?;
+    for place in 0..sorted.len() {
+        if let Some(number) = values.place(&sorted[place]) {
+            ranks[number] = narrow(place)?;
+        }
+    }
+    Ok(ranks)
+}
+
 impl<'a, T: ListOrder + Eq + Hash, A: Allocator> Ranked<'a, T, A> {
-    /// The values of an interner, sorted.
+    /// The values of an interner in their order, and their places.
     pub(crate) fn of(alloc: &'a A, values: &Interner<'_, T, A>) -> Result<Self, AllocError>
-        ensures { IfOk result (λ r. r.sorted.items ≡ set_of T.order values.now.keys) }
+        requires { HasNoRepeats values.now.keys }
+        ensures sorted { IfOk result (λ r. r.sorted.items ≡ set_of T.order values.now.keys) }
+        ensures ranks { IfOk result (λ r. AreRanks values.now.keys r.sorted.items r.ranks.items) }
     {
-        let mut sorted = Vec::with_capacity(alloc, values.len())?;
-        for number in 0..values.len() {
-            sorted.push(*values.get(number))?;
-        }
-        sort_dedup(&mut sorted);
-        let mut places = Interner::new(alloc);
-        for value in sorted.as_slice() {
-            places.number(*value)?;
-        }
-        Ok(Ranked { sorted, places })
-    }
-
-    /// The number of a value, which has to be one of these.
-    #[inline(always)]
-    fn number(&self, value: &T) -> usize
-        requires { Has self.now.sorted.items value.now }
-        ensures { slice_get self.now.sorted.items result ≡ Some value.now }
-    {
-        match self.places.place(value) {
-            Some(place) => place,
-            None => 0,
-        }
-    }
-
-    /// For each value of the interner, in its order there, the number here. Both have the same values.
-    pub(crate) fn ranks(
-        &self,
-        alloc: &'a A,
-        values: &Interner<'_, T, A>,
-    ) -> Result<Vec<u32, &'a A>, AllocError>
-        requires { self.now.sorted.items ≡ set_of T.order values.now.keys }
-        ensures { IfOk result (λ v. AreRanks values.now.keys self.now.sorted.items v.items) }
-    {
-        let mut ranks = Vec::with_capacity(alloc, values.len())?;
-        for number in 0..values.len() {
-            ranks.push(narrow(self.number(values.get(number)))?)?;
-        }
-        Ok(ranks)
+        let sorted = sorted(alloc, values)?;
+        let ranks = ranks(alloc, values, sorted.as_slice())?;
+        Ok(Ranked { sorted, ranks })
     }
 }

@@ -48,6 +48,5 @@ pub trait Successors<K: Key, E: EdgeType, T: Step<K, E>> {
 
     /// The edges of the last call of `prepare`.
     fn steps(&self) -> &[T]
-        requires { ready self.now }
         ensures { map T.move_of result.now ≡ lent self.now };
 }

@@ -14,8 +14,8 @@ rows-init g c =
     let none : length c.new-conjuncts.result.lists.items ≡ 0 = ap length c.new-conjuncts.ensures.lists in
     let few = c.elementary_places-rest.ensures.few in
     record {
-      lists = c.in_ok-lists.ensures c.args.pruning.now.rule;
-      conjuncts = record { linked = c.new-conjuncts.ensures.linked (table_at c.args.table.now); rows = c.new-conjuncts.ensures.rows (table_at c.args.table.now) c.args.pruning.now.rule };
+      lists = c.in_ok-lists.ensures c.args.context.now.pruning.rule;
+      conjuncts = record { linked = c.new-conjuncts.ensures.linked (table_at c.args.context.now.table.now); rows = c.new-conjuncts.ensures.rows (table_at c.args.context.now.table.now) c.args.context.now.pruning.rule };
       room = omega arith;
       new = λ i h k. subst (λ xs. Has xs i) c.new-conjuncts.ensures.made k;
       all = λ i l. inr (c.elementary_places-rest.ensures.all i l);
@@ -41,7 +41,7 @@ add-requires-clause-room g c =
     let long = c.len.ensures in
     let room = c.rows.invariant.room in
     let less = fewer_left c.rows.rest c.single.result c.without-rest.result c.in-Some.place c.in-Some.ensures (taken_one c.single.result c.in-Some.place c.single.ensures) c.without-rest.ensures in
-    (all_at (λ x. x < 256) c.rows.rest c.in-Some.place c.invariant-in-Some.ensures.below c.in-Some.ensures, omega arith, omega arith)
+    (c.rows.invariant.new c.in-Some.place c.in-Some.ensures, (all_at (λ x. x < 256) c.rows.rest c.in-Some.place c.invariant-in-Some.ensures.below c.in-Some.ensures, omega arith, omega arith))
 
 pub rows-preserved : goal.rows-preserved
 rows-preserved g c =

@@ -7,11 +7,11 @@ use Rattle.ltl_alt.proofs.conjunct_table.ConjunctTable.of.Given as goal
 
 abbrev pub invariant-rows : goal.invariant-rows
 invariant-rows g l = record {
-  lists : AreLists l.table l.pruning.rule l.lists.pairs.items l.lists.sets.items;
-  conjuncts : IsConjunctTable (table_at l.table) l.pruning.rule l.conjuncts.made l.conjuncts.owners.items l.conjuncts.lists.items l.conjuncts.dependencies.items l.conjuncts.links.items;
+  lists : AreLists l.context.table.now l.context.pruning.rule l.lists.pairs.items l.lists.sets.items;
+  conjuncts : IsConjunctTable (table_at l.context.table.now) l.context.pruning.rule l.conjuncts.made l.conjuncts.owners.items l.conjuncts.lists.items l.conjuncts.dependencies.items l.conjuncts.links.items;
   room : length l.conjuncts.lists.items + length l.rest ≤ 256;
   new : (i : ℕ) → Has l.rest i → Has l.conjuncts.made i → ⊥;
-  all : (i : ℕ) → i < length l.table.elementary → Has l.conjuncts.made i ⊎ Has l.rest i;
+  all : (i : ℕ) → i < length l.context.table.now.elementary → Has l.conjuncts.made i ⊎ Has l.rest i;
 }
 
 abbrev pub decreases-rows : goal.decreases-rows

@@ -22,13 +22,13 @@ push-requires-clause-few g c =
 
 pub push-requires-clause-sound : goal.push-requires-clause-sound
 push-requires-clause-sound g c =
-    let t = c.args.table.now in
+    let t = c.args.context.now.table.now in
     let p = slice_index_or c.args.conjuncts.now c.conjuncts.conjunct-index conjunct.Never in
-    kept_sound (table_at t) c.args.pruning.now.rule (conjunct_pairs t p) c.in_ok-pairs.pairs (conjunct_sound t p) c.in_ok-pairs.ensures.pairs.kept
+    kept_sound (table_at t) c.args.context.now.pruning.rule (conjunct_pairs t p) c.in_ok-pairs.pairs (conjunct_sound t p) c.in_ok-pairs.ensures.pairs.kept
 
 pub conjuncts-preserved : goal.conjuncts-preserved
 conjuncts-preserved g c =
-    let t = c.args.table.now in
+    let t = c.args.context.now.table.now in
     let ps = c.args.conjuncts.now in
     let i = c.conjuncts.conjunct-index in
     let p : Conjunct = slice_index_or ps i conjunct.Never in
@@ -40,7 +40,7 @@ conjuncts-preserved g c =
     record {
       lists = c.in_ok-pairs.ensures.lists;
       linked = c.in_ok-push.ensures.linked;
-      added = added_more (table_at t) c.args.pruning.now.rule c.args.place (map (conjunct_pairs t) (take i ps)) (map (conjunct_pairs t) (take (i + 1) ps)) c.args.self.now.owners.items old.owners.items new.owners.items
+      added = added_more (table_at t) c.args.context.now.pruning.rule c.args.place (map (conjunct_pairs t) (take i ps)) (map (conjunct_pairs t) (take (i + 1) ps)) c.args.self.now.owners.items old.owners.items new.owners.items
           c.args.self.now.lists.items old.lists.items new.lists.items (conjunct_pairs t p) c.in_ok-pairs.pairs c.conjuncts.invariant.added c.in_ok-pairs.ensures.pairs.kept next c.in_ok-push.ensures.owners c.in_ok-push.ensures.lists;
       made = c.in_ok-push.ensures.made ∙ c.conjuncts.invariant.made;
       count = omega arith;

@@ -7,9 +7,9 @@ use Rattle.ltl_alt.proofs.conjunct_table.ConjunctTable.push_conjuncts.Given as g
 
 abbrev pub invariant-conjuncts : goal.invariant-conjuncts
 invariant-conjuncts g l = record {
-  lists : AreLists l.table l.pruning.rule l.rows.pairs.items l.rows.sets.items;
-  linked : AreLinked (table_at l.table) l.self.lists.items l.self.dependencies.items l.self.links.items;
-  added : AreAdded (table_at l.table) l.pruning.rule l.place (map (conjunct_pairs l.table) (take l.conjunct-index l.conjuncts)) l.fn.self.owners.items l.self.owners.items l.fn.self.lists.items l.self.lists.items;
+  lists : AreLists l.context.table.now l.context.pruning.rule l.rows.pairs.items l.rows.sets.items;
+  linked : AreLinked (table_at l.context.table.now) l.self.lists.items l.self.dependencies.items l.self.links.items;
+  added : AreAdded (table_at l.context.table.now) l.context.pruning.rule l.place (map (conjunct_pairs l.context.table.now) (take l.conjunct-index l.conjuncts)) l.fn.self.owners.items l.self.owners.items l.fn.self.lists.items l.self.lists.items;
   made : l.self.made ≡ l.fn.self.made;
   count : length l.self.lists.items ≡ length l.fn.self.lists.items + l.conjunct-index;
 }

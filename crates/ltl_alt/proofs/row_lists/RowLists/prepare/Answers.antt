@@ -14,7 +14,7 @@ list_needed_pairs-requires-clause-have g c =
     let count = c.in_ok-needs.ensures.count in
     let inside : k < length ns = omega arith in
     let is : n ≡ need_at ns k = c.index-need.ensures ∙ same_default ns k n _ inside in
-    have_pairs_at c.args.table.now c.args.pruning.now.rule ns c.rows.self.pairs.items c.rows.self.sets.items k c.rows.invariant.lists c.in_ok-needs.ensures.asked c.rows.invariant.made inside
+    have_pairs_at c.args.context.now.table.now c.args.context.now.pruning.rule ns c.rows.self.pairs.items c.rows.self.sets.items k c.rows.invariant.lists c.in_ok-needs.ensures.asked c.rows.invariant.made inside
     c.row.result c.row.ensures.found c.row.ensures.operands n is
 
 pub list_needed_sets-requires-clause-have : goal.list_needed_sets-requires-clause-have
@@ -25,8 +25,8 @@ list_needed_sets-requires-clause-have g c =
     let count = c.in_ok-needs.ensures.count in
     let inside : k < length ns = omega arith in
     let is : n ≡ need_at ns k = c.index-need.ensures ∙ same_default ns k n _ inside in
-    λ e r d. subst (λ es. HaveSets c.args.table.now c.args.pruning.now.rule (list_at es) r) (sym c.in_ok-list_needed_pairs.ensures.sets)
-    (have_sets_at c.args.table.now c.args.pruning.now.rule ns c.rows.self.pairs.items c.rows.self.sets.items k c.rows.invariant.lists c.in_ok-needs.ensures.asked c.rows.invariant.made inside
+    λ e r d. subst (λ es. HaveSets c.args.context.now.table.now c.args.context.now.pruning.rule (list_at es) r) (sym c.in_ok-list_needed_pairs.ensures.sets)
+    (have_sets_at c.args.context.now.table.now c.args.context.now.pruning.rule ns c.rows.self.pairs.items c.rows.self.sets.items k c.rows.invariant.lists c.in_ok-needs.ensures.asked c.rows.invariant.made inside
     c.row.result c.row.ensures.found c.row.ensures.operands n is e r d)
 
 pub rows-preserved : goal.rows-preserved

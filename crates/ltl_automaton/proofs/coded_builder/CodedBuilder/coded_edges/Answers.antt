@@ -7,13 +7,13 @@ use Rattle.ltl_automaton.specs.Labels.{Tables}
 use Rattle.ltl_automaton.specs.LabelTables.{AreMade, met_of}
 use Rattle.ltl_automaton.specs.Net.{edges_to}
 use Rattle.ltl_automaton.proofs.NetLaws.{edges_to_at, edges_to_none, edges_to_whole}
-use Rattle.ltl_automaton.proofs.TableLaws.{coded_next, extends_next, extends_none, extends_on, made_stay, met_there, none_made}
+use Rattle.ltl_automaton.proofs.TableLaws.{coded_next, once_next, extends_next, extends_none, extends_on, made_stay, met_there, none_made}
 use Rattle.ltl_automaton.proofs.coded_builder.CodedBuilder.coded_edges.Goals as goal
 
 pub loop-i-init : goal.loop-i-init
 loop-i-init g c =
     let t = met_of c.args.self.now in
-    record { more = extends_none t; made = subst (AreMade t c.in_ok-coded.coded.items) (sym (edges_to_none _)) (none_made t c.in_ok-coded.coded.items c.in_ok-coded.ensures.items); states = refl }
+    record { more = extends_none t; made = subst (AreMade t c.in_ok-coded.coded.items) (sym (edges_to_none _)) (none_made t c.in_ok-coded.coded.items c.in_ok-coded.ensures.items); states = refl; once = λ h. h }
 
 pub loop-i-preserved : goal.loop-i-preserved
 loop-i-preserved g c =
@@ -33,6 +33,7 @@ loop-i-preserved g c =
           (ap (slice_get after.marks) c.in_ok-narrow-2.ensures ∙ met_there (pointwise nat_eq) bytes_decides after.marks e.marks _ c.in_ok-number-2.ensures.stored)
           refl c.in_ok-push.ensures.items (next ∙ ap (λ x. es ++ x ∷ []) (sym c.edge_to-edge.ensures));
       states = c.loop-i.invariant.states;
+      once = λ h. once_next before after e.cube e.marks (c.loop-i.invariant.once h) c.in_ok-number.ensures.keys c.in_ok-number-2.ensures.keys;
     }
 
 pub returns-clause-edges : goal.returns-clause-edges

@@ -18,4 +18,5 @@ returns-clause-ready g c =
     record {
       coded = built_coded (met_of c.args.self.now) (met_of c.coded_edges.new.self) made.more (automaton_of c.args.self.now.states) (automaton_of c.push.new.self) c.args.accepting _ c.requires.ready.coded pushed made.edges.coded;
       none = none_still (met_of c.args.self.now) (met_of c.coded_edges.new.self) made.more c.requires.ready.none;
+      once = made.once c.requires.ready.once;
     }

@@ -1,6 +1,0 @@
-use Rattle.std.proofs.Common.{◌≡◌, take, map}
-use Rattle.ltl_sets.specs.Words.{letter_of}
-use Rattle.ltl_alt.proofs.columns.letters.Given as goal
-
-abbrev pub invariant-pairs : goal.invariant-pairs
-invariant-pairs g l = l.sets.items ≡ map (λ p. letter_of p.cube) (take l.pair-index l.block)
