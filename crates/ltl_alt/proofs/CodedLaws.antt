@@ -1,15 +1,16 @@
 -- A pair that lacks nothing that another one asks for fulfils the same until rows, whatever comes to both.
 use Rattle.std.proofs.Common.{◌≡◌, ◌≢◌, ℕ, zero, suc, ◌<◌, Bool, true, false, not, ◌&&◌, inl, inr, List, [], ◌∷◌, length, take, refl, sym, ◌∙◌, ap, subst, arith}
 use Rattle.std.specs.Prelude.{slice_index_or}
+use Rattle.std.specs.Ordering.{nat_cmp}
 use Rattle.std.proofs.lemmas.Bool.{cases_lt, false_from_ne_true}
 use Rattle.std.proofs.lemmas.List.{get_or_past, length-map, length-take-le}
 use Rattle.std.proofs.lemmas.Option.{slice_get-get_or}
 use Rattle.ltl_spec.specs.Collections.Sets.{Has, has}
 use Rattle.ltl_spec.specs.Transitions.Cubes.{Literal, literal_cmp, opposite}
 use Rattle.ltl_spec.specs.NormalForms.Normal.{Normal, Bottom}
-use Rattle.ltl_spec.specs.Transitions.Pairs.{Pair, Within}
+use Rattle.ltl_spec.specs.Transitions.Pairs.{RowSet, Pair, Within}
 use Rattle.ltl_spec.specs.Transitions.RowTransitions.{Table, table_of, place}
-use Rattle.ltl_spec.specs.Transitions.Pruning.{IsSafeToDrop}
+use Rattle.ltl_spec.specs.Transitions.Pruning.{IsSafeToDrop, is_counted}
 use Rattle.ltl_spec.proofs.Collections.SetLaws.{has_Decides, union_cases}
 use Rattle.ltl_spec.proofs.Collections.MemberLaws.{any_true}
 use Rattle.ltl_spec.proofs.Collections.Orders.{nat_linear, literal_linear}
@@ -124,11 +125,11 @@ index_of (y ∷ ys) x (inr h) = let (i, l, e) = index_of ys x h in (suc i, omega
 pub sound_steps : {A : Type 0} (T : Table) (f : Fulfilment A) → AreTests T f → AreSteps f
 sound_steps T f w = record { earlier = w.earlier; leaves = w.leaves }
 
-module _ {A : Type 0} (T : Table) (f : Fulfilment A) (tests : AreTests T f) (ps : List Pair) (roots : List ℕ) (opens : AreOpenSteps f.untils.items f.leaves.items ps roots)
+module _ {A : Type 0} (T : Table) (f : Fulfilment A) (tests : AreTests T f) (counted : RowSet) (ps : List Pair) (roots : List ℕ) (opens : AreOpenSteps f.untils.items f.leaves.items counted ps roots)
     (t u core : Pair) (there : Has ps t) (v : Support) (lack : IsLack f roots core v) (independent : shares_some v (support_of t) ≡ false) (less : Within u t) (smaller : Within core u) where
-  -- the test of each until row is one of those that are open, or has nothing to do with the pair
-  until_through : (x : Pair) → IsConsistent (united t x) → (F : Normal) → Has T.untils F → Passes (united t x) (until_test (place T) F) → Passes (united u x) (until_test (place T) F)
-  until_through x n F h p =
+  -- the test of each until row that counts is one of those that are open, or has nothing to do with the pair
+  until_through : (x : Pair) → IsConsistent (united t x) → (F : Normal) → Has T.untils F → is_counted T counted F ≡ true → Passes (united t x) (until_test (place T) F) → Passes (united u x) (until_test (place T) F)
+  until_through x n F h counts p =
       let (i, l, e) = index_of T.untils F h in
       let count = tests.count in
       let d : UntilTest = record { place = 0; step = 0 } in
@@ -138,7 +139,8 @@ module _ {A : Type 0} (T : Table) (f : Fulfilment A) (tests : AreTests T f) (ps 
       let is : test_of f.steps.items y.step ≡ until_test (place T) F = w.test ∙ ap (until_test (place T)) e in
       let inside : y.step < length (steps_of f.steps.items) = subst (λ m. y.step < m) (sym (length-map f.steps.items step_of)) w.below in
       let lacked = lack (sound_steps T f tests) in
-      elim (opens i y found) [
+      let here : has nat_cmp y.place counted ≡ true = ap (λ k. has nat_cmp k counted) (w.place_of ∙ ap (place T) e) ∙ counts in
+      elim (opens i y found here) [
         | inl o ↦ passes_more (united core x) (united u x) (until_test (place T) F) (united_within core u x x smaller (within_refl x))
             (subst (λ b. Passes (united t x) b → Passes (united core x) b) is
             (asked_through t core x (within_trans core u t smaller less) n (steps_of f.steps.items) lacked.asked lacked.codes v lacked.leaves independent y.step inside (lacked.rooted y.step o inside)) p)
@@ -147,9 +149,9 @@ module _ {A : Type 0} (T : Table) (f : Fulfilment A) (tests : AreTests T f) (ps 
       ]
 
   -- so the one may stand for the other
-  pub lack_safe : IsSafeToDrop T t u
-  lack_safe = subst (λ X. IsSafeToDrop X t u) (sym tests.is_table) (safe_from (table_of tests.core) t u less (λ x n F h m.
+  pub lack_safe : IsSafeToDrop T counted t u
+  lack_safe = subst (λ X. IsSafeToDrop X counted t u) (sym tests.is_table) (safe_from (table_of tests.core) counted t u less (λ x n F h counts m.
       let both = united_within u t x x less (within_refl x) in
       passes_marked tests.core F h (united u x) (consistent_within (united u x) (united t x) both n) (λ k.
       let passed = marked_passes tests.core F h (united t x) n m (both.targets (place (table_of tests.core) F) k) in
-      subst (λ (X : Table). Has X.untils F → Passes (united t x) (until_test (place X) F) → Passes (united u x) (until_test (place X) F)) tests.is_table (until_through x n F) h passed)))
+      subst (λ (X : Table). Has X.untils F → is_counted X counted F ≡ true → Passes (united t x) (until_test (place X) F) → Passes (united u x) (until_test (place X) F)) tests.is_table (until_through x n F) h counts passed)))

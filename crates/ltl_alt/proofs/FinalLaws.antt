@@ -5,7 +5,7 @@ use Rattle.std.specs.Cmp.Lexicographic.{pointwise, bytes_decides}
 use Rattle.std.specs.Map.{lookup}
 use Rattle.indexmap.specs.IndexMap.{insert_entry}
 use Rattle.ltl_spec.specs.Collections.Sets.{Has, set_of}
-use Rattle.ltl_spec.specs.Transitions.Pairs.{RowSet, Pair, pair_cmp, join}
+use Rattle.ltl_spec.specs.Transitions.Pairs.{RowSet, Pair, pair_cmp, join, empty_pair}
 use Rattle.ltl_spec.specs.Transitions.RowTransitions.{Table, Transition, unimplied_transitions, with_marks}
 use Rattle.ltl_spec.proofs.Collections.MemberLaws.{Has-map, map_cases}
 use Rattle.ltl_spec.proofs.Collections.Orders.{pair_linear}
@@ -13,6 +13,15 @@ use Rattle.ltl_spec.proofs.Collections.SetLaws.{Has-set_of, IsRising-set_of, set
 use Rattle.ltl_spec.proofs.Transitions.ProductTransitions.{transitions_of}
 use Rattle.ltl_alt.specs.TransitionView.{AllSets}
 use Rattle.ltl_alt.specs.FinalView.{AreFinals, AreWithin, IsFinal, IsListOf, IsLonger, made_of}
+use Rattle.ltl_alt.specs.ComponentView.{IsLastOf}
+use Rattle.ltl_alt.specs.MemoView.{last_list}
+use Rattle.ltl_alt.specs.ConjunctTableView.{conjunct_of}
+use Rattle.ltl_alt.specs.declared.rule.Rule.{Rule}
+use Rattle.ltl_alt.proofs.ComponentLaws.{joined_on}
+use Rattle.ltl_alt.proofs.JoinOrderLaws.{kept_alike}
+use Rattle.ltl_alt.proofs.StandInLaws.{kept_on, stands_in}
+use Rattle.ltl_spec.proofs.Transitions.ConjunctJoins.{join_of, joined_from_nothing}
+use Rattle.ltl_spec.proofs.Transitions.SameJoins.{AreSound, alike_sym}
 use Rattle.ltl_alt.specs.declared.memo.JoinKey.{JoinKey}
 use Rattle.ltl_alt.specs.ConjunctTableView as conjuncts
 use Rattle.ltl_alt.proofs.JoinLaws.{same_key, key_exact}
@@ -41,14 +50,31 @@ list_longer T keep pairs more lists new key n g h w = record {
       ∙ (λ i. transitions_of T keep (set_of pair_cmp (join (sym (longer_there [] pairs more g key.left w.left) i) (sym (longer_there [] pairs more g key.right w.right) i))));
 }
 
-pub final_longer : (T : Table) (keep : Bool) (ps : List (List Pair)) (lists new : List (List Transition)) (component : RowSet) (n : ℕ) → IsLonger lists new → IsFinal T keep ps lists component n → IsFinal T keep ps new component n
-final_longer T keep ps lists new component n h w = (longer_within lists new h n w.0, longer_there [] lists new h n w.0 ∙ w.1)
+pub final_longer : (T : Table) (r : Rule) (keep : Bool) (ps : List (List Pair)) (lists new : List (List Transition)) (component : RowSet) (n : ℕ) → IsLonger lists new → IsFinal T r keep ps lists component n → IsFinal T r keep ps new component n
+final_longer T r keep ps lists new component n h w = record {
+  number = longer_within lists new h n w.number;
+  pairs = w.pairs;
+  kept = w.kept;
+  made = longer_there [] lists new h n w.number ∙ w.made;
+}
 
-pub finals_longer : (T : Table) (keep : Bool) (ps pairs more : List (List Pair)) (lists new : List (List Transition)) (of_joins : List (JoinKey × ℕ)) (of_components : List (RowSet × ℕ)) → conjuncts.IsLonger pairs more → IsLonger lists new
-    → AreFinals T keep ps pairs lists of_joins of_components → AreFinals T keep ps more new of_joins of_components
-finals_longer T keep ps pairs more lists new of_joins of_components g h w = record {
+-- pairs that were kept of the joins of a component have its transitions
+pub final_kept : (T : Table) (r : Rule) (keep : Bool) (ps pairs : List (List Pair)) (lists : List (List Transition)) (component : RowSet) (key : JoinKey) (n : ℕ) → ((k : ℕ) → AreSound (conjunct_of ps k))
+    → IsLastOf T r ps pairs component key → IsListOf T keep pairs lists key n → IsFinal T r keep ps lists component n
+final_kept T r keep ps pairs lists component key n sound last is = record {
+  number = is.number;
+  pairs = last_list pairs key;
+  kept = kept_on (stands_in T r) (join_of (conjunct_of ps) component) (joined_on (conjunct_of ps) (empty_pair ∷ []) component) (last_list pairs key)
+      (kept_alike (stands_in T r) (join_of (conjunct_of ps) component) (joined_on (conjunct_of ps) (empty_pair ∷ []) component)
+      (alike_sym (joined_on (conjunct_of ps) (empty_pair ∷ []) component) (join_of (conjunct_of ps) component) (joined_from_nothing (conjunct_of ps) sound component))) last.1.kept;
+  made = is.made;
+}
+
+pub finals_longer : (T : Table) (r : Rule) (keep : Bool) (ps pairs more : List (List Pair)) (lists new : List (List Transition)) (of_joins : List (JoinKey × ℕ)) (of_components : List (RowSet × ℕ)) → conjuncts.IsLonger pairs more → IsLonger lists new
+    → AreFinals T r keep ps pairs lists of_joins of_components → AreFinals T r keep ps more new of_joins of_components
+finals_longer T r keep ps pairs more lists new of_joins of_components g h w = record {
   of_joins = λ key n k. list_longer T keep pairs more lists new key n g h (w.of_joins key n k);
-  of_components = λ component n k. final_longer T keep ps lists new component n h (w.of_components component n k);
+  of_components = λ component n k. final_longer T r keep ps lists new component n h (w.of_components component n k);
 }
 
 -- factors stay what they are
@@ -64,9 +90,9 @@ factors_longer lists new (k ∷ ks) h w =
 pub set_exact : (x y : RowSet) → pointwise nat_eq x y ≡ true → x ≡ y
 set_exact x y e = (bytes_decides x y).0 e
 
-pub lists_more : (T : Table) (keep : Bool) (ps pairs : List (List Pair)) (lists : List (List Transition)) (of_joins more : List (JoinKey × ℕ)) (of_components : List (RowSet × ℕ)) (key : JoinKey) (n : ℕ) → AreFinals T keep ps pairs lists of_joins of_components
-    → IsListOf T keep pairs lists key n → more ≡ insert_entry same_key of_joins key n → AreFinals T keep ps pairs lists more of_components
-lists_more T keep ps pairs lists of_joins more of_components key n w is e = record {
+pub lists_more : (T : Table) (r : Rule) (keep : Bool) (ps pairs : List (List Pair)) (lists : List (List Transition)) (of_joins more : List (JoinKey × ℕ)) (of_components : List (RowSet × ℕ)) (key : JoinKey) (n : ℕ) → AreFinals T r keep ps pairs lists of_joins of_components
+    → IsListOf T keep pairs lists key n → more ≡ insert_entry same_key of_joins key n → AreFinals T r keep ps pairs lists more of_components
+lists_more T r keep ps pairs lists of_joins more of_components key n w is e = record {
   of_joins = λ l m h. elim (exact_cases same_key key_exact of_joins key l n m (subst (λ es. Has es (l, m)) e h)) [
     | inl k ↦ w.of_joins l m k
     | inr k ↦ subst (λ x. IsListOf T keep pairs lists x m) (sym k.0) (subst (IsListOf T keep pairs lists key) (sym k.1) is)
@@ -74,25 +100,25 @@ lists_more T keep ps pairs lists of_joins more of_components key n w is e = reco
   of_components = w.of_components;
 }
 
-pub components_more : (T : Table) (keep : Bool) (ps pairs : List (List Pair)) (lists : List (List Transition)) (of_joins : List (JoinKey × ℕ)) (of_components more : List (RowSet × ℕ)) (component : RowSet) (o : ℕ) → AreFinals T keep ps pairs lists of_joins of_components
-    → IsFinal T keep ps lists component o → more ≡ insert_entry (pointwise nat_eq) of_components component o → AreFinals T keep ps pairs lists of_joins more
-components_more T keep ps pairs lists of_joins of_components more component o w is e = record {
+pub components_more : (T : Table) (r : Rule) (keep : Bool) (ps pairs : List (List Pair)) (lists : List (List Transition)) (of_joins : List (JoinKey × ℕ)) (of_components more : List (RowSet × ℕ)) (component : RowSet) (o : ℕ) → AreFinals T r keep ps pairs lists of_joins of_components
+    → IsFinal T r keep ps lists component o → more ≡ insert_entry (pointwise nat_eq) of_components component o → AreFinals T r keep ps pairs lists of_joins more
+components_more T r keep ps pairs lists of_joins of_components more component o w is e = record {
   of_joins = w.of_joins;
   of_components = λ g p h. elim (exact_cases (pointwise nat_eq) set_exact of_components component g o p (subst (λ es. Has es (g, p)) e h)) [
     | inl k ↦ w.of_components g p k
-    | inr k ↦ subst (λ x. IsFinal T keep ps lists x p) (sym k.0) (subst (IsFinal T keep ps lists component) (sym k.1) is)
+    | inr k ↦ subst (λ x. IsFinal T r keep ps lists x p) (sym k.0) (subst (IsFinal T r keep ps lists component) (sym k.1) is)
   ];
 }
 
 -- what is found
-pub list_known : (T : Table) (keep : Bool) (ps pairs : List (List Pair)) (lists : List (List Transition)) (of_joins : List (JoinKey × ℕ)) (of_components : List (RowSet × ℕ)) (key : JoinKey) (n : ℕ) → AreFinals T keep ps pairs lists of_joins of_components
+pub list_known : (T : Table) (r : Rule) (keep : Bool) (ps pairs : List (List Pair)) (lists : List (List Transition)) (of_joins : List (JoinKey × ℕ)) (of_components : List (RowSet × ℕ)) (key : JoinKey) (n : ℕ) → AreFinals T r keep ps pairs lists of_joins of_components
     → Some n ≡ lookup (same_key key) of_joins → IsListOf T keep pairs lists key n
-list_known T keep ps pairs lists of_joins of_components key n w e = map_known same_key key_exact (IsListOf T keep pairs lists key) key of_joins (Some n) e (λ m h. w.of_joins key m h)
+list_known T r keep ps pairs lists of_joins of_components key n w e = map_known same_key key_exact (IsListOf T keep pairs lists key) key of_joins (Some n) e (λ m h. w.of_joins key m h)
 
-pub component_known : (T : Table) (keep : Bool) (ps pairs : List (List Pair)) (lists : List (List Transition)) (of_joins : List (JoinKey × ℕ)) (of_components : List (RowSet × ℕ)) (component : RowSet) (o : ℕ) → AreFinals T keep ps pairs lists of_joins of_components
-    → Some o ≡ lookup (pointwise nat_eq component) of_components → IsFinal T keep ps lists component o
-component_known T keep ps pairs lists of_joins of_components component o w e =
-    map_known (pointwise nat_eq) set_exact (IsFinal T keep ps lists component) component of_components (Some o) e (λ p h. w.of_components component p h)
+pub component_known : (T : Table) (r : Rule) (keep : Bool) (ps pairs : List (List Pair)) (lists : List (List Transition)) (of_joins : List (JoinKey × ℕ)) (of_components : List (RowSet × ℕ)) (component : RowSet) (o : ℕ) → AreFinals T r keep ps pairs lists of_joins of_components
+    → Some o ≡ lookup (pointwise nat_eq component) of_components → IsFinal T r keep ps lists component o
+component_known T r keep ps pairs lists of_joins of_components component o w e =
+    map_known (pointwise nat_eq) set_exact (IsFinal T r keep ps lists component) component of_components (Some o) e (λ p h. w.of_components component p h)
 
 -- one factor is that at the first place
 pub one_factor : (lists : List (List Transition)) (factors : List ℕ) (n d : ℕ) → length factors ≡ 1 → n ≡ slice_index_or factors 0 d → map (made_of lists) factors ≡ made_of lists n ∷ []

@@ -1,5 +1,5 @@
 -- Equal pairs, joins that are remembered, and what is kept of the joins of a component.
-use Rattle.std.proofs.Common.{◌≡◌, ℕ, ◌<◌, Bool, true, false, ◌&&◌, inl, inr, List, [], ◌∷◌, length, map, refl, sym, ◌∙◌, ap, subst}
+use Rattle.std.proofs.Common.{◌≡◌, ℕ, ◌<◌, Bool, true, ◌&&◌, inl, inr, List, [], ◌∷◌, length, sym, ◌∙◌, subst}
 use Rattle.std.specs.Prelude.{nat_eq}
 use Rattle.std.specs.Cmp.{first_so, second_so}
 use Rattle.std.specs.Cmp.Lexicographic.{pointwise, bytes_decides}
@@ -7,12 +7,7 @@ use Rattle.std.proofs.lemmas.Bool.Decides.{Decides-eqb}
 use Rattle.indexmap.specs.IndexMap.{insert_entry}
 use Rattle.ltl_spec.specs.Collections.Sets.{Has, set_of}
 use Rattle.ltl_spec.specs.Transitions.Pairs.{Pair, pair_cmp, join, empty_pair}
-use Rattle.ltl_spec.specs.Transitions.RowTransitions.{Table, with_marks, unimplied_transitions}
-use Rattle.ltl_spec.proofs.Collections.Orders.{pair_linear}
-use Rattle.ltl_spec.proofs.Collections.SetLaws.{set_of_same}
-use Rattle.ltl_spec.proofs.Transitions.ConjunctJoins.{join_of}
-use Rattle.ltl_spec.proofs.Transitions.ProductTransitions.{transitions_of}
-use Rattle.ltl_spec.proofs.Transitions.SameJoins.{AreSound}
+use Rattle.ltl_spec.specs.Transitions.RowTransitions.{Table}
 use Rattle.ltl_sets.specs.CubeEq.{same_cube, cube_Decides}
 use Rattle.ltl_alt.specs.declared.memo.JoinKey.{JoinKey}
 use Rattle.ltl_alt.specs.declared.rule.Rule.{Rule}
@@ -20,8 +15,8 @@ use Rattle.ltl_alt.specs.ComponentView.{AreComponents, start_of}
 use Rattle.ltl_alt.specs.MemoView.{IsListAt, IsJoin, AreJoins}
 use Rattle.ltl_alt.specs.ConjunctTableView.{IsLonger, conjunct_of}
 use Rattle.ltl_alt.specs.declared.fulfilment.Fulfilment.{Fulfilment}
-use Rattle.ltl_alt.specs.StandIns.{IsFit, IsListed, IsPruned, StandsFor, rule_of}
-use Rattle.ltl_alt.proofs.ComponentLaws.{joined_on, joined_pruned, component_all, component_few}
+use Rattle.ltl_alt.specs.StandIns.{IsFit, IsListed, IsPruned, StandsFor}
+use Rattle.ltl_alt.proofs.ComponentLaws.{joined_pruned}
 use Rattle.ltl_alt.proofs.MapLaws.{exact_cases, longer_within, longer_there}
 
 pub same_pair : (p q : Pair) → same_cube p.cube q.cube ≡ true → pointwise nat_eq p.targets q.targets ≡ true → p ≡ q
@@ -91,10 +86,3 @@ components_longer T r conjuncts old new joins more nothing starts g w a = record
   nothing = list_at_longer old new (empty_pair ∷ []) nothing g a.nothing;
   starts = record { count = a.starts.count; each = λ k l. list_at_longer old new (conjunct_of conjuncts k) (start_of starts k) g (a.starts.each k l) };
 }
-
--- what is kept of conjuncts at once has the transitions of their joins
-pub kept_transitions_of : (T : Table) (conjunct : ℕ → List Pair) (sound : (k : ℕ) → AreSound (conjunct k)) (keep : Bool) (g : List ℕ) (ps : List Pair) → IsListed (StandsFor T (rule_of keep)) (joined_on conjunct (empty_pair ∷ []) g) ps
-    → transitions_of T keep ps ≡ transitions_of T keep (join_of conjunct g)
-kept_transitions_of T conjunct sound true g ps w = ap (map (with_marks T)) (set_of_same pair_linear ps w.rising) ∙ component_all T conjunct sound g ps w (map (with_marks T) ps) refl
-kept_transitions_of T conjunct sound false g ps w =
-    ap (λ xs. unimplied_transitions (map (with_marks T) xs)) (set_of_same pair_linear ps w.rising) ∙ component_few T conjunct sound g ps w (map (with_marks T) ps) (unimplied_transitions (map (with_marks T) ps)) refl refl

@@ -17,8 +17,7 @@ use Rattle.ltl_spec.proofs.Collections.Orders.{literal_linear, nat_linear}
 use Rattle.ltl_spec.proofs.Collections.ProductLists.{products_cases, Has-products}
 use Rattle.ltl_spec.proofs.Collections.SetLaws.{IsRising-union, IsRising-filter, same_members, set_of_alike, union_assoc, union_comm}
 use Rattle.ltl_spec.proofs.Transitions.IndependentMarks.{common, common_cases, Has-common, at_once}
-use Rattle.ltl_spec.proofs.Transitions.FactorLaws.{all_products, component_transitions}
-use Rattle.ltl_spec.proofs.Transitions.ConjunctJoins.{join_of, sound_join_of}
+use Rattle.ltl_spec.proofs.Transitions.FactorLaws.{all_products, lists_transitions}
 use Rattle.ltl_spec.proofs.Transitions.ProductTransitions.{in_order, product, transitions_of_cases}
 use Rattle.ltl_spec.proofs.Transitions.SameJoins.{AreSound}
 use Rattle.ltl_spec.proofs.Transitions.UnimpliedLaws.{marks_too_linear}
@@ -147,13 +146,13 @@ moved_same T (ts ∷ tss) uss m f =
 pub moved_order : (T : Table) (tss uss : List (List Transition)) → IsMoved tss uss → AllListsProper tss → in_order (all_products T tss) ≡ in_order (all_products T uss)
 moved_order T tss uss m f = let s = moved_same T tss uss m f in set_of_alike marks_too_linear (all_products T tss) (all_products T uss) s.there s.back
 
--- the transitions of components are so
-pub components_proper : (T : Table) (conjunct : ℕ → List Pair) → ((k : ℕ) → AreSound (conjunct k)) → (keep : Bool) (gs : List (List ℕ)) → AllListsProper (component_transitions T conjunct keep gs)
-components_proper T conjunct sound keep [] ts h t k = absurd h
-components_proper T conjunct sound keep (g ∷ gs) ts (inr h) t k = components_proper T conjunct sound keep gs ts h t k
-components_proper T conjunct sound keep (g ∷ gs) ts (inl e) t h =
-    let (p, k, d, f) = transitions_of_cases T keep (join_of conjunct g) t (subst (λ xs. Has xs t) e h) in
-    let s = (sound_join_of conjunct sound g).proper p k in
+-- the transitions of sound pairs are so
+pub lists_proper : (T : Table) (keep : Bool) (pss : List (List Pair)) → ((ps : List Pair) → Has pss ps → AreSound ps) → AllListsProper (lists_transitions T keep pss)
+lists_proper T keep [] sound ts h t k = absurd h
+lists_proper T keep (ps ∷ pss) sound ts (inr h) t k = lists_proper T keep pss (λ qs m. sound qs (inr m)) ts h t k
+lists_proper T keep (ps ∷ pss) sound ts (inl e) t h =
+    let (p, k, d, f) = transitions_of_cases T keep ps t (subst (λ xs. Has xs t) e h) in
+    let s = (sound ps (inl refl)).proper p k in
     subst IsProper (sym d) (record { cube = s.cube; targets = s.targets; marks = IsRising-places (is_marked T p) 0 T.untils })
 
 -- ---- numbers

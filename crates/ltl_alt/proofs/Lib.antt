@@ -16,6 +16,7 @@ pub mod MapLaws
 pub mod NeedsLaws
 pub mod OpenLaws
 pub mod ConjunctTableLaws
+pub mod CountedLaws
 pub mod ConjunctLaws
 pub mod PlaceLaws
 pub mod RepeatLaws

@@ -1,6 +1,6 @@
 -- Transitions at once, and those of a set of rows by its components.
 use Rattle.std.proofs.Common.{◌≡◌, ℕ, zero, suc, ◌+◌, ◌-◌, ◌*◌, ◌<◌, ◌≤◌, Bool, true, false, cond, inl, inr, List, [], ◌∷◌, ◌++◌, length, map, drop, refl, sym, ◌∙◌, ap, subst, arith, Some, None}
-use Rattle.std.specs.Prelude.{slice_get, slice_index_or, filter, filter_map, option_map, nat_eq, not}
+use Rattle.std.specs.Prelude.{slice_get, slice_index_or, filter, flat_map, filter_map, option_map, nat_eq, not}
 use Rattle.std.specs.List.Sorted.{IsSorted, IsPermutation}
 use Rattle.std.specs.Ordering.{nat_cmp}
 use Rattle.std.proofs.lemmas.Bool.Decides.{nat_tests}
@@ -9,7 +9,7 @@ use Rattle.ltl_spec.specs.Collections.Sets.{Has, IsRising, has, union}
 use Rattle.ltl_spec.specs.Collections.Lists.{places_where}
 use Rattle.ltl_spec.specs.NormalForms.Normal.{Normal}
 use Rattle.ltl_spec.specs.Transitions.Cubes.{Cube, is_contradictory, literal_cmp}
-use Rattle.ltl_spec.specs.Transitions.Pairs.{RowSet, Pair}
+use Rattle.ltl_spec.specs.Transitions.Pairs.{RowSet, Pair, join, empty_pair}
 use Rattle.ltl_spec.specs.Transitions.RowTransitions.{Table, pairs_at, Transition, transition_cmp, transitions}
 use Rattle.ltl_spec.proofs.Collections.SetLaws.{has_Decides, Has-set_of, append_left, append_right}
 use Rattle.ltl_spec.proofs.Collections.ListLaws.{places_cases, Contains-from_has, Has-from_contains, Has-places, IsRising-places}
@@ -19,27 +19,30 @@ use Rattle.ltl_spec.specs.Transitions.Pruning.{IsEnough, fulfilling_pairs}
 use Rattle.ltl_spec.proofs.Transitions.IndependentMarks.{common, at_once}
 use Rattle.ltl_spec.proofs.Transitions.IndependentPairs.{independent_sym}
 use Rattle.ltl_spec.proofs.Transitions.IndependenceTests.{independent_by_test}
-use Rattle.ltl_spec.proofs.Transitions.FactorLaws.{AreTakenOut, all_products, product_size, component_transitions, factors_law}
-use Rattle.ltl_spec.proofs.Transitions.FactoredTransitions.{AreListedFor, sorted_by_factors, count_by_factors, transitions_by_factors, transitions_by_set}
+use Rattle.ltl_spec.proofs.Transitions.FactorLaws.{AreApart, AreSome, AreTakenOut, all_products, product_size, lists_transitions, component_and_rest, taken_apart, factors_law, factors_count, factors_sorted}
+use Rattle.ltl_spec.proofs.Transitions.FactoredTransitions.{AreListedFor, transitions_by_kept}
 use Rattle.ltl_spec.proofs.Transitions.LinkLaws.{LinksTell, without, taken_closed}
 use Rattle.ltl_spec.proofs.Transitions.JoinLaws.{join_parts, within_refl}
 use Rattle.ltl_spec.proofs.Transitions.LeastPairs.{enough_from}
-use Rattle.ltl_spec.proofs.Transitions.ConjunctJoins.{join_of, sound_join_of, transitions_by_rows}
-use Rattle.ltl_spec.proofs.Transitions.ConjunctSets.{AreConjunctsOf}
+use Rattle.ltl_spec.proofs.Transitions.ConjunctJoins.{join_all, join_append, join_of, sound_join_of, transitions_by_rows}
+use Rattle.ltl_spec.proofs.Transitions.JoinedLists.{join_all_one, sound_join_all}
+use Rattle.ltl_spec.proofs.Transitions.ConjunctSets.{AreConjunctsOf, conjuncts_in_order}
 use Rattle.ltl_spec.proofs.Transitions.ProductTransitions.{transitions_of, product, transitions_of_cases, in_order, alike_transitions}
-use Rattle.ltl_spec.proofs.Transitions.SameJoins.{AreSound}
+use Rattle.ltl_spec.proofs.Transitions.SameJoins.{AreSound, alike_sym, sound_some}
 use Rattle.ltl_spec.proofs.Transitions.UnimpliedLaws.{marks_too_linear}
 use Rattle.ltl_alt.specs.declared.support.Dependencies.{Dependencies}
 use Rattle.ltl_alt.specs.BasisView.{IsBasisOf}
 use Rattle.ltl_alt.specs.declared.fulfilment.Fulfilment.{Fulfilment}
-use Rattle.ltl_alt.specs.FinalView.{AreLists}
-use Rattle.ltl_alt.specs.ConjunctTableView.{conjunct_of, dependency_of, links_of, numbers_of, numbers_in, AreLinked, HasEach, HasNoConjunct, IsComponent}
+use Rattle.ltl_alt.specs.FinalView.{AreLists, IsFinal, made_of}
+use Rattle.ltl_alt.specs.ConjunctTableView.{AreKeptBy, conjunct_of, dependency_of, links_of, numbers_of, numbers_in, AreLinked, HasEach, HasNoConjunct, IsComponent}
 use Rattle.ltl_alt.specs.TransitionView.{table_at}
 use Rattle.ltl_alt.specs.declared.rule.Rule.{Rule}
-use Rattle.ltl_formula.specs.TableView.{TableView, IsTable}
+use Rattle.ltl_formula.specs.TableView.{TableView, IsTable, core_of}
 use Rattle.ltl_alt.specs.ProductView.{AreConsistent, join_transitions, joined_products}
-use Rattle.ltl_alt.specs.StandIns.{IsKeptBy, StandsFor, rule_of}
-use Rattle.ltl_alt.proofs.KeyLaws.{AllListsProper, components_proper}
+use Rattle.ltl_alt.specs.StandIns.{IsKeptBy, IsRuleOf, StandsFor}
+use Rattle.ltl_alt.proofs.KeyLaws.{AllListsProper, lists_proper}
+use Rattle.ltl_alt.proofs.JoinOrderLaws.{kept_alike}
+use Rattle.ltl_alt.proofs.StandInLaws.{IsStandIn, kept_all, kept_join, kept_on, stands_in}
 use Rattle.ltl_alt.proofs.ConjunctTableLaws.{map_behind, numbers_below}
 use Rattle.ltl_alt.proofs.ConjunctLaws.{no_conjunct_at}
 
@@ -96,34 +99,83 @@ products_step T tss left ts us vs l f p d g =
     let same : vs ≡ product ts us = g ∙ product_joins ts us also in
     subst (λ xs. IsPermutation xs vs) (sym whole) (subst (IsPermutation (product ts all)) (sym same) moved)
 
--- ---- components that were taken out
-
--- those that are left were taken out of what was left
-taken_drop : (T : Table) (chosen : Normal → List Pair) (conjunct : ℕ → List Pair) (gs : List (List ℕ)) (k : ℕ) (all : List ℕ) → AreTakenOut T chosen conjunct all gs [] → (some : List ℕ) × AreTakenOut T chosen conjunct some (drop k gs) []
-taken_drop T chosen conjunct gs zero all t = (all, t)
-taken_drop T chosen conjunct [] (suc k) all t = ([], refl)
-taken_drop T chosen conjunct (g ∷ gs) (suc k) all t = taken_drop T chosen conjunct gs k (filter (λ i. not (t.0 i)) all) t.3
+-- ---- lists that are apart
 
 -- the pairs that fulfil an until row are enough of them
 fulfilling_enough : (T : Table) (f : Normal) → Has T.untils f → IsEnough (fulfilling_pairs T f) (fulfilling_pairs T f)
 fulfilling_enough T f h = enough_from (fulfilling_pairs T f) (fulfilling_pairs T f) (λ q k. k) (λ q k. (q, k, within_refl q))
 
-module _ (T : Table) (conjunct : ℕ → List Pair) (sound : (i : ℕ) → AreSound (conjunct i)) (keep : Bool) where
-  products_consistent : (all : List ℕ) (gs : List (List ℕ)) → AreTakenOut T (fulfilling_pairs T) conjunct all gs [] → AreConsistent (all_products T (component_transitions T conjunct keep gs))
-  products_consistent all gs t u h =
-      let there = subst (λ us. Has us u) (sym (factors_law T (fulfilling_pairs T) (fulfilling_enough T) conjunct sound keep all gs t)) (Has-set_of marks_too_linear (all_products T (component_transitions T conjunct keep gs)) u h) in
-      let (p, k, e, f) = transitions_of_cases T keep (join_of conjunct all) u there in
-      ap (λ (x : Transition). is_contradictory x.cube) e ∙ (sound_join_of conjunct sound all).consistent p k
+abbrev AllSound : List (List Pair) → Type 0
+AllSound pss = (ps : List Pair) → Has pss ps → AreSound ps
 
-  pub suffix_consistent : (all : List ℕ) (gs : List (List ℕ)) (k : ℕ) → AreTakenOut T (fulfilling_pairs T) conjunct all gs [] → AreConsistent (all_products T (drop k (component_transitions T conjunct keep gs)))
-  suffix_consistent all gs k t =
-      let (some, s) = taken_drop T (fulfilling_pairs T) conjunct gs k all t in
-      subst (λ x. AreConsistent (all_products T x)) (sym (dropped_map (λ g. transitions_of T keep (join_of conjunct g)) gs k)) (products_consistent some (drop k gs) s)
-    where
-      dropped_map : {X Y : Type 0} (h : X → Y) (xs : List X) (k : ℕ) → drop k (map h xs) ≡ map h (drop k xs)
-      dropped_map h xs zero = refl
-      dropped_map h [] (suc k) = refl
-      dropped_map h (x ∷ xs) (suc k) = dropped_map h xs k
+-- so are those behind a place
+apart_drop : (T : Table) (chosen : Normal → List Pair) (pss : List (List Pair)) (k : ℕ) → AreApart T chosen pss → AreApart T chosen (drop k pss)
+apart_drop T chosen pss zero a = a
+apart_drop T chosen [] (suc k) a = tt
+apart_drop T chosen (ps ∷ pss) (suc k) a = apart_drop T chosen pss k a.1
+
+sound_drop : (pss : List (List Pair)) (k : ℕ) → AllSound pss → AllSound (drop k pss)
+sound_drop pss zero s = s
+sound_drop [] (suc k) s = λ qs h. absurd h
+sound_drop (ps ∷ pss) (suc k) s = sound_drop pss k (λ qs h. s qs (inr h))
+
+products_consistent : (T : Table) (keep : Bool) (pss : List (List Pair)) → AllSound pss → AreApart T (fulfilling_pairs T) pss → AreConsistent (all_products T (lists_transitions T keep pss))
+products_consistent T keep pss s a u h =
+    let there = subst (λ us. Has us u) (sym (factors_law T (fulfilling_pairs T) (fulfilling_enough T) keep pss s a)) (Has-set_of marks_too_linear (all_products T (lists_transitions T keep pss)) u h) in
+    let (p, k, e, f) = transitions_of_cases T keep (join_all pss) u there in
+    ap (λ (x : Transition). is_contradictory x.cube) e ∙ (sound_join_all pss).consistent p k
+
+suffix_consistent : (T : Table) (keep : Bool) (pss : List (List Pair)) → AllSound pss → AreApart T (fulfilling_pairs T) pss → (k : ℕ) → AreConsistent (all_products T (drop k (lists_transitions T keep pss)))
+suffix_consistent T keep pss s a k =
+    subst (λ x. AreConsistent (all_products T x)) (sym (dropped_map (transitions_of T keep) pss k)) (products_consistent T keep (drop k pss) (sound_drop pss k s) (apart_drop T (fulfilling_pairs T) pss k a))
+  where
+    dropped_map : {X Y : Type 0} (h : X → Y) (xs : List X) (k : ℕ) → drop k (map h xs) ≡ map h (drop k xs)
+    dropped_map h xs zero = refl
+    dropped_map h [] (suc k) = refl
+    dropped_map h (x ∷ xs) (suc k) = dropped_map h xs k
+
+-- ---- pairs that were kept of components
+
+some_of : (S : Pair → Pair → Type 0) (pss qss : List (List Pair)) → AreKeptBy S pss qss → AreSome pss qss
+some_of S [] [] k = tt
+some_of S [] (qs ∷ qss) k = absurd k
+some_of S (ps ∷ pss) [] k = absurd k
+some_of S (ps ∷ pss) (qs ∷ qss) k = (k.0.from, some_of S pss qss k.1)
+
+kept_behind : (S : Pair → Pair → Type 0) (pss qss : List (List Pair)) (ps qs : List Pair) → AreKeptBy S pss qss → IsKeptBy S ps qs → AreKeptBy S (pss ++ ps ∷ []) (qss ++ qs ∷ [])
+kept_behind S [] [] ps qs k one = (one, tt)
+kept_behind S [] (us ∷ qss) ps qs k one = absurd k
+kept_behind S (us ∷ pss) [] ps qs k one = absurd k
+kept_behind S (us ∷ pss) (vs ∷ qss) ps qs k one = (k.0, kept_behind S pss qss ps qs k.1 one)
+
+module _ {S : Pair → Pair → Type 0} (o : IsStandIn S) (conjunct : ℕ → List Pair) (sound : (i : ℕ) → AreSound (conjunct i)) where
+  -- they are sound
+  kept_sound : (gs : List (List ℕ)) (pss : List (List Pair)) → AreKeptBy S (map (join_of conjunct) gs) pss → AllSound pss
+  kept_sound [] [] k qs h = absurd h
+  kept_sound [] (ps ∷ pss) k qs h = absurd k
+  kept_sound (g ∷ gs) [] k qs h = absurd h
+  kept_sound (g ∷ gs) (ps ∷ pss) k qs (inl e) = subst AreSound (sym e) (sound_some (join_of conjunct g) ps k.0.from (sound_join_of conjunct sound g))
+  kept_sound (g ∷ gs) (ps ∷ pss) k qs (inr h) = kept_sound gs pss k.1 qs h
+
+  -- their joins were kept of those of all conjuncts
+  kept_taken : (T : Table) (chosen : Normal → List Pair) (all : List ℕ) (gs : List (List ℕ)) (pss : List (List Pair)) → AreTakenOut T chosen conjunct all gs [] → AreKeptBy S (map (join_of conjunct) gs) pss → IsKeptBy S (join_of conjunct all) (join_all pss)
+  kept_taken T chosen all [] [] t k = subst (λ x. IsKeptBy S (join_of conjunct x) (empty_pair ∷ [])) (sym t) (kept_all o (empty_pair ∷ []))
+  kept_taken T chosen all [] (ps ∷ pss) t k = absurd k
+  kept_taken T chosen all (g ∷ gs) [] t k = absurd k
+  kept_taken T chosen all (g ∷ gs) (ps ∷ pss) t k =
+      let rest = filter (λ i. not (t.0 i)) all in
+      let alike = component_and_rest T chosen conjunct sound all g t.0 t.1 in
+      kept_on o (join_of conjunct all) (join (join_of conjunct g) (join_of conjunct rest)) (join ps (join_all pss)) (kept_alike o (join_of conjunct all) (join (join_of conjunct g) (join_of conjunct rest)) alike)
+      (kept_join o (join_of conjunct g) ps (join_of conjunct rest) (join_all pss) k.0 (kept_taken T chosen rest gs pss t.3 k.1))
+
+  -- so were those of rows
+  kept_rows : (whole : ℕ → List Pair) (numbers : ℕ → List ℕ) (e : List ℕ) → ((i : ℕ) → Has e i → IsKeptBy S (whole i) (join_of conjunct (numbers i))) → IsKeptBy S (join_of whole e) (join_of conjunct (flat_map numbers e))
+  kept_rows whole numbers [] f = kept_all o (empty_pair ∷ [])
+  kept_rows whole numbers (i ∷ e) f =
+      let apart = join (join_of conjunct (numbers i)) (join_of conjunct (flat_map numbers e)) in
+      kept_on o (join (whole i) (join_of whole e)) apart (join_of conjunct (numbers i ++ flat_map numbers e))
+      (kept_join o (whole i) (join_of conjunct (numbers i)) (join_of whole e) (join_of conjunct (flat_map numbers e)) (f i (inl refl)) (kept_rows whole numbers e (λ k h. f k (inr h))))
+      (kept_alike o apart (join_of conjunct (numbers i ++ flat_map numbers e)) (alike_sym (join_of conjunct (numbers i ++ flat_map numbers e)) apart (join_append conjunct sound (numbers i) (flat_map numbers e))))
 
 -- the links of conjuncts tell which have nothing to do with each other
 links_tell : (T : Table) (lists : List (List Pair)) (dependencies : List Dependencies) (links : List RowSet) (all : List ℕ) → AreLinked T lists dependencies links → ((k : ℕ) → Has all k → k < length lists)
@@ -138,18 +190,21 @@ links_tell T lists dependencies links all w f i j h k e =
     ]
 
 -- one component more is taken out, and its transitions stand behind those of the others
-pub lists_more : (T : Table) (keep : Bool) (conjuncts : List (List Pair)) (dependencies : List Dependencies) (links : List RowSet) (all : List ℕ) (tss more : List (List Transition)) (ts : List Transition) (rest inside left : RowSet) (first : ℕ)
-    → AreLinked T conjuncts dependencies links → ((k : ℕ) → Has rest k → k < length conjuncts) → AreLists T keep conjuncts all tss rest → IsRising nat_cmp rest → IsRising nat_cmp inside
-    → IsComponent links first rest inside → ts ≡ transitions_of T keep (join_of (conjunct_of conjuncts) inside) → more ≡ tss ++ ts ∷ [] → left ≡ without rest inside → AreLists T keep conjuncts all more left
-lists_more T keep conjuncts dependencies links all tss more ts rest inside left first w f a r s component d e g = record {
+pub lists_more : (T : Table) (r : Rule) (keep : Bool) (conjuncts : List (List Pair)) (dependencies : List Dependencies) (links : List RowSet) (all : List ℕ) (old more : List (List Transition)) (lists : List (List Transition)) (n : ℕ) (rest inside left : RowSet) (first : ℕ)
+    → AreLinked T conjuncts dependencies links → ((k : ℕ) → Has rest k → k < length conjuncts) → AreLists T r keep conjuncts all old rest → IsRising nat_cmp rest → IsRising nat_cmp inside
+    → IsComponent links first rest inside → IsFinal T r keep conjuncts lists inside n → more ≡ old ++ made_of lists n ∷ [] → left ≡ without rest inside → AreLists T r keep conjuncts all more left
+lists_more T r keep conjuncts dependencies links all old more lists n rest inside left first w f a low high component is e g = record {
   components = a.components ++ inside ∷ [];
   taken = subst (AreTakenOut T (fulfilling_pairs T) (conjunct_of conjuncts) all (a.components ++ inside ∷ [])) (sym g)
-      (taken_closed T (fulfilling_pairs T) (conjunct_of conjuncts) (links_of links) all a.components rest inside a.taken r s component.some (links_tell T conjuncts dependencies links rest w f) component.closed);
-  lists = e ∙ (λ i. a.lists i ++ d i ∷ []) ∙ sym (map_behind (λ g. transitions_of T keep (join_of (conjunct_of conjuncts) g)) a.components inside);
+      (taken_closed T (fulfilling_pairs T) (conjunct_of conjuncts) (links_of links) all a.components rest inside a.taken low high component.some (links_tell T conjuncts dependencies links rest w f) component.closed);
+  pairs = a.pairs ++ is.pairs ∷ [];
+  kept = subst (λ pss. AreKeptBy (StandsFor T r) pss (a.pairs ++ is.pairs ∷ [])) (sym (map_behind (join_of (conjunct_of conjuncts)) a.components inside))
+      (kept_behind (StandsFor T r) (map (join_of (conjunct_of conjuncts)) a.components) a.pairs (join_of (conjunct_of conjuncts) inside) is.pairs a.kept is.kept);
+  lists = e ∙ (λ i. a.lists i ++ is.made i ∷ []) ∙ sym (map_behind (transitions_of T keep) a.pairs is.pairs);
 }
 
-pub lists_none : (T : Table) (keep : Bool) (conjuncts : List (List Pair)) (all : RowSet) → AreLists T keep conjuncts all [] all
-lists_none T keep conjuncts all = record { components = []; taken = refl; lists = refl }
+pub lists_none : (T : Table) (r : Rule) (keep : Bool) (conjuncts : List (List Pair)) (all : RowSet) → AreLists T r keep conjuncts all [] all
+lists_none T r keep conjuncts all = record { components = []; taken = refl; pairs = []; kept = tt; lists = refl }
 
 -- ---- the transitions of a set of rows
 
@@ -190,66 +245,77 @@ parts_of_state owners state r = record {
         let l = c.1 in
         (at n, (has_Decides nat_linear (at n) state).0 c.2, place (λ o. nat_eq o (at n)) n (omega arith) (same_told (at n) (at n) refl))
 
--- what was listed by the rule
-listed_for : (T : Table) (keep : Bool) (ps qs : List Pair) → IsKeptBy (StandsFor T (rule_of keep)) ps qs → AreListedFor T keep ps qs
-listed_for T true ps qs k = record { there = λ p h. let (q, m, e) = k.covers p h in subst (Has qs) (sym e) m; back = k.from }
-listed_for T false ps qs k = record { from = k.from; covers = k.covers }
-
--- what leaves nothing out is the whole
-filter_whole : (test : ℕ → Bool) (xs : List ℕ) → filter (λ i. not (test i)) xs ≡ [] → filter test xs ≡ xs
-filter_whole test [] e = refl
-filter_whole test (x ∷ xs) e =
-    elim (test x) as (λ b. cond (not b) (x ∷ filter (λ i. not (test i)) xs) (filter (λ i. not (test i)) xs) ≡ [] → cond b (x ∷ filter test xs) (filter test xs) ≡ x ∷ xs) [
-      | true ↦ λ d. ap (λ ys. x ∷ ys) (filter_whole test xs d)
-      | false ↦ λ d. absurd (cc)
-    ] e
+-- what was kept by the rule
+listed_for : (T : Table) (keep : Bool) (r : Rule) (ps qs : List Pair) → IsRuleOf T keep r → IsKeptBy (StandsFor T r) ps qs → AreListedFor T keep ps qs
+listed_for T true r ps qs e k =
+    let w = subst (λ x. IsKeptBy (StandsFor T x) ps qs) e k in
+    record { there = λ p h. let (q, m, d) = w.covers p h in subst (Has qs) (sym d) m; back = w.from }
+listed_for T false r ps qs (counted, e, a) k =
+    let w = subst (λ x. IsKeptBy (StandsFor T x) ps qs) e k in
+    (counted, a, record { from = w.from; covers = w.covers })
 
 -- ---- a set of rows, its conjuncts, and the transitions of their components
 
 module _ {A : Type 0} (t : TableView) (keep : Bool) (r : Rule) (f : Fulfilment A) (made owners : List ℕ) (conjuncts : List (List Pair)) (dependencies : List Dependencies) (links : List RowSet)
     (b : IsBasisOf t keep r f made owners conjuncts dependencies links) (state all : RowSet) (rising : IsRising nat_cmp state) (there : HasEach made state) (e : all ≡ numbers_in owners state) (tss : List (List Transition))
-    (a : AreLists (table_at t) keep conjuncts all tss []) where
-  listed : (i : ℕ) → Has state i → AreListedFor (table_at t) keep (pairs_at (table_at t) i) (join_of (conjunct_of conjuncts) (numbers_of owners i))
-  listed i h = listed_for (table_at t) keep (pairs_at (table_at t) i) (join_of (conjunct_of conjuncts) (numbers_of owners i))
-      (subst (λ q. IsKeptBy (StandsFor (table_at t) q) (pairs_at (table_at t) i) (join_of (conjunct_of conjuncts) (numbers_of owners i))) b.rule (b.conjuncts.rows.listed i (there i h)))
+    (a : AreLists (table_at t) r keep conjuncts all tss []) where
+  abbrev T : Table
+  T = table_at t
 
-  taken : AreTakenOut (table_at t) (fulfilling_pairs (table_at t)) (conjunct_of conjuncts) (numbers_in owners state) a.components []
-  taken = subst (λ x. AreTakenOut (table_at t) (fulfilling_pairs (table_at t)) (conjunct_of conjuncts) x a.components []) e a.taken
+  abbrev conjunct : ℕ → List Pair
+  conjunct = conjunct_of conjuncts
+
+  taken : AreTakenOut T (fulfilling_pairs T) conjunct (numbers_in owners state) a.components []
+  taken = subst (λ x. AreTakenOut T (fulfilling_pairs T) conjunct x a.components []) e a.taken
+
+  sound : AllSound a.pairs
+  sound = kept_sound (stands_in T r) conjunct b.conjuncts.linked.sound a.components a.pairs a.kept
+
+  apart : AreApart T (fulfilling_pairs T) a.pairs
+  apart = taken_apart T (fulfilling_pairs T) conjunct b.conjuncts.linked.sound (numbers_in owners state) a.components a.pairs taken (some_of (StandsFor T r) (map (join_of conjunct) a.components) a.pairs a.kept)
+
+  whole : IsKeptBy (StandsFor T r) (join_of (pairs_at T) state) (join_all a.pairs)
+  whole =
+      let o = stands_in T r in
+      let one_by_one = join_of conjunct (flat_map (numbers_of owners) state) in
+      let ordered = join_of conjunct (numbers_in owners state) in
+      kept_on o (join_of (pairs_at T) state) one_by_one (join_all a.pairs)
+      (kept_rows o conjunct b.conjuncts.linked.sound (pairs_at T) (numbers_of owners) state (λ i h. b.conjuncts.rows.listed i (there i h)))
+      (kept_on o one_by_one ordered (join_all a.pairs)
+      (kept_alike o one_by_one ordered (conjuncts_in_order conjunct b.conjuncts.linked.sound (numbers_of owners) state (numbers_in owners state) (parts_of_state owners state rising)))
+      (kept_taken o conjunct b.conjuncts.linked.sound T (fulfilling_pairs T) (numbers_in owners state) a.components a.pairs taken a.kept))
+
+  of_joins : transitions T keep state ≡ transitions_of T keep (join_all a.pairs)
+  of_joins = transitions_by_kept (core_of t) keep state (join_all a.pairs) (listed_for T keep r (join_of (pairs_at T) state) (join_all a.pairs) b.rule whole)
 
   pub set_shape : transitions (table_at t) keep state ≡ in_order (all_products (table_at t) tss)
-  set_shape =
-      transitions_by_factors (table_at t) (fulfilling_pairs (table_at t)) (fulfilling_enough (table_at t)) (conjunct_of conjuncts) b.conjuncts.linked.sound keep (numbers_of owners) state (numbers_in owners state) (parts_of_state owners state rising) listed a.components taken
-      ∙ ap (λ x. in_order (all_products (table_at t) x)) (sym a.lists)
+  set_shape = of_joins ∙ factors_law T (fulfilling_pairs T) (fulfilling_enough T) keep a.pairs sound apart ∙ ap (λ x. in_order (all_products T x)) (sym a.lists)
 
   pub set_count : length (transitions (table_at t) keep state) ≡ product_size tss
-  set_count =
-      count_by_factors (table_at t) (fulfilling_pairs (table_at t)) (fulfilling_enough (table_at t)) (conjunct_of conjuncts) b.conjuncts.linked.sound keep (numbers_of owners) state (numbers_in owners state) (parts_of_state owners state rising) listed a.components taken
-      ∙ ap product_size (sym a.lists)
+  set_count = ap length of_joins ∙ factors_count T (fulfilling_pairs T) (fulfilling_enough T) keep a.pairs sound apart ∙ ap product_size (sym a.lists)
 
   pub set_sorted : (products sorted : List Transition) → IsPermutation (all_products (table_at t) tss) products → IsPermutation products sorted → IsSorted transition_cmp sorted → sorted ≡ transitions (table_at t) keep state
   set_sorted products sorted moved permuted order =
-      sorted_by_factors (table_at t) (fulfilling_pairs (table_at t)) (fulfilling_enough (table_at t)) (conjunct_of conjuncts) b.conjuncts.linked.sound keep (numbers_of owners) state (numbers_in owners state) (parts_of_state owners state rising) listed a.components taken sorted
-      (subst (λ x. IsPermutation (all_products (table_at t) x) sorted) a.lists (IsPermutation-trans (all_products (table_at t) tss) products sorted moved permuted)) order
+      factors_sorted T (fulfilling_pairs T) (fulfilling_enough T) keep a.pairs sound apart sorted
+      (subst (λ x. IsPermutation (all_products T x) sorted) a.lists (IsPermutation-trans (all_products T tss) products sorted moved permuted)) order
+      ∙ sym of_joins
 
   -- of one list alone it is this list
-  one_list : (l : List Transition) (gs : List RowSet) → AreTakenOut (table_at t) (fulfilling_pairs (table_at t)) (conjunct_of conjuncts) (numbers_in owners state) gs [] → l ∷ [] ≡ component_transitions (table_at t) (conjunct_of conjuncts) keep gs
-      → l ≡ transitions (table_at t) keep state
-  one_list l [] w d = absurd (cc)
-  one_list l (g ∷ h ∷ gs) w d = absurd (cc)
-  one_list l (g ∷ []) w d =
-      let here : l ≡ transitions_of (table_at t) keep (join_of (conjunct_of conjuncts) g) = cc in
-      let whole : g ≡ numbers_in owners state = w.1 ∙ filter_whole w.0 (numbers_in owners state) w.3 in
-      here ∙ ap (λ x. transitions_of (table_at t) keep (join_of (conjunct_of conjuncts) x)) whole
-      ∙ sym (transitions_by_set (table_at t) (fulfilling_pairs (table_at t)) (fulfilling_enough (table_at t)) (conjunct_of conjuncts) b.conjuncts.linked.sound keep (numbers_of owners) state (numbers_in owners state) (parts_of_state owners state rising) listed)
+  one_list : (l : List Transition) (pss : List (List Pair)) → AllSound pss → l ∷ [] ≡ lists_transitions T keep pss → l ≡ transitions_of T keep (join_all pss)
+  one_list l [] s d = absurd (cc)
+  one_list l (ps ∷ qs ∷ pss) s d = absurd (cc)
+  one_list l (ps ∷ []) s d =
+      let here : l ≡ transitions_of T keep ps = cc in
+      here ∙ alike_transitions T keep ps (join_all (ps ∷ [])) (join_all_one ps (s ps (inl refl)))
 
   pub set_of_one : (l : List Transition) → tss ≡ l ∷ [] → l ≡ transitions (table_at t) keep state
-  set_of_one l d = one_list l a.components taken (sym d ∙ a.lists)
+  set_of_one l d = one_list l a.pairs sound (sym d ∙ a.lists) ∙ sym of_joins
 
   pub set_consistent : (k : ℕ) → AreConsistent (all_products (table_at t) (drop k tss))
-  set_consistent k = subst (λ x. AreConsistent (all_products (table_at t) (drop k x))) (sym a.lists) (suffix_consistent (table_at t) (conjunct_of conjuncts) b.conjuncts.linked.sound keep all a.components k a.taken)
+  set_consistent k = subst (λ x. AreConsistent (all_products T (drop k x))) (sym a.lists) (suffix_consistent T keep a.pairs sound apart k)
 
   pub set_proper : AllListsProper tss
-  set_proper = subst AllListsProper (sym a.lists) (components_proper (table_at t) (conjunct_of conjuncts) b.conjuncts.linked.sound keep a.components)
+  set_proper = subst AllListsProper (sym a.lists) (lists_proper T keep a.pairs sound)
 
 -- where a place has no row there are none
 no_member : (conjunct : ℕ → List Pair) (e : List ℕ) (i : ℕ) → Has e i → conjunct i ≡ [] → (r : Pair) → Has (join_of conjunct e) r → ⊥

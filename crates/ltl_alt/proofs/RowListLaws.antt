@@ -50,7 +50,7 @@ row_tree_is t k r e l = tree_is (map node_of t.rows) k (node_of r) (node_found t
 
 -- ---- sets as pairs that ask for them next
 
-next_append : (ds es : List spec.RowSet) → map next_pair (ds ++ es) ≡ map next_pair ds ++ map next_pair es
+pub next_append : (ds es : List spec.RowSet) → map next_pair (ds ++ es) ≡ map next_pair ds ++ map next_pair es
 next_append [] es = refl
 next_append (d ∷ ds) es = ap (λ l. next_pair d ∷ l) (next_append ds es)
 
@@ -58,7 +58,7 @@ next_each : (d : spec.RowSet) (es : List spec.RowSet) → map next_pair (map (un
 next_each d [] = refl
 next_each d (e ∷ es) = ap (λ l. next_pair (union nat_cmp d e) ∷ l) (next_each d es)
 
-next_unions : (ds es : List spec.RowSet) → map next_pair (spec.unions ds es) ≡ spec.join (map next_pair ds) (map next_pair es)
+pub next_unions : (ds es : List spec.RowSet) → map next_pair (spec.unions ds es) ≡ spec.join (map next_pair ds) (map next_pair es)
 next_unions [] es = refl
 next_unions (d ∷ ds) es =
     next_append (map (union nat_cmp d) es) (spec.unions ds es)

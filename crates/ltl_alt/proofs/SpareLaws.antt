@@ -1,8 +1,9 @@
 -- Until rows that pairs can differ in, and what pairs lack, one by one.
-use Rattle.std.proofs.Common.{◌≡◌, ℕ, zero, suc, ◌+◌, ◌<◌, Bool, true, false, not, ◌&&◌, ◌⊎◌, inl, inr, List, [], ◌∷◌, ◌++◌, length, take, drop, sym, ◌∙◌, ap, subst, arith, Some}
+use Rattle.std.proofs.Common.{◌≡◌, ℕ, zero, suc, ◌+◌, ◌<◌, Bool, true, false, not, ◌&&◌, ◌⊎◌, inl, inr, List, [], ◌∷◌, ◌++◌, length, take, drop, refl, sym, ◌∙◌, ap, subst, arith, Some}
 use Rattle.std.specs.Prelude.{slice_get, slice_index_or}
+use Rattle.std.specs.Ordering.{nat_cmp}
 use Rattle.std.proofs.lemmas.Option.{slice_get_within}
-use Rattle.ltl_spec.specs.Collections.Sets.{Has}
+use Rattle.ltl_spec.specs.Collections.Sets.{Has, has}
 use Rattle.ltl_spec.specs.Transitions.Cubes.{Cube}
 use Rattle.ltl_spec.specs.Transitions.Pairs.{Pair, RowSet}
 use Rattle.ltl_spec.specs.Transitions.Pruning.{is_within}
@@ -21,31 +22,28 @@ use Rattle.ltl_alt.proofs.SupportLaws.{forbidden_names, letter_names}
 
 -- ---- until rows
 
--- the first until rows are among these, or have nothing to do with the pairs
-abbrev pub AreOpenBelow : List UntilTest → List Support → List Pair → ℕ → List ℕ → Type 0
-AreOpenBelow us ls ps n roots = (i : ℕ) (u : UntilTest) → i < n → slice_get us i ≡ Some u → Has roots u.step ⊎ IsUntouched ls ps u.step
+-- the first until rows that count are among these, or have nothing to do with the pairs
+abbrev pub AreOpenBelow : List UntilTest → List Support → RowSet → List Pair → ℕ → List ℕ → Type 0
+AreOpenBelow us ls counted ps n roots = (i : ℕ) (u : UntilTest) → i < n → slice_get us i ≡ Some u → has nat_cmp u.place counted ≡ true → Has roots u.step ⊎ IsUntouched ls ps u.step
 
 some_same : {X : Type 0} (x y : X) → Some x ≡ Some y → x ≡ y
 some_same x y e = cc
 
-open_next : (us : List UntilTest) (ls : List Support) (ps : List Pair) (n : ℕ) (u : UntilTest) (old new : List ℕ) → slice_get us n ≡ Some u → ((k : ℕ) → Has old k → Has new k) → (Has new u.step ⊎ IsUntouched ls ps u.step)
-    → AreOpenBelow us ls ps n old → AreOpenBelow us ls ps (n + 1) new
-open_next us ls ps n u old new found more here w i v l f = elim (same_or_other i n) [
-  | inl e ↦ subst (λ (x : UntilTest). Has new x.step ⊎ IsUntouched ls ps x.step) (some_same u v (sym found ∙ ap (slice_get us) (sym e) ∙ f)) here
-  | inr d ↦ elim (w i v (omega arith) f) [ inl h ↦ inl (more v.step h) | inr h ↦ inr h ]
-]
+module _ (us : List UntilTest) (ls : List Support) (counted : RowSet) (ps : List Pair) (n : ℕ) (u : UntilTest) (old new : List ℕ) (found : slice_get us n ≡ Some u) (w : AreOpenBelow us ls counted ps n old) where
+  open_next : ((k : ℕ) → Has old k → Has new k) → (has nat_cmp u.place counted ≡ true → Has new u.step ⊎ IsUntouched ls ps u.step) → AreOpenBelow us ls counted ps (n + 1) new
+  open_next more here i v l f = elim (same_or_other i n) [
+    | inl e ↦ subst (λ (x : UntilTest). has nat_cmp x.place counted ≡ true → Has new x.step ⊎ IsUntouched ls ps x.step) (some_same u v (sym found ∙ ap (slice_get us) (sym e) ∙ f)) here
+    | inr d ↦ λ counts. elim (w i v (omega arith) f counts) [ inl h ↦ inl (more v.step h) | inr h ↦ inr h ]
+  ]
 
-pub open_in : (us : List UntilTest) (ls : List Support) (ps : List Pair) (n : ℕ) (u : UntilTest) (old new : List ℕ) (k : ℕ) → slice_get us n ≡ Some u → k ≡ u.step → new ≡ old ++ k ∷ [] → AreOpenBelow us ls ps n old → AreOpenBelow us ls ps (n + 1) new
-open_in us ls ps n u old new k found e f w =
-    open_next us ls ps n u old new found (λ j h. subst (λ xs. Has xs j) (sym f) (append_left old (k ∷ []) j h)) (inl (subst (λ xs. Has xs u.step) (sym f) (append_right old (k ∷ []) u.step (inl (sym e))))) w
+  pub open_in : new ≡ old ++ u.step ∷ [] → AreOpenBelow us ls counted ps (n + 1) new
+  open_in f = open_next (λ j h. subst (λ xs. Has xs j) (sym f) (append_left old (u.step ∷ []) j h)) (λ counts. inl (subst (λ xs. Has xs u.step) (sym f) (append_right old (u.step ∷ []) u.step (inl refl))))
 
-pub open_out : (us : List UntilTest) (ls : List Support) (ps : List Pair) (n : ℕ) (u : UntilTest) (old new : List ℕ) (k : ℕ) (v a : Support) → slice_get us n ≡ Some u → k ≡ u.step → v ≡ slice_index_or ls k no_support → Covers a ps
-    → shares_some v a ≡ false → new ≡ old → AreOpenBelow us ls ps n old → AreOpenBelow us ls ps (n + 1) new
-open_out us ls ps n u old new k v a found e f c d g w =
-    open_next us ls ps n u old new found (λ j h. subst (λ xs. Has xs j) (sym g) h) (inr (a, c, subst (λ j. shares_some (slice_index_or ls j no_support) a ≡ false) e (subst (λ x. shares_some x a ≡ false) f d))) w
+  pub open_out : (a : Support) → Covers a ps → (has nat_cmp u.place counted && shares_some (slice_index_or ls u.step no_support) a) ≡ false → new ≡ old → AreOpenBelow us ls counted ps (n + 1) new
+  open_out a c d g = open_next (λ j h. subst (λ xs. Has xs j) (sym g) h) (λ counts. inr (a, c, sym (ap (λ b. b && shares_some (slice_index_or ls u.step no_support) a) counts) ∙ d))
 
-pub open_end : (us : List UntilTest) (ls : List Support) (ps : List Pair) (n : ℕ) (roots : List ℕ) → n ≡ length us → AreOpenBelow us ls ps n roots → AreOpenSteps us ls ps roots
-open_end us ls ps n roots e w i u f = let l = slice_get_within us i u f in w i u (omega arith) f
+pub open_end : (us : List UntilTest) (ls : List Support) (counted : RowSet) (ps : List Pair) (n : ℕ) (roots : List ℕ) → n ≡ length us → AreOpenBelow us ls counted ps n roots → AreOpenSteps us ls counted ps roots
+open_end us ls counted ps n roots e w i u f = let l = slice_get_within us i u f in w i u (omega arith) f
 
 -- ---- what pairs need
 

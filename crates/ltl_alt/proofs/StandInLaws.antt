@@ -1,9 +1,9 @@
 -- Lists in which pairs stand for others.
 use Rattle.std.proofs.Common.{◌≡◌, inl, inr, List, ◌++◌, refl, sym, ◌∙◌, subst, Some}
 use Rattle.ltl_spec.specs.Collections.Sets.{Has, set_of}
-use Rattle.ltl_spec.specs.Transitions.Pairs.{Pair, pair_cmp, join_pair, join}
+use Rattle.ltl_spec.specs.Transitions.Pairs.{RowSet, Pair, pair_cmp, join_pair, join}
 use Rattle.ltl_spec.specs.Transitions.RowTransitions.{Table}
-use Rattle.ltl_spec.specs.Transitions.Pruning.{IsSafeToDrop, IsKept}
+use Rattle.ltl_spec.specs.Transitions.Pruning.{IsSafeToDrop}
 use Rattle.ltl_spec.proofs.Collections.Orders.{pair_linear}
 use Rattle.ltl_spec.proofs.Collections.SetLaws.{append_cases, append_left, append_right, set_of_same, set_of_alike, set_of_cases, Has-set_of}
 use Rattle.ltl_spec.proofs.Transitions.JoinLaws.{join_parts, Has-join}
@@ -29,12 +29,12 @@ equal_stands = record {
   joined = λ t u s v a d e f. (a, sym (λ i. join_pair (d i) (e i)) ∙ f, refl);
 }
 
-safe_stands : (T : Table) → IsStandIn (IsSafeToDrop T)
-safe_stands T = record { itself = safe_refl T; on = safe_trans T; joined = safe_join T }
+safe_stands : (T : Table) (counted : RowSet) → IsStandIn (IsSafeToDrop T counted)
+safe_stands T counted = record { itself = safe_refl T counted; on = safe_trans T counted; joined = safe_join T counted }
 
 pub stands_in : (T : Table) (r : Rule) → IsStandIn (StandsFor T r)
 stands_in T rule.Duplicate = equal_stands
-stands_in T rule.SafelySubsumed = safe_stands T
+stands_in T (rule.SafelySubsumed counted) = safe_stands T counted
 
 -- ---- what was kept
 
@@ -86,10 +86,6 @@ listed_equal T ps qs w =
     sym (set_of_same pair_linear qs w.rising)
     ∙ set_of_alike pair_linear qs ps w.kept.from (λ p h. let (q, k, e) = w.kept.covers p h in subst (Has qs) (sym e) k)
 
--- what the safe rule lists was kept
-pub listed_safe : (T : Table) (ps qs : List Pair) → IsListed (StandsFor T rule.SafelySubsumed) ps qs → IsKept T ps qs
-listed_safe T ps qs w = record { from = w.kept.from; covers = w.kept.covers }
-
 -- ---- what was pruned
 
 -- of what was kept
@@ -101,4 +97,4 @@ pruned_of T r f ps qs rs fit k w =
 -- the tests of a table are what its rules take
 pub tests_fit : {A : Type 0} (T : Table) (r : Rule) (f : Fulfilment A) → AreTests T f → IsFit T r f
 tests_fit T rule.Duplicate f w = tt
-tests_fit T rule.SafelySubsumed f w = w
+tests_fit T (rule.SafelySubsumed counted) f w = w

@@ -1,5 +1,5 @@
 -- What every set of rows of one exploration shares.
-use Rattle.std.specs.Prelude.{◌≡◌, ℕ, ◌<◌, Bool, List, length}
+use Rattle.std.specs.Prelude.{ℕ, ◌<◌, Bool, List, length}
 use Rattle.ltl_spec.specs.Collections.Sets.{Has}
 use Rattle.ltl_spec.specs.Transitions.Pairs.{RowSet, Pair}
 use Rattle.ltl_formula.specs.TableView.{TableView, IsTable}
@@ -8,14 +8,14 @@ use Rattle.ltl_alt.specs.declared.basis.Basis.{Basis}
 use Rattle.ltl_alt.specs.declared.fulfilment.Fulfilment.{Fulfilment}
 use Rattle.ltl_alt.specs.declared.rule.Rule.{Rule}
 use Rattle.ltl_alt.specs.ConjunctTableView.{IsConjunctTable}
-use Rattle.ltl_alt.specs.StandIns.{rule_of}
+use Rattle.ltl_alt.specs.StandIns.{IsRuleOf}
 use Rattle.ltl_alt.specs.Tests.{AreTests}
 use Rattle.ltl_alt.specs.TransitionView.{table_at}
 
 -- the rule is that of the sets of rows, and all elementary rows of the table were taken apart by it
 pub record IsBasisOf {A : Type 0} (t : TableView) (keep : Bool) (r : Rule) (f : Fulfilment A) (made owners : List ℕ) (lists : List (List Pair)) (dependencies : List Dependencies) (links : List RowSet) : Type 0 where
   pub table : IsTable t
-  pub rule : r ≡ rule_of keep
+  pub rule : IsRuleOf (table_at t) keep r
   pub tests : AreTests (table_at t) f
   pub conjuncts : IsConjunctTable (table_at t) r made owners lists dependencies links
   pub all : (i : ℕ) → i < length t.elementary → Has made i

@@ -1,9 +1,9 @@
 -- What pairs lack to fulfil until rows, by the three-valued codes of steps.
-use Rattle.std.specs.Prelude.{◌≡◌, ◌≢◌, ◌⊎◌, ℕ, ◌<◌, ◌≤◌, not, ◌&&◌, false, if◌then◌else◌, List, [], ◌∷◌, length, map, slice_get, slice_index_or, slice_set, Some}
+use Rattle.std.specs.Prelude.{◌≡◌, ◌≢◌, ◌⊎◌, ℕ, ◌<◌, ◌≤◌, not, ◌&&◌, true, false, if◌then◌else◌, List, [], ◌∷◌, length, map, slice_get, slice_index_or, slice_set, Some}
 use Rattle.std.specs.Ordering.{nat_cmp}
 use Rattle.ltl_spec.specs.Collections.Sets.{Has, has, union}
 use Rattle.ltl_spec.specs.Transitions.Cubes.{literal_cmp, opposite}
-use Rattle.ltl_spec.specs.Transitions.Pairs.{Pair}
+use Rattle.ltl_spec.specs.Transitions.Pairs.{Pair, RowSet}
 use Rattle.ltl_spec.proofs.Transitions.IndependenceTests.{Support, Covers, IsWithinSupport, no_support, of_sign, shares_some}
 use Rattle.ltl_spec.proofs.Transitions.AskedSteps.{AreAskedFrom, AreCodes}
 use Rattle.ltl_spec.proofs.Transitions.Fulfilment.{Coming, anything, code, leaf_code}
@@ -125,6 +125,6 @@ pub record AreBlockLacks {A : Type 0} (f : Fulfilment A) (roots : List ℕ) (ps 
 abbrev pub IsUntouched : List Support → List Pair → ℕ → Type 0
 IsUntouched ls ps k = (a : Support) × Covers a ps × (shares_some (slice_index_or ls k no_support) a ≡ false)
 
--- the tests of all until rows but these depend on nothing that the pairs need
-abbrev pub AreOpenSteps : List UntilTest → List Support → List Pair → List ℕ → Type 0
-AreOpenSteps us ls ps roots = (i : ℕ) (u : UntilTest) → slice_get us i ≡ Some u → Has roots u.step ⊎ IsUntouched ls ps u.step
+-- the tests of all until rows that count but these depend on nothing that the pairs need
+abbrev pub AreOpenSteps : List UntilTest → List Support → RowSet → List Pair → List ℕ → Type 0
+AreOpenSteps us ls counted ps roots = (i : ℕ) (u : UntilTest) → slice_get us i ≡ Some u → has nat_cmp u.place counted ≡ true → Has roots u.step ⊎ IsUntouched ls ps u.step

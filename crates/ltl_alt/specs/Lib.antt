@@ -5,6 +5,7 @@ pub mod Columns
 pub mod ComponentView
 pub mod ConjunctTableView
 pub mod ConjunctView
+pub mod CountedView
 pub mod Elements
 pub mod FinalView
 pub mod KeyView

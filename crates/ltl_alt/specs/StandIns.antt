@@ -2,9 +2,10 @@
 use Rattle.std.specs.Prelude.{◌≡◌, ℕ, ◌+◌, nat_lt, Bool, true, false, ◌&&◌, ◌⊎◌, Some, List, length, flat_map, filter_map, slice_get, slice_index_or}
 use Rattle.std.specs.List.{list_any}
 use Rattle.ltl_spec.specs.Collections.Sets.{Has, IsRising}
-use Rattle.ltl_spec.specs.Transitions.Pairs.{Pair, pair_cmp, join_pair}
+use Rattle.ltl_spec.specs.Transitions.Pairs.{Pair, RowSet, pair_cmp, join_pair}
 use Rattle.ltl_spec.specs.Transitions.RowTransitions.{Table}
 use Rattle.ltl_spec.specs.Transitions.Pruning.{IsSafeToDrop}
+use Rattle.ltl_spec.specs.Transitions.CountedUntils.{AreCounted}
 use Rattle.ltl_spec.proofs.Transitions.IndependenceTests.{Support, no_support}
 use Rattle.ltl_alt.specs.CodeView.{IsLack}
 use Rattle.ltl_alt.specs.declared.fulfilment.Fulfilment.{Fulfilment}
@@ -27,16 +28,16 @@ pub record IsListed (S : Pair → Pair → Type 0) (ps qs : List Pair) : Type 0 
 -- by the rule u may replace t
 abbrev pub StandsFor : Table → Rule → Pair → Pair → Type 0
 StandsFor T rule.Duplicate t u = t ≡ u
-StandsFor T rule.SafelySubsumed t u = IsSafeToDrop T t u
+StandsFor T (rule.SafelySubsumed counted) t u = IsSafeToDrop T counted t u
 
 -- the tests of until rows, if the rule uses them
 abbrev pub IsFit : {A : Type 0} → Table → Rule → Fulfilment A → Type 0
 IsFit T rule.Duplicate f = Unit {0}
-IsFit T rule.SafelySubsumed f = AreTests T f
+IsFit T (rule.SafelySubsumed counted) f = AreTests T f
 
 -- qs are kept of ps, and each dropped pair was safe to drop
-abbrev pub IsPrunedSafely : {A : Type 0} → Fulfilment A → List Pair → List Pair → Type 0
-IsPrunedSafely f ps qs = (T : Table) → AreTests T f → IsKeptBy (IsSafeToDrop T) ps qs
+abbrev pub IsPrunedSafely : {A : Type 0} → Fulfilment A → RowSet → List Pair → List Pair → Type 0
+IsPrunedSafely f counted ps qs = (T : Table) → AreTests T f → IsKeptBy (IsSafeToDrop T counted) ps qs
 
 -- qs are kept of ps by the rule
 abbrev pub AreKept : {A : Type 0} → Rule → Fulfilment A → List Pair → List Pair → Type 0
@@ -46,10 +47,10 @@ AreKept r f ps qs = (T : Table) → IsFit T r f → IsKeptBy (StandsFor T r) ps 
 abbrev pub IsPruned : {A : Type 0} → Rule → Fulfilment A → List Pair → List Pair → Type 0
 IsPruned r f ps qs = (T : Table) → IsFit T r f → IsListed (StandsFor T r) ps qs
 
--- the rule for an automaton; implied transitions are kept only by the first one
-abbrev pub rule_of : Bool → Rule
-rule_of true = rule.Duplicate
-rule_of false = rule.SafelySubsumed
+-- the rule for the automaton of a table. Where implied transitions are kept, none but duplicates are dropped
+abbrev pub IsRuleOf : Table → Bool → Rule → Type 0
+IsRuleOf T true r = r ≡ rule.Duplicate
+IsRuleOf T false r = (counted : RowSet) × (r ≡ rule.SafelySubsumed counted) × AreCounted T counted
 
 -- the joins of two lists, grouped by the pair of the right one
 abbrev pub joins_by_right : List Pair → List Pair → List Pair

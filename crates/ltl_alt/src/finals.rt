@@ -143,7 +143,7 @@ impl<'a, A: Allocator> Finals<'a, A> {
         requires inside { (k : ℕ) → Has component.now k → k < length basis.now.conjuncts.lists.items }
         ensures finals { OnOk result (HasFinals basis.now self.new) }
         ensures number { IfOk result (IsFinal
-            (table_at basis.now.table.now) basis.now.keep_implied basis.now.conjuncts.lists.items self.new.lists.keys component.now) }
+            (table_at basis.now.table.now) basis.now.pruning.rule basis.now.keep_implied basis.now.conjuncts.lists.items self.new.lists.keys component.now) }
         ensures longer { OnOk result (IsLonger self.old.lists.keys self.new.lists.keys) }
     {
         if let Some(number) = self.of_components.get(component).copied() {

@@ -47,6 +47,7 @@ mod components;
 mod conjunct_table;
 mod conjuncts;
 mod context;
+mod counted;
 mod factors;
 mod finals;
 mod fulfilment;

@@ -12,6 +12,7 @@ use crate::rule::{Pruning, Rule};
 use crate::support::Support;
 use least::Lookup;
 use ltl_automaton::sort_dedup;
+use ltl_sets::RowSet;
 use std::alloc::{AllocError, Allocator};
 
 /// The greatest size of these pairs.
@@ -58,15 +59,16 @@ fn left<'a, A: Allocator>(
 fn pruned_safely<'a, A: Allocator>(
     alloc: &'a A,
     fulfilment: &Fulfilment<'_, A>,
+    counted: &RowSet,
     pairs: Vec<Pair, &'a A>,
 ) -> Result<Vec<Pair, &'a A>, AllocError>
-    ensures { IfOk result (λ v. IsPrunedSafely fulfilment.now pairs.entry.items v.items) }
+    ensures { IfOk result (λ v. IsPrunedSafely fulfilment.now counted.now pairs.entry.items v.items) }
 {
     let smaller = smaller(alloc, pairs.as_slice())?;
     if smaller.is_empty() {
         return Ok(pairs);
     }
-    let roots = open_steps(alloc, fulfilment, pairs.as_slice())?;
+    let roots = open_steps(alloc, fulfilment, counted, pairs.as_slice())?;
     let spares = spares_of(alloc, fulfilment, roots.as_slice(), smaller.as_slice())?;
     let lookup = Lookup::new(alloc, spares.as_slice())?;
     let kept = left(alloc, &lookup, pairs.as_slice())?;
@@ -83,7 +85,9 @@ fn kept<'a, A: Allocator>(
 {
     match pruning.rule {
         Rule::Duplicate => Ok(pairs),
-        Rule::SafelySubsumed => pruned_safely(alloc, pruning.fulfilment, pairs),
+        Rule::SafelySubsumed(counted) => {
+            pruned_safely(alloc, pruning.fulfilment, &counted, pairs)
+        }
     }
 }
 

@@ -128,11 +128,12 @@ fn explored<'a, A: Allocator>(
 {
     table.invariant();
     let fulfilment = Fulfilment::of(alloc, table)?;
+    let rule = Rule::of(alloc, table, keep_implied)?;
     let context = Context {
         alloc,
         table,
         pruning: Pruning {
-            rule: Rule::of(keep_implied),
+            rule,
             fulfilment: &fulfilment,
         },
     };

@@ -1,30 +1,39 @@
 //! The rule by which pairs are pruned.
 
-ghost use Rattle.std.specs.Prelude.{◌≡◌};
-ghost use Rattle.ltl_alt.specs.StandIns.{rule_of};
+ghost use Rattle.std.specs.Prelude.{IfOk};
+ghost use Rattle.ltl_alt.specs.StandIns.{IsRuleOf};
+ghost use Rattle.ltl_alt.specs.TransitionView.{table_at};
 
+use crate::counted::counted;
 use crate::fulfilment::Fulfilment;
-use std::alloc::Allocator;
+use ltl_formula::Table;
+use ltl_sets::RowSet;
+use std::alloc::{AllocError, Allocator};
 
 /// A rule by which pairs may be dropped from a list.
 #[derive(Clone, Copy, PartialEq, Eq)]
 pub(crate) enum Rule {
     /// Only duplicates are dropped.
     Duplicate,
-    /// A pair may be dropped if another one needs no more, and if that one gets at least the same marks, whatever both are joined with.
-    SafelySubsumed,
+    /// A pair may be dropped if another one needs no more, and if that one is marked for the same until rows of those that count, whatever both are joined
+    /// with. The set has the places of the until rows that count.
+    SafelySubsumed(RowSet),
 }
 
 impl Rule {
-    /// The rule for an automaton: if implied transitions are kept, only duplicates are dropped.
-    pub(crate) fn of(keep_implied: bool) -> Rule
-        ensures { result ≡ rule_of keep_implied }
+    /// The rule for the automaton of a table: if implied transitions are kept, only duplicates are dropped.
+    pub(crate) fn of<A: Allocator>(
+        alloc: &A,
+        table: &Table<'_, A>,
+        keep_implied: bool,
+    ) -> Result<Rule, AllocError>
+        ensures { IfOk result (IsRuleOf (table_at table.now) keep_implied) }
     {
         if keep_implied {
-            Rule::Duplicate
-        } else {
-            Rule::SafelySubsumed
+            return Ok(Rule::Duplicate);
         }
+        let counted = counted(alloc, table)?;
+        Ok(Rule::SafelySubsumed(counted))
     }
 }
 

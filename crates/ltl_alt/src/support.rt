@@ -89,6 +89,14 @@ impl Support {
         }
     }
 
+    /// The places of the targets.
+    #[inline(always)]
+    pub(crate) fn targets(&self) -> RowSet
+        ensures { result ≡ self.now.targets }
+    {
+        self.targets
+    }
+
     /// Whether a literal or a row is in both.
     pub(crate) fn shares_some(&self, other: &Support) -> bool
         ensures { result ≡ independence.shares_some self.now other.now }
@@ -137,41 +145,40 @@ pub(crate) struct Extent {
     positive: u64,
     negative: u64,
     targets: u64,
+    /// The number of bits.
+    size: u32,
+}
+
+/// The number of bits of three words.
+#[inline(always)]
+fn bits(positive: u64, negative: u64, targets: u64) -> u32 {
+    positive.count_ones() + negative.count_ones() + targets.count_ones()
 }
 
 impl Extent {
     /// That of these pairs.
     pub(crate) fn of(pairs: &[Pair]) -> Extent {
         let support = Support::of(pairs);
+        let positive = folded(&support.positive);
+        let negative = folded(&support.negative);
+        let targets = folded(&support.targets);
         Extent {
-            positive: folded(&support.positive),
-            negative: folded(&support.negative),
-            targets: folded(&support.targets),
+            positive,
+            negative,
+            targets,
+            size: bits(positive, negative, targets),
         }
-    }
-
-    /// The number of literals and targets.
-    #[inline(always)]
-    fn size(&self) -> u32 {
-        self.positive.count_ones() + self.negative.count_ones() + self.targets.count_ones()
     }
 
     /// The number of literals and targets that a join of both lists has and the larger list hasn't.
     #[inline(always)]
     pub(crate) fn added(&self, other: &Extent) -> u32 {
-        let mine = self.without(other).size();
-        let others = other.without(self).size();
-        mine.min(others)
-    }
-
-    /// What the other one hasn't.
-    #[inline(always)]
-    fn without(&self, other: &Extent) -> Extent {
-        Extent {
-            positive: self.positive & !other.positive,
-            negative: self.negative & !other.negative,
-            targets: self.targets & !other.targets,
-        }
+        let both = bits(
+            self.positive | other.positive,
+            self.negative | other.negative,
+            self.targets | other.targets,
+        );
+        both.saturating_sub(self.size.max(other.size))
     }
 }
 

@@ -3,3 +3,4 @@ pub mod Cubes
 pub mod Pairs
 pub mod RowTransitions
 pub mod Pruning
+pub mod CountedUntils

@@ -1,13 +1,11 @@
 -- Joins of numbered conjuncts: in any order, split by a test, and with conjuncts that are independent of each other.
 use Rattle.std.proofs.Common.{◌≡◌, ℕ, Bool, true, false, not, inl, inr, List, [], ◌∷◌, ◌++◌, refl}
-use Rattle.std.specs.Prelude.{cond, filter, flat_map, fold, slice_index_or}
+use Rattle.std.specs.Prelude.{cond, filter, fold, slice_index_or}
 use Rattle.ltl_spec.specs.Collections.Sets.{Has}
 use Rattle.ltl_spec.specs.NormalForms.Normal.{Normal, Bottom}
 use Rattle.ltl_spec.specs.Transitions.Pairs.{RowSet, Pair, join, empty_pair}
 use Rattle.ltl_spec.specs.Transitions.RowTransitions.{Table, place, pairs_at, transitions}
 use Rattle.ltl_spec.proofs.Transitions.TransitionLaws.{joined}
-use Rattle.ltl_spec.specs.Transitions.Pruning.{IsKept}
-use Rattle.ltl_spec.proofs.Transitions.PruningLaws.{kept_all, kept_join, kept_alike, kept_trans}
 use Rattle.ltl_spec.proofs.Transitions.SameJoins.{AreAlike, alike_refl, alike_sym, alike_trans, AreSound, sound_nothing, sound_join, join_alike, join_comm, join_assoc, join_nothing, join_nothing_left, pairs_sound}
 use Rattle.ltl_spec.proofs.Transitions.IndependentPairs.{AreIndependent, independent_sym, independent_of_nothing, independent_join}
 use Rattle.ltl_spec.proofs.Transitions.ProductTransitions.{transitions_of, alike_transitions}
@@ -82,25 +80,6 @@ module _ (conjunct : ℕ → List Pair) (sound : (i : ℕ) → AreSound (conjunc
   joined_from_nothing e =
       alike_trans (fold (λ qs i. join qs (conjunct i)) (empty_pair ∷ []) e) (join (empty_pair ∷ []) (join_of conjunct e)) (join_of conjunct e)
       (joined_one_by_one e (empty_pair ∷ []) sound_nothing) (join_nothing_left (join_of conjunct e) (sound_join_of e))
-
-  -- things that are made of conjuncts each
-  pub join_of_numbers : (whole : ℕ → List Pair) (numbers : ℕ → List ℕ) (e : List ℕ) → ((i : ℕ) → Has e i → AreAlike (whole i) (join_of conjunct (numbers i)))
-      → AreAlike (join_of whole e) (join_of conjunct (flat_map numbers e))
-  join_of_numbers whole numbers [] f = alike_refl (empty_pair ∷ [])
-  join_of_numbers whole numbers (i ∷ e) f =
-      alike_trans (join (whole i) (join_of whole e)) (join (join_of conjunct (numbers i)) (join_of conjunct (flat_map numbers e))) (join_of conjunct (numbers i ++ flat_map numbers e))
-      (join_alike (whole i) (join_of conjunct (numbers i)) (join_of whole e) (join_of conjunct (flat_map numbers e)) (f i (inl refl)) (join_of_numbers whole numbers e (λ k h. f k (inr h))))
-      (alike_sym (join_of conjunct (numbers i ++ flat_map numbers e)) (join (join_of conjunct (numbers i)) (join_of conjunct (flat_map numbers e))) (join_append (numbers i) (flat_map numbers e)))
-
--- the same where only some pairs were kept
-pub kept_numbers : (table : Table) (conjunct : ℕ → List Pair) → ((i : ℕ) → AreSound (conjunct i)) → (whole : ℕ → List Pair) (numbers : ℕ → List ℕ) (e : List ℕ)
-    → ((i : ℕ) → Has e i → IsKept table (whole i) (join_of conjunct (numbers i))) → IsKept table (join_of whole e) (join_of conjunct (flat_map numbers e))
-kept_numbers table conjunct sound whole numbers [] f = kept_all table (empty_pair ∷ [])
-kept_numbers table conjunct sound whole numbers (i ∷ e) f =
-    let a = join_append conjunct sound (numbers i) (flat_map numbers e) in
-    kept_trans table (join (whole i) (join_of whole e)) (join (join_of conjunct (numbers i)) (join_of conjunct (flat_map numbers e))) (join_of conjunct (numbers i ++ flat_map numbers e))
-    (kept_join table (whole i) (join_of conjunct (numbers i)) (join_of whole e) (join_of conjunct (flat_map numbers e)) (f i (inl refl)) (kept_numbers table conjunct sound whole numbers e (λ k h. f k (inr h))))
-    (kept_alike table (join (join_of conjunct (numbers i)) (join_of conjunct (flat_map numbers e))) (join_of conjunct (numbers i ++ flat_map numbers e)) a.back a.there)
 
 -- the rows of a table
 

@@ -7,18 +7,14 @@ use Rattle.std.specs.Ordering.{nat_cmp}
 use Rattle.ltl_spec.specs.Collections.Sets.{Has, IsRising}
 use Rattle.ltl_spec.specs.Collections.Lists.{HasNoRepeats}
 use Rattle.ltl_spec.specs.Transitions.Pairs.{RowSet, Pair, join, empty_pair}
-use Rattle.ltl_spec.specs.Transitions.RowTransitions.{Table, pairs_at, transitions}
 use Rattle.ltl_spec.proofs.Collections.SetLaws.{filter_cases, Has-filter}
 use Rattle.ltl_spec.proofs.Collections.MemberLaws.{Has-flat_map, flat_map_cases}
 use Rattle.ltl_spec.proofs.Collections.CaseLaws.{false_is_true}
 use Rattle.ltl_spec.proofs.Collections.Orders.{nat_linear}
 use Rattle.ltl_spec.proofs.Collections.ProductLists.{HasNoRepeats-append, rising_once}
 use Rattle.ltl_spec.proofs.Transitions.UnimpliedLaws.{not_from, not_cases}
-use Rattle.ltl_spec.specs.Transitions.Pruning.{IsKept}
 use Rattle.ltl_spec.proofs.Transitions.SameJoins.{AreAlike, alike_refl, alike_sym, alike_trans, AreSound, join_alike, join_nothing}
-use Rattle.ltl_spec.proofs.Transitions.ProductTransitions.{transitions_of, alike_transitions}
 use Rattle.ltl_spec.proofs.Transitions.ConjunctJoins.{join_of, join_split}
-use Rattle.ltl_spec.proofs.Transitions.RowConjunctLaws.{transitions_by_conjuncts, transitions_by_kept_conjuncts}
 
 -- a filter keeps that nothing stands twice
 pub HasNoRepeats-filter : {K : Type 0} (p : K → Bool) (xs : List K) → HasNoRepeats xs → HasNoRepeats (filter p xs)
@@ -85,21 +81,11 @@ pub record AreConjunctsOf (numbers : ℕ → List ℕ) (e all : RowSet) : Type 0
   pub there : (i n : ℕ) → Has e i → Has (numbers i) n → Has all n
   pub back : (n : ℕ) → Has all n → (i : ℕ) × Has e i × Has (numbers i) n
 
-module _ (table : Table) (conjunct : ℕ → List Pair) (sound : (i : ℕ) → AreSound (conjunct i)) (numbers : ℕ → List ℕ) (e all : RowSet) (conjuncts : AreConjunctsOf numbers e all) where
+module _ (conjunct : ℕ → List Pair) (sound : (i : ℕ) → AreSound (conjunct i)) (numbers : ℕ → List ℕ) (e all : RowSet) (conjuncts : AreConjunctsOf numbers e all) where
   -- the conjuncts one row after another, and in order
-  conjuncts_in_order : AreAlike (join_of conjunct (flat_map numbers e)) (join_of conjunct all)
+  pub conjuncts_in_order : AreAlike (join_of conjunct (flat_map numbers e)) (join_of conjunct all)
   conjuncts_in_order =
       join_of_same conjunct sound (flat_map numbers e) all (HasNoRepeats-flat_map numbers e (rising_once nat_linear e conjuncts.rows) conjuncts.once (λ i j n h k l m. conjuncts.own i j n h k l m))
       (rising_once nat_linear all conjuncts.rising)
       (λ n h. let (i, k, m) = flat_map_cases numbers e n h in conjuncts.there i n k m)
       (λ n h. let (i, k, m) = conjuncts.back n h in Has-flat_map numbers e i n k m)
-
-  -- the transitions of a set of rows are those of the set of their conjuncts
-  pub transitions_by_conjunct_set : (keep : Bool) → ((i : ℕ) → Has e i → AreAlike (pairs_at table i) (join_of conjunct (numbers i))) → transitions table keep e ≡ transitions_of table keep (join_of conjunct all)
-  transitions_by_conjunct_set keep f =
-      transitions_by_conjuncts table conjunct sound numbers e keep f ∙ alike_transitions table keep (join_of conjunct (flat_map numbers e)) (join_of conjunct all) conjuncts_in_order
-
-  -- also where only some pairs were kept of the conjuncts
-  pub transitions_by_kept_set : ((i : ℕ) → Has e i → IsKept table (pairs_at table i) (join_of conjunct (numbers i))) → transitions table false e ≡ transitions_of table false (join_of conjunct all)
-  transitions_by_kept_set f =
-      transitions_by_kept_conjuncts table conjunct sound numbers e f ∙ alike_transitions table false (join_of conjunct (flat_map numbers e)) (join_of conjunct all) conjuncts_in_order

@@ -85,6 +85,21 @@ module _ (table : Table) (chosen : Normal → List Pair) where
     right = record { literals = λ f h w l i j. asks_nothing l j; rows = λ f h w k i j. leads_nothing k j };
   }
 
+  -- so are lists of some of their pairs
+  pub independent_some : (ps qs rs ss : List Pair) → ((p : Pair) → Has rs p → Has ps p) → ((q : Pair) → Has ss q → Has qs q) → AreIndependent ps qs → AreIndependent rs ss
+  independent_some ps qs rs ss f g a = record {
+    names = λ l m h k e. a.names l m (asks rs ps f l h) (asks ss qs g m k) e;
+    rows = λ k h m. a.rows k (leads rs ps f k h) (leads ss qs g k m);
+    left = record { literals = λ h i w l x j. a.left.literals h i (leads rs ps f (place table h) w) l x (asks ss qs g l j); rows = λ h i w k x j. a.left.rows h i (leads rs ps f (place table h) w) k x (leads ss qs g k j) };
+    right = record { literals = λ h i w l x j. a.right.literals h i (leads ss qs g (place table h) w) l x (asks rs ps f l j); rows = λ h i w k x j. a.right.rows h i (leads ss qs g (place table h) w) k x (leads rs ps f k j) };
+  }
+    where
+      asks : (us vs : List Pair) → ((p : Pair) → Has us p → Has vs p) → (l : Literal) → Asks us l → Asks vs l
+      asks us vs more l (p, h, k) = (p, more p h, k)
+
+      leads : (us vs : List Pair) → ((p : Pair) → Has us p → Has vs p) → (k : ℕ) → Leads us k → Leads vs k
+      leads us vs more k (p, h, m) = (p, more p h, m)
+
   -- pairs of lists that are independent
 
   module _ (ps qs : List Pair) (independent : AreIndependent ps qs) where

@@ -4,17 +4,17 @@ use Rattle.std.specs.Prelude.{slice_index_or}
 use Rattle.std.specs.declared.cmp.Ordering.TheVariants.{Less}
 use Rattle.ltl_spec.specs.Collections.Sets.{Has, IsRising, set_of}
 use Rattle.ltl_spec.specs.NormalForms.Normal.{Normal, Bottom}
-use Rattle.ltl_spec.specs.Transitions.Pairs.{Pair, pair_cmp, join, empty_pair}
+use Rattle.ltl_spec.specs.Transitions.Pairs.{RowSet, Pair, pair_cmp, join, empty_pair}
 use Rattle.ltl_spec.specs.Transitions.RowTransitions.{Table, is_marked, Transition, with_marks, transition_cmp}
 use Rattle.ltl_spec.proofs.Collections.SetLaws.{all_at, all_from, set_of_cases, Has-set_of, IsRising-set_of}
 use Rattle.ltl_spec.proofs.Collections.ListLaws.{Has-at, places_cases, Has-places}
 use Rattle.ltl_spec.proofs.Collections.Orders.{pair_linear}
-use Rattle.ltl_spec.proofs.Transitions.JoinLaws.{Within, within_refl, united, within_left, Has-join, AllProper, IsConsistent, join_pair_is, united_least, join_parts}
+use Rattle.ltl_spec.proofs.Transitions.JoinLaws.{Within, within_refl, united, within_left, AllProper, IsConsistent, join_pair_is, united_least, join_parts}
 use Rattle.ltl_spec.proofs.Transitions.TransitionLaws.{Implies, HasSets}
 use Rattle.ltl_spec.proofs.Transitions.UnimpliedLaws.{unimplied_covered}
 use Rattle.ltl_spec.proofs.Transitions.LeastPairs.{marked_alike}
-use Rattle.ltl_spec.proofs.Transitions.SafeLaws.{consistent_within, safe_within, safe_keeps, safe_refl, safe_trans, safe_join}
-use Rattle.ltl_spec.specs.Transitions.Pruning.{unimplied_of, IsSafeToDrop, IsKept}
+use Rattle.ltl_spec.proofs.Transitions.SafeLaws.{consistent_within, safe_keeps}
+use Rattle.ltl_spec.specs.Transitions.Pruning.{unimplied_of, is_counted, IsSafeToDrop}
 use Rattle.ltl_spec.proofs.Collections.MemberLaws.{Has-map, map_cases}
 
 -- no pair of the list contradicts itself
@@ -37,50 +37,16 @@ consistent_empty r (inr x) = absurd x
 pub united_alone : (p : Pair) → Within (united p empty_pair) p
 united_alone p = united_least p empty_pair p (within_refl p) (record { cube = λ l k. absurd k; targets = λ i k. absurd k })
 
-module _ (table : Table) where
-  -- what was kept
-
-  -- all may be kept
-  pub kept_all : (ps : List Pair) → IsKept table ps ps
-  kept_all ps = record { from = λ q h. h; covers = λ p h. (p, h, safe_refl table p) }
-
-  -- of what was kept some may be kept
-  pub kept_trans : (ps qs rs : List Pair) → IsKept table ps qs → IsKept table qs rs → IsKept table ps rs
-  kept_trans ps qs rs a b = record {
-    from = λ r h. a.from r (b.from r h);
-    covers = λ p h.
-        let (q, k, s) = a.covers p h in
-        let (r, m, t) = b.covers q k in
-        (r, m, safe_trans table p q r s t);
-  }
-
-  -- order and repetition play no part
-  pub kept_alike : (ps qs : List Pair) → ((p : Pair) → Has ps p → Has qs p) → ((q : Pair) → Has qs q → Has ps q) → IsKept table ps qs
-  kept_alike ps qs f g = record { from = g; covers = λ p h. (p, f p h, safe_refl table p) }
-
-  -- joins of what was kept are kept of the joins
-  pub kept_join : (ps qs rs ss : List Pair) → IsKept table ps qs → IsKept table rs ss → IsKept table (join ps rs) (join qs ss)
-  kept_join ps qs rs ss a b = record {
-    from = λ r h.
-        let (p, q, k, m, e) = join_parts qs ss r h in
-        Has-join ps rs p q r (a.from p k) (b.from q m) e;
-    covers = λ r h.
-        let (p, q, k, m, e) = join_parts ps rs r h in
-        let (u, i, s) = a.covers p k in
-        let (v, j, t) = b.covers q m in
-        let (w, d, x) = safe_join table p u q v r s t e in
-        (w, Has-join qs ss u v w i j d, x);
-  }
-
-  -- the transitions
-
-  -- a consistent pair that is safe to drop has its marks with the other one too
-  pub safe_marked : (t u : Pair) → IsConsistent t → IsSafeToDrop table t u → (f : Normal) → Has table.untils f → is_marked table t f ≡ true → is_marked table u f ≡ true
-  safe_marked t u c s f h m =
+-- of the until rows those count that have their places in `counted`
+module _ (table : Table) (counted : RowSet) where
+  -- with a pair that it is safe to drop for, a consistent pair has its marks for all until rows that count
+  pub safe_marked : (t u : Pair) → IsConsistent t → IsSafeToDrop table counted t u → (f : Normal) → Has table.untils f → is_counted table counted f ≡ true → is_marked table t f ≡ true → is_marked table u f ≡ true
+  safe_marked t u c s f h k m =
       marked_alike table (united u empty_pair) u f (united_alone u) (within_left u empty_pair)
-      (safe_keeps table t u s empty_pair (consistent_within (united t empty_pair) t (united_alone t) c) f h
+      (safe_keeps table counted t u s empty_pair (consistent_within (united t empty_pair) t (united_alone t) c) f h k
       (marked_alike table t (united t empty_pair) f (within_left t empty_pair) (united_alone t) m))
 
+module _ (table : Table) where
   -- a pair within t that has its marks too has a transition that implies that of t
   pub marked_implies : (t u : Pair) → Within u t → ((f : Normal) → Has table.untils f → is_marked table t f ≡ true → is_marked table u f ≡ true) → Implies (with_marks table u) (with_marks table t)
   marked_implies t u w marked = record {
@@ -93,10 +59,6 @@ module _ (table : Table) where
         let e : 0 + (k - 0) ≡ k = omega arith in
         subst (Has (with_marks table u).marks) e (Has-places (is_marked table u) 0 table.untils Bottom (k - 0) (omega arith) m);
   }
-
-  -- so it is for a pair that stands for t
-  pub safe_implies : (t u : Pair) → IsConsistent t → IsSafeToDrop table t u → Implies (with_marks table u) (with_marks table t)
-  safe_implies t u c s = marked_implies t u (safe_within table s) (safe_marked t u c s)
 
   -- transitions stand in the order of their pairs
   pub transitions_rise : (ps : List Pair) → IsRising pair_cmp ps → IsRising transition_cmp (map (with_marks table) ps)
@@ -131,8 +93,3 @@ module _ (table : Table) where
           let (p, k, e) = map_cases (with_marks table) (set_of pair_cmp ps) t h in
           let (q, i, w) = above p (set_of_cases pair_linear ps p k) in
           (with_marks table q, Has-map (with_marks table) (set_of pair_cmp qs) q (Has-set_of pair_linear qs q i), subst (Implies (with_marks table q)) (sym e) w)
-
-  -- so it is for what was kept
-  pub kept_transitions : (ps qs : List Pair) → AllProper ps → AllConsistent ps → IsKept table ps qs → unimplied_of table ps ≡ unimplied_of table qs
-  kept_transitions ps qs proper consistent kept =
-      covered_transitions ps qs proper kept.from (λ p h. let (q, k, s) = kept.covers p h in (q, k, safe_implies p q (consistent p h) s))

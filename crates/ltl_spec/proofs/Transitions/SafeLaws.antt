@@ -3,12 +3,12 @@ use Rattle.std.proofs.Common.{◌≡◌, Bool, true, false, refl, sym, ◌∙◌
 use Rattle.ltl_spec.specs.Collections.Sets.{Has, has}
 use Rattle.ltl_spec.specs.Transitions.Cubes.{Literal, literal_cmp, opposite, Cube, is_contradictory}
 use Rattle.ltl_spec.specs.NormalForms.Normal.{Normal}
-use Rattle.ltl_spec.specs.Transitions.Pairs.{Pair, join_pair}
+use Rattle.ltl_spec.specs.Transitions.Pairs.{RowSet, Pair, join_pair}
 use Rattle.ltl_spec.specs.Transitions.RowTransitions.{Table, is_marked}
 use Rattle.ltl_spec.proofs.Collections.SetLaws.{has_Decides}
 use Rattle.ltl_spec.proofs.Collections.Orders.{literal_linear}
 use Rattle.ltl_spec.proofs.Transitions.JoinLaws.{Within, within_refl, within_trans, united, within_left, within_right, IsConsistent, join_pair_is, joined_from, united_least}
-use Rattle.ltl_spec.specs.Transitions.Pruning.{IsSafeToDrop}
+use Rattle.ltl_spec.specs.Transitions.Pruning.{IsSafeToDrop, is_counted}
 use Rattle.ltl_spec.proofs.Transitions.LeastPairs.{is_within_Decides, marked_alike}
 use Rattle.ltl_spec.proofs.Collections.CaseLaws.{false_is_true}
 use Rattle.ltl_spec.proofs.Collections.MemberLaws.{any_cases, any_true}
@@ -57,73 +57,74 @@ swapped p q = united_least p q (united q p) (within_right q p) (within_left q p)
 
 -- safe to drop
 
-module _ (table : Table) where
+-- of the until rows those count that have their places in `counted`
+module _ (table : Table) (counted : RowSet) where
   -- the same without the joins: every consistent completion of t keeps its marks with u
   abbrev pub KeepsMarks : Pair → Pair → Type 0
-  KeepsMarks t u = (x : Pair) → IsConsistent (united t x) → (f : Normal) → Has table.untils f → is_marked table (united t x) f ≡ true → is_marked table (united u x) f ≡ true
+  KeepsMarks t u = (x : Pair) → IsConsistent (united t x) → (f : Normal) → Has table.untils f → is_counted table counted f ≡ true → is_marked table (united t x) f ≡ true → is_marked table (united u x) f ≡ true
 
   -- the pair that stands for t is within it
-  pub safe_within : {t u : Pair} → IsSafeToDrop table t u → Within u t
+  pub safe_within : {t u : Pair} → IsSafeToDrop table counted t u → Within u t
   safe_within {t} {u} s = (is_within_Decides u t).0 s.less
 
   -- that is enough to be safe
-  pub safe_from : (t u : Pair) → Within u t → KeepsMarks t u → IsSafeToDrop table t u
+  pub safe_from : (t u : Pair) → Within u t → KeepsMarks t u → IsSafeToDrop table counted t u
   safe_from t u w keeps = record {
     less = (is_within_Decides u t).1 w;
-    marks = λ x c d a b f h m.
+    marks = λ x c d a b f h k m.
         let i = join_pair_is t x c a in
         let j = join_pair_is u x d b in
-        subst (λ p. is_marked table p f ≡ true) (sym j.0) (keeps x i.1 f h (subst (λ p. is_marked table p f ≡ true) i.0 m));
+        subst (λ p. is_marked table p f ≡ true) (sym j.0) (keeps x i.1 f h k (subst (λ p. is_marked table p f ≡ true) i.0 m));
   }
 
   -- and follows from it
-  pub safe_keeps : (t u : Pair) → IsSafeToDrop table t u → KeepsMarks t u
-  safe_keeps t u s x n f h m =
+  pub safe_keeps : (t u : Pair) → IsSafeToDrop table counted t u → KeepsMarks t u
+  safe_keeps t u s x n f h k m =
       s.marks x (united t x) (united u x) (joined_from t x n)
-      (joined_from u x (consistent_within (united u x) (united t x) (united_within u t x x (safe_within s) (within_refl x)) n)) f h m
+      (joined_from u x (consistent_within (united u x) (united t x) (united_within u t x x (safe_within s) (within_refl x)) n)) f h k m
 
   -- a pair may stand for itself
-  pub safe_refl : (t : Pair) → IsSafeToDrop table t t
-  safe_refl t = safe_from t t (within_refl t) (λ x n f h m. m)
+  pub safe_refl : (t : Pair) → IsSafeToDrop table counted t t
+  safe_refl t = safe_from t t (within_refl t) (λ x n f h k m. m)
 
   -- what stands for one that stands for t stands for t
-  pub safe_trans : (t u v : Pair) → IsSafeToDrop table t u → IsSafeToDrop table u v → IsSafeToDrop table t v
+  pub safe_trans : (t u v : Pair) → IsSafeToDrop table counted t u → IsSafeToDrop table counted u v → IsSafeToDrop table counted t v
   safe_trans t u v a b =
       safe_from t v (within_trans v u t (safe_within b) (safe_within a))
-      (λ x n f h m. safe_keeps u v b x (consistent_within (united u x) (united t x) (united_within u t x x (safe_within a) (within_refl x)) n) f h (safe_keeps t u a x n f h m))
+      (λ x n f h k m. safe_keeps u v b x (consistent_within (united u x) (united t x) (united_within u t x x (safe_within a) (within_refl x)) n) f h k (safe_keeps t u a x n f h k m))
 
   -- only the members count
-  pub safe_alike : (t u s v : Pair) → Within t s → Within s t → Within u v → Within v u → IsSafeToDrop table t u → IsSafeToDrop table s v
+  pub safe_alike : (t u s v : Pair) → Within t s → Within s t → Within u v → Within v u → IsSafeToDrop table counted t u → IsSafeToDrop table counted s v
   safe_alike t u s v ts st uv vu a =
       safe_from s v (within_trans v u s vu (within_trans u t s (safe_within a) ts))
-      (λ x n f h m.
+      (λ x n f h k m.
       let tx = united_within t s x x ts (within_refl x) in
       let sx = united_within s t x x st (within_refl x) in
       let ux = united_within u v x x uv (within_refl x) in
       let vx = united_within v u x x vu (within_refl x) in
       marked_alike table (united u x) (united v x) f ux vx
-      (safe_keeps t u a x (consistent_within (united t x) (united s x) tx n) f h (marked_alike table (united s x) (united t x) f sx tx m)))
+      (safe_keeps t u a x (consistent_within (united t x) (united s x) tx n) f h k (marked_alike table (united s x) (united t x) f sx tx m)))
 
   -- it stays safe with more pairs at once
-  pub safe_united : (t u y : Pair) → IsSafeToDrop table t u → IsSafeToDrop table (united t y) (united u y)
+  pub safe_united : (t u y : Pair) → IsSafeToDrop table counted t u → IsSafeToDrop table counted (united t y) (united u y)
   safe_united t u y a =
       safe_from (united t y) (united u y) (united_within u t y y (safe_within a) (within_refl y))
-      (λ x n f h m.
+      (λ x n f h k m.
       marked_alike table (united u (united y x)) (united (united u y) x) f (grouped_left u y x) (grouped_right u y x)
-      (safe_keeps t u a (united y x) (consistent_within (united t (united y x)) (united (united t y) x) (grouped_left t y x) n) f h
+      (safe_keeps t u a (united y x) (consistent_within (united t (united y x)) (united (united t y) x) (grouped_left t y x) n) f h k
       (marked_alike table (united (united t y) x) (united t (united y x)) f (grouped_right t y x) (grouped_left t y x) m)))
 
   -- on either side
-  pub safe_united_right : (t u y : Pair) → IsSafeToDrop table t u → IsSafeToDrop table (united y t) (united y u)
+  pub safe_united_right : (t u y : Pair) → IsSafeToDrop table counted t u → IsSafeToDrop table counted (united y t) (united y u)
   safe_united_right t u y a =
       safe_alike (united t y) (united u y) (united y t) (united y u) (swapped t y) (swapped y t) (swapped u y) (swapped y u) (safe_united t u y a)
 
   -- so of two joined pairs each may be dropped for another one
-  pub safe_join : (t u s v a : Pair) → IsSafeToDrop table t u → IsSafeToDrop table s v → join_pair t s ≡ Some a → (b : Pair) × (join_pair u v ≡ Some b) × IsSafeToDrop table a b
+  pub safe_join : (t u s v a : Pair) → IsSafeToDrop table counted t u → IsSafeToDrop table counted s v → join_pair t s ≡ Some a → (b : Pair) × (join_pair u v ≡ Some b) × IsSafeToDrop table counted a b
   safe_join t u s v a tu sv e =
       let i = join_pair_is t s a e in
       let w = united_within u t v s (safe_within tu) (safe_within sv) in (
         united u v,
         joined_from u v (consistent_within (united u v) (united t s) w i.1),
-        subst (λ p. IsSafeToDrop table p (united u v)) (sym i.0) (safe_trans (united t s) (united u s) (united u v) (safe_united t u s tu) (safe_united_right s v u sv)),
+        subst (λ p. IsSafeToDrop table counted p (united u v)) (sym i.0) (safe_trans (united t s) (united u s) (united u v) (safe_united t u s tu) (safe_united_right s v u sv)),
       )

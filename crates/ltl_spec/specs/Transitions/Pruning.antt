@@ -4,7 +4,7 @@ use Rattle.std.specs.Ordering.{nat_cmp}
 use Rattle.ltl_spec.specs.Collections.Sets.{Has, set_of, has, is_subset}
 use Rattle.ltl_spec.specs.Transitions.Cubes.{literal_cmp}
 use Rattle.ltl_spec.specs.NormalForms.Normal.{Normal}
-use Rattle.ltl_spec.specs.Transitions.Pairs.{Pair, pair_cmp, join_pair, pairs}
+use Rattle.ltl_spec.specs.Transitions.Pairs.{RowSet, Pair, pair_cmp, join_pair, pairs}
 use Rattle.ltl_spec.specs.Transitions.RowTransitions.{Table, place, is_marked, Transition, with_marks, unimplied_transitions}
 
 -- whether q asks for no more than p
@@ -25,12 +25,17 @@ module _ (table : Table) where
   abbrev pub fulfilling_pairs : Normal → List Pair
   fulfilling_pairs f = filter (λ m. not (has nat_cmp (place table f) m.targets)) (pairs (place table) f)
 
-  -- u asks for no more than t, and whatever is joined to both: each until row that it is marked for with t, it is marked for with u
-  pub record IsSafeToDrop (t u : Pair) : Type 0 where
+  -- the place of the until row is among those of the until rows that count
+  abbrev pub is_counted : RowSet → Normal → Bool
+  is_counted counted f = has nat_cmp (place table f) counted
+
+  -- u asks for no more than t, and whatever is joined to both: each until row that counts and that it is marked for with t, it is marked for with u
+  pub record IsSafeToDrop (counted : RowSet) (t u : Pair) : Type 0 where
     pub less : IsTrue (is_within u t)
-    pub marks : (x c d : Pair) → join_pair t x ≡ Some c → join_pair u x ≡ Some d → (f : Normal) → Has table.untils f → is_marked table c f ≡ true → is_marked table d f ≡ true
+    pub marks : (x c d : Pair) → join_pair t x ≡ Some c → join_pair u x ≡ Some d
+        → (f : Normal) → Has table.untils f → is_counted counted f ≡ true → is_marked table c f ≡ true → is_marked table d f ≡ true
 
   -- of all these pairs those were kept, each other one may be dropped for one of them
-  pub record IsKept (ps qs : List Pair) : Type 0 where
+  pub record IsKept (counted : RowSet) (ps qs : List Pair) : Type 0 where
     pub from : (q : Pair) → Has qs q → Has ps q
-    pub covers : (p : Pair) → Has ps p → (q : Pair) × Has qs q × IsSafeToDrop p q
+    pub covers : (p : Pair) → Has ps p → (q : Pair) × Has qs q × IsSafeToDrop counted p q

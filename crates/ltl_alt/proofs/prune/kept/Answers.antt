@@ -11,4 +11,5 @@ returns-in-SafelySubsumed g c =
     let r = c.args.pruning.now.rule in
     let f = c.args.pruning.now.fulfilment.now in
     let ps = c.args.pairs.items in
-    IfOk-weaker c.pruned_safely.result (λ v. IsPrunedSafely f ps v.items) (λ v. AreKept r f ps v.items) (λ v w. kept_safely r f ps v.items c.in-SafelySubsumed.is w) c.pruned_safely.ensures
+    let counted = c.in-SafelySubsumed.counted in
+    IfOk-weaker c.pruned_safely.result (λ v. IsPrunedSafely f counted ps v.items) (λ v. AreKept r f ps v.items) (λ v w. kept_safely r f counted ps v.items c.in-SafelySubsumed.is w) c.pruned_safely.ensures

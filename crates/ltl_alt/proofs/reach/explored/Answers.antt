@@ -33,7 +33,7 @@ explore_from-requires-clause-ready g c = (
   (
     record {
       table = c.invariant.ensures;
-      rule = c.of-2.ensures;
+      rule = c.in_ok-rule.ensures;
       tests = c.in_ok-fulfilment.ensures;
       conjuncts = c.in_ok-conjuncts.ensures.conjuncts.0;
       all = c.in_ok-conjuncts.ensures.conjuncts.1;

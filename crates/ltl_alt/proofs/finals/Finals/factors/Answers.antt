@@ -18,8 +18,8 @@ components-init g c =
       finals = c.requires.finals;
       factors = (
         λ f h. absurd (subst (λ xs. Has xs f) c.in_ok-factors.ensures.items h),
-        subst (λ xs. AreLists (table_at b.table.now) b.keep_implied b.conjuncts.lists.items c.args.all.now (map (made_of c.args.self.now.lists.keys) xs) c.args.all.now) (sym c.in_ok-factors.ensures.items)
-            (lists_none (table_at b.table.now) b.keep_implied b.conjuncts.lists.items c.args.all.now),
+        subst (λ xs. AreLists (table_at b.table.now) b.pruning.rule b.keep_implied b.conjuncts.lists.items c.args.all.now (map (made_of c.args.self.now.lists.keys) xs) c.args.all.now) (sym c.in_ok-factors.ensures.items)
+            (lists_none (table_at b.table.now) b.pruning.rule b.keep_implied b.conjuncts.lists.items c.args.all.now),
       );
       longer = longer_same c.args.self.now.lists.keys;
       inside = c.requires.inside;
@@ -50,10 +50,10 @@ components-preserved g c =
       factors = (
         λ f h. elim (append_cases before (one ∷ []) f (subst (λ xs. Has xs f) c.in_ok-push.ensures.items h)) [
           | inl m ↦ longer_within old new longer f (was.0 f m)
-          | inr m ↦ elim m [ inl e ↦ subst (λ k. k < length new) (sym e) is.0 | inr z ↦ absurd z ]
+          | inr m ↦ elim m [ inl e ↦ subst (λ k. k < length new) (sym e) is.number | inr z ↦ absurd z ]
         ],
-        lists_more (table_at b.table.now) b.keep_implied b.conjuncts.lists.items b.conjuncts.dependencies.items b.conjuncts.links.items c.args.all.now (map (made_of old) before) (map (made_of new) c.push.new.self.items) (made_of new one)
-            c.components.rest c.component-component.result c.without-rest.result c.in-Some.conjunct conjuncts.linked c.components.invariant.inside was.1 c.invariant.ensures.rising c.invariant-in-Some.ensures.rising c.component-component.ensures is.1
+        lists_more (table_at b.table.now) b.pruning.rule b.keep_implied b.conjuncts.lists.items b.conjuncts.dependencies.items b.conjuncts.links.items c.args.all.now (map (made_of old) before) (map (made_of new) c.push.new.self.items) new one
+            c.components.rest c.component-component.result c.without-rest.result c.in-Some.conjunct conjuncts.linked c.components.invariant.inside was.1 c.invariant.ensures.rising c.invariant-in-Some.ensures.rising c.component-component.ensures is
             (ap (map (made_of new)) c.in_ok-push.ensures.items ∙ map_behind (made_of new) before one ∙ ap (λ xs. xs ++ made_of new one ∷ []) (factors_longer old new before longer was.0)) c.without-rest.ensures,
       );
       longer = longer_trans c.args.self.now.lists.keys old new c.components.invariant.longer longer;

@@ -17,7 +17,7 @@ pub returns-in-Some-clause-number : goal.returns-in-Some-clause-number
 returns-in-Some-clause-number g c =
     let b = c.args.basis.now in
     let old = c.args.self.now in
-    list_known (table_at b.table.now) b.keep_implied b.conjuncts.lists.items old.components.memo.lists.keys old.lists.keys old.of_joins.entries old.of_components.entries c.args.key c.in-Some.number c.requires.finals.1 (c.in-Some.ensures ∙ c.get.ensures.value)
+    list_known (table_at b.table.now) b.pruning.rule b.keep_implied b.conjuncts.lists.items old.components.memo.lists.keys old.lists.keys old.of_joins.entries old.of_components.entries c.args.key c.in-Some.number c.requires.finals.1 (c.in-Some.ensures ∙ c.get.ensures.value)
 
 pub returns-in-Some-clause-longer : goal.returns-in-Some-clause-longer
 returns-in-Some-clause-longer g c = longer_same c.args.self.now.lists.keys
@@ -67,6 +67,6 @@ returns-clause-finals g c =
     } in
     let longer = longer_new same_transitions old.lists.keys lists c.in_ok-transitions.transitions c.in_ok-number.ensures.keys in (
       c.requires.finals.0,
-      lists_more T b.keep_implied b.conjuncts.lists.items pairs lists old.of_joins.entries c.insert.new.self.entries old.of_components.entries c.args.key c.in_ok-number.number
-          (finals_longer T b.keep_implied b.conjuncts.lists.items pairs pairs old.lists.keys lists old.of_joins.entries old.of_components.entries (longer_same pairs) longer c.requires.finals.1) is c.in_ok-insert.ensures.entries,
+      lists_more T b.pruning.rule b.keep_implied b.conjuncts.lists.items pairs lists old.of_joins.entries c.insert.new.self.entries old.of_components.entries c.args.key c.in_ok-number.number
+          (finals_longer T b.pruning.rule b.keep_implied b.conjuncts.lists.items pairs pairs old.lists.keys lists old.of_joins.entries old.of_components.entries (longer_same pairs) longer c.requires.finals.1) is c.in_ok-insert.ensures.entries,
     )
