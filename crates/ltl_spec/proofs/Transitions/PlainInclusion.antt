@@ -1,4 +1,4 @@
--- For the until rows that don't count inclusion of pairs is enough: some pair within a given one puts them off only where that one does, and keeps its marks for all that count.
+-- For the until rows that don't count inclusion of pairs is enough: some pair within a given one postpones them only where that one does, and keeps its marks for all that count.
 use Rattle.std.proofs.Common.{◌≡◌, ℕ, ◌+◌, ◌<◌, ◌≤◌, Bool, true, false, not, ◌⊎◌, inl, inr, List, [], ◌∷◌, ◌++◌, length, refl, sym, ◌∙◌, ap, subst, arith}
 use Rattle.std.specs.Prelude.{cond, slice_index_or}
 use Rattle.std.specs.Ordering.{nat_cmp}
