@@ -1,4 +1,4 @@
-//! Tests of shared edge lists: equal lists are stored once, and a twin's edges aren't made again. No contract says so.
+//! Tests of shared edge lists: a state that is appended like another has the same list, and a twin's edges aren't made again. No contract says so.
 
 ghost use Rattle.std.specs.Prelude.{map, true, ⊤};
 ghost use Rattle.ltl_automaton.specs.CodedEdges.{coded_edge_of};
@@ -12,7 +12,7 @@ use std::alloc::AllocError;
 use std::test::Fail;
 
 #[test]
-fn equal_lists_stand_once(rt: HostRuntime) -> Result<(), Fail> {
+fn states_like_others_share_lists(rt: HostRuntime) -> Result<(), Fail> {
     let alloc = rt.alloc();
     let mut automaton = SharedStates::new(&alloc, 0);
     let here = Edge {
@@ -27,8 +27,8 @@ fn equal_lists_stand_once(rt: HostRuntime) -> Result<(), Fail> {
     };
     automaton.push(true, Vec::from_slice(&alloc, &[here, there])?)?;
     automaton.push(false, Vec::from_slice(&alloc, &[there])?)?;
-    automaton.push(false, Vec::from_slice(&alloc, &[here, there])?)?;
-    automaton.push(true, Vec::from_slice(&alloc, &[there])?)?;
+    automaton.push_like(false, 0)?;
+    automaton.push_like(true, 1)?;
     automaton.push(true, Vec::from_slice(&alloc, &[there, here])?)?;
     assert_eq!(rt; automaton.len(), 5);
     assert_eq!(rt; automaton.list_count(), 3);

@@ -11,8 +11,9 @@ use Rattle.ltl_spec.proofs.Collections.MemberLaws.{Has-map, map_cases}
 use Rattle.ltl_spec.proofs.Collections.Orders.{pair_linear}
 use Rattle.ltl_spec.proofs.Collections.SetLaws.{Has-set_of, IsRising-set_of, set_of_same}
 use Rattle.ltl_spec.proofs.Transitions.ProductTransitions.{transitions_of}
-use Rattle.ltl_alt.specs.TransitionView.{AllSets}
-use Rattle.ltl_alt.specs.FinalView.{AreFinals, AreWithin, IsFinal, IsListOf, IsLonger, made_of}
+use Rattle.ltl_alt.specs.TransitionView.{AllSets, table_at}
+use Rattle.ltl_alt.specs.declared.basis.Basis.{Basis}
+use Rattle.ltl_alt.specs.FinalView.{AreFactorsOf, AreFinals, AreLists, AreWithin, IsFinal, IsListOf, IsLonger, made_of}
 use Rattle.ltl_alt.specs.ComponentView.{IsLastOf}
 use Rattle.ltl_alt.specs.MemoView.{last_list}
 use Rattle.ltl_alt.specs.ConjunctTableView.{conjunct_of}
@@ -84,6 +85,12 @@ factors_longer lists new (k ∷ ks) h w =
     let first = longer_there [] lists new h k (w k (inl refl)) in
     let rest = factors_longer lists new ks h (λ x m. w x (inr m)) in
     λ i. first i ∷ rest i
+
+pub factors_kept : {A : Type 0} (b : Basis A) (lists new : List (List Transition)) (all : RowSet) (factors : List ℕ) (rest : RowSet) → IsLonger lists new → AreFactorsOf b lists all factors rest → AreFactorsOf b new all factors rest
+factors_kept b lists new all factors rest h w = (
+  λ k m. longer_within lists new h k (w.0 k m),
+  subst (λ tss. AreLists (table_at b.table.now) b.pruning.rule b.keep_implied b.conjuncts.lists.items all tss rest) (sym (factors_longer lists new factors h w.0)) w.1,
+)
 
 -- ---- one more
 

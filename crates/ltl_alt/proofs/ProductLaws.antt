@@ -1,5 +1,5 @@
 -- Transitions at once, and those of a set of rows by its components.
-use Rattle.std.proofs.Common.{◌≡◌, ℕ, zero, suc, ◌+◌, ◌-◌, ◌*◌, ◌<◌, ◌≤◌, Bool, true, false, cond, inl, inr, List, [], ◌∷◌, ◌++◌, length, map, drop, refl, sym, ◌∙◌, ap, subst, arith, Some, None}
+use Rattle.std.proofs.Common.{◌≡◌, ℕ, zero, suc, ◌+◌, ◌-◌, ◌*◌, ◌<◌, ◌≤◌, Bool, true, false, cond, inl, inr, List, [], ◌∷◌, ◌++◌, length, map, take, drop, slice_set, append-nil, refl, sym, ◌∙◌, ap, subst, arith, Some, None}
 use Rattle.std.specs.Prelude.{slice_get, slice_index_or, filter, flat_map, filter_map, option_map, nat_eq, not}
 use Rattle.std.specs.List.Sorted.{IsSorted, IsPermutation}
 use Rattle.std.specs.Ordering.{nat_cmp}
@@ -11,8 +11,9 @@ use Rattle.ltl_spec.specs.NormalForms.Normal.{Normal}
 use Rattle.ltl_spec.specs.Transitions.Cubes.{Cube, is_contradictory, literal_cmp}
 use Rattle.ltl_spec.specs.Transitions.Pairs.{RowSet, Pair, join, empty_pair}
 use Rattle.ltl_spec.specs.Transitions.RowTransitions.{Table, pairs_at, Transition, transition_cmp, transitions}
+use Rattle.ltl_spec.proofs.Collections.MemberLaws.{Has-map, map_length}
 use Rattle.ltl_spec.proofs.Collections.SetLaws.{has_Decides, Has-set_of, append_left, append_right}
-use Rattle.ltl_spec.proofs.Collections.ListLaws.{places_cases, Contains-from_has, Has-from_contains, Has-places, IsRising-places}
+use Rattle.ltl_spec.proofs.Collections.ListLaws.{places_cases, Contains-from_has, Has-at, Has-from_contains, Has-places, IsRising-places}
 use Rattle.ltl_spec.proofs.Collections.Orders.{nat_linear}
 use Rattle.ltl_spec.proofs.Collections.ProductLists.{products, rising_once}
 use Rattle.ltl_spec.specs.Transitions.Pruning.{IsEnough, fulfilling_pairs}
@@ -32,8 +33,9 @@ use Rattle.ltl_spec.proofs.Transitions.SameJoins.{AreSound, alike_sym, sound_som
 use Rattle.ltl_spec.proofs.Transitions.UnimpliedLaws.{marks_too_linear}
 use Rattle.ltl_alt.specs.declared.support.Dependencies.{Dependencies}
 use Rattle.ltl_alt.specs.BasisView.{IsBasisOf}
+use Rattle.ltl_alt.specs.declared.basis.Basis.{Basis}
 use Rattle.ltl_alt.specs.declared.fulfilment.Fulfilment.{Fulfilment}
-use Rattle.ltl_alt.specs.FinalView.{AreLists, IsFinal, made_of}
+use Rattle.ltl_alt.specs.FinalView.{AreFactorsOf, AreLists, IsFinal, made_of}
 use Rattle.ltl_alt.specs.ConjunctTableView.{AreKeptBy, conjunct_of, dependency_of, links_of, numbers_of, numbers_in, AreLinked, HasEach, HasNoConjunct, IsComponent}
 use Rattle.ltl_alt.specs.TransitionView.{table_at}
 use Rattle.ltl_alt.specs.declared.rule.Rule.{Rule}
@@ -59,6 +61,33 @@ each_joins a (u ∷ us) f = first (at_once_joins a u (f (at_once a u) (inl refl)
   where
     first : join_transitions a u ≡ Some (at_once a u) → filter_map (join_transitions a) us ≡ map (at_once a) us → filter_map (join_transitions a) (u ∷ us) ≡ at_once a u ∷ map (at_once a) us
     first e d = simp (e, d) refl
+
+-- the first of them were replaced by their joins, and one more is
+first_kept : (f : Transition → Transition) (i : ℕ) (us : List Transition) (d : Transition) → i < length us → slice_index_or (map f (take i us) ++ drop i us) i d ≡ slice_index_or us i d
+first_kept f i [] d l = absurd (omega arith)
+first_kept f zero (u ∷ us) d l = refl
+first_kept f (suc i) (u ∷ us) d l = first_kept f i us d (omega arith)
+
+first_set : (f : Transition → Transition) (i : ℕ) (us : List Transition) (d : Transition) → i < length us → slice_set (map f (take i us) ++ drop i us) i (f (slice_index_or us i d)) ≡ map f (take (suc i) us) ++ drop (suc i) us
+first_set f i [] d l = absurd (omega arith)
+first_set f zero (u ∷ us) d l = refl
+first_set f (suc i) (u ∷ us) d l = ap (λ xs. f u ∷ xs) (first_set f i us d (omega arith))
+
+joins_at : (a d : Transition) (us vs : List Transition) (i : ℕ) → AreConsistent (map (at_once a) us) → i < length us → vs ≡ map (at_once a) (take i us) ++ drop i us
+    → join_transitions a (slice_index_or vs i d) ≡ Some (at_once a (slice_index_or us i d))
+joins_at a d us vs i f l e =
+    let here : slice_index_or vs i d ≡ slice_index_or us i d = ap (λ xs. slice_index_or xs i d) e ∙ first_kept (at_once a) i us d l in
+    ap (join_transitions a) here ∙ at_once_joins a (slice_index_or us i d) (f (at_once a (slice_index_or us i d)) (Has-map (at_once a) us (slice_index_or us i d) (Has-at us i d l)))
+
+pub joined_more : (a d t : Transition) (us vs ws : List Transition) (i : ℕ) → AreConsistent (map (at_once a) us) → i < length us → vs ≡ map (at_once a) (take i us) ++ drop i us
+    → Some t ≡ join_transitions a (slice_index_or vs i d) → ws ≡ slice_set vs i t → ws ≡ map (at_once a) (take (i + 1) us) ++ drop (i + 1) us
+joined_more a d t us vs ws i f l e g h =
+    let is : t ≡ at_once a (slice_index_or us i d) = cc (g, joins_at a d us vs i f l e) in
+    h ∙ (λ k. slice_set (e k) i (is k)) ∙ first_set (at_once a) i us d l
+    ∙ ap (λ n. map (at_once a) (take n us) ++ drop n us) (let s : suc i ≡ i + 1 = omega arith in s)
+
+pub joins_each : (a d : Transition) (us vs : List Transition) (i : ℕ) → AreConsistent (map (at_once a) us) → i < length us → vs ≡ map (at_once a) (take i us) ++ drop i us → None ≡ join_transitions a (slice_index_or vs i d) → ⊥
+joins_each a d us vs i f l e g = cc (g, joins_at a d us vs i f l e)
 
 pub product_joins : (ts us : List Transition) → AreConsistent (product ts us) → joined_products ts us ≡ product ts us
 product_joins [] us f = refl
@@ -87,17 +116,42 @@ products_moved [] us vs p = IsPermutation-refl []
 products_moved (t ∷ ts) us vs p = IsPermutation-append (map (at_once t) us) (map (at_once t) vs) (product ts us) (product ts vs) (IsPermutation-map (at_once t) us vs p) (products_moved ts us vs p)
 
 -- one list more
+step_moved : (T : Table) (tss : List (List Transition)) (left : ℕ) (ts us : List Transition) → left < length tss → IsPermutation (all_products T (drop (left + 1) tss)) us → ts ≡ slice_index_or tss left []
+    → IsPermutation (all_products T (drop left tss)) (product ts us)
+step_moved T tss left ts us l p d =
+    let all = all_products T (drop (left + 1) tss) in
+    let whole : all_products T (drop left tss) ≡ product ts all = ap (all_products T) (dropped_at tss left l) ∙ ap (λ xs. product xs all) (sym d) in
+    subst (λ xs. IsPermutation xs (product ts us)) (sym whole) (products_moved ts all us p)
+
+moved_consistent : (ts us : List Transition) → IsPermutation ts us → AreConsistent ts → AreConsistent us
+moved_consistent ts us p f t h = f t (Has-from_contains ts t (Contains-permutation us ts t (IsPermutation-sym ts us p) (Contains-from_has us t h)))
+
 pub products_step : (T : Table) (tss : List (List Transition)) (left : ℕ) (ts us vs : List Transition) → left < length tss → ((j : ℕ) → AreConsistent (all_products T (drop j tss)))
     → IsPermutation (all_products T (drop (left + 1) tss)) us → ts ≡ slice_index_or tss left [] → vs ≡ joined_products ts us → IsPermutation (all_products T (drop left tss)) vs
 products_step T tss left ts us vs l f p d g =
-    let all = all_products T (drop (left + 1) tss) in
-    let whole : all_products T (drop left tss) ≡ product ts all = ap (all_products T) (dropped_at tss left l) ∙ ap (λ xs. product xs all) (sym d) in
-    let consistent : AreConsistent (product ts all) = subst AreConsistent whole (f left) in
-    let moved = products_moved ts all us p in
-    let back : IsPermutation (product ts us) (product ts all) = IsPermutation-sym (product ts all) (product ts us) moved in
-    let also : AreConsistent (product ts us) = λ t h. consistent t (Has-from_contains (product ts all) t (Contains-permutation (product ts us) (product ts all) t back (Contains-from_has (product ts us) t h))) in
-    let same : vs ≡ product ts us = g ∙ product_joins ts us also in
-    subst (λ xs. IsPermutation xs vs) (sym whole) (subst (IsPermutation (product ts all)) (sym same) moved)
+    let moved = step_moved T tss left ts us l p d in
+    subst (IsPermutation (all_products T (drop left tss))) (sym (g ∙ product_joins ts us (moved_consistent (all_products T (drop left tss)) (product ts us) moved (f left)))) moved
+
+-- one list more that has one transition
+alone : (ts : List Transition) (t d : Transition) → length ts ≡ 1 → t ≡ slice_index_or ts 0 d → ts ≡ t ∷ []
+alone [] t d l e = absurd (omega (arith, l))
+alone (u ∷ v ∷ ts) t d l e = absurd (omega (arith, l))
+alone (u ∷ []) t d l e = ap (λ x. x ∷ []) (sym e)
+
+pub one_step : (T : Table) (h : ℕ → List Transition) (factors : List ℕ) (left : ℕ) (ts us vs : List Transition) (t d : Transition) → 0 < left → left ≤ length factors → IsPermutation (all_products T (drop left (map h factors))) us → vs ≡ us
+    → ts ≡ h (slice_index_or factors (left - 1) 0) → length ts ≡ 1 → t ≡ slice_index_or ts 0 d → IsPermutation (all_products T (drop (left - 1) (map h factors))) (map (at_once t) vs)
+one_step T h factors left ts us vs t d some within p s e n g =
+    let tss = map h factors in
+    let place = left - 1 in
+    let inside : place < length factors = omega (arith, some, within) in
+    let also : place < length tss = omega (arith, inside, map_length h factors) in
+    let next : left ≡ place + 1 = omega (arith, some) in
+    let behind : IsPermutation (all_products T (drop (place + 1) tss)) vs = subst (λ k. IsPermutation (all_products T (drop k tss)) vs) next (subst (IsPermutation (all_products T (drop left tss))) (sym s) p) in
+    let list : t ∷ [] ≡ slice_index_or tss place [] = sym (alone ts t d n g) ∙ e ∙ sym (mapped_at h factors place inside) in
+    subst (IsPermutation (all_products T (drop place tss))) (append-nil (map (at_once t) vs)) (step_moved T tss place (t ∷ []) vs also behind list)
+
+pub one_consistent : (T : Table) (tss : List (List Transition)) (left : ℕ) (vs : List Transition) → ((j : ℕ) → AreConsistent (all_products T (drop j tss))) → IsPermutation (all_products T (drop left tss)) vs → AreConsistent vs
+one_consistent T tss left vs f p = moved_consistent (all_products T (drop left tss)) vs p (f left)
 
 -- ---- lists that are apart
 
@@ -203,8 +257,12 @@ lists_more T r keep conjuncts dependencies links all old more lists n rest insid
   lists = e ∙ (λ i. a.lists i ++ is.made i ∷ []) ∙ sym (map_behind (transitions_of T keep) a.pairs is.pairs);
 }
 
-pub lists_none : (T : Table) (r : Rule) (keep : Bool) (conjuncts : List (List Pair)) (all : RowSet) → AreLists T r keep conjuncts all [] all
-lists_none T r keep conjuncts all = record { components = []; taken = refl; pairs = []; kept = tt; lists = refl }
+-- no component is taken out yet
+pub factors_none : {A : Type 0} (b : Basis A) (lists : List (List Transition)) (all : RowSet) (factors : List ℕ) → factors ≡ [] → AreFactorsOf b lists all factors all
+factors_none b lists all factors e = (
+  λ k h. absurd (subst (λ ks. Has ks k) e h),
+  subst (λ ks. AreLists (table_at b.table.now) b.pruning.rule b.keep_implied b.conjuncts.lists.items all (map (made_of lists) ks) all) (sym e) (record { components = []; taken = refl; pairs = []; kept = tt; lists = refl }),
+)
 
 -- ---- the transitions of a set of rows
 
@@ -256,8 +314,8 @@ listed_for T false r ps qs (counted, e, a) k =
 
 -- ---- a set of rows, its conjuncts, and the transitions of their components
 
-module _ {A : Type 0} (t : TableView) (keep : Bool) (r : Rule) (f : Fulfilment A) (made owners : List ℕ) (conjuncts : List (List Pair)) (dependencies : List Dependencies) (links : List RowSet)
-    (b : IsBasisOf t keep r f made owners conjuncts dependencies links) (state all : RowSet) (rising : IsRising nat_cmp state) (there : HasEach made state) (e : all ≡ numbers_in owners state) (tss : List (List Transition))
+module _ {A : Type 0} (t : TableView) (keep : Bool) (r : Rule) (f : Fulfilment A) (made owners : List ℕ) (conjuncts : List (List Pair)) (dependencies : List Dependencies) (links : List RowSet) {ts : List Transition}
+    (b : IsBasisOf t keep r f made owners conjuncts dependencies links ts) (state all : RowSet) (rising : IsRising nat_cmp state) (there : HasEach made state) (e : all ≡ numbers_in owners state) (tss : List (List Transition))
     (a : AreLists (table_at t) r keep conjuncts all tss []) where
   abbrev T : Table
   T = table_at t

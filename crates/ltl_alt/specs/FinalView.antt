@@ -54,9 +54,6 @@ pub record AreFinals (T : Table) (r : Rule) (keep : Bool) (conjuncts pairs : Lis
   pub of_joins : (key : JoinKey) (n : ℕ) → Has ns (key, n) → IsListOf T keep pairs lists key n
   pub of_components : (component : RowSet) (n : ℕ) → Has os (component, n) → IsFinal T r keep conjuncts lists component n
 
-abbrev pub HasFinals : {A : Type 0} → Basis A → Finals A → Type 0
-HasFinals b f = HasComponents b f.components × AreFinals (table_at b.table.now) b.pruning.rule b.keep_implied b.conjuncts.lists.items f.components.memo.lists.keys f.lists.keys f.of_joins.entries f.of_components.entries
-
 -- these are the transitions of pairs that were kept of the joins of components. The components were removed from all conjuncts one by one, each independent of what was left then; the rest is left
 pub record AreLists (T : Table) (r : Rule) (keep : Bool) (conjuncts : List (List Pair)) (all : RowSet) (tss : List (List Transition)) (rest : RowSet) : Type 0 where
   pub components : List RowSet
@@ -68,3 +65,9 @@ pub record AreLists (T : Table) (r : Rule) (keep : Bool) (conjuncts : List (List
 abbrev pub AreFactorsOf : {A : Type 0} → Basis A → List (List Transition) → RowSet → List ℕ → RowSet → Type 0
 AreFactorsOf b lists all factors rest =
     AreWithin lists factors × AreLists (table_at b.table.now) b.pruning.rule b.keep_implied b.conjuncts.lists.items all (map (made_of lists) factors) rest
+
+-- the table is right, and the factors that it keeps are those of the conjuncts that were asked for last
+abbrev pub HasFinals : {A : Type 0} → Basis A → Finals A → Type 0
+HasFinals b f =
+    HasComponents b f.components × AreFinals (table_at b.table.now) b.pruning.rule b.keep_implied b.conjuncts.lists.items f.components.memo.lists.keys f.lists.keys f.of_joins.entries f.of_components.entries
+    × AreFactorsOf b f.lists.keys f.asked f.factors.items []

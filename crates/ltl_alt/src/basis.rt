@@ -2,6 +2,7 @@
 
 use crate::conjunct_table::ConjunctTable;
 use crate::rule::Pruning;
+use crate::transition::Transition;
 use ltl_formula::Table;
 use std::alloc::Allocator;
 
@@ -14,4 +15,6 @@ pub(crate) struct Basis<'b, 't, 's, 'a, A: Allocator> {
     pub(crate) pruning: Pruning<'b, 'a, A>,
     pub(crate) conjuncts: ConjunctTable<'a, A>,
     pub(crate) keep_implied: bool,
+    /// The only transition of the empty set of rows.
+    pub(crate) neutral: Vec<Transition, &'a A>,
 }

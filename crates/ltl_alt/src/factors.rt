@@ -15,6 +15,7 @@ use crate::transition::Transition;
 use ltl_automaton::AutomatonFault as AltFault;
 use ltl_sets::RowSet;
 use std::alloc::{AllocError, Allocator};
+use std::mem;
 
 /// The transitions of a set of rows.
 #[derive(Drop)]
@@ -36,20 +37,26 @@ impl<'a, A: Allocator> Finals<'a, A> {
         }
     }
 
-    /// The factors of these conjuncts: for each of their components the number of its transitions.
-    pub(crate) fn factors(
+    /// Puts the factors of these conjuncts into `factors`: for each of their components the number of its transitions. Factors that were asked for last stand
+    /// there already.
+    pub(crate) fn find_factors(
         &mut self,
         basis: &Basis<'_, '_, '_, 'a, A>,
         all: &RowSet,
-    ) -> Result<Vec<usize, &'a A>, AllocError>
+    ) -> Result<(), AllocError>
         requires basis { IsBasis basis.now }
         requires finals { HasFinals basis.now self.old }
         requires inside { (k : ℕ) → Has all.now k → k < length basis.now.conjuncts.lists.items }
         ensures finals { OnOk result (HasFinals basis.now self.new) }
-        ensures factors { IfOk result (λ v. AreFactorsOf basis.now self.new.lists.keys all.now v.items []) }
+        ensures factors { OnOk result (AreFactorsOf basis.now self.new.lists.keys all.now self.new.factors.items []) }
         ensures longer { OnOk result (IsLonger self.old.lists.keys self.new.lists.keys) }
     {
-        let mut factors = Vec::with_capacity(basis.alloc, all.count())?;
+        if self.asked == *all {
+            return Ok(());
+        }
+        self.asked = RowSet::empty();
+        let mut factors = mem::replace(&mut self.factors, Vec::new(basis.alloc));
+        factors.clear();
         let mut rest = *all;
         'components: while let Some(conjunct) = first(&rest) {
             rest.invariant();
@@ -59,7 +66,9 @@ impl<'a, A: Allocator> Finals<'a, A> {
             factors.push(factor)?;
             rest = rest.without(&component);
         }
-        Ok(factors)
+        self.asked = *all;
+        self.factors = factors;
+        Ok(())
     }
 
     /// A lower bound on the number of transitions of a set of rows. It is their number, unless that exceeds `usize::MAX`.
@@ -78,8 +87,8 @@ impl<'a, A: Allocator> Finals<'a, A> {
             return Ok(0);
         };
         state.invariant();
-        let factors = self.factors(basis, &all)?;
-        Ok(combinations(self, factors.as_slice()))
+        self.find_factors(basis, &all)?;
+        Ok(combinations(self, self.factors.as_slice()))
     }
 
     /// The transitions of a set of rows, sorted by literals and then by targets. If there are more than `most`, the result is `TooLarge`. They are counted
@@ -102,14 +111,15 @@ impl<'a, A: Allocator> Finals<'a, A> {
             return Ok(SetTransitions::Owned(Vec::new(basis.alloc)));
         };
         state.invariant();
-        let factors = self.factors(basis, &all)?;
-        if combinations(self, factors.as_slice()) > most {
+        self.find_factors(basis, &all)?;
+        let factors = self.factors.as_slice();
+        if combinations(self, factors) > most {
             return Err(AltFault::TooLarge);
         }
         if factors.len() == 1 {
             return Ok(SetTransitions::Stored(factors[0]));
         }
-        let mut products = all_products(basis, self, factors.as_slice())?;
+        let mut products = all_products(basis, self, factors)?;
         sort(&mut products)?;
         Ok(SetTransitions::Owned(products))
     }

@@ -39,6 +39,10 @@ pub(crate) struct Finals<'a, A: Allocator> {
     pub(crate) of_joins: IndexMap<JoinKey, usize, BuildHasherDefault<FoldHasher>, &'a A>,
     /// For each component that was met the number of its transitions.
     pub(crate) of_components: IndexMap<RowSet, usize, BuildHasherDefault<FoldHasher>, &'a A>,
+    /// The conjuncts whose factors were computed last.
+    pub(crate) asked: RowSet,
+    /// Their factors: for each of their components the number of its transitions.
+    pub(crate) factors: Vec<usize, &'a A>,
     /// The number of transitions and components that are stored.
     size: usize,
 }
@@ -86,6 +90,8 @@ impl<'a, A: Allocator> Finals<'a, A> {
             lists: Interner::new(basis.alloc),
             of_joins: IndexMap::new(basis.alloc),
             of_components: IndexMap::new(basis.alloc),
+            asked: RowSet::empty(),
+            factors: Vec::new(basis.alloc),
             size: 0,
         })
     }

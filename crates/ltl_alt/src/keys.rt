@@ -92,8 +92,8 @@ impl<'a, A: Allocator> Keys<'a, A> {
             return Ok(None);
         };
         state.invariant();
-        let factors = finals.factors(basis, &all)?;
-        let key = key(basis.alloc, factors.as_slice())?;
+        finals.find_factors(basis, &all)?;
+        let key = key(basis.alloc, finals.factors.as_slice())?;
         self.first(key, state)
     }
 }

@@ -4,6 +4,7 @@ ghost use Rattle.std.specs.Prelude.{◌≡◌, ℕ, ◌≤◌, ◌++◌, filter_
 ghost use Rattle.std.specs.List.Sorted.{IsPermutation, IsSorted};
 ghost use Rattle.ltl_spec.specs.Transitions.RowTransitions as spec;
 ghost use Rattle.ltl_spec.proofs.Transitions.FactorLaws.{all_products, product_size};
+ghost use Rattle.ltl_spec.proofs.Transitions.IndependentMarks.{at_once};
 ghost use Rattle.ltl_alt.specs.BasisView.{IsBasis};
 ghost use Rattle.ltl_alt.specs.FinalView.{made_of};
 ghost use Rattle.ltl_alt.specs.ProductView.{AreConsistent, join_transitions, joined_products};
@@ -11,8 +12,6 @@ ghost use Rattle.ltl_alt.specs.TransitionView.{table_at};
 
 use crate::basis::Basis;
 use crate::finals::Finals;
-use crate::marks::marked;
-use crate::pair::Pair;
 use crate::transition::Transition;
 use std::alloc::{AllocError, Allocator};
 
@@ -56,7 +55,20 @@ pub(crate) fn sort<A: Allocator>(transitions: &mut Vec<Transition, &A>) -> Resul
     Ok(())
 }
 
-/// The product of these factors, in some order. The product of the later factors is sorted before the next one is made, so each product has few sorted runs.
+/// Replaces each transition by its union with another one, whose literals contradict none of theirs.
+fn join_each(products: &mut [Transition], one: &Transition)
+    requires consistent { AreConsistent (map (at_once one.now) products.old) }
+    ensures { products.new ≡ map (at_once one.now) products.old }
+{
+    'products: for i in 0..products.len() {
+        if let Some(joined) = one.at_once(&products[i]) {
+            products[i] = joined;
+        }
+    }
+}
+
+/// The product of these factors, in some order. A factor with one transition is joined with each product in place. Before a larger factor is multiplied, the
+/// product of the later factors is sorted, so each product has few sorted runs.
 pub(crate) fn all_products<'a, A: Allocator>(
     basis: &Basis<'_, '_, '_, 'a, A>,
     finals: &Finals<'a, A>,
@@ -67,18 +79,17 @@ pub(crate) fn all_products<'a, A: Allocator>(
     ensures { IfOk result (λ v. IsPermutation (all_products (table_at basis.now.table.now) (map (made_of finals.now.lists.keys) factors.now)) v.items) }
 {
     let alloc = basis.alloc;
-    let mut products = marked(
-        alloc,
-        basis.table,
-        basis.pruning.fulfilment,
-        &[Pair::empty()],
-    )?;
+    let mut products = Vec::from_slice(alloc, basis.neutral.as_slice())?;
     let mut left = factors.len();
     'factors: while left > 0 {
         left -= 1;
-        sort(&mut products)?;
         let list = finals.transitions(factors[left]);
-        products = product(alloc, list, products.as_slice())?;
+        if list.len() == 1 {
+            join_each(products.as_mut_slice(), &list[0]);
+        } else {
+            sort(&mut products)?;
+            products = product(alloc, list, products.as_slice())?;
+        }
     }
     Ok(products)
 }

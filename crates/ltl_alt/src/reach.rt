@@ -19,6 +19,8 @@ use crate::factors::SetTransitions;
 use crate::finals::Finals;
 use crate::fulfilment::Fulfilment;
 use crate::keys::Keys;
+use crate::marks::marked;
+use crate::pair::Pair;
 use crate::place::{place, until_count};
 use crate::rule::{Pruning, Rule};
 use crate::transition::Transition;
@@ -138,12 +140,14 @@ fn explored<'a, A: Allocator>(
         },
     };
     let conjuncts = ConjunctTable::of(&context)?;
+    let neutral = marked(alloc, table, &fulfilment, &[Pair::empty()])?;
     let basis = Basis {
         alloc,
         table,
         pruning: context.pruning,
         conjuncts,
         keep_implied,
+        neutral,
     };
     let finals = Finals::new(&basis)?;
     let mut row_sets = RowSets {

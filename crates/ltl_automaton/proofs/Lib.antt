@@ -4,3 +4,4 @@ pub mod ReachableLaws
 pub mod SharedLaws
 pub mod WayLaws
 pub mod TableLaws
+pub mod RelabelLaws

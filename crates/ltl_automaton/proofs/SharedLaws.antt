@@ -1,18 +1,13 @@
--- One more state, whose list may be new.
-use Rattle.std.proofs.Common.{◌≡◌, ℕ, Bool, true, false, cond, ◌⊎◌, inl, inr, zero, suc, ◌<◌, ◌≤◌, List, [], ◌∷◌, ◌++◌, length, refl, sym, ◌∙◌, ap, subst, arith, length-append, Some}
+-- One more state, with a new list or that of another.
+use Rattle.std.proofs.Common.{◌≡◌, ℕ, zero, suc, ◌⊎◌, inl, inr, ◌<◌, ◌≤◌, List, [], ◌∷◌, ◌++◌, length, refl, sym, ◌∙◌, ap, subst, arith, length-append, Some}
 use Rattle.std.specs.Prelude.{slice_get}
 use Rattle.std.proofs.lemmas.List.{map-append, append-nil}
 use Rattle.std.proofs.lemmas.List.Elements.{All-head, All-tail, All-weaker, All-push}
 use Rattle.ltl_spec.specs.Automata.Automaton.{Automaton, State, Edge}
 use Rattle.ltl_spec.proofs.Collections.ListLaws.{index_append, get_done, slice_get_has}
 use Rattle.ltl_spec.proofs.Collections.SetLaws.{append_left, append_right}
-use Rattle.ltl_spec.specs.Collections.Sets.{Has}
-use Rattle.std.specs.List.{list_any}
-use Rattle.indexmap.specs.IndexSet.{insert_key}
 use Rattle.ltl_spec.specs.Collections.Lists.{HasNoRepeats}
-use Rattle.ltl_spec.proofs.Collections.ListLaws.{HasNoRepeats-with_new}
-use Rattle.ltl_spec.proofs.Automata.ListingLaws.{with_new_behind}
-use Rattle.ltl_automaton.specs.EdgeView.{same_edges, edges_Decides}
+use Rattle.ltl_spec.specs.Collections.Sets.{Has}
 use Rattle.ltl_automaton.specs.SharedView.{Shared, state_in, states_in, automaton_of, ArePlaces, IsShared, with_state}
 use Rattle.ltl_automaton.specs.declared.shared.SharedState.{SharedState}
 use Rattle.ltl_spec.proofs.Collections.FoundLaws.{index_there}
@@ -53,7 +48,6 @@ shared_pushed sets lists new ps qs p edges old w e f a o =
 pub shared_again : (lists : List (List Edge)) (ps qs : List SharedState) (p : SharedState) → qs ≡ ps ++ p ∷ [] → p.list < length lists → IsShared lists ps → IsShared lists qs
 shared_again lists ps qs p q l w = record {
   places = subst (ArePlaces lists) (sym q) (All-push (λ (r : SharedState). r.list < length lists) ps p w.places l);
-  distinct = w.distinct;
   used = λ k m. let u = w.used k m in (u.0, subst (λ xs. Has xs u.0) (sym q) (append_left ps (p ∷ []) u.0 u.1), u.2);
 }
 
@@ -72,46 +66,26 @@ got_once (y ∷ ys) zero (suc j) x d e f = let p : y ≡ x = cc in absurd (d.0 (
 got_once (y ∷ ys) (suc i) zero x d e f = let p : y ≡ x = cc in absurd (d.0 (subst (Has ys) (sym p) (slice_get_has ys i x e)))
 got_once (y ∷ ys) (suc i) (suc j) x d e f = ap (λ n. suc n) (got_once ys i j x d.1 e f)
 
--- a list was put in, which may have been there
-module _ (lists new : List (List Edge)) (x : List Edge) (e : new ≡ insert_key same_edges lists x) where
-  abbrev grown : (more : List (List Edge)) × (new ≡ lists ++ more)
-  grown = let w = with_new_behind same_edges lists x in (w.0, e ∙ w.1)
+-- one more state with a new list
+module _ (lists new : List (List Edge)) (edges : List Edge) (p : SharedState) (e : new ≡ lists ++ edges ∷ []) (at : p.list ≡ length lists) where
+  there : slice_get new p.list ≡ Some edges
+  there = (λ i. slice_get (e i) (at i)) ∙ get_done lists [] edges
 
-  distinct : HasNoRepeats lists → HasNoRepeats new
-  distinct d = subst HasNoRepeats (sym e) (HasNoRepeats-with_new same_edges edges_Decides lists x d)
+  pub shared_more : (ps qs : List SharedState) → qs ≡ ps ++ p ∷ [] → IsShared lists ps → IsShared new qs
+  shared_more ps qs q w = record {
+    places = places_pushed lists new ps qs p (edges ∷ [], e) q (found_within new p.list edges there) w.places;
+    used = λ k l. subst (λ xs. (r : SharedState) × Has xs r × (r.list ≡ k)) (sym q) (elim (below_or_from k (length lists)) [
+      | inl m ↦ let u = w.used k m in (u.0, append_left ps (p ∷ []) u.0 u.1, u.2)
+      | inr m ↦ (p, append_right ps (p ∷ []) p (inl refl), last k l m)
+    ]);
+  }
+    where
+      last : (k : ℕ) → k < length new → length lists ≤ k → p.list ≡ k
+      last k l m = let long = ap length e ∙ length-append lists (edges ∷ []) in omega (arith, at, one)
+        where
+          one : length (edges ∷ []) ≡ 1
+          one = refl
 
-  module _ (p : SharedState) (edges : List Edge) (is : x ≡ edges) (found : (k : List Edge) × (slice_get new p.list ≡ Some k) × (same_edges x k ≡ true)) where
-    there : slice_get new p.list ≡ Some edges
-    there = found.1 ∙ ap (λ (es : List Edge). Some es) (sym ((edges_Decides x found.0).0 found.2) ∙ is)
-
-    pub shared_more : (ps qs : List SharedState) → qs ≡ ps ++ p ∷ [] → IsShared lists ps → IsShared new qs
-    shared_more ps qs q w = record {
-      places = places_pushed lists new ps qs p grown q (found_within new p.list edges there) w.places;
-      distinct = distinct w.distinct;
-      used = λ k l. subst (λ xs. (r : SharedState) × Has xs r × (r.list ≡ k)) (sym q) (elim (below_or_last k l) [
-        | inl m ↦ let u = w.used k m in (u.0, append_left ps (p ∷ []) u.0 u.1, u.2)
-        | inr m ↦ (p, append_right ps (p ∷ []) p (inl refl), got_once new p.list k edges (distinct w.distinct) there m)
-      ]);
-    }
-      where
-        -- a list that wasn't there is the new one
-        below_or_last : (k : ℕ) → k < length new → (k < length lists) ⊎ (slice_get new k ≡ Some edges)
-        below_or_last k l = behind (list_any (same_edges x) lists) e
-          where
-            behind : (b : Bool) → new ≡ cond b lists (lists ++ x ∷ []) → (k < length lists) ⊎ (slice_get new k ≡ Some edges)
-            behind true f = let m = ap length f in inl (omega arith)
-            behind false f =
-                let m = ap length f ∙ length-append lists (x ∷ []) in
-                elim (below_or_from k (length lists)) [
-                  | inl b ↦ inl b
-                  | inr b ↦
-                      let here : k ≡ length lists = omega (arith, m, one) in
-                      inr ((λ i. slice_get (f i) (here i)) ∙ get_done lists [] x ∙ ap (λ (es : List Edge). Some es) is)
-                ]
-              where
-                one : length (x ∷ []) ≡ 1
-                one = refl
-
-    pub shared_is : (sets : ℕ) (ps qs : List SharedState) (old : Shared) → qs ≡ ps ++ p ∷ [] → IsShared lists ps → (let s : Shared = record { sets = sets; lists = lists; states = ps } in s) ≡ old
-        → automaton_of (record { sets = sets; lists = new; states = qs }) ≡ with_state (automaton_of old) p.accepting edges
-    shared_is sets ps qs old q w o = shared_pushed sets lists new ps qs p edges old grown q there w.places o
+  pub shared_is : (sets : ℕ) (ps qs : List SharedState) (old : Shared) → qs ≡ ps ++ p ∷ [] → IsShared lists ps → (let s : Shared = record { sets = sets; lists = lists; states = ps } in s) ≡ old
+      → automaton_of (record { sets = sets; lists = new; states = qs }) ≡ with_state (automaton_of old) p.accepting edges
+  shared_is sets ps qs old q w o = shared_pushed sets lists new ps qs p edges old (edges ∷ [], e) q there w.places o

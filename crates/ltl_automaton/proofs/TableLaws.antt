@@ -8,7 +8,7 @@ use Rattle.std.specs.declared.cmp.Ordering.TheVariants.{Less, Greater}
 use Rattle.std.specs.Ordering.{nat_cmp}
 use Rattle.std.specs.Cmp.Lexicographic.{slice_cmp, pointwise, bytes_decides}
 use Rattle.std.proofs.lemmas.Option.{slice_get_within}
-use Rattle.std.proofs.lemmas.List.{get_or-set_other, get_or-set_same, length-set, same_lists, map-append, take_more, length-take-le, get_or-take, get_or_past, append-nil, append_assoc}
+use Rattle.std.proofs.lemmas.List.{get_or-set_other, get_or-set_same, length-set, same_lists, map-append, get_or_past, append-nil, append_assoc}
 use Rattle.std.proofs.lemmas.List.Elements.{All-push, All-weaker, All-get_or, All-append, All-cons, All-nil}
 use Rattle.std.proofs.lemmas.Bool.{cases_lt}
 use Rattle.std.proofs.Math.ListN.{get_or-map}
@@ -27,11 +27,12 @@ use Rattle.ltl_sets.specs.CubeEq.{same_cube, cube_Decides}
 use Rattle.ltl_automaton.specs.SharedView.{with_state}
 use Rattle.ltl_automaton.specs.declared.coded_edge.CodedEdge as numbered
 use Rattle.ltl_automaton.specs.declared.labels.Labels as slices
-use Rattle.ltl_automaton.proofs.EdgeLaws.{map_pushed, All_from_map}
+use Rattle.ltl_automaton.proofs.EdgeLaws.{map_pushed}
 use Rattle.ltl_automaton.proofs.NetLaws.{took}
+use Rattle.ltl_automaton.proofs.SharedLaws.{got_once}
 use Rattle.ltl_automaton.specs.CodedEdges.{coded_edge_of, labelled_edge_of, tables_of}
-use Rattle.ltl_automaton.specs.Labels.{Tables, AreTables, labelled_edge, labelled_state, labelled, number_of_cube, IsCoded, AreCoded}
-use Rattle.ltl_automaton.specs.LabelTables.{AreOnce, HavePlaces, AreMade, AreRanks, AreStatesMade, Extends}
+use Rattle.ltl_automaton.specs.Labels.{Tables, AreTables, labelled_edge, labelled_state, labelled, IsCoded, AreCoded}
+use Rattle.ltl_automaton.specs.LabelTables.{AreOnce, HavePlaces, AreMade, AreRanks, Extends}
 
 -- ---- the labels of states
 -- the state of a number, with its labels
@@ -60,10 +61,6 @@ states_at A P i p a =
       | inr l ↦ subst P (sym (get_or_past A.states i none l)) p
     ]
 
--- the edges of a state are coded
-pub state_coded : (t : Tables) (A : Automaton) (s : ℕ) (es : List Edge) → AreCoded t A → es ≡ (state_at A s).edges → All (IsCoded t) es
-state_coded t A s es a e = subst (All (IsCoded t)) (sym e) (states_at A (λ (r : State). All (IsCoded t) r.edges) s (All-nil (IsCoded t)) a)
-
 -- one more state, with its labels
 pub labelled_pushed : (t : Tables) (B C : Automaton) (accepting : Bool) (es : List Edge) → C ≡ with_state B accepting es → labelled t C ≡ with_state (labelled t B) accepting (map (labelled_edge t) es)
 labelled_pushed t B C accepting es e =
@@ -77,14 +74,6 @@ coded_pushed t B C accepting es e b c =
     subst (AreCoded t) (sym e) (All-append P B.states (record { accepting = accepting; edges = es } ∷ []) b (All-cons P (record { accepting = accepting; edges = es }) [] c (All-nil P)))
 
 -- ---- different values
--- in a list without repeats no element stands twice
-once_at : {K : Type 0} (xs : List K) (i j : ℕ) (x : K) → HasNoRepeats xs → slice_get xs i ≡ Some x → slice_get xs j ≡ Some x → i ≡ j
-once_at [] i j x r e f = absurd (cc)
-once_at (y ∷ ys) zero zero x r e f = refl
-once_at (y ∷ ys) zero (suc j) x r e f = absurd (r.0 (slice_get_has ys j y (f ∙ sym e)))
-once_at (y ∷ ys) (suc i) zero x r e f = absurd (r.0 (slice_get_has ys i y (e ∙ sym f)))
-once_at (y ∷ ys) (suc i) (suc j) x r e f = ap suc (once_at ys i j x r.1 e f)
-
 -- what is there stands at a place
 found_at : {K : Type 0} (xs : List K) (x : K) → Has xs x → (k : ℕ) × (slice_get xs k ≡ Some x)
 found_at [] x h = absurd h
@@ -240,13 +229,13 @@ places_next {K = K} {R = R} o values sorted ranks more_ranks n number r x once i
     λ k i y e t u.
     let there : slice_get sorted n ≡ Some y = subst (λ j. slice_get sorted j ≡ Some y) e t in
     let here : slice_get values i ≡ Some x = u ∙ sym there ∙ s in
-    let at : i ≡ number = once_at values i number x once here v in
+    let at : i ≡ number = got_once values i number x once here v in
     subst (λ j. slice_index_or (slice_set ranks number r) j 0 ≡ k) (sym at) (get_or-set_same ranks number r 0 inside ∙ q ∙ sym e) in
     let other : (k i : ℕ) (y : K) → k < n → slice_get sorted k ≡ Some y → slice_get values i ≡ Some y → slice_index_or (slice_set ranks number r) i 0 ≡ k =
     λ k i y l t u.
     let apart : i ≢ number = λ at.
     let here : slice_get values number ≡ Some y = subst (λ j. slice_get values j ≡ Some y) at u in
-    let both : k ≡ n = once_at sorted k n x rising (t ∙ sym here ∙ v) s in
+    let both : k ≡ n = got_once sorted k n x rising (t ∙ sym here ∙ v) s in
     omega (arith, l, both) in
     get_or-set_other ranks number i r 0 apart ∙ w.there k i y l t u in
     record {
@@ -287,52 +276,3 @@ rank_there values sorted ranks n r k d w l e =
     ∙ sym (at_map (slice_get sorted) ranks n k None (ranks_within values sorted ranks n w l))
     ∙ ap (λ xs. slice_index_or xs n None) w
     ∙ at_map Some values n d None l
-
--- the numbers of a coded edge are places in the tables
-pub numbers_within : (t : Tables) (x : numbered.CodedEdge) → IsCoded t (coded_edge_of x) → (x.cube < length t.cubes) × (x.marks < length t.marks)
-numbers_within t x c =
-    let cube : x.cube ≡ c.cube = ap (λ (g : Edge). number_of_cube g.cube) c.is in
-    let marks : x.marks ≡ c.marks = ap (λ (g : Edge). slice_index_or g.marks 0 0) c.is in
-    (subst (λ n. n < length t.cubes) (sym cube) c.cube_within, subst (λ n. n < length t.marks) (sym marks) c.marks_within)
-
--- the edge at a place is coded
-pub coded_there : (t : Tables) (edges : List numbered.CodedEdge) (i : ℕ) (d : numbered.CodedEdge) → All (IsCoded t) (map coded_edge_of edges) → i < length edges → IsCoded t (coded_edge_of (slice_index_or edges i d))
-coded_there t edges i d a l = All_from_map (IsCoded t) coded_edge_of edges a i d l
-
--- the state that is read past the end
-abbrev none : State
-none = record { accepting = true; edges = [] }
-
--- one more state with numbers
-pub coded_state_next : (t : Tables) (A B C : Automaton) (n : ℕ) (accepting : Bool) (es : List Edge) → AreStatesMade t A B n → n < length A.states → C ≡ with_state B accepting es → accepting ≡ (state_at A n).accepting
-    → map (labelled_edge t) es ≡ (state_at A n).edges → All (IsCoded t) es → AreStatesMade t A C (n + 1)
-coded_state_next t A B C n accepting es w l c p e d =
-    let s : State = record { accepting = accepting; edges = es } in
-    let P : State → Type 0 = λ r. All (IsCoded t) r.edges in
-    let same : labelled_state t s ≡ state_at A n = λ i. let r : State = record { accepting = p i; edges = e i } in r in
-    record {
-      labelled = ap (labelled t) c
-          ∙ (λ i. let D : Automaton = record { sets = B.sets; states = map-append (labelled_state t) B.states (s ∷ []) i } in D)
-          ∙ (λ i. with_state (w.labelled i) (same i).accepting (same i).edges)
-          ∙ (λ i. let D : Automaton = record { sets = A.sets; states = sym (take_more A.states n none l) i } in D);
-      coded = subst (AreCoded t) (sym c) (All-push P B.states s w.coded d);
-    }
-
--- there is a state for each of the first ones
-pub made_count : (t : Tables) (A B : Automaton) (n : ℕ) → AreStatesMade t A B n → n < length A.states → length B.states ≡ n
-made_count t A B n w l = sym (labelled_length t B) ∙ ap (λ (X : Automaton). length X.states) w.labelled ∙ length-take-le n A.states (omega arith)
-
--- one more state with the edges of an earlier one
-pub coded_state_again : (t : Tables) (A B C : Automaton) (n f : ℕ) (accepting : Bool) → AreStatesMade t A B n → n < length A.states → f < n → (state_at A f).edges ≡ (state_at A n).edges → C ≡ with_state B accepting (state_at B f).edges
-    → accepting ≡ (state_at A n).accepting → AreStatesMade t A C (n + 1)
-coded_state_again t A B C n f accepting w l m e c p =
-    let P : State → Type 0 = λ r. All (IsCoded t) r.edges in
-    let seen : labelled_state t (state_at B f) ≡ state_at A f = sym (state_at_labelled t B f) ∙ ap (λ X. state_at X f) w.labelled ∙ get_or-take n A.states f none m in
-    coded_state_next t A B C n accepting (state_at B f).edges w l c p (ap (λ (r : State). r.edges) seen ∙ e) (states_at B P f (λ k d h. absurd (omega arith)) w.coded)
-
--- lists with one number are one list
-pub one_list : (lists : List (List Edge)) (i j : ℕ) (es fs : List Edge) → i ≡ j → slice_get lists i ≡ Some es → slice_get lists j ≡ Some fs → es ≡ fs
-one_list lists i j es fs e a b = some_same es fs (sym a ∙ ap (slice_get lists) e ∙ b)
-  where
-    some_same : (x y : List Edge) → Some x ≡ Some y → x ≡ y
-    some_same x y e = cc

@@ -1,14 +1,14 @@
 -- The labels of an automaton, as the code keeps them: in the order in which they come, and in a table.
-use Rattle.std.specs.Prelude.{◌≡◌, ℕ, ◌<◌, List, [], ◌++◌, length, map, slice_get, slice_index_or, take, Some, All}
+use Rattle.std.specs.Prelude.{◌≡◌, ℕ, ◌<◌, List, [], ◌++◌, length, map, slice_get, slice_index_or, Some, All}
 use Rattle.ltl_spec.specs.Collections.Lists.{HasNoRepeats}
 use Rattle.ltl_spec.specs.Collections.Sets.{Has}
 use Rattle.ltl_spec.specs.Transitions.Cubes.{Cube}
 use Rattle.ltl_spec.specs.Automata.Automaton.{Automaton, Edge}
 use Rattle.ltl_automaton.specs.CodedEdges.{coded_edge_of, table_of}
-use Rattle.ltl_automaton.specs.Labels.{AreCoded, AreTables, IsCoded, Tables, labelled, labelled_edge}
+use Rattle.ltl_automaton.specs.Labels.{AreCoded, AreTables, IsCoded, Tables, coded_edge, labelled, labelled_edge, number_of_cube}
 use Rattle.ltl_automaton.specs.SharedView.{automaton_of}
 use Rattle.ltl_automaton.specs.declared.coded_builder.CodedBuilder as building
-use Rattle.ltl_automaton.specs.declared.coded_builder.Ranks as ranking
+use Rattle.ltl_automaton.specs.declared.ranks.Ranks as ranking
 use Rattle.ltl_automaton.specs.declared.coded_edge.CodedEdge as numbered
 use Rattle.ltl_automaton.specs.declared.coded_states.CodedStates as made
 
@@ -62,11 +62,11 @@ pub record HaveRanks {A : Type 0} (t : Tables) (r : ranking.Ranks A) : Type 0 wh
   pub cubes : AreRanks t.cubes r.table.cubes.items r.cubes.items
   pub marks : AreRanks t.marks r.table.marks.items r.marks.items
 
--- the first states
-abbrev pub first_states : Automaton → ℕ → Automaton
-first_states A n = record { sets = A.sets; states = take n A.states }
+-- the numbers of the edge have places
+pub record HasRanks {A : Type 0} (r : ranking.Ranks A) (e : Edge) : Type 0 where
+  pub cube : number_of_cube e.cube < length r.cubes.items
+  pub marks : slice_index_or e.marks 0 0 < length r.marks.items
 
--- what was made of the first states
-pub record AreStatesMade (t : Tables) (A B : Automaton) (n : ℕ) : Type 0 where
-  pub labelled : labelled t B ≡ first_states A n
-  pub coded : AreCoded t B
+-- the edge with the places of its labels in place of their numbers
+abbrev pub ranked_edge : {A : Type 0} → ranking.Ranks A → Edge → Edge
+ranked_edge r e = coded_edge (slice_index_or r.cubes.items (number_of_cube e.cube) 0) e.target (slice_index_or r.marks.items (slice_index_or e.marks 0 0) 0)

@@ -1,7 +1,6 @@
 -- An explicit automaton whose states share edge lists.
 use Rattle.std.specs.Prelude.{◌≡◌, ℕ, ◌<◌, Bool, List, [], ◌∷◌, ◌++◌, length, map, slice_index_or, All}
 use Rattle.ltl_spec.specs.Automata.Automaton.{Automaton, State, Edge}
-use Rattle.ltl_spec.specs.Collections.Lists.{HasNoRepeats}
 use Rattle.ltl_spec.specs.Collections.Sets.{Has}
 use Rattle.ltl_automaton.specs.declared.shared.SharedState.{SharedState}
 
@@ -26,10 +25,9 @@ automaton_of s = record { sets = s.sets; states = states_in s.lists s.states }
 abbrev pub ArePlaces : List (List Edge) → List SharedState → Type 0
 ArePlaces lists places = All (λ p. p.list < length lists) places
 
--- and each list stands once, and is the list of a state
+-- and each list is the list of a state
 pub record IsShared (lists : List (List Edge)) (states : List SharedState) : Type 0 where
   pub places : ArePlaces lists states
-  pub distinct : HasNoRepeats lists
   pub used : (k : ℕ) → k < length lists → (p : SharedState) × Has states p × (p.list ≡ k)
 
 -- the automaton with one more state

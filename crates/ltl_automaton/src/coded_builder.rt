@@ -1,12 +1,11 @@
 //! The construction of an automaton with a table of its labels. The labels are numbered as they come, and sorted at the end.
 
-ghost use Rattle.std.specs.Prelude.{◌≡◌, ◌+◌, ◌<◌, [], false, length, map, All, IfOk, OnOk};
+ghost use Rattle.std.specs.Prelude.{◌≡◌, [], false, length, map, IfOk, OnOk};
 ghost use Rattle.ltl_spec.specs.Collections.Sets.{Has};
-ghost use Rattle.ltl_automaton.specs.CodedEdges.{coded_edge_of, table_of};
-ghost use Rattle.ltl_automaton.specs.LabelTables.{AreMade, AreOnce, AreStatesMade, Extends, HasLabels, HaveRanks, IsBuilt, built_of, labelled_of, met_of};
-ghost use Rattle.ltl_automaton.specs.Labels.{AreCoded, AreTables, IsCoded, labelled, labelled_edge};
+ghost use Rattle.ltl_automaton.specs.CodedEdges.{table_of};
+ghost use Rattle.ltl_automaton.specs.LabelTables.{AreMade, AreOnce, Extends, HasLabels, HaveRanks, IsBuilt, built_of, labelled_of, met_of};
+ghost use Rattle.ltl_automaton.specs.Labels.{AreTables};
 ghost use Rattle.ltl_automaton.specs.Net.{edges_to};
-ghost use Rattle.ltl_automaton.specs.SharedView.{automaton_of};
 
 use crate::builder::Builder;
 use crate::coded_edge::CodedEdge;
@@ -15,6 +14,7 @@ use crate::edge::Edge;
 use crate::interner::Interner;
 use crate::label_table::LabelTable;
 use crate::ranked::{Ranked, narrow};
+use crate::ranks::Ranks;
 use crate::shared::SharedStates;
 use crate::step::Step;
 use crate::worklist::Key;
@@ -29,14 +29,6 @@ pub struct CodedBuilder<'a, A: Allocator> {
     cubes: Interner<'a, Cube, A>,
     marks: Interner<'a, RowSet, A>,
     states: SharedStates<'a, CodedEdge, A>,
-}
-
-/// The labels, sorted. For each label, by its number in the builder, `cubes` or `marks` has its place in the table.
-#[derive(Drop)]
-struct Ranks<'a, A: Allocator> {
-    table: LabelTable<'a, A>,
-    cubes: Vec<u32, &'a A>,
-    marks: Vec<u32, &'a A>,
 }
 
 impl<'a, A: Allocator> CodedBuilder<'a, A> {
@@ -99,77 +91,16 @@ impl<'a, A: Allocator> CodedBuilder<'a, A> {
         })
     }
 
-    /// The edges with the places of their labels in the table in place of their numbers.
-    fn ranked_edges(
-        &self,
-        ranks: &Ranks<'a, A>,
-        edges: &[CodedEdge],
-    ) -> Result<Vec<CodedEdge, &'a A>, AllocError>
-        requires ranks { HaveRanks (met_of self.now) ranks.now }
-        requires coded { All (IsCoded (met_of self.now)) (map coded_edge_of edges.now) }
-        ensures { IfOk result (λ es. AreMade (table_of ranks.now.table) es.items (map (labelled_edge (met_of self.now)) (map coded_edge_of edges.now))) }
-    {
-        let mut ranked = Vec::with_capacity(self.alloc, edges.len())?;
-        for edge in edges {
-            ranked.push(CodedEdge {
-                cube: ranks.cubes[edge.cube as usize],
-                marks: ranks.marks[edge.marks as usize],
-                target: edge.target,
-            })?;
-        }
-        Ok(ranked)
-    }
-
-    /// Appends the state to `ranked`, with the places of the labels of its edges. If `last` is an earlier state with the same list, both share one list.
-    fn push_ranked(
-        &self,
-        ranks: &Ranks<'a, A>,
-        ranked: &mut SharedStates<'a, CodedEdge, A>,
-        state: usize,
-        last: usize,
-    ) -> Result<(), AllocError>
-        requires built { IsBuilt self.now }
-        requires ranks { HaveRanks (met_of self.now) ranks.now }
-        requires made { AreStatesMade (table_of ranks.now.table) (built_of self.now) (automaton_of ranked.old) state }
-        requires within { state < length (automaton_of self.now.states).states }
-        ensures { OnOk result (AreStatesMade (table_of ranks.now.table) (built_of self.now) (automaton_of ranked.new) (state + 1)) }
-    {
-        let accepting = self.states.accepting(state);
-        if last < state && self.states.list(last) == self.states.list(state) {
-            ranked.push_like(accepting, last)?;
-        } else {
-            let edges = self.ranked_edges(ranks, self.states.edges(state))?;
-            ranked.push(accepting, edges)?;
-        }
-        Ok(())
-    }
-
-    /// The states with the places of the labels of their edges. Each list is renumbered once.
-    fn ranked(&self, ranks: &Ranks<'a, A>) -> Result<SharedStates<'a, CodedEdge, A>, AllocError>
-        requires built { IsBuilt self.now }
-        requires ranks { HaveRanks (met_of self.now) ranks.now }
-        ensures labelled { IfOk result (λ s. labelled (table_of ranks.now.table) (automaton_of s) ≡ built_of self.now) }
-        ensures coded { IfOk result (λ s. AreCoded (table_of ranks.now.table) (automaton_of s)) }
-    {
-        let mut ranked = SharedStates::new(self.alloc, self.states.sets());
-        let mut lasts: Vec<usize, &'a A> = Vec::new(self.alloc);
-        lasts.resize(self.states.list_count(), 0)?;
-        for state in 0..self.states.len() {
-            let list = self.states.list(state);
-            self.push_ranked(ranks, &mut ranked, state, lasts[list])?;
-            lasts[list] = state;
-        }
-        Ok(ranked)
-    }
-
     /// The automaton. Its labels are sorted, and its edges have the places of their labels as numbers.
     pub fn finish(self) -> Result<CodedStates<'a, A>, AllocError>
         requires { IsBuilt self }
         ensures automaton { IfOk result (λ c. labelled_of c ≡ built_of self.entry) }
         ensures labels { IfOk result (λ c. HasLabels c) }
     {
+        self.states.invariant();
         let ranks = self.ranks()?;
-        let states = self.ranked(&ranks)?;
+        let mut states = self.states;
+        states.relabel(&ranks);
         Ok(CodedStates {
             table: ranks.table,
             states,

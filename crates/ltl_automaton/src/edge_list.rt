@@ -1,8 +1,11 @@
 //! Edge lists as values that can be interned.
 
-ghost use Rattle.std.specs.Prelude.{◌≡◌, map};
+ghost use Rattle.std.specs.Prelude.{◌≡◌, map, All};
+ghost use Rattle.ltl_automaton.specs.LabelTables.{HasRanks, ranked_edge};
 
+use crate::coded_edge::CodedEdge;
 use crate::edge::EdgeType;
+use crate::ranks::Ranks;
 use std::alloc::Allocator;
 use std::hash::{Hash, Hasher};
 use std::marker::Model;
@@ -71,5 +74,25 @@ impl<'a, E: EdgeType, A: Allocator> EdgeList<'a, E, A> {
         ensures { map E.edge_of result.now ≡ self.now }
     {
         self.edges.as_slice()
+    }
+}
+
+impl<'a, A: Allocator> EdgeList<'a, CodedEdge, A> {
+    /// Replaces the numbers of the labels of each edge by the places of these labels in the table.
+    fn relabel(&mut self, ranks: &Ranks<'_, A>)
+        requires { All (HasRanks ranks.now) self.old }
+        ensures { self.new ≡ map (ranked_edge ranks.now) self.old }
+    {
+        ranks.relabel(self.edges.as_mut_slice());
+    }
+}
+
+/// Replaces the numbers of the labels of each edge in each list by the places of these labels in the table.
+pub(crate) fn relabel<A: Allocator>(lists: &mut [EdgeList<'_, CodedEdge, A>], ranks: &Ranks<'_, A>)
+    requires { All (All (HasRanks ranks.now)) lists.old }
+    ensures { lists.new ≡ map (map (ranked_edge ranks.now)) lists.old }
+{
+    for list in 0..lists.len() {
+        lists[list].relabel(ranks);
     }
 }

@@ -2,7 +2,7 @@
 //!
 //! In the field's words: one representation of every automaton that is made here, generalized or not. A state is accepting or not, and has outgoing
 //! edges. An edge has a label (a cube), a target, and the acceptance sets that it belongs to (its marks). Many states of these automata have equal
-//! edges, so each edge list is stored once, and a state holds the number of its list (`SharedStates`).
+//! edges, so states can share an edge list, and a state holds the number of its list (`SharedStates`).
 //!
 //! How an edge is stored is a parameter (`EdgeType`). An `Edge` of 104 bytes has its cube and its marks. A `CodedEdge` of 16 bytes has their numbers in
 //! a `LabelTable`, which has two sorted lists: the different cubes, and the different sets of marks. So the order of the numbers is that of the labels.
@@ -16,7 +16,7 @@
 //! the builder with all states, or `TooLarge` if a limit is passed.
 //!
 //! There are two builders. `SharedStates` sorts the edges of a state. `CodedBuilder` takes steps with labels, and numbers the labels as they come; its
-//! `finish` sorts the labels, renumbers the edges, and returns a `CodedStates`.
+//! `finish` sorts the labels, renumbers the edges in place, and returns a `CodedStates`.
 //!
 //! Two devices save work. `same_successors_as` may return a state that was explored before and has the same edges; both states share one list then.
 //! While many states wait in the worklist, `ahead` adds a lower bound on their edges to the edges so far. The construction ends early if the sum is
@@ -48,6 +48,7 @@ pub mod label_table;
 pub mod labels;
 pub mod level;
 mod ranked;
+mod ranks;
 pub mod shared;
 pub mod sorting;
 pub mod step;

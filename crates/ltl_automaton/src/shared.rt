@@ -1,22 +1,24 @@
 //! Explicit automata whose states share edge lists.
 
-ghost use Rattle.std.specs.Prelude.{◌≡◌, ◌<◌, [], length, map, slice_get, Some, IfOk, OnOk};
+ghost use Rattle.std.specs.Prelude.{◌≡◌, ◌<◌, [], length, map, slice_get, All, Some, IfOk, OnOk};
 ghost use Rattle.ltl_spec.specs.Automata.Automaton.{edge_cmp, state_at};
 ghost use Rattle.ltl_spec.specs.Collections.Sets.{set_of};
+ghost use Rattle.ltl_automaton.specs.LabelTables.{HasRanks, ranked_edge};
 ghost use Rattle.ltl_automaton.specs.Net.{edges_to};
 ghost use Rattle.ltl_automaton.specs.SharedView.{automaton_of, with_state, IsShared};
 
+use crate::coded_edge::CodedEdge;
 use crate::edge::EdgeType;
-use crate::edge_list::EdgeList;
-use crate::interner::Interner;
+use crate::edge_list::{EdgeList, relabel};
+use crate::ranks::Ranks;
 use crate::sorting::sort_dedup;
 use crate::step::Step;
 use crate::worklist::Key;
 use std::alloc::{AllocError, Allocator};
 use std::marker::Model;
 
-/// The different edge lists, by number.
-type Lists<'a, E, A> = Interner<'a, EdgeList<'a, E, A>, A>;
+/// The edge lists, by number.
+type Lists<'a, E, A> = Vec<EdgeList<'a, E, A>, &'a A>;
 
 /// A state: the number of its edge list, and whether it is accepting.
 #[derive(Clone, Copy, Debug, PartialEq, Eq, Hash)]
@@ -25,8 +27,8 @@ pub struct SharedState {
     pub accepting: bool,
 }
 
-/// An automaton to which states are appended one at a time. Each edge list is stored once. State 0 is the initial one once the automaton is complete;
-/// the type doesn't require that targets exist.
+/// An automaton to which states are appended one at a time. States that are appended like another share its edge list. State 0 is the initial one once
+/// the automaton is complete; the type doesn't require that targets exist.
 #[derive(Drop)]
 pub struct SharedStates<'a, E: EdgeType, A: Allocator> {
     alloc: &'a A,
@@ -40,9 +42,9 @@ impl<'a, E: EdgeType, A: Allocator> Model for SharedStates<'a, E, A> {
 
     ghost Value = { Shared };
 
-    ghost view = { λ s. record { sets = s.sets; lists = s.lists.keys; states = s.states.items } };
+    ghost view = { λ s. record { sets = s.sets; lists = s.lists.items; states = s.states.items } };
 
-    ghost invariant = { λ s. IsShared s.lists.keys s.states.items };
+    ghost invariant = { λ s. IsShared s.lists.items s.states.items };
 }
 
 /// The edges of `steps` to the states with the numbers `targets`.
@@ -76,7 +78,7 @@ impl<'a, E: EdgeType, A: Allocator> SharedStates<'a, E, A> {
         SharedStates {
             alloc,
             sets,
-            lists: Interner::new(alloc),
+            lists: Vec::new(alloc),
             states: Vec::new(alloc),
         }
     }
@@ -95,7 +97,7 @@ impl<'a, E: EdgeType, A: Allocator> SharedStates<'a, E, A> {
         self.sets
     }
 
-    /// The number of different edge lists.
+    /// The number of edge lists.
     pub fn list_count(&self) -> usize
         ensures { result ≡ length self.now.lists }
     {
@@ -107,7 +109,7 @@ impl<'a, E: EdgeType, A: Allocator> SharedStates<'a, E, A> {
         requires { list < length self.now.lists }
         ensures { slice_get self.now.lists list ≡ Some (map E.edge_of result.now) }
     {
-        self.lists.get(list).as_slice()
+        self.lists[list].as_slice()
     }
 
     /// Whether a state is accepting.
@@ -127,7 +129,7 @@ impl<'a, E: EdgeType, A: Allocator> SharedStates<'a, E, A> {
         self.states[i]
     }
 
-    /// The number of a state's edge list. Two states have the same number if and only if their edges are equal.
+    /// The number of a state's edge list. Two states with the same number have the same edges.
     pub fn list(&self, i: usize) -> usize
         requires { i < length (automaton_of self.now).states }
         ensures within { result < length self.now.lists }
@@ -144,19 +146,20 @@ impl<'a, E: EdgeType, A: Allocator> SharedStates<'a, E, A> {
         self.list_edges(self.list(i))
     }
 
-    /// Gives a caller's proof the invariant: the edge lists are different, and each is the list of a state. It does nothing when it runs.
+    /// Gives a caller's proof the invariant: each state has a list, and each list is that of a state. It does nothing when it runs.
     pub fn invariant(&self)
         ensures { IsShared self.now.lists self.now.states }
     {
         let _ = &self.states;
     }
 
-    /// Appends a state with these edges, in their order.
+    /// Appends a state with these edges, in their order, as a list of its own.
     pub fn push(&mut self, accepting: bool, edges: Vec<E, &'a A>) -> Result<(), AllocError>
         ensures ok { OnOk result (automaton_of self.new ≡ with_state (automaton_of self.old) accepting (map E.edge_of edges.entry.items)) }
     {
         self.states.reserve(1)?;
-        let list = self.lists.number(EdgeList::new(edges))?;
+        let list = self.lists.len();
+        self.lists.push(EdgeList::new(edges))?;
         self.states.push(SharedState { list, accepting })?;
         Ok(())
     }
@@ -185,5 +188,15 @@ impl<'a, E: EdgeType, A: Allocator> SharedStates<'a, E, A> {
         let list = self.list(i);
         self.states.push(SharedState { list, accepting })?;
         Ok(())
+    }
+}
+
+impl<'a, A: Allocator> SharedStates<'a, CodedEdge, A> {
+    /// Replaces the numbers of the labels of all edges by the places of these labels in the table. Each list is renumbered once.
+    pub(crate) fn relabel(&mut self, ranks: &Ranks<'_, A>)
+        requires { All (All (HasRanks ranks.now)) self.old.lists }
+        ensures { self.new ≡ record { sets = self.old.sets; lists = map (map (ranked_edge ranks.now)) self.old.lists; states = self.old.states } }
+    {
+        relabel(self.lists.as_mut_slice(), ranks);
     }
 }

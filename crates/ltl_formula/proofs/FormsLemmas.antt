@@ -1,144 +1,180 @@
--- The forms of each node of a formula in turn, over plain variables.
-use Rattle.std.proofs.Common.{◌≡◌, ℕ, zero, suc, ◌+◌, ◌-◌, ◌<◌, ◌≤◌, Bool, true, false, cond, add-one, List, [], ◌∷◌, ◌++◌, map, take, length, refl, sym, ◌∙◌, ap, subst, arith, length-take}
-use Rattle.std.specs.Prelude.{All, Some, fold, slice_get, slice_index_or}
+-- The needed forms of each node of a formula in turn, over plain variables.
+use Rattle.std.proofs.Common.{◌≡◌, ℕ, ◌+◌, ◌<◌, Bool, true, false, List, [], ◌∷◌, ◌++◌, length, refl, sym, ◌∙◌, ap, subst, arith}
+use Rattle.std.specs.Prelude.{Some, slice_get, slice_index_or}
+use Rattle.std.proofs.lemmas.Option.{get_or_from_slice_get}
+use Rattle.std.proofs.Math.Decide.{dec_lt}
 use Rattle.ltl_spec.specs.Formulas.Formula as spec
-use Rattle.ltl_spec.specs.NormalForms.NormalForm.{core}
-use Rattle.ltl_spec.proofs.Collections.MemberLaws.{at_map, map_length}
-use Rattle.ltl_spec.proofs.NormalForms.SharedNodes.{tree_at}
+use Rattle.ltl_spec.specs.NormalForms.NormalForm.{core, constant}
 use Rattle.ltl_spec.proofs.NormalForms.BothPolarities as law
-use Rattle.ltl_spec.proofs.NormalForms.BothPolarities.{FlatNode, both_in, both_of, both_unary, both_binary, built, formula_in, formulas}
-use Rattle.ltl_spec.proofs.NormalForms.SharedRewriting.{IsMore, IsBuilt, Numbers, StandsFor, built_at, built_length, built_step, built_translated}
+use Rattle.ltl_spec.proofs.NormalForms.BothPolarities.{Both, both_of, made_next, made_and, made_or, made_until, made_release, both_forms, core_is, forms_of_node}
+use Rattle.ltl_spec.proofs.NormalForms.SharedRewriting.{IsMore, StandsFor, more_on}
 use Rattle.ltl_syntax.specs.declared.operators.Node.{Node}
 use Rattle.ltl_syntax.specs.declared.operators.Node.TheVariants as code
+use Rattle.ltl_syntax.specs.declared.operators.UnaryOperator.TheVariants as unary
+use Rattle.ltl_syntax.specs.declared.operators.BinaryOperator.TheVariants as binary
+use Rattle.ltl_syntax.specs.CanonicalWork.{HasOperands}
+use Rattle.ltl_syntax.specs.FormulaView.{StandsAt, tree_in, tree_of, trees}
+use Rattle.ltl_syntax.proofs.TreeLemmas.{push_length, push_before, push_at, tree_at as node_tree}
+use Rattle.ltl_formula.specs.declared.needs.Need.{Need}
 use Rattle.ltl_formula.specs.declared.polarity.Forms.{Forms}
-use Rattle.ltl_formula.specs.FormsView.{numbers_of, forms_in, flat_of, AreInside, MakesBoth}
-use Rattle.ltl_syntax.specs.FormulaView.{StandsAt, trees, tree_of, tree_in, with_tree, whole_tree, unary_of, binary_of}
-use Rattle.ltl_formula.specs.SharedNodesView.{SharedNodesView, Makes}
-use Rattle.std.proofs.lemmas.List.{map_push}
-use Rattle.std.proofs.Math.Seq.{take-length}
-use Rattle.ltl_spec.proofs.Collections.FoundLaws.{take_got}
+use Rattle.ltl_formula.specs.FormsView.{form_of, number_of, numbers_in, forms_in, flat_of, IsThereAt, MakesIf, MakesNeeded}
+use Rattle.ltl_formula.specs.NeedsView.{IsNeeded, HasOperandForms, AreClosed, need_at}
+use Rattle.ltl_formula.specs.SharedNodesView.{SharedNodesView}
+use Rattle.ltl_formula.proofs.NeedsLemmas.{operands_have}
+
+-- ---- what a form is made of
+
+-- a form depends on nothing else
+module _ (r : Bool) (f g : ℕ → Both) where
+  abbrev IsAlike : Bool → ℕ → Type 0
+  IsAlike m k = form_of m (f k) ≡ form_of m (g k)
+
+  form_alike : (v : Node) (negate : Bool) → HasOperandForms IsAlike v negate → form_of negate (both_of r f (flat_of v)) ≡ form_of negate (both_of r g (flat_of v))
+  form_alike (code.Constant b) negate h = refl
+  form_alike (code.Proposition p) negate h = refl
+  form_alike (code.Unary unary.Not i) true h = h
+  form_alike (code.Unary unary.Not i) false h = h
+  form_alike (code.Unary unary.Next i) true h = ap (made_next r) h
+  form_alike (code.Unary unary.Next i) false h = ap (made_next r) h
+  form_alike (code.Unary unary.Always i) true h = ap (made_until r (constant true)) h
+  form_alike (code.Unary unary.Always i) false h = ap (made_release r (constant false)) h
+  form_alike (code.Unary unary.Eventually i) true h = ap (made_release r (constant false)) h
+  form_alike (code.Unary unary.Eventually i) false h = ap (made_until r (constant true)) h
+  form_alike (code.Binary binary.And i j) true h = λ t. made_or r (h.0 t) (h.1 t)
+  form_alike (code.Binary binary.And i j) false h = λ t. made_and r (h.0 t) (h.1 t)
+  form_alike (code.Binary binary.Or i j) true h = λ t. made_and r (h.0 t) (h.1 t)
+  form_alike (code.Binary binary.Or i j) false h = λ t. made_or r (h.0 t) (h.1 t)
+  form_alike (code.Binary binary.Implies i j) true h = λ t. made_and r (h.0 t) (h.1 t)
+  form_alike (code.Binary binary.Implies i j) false h = λ t. made_or r (h.0 t) (h.1 t)
+  form_alike (code.Binary binary.Iff i j) true h = λ t. made_and r (made_or r (h.0.0 t) (h.1.0 t)) (made_or r (h.0.1 t) (h.1.1 t))
+  form_alike (code.Binary binary.Iff i j) false h = λ t. made_or r (made_and r (h.0.1 t) (h.1.1 t)) (made_and r (h.0.0 t) (h.1.0 t))
+  form_alike (code.Binary binary.Until i j) true h = λ t. made_release r (h.0 t) (h.1 t)
+  form_alike (code.Binary binary.Until i j) false h = λ t. made_until r (h.0 t) (h.1 t)
+  form_alike (code.Binary binary.Release i j) true h = λ t. made_until r (h.0 t) (h.1 t)
+  form_alike (code.Binary binary.Release i j) false h = λ t. made_release r (h.0 t) (h.1 t)
+
+-- ---- a node's forms
+
+-- in a graph with more nodes numbers stand for the same
+module _ (old new : SharedNodesView) (done : List Forms) (keeps : IsMore old.nodes new.nodes) (count n : ℕ) (v : Node) (before : StandsAt count n v) where
+  there_more : (m : Bool) (k : ℕ) → k < n → IsThereAt old done m k → IsThereAt new done m k
+  there_more m k b l = let e = keeps.longer in omega arith
+
+  operands_more : (negate : Bool) → HasOperandForms (IsThereAt old done) v negate → HasOperandForms (IsThereAt new done) v negate
+  operands_more negate = operands_have count n (IsThereAt old done) (IsThereAt new done) there_more v negate before
+
+  alike_more : (m : Bool) (k : ℕ) → k < n → IsThereAt old done m k → form_of m (forms_in new done k) ≡ form_of m (forms_in old done k)
+  alike_more true k b l = keeps.old (numbers_in done k).negative l
+  alike_more false k b l = keeps.old (numbers_in done k).positive l
+
+  form_more : (negate : Bool) → HasOperandForms (IsThereAt old done) v negate → form_of negate (both_of old.rewrite (forms_in new done) (flat_of v)) ≡ form_of negate (both_of old.rewrite (forms_in old done) (flat_of v))
+  form_more negate h =
+      form_alike old.rewrite (forms_in new done) (forms_in old done) v negate (operands_have count n (IsThereAt old done) (IsAlike old.rewrite (forms_in new done) (forms_in old done)) alike_more v negate before h)
+
+-- the form of the formula is made first, then that of its negation
+module _ (old mid : SharedNodesView) (done : List Forms) (v : Node) (need : Need) (stands : (count : ℕ) × StandsAt count (length done) v) (made : (negate : Bool) → IsNeeded need negate → HasOperandForms (IsThereAt old done) v negate) where
+  pub second_made : IsMore old.nodes mid.nodes → need.negative ≡ true → HasOperandForms (IsThereAt mid done) v true
+  second_made keeps n = operands_more old mid done keeps stands.0 (length done) v stands.1 true (made true n)
+
+  pub forms_made : (new : SharedNodesView) (p : Forms) → MakesIf need.positive old mid p.positive (form_of false (both_of old.rewrite (forms_in old done) (flat_of v)))
+      → MakesIf need.negative mid new p.negative (form_of true (both_of mid.rewrite (forms_in mid done) (flat_of v)))
+      → MakesNeeded old new need p (both_of old.rewrite (forms_in old done) (flat_of v))
+  forms_made new p first second = record {
+    rewrite = second.rewrite ∙ first.rewrite;
+    keeps = more_on old.nodes mid.nodes new.nodes first.keeps second.keeps;
+    stands = each;
+  }
+    where
+      each : (negate : Bool) → IsNeeded need negate → StandsFor new.nodes (number_of negate p) (form_of negate (both_of old.rewrite (forms_in old done) (flat_of v)))
+      each false n =
+          let s = first.stands n in
+          let l = second.keeps.longer in
+          let i = s.inside in
+          record { inside = omega arith; tree = second.keeps.old p.positive i ∙ s.tree }
+      each true n =
+          let s = second.stands n in
+          record {
+            inside = s.inside;
+            tree = s.tree ∙ ap (λ (r : Bool). form_of true (both_of r (forms_in mid done) (flat_of v))) first.rewrite ∙ form_more old mid done first.keeps stands.0 (length done) v stands.1 true (made true n);
+          }
 
 -- ---- a step of the loop
 
-module _ (g : SharedNodesView) (done : List Forms) (nodes : List Node) (i : ℕ) (b : IsBuilt g.rewrite g.nodes (map numbers_of done) (map flat_of (take i nodes))) where
-  abbrev flat : List FlatNode
-  flat = map flat_of (take i nodes)
+-- the number of a form of node k stands for it
+abbrev IsFormAt : SharedNodesView → List Node → Bool → ℕ → Forms → Bool → Type 0
+IsFormAt g nodes negate k p rewrite = StandsFor g.nodes (number_of negate p) (core (tree_in (trees nodes) k) negate rewrite)
 
-  abbrev past : Forms
-  past = record { positive = 0; negative = 0 }
-
-  pub done_length : length done ≡ length (take i nodes)
-  done_length = sym (map_length numbers_of done) ∙ built_length g.rewrite g.nodes (map numbers_of done) flat b ∙ map_length flat_of (take i nodes)
-
-  pub counted : i ≤ length nodes → length done ≡ i
-  counted l = let e = done_length in let t = length-take i nodes in omega arith
-
-  pub stands_before : (count : ℕ) (v : Node) (now : List Forms) → now ≡ done → i < length nodes → StandsAt count i v → StandsAt count (length now) v
-  stands_before count v now e l s = let m = counted (omega arith) in let n = ap length e in subst (λ k. StandsAt count k v) (let o : i ≡ length now = omega arith in o) s
-
-  inside_at : (k : ℕ) (d : Forms) → k < length done → AreInside g (slice_index_or done k d)
-  inside_at k d l =
-      let long = map_length numbers_of done in
-      let m : k < length (map numbers_of done) = omega arith in
-      let same : slice_index_or (map numbers_of done) k (numbers_of d) ≡ numbers_of (slice_index_or done k d) = at_map numbers_of done k d (numbers_of d) l in
-      record {
-        positive = subst (λ (p : Numbers). p.yes < length g.nodes) same (b.yes_inside k (numbers_of d) m);
-        negative = subst (λ (p : Numbers). p.no < length g.nodes) same (b.no_inside k (numbers_of d) m);
-      }
-
-  pub all_inside : All (AreInside g) done
-  all_inside = λ k d l. inside_at k d l
-
-  forms_same : (k : ℕ) → k < length done → both_in (built g.rewrite flat) k ≡ forms_in g done k
-  forms_same k l =
-      let long = map_length numbers_of done in
-      let m : k < length (map numbers_of done) = omega arith in
-      built_at g.rewrite g.nodes (map numbers_of done) flat b k (numbers_of past) m
-      ∙ ap (λ (p : Numbers). record { yes = tree_at g.nodes p.yes; no = tree_at g.nodes p.no }) (at_map numbers_of done k past (numbers_of past) l)
-
-  pub node_same : (count : ℕ) (v : Node) → StandsAt count (length done) v → both_of g.rewrite (both_in (built g.rewrite flat)) (flat_of v) ≡ both_of g.rewrite (forms_in g done) (flat_of v)
-  node_same count (code.Constant c) s = refl
-  node_same count (code.Proposition p) s = refl
-  node_same count (code.Unary op k) s = ap (both_unary g.rewrite (unary_of op)) (forms_same k s)
-  node_same count (code.Binary op k l) s = let p = forms_same k s.0 in let q = forms_same l s.1 in λ t. both_binary g.rewrite (binary_of op) (p t) (q t)
-
-  pub step_built : (count : ℕ) (v : Node) (new : SharedNodesView) (p : Forms) (more now : List Forms) → now ≡ done → i < length nodes → StandsAt count i v → slice_get nodes i ≡ Some v → MakesBoth g new p (both_of g.rewrite (forms_in g now) (flat_of v)) → more ≡ done ++ p ∷ []
-      → IsBuilt new.rewrite new.nodes (map numbers_of more) (map flat_of (take (i + 1) nodes))
-  step_built count v new p more now here l s at made_now e =
-      let m = subst (λ (ds : List Forms). MakesBoth g new p (both_of g.rewrite (forms_in g ds) (flat_of v))) here made_now in
-      let x = both_of g.rewrite (forms_in g done) (flat_of v) in
-      let next : map flat_of (take (i + 1) nodes) ≡ flat ++ flat_of v ∷ [] = rw add-one (ap (map flat_of) (take_got nodes i v at) ∙ map_push flat_of (take i nodes) v) in
-      let pairs : map numbers_of more ≡ map numbers_of done ++ numbers_of p ∷ [] = ap (map numbers_of) e ∙ map_push numbers_of done p in
-      let made : IsBuilt g.rewrite new.nodes (map numbers_of done ++ numbers_of p ∷ []) (flat ++ flat_of v ∷ []) =
-      built_step g.rewrite g.nodes new.nodes (map numbers_of done) flat (flat_of v) (numbers_of p) x.yes x.no b m.keeps m.positive m.negative (node_same count v (stands_before count v done refl l s)) in
-      subst (λ (r : Bool). IsBuilt r new.nodes (map numbers_of more) (map flat_of (take (i + 1) nodes))) (sym m.rewrite)
-      (subst (λ (f : List FlatNode). IsBuilt g.rewrite new.nodes (map numbers_of more) f) (sym next)
-      (subst (λ (ps : List Numbers). IsBuilt g.rewrite new.nodes ps (flat ++ flat_of v ∷ [])) (sym pairs) made))
-
--- ---- the end
+-- for each of the first i nodes the numbers of its needed forms stand for them
+pub record AreMade (g : SharedNodesView) (done : List Forms) (nodes : List Node) (needs : List Need) (i : ℕ) : Type 0 where
+  pub long : length done ≡ i
+  pub stands : (k : ℕ) → k < i → (negate : Bool) → IsNeeded (need_at needs k) negate → IsFormAt g nodes negate k (numbers_in done k) g.rewrite
 
 -- the formula of a node by the flat nodes of the laws is its tree
-formula_same : (ts : List spec.Formula) (v : Node) → law.formula_of (formula_in ts) (flat_of v) ≡ tree_of ts v
+formula_same : (ts : List spec.Formula) (v : Node) → law.formula_of (tree_in ts) (flat_of v) ≡ tree_of ts v
 formula_same ts (code.Constant c) = refl
 formula_same ts _ = refl
 
-trees_from : (nodes : List Node) (ts : List spec.Formula) → fold law.with_formula ts (map flat_of nodes) ≡ fold with_tree ts nodes
-trees_from [] ts = refl
-trees_from (v ∷ nodes) ts = ap (λ (t : spec.Formula). fold law.with_formula (ts ++ t ∷ []) (map flat_of nodes)) (formula_same ts v) ∙ trees_from nodes (with_tree ts v)
+-- what is translated is one of both forms
+core_form : (r negate : Bool) (F : spec.Formula) → form_of negate (both_forms r F) ≡ core F negate r
+core_form r true F = sym (core_is F true r)
+core_form r false F = sym (core_is F false r)
 
--- and so are all formulas
-pub formulas_same : (nodes : List Node) → formulas (map flat_of nodes) ≡ trees nodes
-formulas_same nodes = trees_from nodes []
+module _ (g : SharedNodesView) (done : List Forms) (nodes : List Node) (needs : List Need) (i : ℕ) (made : AreMade g done nodes needs i) (closed : AreClosed nodes needs) (here : i < length nodes) (count : ℕ) (v : Node) (at : slice_get nodes i ≡ Some v) (before : StandsAt count i v) where
+  node_is : slice_index_or nodes i (code.Constant false) ≡ v
+  node_is = get_or_from_slice_get nodes i v (code.Constant false) at
 
--- one of the two numbers of the last node stands for the core
-module _ (g : SharedNodesView) (done : List Forms) (nodes : List Node) (n : ℕ) (e : n ≡ length nodes) (some : 0 < n) (b : IsBuilt g.rewrite g.nodes (map numbers_of done) (map flat_of (take n nodes))) where
-  pub last_inside : n - 1 < length done
-  last_inside =
-      let l = done_length g done nodes n b in
-      let t : length (take n nodes) ≡ length nodes = ap length (ap (λ m. take m nodes) e ∙ take-length nodes) in
-      omega arith
+  -- what its needed forms are made of is needed
+  marked : (negate : Bool) → IsNeeded (need_at needs i) negate → HasOperandForms (λ m k. IsNeeded (need_at needs k) m) v negate
+  marked negate n = subst (λ (u : Node). HasOperandForms (λ m k. IsNeeded (need_at needs k) m) u negate) node_is (closed.each i (omega arith) here negate n)
 
-  pub core_stands : (negate : Bool) (p : Forms) → p ≡ slice_index_or done (n - 1) p → (k : ℕ) → k ≡ cond negate p.negative p.positive → StandsFor g.nodes k (core (whole_tree nodes) negate g.rewrite)
-  core_stands negate p at k is =
-      let l = last_inside in
-      let long = map_length numbers_of done in
-      let m : n - 1 < length (map numbers_of done) = omega arith in
-      let all : IsBuilt g.rewrite g.nodes (map numbers_of done) (map flat_of nodes) = subst (λ (ns : List Node). IsBuilt g.rewrite g.nodes (map numbers_of done) (map flat_of ns)) (ap (λ i. take i nodes) e ∙ take-length nodes) b in
-      let there : slice_index_or (map numbers_of done) (n - 1) (numbers_of p) ≡ numbers_of p = at_map numbers_of done (n - 1) p (numbers_of p) l ∙ ap numbers_of (sym at) in
-      let whole : formula_in (formulas (map flat_of nodes)) (n - 1) ≡ whole_tree nodes = λ t. tree_in (formulas_same nodes t) (e t - 1) in
-      let t = built_translated g.rewrite g.nodes (map numbers_of done) (map flat_of nodes) all (n - 1) (numbers_of p) negate m in
-      let inside = inside_at g done nodes n b (n - 1) p l in
-      let two : core (whole_tree nodes) negate g.rewrite ≡ tree_at g.nodes (cond negate p.negative p.positive) =
-      ap (λ (F : spec.Formula). core F negate g.rewrite) (sym whole) ∙ t ∙ ap (λ (q : Numbers). tree_at g.nodes (cond negate q.no q.yes)) there in
-      record {
-        inside = subst (λ j. j < length g.nodes) (sym is) (either negate (subst (λ (q : Forms). AreInside g q) (sym at) inside));
-        tree = ap (tree_at g.nodes) is ∙ sym two;
-      }
-    where
-      either : (t : Bool) → AreInside g p → cond t p.negative p.positive < length g.nodes
-      either true a = a.negative
-      either false a = a.positive
+  -- so it is there
+  pub operands_made : (now : List Forms) → now ≡ done → (negate : Bool) → IsNeeded (need_at needs i) negate → HasOperandForms (IsThereAt g now) v negate
+  operands_made now same negate n =
+      subst (λ (ds : List Forms). HasOperandForms (IsThereAt g ds) v negate) (sym same)
+      (operands_have count i (λ m k. IsNeeded (need_at needs k) m) (IsThereAt g done) (λ m k b w. (made.stands k b m w).inside) v negate before (marked negate n))
 
--- a place inside the list needs no default
-index_any : (xs : List Forms) (k : ℕ) (c d : Forms) → k < length xs → slice_index_or xs k c ≡ slice_index_or xs k d
-index_any [] k c d l = absurd (omega arith)
-index_any (x ∷ xs) zero c d l = refl
-index_any (x ∷ xs) (suc k) c d l = index_any xs k c d (omega arith)
+  pub stands_before : (now : List Forms) → now ≡ done → (m : ℕ) × StandsAt m (length now) v
+  stands_before now same = (count, subst (λ n. StandsAt count n v) (let l = made.long in let e = ap length same in let f : i ≡ length now = omega arith in f) before)
 
--- so the graph has a node for the core
-pub core_made : (old g : SharedNodesView) (done : List Forms) (nodes : List Node) (n m : ℕ) → n ≡ length nodes → m ≡ length nodes → 0 < n → IsBuilt g.rewrite g.nodes (map numbers_of done) (map flat_of (take n nodes)) → g.rewrite ≡ old.rewrite → IsMore old.nodes g.nodes
-    → (negate : Bool) (d : Forms) (there : List Forms) → there ≡ done → (k : ℕ) → k ≡ cond negate (slice_index_or there (m - 1) d).negative (slice_index_or there (m - 1) d).positive
-    → Makes old g k (core (whole_tree nodes) negate old.rewrite)
-core_made old g done nodes n m e f some b r keeps negate d there same k is = record {
-  rewrite = r;
-  keeps = keeps;
-  stands = subst (λ (w : Bool). StandsFor g.nodes k (core (whole_tree nodes) negate w)) r (core_stands g done nodes n e some b negate last last_is k is);
-}
-  where
-    last : Forms
-    last = slice_index_or there (m - 1) d
+  abbrev formula_at : ℕ → spec.Formula
+  formula_at = tree_in (trees nodes)
 
-    last_is : last ≡ slice_index_or done (n - 1) last
-    last_is =
-        (λ t. slice_index_or (same t) ((f ∙ sym e) t - 1) d)
-        ∙ index_any done (n - 1) d last (last_inside g done nodes n e some b)
+  forms_are : (m : Bool) (k : ℕ) → k < i → IsNeeded (need_at needs k) m → form_of m (forms_in g done k) ≡ form_of m (both_forms g.rewrite (formula_at k))
+  forms_are true k b w = (made.stands k b true w).tree ∙ sym (core_form g.rewrite true (formula_at k))
+  forms_are false k b w = (made.stands k b false w).tree ∙ sym (core_form g.rewrite false (formula_at k))
+
+  module _ (operands : HasOperands count nodes) where
+    -- a needed form of the node is that of its formula
+    form_is : (negate : Bool) → IsNeeded (need_at needs i) negate → form_of negate (both_of g.rewrite (forms_in g done) (flat_of v)) ≡ core (formula_at i) negate g.rewrite
+    form_is negate n =
+        form_alike g.rewrite (forms_in g done) (λ k. both_forms g.rewrite (formula_at k)) v negate
+        (operands_have count i (λ m k. IsNeeded (need_at needs k) m) (IsAlike g.rewrite (forms_in g done) (λ k. both_forms g.rewrite (formula_at k))) forms_are v negate before (marked negate n))
+        ∙ ap (form_of negate) (forms_of_node g.rewrite formula_at (λ k. both_forms g.rewrite (formula_at k)) (flat_of v) (λ j h. refl))
+        ∙ core_form g.rewrite negate (law.formula_of formula_at (flat_of v))
+        ∙ ap (λ (F : spec.Formula). core F negate g.rewrite) (formula_same (trees nodes) v ∙ ap (tree_of (trees nodes)) (sym node_is) ∙ sym (node_tree count nodes operands i here))
+
+    -- one node more
+    pub step_made : (new : SharedNodesView) (p : Forms) (now more : List Forms) → now ≡ done → more ≡ done ++ p ∷ [] → MakesNeeded g new (need_at needs i) p (both_of g.rewrite (forms_in g now) (flat_of v)) → AreMade new more nodes needs (i + 1)
+    step_made new p now more same pushed made_now =
+        subst (λ (ds : List Forms). AreMade new ds nodes needs (i + 1)) (sym pushed) (record { long = let l = made.long in let e = push_length done p in omega arith; stands = each })
+      where
+        m : MakesNeeded g new (need_at needs i) p (both_of g.rewrite (forms_in g done) (flat_of v))
+        m = subst (λ (ds : List Forms). MakesNeeded g new (need_at needs i) p (both_of g.rewrite (forms_in g ds) (flat_of v))) same made_now
+
+        earlier : (k : ℕ) → k < i → (negate : Bool) → IsNeeded (need_at needs k) negate → IsFormAt new nodes negate k (numbers_in done k) g.rewrite
+        earlier k l negate n =
+            let s = made.stands k l negate n in
+            let b = s.inside in
+            let longer = m.keeps.longer in
+            record { inside = omega arith; tree = m.keeps.old (number_of negate (numbers_in done k)) b ∙ s.tree }
+
+        latest : (negate : Bool) → IsNeeded (need_at needs i) negate → IsFormAt new nodes negate i p g.rewrite
+        latest negate n = let s = m.stands negate n in record { inside = s.inside; tree = s.tree ∙ form_is negate n }
+
+        each : (k : ℕ) → k < i + 1 → (negate : Bool) → IsNeeded (need_at needs k) negate → IsFormAt new nodes negate k (numbers_in (done ++ p ∷ []) k) new.rewrite
+        each k l negate n = subst (IsFormAt new nodes negate k (numbers_in (done ++ p ∷ []) k)) (sym m.rewrite) (elim (dec_lt k i) [
+          | yes b ↦ subst (λ (q : Forms). IsFormAt new nodes negate k q g.rewrite) (sym (push_before done p k _ (let e = made.long in omega arith))) (earlier k b negate n)
+          | no b ↦ let e : k ≡ i = omega arith in let f : k ≡ length done = let d = made.long in omega arith in
+              subst (λ (q : Forms). IsFormAt new nodes negate k q g.rewrite) (sym (ap (numbers_in (done ++ p ∷ [])) f ∙ push_at done p _))
+              (subst (λ j. IsFormAt new nodes negate j p g.rewrite) (sym e) (latest negate (subst (λ j. IsNeeded (need_at needs j) negate) e n)))
+        ])

@@ -4,9 +4,9 @@
 //! In the field's words: negation normal form, rewriting by local equivalences, and a shared graph (a DAG) of subformulas. Nothing recurses, so
 //! deeply nested formulas cost no more than flat ones.
 //!
-//! What flows: `Table::build` takes a `Formula`. Bottom up, it makes the normal forms of each node and of the node's negation. They are nodes of a
-//! graph in which equal nodes are one; so the numbers of the operands decide which rewriting rule applies. The rows of the table are what can be
-//! reached from the normal form of the whole formula.
+//! What flows: `Table::build` takes a `Formula`. Top down, it finds which normal forms are needed: of each node that of its formula, that of the
+//! negation, or both. Bottom up, it makes them. They are nodes of a graph in which equal nodes are one; so the numbers of the operands decide which
+//! rewriting rule applies. The rows of the table are what can be reached from the normal form of the whole formula.
 //!
 //! `[]<>p` is read as the nodes `p`, `<>p`, `[]<>p`. Its normal form is `false V (true U p)`, so its table has the rows
 //!
@@ -24,6 +24,7 @@
 
 pub mod build_fault;
 pub mod limits;
+mod needs;
 mod places;
 mod polarity;
 mod rewriting;

@@ -39,13 +39,11 @@ impl<'a, A: Allocator> SharedNodes<'a, A> {
     ghost use Rattle.ltl_spec.specs.NormalForms.Normal.{Top, Bottom};
     ghost use Rattle.ltl_formula.specs.SharedNodesView.{IsBelow, Makes, node_of};
 
-    /// A graph of the two constants, with room for both normal forms of a formula of `count` nodes. If `rewrite` is set, nodes that are built later
-    /// are rewritten.
+    /// A graph of the two constants, with room for `count` more nodes. If `rewrite` is set, nodes that are built later are rewritten.
     pub fn new(alloc: &'a A, count: usize, rewrite: bool) -> Result<Self, AllocError>
         ensures { IfOk result (λ g. g.rewrite ≡ rewrite) }
     {
-        let room = count.saturating_mul(2).saturating_add(8);
-        let mut rows = IndexSet::with_capacity(alloc, room)?;
+        let mut rows = IndexSet::with_capacity(alloc, count.saturating_add(8))?;
         rows.insert_full(Row::True)?;
         rows.insert_full(Row::False)?;
         Ok(SharedNodes { rows, rewrite })

@@ -6,6 +6,7 @@ ghost use Rattle.ltl_formula.specs.declared.limits.TheConstants.{ROW_LIMIT};
 
 use crate::build_fault::BuildFault;
 use crate::limits::ELEMENTARY_ROW_LIMIT;
+use crate::needs::needed_forms;
 use crate::places::{
     ElementaryPlaces, UntilPlaces, elementary_places, numbered_rows, until_places,
 };
@@ -63,8 +64,9 @@ impl<'a, A: Allocator> Table<'a, A> {
         ensures elementary { IsErrOf result BuildFault.TooManyElementaryRows
             → stated_limits.elementary_rows < length (elementary_rows (core (reading_of formula.now).formula negate rewrite)) }
     {
-        let mut graph = SharedNodes::new(alloc, formula.len(), rewrite)?;
-        let root = core_number(alloc, &mut graph, formula, negate)?;
+        let needed = needed_forms(alloc, formula, negate)?;
+        let mut graph = SharedNodes::new(alloc, needed.count, rewrite)?;
+        let root = core_number(alloc, &mut graph, formula, negate, needed.needs.as_slice())?;
         Table::of_node(alloc, &graph, root)
     }
 

@@ -25,16 +25,16 @@ use Rattle.ltl_automaton.specs.declared.coded_edge.CodedEdge as code
 
 -- a target and a place as one number, and the place in it
 abbrev pub key_of : ℕ → ℕ → ℕ
-key_of target place = target * 2 ^ 64 + place
+key_of target place = target * 2 ^ 32 + place
 
 abbrev pub place_in : ℕ → ℕ
-place_in key = key % 2 ^ 64
+place_in key = key % 2 ^ 32
 
-place_again : (t p : ℕ) → p < 2 ^ 64 → place_in (key_of t p) ≡ p
-place_again t p l = mod-mul-add t (2 ^ 64) p l
+place_again : (t p : ℕ) → p < 2 ^ 32 → place_in (key_of t p) ≡ p
+place_again t p l = mod-mul-add t (2 ^ 32) p l
 
 -- such numbers are in the order of their targets, then of their places
-key_order : (t p u q : ℕ) → p < 2 ^ 64 → q < 2 ^ 64 → nat_cmp (key_of t p) (key_of u q) ≡ Less → ordering_then (nat_cmp t u) (nat_cmp p q) ≡ Less
+key_order : (t p u q : ℕ) → p < 2 ^ 32 → q < 2 ^ 32 → nat_cmp (key_of t p) (key_of u q) ≡ Less → ordering_then (nat_cmp t u) (nat_cmp p q) ≡ Less
 key_order t p u q l m e = grind (arith, nat_tests)
 
 abbrev key_at : List Edge → ℕ → ℕ
@@ -49,7 +49,7 @@ pub record IsPlaced (es : List Edge) (n : ℕ) (keys : List ℕ) : Type 0 where
 pub placed_none : (es : List Edge) → IsPlaced es 0 []
 placed_none es = record { places = λ x h. absurd h; whole = λ k l. absurd (omega arith); once = tt }
 
-pub placed_next : (es : List Edge) (n : ℕ) (keys more : List ℕ) (x : ℕ) → n < 2 ^ 64 → IsPlaced es n keys → x ≡ key_at es n → more ≡ keys ++ x ∷ [] → IsPlaced es (n + 1) more
+pub placed_next : (es : List Edge) (n : ℕ) (keys more : List ℕ) (x : ℕ) → n < 2 ^ 32 → IsPlaced es n keys → x ≡ key_at es n → more ≡ keys ++ x ∷ [] → IsPlaced es (n + 1) more
 placed_next es n keys more x small w e p = subst (IsPlaced es (n + 1)) (sym (p ∙ ap (λ y. keys ++ y ∷ []) e)) (record {
   places = λ y h. elim (append_cases keys (key_at es n ∷ []) y h) [
     | inl i ↦ let (k, l, f) = w.places y i in (k, omega arith, f)
@@ -65,7 +65,7 @@ placed_next es n keys more x small w e p = subst (IsPlaced es (n + 1)) (sym (p �
       omega arith);
 })
 
-rising_places : (es : List Edge) (n : ℕ) (keys : List ℕ) → n ≤ 2 ^ 64 → ((x : ℕ) → Has keys x → (k : ℕ) × (k < n) × (x ≡ key_at es k)) → IsRising nat_cmp keys → IsRising (place_cmp es) (map place_in keys)
+rising_places : (es : List Edge) (n : ℕ) (keys : List ℕ) → n ≤ 2 ^ 32 → ((x : ℕ) → Has keys x → (k : ℕ) × (k < n) × (x ≡ key_at es k)) → IsRising nat_cmp keys → IsRising (place_cmp es) (map place_in keys)
 rising_places es n [] small t r = tt
 rising_places es n (x ∷ keys) small t r = (
   all_from (λ k. place_cmp es (place_in x) k ≡ Less) (map place_in keys) (λ k h. let (y, i, e) = map_cases place_in keys k h in subst (λ j. place_cmp es (place_in x) j ≡ Less) (sym e) (before y i)),
@@ -82,7 +82,7 @@ rising_places es n (x ∷ keys) small t r = (
         subst (λ z. place_cmp es z (place_in y) ≡ Less) (sym here) (subst (λ z. place_cmp es k z ≡ Less) (sym there) (key_order (target_at es k) k (target_at es j) j (omega arith) (omega arith) less))
 
 -- sorted they are the places of all edges by target
-pub placed_order : (es : List Edge) (n : ℕ) (xs ys : List ℕ) → n ≤ 2 ^ 64 → IsPlaced es n xs → n ≡ length es → IsPermutation xs ys → IsSorted nat_cmp ys → IsTargetOrder es (map place_in ys)
+pub placed_order : (es : List Edge) (n : ℕ) (xs ys : List ℕ) → n ≤ 2 ^ 32 → IsPlaced es n xs → n ≡ length es → IsPermutation xs ys → IsSorted nat_cmp ys → IsTargetOrder es (map place_in ys)
 placed_order es n xs ys small w e p s =
     let places : (x : ℕ) → Has ys x → (k : ℕ) × (k < n) × (x ≡ key_at es k) = λ x h. w.places x (Has-from_contains xs x (Contains-permutation ys xs x (IsPermutation-sym xs ys p) (Contains-from_has ys x h))) in
     record {

@@ -1,6 +1,6 @@
 //! State-based Büchi automata.
 
-ghost use Rattle.std.specs.Prelude.{◌≡◌, ◌%◌, ◌<◌, ◌≤◌, [], length, map, All, IfOk};
+ghost use Rattle.std.specs.Prelude.{◌≡◌, ◌+◌, ◌*◌, ◌%◌, ◌<◌, ◌≤◌, [], length, map, All, IfOk, OnOk};
 ghost use Rattle.ltl_spec.specs.Automata.Automaton.{state_at};
 ghost use Rattle.ltl_spec.specs.Tools.Limits.{stated_limits};
 ghost use Rattle.ltl_automaton.specs.CodedEdges.{coded_edge_of, edges_in};
@@ -15,19 +15,30 @@ use std::marker::Model;
 /// Positions in an edge list. Up to 4 are stored without an allocation, since most states have few edges.
 type Places<'a, A> = SmallVec<usize, 4, &'a A>;
 
-/// 2^64, so above every position in an edge list.
-const PLACES: u128 = 18_446_744_073_709_551_616;
+/// 2^32, so above every state and every position in an edge list.
+const PLACES: usize = 4_294_967_296;
 
-/// The positions of the edges, sorted by target and then by position. Target and position are sorted as one number of 128 bits.
+/// A target and a position as one number. If one of them needs more than 32 bits, this is reported as lack of memory.
+fn key(target: usize, place: usize) -> Result<u64, AllocError>
+    ensures key { IfOk result (λ k. k ≡ target * PLACES + place) }
+    ensures small { OnOk result (place < PLACES) }
+{
+    if target >= PLACES || place >= PLACES {
+        return Err(AllocError);
+    }
+    Ok((target * PLACES + place) as u64)
+}
+
+/// The positions of the edges, sorted by target and then by position. Target and position are sorted as one number.
 fn places_by_target<'a, A: Allocator>(
     alloc: &'a A,
     edges: &[CodedEdge],
 ) -> Result<Places<'a, A>, AllocError>
     ensures order { IfOk result (λ ps. IsTargetOrder (map coded_edge_of edges.now) ps.items) }
 {
-    let mut keys: SmallVec<u128, 4, &'a A> = SmallVec::with_capacity(alloc, edges.len())?;
+    let mut keys: SmallVec<u64, 4, &'a A> = SmallVec::with_capacity(alloc, edges.len())?;
     for (place, edge) in edges.iter().enumerate() {
-        keys.push(edge.target as u128 * PLACES + place as u128)?;
+        keys.push(key(edge.target, place)?)?;
     }
     keys.as_mut_slice().sort_unstable();
     let places = places(alloc, keys.as_slice())?;
@@ -35,12 +46,12 @@ fn places_by_target<'a, A: Allocator>(
 }
 
 /// The positions, which are the keys without the targets.
-fn places<'a, A: Allocator>(alloc: &'a A, keys: &[u128]) -> Result<Places<'a, A>, AllocError>
+fn places<'a, A: Allocator>(alloc: &'a A, keys: &[u64]) -> Result<Places<'a, A>, AllocError>
     ensures { IfOk result (λ ps. ps.items ≡ map (λ k. k % PLACES) keys.now) }
 {
     let mut places: Places<'a, A> = SmallVec::with_capacity(alloc, keys.len())?;
     for key in keys {
-        places.push((key % PLACES) as usize)?;
+        places.push(*key as usize % PLACES)?;
     }
     Ok(places)
 }

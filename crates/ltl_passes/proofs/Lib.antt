@@ -11,6 +11,7 @@ pub mod OwnerLaws
 pub mod MergeLaws
 pub mod MergedLaws
 pub mod NumberLaws
+pub mod PartitionedLaws
 pub mod QuotientLaws
 pub mod ReachedLaws
 pub mod RenumberLaws

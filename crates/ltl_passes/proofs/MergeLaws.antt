@@ -1,11 +1,9 @@
 -- The steps of reading and making the states of automata that are merged.
-use Rattle.std.proofs.Common.{◌≡◌, ℕ, ◌<◌, Bool, true, false, List, [], ◌∷◌, ◌++◌, map, length, refl, sym, ◌∙◌, ap, subst, arith}
-use Rattle.std.specs.Prelude.{slice_index, slice_index_or}
+use Rattle.std.proofs.Common.{◌≡◌, ℕ, ◌<◌, Bool, true, false, List, length, refl, sym, ◌∙◌, ap, subst, arith}
+use Rattle.std.specs.Prelude.{slice_index}
 use Rattle.std.specs.Ordering.{nat_cmp}
 use Rattle.std.specs.Prelude.{nat_eq}
 use Rattle.std.specs.Cmp.Lexicographic.{pointwise, pointwise_decides}
-use Rattle.ltl_automaton.specs.SharedView.{with_state}
-use Rattle.ltl_automaton.proofs.EdgeLaws.{map_pushed}
 use Rattle.std.proofs.lemmas.Bool.Decides.{Decides-eqb}
 use Rattle.std.proofs.lemmas.List.{get_or-map}
 use Rattle.ltl_spec.specs.Collections.Sets.{Has, set_of}
@@ -13,10 +11,7 @@ use Rattle.ltl_spec.specs.Automata.Automaton.{Automaton, State, Edge}
 use Rattle.ltl_spec.specs.Construction.Merging.{retargeted_state, without_implied, class_names}
 use Rattle.ltl_spec.proofs.Construction.RoundLaws.{names_length, name_low, name_twice}
 use Rattle.ltl_passes.specs.Partition.{number_in, IsNumbering, AreNames, retargeted_list, thinned}
-use Rattle.ltl_passes.proofs.SignatureLaws.{index_any, seen_again}
-
-pub index_own : (xs : List ℕ) (i d : ℕ) → i < length xs → slice_index_or xs i d ≡ slice_index_or xs i (slice_index_or xs i d)
-index_own xs i d l = index_any xs i d (slice_index_or xs i d) l
+use Rattle.ltl_passes.proofs.SignatureLaws.{seen_again}
 
 -- the names of a round are names
 pub names_of_round : (A : Automaton) (n : ℕ) (names : List ℕ) → names ≡ class_names A n → AreNames names
@@ -39,13 +34,6 @@ class_same names classes numbers keep_implied s w within =
     irredundant : (b : Bool) (es : List Edge) → (let t : State = record { accepting = s.accepting; edges = thinned b es } in t) ≡ without_implied b (record { accepting = s.accepting; edges = es })
     irredundant true es = refl
     irredundant false es = refl
-
--- one more state of a class
-pub class_pushed : (B C : Automaton) (sets : ℕ) (h : ℕ → State) (taken more_taken : List ℕ) (class : ℕ) (accepting : Bool) (es : List Edge) → B ≡ record { sets = sets; states = map h taken } → C ≡ with_state B accepting es
-    → record { accepting = accepting; edges = es } ≡ h class → more_taken ≡ taken ++ class ∷ [] → C ≡ record { sets = sets; states = map h more_taken }
-class_pushed B C sets h taken more_taken class accepting es b c s t =
-    c ∙ ap (λ X. with_state X accepting es) b ∙ (λ i. let X : Automaton = record { sets = sets; states = map h taken ++ s i ∷ [] } in X)
-    ∙ sym (ap (λ ss. let X : Automaton = record { sets = sets; states = ss } in X) (map_pushed h taken more_taken class t))
 
 pub same_list : (xs ys : List ℕ) → pointwise nat_eq xs ys ≡ true → xs ≡ ys
 same_list xs ys t = (pointwise_decides Decides-eqb xs ys).0 t

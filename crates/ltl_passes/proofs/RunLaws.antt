@@ -5,7 +5,7 @@ use Rattle.std.specs.List.{list_any, filter, prefix_len}
 use Rattle.std.specs.List.Sorted.{IsPermutation, IsNonDecreasingBy}
 use Rattle.std.specs.Ordering.{nat_cmp}
 use Rattle.std.proofs.lemmas.Bool.Decides.{same_from_decides}
-use Rattle.std.proofs.lemmas.List.{append-nil, append_assoc, length-drop, length-map, map-append, take-append-drop, get_or-set_same, get_or-set_other}
+use Rattle.std.proofs.lemmas.List.{append-nil, append_assoc, length-drop, length-map, get_or-map, map-append, take-append-drop, get_or-set_same, get_or-set_other}
 use Rattle.std.proofs.lemmas.List.Elements.{All-push, filter-append}
 use Rattle.std.proofs.lemmas.List.Sums.{prefix_len_is}
 use Rattle.std.proofs.lemmas.List.Sorted.{Contains-permutation, IsPermutation-sym, IsNonDecreasingBy-drop, IsPermutation-map, length_permutation}
@@ -524,15 +524,20 @@ labelled_next l order more k all e m =
     let P : made.RunEdge → Type 0 = λ k. run_edge k ≡ labelled_edge_of l (code_of k) in
     subst (All P) (sym m) (All-push P order k all e)
 
--- the items in another order
-pub ordered : (l : slices.Labels) (es : List coded.CodedEdge) (order sorted : List made.RunEdge) → map code_of order ≡ es → All (λ k. run_edge k ≡ labelled_edge_of l (code_of k)) order → IsPermutation order sorted
-    → IsNonDecreasingBy target_of sorted → IsByTarget l es sorted
-ordered l es order sorted w all p s = record {
-  moved = subst (λ fs. IsPermutation fs (map code_of sorted)) w (IsPermutation-map code_of order sorted p);
-  labelled =
-      let P : made.RunEdge → Type 0 = λ k. run_edge k ≡ labelled_edge_of l (code_of k) in
-      All-from_has P sorted (λ k h. All-at_has P order all k (Has-from_contains order k (Contains-permutation sorted order k (IsPermutation-sym order sorted p) (Contains-from_has sorted k h))));
-  sorted = s;
+-- the edges in another order, each with its labels
+pub ordered : (l : slices.Labels) (es sorted : List coded.CodedEdge) (order : List made.RunEdge) → IsPermutation es sorted → IsNonDecreasingBy (λ (e : coded.CodedEdge). e.target) sorted → map code_of order ≡ sorted
+    → All (λ k. run_edge k ≡ labelled_edge_of l (code_of k)) order → IsByTarget l es order
+ordered l es sorted order p s w all = record {
+  moved = subst (IsPermutation es) (sym w) p;
+  labelled = all;
+  sorted = λ i j d low high.
+      let long : length sorted ≡ length order = ap length (sym w) ∙ length-map order code_of in
+      let at : (k : ℕ) → k < length order → target_of (slice_index_or order k d) ≡ (slice_index_or sorted k (code_of d)).target = λ k m.
+      ap (λ (e : Edge). e.target) (all k d m) ∙ ap (λ (e : coded.CodedEdge). e.target) (sym (get_or-map code_of order k d (code_of d) m) ∙ ap (λ cs. slice_index_or cs k (code_of d)) w) in
+      let a = at i (omega arith) in
+      let b = at j high in
+      let c = s i j (code_of d) low (omega arith) in
+      omega (arith, a, b, c);
 }
 
 -- one more code that is kept

@@ -1,4 +1,5 @@
 pub mod Partition
+pub mod Partitioned
 pub mod Worklist
 pub mod Degeneralize
 pub mod LevelCodes

@@ -203,7 +203,21 @@ impl<'a, 'l, 'b, 'g, A: Allocator> Successors<LevelState, CodedEdge, LevelEdge>
         key.level == self.states.sets()
     }
 
-    fn same_successors_as(&mut self, _key: &LevelState) -> Result<Option<LevelState>, AllocError> {
+    /// The copy of the same state on the last level if the key is on level 0, and the other way round.
+    fn same_successors_as(&mut self, key: &LevelState) -> Result<Option<LevelState>, AllocError> {
+        let last = self.states.sets();
+        if key.level == last {
+            return Ok(Some(LevelState {
+                state: key.state,
+                level: 0,
+            }));
+        }
+        if key.level == 0 {
+            return Ok(Some(LevelState {
+                state: key.state,
+                level: last,
+            }));
+        }
         Ok(None)
     }
 

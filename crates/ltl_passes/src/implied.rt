@@ -4,6 +4,7 @@
 
 ghost use Rattle.std.specs.Prelude.{◌≡◌, ◌==◌, ◌<◌, ◌≤◌, ◌++◌, true, length, map, All, IfOk, OnOk};
 ghost use Rattle.std.specs.List.{prefix_len};
+ghost use Rattle.std.specs.List.Sorted.{IsNonDecreasingBy, IsPermutation};
 ghost use Rattle.ltl_spec.specs.Collections.Sets.{IsRising};
 ghost use Rattle.ltl_spec.specs.Automata.Automaton.{edge_cmp};
 ghost use Rattle.ltl_spec.specs.Construction.Merging as merging;
@@ -92,12 +93,26 @@ impl Counting<RunEdge> for Differing {
 }
 
 /// The edges sorted by target.
-fn by_target<'a, A: Allocator>(
+fn sorted_by_target<'a, A: Allocator>(
+    alloc: &'a A,
+    edges: &[CodedEdge],
+) -> Result<Vec<CodedEdge, &'a A>, AllocError>
+    ensures moved { IfOk result (λ v. IsPermutation edges.now v.items) }
+    ensures sorted { IfOk result (λ v. IsNonDecreasingBy (λ e. e.target) v.items) }
+{
+    let mut sorted = Vec::from_slice(alloc, edges)?;
+    sorted.sort_unstable_by_key(|edge| edge.target);
+    Ok(sorted)
+}
+
+/// The edges, each with its labels.
+fn with_labels<'a, A: Allocator>(
     alloc: &'a A,
     labels: &Labels<'_>,
     edges: &[CodedEdge],
 ) -> Result<Vec<RunEdge, &'a A>, AllocError>
-    ensures { IfOk result (λ v. IsByTarget labels.now edges.now v.items) }
+    ensures codes { IfOk result (λ v. map code_of v.items ≡ edges.now) }
+    ensures labelled { IfOk result (λ v. All (λ k. run_edge k ≡ labelled_edge_of labels.now (code_of k)) v.items) }
 {
     let mut order = Vec::with_capacity(alloc, edges.len())?;
     for edge in edges {
@@ -106,7 +121,19 @@ fn by_target<'a, A: Allocator>(
             coded: *edge,
         })?;
     }
-    order.sort_unstable_by_key(|item| item.edge.target);
+    Ok(order)
+}
+
+/// The edges sorted by target, each with its labels.
+fn by_target<'a, A: Allocator>(
+    alloc: &'a A,
+    labels: &Labels<'_>,
+    edges: &[CodedEdge],
+) -> Result<Vec<RunEdge, &'a A>, AllocError>
+    ensures { IfOk result (λ v. IsByTarget labels.now edges.now v.items) }
+{
+    let sorted = sorted_by_target(alloc, edges)?;
+    let order = with_labels(alloc, labels, sorted.as_slice())?;
     Ok(order)
 }
 

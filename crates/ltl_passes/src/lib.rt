@@ -15,6 +15,9 @@
 //! visits a state again only if the class of a target gets another name, and the smaller one of two classes gets the name of the other (`classes`). Mostly the
 //! next round changes nothing then.
 //!
+//! The quotient and the numbering compute each edge list once, and states that shared a list share the result. Degeneralization computes one list for the
+//! copies of a state on level 0 and on the last level.
+//!
 //! A list is searched for implied edges only if two of its edges with one target have different weights. Then the edges are sorted by target, and the minimal
 //! ones of each target are kept (`implied`).
 //!

@@ -1,6 +1,6 @@
 //! Breadth-first numbering of the states that are reachable from state 0.
 
-ghost use Rattle.std.specs.Prelude.{◌≡◌, ⊤, map, All, IfOk, IsErrOf};
+ghost use Rattle.std.specs.Prelude.{◌≡◌, length, map, All, IfOk, IsErrOf};
 ghost use Rattle.ltl_spec.specs.Collections.Sets.{IsRising};
 ghost use Rattle.ltl_spec.specs.Automata.Automaton.{edge_cmp};
 ghost use Rattle.ltl_spec.specs.Construction.Renumbered.{renumbered_automaton};
@@ -16,16 +16,18 @@ use std::alloc::{AllocError, Allocator};
 
 /// An automaton as an implicit graph whose nodes are state numbers.
 #[derive(Drop)]
-struct Numbers<'b, 's, A: Allocator> {
+struct Numbers<'a, 'b, 's, A: Allocator> {
     states: &'b SharedStates<'s, CodedEdge, A>,
     /// The edges of the state that was prepared last.
     edges: &'b [CodedEdge],
+    /// For each edge list the first state with it that `same_successors_as` was asked for, or `usize::MAX`.
+    owners: Vec<usize, &'a A>,
 }
 
-impl<'b, 's, A: Allocator> Successors<usize, CodedEdge, CodedEdge> for Numbers<'b, 's, A> {
+impl<'a, 'b, 's, A: Allocator> Successors<usize, CodedEdge, CodedEdge> for Numbers<'a, 'b, 's, A> {
     ghost net = { λ n. net_of (automaton_of n.states.now) };
 
-    ghost ready = { λ _. ⊤ };
+    ghost ready = { λ n. length n.owners.items ≡ length n.states.now.lists };
 
     ghost lent = { λ n. map number_move n.edges.now };
 
@@ -38,7 +40,18 @@ impl<'b, 's, A: Allocator> Successors<usize, CodedEdge, CodedEdge> for Numbers<'
         }
     }
 
-    fn same_successors_as(&mut self, _key: &usize) -> Result<Option<usize>, AllocError> {
+    /// The owner of the key's edge list. A list without one gets the key as its owner.
+    fn same_successors_as(&mut self, key: &usize) -> Result<Option<usize>, AllocError> {
+        let states = self.states;
+        if *key >= states.len() {
+            return Ok(None);
+        }
+        let list = states.list(*key);
+        let owner = self.owners[list];
+        if owner < states.len() && states.list(owner) == list {
+            return Ok(Some(owner));
+        }
+        self.owners[list] = *key;
         Ok(None)
     }
 
@@ -72,7 +85,13 @@ pub(crate) fn renumbered<'a, A: Allocator>(
     ensures renumbered { IfOk result (λ s. automaton_of s ≡ renumbered_automaton (automaton_of states.now)) }
     ensures fits { ¬ IsErrOf result BaFault.TooLarge }
 {
-    let mut numbers = Numbers { states, edges: &[] };
+    let mut owners: Vec<usize, &'a A> = Vec::new(alloc);
+    owners.resize(states.list_count(), usize::MAX)?;
+    let mut numbers = Numbers {
+        states,
+        edges: &[],
+        owners,
+    };
     let limits = Limits {
         states: MOST_STATES,
         edges: MOST_EDGES,

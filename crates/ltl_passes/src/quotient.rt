@@ -1,11 +1,12 @@
 //! The quotient automaton of a partition.
 
-ghost use Rattle.std.specs.Prelude.{◌≡◌, ◌<◌, length, map, slice_index, All, IfOk};
+ghost use Rattle.std.specs.Prelude.{◌≡◌, ◌+◌, ◌<◌, length, map, slice_index, All, IfOk, OnOk};
 ghost use Rattle.ltl_spec.specs.Construction.Merging as merging;
 ghost use Rattle.ltl_automaton.specs.CodedEdges.{HaveLabels, labelled_edge_of, tables_of};
 ghost use Rattle.ltl_automaton.specs.Labels.{AreCoded, AreTables, labelled};
 ghost use Rattle.ltl_automaton.specs.SharedView.{automaton_of};
 ghost use Rattle.ltl_passes.specs.Partition.{AreNames, IsNumbering, IsWithinStates, retargeted_list, thinned};
+ghost use Rattle.ltl_passes.specs.Partitioned.{AreClassesMade, IsPartitioned, quotient_of};
 
 use crate::implied::unimplied;
 use crate::retargeting::retargeted;
@@ -71,6 +72,74 @@ fn class_edges<'a, A: Allocator>(
     unimplied(alloc, labels, made, noted)
 }
 
+/// An automaton with a partition of its states.
+#[derive(Drop)]
+struct Partitioned<'a, 'l, 'b, 's, A: Allocator> {
+    alloc: &'a A,
+    labels: Labels<'l>,
+    states: &'b SharedStates<'s, CodedEdge, A>,
+    /// For each state the name of its class.
+    names: &'b [usize],
+    numbering: Numbering<'a, A>,
+    keep_implied: bool,
+}
+
+impl<'a, 'l, 'b, 's, A: Allocator> Partitioned<'a, 'l, 'b, 's, A> {
+    /// Appends the class with the number `class`. If `last` is an earlier class and the least states of both have the same list, both classes share one list.
+    fn push_class(
+        &self,
+        made: &mut SharedStates<'a, CodedEdge, A>,
+        noted: &mut [usize],
+        class: usize,
+        last: usize,
+    ) -> Result<(), AllocError>
+        requires partitioned { IsPartitioned self.now }
+        requires made { AreClassesMade self.now (automaton_of made.old) class }
+        requires within { class < length self.now.numbering.classes.items }
+        requires noted { length noted.old ≡ length self.now.names.now }
+        ensures wide { length noted.new ≡ length noted.old }
+        ensures made { OnOk result (AreClassesMade self.now (automaton_of made.new) (class + 1)) }
+    {
+        let classes = self.numbering.classes.as_slice();
+        let state = classes[class];
+        let accepting = self.states.accepting(state);
+        if last < class && self.states.list(classes[last]) == self.states.list(state) {
+            made.push_like(accepting, last)?;
+        } else {
+            let edges = class_edges(
+                self.alloc,
+                &self.labels,
+                self.states.edges(state),
+                self.numbering.numbers.as_slice(),
+                self.keep_implied,
+                noted,
+            )?;
+            made.push(accepting, edges)?;
+        }
+        Ok(())
+    }
+
+    /// The quotient automaton. The edges of classes whose least states have the same list are computed once.
+    fn quotient(&self) -> Result<SharedStates<'a, CodedEdge, A>, AllocError>
+        requires { IsPartitioned self.now }
+        ensures merged { IfOk result (λ m. labelled (tables_of self.now.labels) (automaton_of m) ≡ quotient_of self.now) }
+        ensures coded { IfOk result (λ m. AreCoded (tables_of self.now.labels) (automaton_of m)) }
+    {
+        let classes = self.numbering.classes.as_slice();
+        let mut made = SharedStates::new(self.alloc, self.states.sets());
+        let mut noted: Places<'a, A> = SmallVec::new(self.alloc);
+        noted.resize(self.names.len(), 0)?;
+        let mut lasts: Vec<usize, &'a A> = Vec::new(self.alloc);
+        lasts.resize(self.states.list_count(), 0)?;
+        for class in 0..classes.len() {
+            let list = self.states.list(classes[class]);
+            self.push_class(&mut made, noted.as_mut_slice(), class, lasts[list])?;
+            lasts[list] = class;
+        }
+        Ok(made)
+    }
+}
+
 /// The quotient automaton, with the classes in the order of their names.
 pub(crate) fn quotient<'a, A: Allocator>(
     alloc: &'a A,
@@ -88,21 +157,13 @@ pub(crate) fn quotient<'a, A: Allocator>(
         ≡ merging.quotient keep_implied names.now (labelled (tables_of labels.now) (automaton_of states.now))) }
     ensures coded { IfOk result (λ m. AreCoded (tables_of labels.now) (automaton_of m)) }
 {
-    let numbering = number_classes(alloc, names)?;
-    let mut made = SharedStates::new(alloc, states.sets());
-    let mut noted: Places<'a, A> = SmallVec::new(alloc);
-    noted.resize(names.len(), 0)?;
-    for class in numbering.classes.as_slice() {
-        let numbers = numbering.numbers.as_slice();
-        let edges = class_edges(
-            alloc,
-            labels,
-            states.edges(*class),
-            numbers,
-            keep_implied,
-            noted.as_mut_slice(),
-        )?;
-        made.push(states.accepting(*class), edges)?;
-    }
-    Ok(made)
+    let partitioned = Partitioned {
+        alloc,
+        labels: *labels,
+        states,
+        names,
+        numbering: number_classes(alloc, names)?,
+        keep_implied,
+    };
+    partitioned.quotient()
 }

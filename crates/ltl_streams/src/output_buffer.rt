@@ -78,6 +78,15 @@ impl OutputBuffer {
             self.hold(bytes);
             return Ok(());
         }
+        self.put_after_send(bytes, sink)
+    }
+
+    /// Writes the buffered bytes, and then appends the bytes to the empty buffer if they fit.
+    #[cold]
+    #[inline(never)]
+    fn put_after_send<S: ByteSink>(&mut self, bytes: &[u8], sink: &mut S) -> Result<(), WriteFault>
+        ensures { Puts result (S.state sink.old) self.old (S.state sink.new) self.new bytes.now }
+    {
         self.send(sink)?;
         if bytes.len() <= self.room() {
             self.hold(bytes);

@@ -1,5 +1,5 @@
 -- What follows from what a call answers, and promises of its answer.
-use Rattle.std.proofs.Common.{◌≡◌, refl, ◌<◌, true, false, List, [], ◌∷◌, length, arith, None, IsSome}
+use Rattle.std.proofs.Common.{◌≡◌, refl, ◌<◌, List, [], ◌∷◌, length, arith, None, IsSome}
 use Rattle.std.specs.Prelude.{Result, Ok, Err, OnOk}
 
 -- what follows from what a call ensures

@@ -80,14 +80,14 @@ module _ (ns : List Node) (fs : List Frame) (names : List Name) (has : Bool) (p 
     closed_same fs2 e = subst (λ fs'. IsParsing (record { nodes = ns1; frames = fs'; names = names; has_operand = has })) (sym e) closed_kept
 
     -- and one on top
-    pub closed_pending : (now : ParserView) (fs2 : List Frame) (k : ℕ) (op : BinaryOperator) → record { nodes = ns; frames = fs; names = names; has_operand = has } ≡ now → now.has_operand ≡ true
-        → k ≡ length ns1 → fs2 ≡ fs1 ++ Pending (k - 1) op ∷ [] → IsParsing (record { nodes = ns1; frames = fs2; names = names; has_operand = false })
-    closed_pending now fs2 k op v h l e =
+    pub closed_pending : (now : ParserView) (fs2 : List Frame) (left : ℕ) (op : BinaryOperator) → record { nodes = ns; frames = fs; names = names; has_operand = has } ≡ now → now.has_operand ≡ true
+        → left ≡ length ns1 - 1 → fs2 ≡ fs1 ++ Pending left op ∷ [] → IsParsing (record { nodes = ns1; frames = fs2; names = names; has_operand = false })
+    closed_pending now fs2 left op v h l e =
         let some = p.some (ap (λ w. w.has_operand) v ∙ h) in
         record {
           operands = closed_kept.operands;
-          once = pending_once ns1 fs1 fs2 (Pending (k - 1) op) e (ap (λ j. (j - 1) ∷ []) l) once_kept;
-          pending = subst (AreBelow (length ns1)) (sym e) (below_push (length ns1) fs1 (Pending (k - 1) op) pending (omega arith));
+          once = pending_once ns1 fs1 fs2 (Pending left op) e (ap (λ j. j ∷ []) l) once_kept;
+          pending = subst (AreBelow (length ns1)) (sym e) (below_push (length ns1) fs1 (Pending left op) pending (omega arith));
           some = λ d. false_is_true d;
         }
 
@@ -123,15 +123,15 @@ module _ (now : ParserView) (ns ns1 : List Node) (fs fs1 : List Frame) (names : 
   closed_now = ap (λ w. machine.close most (whole_tree w.nodes) (frames_of (trees w.nodes) w.frames)) (sym v) ∙ closed
 
   -- an operator is put behind the operand
-  pub step_pending : (fs2 : List Frame) (k : ℕ) (op : BinaryOperator) → most ≡ machine.left_rank (binary_of op) → k ≡ length ns1 → fs2 ≡ fs1 ++ Pending (k - 1) op ∷ []
+  pub step_pending : (fs2 : List Frame) (left : ℕ) (op : BinaryOperator) → most ≡ machine.left_rank (binary_of op) → left ≡ length ns1 - 1 → fs2 ≡ fs1 ++ Pending left op ∷ []
       → (l : List Name) → machine.read_step l (reader_of now) (tokens.BinarySign (binary_of op)) ≡ Some (reader_of (record { nodes = ns1; frames = fs2; names = names; has_operand = false }))
-  step_pending fs2 k op m e f l =
+  step_pending fs2 left op m e f l =
       let op' = binary_of op in
       let Step : spec.Formula × List machine.Frame → Option machine.Reader = λ c. Some (machine.Wanting (machine.Pending c.0 op' ∷ c.1)) in
       let closed_most : machine.close (machine.left_rank op') (whole_tree now.nodes) (frames_of (trees now.nodes) now.frames) ≡ (whole_tree ns1, frames_of (trees ns1) fs1) =
       subst (λ n. machine.close n (whole_tree now.nodes) (frames_of (trees now.nodes) now.frames) ≡ (whole_tree ns1, frames_of (trees ns1) fs1)) m closed_now in
       let frames : frames_of (trees ns1) fs2 ≡ machine.Pending (whole_tree ns1) op' ∷ frames_of (trees ns1) fs1 =
-      ap (frames_of (trees ns1)) (f ∙ ap (λ j. fs1 ++ Pending (j - 1) op ∷ []) e) ∙ frames_push (trees ns1) fs1 (Pending (length ns1 - 1) op) in
+      ap (frames_of (trees ns1)) (f ∙ ap (λ j. fs1 ++ Pending j op ∷ []) e) ∙ frames_push (trees ns1) fs1 (Pending (length ns1 - 1) op) in
       ap (λ r. machine.read_step l r (tokens.BinarySign op')) (having now h) ∙ ap Step closed_most ∙ ap (λ s. Some (machine.Wanting s)) (sym frames)
 
   -- a bracket closes

@@ -51,7 +51,7 @@ fn binary_text(operator: BinaryOperator) -> &'static [u8]
     }
 }
 
-/// Writes the beginning of a node, and pushes what follows it.
+/// Writes the beginning of a node, and pushes what follows it. A chain of prefix operators is written whole, and takes no entry of the stack.
 fn visit<A: Allocator>(
     nodes: &[Node],
     names: &[String<&A>],
@@ -69,21 +69,24 @@ fn visit<A: Allocator>(
     ensures falls { OnOk result (sum_by (weight (trees nodes.now)) stack.new.items
         < weight (trees nodes.now) (Task.Visit i) + sum_by (weight (trees nodes.now)) stack.old.items) }
 {
-    match nodes[i] {
-        Node::Constant(value) => text.extend_from_slice(constant_text(value)),
-        Node::Proposition(number) => text.extend_from_slice(names[number].as_bytes()),
-        Node::Unary(operator, operand) => {
-            text.extend_from_slice(unary_text(operator))?;
-            stack.extend_from_slice(&[Task::Visit(operand)])
-        }
-        Node::Binary(operator, left, right) => {
-            text.push(b'(')?;
-            stack.extend_from_slice(&[
-                Task::Close,
-                Task::Visit(right),
-                Task::Middle(operator),
-                Task::Visit(left),
-            ])
+    let mut i = i;
+    'prefixes: loop {
+        match nodes[i] {
+            Node::Constant(value) => return text.extend_from_slice(constant_text(value)),
+            Node::Proposition(number) => return text.extend_from_slice(names[number].as_bytes()),
+            Node::Unary(operator, operand) => {
+                text.extend_from_slice(unary_text(operator))?;
+                i = operand;
+            }
+            Node::Binary(operator, left, right) => {
+                text.push(b'(')?;
+                return stack.extend_from_slice(&[
+                    Task::Close,
+                    Task::Visit(right),
+                    Task::Middle(operator),
+                    Task::Visit(left),
+                ]);
+            }
         }
     }
 }

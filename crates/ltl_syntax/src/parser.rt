@@ -27,12 +27,13 @@ use std::marker::Model;
 pub(crate) type NameSet<'t, 'a, A> = IndexSet<&'t [u8], BuildHasherDefault<FoldHasher>, &'a A>;
 
 /// An entry of the stack: an open bracket, a prefix operator that waits for its operand, or a left operand with its infix operator.
+/// The number of a left operand takes 32 bits, so that an entry is small.
 #[derive(Clone, Copy, Default)]
 pub(crate) enum Frame {
     #[default]
     Bracket,
     Prefix(UnaryOperator),
-    Pending(usize, BinaryOperator),
+    Pending(u32, BinaryOperator),
 }
 
 /// The stack. Up to 32 frames are stored without an allocation.
@@ -76,6 +77,16 @@ fn has_bracket(frames: &[Frame]) -> bool
     frames.iter().copied().any(is_bracket)
 }
 
+/// The number in 32 bits. A number that needs more bits is reported as lack of memory.
+fn narrow(number: usize) -> Result<u32, AllocError>
+    ensures { IfOk result (λ n. n ≡ number) }
+{
+    if number > 4_294_967_295 {
+        return Err(AllocError);
+    }
+    Ok(number as u32)
+}
+
 /// The node that the frame makes of its right operand, if the frame is a prefix operator or an infix one of at most this rank.
 fn closed(frame: Frame, operand: usize, most: u8) -> Option<Node>
     ensures { result ≡ closed_node frame operand most }
@@ -83,7 +94,7 @@ fn closed(frame: Frame, operand: usize, most: u8) -> Option<Node>
     match frame {
         Frame::Prefix(operator) => Some(Node::Unary(operator, operand)),
         Frame::Pending(left, operator) if rank(operator) <= most => {
-            Some(Node::Binary(operator, left, operand))
+            Some(Node::Binary(operator, left as usize, operand))
         }
         Frame::Bracket | Frame::Pending(..) => None,
     }
@@ -246,8 +257,8 @@ impl<'a, 't, A: Allocator> Parser<'a, 't, A> {
             ≡ Some (reader_of self.new)) }
     {
         close(&mut self.nodes, &mut self.frames, left_rank(operator))?;
-        self.frames
-            .push(Frame::Pending(self.nodes.len() - 1, operator))?;
+        let left = narrow(self.nodes.len() - 1)?;
+        self.frames.push(Frame::Pending(left, operator))?;
         self.has_operand = false;
         Ok(())
     }

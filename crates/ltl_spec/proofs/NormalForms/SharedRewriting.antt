@@ -1,15 +1,12 @@
 -- Rewriting over shared nodes: the number or node of the rewritten tree, decided by numbers alone.
-use Rattle.std.proofs.Common.{◌≡◌, ℕ, suc, ◌<◌, Bool, true, false, cond, eqb, ◌⊎◌, inl, inr, List, [], ◌∷◌, ◌++◌, map, length, refl, sym, ◌∙◌, ap, subst, arith, length-append}
-use Rattle.std.specs.Prelude.{◌==◌, ◌||◌, ◌&&◌, if◌then◌else◌, slice_index_or}
-use Rattle.std.proofs.lemmas.List.{get_or-map, get_or_append_left, map_push}
+use Rattle.std.proofs.Common.{◌≡◌, ℕ, ◌<◌, Bool, true, false, cond, eqb, inl, List, [], ◌∷◌, ◌++◌, length, refl, sym, ◌∙◌, ap, arith, length-append}
+use Rattle.std.specs.Prelude.{◌==◌, ◌||◌, ◌&&◌, if◌then◌else◌}
 use Rattle.ltl_spec.specs.NormalForms.Normal.{Normal, Top, Bottom, And, Or, Until, Release, same}
-use Rattle.ltl_spec.specs.NormalForms.NormalForm.{is_eventually, is_always, simple_and, simple_or, simple_until, simple_release, core}
+use Rattle.ltl_spec.specs.NormalForms.NormalForm.{is_eventually, is_always, simple_and, simple_or, simple_until, simple_release}
 use Rattle.ltl_spec.proofs.NormalForms.RowsCollected.{same_number}
-use Rattle.ltl_spec.proofs.NormalForms.SharedNodes.{Node, AndNode, OrNode, UntilNode, ReleaseNode, parts_of, tree_of, tree_at, node_at, AllBefore, IsShared, index_last, tree_old, shared_graph, nodes_before}
-use Rattle.ltl_spec.proofs.NormalForms.BothPolarities.{Both, FlatNode, made_and, made_or, made_until, made_release, both_in, both_of, both_forms, formula_in, formulas, formulas_length, built, built_is, built_push, built_core}
-use Rattle.ltl_spec.proofs.Collections.MemberLaws.{map_length}
-use Rattle.ltl_spec.proofs.Collections.CaseLaws.{last_or_below}
-pub use Rattle.ltl_spec.specs.NormalForms.SharedRewriting.{IsMore, StandsFor, Choice, Old, New, choice_tree, is_eventually_node, is_always_node, choose_next, choose_and, choose_or, choose_until, choose_release, HasConstants, Numbers, stand_for}
+use Rattle.ltl_spec.proofs.NormalForms.SharedNodes.{Node, AndNode, OrNode, UntilNode, ReleaseNode, parts_of, tree_of, tree_at, node_at, AllBefore, IsShared, tree_old, shared_graph, nodes_before}
+use Rattle.ltl_spec.proofs.NormalForms.BothPolarities.{made_and, made_or, made_until, made_release}
+pub use Rattle.ltl_spec.specs.NormalForms.SharedRewriting.{IsMore, StandsFor, Choice, Old, New, choice_tree, is_eventually_node, is_always_node, choose_next, choose_and, choose_or, choose_until, choose_release, HasConstants}
 
 -- more nodes
 
@@ -175,78 +172,3 @@ module _ (nodes : List Node) (top bottom : ℕ) (c : HasConstants nodes top bott
     pub made_release_choice : choice_tree nodes (if rewrite then choose_release top bottom i j (node_at nodes j) else New (ReleaseNode i j)) ≡ made_release rewrite (tree_at nodes i) (tree_at nodes j)
     made_release_choice =
         either_made (choose_release top bottom i j (node_at nodes j)) (New (ReleaseNode i j)) (simple_release (tree_at nodes i) (tree_at nodes j)) (release_choice nodes top bottom c i j l m)
-
--- the loop over the nodes of a formula
-
--- what the pairs stand for, where both numbers of each are there
-pub record IsBuilt (rewrite : Bool) (nodes : List Node) (pairs : List Numbers) (flat : List FlatNode) : Type 0 where
-  pub yes_inside : (k : ℕ) (d : Numbers) → k < length pairs → (slice_index_or pairs k d).yes < length nodes
-  pub no_inside : (k : ℕ) (d : Numbers) → k < length pairs → (slice_index_or pairs k d).no < length nodes
-  pub forms : map (stand_for nodes) pairs ≡ built rewrite flat
-
-module _ (rewrite : Bool) (nodes : List Node) (pairs : List Numbers) (flat : List FlatNode) (b : IsBuilt rewrite nodes pairs flat) where
-  -- as many pairs as nodes of the formula
-  pub built_length : length pairs ≡ length flat
-  built_length =
-      let e : length (map (stand_for nodes) pairs) ≡ length pairs = map_length (stand_for nodes) pairs in
-      let d : length (built rewrite flat) ≡ length (formulas flat) = ap length (built_is rewrite flat) ∙ map_length (both_forms rewrite) (formulas flat) in
-      let f : length (map (stand_for nodes) pairs) ≡ length (built rewrite flat) = ap length b.forms in
-      let g = formulas_length flat in
-      omega arith
-
-  -- the pair of a node stands for both forms of its formula
-  pub built_at : (k : ℕ) (d : Numbers) → k < length pairs → both_in (built rewrite flat) k ≡ stand_for nodes (slice_index_or pairs k d)
-  built_at k d l = ap (λ xs. both_in xs k) (sym b.forms) ∙ get_or-map (stand_for nodes) pairs k d (record { yes = Bottom; no = Top }) l
-
-  -- one of its two numbers stands for what is translated
-  pub built_translated : (k : ℕ) (d : Numbers) (negate : Bool) → k < length pairs
-      → core (formula_in (formulas flat) k) negate rewrite ≡ tree_at nodes (let p = slice_index_or pairs k d in if negate then p.no else p.yes)
-  built_translated k d negate l = built_core rewrite flat k negate ∙ at negate (built_at k d l)
-    where
-      at : (t : Bool) → both_in (built rewrite flat) k ≡ stand_for nodes (slice_index_or pairs k d)
-          → cond t (both_in (built rewrite flat) k).no (both_in (built rewrite flat) k).yes ≡ tree_at nodes (cond t (slice_index_or pairs k d).no (slice_index_or pairs k d).yes)
-      at true e = ap (λ (x : Both). x.no) e
-      at false e = ap (λ (x : Both). x.yes) e
-
-  -- more nodes change nothing
-  pub built_more : (more : List Node) → IsMore nodes more → IsBuilt rewrite more pairs flat
-  built_more more m = record {
-    yes_inside = λ k d l. let a = b.yes_inside k d l in let n = m.longer in omega arith;
-    no_inside = λ k d l. let a = b.no_inside k d l in let n = m.longer in omega arith;
-    forms = same_forms pairs b.yes_inside b.no_inside ∙ b.forms;
-  }
-    where
-      same_forms : (ps : List Numbers) → ((k : ℕ) (d : Numbers) → k < length ps → (slice_index_or ps k d).yes < length nodes) → ((k : ℕ) (d : Numbers) → k < length ps → (slice_index_or ps k d).no < length nodes)
-          → map (stand_for more) ps ≡ map (stand_for nodes) ps
-      same_forms [] y n = refl
-      same_forms (p ∷ ps) y n =
-          let first_yes = m.old p.yes (y 0 p (omega arith)) in
-          let first_no = m.old p.no (n 0 p (omega arith)) in
-          let rest = same_forms ps (λ k d l. y (suc k) d (omega arith)) (λ k d l. n (suc k) d (omega arith)) in
-          λ i. record { yes = first_yes i; no = first_no i } ∷ rest i
-
-  -- one more pair that stands for both forms of the next node
-  pub built_next : (v : FlatNode) (p : Numbers) → p.yes < length nodes → p.no < length nodes → stand_for nodes p ≡ both_of rewrite (both_in (built rewrite flat)) v → IsBuilt rewrite nodes (pairs ++ p ∷ []) (flat ++ v ∷ [])
-  built_next v p y n e = record {
-    yes_inside = λ k d l. elim (at k l) [
-      | inl m ↦ subst (λ (q : Numbers). q.yes < length nodes) (sym (get_or_append_left pairs (p ∷ []) d k m)) (b.yes_inside k d m)
-      | inr i ↦ subst (λ j. (slice_index_or (pairs ++ p ∷ []) j d).yes < length nodes) (sym i) (subst (λ (q : Numbers). q.yes < length nodes) (sym (index_last pairs p d)) y)
-    ];
-    no_inside = λ k d l. elim (at k l) [
-      | inl m ↦ subst (λ (q : Numbers). q.no < length nodes) (sym (get_or_append_left pairs (p ∷ []) d k m)) (b.no_inside k d m)
-      | inr i ↦ subst (λ j. (slice_index_or (pairs ++ p ∷ []) j d).no < length nodes) (sym i) (subst (λ (q : Numbers). q.no < length nodes) (sym (index_last pairs p d)) n)
-    ];
-    forms = map_push (stand_for nodes) pairs p ∙ (λ i. b.forms i ++ e i ∷ []) ∙ sym (built_push rewrite flat v);
-  }
-    where
-      at : (k : ℕ) → k < length (pairs ++ p ∷ []) → (k < length pairs) ⊎ (k ≡ length pairs)
-      at k l = let o = length-append pairs (p ∷ []) in last_or_below k (length pairs) (omega arith)
-
--- a step of the loop: among more nodes two numbers stand for both forms of the next node
-pub built_step : (rewrite : Bool) (nodes more : List Node) (pairs : List Numbers) (flat : List FlatNode) (v : FlatNode) (p : Numbers) (F G : Normal) → IsBuilt rewrite nodes pairs flat → IsMore nodes more
-    → StandsFor more p.yes F → StandsFor more p.no G → both_of rewrite (both_in (built rewrite flat)) v ≡ record { yes = F; no = G } → IsBuilt rewrite more (pairs ++ p ∷ []) (flat ++ v ∷ [])
-built_step rewrite nodes more pairs flat v p F G b m y n e =
-    let yes_tree = y.tree in
-    let no_tree = n.tree in
-    let both : stand_for more p ≡ record { yes = F; no = G } = λ i. record { yes = yes_tree i; no = no_tree i } in
-    built_next rewrite more pairs flat (built_more rewrite nodes pairs flat b more m) v p y.inside n.inside (both ∙ sym e)

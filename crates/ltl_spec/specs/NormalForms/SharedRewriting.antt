@@ -2,7 +2,6 @@
 use Rattle.std.specs.Prelude.{◌≡◌, ℕ, ◌<◌, ◌≤◌, Bool, false, List, length, ◌==◌, ◌||◌, ◌&&◌, if◌then◌else◌}
 use Rattle.ltl_spec.specs.NormalForms.Normal.{Normal, Top, Bottom}
 use Rattle.ltl_spec.specs.NormalForms.SharedNodes.{Node, NextNode, AndNode, OrNode, UntilNode, ReleaseNode, tree_of, tree_at, IsShared}
-use Rattle.ltl_spec.specs.NormalForms.BothPolarities.{Both}
 
 -- the second list has all nodes of the first, under their numbers
 pub record IsMore (nodes more : List Node) : Type 0 where
@@ -75,12 +74,3 @@ pub record HasConstants (nodes : List Node) (top bottom : ℕ) : Type 0 where
   pub bottom_inside : bottom < length nodes
   pub top_is : tree_at nodes top ≡ Top
   pub bottom_is : tree_at nodes bottom ≡ Bottom
-
--- the numbers of both forms of a formula
-pub record Numbers : Type 0 where
-  pub yes : ℕ
-  pub no : ℕ
-
--- what they stand for
-abbrev pub stand_for : List Node → Numbers → Both
-stand_for nodes p = record { yes = tree_at nodes p.yes; no = tree_at nodes p.no }

@@ -1,7 +1,8 @@
 use Rattle.std.proofs.Common.{◌≡◌, ℕ, ◌∷◌, [], ◌∙◌, ap, sym, subst, Result, Err, false}
 use Rattle.std.specs.Result.{IsErrOf, IsErrAnd}
 use Rattle.ltl_spec.specs.Collections.Sets.{Has}
-use Rattle.ltl_spec.specs.Transitions.Pairs.{RowSet}
+use Rattle.ltl_spec.specs.Transitions.Pairs.{Pair, RowSet}
+use Rattle.ltl_spec.specs.Transitions.RowTransitions.{with_marks}
 use Rattle.ltl_spec.specs.Automata.Automaton.{Automaton}
 use Rattle.ltl_spec.specs.Automata.Listing.{PassesLimits}
 use Rattle.ltl_spec.specs.Automata.Generalized.{same_row_set, root_set}
@@ -14,6 +15,7 @@ use Rattle.ltl_automaton.specs.declared.fault.AutomatonFault.{AutomatonFault}
 use Rattle.ltl_automaton.specs.declared.fault.AutomatonFault.TheVariants.{TooLarge}
 use Rattle.ltl_alt.specs.ReachView.{net_of}
 use Rattle.ltl_alt.specs.RowLists.{row_place}
+use Rattle.ltl_alt.specs.TransitionView.{table_at}
 use Rattle.ltl_alt.proofs.ElementaryLaws.{root_stands}
 use Rattle.ltl_alt.proofs.GbaLaws.{is_generalized, is_gba, is_too_large, is_not_too_large}
 use Rattle.ltl_alt.proofs.TransitionLaws.{untils_count}
@@ -37,6 +39,7 @@ explore_from-requires-clause-ready g c = (
       tests = c.in_ok-fulfilment.ensures;
       conjuncts = c.in_ok-conjuncts.ensures.conjuncts.0;
       all = c.in_ok-conjuncts.ensures.conjuncts.1;
+      neutral = c.in_ok-neutral.ensures ∙ ap (λ (p : Pair). with_marks (table_at c.args.table.now) p ∷ []) c.empty.ensures;
     },
     c.in_ok-finals.ensures,
     λ key state h. absurd (subst (λ es. Has es (key, state)) c.new-2.ensures h),
