@@ -15,6 +15,7 @@ pub mod KeyLaws
 pub mod MapLaws
 pub mod NeedsLaws
 pub mod OpenLaws
+pub mod OwnerLaws
 pub mod ConjunctTableLaws
 pub mod CountedLaws
 pub mod ConjunctLaws

@@ -36,7 +36,8 @@ use Rattle.ltl_alt.specs.BasisView.{IsBasisOf}
 use Rattle.ltl_alt.specs.declared.basis.Basis.{Basis}
 use Rattle.ltl_alt.specs.declared.fulfilment.Fulfilment.{Fulfilment}
 use Rattle.ltl_alt.specs.FinalView.{AreFactorsOf, AreLists, IsFinal, made_of}
-use Rattle.ltl_alt.specs.ConjunctTableView.{AreKeptBy, conjunct_of, dependency_of, links_of, numbers_of, numbers_in, AreLinked, HasEach, HasNoConjunct, IsComponent}
+use Rattle.ltl_alt.specs.OwnersView.{numbers_of, numbers_in}
+use Rattle.ltl_alt.specs.ConjunctTableView.{AreKeptBy, conjunct_of, dependency_of, links_of, AreLinked, HasEach, HasNoConjunct, IsComponent}
 use Rattle.ltl_alt.specs.TransitionView.{table_at}
 use Rattle.ltl_alt.specs.declared.rule.Rule.{Rule}
 use Rattle.ltl_formula.specs.TableView.{TableView, IsTable, core_of}

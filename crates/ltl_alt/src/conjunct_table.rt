@@ -8,9 +8,10 @@ ghost use Rattle.ltl_spec.specs.Transitions.RowTransitions as spec;
 ghost use Rattle.ltl_spec.proofs.Transitions.SameJoins.{AreSound};
 ghost use Rattle.ltl_alt.specs.declared.conjuncts.Conjunct.TheVariants as made_conjunct;
 ghost use Rattle.ltl_alt.specs.declared.rule.Rule as made_rule;
-ghost use Rattle.ltl_alt.specs.ConjunctTableView.{AreAdded, AreLinked, AreMade, HasAllParts, HasConjuncts, IsComponent};
-ghost use Rattle.ltl_alt.specs.ConjunctTableView.{HasEach, HasNoConjunct, IsLinked, IsRoom, links_of, numbers_in, conjunct_of};
-ghost use Rattle.ltl_alt.specs.ConjunctView.{AreFew, IsConjunct, conjunct_pairs};
+ghost use Rattle.ltl_alt.specs.ConjunctTableView.{AreAdded, AreFew, AreLinked, AreMade, HasAllParts, HasConjuncts, HasRoom, IsComponent};
+ghost use Rattle.ltl_alt.specs.ConjunctTableView.{HasEach, HasNoConjunct, IsLinked, IsRoom, links_of, conjunct_of};
+ghost use Rattle.ltl_alt.specs.ConjunctView.{IsConjunct, conjunct_pairs};
+ghost use Rattle.ltl_alt.specs.OwnersView.{numbers_in};
 ghost use Rattle.ltl_alt.specs.RowLists.{AreLists, IsListedRow};
 ghost use Rattle.ltl_alt.specs.StandIns.{IsListed, StandsFor};
 ghost use Rattle.ltl_alt.specs.Tests.{AreTests};
@@ -20,6 +21,7 @@ use crate::conjuncts::{Conjunct, conjunct_at, conjuncts};
 use crate::context::Context;
 use crate::fulfilment::Fulfilment;
 use crate::lists::both;
+use crate::owners::Owners;
 use crate::pair::Pair;
 use crate::pair_set::PairSet;
 use crate::place::{elementary_places, first, place, put_if};
@@ -34,7 +36,7 @@ use std::alloc::{AllocError, Allocator};
 #[derive(Drop)]
 pub(crate) struct ConjunctTable<'a, A: Allocator> {
     /// For each conjunct, the place of its row.
-    pub(crate) owners: Vec<usize, &'a A>,
+    pub(crate) owners: Owners<'a, A>,
     pub(crate) lists: Vec<PairSet<'a, A>, &'a A>,
     pub(crate) dependencies: Vec<Dependencies, &'a A>,
     /// For each conjunct, the conjuncts that may depend on it, itself among them.
@@ -72,7 +74,7 @@ impl<'a, A: Allocator> ConjunctTable<'a, A> {
         ensures made { result.made ≡ [] }
     {
         ConjunctTable {
-            owners: Vec::new(alloc),
+            owners: Owners::new(alloc),
             lists: Vec::new(alloc),
             dependencies: Vec::new(alloc),
             links: Vec::new(alloc),
@@ -97,7 +99,7 @@ impl<'a, A: Allocator> ConjunctTable<'a, A> {
     ) -> Result<(), AllocError>
         requires tests { AreTests (table_at table.now) fulfilment.now }
         requires linked { AreLinked (table_at table.now) self.old.lists.items self.old.dependencies.items self.old.links.items }
-        requires few { length self.old.lists.items < RowSet.LIMIT }
+        requires room { HasRoom place 1 self.old.owners.items self.old.lists.items }
         requires sound { AreSound pairs }
         ensures linked { OnOk result (AreLinked (table_at table.now) self.new.lists.items self.new.dependencies.items self.new.links.items) }
         ensures owners { OnOk result (self.new.owners.items ≡ self.old.owners.items ++ place ∷ []) }
@@ -124,7 +126,7 @@ impl<'a, A: Allocator> ConjunctTable<'a, A> {
         requires lists { AreLists context.now.table.now context.now.pruning.rule rows.old.pairs.items rows.old.sets.items }
         requires tests { AreTests (table_at context.now.table.now) context.now.pruning.fulfilment.now }
         requires linked { AreLinked (table_at context.now.table.now) self.old.lists.items self.old.dependencies.items self.old.links.items }
-        requires conjuncts { AreFew context.now.table.now conjuncts.now (length self.old.lists.items) }
+        requires conjuncts { AreFew context.now.table.now conjuncts.now place self.old.owners.items self.old.lists.items }
         ensures lists { OnOk result (AreLists context.now.table.now context.now.pruning.rule rows.new.pairs.items rows.new.sets.items) }
         ensures linked { OnOk result (AreLinked (table_at context.now.table.now) self.new.lists.items self.new.dependencies.items self.new.links.items) }
         ensures added { OnOk result (AreAdded (table_at context.now.table.now) context.now.pruning.rule place
@@ -197,20 +199,13 @@ impl<'a, A: Allocator> ConjunctTable<'a, A> {
 
     /// The conjuncts of all rows of a set, or `None` if the set has a place without a row.
     pub(crate) fn numbers(&self, state: &RowSet) -> Option<RowSet>
-        requires owned { (o : ℕ) → Has self.now.owners.items o → Has self.now.made o }
-        requires few { length self.now.owners.items ≤ RowSet.LIMIT }
         ensures { MatchOption result (HasNoConjunct self.now.made state.now) (λ all. all ≡ numbers_in self.now.owners.items state.now
             × HasEach self.now.made state.now) }
     {
         if !state.is_subset(&self.made) {
             return None;
         }
-        self.made.invariant();
-        let mut numbers = RowSet::empty();
-        'conjuncts: for k in 0..self.owners.len() {
-            put_if(&mut numbers, k, state.contains(self.owners[k]));
-        }
-        Some(numbers)
+        Some(self.owners.conjuncts_of(state))
     }
 
     /// The conjuncts that are linked with the one of this number.

@@ -139,6 +139,7 @@ impl<'a, A: Allocator> Finals<'a, A> {
     }
 
     /// The number of the transitions of a component. The answer is remembered.
+    #[inline(always)]
     pub(crate) fn number(
         &mut self,
         basis: &Basis<'_, '_, '_, 'a, A>,

@@ -60,6 +60,7 @@ mod marks;
 mod memo;
 mod needs;
 pub mod of_table;
+mod owners;
 pub mod pair;
 pub mod pair_set;
 mod place;

@@ -11,7 +11,7 @@ use crate::roots::open_steps;
 use crate::rule::{Pruning, Rule};
 use crate::support::Support;
 use least::Lookup;
-use ltl_automaton::sort_dedup;
+use ltl_automaton::sort_runs_dedup;
 use ltl_sets::RowSet;
 use std::alloc::{AllocError, Allocator};
 
@@ -91,7 +91,8 @@ fn kept<'a, A: Allocator>(
     }
 }
 
-/// The pairs that no other, smaller pair may replace by the rule, sorted and without duplicates. They are sorted last, since most are removed.
+/// The pairs that no other, smaller pair may replace by the rule, sorted and without duplicates. They are sorted last, since most are removed, and by runs,
+/// since the joins with one pair often stay in the order of the other pairs.
 pub(crate) fn prune<'a, A: Allocator>(
     alloc: &'a A,
     pruning: &Pruning<'_, '_, A>,
@@ -100,6 +101,6 @@ pub(crate) fn prune<'a, A: Allocator>(
     ensures { IfOk result (λ v. IsPruned pruning.now.rule pruning.now.fulfilment.now pairs.entry.items v.items) }
 {
     let mut kept = kept(alloc, pruning, pairs)?;
-    sort_dedup(&mut kept);
+    sort_runs_dedup(&mut kept)?;
     Ok(kept)
 }

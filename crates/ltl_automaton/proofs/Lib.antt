@@ -3,5 +3,6 @@ pub mod NetLaws
 pub mod ReachableLaws
 pub mod SharedLaws
 pub mod WayLaws
+pub mod SortingLaws
 pub mod TableLaws
 pub mod RelabelLaws

@@ -60,6 +60,7 @@ impl<'a, A: Allocator> CodedBuilder<'a, A> {
         ensures states { OnOk result (self.new.states ≡ self.old.states) }
         ensures once { AreOnce (met_of self.old) → OnOk result (AreOnce (met_of self.new)) }
     {
+        self.cubes.make_room(steps.len())?;
         let mut coded = Vec::with_capacity(self.alloc, steps.len())?;
         for i in 0..steps.len() {
             let edge = steps[i].edge_to(targets[i]);

@@ -34,6 +34,7 @@ fn numbered<'a, K: Key, E: EdgeType, T: Step<K, E>, A: Allocator>(
     ensures fits { OnOk result (length listing.new.keys ≤ most) }
     ensures large { IsErrOf result AutomatonFault.TooLarge → most < length (fold (with_new K.eq) listing.old.keys (map key_of (map T.move_of steps.now))) }
 {
+    listing.make_room(steps.len())?;
     let mut targets = Vec::with_capacity(alloc, steps.len())?;
     for step in steps {
         let target = listing.number(step.key())?;

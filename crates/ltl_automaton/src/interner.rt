@@ -32,6 +32,17 @@ impl<'a, K: Eq + Hash + Drop, A: Allocator> Interner<'a, K, A> {
         }
     }
 
+    /// Makes room for `count` more values if there are fewer values so far. The table then grows once and not step by step. In the worst case half of its
+    /// room isn't needed.
+    pub fn make_room(&mut self, count: usize) -> Result<(), AllocError>
+        ensures { self.new ≡ self.old }
+    {
+        if count > self.len() {
+            self.things.reserve(count)?;
+        }
+        Ok(())
+    }
+
     /// The number of different values.
     pub fn len(&self) -> usize
         ensures { result ≡ length self.now.keys }

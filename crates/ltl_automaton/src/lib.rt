@@ -68,7 +68,7 @@ pub use label_table::LabelTable;
 pub use labels::{Edges, Labels};
 pub use level::next_level;
 pub use shared::{SharedState, SharedStates};
-pub use sorting::{ListOrder, sort_dedup};
+pub use sorting::{ListOrder, sort_dedup, sort_runs_dedup};
 pub use step::Step;
 pub use successors::Successors;
 pub use worklist::{Key, Worklist};

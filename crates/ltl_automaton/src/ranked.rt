@@ -6,7 +6,7 @@ ghost use Rattle.ltl_spec.specs.Collections.Sets.{set_of};
 ghost use Rattle.ltl_automaton.specs.LabelTables.{AreRanks};
 
 use crate::interner::Interner;
-use crate::sorting::{ListOrder, sort_dedup};
+use crate::sorting::{ListOrder, sort_runs_dedup};
 use std::alloc::{AllocError, Allocator};
 use std::hash::Hash;
 
@@ -39,7 +39,7 @@ fn sorted<'a, T: ListOrder + Eq + Hash, A: Allocator>(
     for number in 0..values.len() {
         sorted.push(*values.get(number))?;
     }
-    sort_dedup(&mut sorted);
+    sort_runs_dedup(&mut sorted)?;
     Ok(sorted)
 }
 

@@ -1,12 +1,12 @@
 //! Lists as sets: sorted by a linear order, without duplicates.
 
-ghost use Rattle.std.specs.Prelude.{◌≡◌};
+ghost use Rattle.std.specs.Prelude.{◌≡◌, true, OnOk};
 ghost use Rattle.std.specs.Bool.{Decides};
 ghost use Rattle.std.specs.declared.cmp.Ordering.{Ordering};
-ghost use Rattle.ltl_spec.specs.Collections.Sets.{set_of, IsLinearOrder};
+ghost use Rattle.ltl_spec.specs.Collections.Sets.{set_of, IsLinearOrder, IsRising};
 
 use ltl_sets::{Cube, RowSet};
-use std::alloc::Allocator;
+use std::alloc::{AllocError, Allocator};
 use std::cmp::Ordering;
 
 /// Values with a linear order: only equal values compare as `Equal`.
@@ -56,10 +56,34 @@ impl ListOrder for RowSet {
     ghost decides = { bytes_decides };
 }
 
-/// Sorts the items by `cmp_list`, and removes duplicates.
+/// Whether each item is less than the next one.
+fn is_rising<T: ListOrder>(items: &[T]) -> bool
+    ensures { result ≡ true → IsRising T.order items.now }
+{
+    for k in 1..items.len() {
+        if items[k - 1].cmp_list(&items[k]) != Ordering::Less {
+            return false;
+        }
+    }
+    true
+}
+
+/// Sorts the items by `cmp_list`, and removes duplicates. Items that are in order already are only compared.
 pub fn sort_dedup<T: ListOrder, A: Allocator>(items: &mut Vec<T, &A>)
     ensures { items.new.items ≡ set_of T.order items.old.items }
 {
+    if is_rising(items.as_slice()) {
+        return;
+    }
     items.sort_unstable_by(|x, y| x.cmp_list(y));
     items.dedup();
+}
+
+/// The same for items that have long sorted runs. The sort finds them and merges them, and takes memory.
+pub fn sort_runs_dedup<T: ListOrder, A: Allocator>(items: &mut Vec<T, &A>) -> Result<(), AllocError>
+    ensures { OnOk result (items.new.items ≡ set_of T.order items.old.items) }
+{
+    items.sort_by(|x, y| x.cmp_list(y))?;
+    items.dedup();
+    Ok(())
 }

@@ -79,6 +79,13 @@ impl<'a, K: Key, A: Allocator> Worklist<'a, K, A> {
         }
     }
 
+    /// Makes room for `count` more keys if there are fewer so far.
+    pub(crate) fn make_room(&mut self, count: usize) -> Result<(), AllocError>
+        ensures { self.new ≡ self.old }
+    {
+        self.keys.make_room(count)
+    }
+
     /// The number of a key, if it is listed.
     pub fn place(&self, key: K) -> Option<usize>
         ensures { IfSome result (λ i. slice_get self.now.keys i ≡ Some key) }

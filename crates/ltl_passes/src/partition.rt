@@ -149,6 +149,7 @@ fn least_alike<'a, A: Allocator>(
     ensures { IfOk result (λ v. IsLeastAlike (length states.now.states) (place_signature states.now.states list_signatures.now) v.items) }
 {
     let mut places: StateInterner<'a, A> = Interner::new(alloc);
+    places.make_room(states.len())?;
     let signatures = state_signatures(alloc, &mut places, states, list_signatures)?;
     least_places(alloc, signatures.as_slice(), places.len())
 }
@@ -165,6 +166,7 @@ fn next_names<'a, A: Allocator>(
 {
     states.invariant();
     let mut seen: ListInterner<'a, A> = Interner::new(alloc);
+    seen.make_room(states.list_count())?;
     let signatures = list_signatures_under(alloc, &mut seen, states, names)?;
     least_alike(alloc, states, signatures.as_slice())
 }

@@ -1,6 +1,6 @@
 //! An output buffer of 16 KiB.
 
-ghost use Rattle.std.specs.Prelude.{◌≡◌, ◌+◌, ◌≤◌, [], ◌++◌, length, OnOk, OnErr};
+ghost use Rattle.std.specs.Prelude.{◌≡◌, ◌↔◌, ◌+◌, ◌≤◌, [], ◌++◌, length, take, IsTrue, OnOk, OnErr};
 ghost use Rattle.ltl_streams.specs.Streams.{Takes, Breaks};
 ghost use Rattle.ltl_streams.specs.Sending.{Puts};
 
@@ -39,12 +39,12 @@ impl OutputBuffer {
         }
     }
 
-    /// The number of bytes that still fit.
+    /// Whether so many bytes still fit.
     #[inline(always)]
-    fn room(&self) -> usize
-        ensures { result + length self.now ≡ 16384 }
+    fn fits(&self, count: usize) -> bool
+        ensures { IsTrue result ↔ (count + length self.now ≤ 16384) }
     {
-        SIZE - self.len
+        count <= SIZE && self.len <= SIZE - count
     }
 
     /// Appends bytes that fit.
@@ -56,6 +56,18 @@ impl OutputBuffer {
         let end = self.len + bytes.len();
         self.bytes[self.len..end].copy_from_slice(bytes);
         self.len = end;
+    }
+
+    /// Appends the first `count` bytes. All 16 are copied, which is faster; those behind `count` aren't content of the buffer.
+    #[inline(always)]
+    fn hold_first(&mut self, bytes: &[u8; 16], count: usize)
+        requires first { count ≤ 16 }
+        requires room { 16 + length self.old ≤ 16384 }
+        ensures { self.new ≡ self.old ++ take count bytes.now }
+    {
+        let end = self.len + 16;
+        self.bytes[self.len..end].copy_from_slice(bytes.as_slice());
+        self.len += count;
     }
 
     /// Writes the buffered bytes and empties the buffer. An empty buffer causes no call of the sink.
@@ -74,11 +86,29 @@ impl OutputBuffer {
     pub fn put<S: ByteSink>(&mut self, bytes: &[u8], sink: &mut S) -> Result<(), WriteFault>
         ensures { Puts result (S.state sink.old) self.old (S.state sink.new) self.new bytes.now }
     {
-        if bytes.len() <= self.room() {
+        if self.fits(bytes.len()) {
             self.hold(bytes);
             return Ok(());
         }
         self.put_after_send(bytes, sink)
+    }
+
+    /// The same as `put` of the first `count` bytes. If all 16 fit, they are copied at once, which is faster.
+    #[inline(always)]
+    pub fn put_first<S: ByteSink>(
+        &mut self,
+        bytes: &[u8; 16],
+        count: usize,
+        sink: &mut S,
+    ) -> Result<(), WriteFault>
+        requires { count ≤ 16 }
+        ensures { Puts result (S.state sink.old) self.old (S.state sink.new) self.new (take count bytes.now) }
+    {
+        if self.fits(16) {
+            self.hold_first(bytes, count);
+            return Ok(());
+        }
+        self.put(&bytes[..count], sink)
     }
 
     /// Writes the buffered bytes, and then appends the bytes to the empty buffer if they fit.
@@ -88,7 +118,7 @@ impl OutputBuffer {
         ensures { Puts result (S.state sink.old) self.old (S.state sink.new) self.new bytes.now }
     {
         self.send(sink)?;
-        if bytes.len() <= self.room() {
+        if self.fits(bytes.len()) {
             self.hold(bytes);
             return Ok(());
         }

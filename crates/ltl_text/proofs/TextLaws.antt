@@ -3,7 +3,8 @@ use Rattle.std.proofs.Common.{◌≡◌, ◌∙◌, ap, sym, refl, subst, ℕ, L
 use Rattle.std.proofs.Common.{inl, inr, ◌<◌, suc, arith}
 use Rattle.std.specs.List.{All}
 use Rattle.std.specs.Prelude.{codes, map}
-use Rattle.std.specs.List.{flat_map}
+use Rattle.std.specs.List.{AllByRecursion, flat_map}
+use Rattle.ltl_spec.proofs.Collections.SetLaws.{all_at}
 use Rattle.ltl_spec.specs.Collections.Lists.{joined_by}
 use Rattle.ltl_spec.specs.Semantics.Word.{Name}
 use Rattle.ltl_spec.specs.Transitions.Cubes.{Literal, Cube}
@@ -63,6 +64,10 @@ module _ (names : List Name) where
 module _ (n : ℕ) (c : Cube) (ls : List made.Literal) (is : cube_of ls ≡ c) (h : HasNames n c) where
   pub has_names : HasNames n (cube_of ls)
   has_names = subst (HasNames n) (sym is) h
+
+-- of each literal
+pub names_by_each : (n : ℕ) (c : Cube) → AllByRecursion (λ l. l.proposition < n) c → HasNames n c
+names_by_each n c a l h = all_at (λ (x : Literal). x.proposition < n) c l a h
 
 module _ (n : ℕ) (l : made.Literal) (ls rest : List made.Literal) (e : rest ≡ l ∷ ls) (h : HasNames n (cube_of rest)) where
   cons_names : HasNames n (cube_of (l ∷ ls))

@@ -2,6 +2,7 @@ pub mod Blocks
 pub mod HoaPieces
 pub mod Names
 pub mod Options
+pub mod Prepared
 pub mod ReadBack
 pub mod Writing
 pub use Rattle.ltl_hoa.specs.MarkedView

@@ -10,6 +10,7 @@ ghost use Rattle.ltl_text.specs.Blocks.{blocks_text, others_text};
 ghost use Rattle.ltl_text.specs.Writing.{Writes};
 
 use crate::label::{put_label, skip_state};
+use crate::literal_texts::LiteralTexts;
 use crate::options::put_options;
 use crate::output::Output;
 use ltl_models::Ba;
@@ -21,15 +22,15 @@ use std::io::Write;
 /// Writes the lines below the label of a state.
 fn put_body<A: Allocator, B: Allocator, S: ByteSink>(
     automaton: &Ba<'_, A>,
-    formula: &Formula<'_, B>,
+    texts: &LiteralTexts<'_, '_, B>,
     skip: usize,
     k: usize,
     output: &mut Output<'_, S>,
 ) -> Result<(), WriteFault>
     requires within { k < length automaton.now.states }
-    requires named { HasNamesBelow (length formula.now.names) automaton.now }
+    requires named { HasNamesBelow (length texts.now) automaton.now }
     requires least { skip ≡ claim.skip_state automaton.now }
-    ensures { Writes S.state result output.old output.new (claim.body automaton.now formula.now.names k) }
+    ensures { Writes S.state result output.old output.new (claim.body automaton.now texts.now k) }
 {
     if k == skip {
         return output.put(b"\tskip\n");
@@ -38,44 +39,44 @@ fn put_body<A: Allocator, B: Allocator, S: ByteSink>(
         return output.put(b"\tfalse;\n");
     }
     output.put(b"\tif\n")?;
-    put_options(automaton, formula, skip, k, output)?;
+    put_options(automaton, texts, skip, k, output)?;
     output.put(b"\tfi;\n")
 }
 
 /// Writes a state: its label and the lines below it.
 fn put_block<A: Allocator, B: Allocator, S: ByteSink>(
     automaton: &Ba<'_, A>,
-    formula: &Formula<'_, B>,
+    texts: &LiteralTexts<'_, '_, B>,
     skip: usize,
     k: usize,
     output: &mut Output<'_, S>,
 ) -> Result<(), WriteFault>
     requires within { k < length automaton.now.states }
-    requires named { HasNamesBelow (length formula.now.names) automaton.now }
+    requires named { HasNamesBelow (length texts.now) automaton.now }
     requires least { skip ≡ claim.skip_state automaton.now }
-    ensures { Writes S.state result output.old output.new (claim.block automaton.now formula.now.names k) }
+    ensures { Writes S.state result output.old output.new (claim.block automaton.now texts.now k) }
 {
     put_label(automaton, skip, k, output)?;
     output.put(b":\n")?;
-    put_body(automaton, formula, skip, k, output)
+    put_body(automaton, texts, skip, k, output)
 }
 
 /// Writes all states but `skip`.
 fn put_others<A: Allocator, B: Allocator, S: ByteSink>(
     automaton: &Ba<'_, A>,
-    formula: &Formula<'_, B>,
+    texts: &LiteralTexts<'_, '_, B>,
     skip: usize,
     output: &mut Output<'_, S>,
 ) -> Result<(), WriteFault>
-    requires named { HasNamesBelow (length formula.now.names) automaton.now }
+    requires named { HasNamesBelow (length texts.now) automaton.now }
     requires least { skip ≡ claim.skip_state automaton.now }
-    ensures { Writes S.state result output.old output.new (others_text automaton.now formula.now.names) }
+    ensures { Writes S.state result output.old output.new (others_text automaton.now texts.now) }
 {
     for k in 0..automaton.len() {
         if k == skip {
             continue;
         }
-        put_block(automaton, formula, skip, k, output)?;
+        put_block(automaton, texts, skip, k, output)?;
     }
     Ok(())
 }
@@ -83,18 +84,18 @@ fn put_others<A: Allocator, B: Allocator, S: ByteSink>(
 /// Writes all states, `accept_all` last.
 fn put_blocks<A: Allocator, B: Allocator, S: ByteSink>(
     automaton: &Ba<'_, A>,
-    formula: &Formula<'_, B>,
+    texts: &LiteralTexts<'_, '_, B>,
     output: &mut Output<'_, S>,
 ) -> Result<(), WriteFault>
-    requires { HasNamesBelow (length formula.now.names) automaton.now }
-    ensures { Writes S.state result output.old output.new (blocks_text automaton.now formula.now.names) }
+    requires { HasNamesBelow (length texts.now) automaton.now }
+    ensures { Writes S.state result output.old output.new (blocks_text automaton.now texts.now) }
 {
     let skip = skip_state(automaton);
-    put_others(automaton, formula, skip, output)?;
+    put_others(automaton, texts, skip, output)?;
     if skip >= automaton.len() {
         return Ok(());
     }
-    put_block(automaton, formula, skip, skip, output)
+    put_block(automaton, texts, skip, skip, output)
 }
 
 /// Writes the automaton as a never claim of Spin, with the formula in a comment. State 0 is named `accept_init` or `T0_init`. The least accepting
@@ -113,7 +114,8 @@ pub fn put_claim<A: Allocator, B: Allocator, S: ByteSink>(
     put_text(formula, sink)?;
     let mut output = Output::new(sink);
     output.put(b" */\n")?;
-    put_blocks(automaton, formula, &mut output)?;
+    let texts = LiteralTexts::new(formula);
+    put_blocks(automaton, &texts, &mut output)?;
     output.put(b"}\n")?;
     output.send()
 }

@@ -5,8 +5,9 @@
 //! `ltl_hoa`, is exported here too, so that users of texts need this crate alone.
 //!
 //! What flows: a printer takes an automaton and its formula, whose text and names go into the output. It looks up the labels of each edge as it prints
-//! the edge (`Edges` of `ltl_models`). It writes to a buffer of 16 KiB, and from there to a sink (`put_claim`, `put_hoa`, `put_generalized`) or to a
-//! standard writer. It allocates nothing. The first error of the sink ends it; a prefix of the text was written then.
+//! the edge (`Edges` of `ltl_models`). The printer of claims prepares the texts of all literals once, and copies them (`LiteralTexts`). Each printer
+//! writes to a buffer of 16 KiB, and from there to a sink (`put_claim`, `put_hoa`, `put_generalized`) or to a standard writer. It allocates nothing. The
+//! first error of the sink ends it; a prefix of the text was written then.
 //!
 //! ```
 //! let mut text = Vec::new(alloc);
@@ -22,6 +23,7 @@ mod guard;
 mod hoa;
 mod label;
 pub mod laws;
+mod literal_texts;
 mod options;
 mod output;
 

@@ -13,10 +13,10 @@ ghost use Rattle.ltl_text.specs.Writing.{Writes};
 
 use crate::guard::put_guard;
 use crate::label::put_label;
+use crate::literal_texts::LiteralTexts;
 use crate::output::Output;
 use ltl_models::{Ba, Edges};
 use ltl_streams::{ByteSink, WriteFault};
-use ltl_syntax::Formula;
 use std::alloc::Allocator;
 
 /// The number of positions at the beginning of the list whose edges lead to this target.
@@ -36,20 +36,20 @@ fn group_len(edges: &Edges<'_>, places: &[usize], target: usize) -> usize
 fn put_guards<A: Allocator, S: ByteSink>(
     edges: &Edges<'_>,
     places: &[usize],
-    formula: &Formula<'_, A>,
+    texts: &LiteralTexts<'_, '_, A>,
     output: &mut Output<'_, S>,
 ) -> Result<(), WriteFault>
     requires within { All (λ p. p < length edges.now.coded.now) places.now }
-    requires named { AllHaveNames (length formula.now.names) (edges_in edges.now) }
-    ensures { Writes S.state result output.old output.new (guards_text formula.now.names (edges_in edges.now) places.now) }
+    requires named { AllHaveNames (length texts.now) (edges_in edges.now) }
+    ensures { Writes S.state result output.old output.new (guards_text texts.now (edges_in edges.now) places.now) }
 {
     let Some((first, others)) = places.split_first() else {
         return Ok(());
     };
-    put_guard(&edges.get(*first).cube, formula, output)?;
+    put_guard(&edges.get(*first).cube, texts, output)?;
     for place in others {
         output.put(b" || ")?;
-        put_guard(&edges.get(*place).cube, formula, output)?;
+        put_guard(&edges.get(*place).cube, texts, output)?;
     }
     Ok(())
 }
@@ -57,15 +57,15 @@ fn put_guards<A: Allocator, S: ByteSink>(
 /// Writes the options of a state, ordered by target. `skip` is the state that is named `accept_all`.
 pub fn put_options<A: Allocator, B: Allocator, S: ByteSink>(
     automaton: &Ba<'_, A>,
-    formula: &Formula<'_, B>,
+    texts: &LiteralTexts<'_, '_, B>,
     skip: usize,
     k: usize,
     output: &mut Output<'_, S>,
 ) -> Result<(), WriteFault>
     requires within { k < length automaton.now.states }
-    requires named { HasNamesBelow (length formula.now.names) automaton.now }
+    requires named { HasNamesBelow (length texts.now) automaton.now }
     requires least { skip ≡ skip_state automaton.now }
-    ensures { Writes S.state result output.old output.new (options_text automaton.now formula.now.names (state_at automaton.now k)) }
+    ensures { Writes S.state result output.old output.new (options_text automaton.now texts.now (state_at automaton.now k)) }
 {
     let edges = automaton.edges(k);
     let mut rest = automaton.by_target(k);
@@ -73,7 +73,7 @@ pub fn put_options<A: Allocator, B: Allocator, S: ByteSink>(
         let target = edges.coded[*place].target;
         let (group, others) = rest.split_at(group_len(&edges, rest, target));
         output.put(b"\t:: ")?;
-        put_guards(&edges, group, formula, output)?;
+        put_guards(&edges, group, texts, output)?;
         output.put(b" -> goto ")?;
         put_label(automaton, skip, target, output)?;
         output.put(b"\n")?;

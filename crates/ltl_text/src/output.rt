@@ -1,6 +1,6 @@
 //! Buffered output to a sink.
 
-ghost use Rattle.std.specs.Prelude.{◌≡◌, [], OnOk, OnErr};
+ghost use Rattle.std.specs.Prelude.{◌≡◌, ◌≤◌, [], take, OnOk, OnErr};
 ghost use Rattle.ltl_streams.specs.Streams.{Breaks, Takes};
 ghost use Rattle.ltl_text.specs.Writing.{Writes};
 
@@ -32,6 +32,15 @@ impl<'s, S: ByteSink> Output<'s, S> {
         ensures { Writes S.state result self.old self.new bytes.now }
     {
         self.buffer.put(bytes, self.sink)
+    }
+
+    /// The same as `put` of the first `count` bytes, as `put_first` of `OutputBuffer` does.
+    #[inline(always)]
+    pub fn put_first(&mut self, bytes: &[u8; 16], count: usize) -> Result<(), WriteFault>
+        requires { count ≤ 16 }
+        ensures { Writes S.state result self.old self.new (take count bytes.now) }
+    {
+        self.buffer.put_first(bytes, count, self.sink)
     }
 
     /// Writes the buffered bytes. It has to be the last call, since dropping the output writes nothing.

@@ -2,4 +2,4 @@ use Rattle.ltl_alt.proofs.PruneLaws.{pruned_once}
 use Rattle.ltl_alt.proofs.prune.prune.Goals as goal
 
 pub returns : goal.returns
-returns g c = pruned_once c.args.pruning.now.rule c.args.pruning.now.fulfilment.now c.args.pairs.items c.in_ok-kept.kept.items c.sort_dedup.new.items.items c.in_ok-kept.ensures c.sort_dedup.ensures
+returns g c = pruned_once c.args.pruning.now.rule c.args.pruning.now.fulfilment.now c.args.pairs.items c.in_ok-kept.kept.items _ c.in_ok-kept.ensures c.in_ok-sort_runs_dedup.ensures

@@ -17,4 +17,4 @@ least_places-requires g c =
     let n = length c.args.states.now.states in
     let view = place_signature c.args.states.now.states c.args.list_signatures.now in
     let within : All (λ i. i < length c.state_signatures.new.places.keys) c.in_ok-signatures.signatures.items = laws.signatures_within n view _ c.in_ok-signatures.signatures.items c.in_ok-signatures.ensures in
-    record { within = subst (λ m. All (λ i. i < m) c.as_slice.result.now) (sym c.len.ensures) (subst (All (λ i. i < length c.state_signatures.new.places.keys)) (sym c.as_slice.ensures.value) within) }
+    record { within = subst (λ m. All (λ i. i < m) c.as_slice.result.now) (sym c.len-2.ensures) (subst (All (λ i. i < length c.state_signatures.new.places.keys)) (sym c.as_slice.ensures.value) within) }

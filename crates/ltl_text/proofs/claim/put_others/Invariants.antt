@@ -6,4 +6,4 @@ use Rattle.ltl_text.proofs.claim.put_others.Given as goal
 abbrev pub invariant-loop-k : goal.invariant-loop-k
 invariant-loop-k g l =
     Remains g.S.ByteSink.state l.fn.output l.output
-    (others_from l.automaton l.formula.names l.k) (others_text l.automaton l.formula.names)
+    (others_from l.automaton l.texts l.k) (others_text l.automaton l.texts)

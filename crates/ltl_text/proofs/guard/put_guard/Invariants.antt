@@ -9,7 +9,8 @@ use Rattle.ltl_text.proofs.guard.put_guard.Given as goal
 
 abbrev pub invariant-loop-literal : goal.invariant-loop-literal
 invariant-loop-literal g l = record {
-  named : HasNames (length l.formula.names) (cube_of l.literal-iterator);
+  named : HasNames (length l.texts) (cube_of l.literal-iterator);
+  below : HasNames 256 (cube_of l.literal-iterator);
   text : Remains g.S.ByteSink.state l.fn.output l.output
-      (led (codes " && ") (texts_of l.formula.names l.literal-iterator) ++ codes ")") (cube_text l.formula.names l.cube);
+      (led (codes " && ") (texts_of l.texts l.literal-iterator) ++ codes ")") (cube_text l.texts l.cube);
 }

@@ -10,5 +10,5 @@ abbrev pub invariant-loop-place : goal.invariant-loop-place
 invariant-loop-place g l = record {
   within : All (λ p. p < length l.edges.coded.now) l.others;
   text : Remains g.S.ByteSink.state l.fn.output l.output
-      (led (codes " || ") (guards_of l.formula.names (edges_in l.edges) (drop l.place-index l.others))) (guards_text l.formula.names (edges_in l.edges) l.places);
+      (led (codes " || ") (guards_of l.texts (edges_in l.edges) (drop l.place-index l.others))) (guards_text l.texts (edges_in l.edges) l.places);
 }

@@ -14,8 +14,8 @@ invariant-options g l = record {
   within : All (λ p. p < length l.edges.coded.now) l.rest;
   rising : IsRising (place_cmp (target_at (edges_in l.edges))) l.rest;
   text : Remains g.S.ByteSink.state l.fn.output l.output
-      (entries (target_at (edges_in l.edges)) (option_text l.automaton l.formula.names (edges_in l.edges)) l.rest)
-      (options_text l.automaton l.formula.names (state_at l.automaton l.k));
+      (entries (target_at (edges_in l.edges)) (option_text l.automaton l.texts (edges_in l.edges)) l.rest)
+      (options_text l.automaton l.texts (state_at l.automaton l.k));
 }
 
 abbrev pub decreases-options : goal.decreases-options

@@ -12,11 +12,12 @@ use Rattle.ltl_automaton.proofs.coded_builder.CodedBuilder.coded_edges.Goals as 
 
 pub loop-i-init : goal.loop-i-init
 loop-i-init g c =
-    let t = met_of c.args.self.now in
+    let t : Tables = record { cubes = c.make_room.new.self.keys; marks = c.args.self.now.marks.keys } in
     record { more = extends_none t; made = subst (AreMade t c.in_ok-coded.coded.items) (sym (edges_to_none _)) (none_made t c.in_ok-coded.coded.items c.in_ok-coded.ensures.items); states = refl; once = λ h. h }
 
 pub loop-i-preserved : goal.loop-i-preserved
 loop-i-preserved g c =
+    let t : Tables = record { cubes = c.make_room.new.self.keys; marks = c.args.self.now.marks.keys } in
     let before = met_of c.loop-i.self in
     let after : Tables = record { cubes = c.number.new.self.keys; marks = c.number-in-loop-i.new.self.keys } in
     let e = c.edge_to-edge.result in
@@ -27,7 +28,7 @@ loop-i-preserved g c =
     let next = edges_to_at g.T.Step.move_of c.args.steps.now c.args.targets.now i c.index-steps-i.result n 0 c.loop-i-test.true within c.index-steps-i.is refl in
     let grown = extends_next (pointwise nat_eq) before after e.cube e.marks c.in_ok-number.ensures.keys c.in_ok-number-2.ensures.keys in
     record {
-      more = extends_on (met_of c.args.self.now) before after c.loop-i.invariant.more grown;
+      more = extends_on t before after c.loop-i.invariant.more grown;
       made = coded_next after c.loop-i.coded.items c.push.new.self.items _ es _ (edge_of e) (made_stay before after grown c.loop-i.coded.items _ c.loop-i.invariant.made)
           (ap (slice_get after.cubes) c.in_ok-narrow.ensures ∙ met_there same_cube cube_Decides after.cubes e.cube _ c.in_ok-number.ensures.stored)
           (ap (slice_get after.marks) c.in_ok-narrow-2.ensures ∙ met_there (pointwise nat_eq) bytes_decides after.marks e.marks _ c.in_ok-number-2.ensures.stored)
