@@ -11,11 +11,11 @@ use Rattle.ltl_spec.specs.Transitions.RowTransitions.{Table, is_marked, place}
 use Rattle.ltl_spec.proofs.Collections.ListLaws.{Has-at}
 use Rattle.ltl_spec.proofs.Transitions.IndependenceTests.{Support}
 use Rattle.ltl_spec.proofs.Transitions.SupportTests.{AllTell, all_tell_next, step_leaves}
-use Rattle.ltl_spec.proofs.Transitions.Fulfilment.{Coming, code, passes, until_test}
+use Rattle.ltl_spec.proofs.Transitions.Fulfilment.{passes, until_test}
 use Rattle.ltl_spec.proofs.Transitions.FulfilmentLaws.{marked_by_test}
 use Rattle.ltl_spec.proofs.Transitions.JoinLaws.{IsConsistent}
-use Rattle.ltl_spec.proofs.Transitions.StepLaws.{answer_at, answers_next, codes_next, tests_length, tests_next}
-use Rattle.ltl_spec.proofs.Transitions.Steps.{step_code, step_passes, step_test, test_at, tests_of}
+use Rattle.ltl_spec.proofs.Transitions.StepLaws.{answer_at, answers_next, tests_length, tests_next}
+use Rattle.ltl_spec.proofs.Transitions.Steps.{step_passes, step_test, test_at, tests_of}
 use Rattle.ltl_alt.specs.Tests.{AreLeaves, AreTests, step_of, steps_of}
 use Rattle.ltl_alt.specs.declared.fulfilment.Fulfilment.{Fulfilment}
 use Rattle.ltl_alt.specs.declared.fulfilment.UntilTest.{UntilTest}
@@ -30,13 +30,6 @@ pub answers_step : (p : Pair) (ss : List Step) (k : ℕ) (s : Step) (old new : L
 answers_step p ss k s old new c l e f g h =
     let d : c ≡ step_passes p (map (passes p) (tests_of (steps_of (take k ss)))) (step_of s) = g ∙ ap (λ o. step_passes p o (step_of s)) h in
     f ∙ (λ i. h i ++ d i ∷ []) ∙ sym (answers_next p (steps_of (take k ss)) (step_of s)) ∙ ap (λ xs. map (passes p) (tests_of xs)) (sym (steps_take ss k s l e))
-
--- one code more
-pub codes_step : (r : Coming) (p : Pair) (ss : List Step) (k : ℕ) (s : Step) (old new : List ℕ) (c : ℕ) → k < length ss → s ≡ slice_index_or ss k s → new ≡ old ++ c ∷ [] → c ≡ step_code r p old (step_of s)
-    → old ≡ map (code r p) (tests_of (steps_of (take k ss))) → new ≡ map (code r p) (tests_of (steps_of (take (k + 1) ss)))
-codes_step r p ss k s old new c l e f g h =
-    let d : c ≡ step_code r p (map (code r p) (tests_of (steps_of (take k ss)))) (step_of s) = g ∙ ap (λ o. step_code r p o (step_of s)) h in
-    f ∙ (λ i. h i ++ d i ∷ []) ∙ sym (codes_next r p (steps_of (take k ss)) (step_of s)) ∙ ap (λ xs. map (code r p) (tests_of xs)) (sym (steps_take ss k s l e))
 
 -- what one step more speaks of
 pub leaves_step : (ss : List Step) (k : ℕ) (s : Step) (old new : List Support) (v : Support) → k < length ss → s ≡ slice_index_or ss k s → new ≡ old ++ v ∷ [] → v ≡ step_leaves old (step_of s)

@@ -1,7 +1,7 @@
 pub mod SupportLaws
 pub mod ColumnLaws
-pub mod BlockLaws
-pub mod CodedLaws
+pub mod WantedLaws
+pub mod LackLaws
 pub mod ElementaryLaws
 pub mod FinalLaws
 pub mod FulfilLaws
@@ -14,7 +14,6 @@ pub mod ListsLaws
 pub mod KeyLaws
 pub mod MapLaws
 pub mod NeedsLaws
-pub mod OpenLaws
 pub mod OwnerLaws
 pub mod ConjunctTableLaws
 pub mod CountedLaws

@@ -1,9 +1,11 @@
 -- Transitions at once, and those of a set of rows by its components.
 use Rattle.std.proofs.Common.{◌≡◌, ℕ, zero, suc, ◌+◌, ◌-◌, ◌*◌, ◌<◌, ◌≤◌, Bool, true, false, cond, inl, inr, List, [], ◌∷◌, ◌++◌, length, map, take, drop, slice_set, append-nil, refl, sym, ◌∙◌, ap, subst, arith, Some, None}
-use Rattle.std.specs.Prelude.{slice_get, slice_index_or, filter, flat_map, filter_map, option_map, nat_eq, not}
+use Rattle.std.specs.Prelude.{Option, slice_get, slice_index_or, filter, flat_map, filter_map, option_map, nat_eq, not}
 use Rattle.std.specs.List.Sorted.{IsSorted, IsPermutation}
 use Rattle.std.specs.Ordering.{nat_cmp}
 use Rattle.std.proofs.lemmas.Bool.Decides.{nat_tests}
+use Rattle.std.proofs.lemmas.List.{append_assoc, get_or_append_left, take_at, take_more}
+use Rattle.std.proofs.lemmas.List.Elements.{filter_map-append}
 use Rattle.std.proofs.lemmas.List.Sorted.{Contains-permutation, IsPermutation-append, IsPermutation-map, IsPermutation-refl, IsPermutation-sym, IsPermutation-trans}
 use Rattle.ltl_spec.specs.Collections.Sets.{Has, IsRising, has, union}
 use Rattle.ltl_spec.specs.Collections.Lists.{places_where}
@@ -41,7 +43,7 @@ use Rattle.ltl_alt.specs.ConjunctTableView.{AreKeptBy, conjunct_of, dependency_o
 use Rattle.ltl_alt.specs.TransitionView.{table_at}
 use Rattle.ltl_alt.specs.declared.rule.Rule.{Rule}
 use Rattle.ltl_formula.specs.TableView.{TableView, IsTable, core_of}
-use Rattle.ltl_alt.specs.ProductView.{AreConsistent, join_transitions, joined_products}
+use Rattle.ltl_alt.specs.ProductView.{AreConsistent, join_transitions}
 use Rattle.ltl_alt.specs.StandIns.{IsKeptBy, IsRuleOf, StandsFor}
 use Rattle.ltl_alt.proofs.KeyLaws.{AllListsProper, lists_proper}
 use Rattle.ltl_alt.proofs.JoinOrderLaws.{kept_alike}
@@ -90,12 +92,62 @@ joined_more a d t us vs ws i f l e g h =
 pub joins_each : (a d : Transition) (us vs : List Transition) (i : ℕ) → AreConsistent (map (at_once a) us) → i < length us → vs ≡ map (at_once a) (take i us) ++ drop i us → None ≡ join_transitions a (slice_index_or vs i d) → ⊥
 joins_each a d us vs i f l e g = cc (g, joins_at a d us vs i f l e)
 
-pub product_joins : (ts us : List Transition) → AreConsistent (product ts us) → joined_products ts us ≡ product ts us
-product_joins [] us f = refl
-product_joins (t ∷ ts) us f =
-    let first = each_joins t us (λ x h. f x (append_left (map (at_once t) us) (product ts us) x h)) in
-    let rest = product_joins ts us (λ x h. f x (append_right (map (at_once t) us) (product ts us) x h)) in
-    λ i. first i ++ rest i
+-- one more of the products was looked at
+appended : (a x : Transition) (us vs : List Transition) (i : ℕ) → i < length us → vs ≡ us ++ filter_map (join_transitions a) (take i us) → x ≡ slice_index_or vs i x
+    → vs ++ filter_map (join_transitions a) (x ∷ []) ≡ us ++ filter_map (join_transitions a) (take (i + 1) us)
+appended a x us vs i l e d =
+    let f = filter_map (join_transitions a) in
+    let at : List Transition = slice_index_or us i x ∷ [] in
+    let here : x ≡ slice_index_or us i x = d ∙ ap (λ xs. slice_index_or xs i x) e ∙ get_or_append_left us (f (take i us)) x i l in
+    (λ k. e k ++ f (here k ∷ [])) ∙ append_assoc us (f (take i us)) (f at)
+    ∙ ap (λ xs. us ++ xs) (sym (filter_map-append (join_transitions a) (take i us) at)) ∙ ap (λ xs. us ++ f xs) (sym (take_more us i x l))
+
+pub appended_some : (a x t : Transition) (us vs ws : List Transition) (found : Option Transition) (i : ℕ) → i < length us → vs ≡ us ++ filter_map (join_transitions a) (take i us) → x ≡ slice_index_or vs i x
+    → found ≡ join_transitions a x → found ≡ Some t → ws ≡ vs ++ t ∷ [] → ws ≡ us ++ filter_map (join_transitions a) (take (i + 1) us)
+appended_some a x t us vs ws found i l e d j g h =
+    let is : join_transitions a x ≡ Some t = sym j ∙ g in
+    let one : filter_map (join_transitions a) (x ∷ []) ≡ t ∷ [] = simp is refl in
+    h ∙ ap (λ xs. vs ++ xs) (sym one) ∙ appended a x us vs i l e d
+
+pub appended_none : (a x : Transition) (us vs : List Transition) (found : Option Transition) (i : ℕ) → i < length us → vs ≡ us ++ filter_map (join_transitions a) (take i us) → x ≡ slice_index_or vs i x
+    → found ≡ join_transitions a x → found ≡ None → vs ≡ us ++ filter_map (join_transitions a) (take (i + 1) us)
+appended_none a x us vs found i l e d j g =
+    let is : join_transitions a x ≡ None = sym j ∙ g in
+    let none : filter_map (join_transitions a) (x ∷ []) ≡ [] = simp is refl in
+    sym (append-nil vs) ∙ ap (λ xs. vs ++ xs) (sym none) ∙ appended a x us vs i l e d
+
+-- one more of a list was joined with the products
+one_consistent : (ts us : List Transition) (t : Transition) (k : ℕ) → k < length ts → t ≡ slice_index_or ts k t → AreConsistent (product ts us) → AreConsistent (map (at_once t) us)
+one_consistent [] us t k l e f = absurd (omega arith)
+one_consistent (x ∷ ts) us t zero l e f = λ u h. f u (append_left (map (at_once x) us) (product ts us) u (subst (λ y. Has (map (at_once y) us) u) e h))
+one_consistent (x ∷ ts) us t (suc k) l e f = one_consistent ts us t k (omega arith) e (λ u h. f u (append_right (map (at_once x) us) (product ts us) u h))
+
+rest_product : (ts us : List Transition) (t : Transition) (k : ℕ) → 1 ≤ k → k < length ts → t ≡ slice_index_or ts k t → product (drop 1 (take k ts)) us ++ map (at_once t) us ≡ product (drop 1 (take (suc k) ts)) us
+rest_product [] us t k some l e = absurd (omega arith)
+rest_product (x ∷ ts) us t zero some l e = absurd (omega arith)
+rest_product (x ∷ ts) us t (suc k) some l e = first ts k (omega arith) e
+  where
+    first : (xs : List Transition) (i : ℕ) → i < length xs → t ≡ slice_index_or xs i t → product (take i xs) us ++ map (at_once t) us ≡ product (take (suc i) xs) us
+    first [] i m d = absurd (omega arith)
+    first (y ∷ xs) zero m d = ap (λ z. map (at_once z) us) d ∙ sym (append-nil (map (at_once y) us))
+    first (y ∷ xs) (suc i) m d = append_assoc (map (at_once y) us) (product (take i xs) us) (map (at_once t) us) ∙ ap (λ zs. map (at_once y) us ++ zs) (first xs i (omega arith) d)
+
+-- the products that were there stand first
+old_first : (ts us vs : List Transition) (k count : ℕ) → count ≡ length us → vs ≡ us ++ product (drop 1 (take k ts)) us → take count vs ≡ us
+old_first ts us vs k count n g = ap (take count) g ∙ take_at us (product (drop 1 (take k ts)) us) count (sym n)
+
+pub rest_more : (ts us vs ws : List Transition) (t : Transition) (k count : ℕ) → 1 ≤ k → k < length ts → t ≡ slice_index_or ts k t → AreConsistent (product ts us) → count ≡ length us
+    → vs ≡ us ++ product (drop 1 (take k ts)) us → ws ≡ vs ++ filter_map (join_transitions t) (take count vs) → ws ≡ us ++ product (drop 1 (take (k + 1) ts)) us
+rest_more ts us vs ws t k count some l e f n g h =
+    let joined : filter_map (join_transitions t) (take count vs) ≡ map (at_once t) us =
+    ap (filter_map (join_transitions t)) (old_first ts us vs k count n g) ∙ each_joins t us (one_consistent ts us t k l e f) in
+    h ∙ (λ i. g i ++ joined i) ∙ append_assoc us (product (drop 1 (take k ts)) us) (map (at_once t) us)
+    ∙ ap (λ xs. us ++ xs) (rest_product ts us t k some l e) ∙ ap (λ j. us ++ product (drop 1 (take j ts)) us) (let s : suc k ≡ k + 1 = omega arith in s)
+
+pub first_consistent : (ts us vs ws : List Transition) (t : Transition) (k count : ℕ) → 0 < length ts → t ≡ slice_index_or ts 0 t → AreConsistent (product ts us) → count ≡ length us
+    → vs ≡ us ++ product (drop 1 (take k ts)) us → ws ≡ take count vs → AreConsistent (map (at_once t) ws)
+first_consistent ts us vs ws t k count some e f n g h =
+    subst (λ xs. AreConsistent (map (at_once t) xs)) (sym (h ∙ old_first ts us vs k count n g)) (one_consistent ts us t 0 some e f)
 
 -- what stands at a place, and what is behind it
 dropped_at : (tss : List (List Transition)) (j : ℕ) → j < length tss → drop j tss ≡ slice_index_or tss j [] ∷ drop (j + 1) tss
@@ -117,42 +169,21 @@ products_moved [] us vs p = IsPermutation-refl []
 products_moved (t ∷ ts) us vs p = IsPermutation-append (map (at_once t) us) (map (at_once t) vs) (product ts us) (product ts vs) (IsPermutation-map (at_once t) us vs p) (products_moved ts us vs p)
 
 -- one list more
-step_moved : (T : Table) (tss : List (List Transition)) (left : ℕ) (ts us : List Transition) → left < length tss → IsPermutation (all_products T (drop (left + 1) tss)) us → ts ≡ slice_index_or tss left []
-    → IsPermutation (all_products T (drop left tss)) (product ts us)
-step_moved T tss left ts us l p d =
-    let all = all_products T (drop (left + 1) tss) in
-    let whole : all_products T (drop left tss) ≡ product ts all = ap (all_products T) (dropped_at tss left l) ∙ ap (λ xs. product xs all) (sym d) in
-    subst (λ xs. IsPermutation xs (product ts us)) (sym whole) (products_moved ts all us p)
-
-moved_consistent : (ts us : List Transition) → IsPermutation ts us → AreConsistent ts → AreConsistent us
-moved_consistent ts us p f t h = f t (Has-from_contains ts t (Contains-permutation us ts t (IsPermutation-sym ts us p) (Contains-from_has us t h)))
-
-pub products_step : (T : Table) (tss : List (List Transition)) (left : ℕ) (ts us vs : List Transition) → left < length tss → ((j : ℕ) → AreConsistent (all_products T (drop j tss)))
-    → IsPermutation (all_products T (drop (left + 1) tss)) us → ts ≡ slice_index_or tss left [] → vs ≡ joined_products ts us → IsPermutation (all_products T (drop left tss)) vs
-products_step T tss left ts us vs l f p d g =
-    let moved = step_moved T tss left ts us l p d in
-    subst (IsPermutation (all_products T (drop left tss))) (sym (g ∙ product_joins ts us (moved_consistent (all_products T (drop left tss)) (product ts us) moved (f left)))) moved
-
--- one list more that has one transition
-alone : (ts : List Transition) (t d : Transition) → length ts ≡ 1 → t ≡ slice_index_or ts 0 d → ts ≡ t ∷ []
-alone [] t d l e = absurd (omega (arith, l))
-alone (u ∷ v ∷ ts) t d l e = absurd (omega (arith, l))
-alone (u ∷ []) t d l e = ap (λ x. x ∷ []) (sym e)
-
-pub one_step : (T : Table) (h : ℕ → List Transition) (factors : List ℕ) (left : ℕ) (ts us vs : List Transition) (t d : Transition) → 0 < left → left ≤ length factors → IsPermutation (all_products T (drop left (map h factors))) us → vs ≡ us
-    → ts ≡ h (slice_index_or factors (left - 1) 0) → length ts ≡ 1 → t ≡ slice_index_or ts 0 d → IsPermutation (all_products T (drop (left - 1) (map h factors))) (map (at_once t) vs)
-one_step T h factors left ts us vs t d some within p s e n g =
+pub products_step : (T : Table) (h : ℕ → List Transition) (factors : List ℕ) (left : ℕ) (ts us : List Transition) → 0 < left → left ≤ length factors
+    → IsPermutation (all_products T (drop left (map h factors))) us → ts ≡ h (slice_index_or factors (left - 1) 0) → IsPermutation (all_products T (drop (left - 1) (map h factors))) (product ts us)
+products_step T h factors left ts us some within p d =
     let tss = map h factors in
     let place = left - 1 in
     let inside : place < length factors = omega (arith, some, within) in
     let also : place < length tss = omega (arith, inside, map_length h factors) in
     let next : left ≡ place + 1 = omega (arith, some) in
-    let behind : IsPermutation (all_products T (drop (place + 1) tss)) vs = subst (λ k. IsPermutation (all_products T (drop k tss)) vs) next (subst (IsPermutation (all_products T (drop left tss))) (sym s) p) in
-    let list : t ∷ [] ≡ slice_index_or tss place [] = sym (alone ts t d n g) ∙ e ∙ sym (mapped_at h factors place inside) in
-    subst (IsPermutation (all_products T (drop place tss))) (append-nil (map (at_once t) vs)) (step_moved T tss place (t ∷ []) vs also behind list)
+    let all = all_products T (drop left tss) in
+    let list : slice_index_or tss place [] ≡ ts = mapped_at h factors place inside ∙ sym d in
+    let whole : all_products T (drop place tss) ≡ product ts all = ap (all_products T) (dropped_at tss place also) ∙ (λ i. product (list i) (all_products T (drop (sym next i) tss))) in
+    subst (λ xs. IsPermutation xs (product ts us)) (sym whole) (products_moved ts all us p)
 
-pub one_consistent : (T : Table) (tss : List (List Transition)) (left : ℕ) (vs : List Transition) → ((j : ℕ) → AreConsistent (all_products T (drop j tss))) → IsPermutation (all_products T (drop left tss)) vs → AreConsistent vs
-one_consistent T tss left vs f p = moved_consistent (all_products T (drop left tss)) vs p (f left)
+pub moved_consistent : (ts us : List Transition) → IsPermutation ts us → AreConsistent ts → AreConsistent us
+moved_consistent ts us p f t h = f t (Has-from_contains ts t (Contains-permutation us ts t (IsPermutation-sym ts us p) (Contains-from_has us t h)))
 
 -- ---- lists that are apart
 

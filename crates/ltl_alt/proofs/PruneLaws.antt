@@ -14,7 +14,7 @@ use Rattle.ltl_spec.proofs.Collections.SetLaws.{append_cases, filter_cases, Has-
 use Rattle.ltl_spec.proofs.Transitions.IndependenceTests.{Support, shares_some, support_of}
 use Rattle.ltl_spec.proofs.Transitions.JoinLaws.{within_refl}
 use Rattle.ltl_spec.proofs.Transitions.LeastPairs.{is_within_Decides}
-use Rattle.ltl_alt.specs.CodeView.{AreOpenSteps}
+use Rattle.ltl_alt.specs.WantedView.{AreCountedSteps}
 use Rattle.ltl_alt.specs.Elements.{may_replace}
 use Rattle.ltl_alt.specs.StandIns.{AreAmong, AreKept, AreSpares, IsFit, IsKeptBy, IsPruned, IsPrunedSafely, StandsFor, is_replaced, size_of}
 use Rattle.ltl_alt.specs.Tests.{AreTests}
@@ -22,7 +22,7 @@ use Rattle.ltl_alt.specs.declared.fulfilment.Fulfilment.{Fulfilment}
 use Rattle.ltl_alt.specs.declared.lacks.Spare.{Spare}
 use Rattle.ltl_alt.specs.declared.rule.Rule.{Rule}
 use Rattle.ltl_alt.specs.declared.rule.Rule.TheVariants as rule
-use Rattle.ltl_alt.proofs.CodedLaws.{lack_safe}
+use Rattle.ltl_alt.proofs.LackLaws.{lack_safe}
 use Rattle.ltl_alt.proofs.StandInLaws.{kept_all, kept_on, kept_same, stands_in}
 
 not_true : (a : Bool) → not a ≡ true → a ≡ false
@@ -61,7 +61,7 @@ among_more ps qs new p there e w q h = elim (append_cases qs (p ∷ []) q (subst
 pub replaced_by : (ss : List Spare) (p : Pair) (v : Support) (s : Spare) (b : Bool) → s ≡ record { pair = p; lacks = v; size = size_of p } → b ≡ list_any (λ u. nat_lt u.size s.size && may_replace u s.pair) ss → is_replaced ss p ≡ b
 replaced_by ss p v s b e f = sym (f ∙ ap (λ (x : Spare). list_any (λ u. nat_lt u.size x.size && may_replace u x.pair) ss) e)
 
-module _ {A : Type 0} (T : Table) (f : Fulfilment A) (tests : AreTests T f) (counted : RowSet) (roots : List ℕ) (ps chosen qs : List Pair) (ss : List Spare) (opens : AreOpenSteps f.untils.items f.leaves.items counted ps roots)
+module _ {A : Type 0} (T : Table) (f : Fulfilment A) (tests : AreTests T f) (counted : RowSet) (roots : List ℕ) (ps chosen qs : List Pair) (ss : List Spare) (counts : AreCountedSteps f.untils.items counted roots)
     (among : AreAmong ps chosen) (spares : AreSpares f roots chosen ss) (left : qs ≡ filter (λ p. not (is_replaced ss p)) ps) where
   -- a pair that goes has a smaller one, which stays or has one
   climb : (fuel : ℕ) (t : Pair) → size_of t < fuel → Has ps t → (v : Pair) × Has qs v × IsSafeToDrop T counted t v
@@ -76,7 +76,7 @@ module _ {A : Type 0} (T : Table) (f : Fulfilment A) (tests : AreTests T f) (cou
         let nothing = not_true (shares_some s.lacks (support_of t)) (right_true (is_within s.pair t) (not (shares_some s.lacks (support_of t))) may) in
         let spare = spares s k in
         let size = spare.size in
-        let safe = lack_safe T f tests counted ps roots opens t s.pair s.pair h s.lacks spare.lack nothing within (within_refl s.pair) in
+        let safe = lack_safe T f tests counted roots counts t s.pair s.pair s.lacks spare.lack nothing within (within_refl s.pair) in
         let (v, j, y) = climb fuel s.pair (omega arith) (among s.pair spare.there) in
         (v, j, (stands_in T (rule.SafelySubsumed counted)).on t s.pair v safe y)
   ] refl
@@ -88,6 +88,6 @@ module _ {A : Type 0} (T : Table) (f : Fulfilment A) (tests : AreTests T f) (cou
   }
 
 -- those are left that no smaller one of some of them may replace
-pub left_pruned : {A : Type 0} (f : Fulfilment A) (counted : RowSet) (roots : List ℕ) (ps chosen qs : List Pair) (ss : List Spare) → AreOpenSteps f.untils.items f.leaves.items counted ps roots → AreAmong ps chosen
+pub left_pruned : {A : Type 0} (f : Fulfilment A) (counted : RowSet) (roots : List ℕ) (ps chosen qs : List Pair) (ss : List Spare) → AreCountedSteps f.untils.items counted roots → AreAmong ps chosen
     → AreSpares f roots chosen ss → qs ≡ filter (λ p. not (is_replaced ss p)) ps → IsPrunedSafely f counted ps qs
-left_pruned f counted roots ps chosen qs ss opens among spares left T tests = left_kept T f tests counted roots ps chosen qs ss opens among spares left
+left_pruned f counted roots ps chosen qs ss counts among spares left T tests = left_kept T f tests counted roots ps chosen qs ss counts among spares left

@@ -1,5 +1,5 @@
--- Until rows that pairs can differ in, and what pairs lack, one by one.
-use Rattle.std.proofs.Common.{◌≡◌, ℕ, zero, suc, ◌+◌, ◌<◌, Bool, true, false, not, ◌&&◌, ◌⊎◌, inl, inr, List, [], ◌∷◌, ◌++◌, length, take, drop, refl, sym, ◌∙◌, ap, subst, arith, Some}
+-- Until rows that count, and what pairs lack, one by one.
+use Rattle.std.proofs.Common.{◌≡◌, ℕ, zero, suc, ◌+◌, ◌<◌, Bool, true, false, not, ◌&&◌, inl, inr, List, [], ◌∷◌, ◌++◌, length, take, drop, refl, sym, ◌∙◌, ap, subst, arith, Some}
 use Rattle.std.specs.Prelude.{slice_get, slice_index_or}
 use Rattle.std.specs.Ordering.{nat_cmp}
 use Rattle.std.proofs.lemmas.Option.{slice_get_within}
@@ -7,11 +7,12 @@ use Rattle.ltl_spec.specs.Collections.Sets.{Has, has}
 use Rattle.ltl_spec.specs.Transitions.Cubes.{Cube}
 use Rattle.ltl_spec.specs.Transitions.Pairs.{Pair, RowSet}
 use Rattle.ltl_spec.specs.Transitions.Pruning.{is_within}
+use Rattle.ltl_spec.proofs.Collections.CaseLaws.{false_is_true}
 use Rattle.ltl_spec.proofs.Collections.ListLaws.{slice_get_has}
 use Rattle.ltl_spec.proofs.Collections.SetLaws.{append_cases, append_left, append_right}
-use Rattle.ltl_spec.proofs.Transitions.IndependenceTests.{Support, Covers, no_support, shares_some, support_of}
+use Rattle.ltl_spec.proofs.Transitions.IndependenceTests.{Support, no_support, shares_some, support_of}
 use Rattle.ltl_sets.specs.Words.{forbidden_of, letter_of}
-use Rattle.ltl_alt.specs.CodeView.{AreBlockLacks, AreOpenSteps, IsLack, IsUntouched}
+use Rattle.ltl_alt.specs.WantedView.{AreBlockLacks, AreCountedSteps, IsLack}
 use Rattle.ltl_alt.specs.Elements.{may_replace, needs_of}
 use Rattle.ltl_alt.specs.StandIns.{AreOfBlock, AreSpares, IsOfBlock}
 use Rattle.ltl_alt.specs.declared.fulfilment.Fulfilment.{Fulfilment}
@@ -22,28 +23,28 @@ use Rattle.ltl_alt.proofs.SupportLaws.{forbidden_names, letter_names}
 
 -- ---- until rows
 
--- the first until rows that count are among these, or have nothing to do with the pairs
-abbrev pub AreOpenBelow : List UntilTest → List Support → RowSet → List Pair → ℕ → List ℕ → Type 0
-AreOpenBelow us ls counted ps n roots = (i : ℕ) (u : UntilTest) → i < n → slice_get us i ≡ Some u → has nat_cmp u.place counted ≡ true → Has roots u.step ⊎ IsUntouched ls ps u.step
+-- the tests of the first until rows that count are among these
+abbrev pub AreCountedBelow : List UntilTest → RowSet → ℕ → List ℕ → Type 0
+AreCountedBelow us counted n roots = (i : ℕ) (u : UntilTest) → i < n → slice_get us i ≡ Some u → has nat_cmp u.place counted ≡ true → Has roots u.step
 
 some_same : {X : Type 0} (x y : X) → Some x ≡ Some y → x ≡ y
 some_same x y e = cc
 
-module _ (us : List UntilTest) (ls : List Support) (counted : RowSet) (ps : List Pair) (n : ℕ) (u : UntilTest) (old new : List ℕ) (found : slice_get us n ≡ Some u) (w : AreOpenBelow us ls counted ps n old) where
-  open_next : ((k : ℕ) → Has old k → Has new k) → (has nat_cmp u.place counted ≡ true → Has new u.step ⊎ IsUntouched ls ps u.step) → AreOpenBelow us ls counted ps (n + 1) new
-  open_next more here i v l f = elim (same_or_other i n) [
-    | inl e ↦ subst (λ (x : UntilTest). has nat_cmp x.place counted ≡ true → Has new x.step ⊎ IsUntouched ls ps x.step) (some_same u v (sym found ∙ ap (slice_get us) (sym e) ∙ f)) here
-    | inr d ↦ λ counts. elim (w i v (omega arith) f counts) [ inl h ↦ inl (more v.step h) | inr h ↦ inr h ]
+module _ (us : List UntilTest) (counted : RowSet) (n : ℕ) (u : UntilTest) (old new : List ℕ) (found : slice_get us n ≡ Some u) (w : AreCountedBelow us counted n old) where
+  counted_next : ((k : ℕ) → Has old k → Has new k) → (has nat_cmp u.place counted ≡ true → Has new u.step) → AreCountedBelow us counted (n + 1) new
+  counted_next more here i v l f = elim (same_or_other i n) [
+    | inl e ↦ subst (λ (x : UntilTest). has nat_cmp x.place counted ≡ true → Has new x.step) (some_same u v (sym found ∙ ap (slice_get us) (sym e) ∙ f)) here
+    | inr d ↦ λ counts. more v.step (w i v (omega arith) f counts)
   ]
 
-  pub open_in : new ≡ old ++ u.step ∷ [] → AreOpenBelow us ls counted ps (n + 1) new
-  open_in f = open_next (λ j h. subst (λ xs. Has xs j) (sym f) (append_left old (u.step ∷ []) j h)) (λ counts. inl (subst (λ xs. Has xs u.step) (sym f) (append_right old (u.step ∷ []) u.step (inl refl))))
+  pub counted_in : new ≡ old ++ u.step ∷ [] → AreCountedBelow us counted (n + 1) new
+  counted_in f = counted_next (λ j h. subst (λ xs. Has xs j) (sym f) (append_left old (u.step ∷ []) j h)) (λ _. subst (λ xs. Has xs u.step) (sym f) (append_right old (u.step ∷ []) u.step (inl refl)))
 
-  pub open_out : (a : Support) → Covers a ps → (has nat_cmp u.place counted && shares_some (slice_index_or ls u.step no_support) a) ≡ false → new ≡ old → AreOpenBelow us ls counted ps (n + 1) new
-  open_out a c d g = open_next (λ j h. subst (λ xs. Has xs j) (sym g) h) (λ counts. inr (a, c, sym (ap (λ b. b && shares_some (slice_index_or ls u.step no_support) a) counts) ∙ d))
+  pub counted_out : has nat_cmp u.place counted ≡ false → new ≡ old → AreCountedBelow us counted (n + 1) new
+  counted_out d g = counted_next (λ j h. subst (λ xs. Has xs j) (sym g) h) (λ counts. false_is_true (sym d ∙ counts))
 
-pub open_end : (us : List UntilTest) (ls : List Support) (counted : RowSet) (ps : List Pair) (n : ℕ) (roots : List ℕ) → n ≡ length us → AreOpenBelow us ls counted ps n roots → AreOpenSteps us ls counted ps roots
-open_end us ls counted ps n roots e w i u f = let l = slice_get_within us i u f in w i u (omega arith) f
+pub counted_end : (us : List UntilTest) (counted : RowSet) (n : ℕ) (roots : List ℕ) → n ≡ length us → AreCountedBelow us counted n roots → AreCountedSteps us counted roots
+counted_end us counted n roots e w i u f = let l = slice_get_within us i u f in w i u (omega arith) f
 
 -- ---- what pairs need
 

@@ -1,5 +1,5 @@
 pub mod BasisView
-pub mod CodeView
+pub mod WantedView
 pub mod Codes
 pub mod Columns
 pub mod ComponentView

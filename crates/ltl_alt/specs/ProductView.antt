@@ -1,5 +1,5 @@
 -- Products of transitions of independent components.
-use Rattle.std.specs.Prelude.{◌≡◌, false, List, Option, option_map, flat_map, filter_map}
+use Rattle.std.specs.Prelude.{◌≡◌, false, List, Option, option_map}
 use Rattle.std.specs.Ordering.{nat_cmp}
 use Rattle.ltl_spec.specs.Collections.Sets.{Has, union}
 use Rattle.ltl_spec.specs.Transitions.Cubes.{Cube, join_cubes, is_contradictory}
@@ -9,10 +9,6 @@ use Rattle.ltl_spec.proofs.Transitions.IndependentMarks.{common}
 -- the union of two transitions, unless their literals contradict each other
 abbrev pub join_transitions : Transition → Transition → Option Transition
 join_transitions a b = option_map (λ (c : Cube). record { cube = c; targets = union nat_cmp a.targets b.targets; marks = common nat_cmp a.marks b.marks }) (join_cubes a.cube b.cube)
-
--- the unions of one transition of each list
-abbrev pub joined_products : List Transition → List Transition → List Transition
-joined_products ts us = flat_map (λ a. filter_map (join_transitions a) us) ts
 
 -- no transition contradicts itself
 abbrev pub AreConsistent : List Transition → Type 0

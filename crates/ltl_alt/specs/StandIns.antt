@@ -7,7 +7,7 @@ use Rattle.ltl_spec.specs.Transitions.RowTransitions.{Table}
 use Rattle.ltl_spec.specs.Transitions.Pruning.{IsSafeToDrop}
 use Rattle.ltl_spec.specs.Transitions.CountedUntils.{AreCounted}
 use Rattle.ltl_spec.proofs.Transitions.IndependenceTests.{Support, no_support}
-use Rattle.ltl_alt.specs.CodeView.{IsLack}
+use Rattle.ltl_alt.specs.WantedView.{IsLack}
 use Rattle.ltl_alt.specs.declared.fulfilment.Fulfilment.{Fulfilment}
 use Rattle.ltl_alt.specs.declared.lacks.Spare.{Spare}
 use Rattle.ltl_alt.specs.declared.rule.Rule.{Rule}

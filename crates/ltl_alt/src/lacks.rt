@@ -3,11 +3,11 @@
 ghost use Rattle.std.specs.Prelude.{◌≡◌, length, IfOk, OnOk};
 ghost use Rattle.ltl_alt.specs.StandIns.{AreOfBlock, AreSpares, size_of};
 
-use crate::codes::block_lacks;
 use crate::columns::BLOCK;
 use crate::fulfilment::Fulfilment;
 use crate::pair::Pair;
 use crate::support::{Support, needs};
+use crate::wanted::block_lacks;
 use least::{Below, Counting, Elements};
 use ltl_sets::RowSet;
 use std::alloc::{AllocError, Allocator};
@@ -114,12 +114,12 @@ pub(crate) fn spares_of<'a, A: Allocator>(
     ensures { IfOk result (λ v. AreSpares fulfilment.now roots.now pairs.now v.items) }
 {
     let mut spares = Vec::with_capacity(alloc, pairs.len())?;
-    let mut codes = Vec::with_capacity(alloc, fulfilment.steps.len())?;
+    let mut columns = Vec::with_capacity(alloc, fulfilment.steps.len())?;
     let mut from = 0;
     'rounds: while from < pairs.len() {
         let end = pairs.len().min(from.saturating_add(BLOCK));
         let block = &pairs[from..end];
-        let lacks = block_lacks(alloc, fulfilment, roots, block, &mut codes)?;
+        let lacks = block_lacks(alloc, fulfilment, roots, block, &mut columns)?;
         put_spares(&mut spares, block, lacks.as_slice())?;
         from = end;
     }

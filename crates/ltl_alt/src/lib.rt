@@ -17,8 +17,8 @@
 //! The transitions of a set of rows are made in three steps:
 //!
 //! - The conjuncts of its rows are divided into connected components of the links.
-//! - The pairs of a component's conjuncts are joined (`lists`, `repeats`), the two lists first whose join costs least (`components`). Each join but the
-//!   last one is pruned: it loses the pairs that would stay implied whatever is joined later (`prune`, `rule`, `roots`, `lacks`, `codes`). A memo table
+//! - The pairs of a component's conjuncts are joined (`lists`), the two lists first whose join costs least (`components`). Each join but the
+//!   last one is pruned: it loses the pairs that would stay implied whatever is joined later (`prune`, `rule`, `roots`, `lacks`, `wanted`). A memo table
 //!   keeps the joins (`memo`). The pairs of the last join get their marks (`marks`), and implied transitions are removed (`implied`). Tests are evaluated
 //!   for many pairs at once (`columns`). Another table keeps the result of each component (`finals`). Tables that are full are replaced by empty ones
 //!   before the next set of rows (`reach`).
@@ -41,7 +41,6 @@
 #![tactic(auto)]
 
 mod basis;
-mod codes;
 mod columns;
 mod components;
 mod conjunct_table;
@@ -68,13 +67,13 @@ mod product;
 mod program;
 mod prune;
 mod reach;
-mod repeats;
 mod roots;
 mod row_lists;
 mod rule;
 mod support;
 mod transition;
 mod transition_list;
+mod wanted;
 
 pub use ltl_models::{AltFault, Edges, Gba, GbaEdge, MOST_EDGES, MOST_STATES};
 pub use of_table::Reach;

@@ -1,67 +1,66 @@
 //! Joins and unions of lists of pairs.
+//!
+//! Most joins of long lists are duplicates. Each join is looked up by its hash as it is made, so only different ones take memory.
 
-ghost use Rattle.std.specs.Prelude.{◌≡◌, ◌++◌, IfOk, OnOk, filter_map};
-ghost use Rattle.ltl_spec.specs.Collections.Lists.{HasNoRepeats};
+ghost use Rattle.std.specs.Prelude.{◌≡◌, ◌++◌, IfOk, OnOk, filter_map, fold};
+ghost use Rattle.std.specs.Ordering.{eq_by_cmp};
+ghost use Rattle.ltl_spec.specs.Collections.Lists.{HasNoRepeats, first_occurrences, with_new};
 ghost use Rattle.ltl_spec.specs.Collections.Sets as spec_sets;
 ghost use Rattle.ltl_spec.specs.Transitions.Pairs as spec_pairs;
 ghost use Rattle.ltl_alt.specs.StandIns.{joins_by_right};
 
 use crate::pair::Pair;
-use crate::repeats::join_once;
-use ltl_automaton::sort_dedup;
+use ltl_automaton::Interner;
 use std::alloc::{AllocError, Allocator};
 
-/// If the product of two lists has more pairs than this, duplicates are removed while the joins are made.
-const MANY: usize = 256;
-
-/// Appends the joins of each pair of a list with one pair.
-fn join_one<A: Allocator>(
-    joined: &mut Vec<Pair, &A>,
+/// Adds the joins of each pair of a list with one pair, unless they are there.
+fn note_joins<A: Allocator>(
+    once: &mut Interner<'_, Pair, A>,
     left: &[Pair],
     right: &Pair,
 ) -> Result<(), AllocError>
-    ensures { OnOk result (joined.new.items ≡ joined.old.items ++ filter_map (λ p. spec_pairs.join_pair p right.now) left.now) }
+    ensures { OnOk result (once.new.keys ≡ fold (with_new (eq_by_cmp spec_pairs.pair_cmp)) once.old.keys
+        (filter_map (λ p. spec_pairs.join_pair p right.now) left.now)) }
 {
     'left: for p in left {
         if let Some(pair) = p.join(right) {
-            joined.push(pair)?;
+            once.number(pair)?;
         }
     }
     Ok(())
 }
 
-/// All joins of a pair of each side, with duplicates. Those with one pair of the right side are adjacent, and mostly sorted if the left side is.
-fn join_all<'a, A: Allocator>(
+/// The different joins of a pair of each side, in the order of their first occurrence.
+fn noted<'a, A: Allocator>(
     alloc: &'a A,
     left: &[Pair],
     right: &[Pair],
-) -> Result<Vec<Pair, &'a A>, AllocError>
-    ensures { IfOk result (λ v. v.items ≡ joins_by_right left.now right.now) }
+) -> Result<Interner<'a, Pair, A>, AllocError>
+    ensures { IfOk result (λ d. d.keys ≡ first_occurrences (eq_by_cmp spec_pairs.pair_cmp) (joins_by_right left.now right.now)) }
 {
-    let mut joined = Vec::with_capacity(alloc, left.len().saturating_mul(right.len()))?;
+    let mut once = Interner::new(alloc);
     'right: for q in right {
-        join_one(&mut joined, left, q)?;
+        note_joins(&mut once, left, q)?;
     }
-    Ok(joined)
+    Ok(once)
 }
 
-/// All joins of a pair of each side, in some order. There may be duplicates.
-#[tactic(auto, using(crate::proofs::RepeatLaws::by_right))]
-pub(crate) fn join<'a, A: Allocator>(
+/// The interned pairs as a list.
+fn listed<'a, A: Allocator>(
     alloc: &'a A,
-    left: &[Pair],
-    right: &[Pair],
+    once: &Interner<'a, Pair, A>,
 ) -> Result<Vec<Pair, &'a A>, AllocError>
-    ensures { IfOk result (λ v. spec_sets.set_of spec_pairs.pair_cmp v.items ≡ spec_sets.set_of spec_pairs.pair_cmp (spec_pairs.join left.now right.now)) }
+    ensures { IfOk result (λ v. v.items ≡ once.now.keys) }
 {
-    if left.len().saturating_mul(right.len()) > MANY {
-        return join_once(alloc, left, right);
+    let mut pairs = Vec::with_capacity(alloc, once.len())?;
+    for k in 0..once.len() {
+        pairs.push(*once.get(k))?;
     }
-    join_all(alloc, left, right)
+    Ok(pairs)
 }
 
-/// The different joins of a pair of each side, in some order.
-pub(crate) fn different_joins<'a, A: Allocator>(
+/// The different joins of a pair of each side, in the order of their first occurrence.
+pub(crate) fn join<'a, A: Allocator>(
     alloc: &'a A,
     left: &[Pair],
     right: &[Pair],
@@ -69,12 +68,9 @@ pub(crate) fn different_joins<'a, A: Allocator>(
     ensures set { IfOk result (λ v. spec_sets.set_of spec_pairs.pair_cmp v.items ≡ spec_sets.set_of spec_pairs.pair_cmp (spec_pairs.join left.now right.now)) }
     ensures once { IfOk result (λ v. HasNoRepeats v.items) }
 {
-    if left.len().saturating_mul(right.len()) > MANY {
-        return join_once(alloc, left, right);
-    }
-    let mut joined = join_all(alloc, left, right)?;
-    sort_dedup(&mut joined);
-    Ok(joined)
+    let once = noted(alloc, left, right)?;
+    let pairs = listed(alloc, &once)?;
+    Ok(pairs)
 }
 
 /// The pairs of both lists, those of the left one first.

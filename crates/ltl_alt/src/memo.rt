@@ -1,6 +1,6 @@
 //! A memo table of joins: lists of pairs have numbers, and a join is remembered by the numbers of both sides.
 
-ghost use Rattle.std.specs.Prelude.{◌≡◌, ℕ, ◌<◌, [], length, IfOk, IfSome, OnOk};
+ghost use Rattle.std.specs.Prelude.{◌≡◌, ◌<◌, [], length, IfOk, IfSome, OnOk};
 ghost use Rattle.ltl_spec.specs.Collections.Lists.{HasNoRepeats};
 ghost use Rattle.ltl_spec.specs.Collections.Sets.{set_of};
 ghost use Rattle.ltl_spec.specs.Transitions.Pairs.{join, pair_cmp};
@@ -10,7 +10,7 @@ ghost use Rattle.ltl_alt.specs.MemoView.{AreJoins, IsJoin, IsListAt, last_list};
 ghost use Rattle.ltl_alt.specs.ConjunctTableView.{IsLonger, conjunct_of};
 ghost use Rattle.ltl_alt.specs.StandIns.{IsFit, IsListed, StandsFor};
 
-use crate::lists::{different_joins, join};
+use crate::lists::join;
 use crate::pair::Pair;
 use crate::pair_set::PairSet;
 use crate::prune::prune;
@@ -112,7 +112,7 @@ impl<'a, A: Allocator> Memo<'a, A> {
         ensures set { IfOk result (λ v. set_of pair_cmp v.items ≡ last_list self.now.lists.keys key.now) }
         ensures once { IfOk result (λ v. HasNoRepeats v.items) }
     {
-        let joined = different_joins(alloc, self.pairs(key.left), self.pairs(key.right))?;
+        let joined = join(alloc, self.pairs(key.left), self.pairs(key.right))?;
         Ok(joined)
     }
 

@@ -7,7 +7,7 @@ ghost use Rattle.ltl_alt.specs.StandIns.{AreAmong, AreKept, IsPruned, IsPrunedSa
 use crate::fulfilment::Fulfilment;
 use crate::lacks::{Smaller, Spare, spares_of};
 use crate::pair::Pair;
-use crate::roots::open_steps;
+use crate::roots::counted_steps;
 use crate::rule::{Pruning, Rule};
 use crate::support::Support;
 use least::Lookup;
@@ -68,7 +68,7 @@ fn pruned_safely<'a, A: Allocator>(
     if smaller.is_empty() {
         return Ok(pairs);
     }
-    let roots = open_steps(alloc, fulfilment, counted, pairs.as_slice())?;
+    let roots = counted_steps(alloc, fulfilment, counted)?;
     let spares = spares_of(alloc, fulfilment, roots.as_slice(), smaller.as_slice())?;
     let lookup = Lookup::new(alloc, spares.as_slice())?;
     let kept = left(alloc, &lookup, pairs.as_slice())?;

@@ -60,12 +60,7 @@ impl ListOrder for RowSet {
 fn is_rising<T: ListOrder>(items: &[T]) -> bool
     ensures { result ≡ true → IsRising T.order items.now }
 {
-    for k in 1..items.len() {
-        if items[k - 1].cmp_list(&items[k]) != Ordering::Less {
-            return false;
-        }
-    }
-    true
+    items.is_sorted_by(|x, y| x.cmp_list(y).is_lt())
 }
 
 /// Sorts the items by `cmp_list`, and removes duplicates. Items that are in order already are only compared.

@@ -23,8 +23,7 @@ pub mod Steps
 pub mod FulfilmentLaws
 pub mod PlainInclusion
 pub mod FactoredTransitions
-pub mod CodeLaws
 pub mod StepLaws
-pub mod AskedSteps
+pub mod WantedSteps
 pub mod SpokenLaws
 pub mod SupportTests

@@ -1,7 +1,7 @@
--- Tests of a pair for the until rows that it fulfils, and for those that it can still fulfil.
-use Rattle.std.specs.Prelude.{◌≡◌, ℕ, min, max, Bool, true, false, ◌&&◌, ◌||◌, if◌then◌else◌, List, [], ◌∷◌, ◌++◌}
+-- Tests of a pair for the until rows that it fulfils.
+use Rattle.std.specs.Prelude.{ℕ, Bool, true, false, ◌&&◌, ◌||◌, List, [], ◌∷◌, ◌++◌}
 use Rattle.std.specs.Ordering.{nat_cmp}
-use Rattle.ltl_spec.specs.Collections.Sets.{Has, has}
+use Rattle.ltl_spec.specs.Collections.Sets.{has}
 use Rattle.ltl_spec.specs.Transitions.Cubes.{Literal, literal_cmp}
 use Rattle.ltl_spec.specs.NormalForms.Normal.{Normal, Top, Bottom, Leaf, Next, And, Or, Until, Release}
 use Rattle.ltl_spec.specs.Transitions.Pairs.{RowSet, Pair}
@@ -68,30 +68,3 @@ module _ (place : Normal → ℕ) where
   abbrev pub until_test : Normal → Test
   until_test (Until a b) = pair_test b
   until_test _ = Never
-
--- what can still come: some literals and some targets
-pub record Coming : Type 0 where
-  pub literal : Literal → Bool
-  pub target : ℕ → Bool
-
--- all of them
-abbrev pub anything : Coming
-anything = record { literal = λ _. true; target = λ _. true }
-
--- the pair asks for nothing else
-pub record IsComing (r : Coming) (x : Pair) : Type 0 where
-  pub cube : (l : Literal) → Has x.cube l → r.literal l ≡ true
-  pub targets : (k : ℕ) → Has x.targets k → r.target k ≡ true
-
--- 2: it is there. 1: it can come. 0: neither
-abbrev pub leaf_code : Bool → Bool → ℕ
-leaf_code there comes = if there then 2 else if comes then 1 else 0
-
--- 2: the pair passes. 1: it may pass with what comes. 0: it never does
-abbrev pub code : Coming → Pair → Test → ℕ
-code r p Always = 2
-code r p Never = 0
-code r p (Reads l) = leaf_code (has literal_cmp l p.cube) (r.literal l)
-code r p (Leads k) = leaf_code (has nat_cmp k p.targets) (r.target k)
-code r p (Both a b) = min (code r p a) (code r p b)
-code r p (Either a b) = max (code r p a) (code r p b)

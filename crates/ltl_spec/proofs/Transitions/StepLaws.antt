@@ -1,12 +1,12 @@
--- Lists of steps represent tests, and the codes of the tests are computed step by step.
-use Rattle.std.proofs.Common.{◌≡◌, ℕ, zero, suc, ◌+◌, ◌<◌, ◌≤◌, min, max, false, ◌&&◌, ◌||◌, List, [], ◌∷◌, ◌++◌, map, length, take, drop, refl, sym, ◌∙◌, ap, subst, arith}
+-- Lists of steps represent tests, and the answers of the tests are computed step by step.
+use Rattle.std.proofs.Common.{◌≡◌, ℕ, zero, suc, ◌+◌, ◌<◌, ◌≤◌, false, ◌&&◌, ◌||◌, List, [], ◌∷◌, ◌++◌, map, length, take, drop, refl, sym, ◌∙◌, ap, subst, arith}
 use Rattle.std.specs.Prelude.{slice_index_or}
 use Rattle.std.proofs.lemmas.List.{map-append, length-append, length-take-le, take-append-drop, take_more}
 use Rattle.ltl_spec.specs.Transitions.Pairs.{Pair}
 use Rattle.ltl_spec.proofs.Collections.ListLaws.{index_append, index_done}
 use Rattle.ltl_spec.proofs.Transitions.Fulfilment as by
-use Rattle.ltl_spec.proofs.Transitions.Fulfilment.{Test, passes, Coming, code}
-use Rattle.ltl_spec.proofs.Transitions.Steps.{Step, Always, Never, Reads, Leads, Both, Either, test_at, step_test, tests_from, tests_of, step_code, step_passes}
+use Rattle.ltl_spec.proofs.Transitions.Fulfilment.{Test, passes}
+use Rattle.ltl_spec.proofs.Transitions.Steps.{Step, Always, Never, Reads, Leads, Both, Either, test_at, step_test, tests_from, tests_of, step_passes}
 
 -- what a map has at a number
 at_mapped : {X Y : Type 0} (f : X → Y) (xs : List X) (i : ℕ) (d : X) → slice_index_or (map f xs) i (f d) ≡ f (slice_index_or xs i d)
@@ -14,23 +14,11 @@ at_mapped f [] i d = refl
 at_mapped f (x ∷ xs) zero d = refl
 at_mapped f (x ∷ xs) (suc i) d = at_mapped f xs i d
 
--- the code of a number, and its answer
-pub code_at : (r : Coming) (p : Pair) (ts : List Test) (i : ℕ) → slice_index_or (map (code r p) ts) i 0 ≡ code r p (test_at ts i)
-code_at r p ts i = at_mapped (code r p) ts i by.Never
-
+-- the answer of a number
 pub answer_at : (p : Pair) (ts : List Test) (i : ℕ) → slice_index_or (map (passes p) ts) i false ≡ passes p (test_at ts i)
 answer_at p ts i = at_mapped (passes p) ts i by.Never
 
--- the code of the next step comes from those of the steps before it
-pub code_next : (r : Coming) (p : Pair) (ts : List Test) (s : Step) → step_code r p (map (code r p) ts) s ≡ code r p (step_test ts s)
-code_next r p ts Always = refl
-code_next r p ts Never = refl
-code_next r p ts (Reads l) = refl
-code_next r p ts (Leads k) = refl
-code_next r p ts (Both i j) = λ k. min (code_at r p ts i k) (code_at r p ts j k)
-code_next r p ts (Either i j) = λ k. max (code_at r p ts i k) (code_at r p ts j k)
-
--- so does the answer of the next step
+-- the answer of the next step comes from those of the steps before it
 pub passes_next : (p : Pair) (ts : List Test) (s : Step) → step_passes p (map (passes p) ts) s ≡ passes p (step_test ts s)
 passes_next p ts Always = refl
 passes_next p ts Never = refl
@@ -49,14 +37,7 @@ tests_append ts (s ∷ ss) rest = tests_append (ts ++ step_test ts s ∷ []) ss 
 pub tests_next : (ss : List Step) (s : Step) → tests_of (ss ++ s ∷ []) ≡ tests_of ss ++ step_test (tests_of ss) s ∷ []
 tests_next ss s = tests_append [] ss (s ∷ [])
 
--- one more code
-pub codes_next : (r : Coming) (p : Pair) (ss : List Step) (s : Step)
-    → map (code r p) (tests_of (ss ++ s ∷ [])) ≡ map (code r p) (tests_of ss) ++ step_code r p (map (code r p) (tests_of ss)) s ∷ []
-codes_next r p ss s =
-    ap (map (code r p)) (tests_next ss s) ∙ map-append (code r p) (tests_of ss) (step_test (tests_of ss) s ∷ [])
-    ∙ ap (λ c. map (code r p) (tests_of ss) ++ c ∷ []) (sym (code_next r p (tests_of ss) s))
-
--- and one more answer
+-- one more answer
 pub answers_next : (p : Pair) (ss : List Step) (s : Step)
     → map (passes p) (tests_of (ss ++ s ∷ [])) ≡ map (passes p) (tests_of ss) ++ step_passes p (map (passes p) (tests_of ss)) s ∷ []
 answers_next p ss s =

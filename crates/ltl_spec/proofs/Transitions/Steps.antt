@@ -1,11 +1,11 @@
 -- Tests as lists of steps, whose operands are earlier steps.
-use Rattle.std.specs.Prelude.{◌≡◌, ℕ, min, max, Bool, true, false, ◌&&◌, ◌||◌, ◌⊎◌, ◌≢◌, ◌<◌, length, List, [], ◌∷◌, ◌++◌, slice_index_or}
+use Rattle.std.specs.Prelude.{◌≡◌, ℕ, Bool, true, false, ◌&&◌, ◌||◌, ◌⊎◌, List, [], ◌∷◌, ◌++◌, slice_index_or}
 use Rattle.std.specs.Ordering.{nat_cmp}
 use Rattle.ltl_spec.specs.Collections.Sets.{has}
 use Rattle.ltl_spec.specs.Transitions.Cubes.{Literal, literal_cmp}
 use Rattle.ltl_spec.specs.Transitions.Pairs.{Pair}
 use Rattle.ltl_spec.proofs.Transitions.Fulfilment as by
-use Rattle.ltl_spec.proofs.Transitions.Fulfilment.{Test, Coming, leaf_code, code}
+use Rattle.ltl_spec.proofs.Transitions.Fulfilment.{Test, passes}
 
 -- a test whose operands are earlier steps, by their numbers
 pub data Step : Type 0 where
@@ -35,15 +35,6 @@ tests_from ts (s ∷ ss) = tests_from (ts ++ step_test ts s ∷ []) ss
 abbrev pub tests_of : List Step → List Test
 tests_of ss = tests_from [] ss
 
--- the code of a step, by the codes of the steps before it
-abbrev pub step_code : Coming → Pair → List ℕ → Step → ℕ
-step_code r p cs Always = 2
-step_code r p cs Never = 0
-step_code r p cs (Reads l) = leaf_code (has literal_cmp l p.cube) (r.literal l)
-step_code r p cs (Leads k) = leaf_code (has nat_cmp k p.targets) (r.target k)
-step_code r p cs (Both i j) = min (slice_index_or cs i 0) (slice_index_or cs j 0)
-step_code r p cs (Either i j) = max (slice_index_or cs i 0) (slice_index_or cs j 0)
-
 -- whether the pair passes a step, by the answers of the steps before it
 abbrev pub step_passes : Pair → List Bool → Step → Bool
 step_passes p bs Always = true
@@ -61,8 +52,3 @@ IsOperand (Reads l) k = ⊥
 IsOperand (Leads n) k = ⊥
 IsOperand (Both i j) k = (k ≡ i) ⊎ (k ≡ j)
 IsOperand (Either i j) k = (k ≡ i) ⊎ (k ≡ j)
-
--- what is asked of each step: nothing (3), or its code. Where an asked one has code 1 its operands are asked
-pub record AreAsked (r : Coming) (p : Pair) (steps : List Step) (asked : List ℕ) : Type 0 where
-  pub codes : (i : ℕ) → i < length steps → (slice_index_or asked i 3 ≡ 3) ⊎ (slice_index_or asked i 3 ≡ code r p (test_at (tests_of steps) i))
-  pub below : (i : ℕ) → i < length steps → slice_index_or asked i 3 ≡ 1 → (k : ℕ) → IsOperand (slice_index_or steps i Always) k → slice_index_or asked k 3 ≢ 3

@@ -1,5 +1,5 @@
 -- The literals and rows that tests mention, as sets of numbers.
-use Rattle.std.proofs.Common.{◌≡◌, ℕ, false, inl, inr, List, [], ◌∷◌, ◌++◌, length, sym, ◌∙◌, ap, subst, arith}
+use Rattle.std.proofs.Common.{◌≡◌, ℕ, inl, inr, List, [], ◌∷◌, ◌++◌, length, sym, ◌∙◌, ap, subst, arith}
 use Rattle.std.specs.Prelude.{slice_index_or}
 use Rattle.std.proofs.lemmas.List.{length-append, get_or_past}
 use Rattle.ltl_spec.specs.Collections.Sets.{Has}
@@ -9,16 +9,14 @@ use Rattle.ltl_spec.specs.NormalForms.NormalForm.{until_rows}
 use Rattle.ltl_spec.specs.Transitions.Pairs.{Pair}
 use Rattle.ltl_spec.specs.Transitions.RowTransitions.{table_of, place}
 use Rattle.ltl_spec.specs.Transitions.Pruning.{fulfilling_pairs}
-use Rattle.ltl_spec.proofs.Collections.SetLaws.{append_cases, union_cases, union_left, union_right}
+use Rattle.ltl_spec.proofs.Collections.SetLaws.{append_cases, union_left, union_right}
 use Rattle.ltl_spec.proofs.Collections.ListLaws.{index_append, index_done}
-use Rattle.ltl_spec.proofs.Collections.Orders.{nat_linear, literal_linear}
-use Rattle.ltl_spec.proofs.Collections.CaseLaws.{false_is_true, below_equal_above}
-use Rattle.ltl_spec.proofs.Transitions.IndependenceTests.{Support, of_sign, no_support, support_of, together, shares_some, Covers, within_sign, within_together_left, within_together_right, Has-names, names_of_sign, shares_sign, shares_row}
+use Rattle.ltl_spec.proofs.Collections.Orders.{nat_linear}
+use Rattle.ltl_spec.proofs.Collections.CaseLaws.{below_equal_above}
+use Rattle.ltl_spec.proofs.Transitions.IndependenceTests.{Support, of_sign, no_support, support_of, together, Covers, within_sign, within_together_left, within_together_right, Has-names, names_of_sign}
 use Rattle.ltl_spec.proofs.Transitions.Fulfilment as by
 use Rattle.ltl_spec.proofs.Transitions.Fulfilment.{Test, literals_of, targets_of, until_test}
 use Rattle.ltl_spec.proofs.Transitions.Steps.{Step, Always, Never, Reads, Leads, Both, Either, test_at, step_test}
-use Rattle.ltl_spec.proofs.Transitions.JoinLaws.{united, within_right}
-use Rattle.ltl_spec.proofs.Transitions.FulfilmentLaws.{Passes, leaves_through}
 use Rattle.ltl_spec.proofs.Transitions.SpokenLaws.{fulfilling_spoken}
 
 -- all that the test speaks of is there
@@ -100,16 +98,3 @@ pub covers_fulfilling : (core : Normal) (v : Support) (f : Normal) → Has (unti
 covers_fulfilling core v f h w =
     let s = fulfilling_spoken core f h in
     record { literals = λ l a. w.literals l (s.literals l a); rows = λ k a. w.rows k (s.rows k a) }
-
--- of a list whose pairs have nothing of what the test speaks of, each two pairs pass it with what comes alike
-pub untouched_through : (v w : Support) (a : Test) (ps : List Pair) (t u x : Pair) → TellsOf v a → Covers w ps → Has ps t → shares_some v w ≡ false → Passes (united t x) a → Passes (united u x) a
-untouched_through v w a ps t u x s c h n =
-    leaves_through (united t x) (united u x) a
-    (λ l i k. elim (union_cases literal_linear t.cube x.cube l k) [
-      | inl m ↦ false_is_true (sym n ∙ shares_sign v w l.positive l.proposition (s.literals l i) (c.literals l (t, h, m)))
-      | inr m ↦ (within_right u x).cube l m
-    ])
-    (λ j i k. elim (union_cases nat_linear t.targets x.targets j k) [
-      | inl m ↦ false_is_true (sym n ∙ shares_row v w j (s.rows j i) (c.rows j (t, h, m)))
-      | inr m ↦ (within_right u x).targets j m
-    ])
