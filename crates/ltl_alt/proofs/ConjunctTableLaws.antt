@@ -18,9 +18,8 @@ use Rattle.ltl_spec.proofs.Transitions.ConjunctJoins.{join_all, join_of}
 use Rattle.ltl_spec.proofs.Transitions.SameJoins.{AreAlike, AreSound, sound_some}
 use Rattle.ltl_alt.specs.declared.support.Dependencies.{Dependencies}
 use Rattle.ltl_alt.specs.SupportView.{AreDependencies}
-use Rattle.ltl_alt.specs.ConjunctTableView.{conjunct_of, dependency_of, links_of, tells_independent, IsLinked, AreAdded, AreKeptBy, AreLinked, AreMade, IsComponent}
+use Rattle.ltl_alt.specs.ConjunctTableView.{conjunct_of, dependency_of, links_of, tells_independent, numbers_of, IsLinked, AreAdded, AreKeptBy, AreLinked, AreMade, IsComponent}
 use Rattle.ltl_alt.specs.declared.rule.Rule.{Rule}
-use Rattle.ltl_alt.specs.OwnersView.{numbers_of}
 use Rattle.ltl_alt.specs.RowLists.{row_place, IsListedRow}
 use Rattle.ltl_alt.specs.ConjunctView.{conjunct_pairs}
 use Rattle.ltl_alt.specs.declared.conjuncts.Conjunct.TheVariants as conjunct
@@ -48,12 +47,12 @@ has_put n ns = (has_Decides nat_linear n (put nat_cmp n ns)).1 (Has-put nat_line
 
 -- ---- places of a list
 
-pub set_same : {K : Type 0} (xs : List K) (k : ℕ) (x d : K) → k < length xs → slice_index_or (slice_set xs k x) k d ≡ x
+set_same : {K : Type 0} (xs : List K) (k : ℕ) (x d : K) → k < length xs → slice_index_or (slice_set xs k x) k d ≡ x
 set_same [] k x d l = absurd (omega arith)
 set_same (y ∷ xs) zero x d l = refl
 set_same (y ∷ xs) (suc k) x d l = set_same xs k x d (omega arith)
 
-pub set_other : {K : Type 0} (xs : List K) (k i : ℕ) (x d : K) → i ≢ k → slice_index_or (slice_set xs k x) i d ≡ slice_index_or xs i d
+set_other : {K : Type 0} (xs : List K) (k i : ℕ) (x d : K) → i ≢ k → slice_index_or (slice_set xs k x) i d ≡ slice_index_or xs i d
 set_other [] k i x d n = refl
 set_other (y ∷ xs) zero zero x d n = absurd (n refl)
 set_other (y ∷ xs) zero (suc i) x d n = refl
@@ -221,14 +220,14 @@ join_same lists more (k ∷ ns) f =
     let rest = join_same lists more ns (λ j h. f j (inr h)) in
     λ i. join (first i) (rest i)
 
-pub none_where : (p : ℕ → Bool) (n : ℕ) (xs : List ℕ) → ((x : ℕ) → Has xs x → p x ≡ false) → places_from p n xs ≡ []
+none_where : (p : ℕ → Bool) (n : ℕ) (xs : List ℕ) → ((x : ℕ) → Has xs x → p x ≡ false) → places_from p n xs ≡ []
 none_where p n [] f = refl
 none_where p n (x ∷ xs) f = ap (λ b. cond b (n ∷ places_from p (n + 1) xs) (places_from p (n + 1) xs)) (f x (inl refl)) ∙ none_where p (n + 1) xs (λ y h. f y (inr h))
 
-pub eq_itself : (i : ℕ) → nat_eq i i ≡ true
+eq_itself : (i : ℕ) → nat_eq i i ≡ true
 eq_itself i = grind (arith, nat_tests)
 
-pub eq_other : (i j : ℕ) → i ≢ j → nat_eq i j ≡ false
+eq_other : (i j : ℕ) → i ≢ j → nat_eq i j ≡ false
 eq_other i j n = grind (arith, nat_tests)
 
 -- the numbers of a row's conjuncts are below the number of conjuncts

@@ -1,5 +1,5 @@
 -- Which until rows count: what the pairs and the sets of each row need, what a round adds, and that rounds end.
-use Rattle.std.proofs.Common.{◌≡◌, ℕ, zero, suc, ◌+◌, ◌<◌, ◌≤◌, Bool, true, false, cond, not, ◌&&◌, ◌||◌, inl, inr, List, [], ◌∷◌, ◌++◌, length, map, refl, sym, ◌∙◌, ap, subst, arith, eqb, Some}
+use Rattle.std.proofs.Common.{◌≡◌, ℕ, zero, suc, ◌+◌, ◌<◌, ◌≤◌, Bool, true, false, cond, ◌&&◌, ◌||◌, inl, inr, List, [], ◌∷◌, ◌++◌, length, map, refl, sym, ◌∙◌, ap, subst, arith, eqb, Some}
 use Rattle.std.specs.Prelude.{slice_get, slice_index_or}
 use Rattle.std.specs.List.{list_all}
 use Rattle.std.specs.Ordering.{nat_cmp}
@@ -19,19 +19,17 @@ use Rattle.ltl_spec.proofs.Collections.ListLaws.{at_place, place_below, place_sa
 use Rattle.ltl_spec.proofs.Collections.MemberLaws.{Has-map}
 use Rattle.ltl_spec.proofs.Collections.Orders.{nat_linear}
 use Rattle.ltl_spec.proofs.Collections.ProductLists.{rising_once}
-use Rattle.ltl_spec.proofs.Collections.SetLaws.{has_Decides, is_subset_Decides, append_cases, union_left, union_right, filter_cases}
+use Rattle.ltl_spec.proofs.Collections.SetLaws.{has_Decides, is_subset_Decides, union_left, union_right, filter_cases}
 use Rattle.ltl_spec.proofs.NormalForms.NormalLaws.{same_Decides}
 use Rattle.ltl_spec.proofs.NormalForms.SharedNodes.{tree_of, index_last}
-use Rattle.ltl_spec.proofs.Transitions.IndependenceTests.{Support, no_support, together, shares_some, Covers, IsWithinSupport, covers_one, covers_append, covers_more, within_sign, within_together_left, within_together_right, shares_sign, shares_row}
+use Rattle.ltl_spec.proofs.Transitions.IndependenceTests.{Support, no_support, together, shares_some, Covers, covers_one, covers_append, within_sign, within_together_left, within_together_right, shares_sign, shares_row}
 use Rattle.ltl_spec.proofs.Transitions.IndependentPairs.{asks_join, leads_join}
-use Rattle.ltl_spec.proofs.Transitions.SameJoins.{united_parts}
-use Rattle.ltl_spec.proofs.Transitions.UnimpliedLaws.{not_cases}
 use Rattle.ltl_sets.specs.Literals.{literal_of}
 use Rattle.ltl_formula.specs.SharedNodesView.{node_of, IsBelow}
 use Rattle.ltl_formula.specs.TableView.{TableView, IsTable, row_tree, core_of, is_until_row, is_elementary_row}
 use Rattle.ltl_formula.specs.declared.row.Row.{Row}
 use Rattle.ltl_formula.specs.declared.row.Row.TheVariants as row
-use Rattle.ltl_alt.specs.CountedView.{support_at, own_support, postponing_support, pairs_support, sets_support, IsSupported, AreSupported, with_right, CoversCounted, places_added, IsClosed, AreClosed, IsRound}
+use Rattle.ltl_alt.specs.CountedView.{support_at, own_support, postponing_support, pairs_support, sets_support, IsSupported, AreSupported, places_added, IsClosed, AreClosed, IsRound}
 use Rattle.ltl_alt.specs.RowLists.{row_place, next_pair}
 use Rattle.ltl_alt.specs.TransitionView.{table_at}
 use Rattle.ltl_alt.proofs.ElementaryLaws.{kind_stands}
@@ -160,48 +158,6 @@ until_kind (row.Release i j) e = refl
 pub until_row_stands : (t : TableView) (k : ℕ) (r : Row) → IsTable t → k < length t.rows → slice_get t.rows k ≡ Some r → IsBelow k r → is_until_row r ≡ true → Has t.elementary k
 until_row_stands t k r w l f b e = kind_stands t k r w l f b (until_kind r e)
 
--- ---- what fulfils the until rows that count
-
--- a pair that fulfils an until row is one of its right operand
-right_covers : (T : Table) (v : Support) (a b : Normal) → Covers v (spec.pairs (place T) b) → Covers v (fulfilling_pairs T (Until a b))
-right_covers T v a b c = record { literals = λ l w. c.literals l (w.0, of_right w.0 w.1, w.2); rows = λ k w. c.rows k (w.0, of_right w.0 w.1, w.2) }
-  where
-    at : ℕ
-    at = place T (Until a b)
-
-    later : List spec.Pair
-    later = spec.join (spec.pairs (place T) a) (spec.later_pair at ∷ [])
-
-    put_off : (p : spec.Pair) → Has later p → Has p.targets at
-    put_off p h =
-        let (x, y, i, j, e, _) = united_parts (spec.pairs (place T) a) (spec.later_pair at ∷ []) p h in
-        subst (λ (q : spec.Pair). Has q.targets at) (sym e) (union_right nat_linear x.targets y.targets at (elim j [
-          | inl d ↦ subst (λ (q : spec.Pair). Has q.targets at) (sym d) (inl refl)
-          | inr z ↦ absurd z
-        ]))
-
-    of_right : (p : spec.Pair) → Has (fulfilling_pairs T (Until a b)) p → Has (spec.pairs (place T) b) p
-    of_right p h =
-        let (m, n) = filter_cases (λ (q : spec.Pair). not (has nat_cmp at q.targets)) (spec.pairs (place T) b ++ later) p h in
-        elim (append_cases (spec.pairs (place T) b) later p m) [
-          | inl i ↦ i
-          | inr i ↦ absurd (not_cases (has nat_cmp at p.targets) n ((has_Decides nat_linear at p.targets).1 (put_off p i)))
-        ]
-
-within_refl : (w : Support) → IsWithinSupport w w
-within_refl w = record { positive = λ n h. h; negative = λ n h. h; targets = λ n h. h }
-
-within_right : (ps : List Support) (w : Support) (r : Row) (c : Bool) → IsWithinSupport w (with_right ps w r c)
-within_right ps w row.True c = within_refl w
-within_right ps w row.False c = within_refl w
-within_right ps w (row.Literal l) c = within_refl w
-within_right ps w (row.Next i) c = within_refl w
-within_right ps w (row.And i j) c = within_refl w
-within_right ps w (row.Or i j) c = within_refl w
-within_right ps w (row.Until i j) true = within_together_left w (support_at ps j)
-within_right ps w (row.Until i j) false = within_refl w
-within_right ps w (row.Release i j) c = within_refl w
-
 -- more places are closed too
 closed_more : (T : Table) (xs ys : spec.RowSet) (w : Support) (F : Normal) → ((i : ℕ) → Has xs i → Has ys i) → IsClosed T xs w F → IsClosed T ys w F
 closed_more T xs ys w Top g h = tt
@@ -220,33 +176,6 @@ module _ (t : TableView) (ps es : List Support) (supported : AreSupported t (len
 
   before : (i : ℕ) → i < k → IsSupported t i (support_at ps i) (support_at es i)
   before i m = supported.each i (omega arith)
-
-  right_needed : (w : Support) (s : Row) → IsBelow k s → normal.is_until (tree_of (row_tree t) (node_of s)) ≡ true → Covers (with_right ps w s true) (fulfilling_pairs (table_at t) (tree_of (row_tree t) (node_of s)))
-  right_needed w row.True c u = false_is_true u
-  right_needed w row.False c u = false_is_true u
-  right_needed w (row.Literal m) c u = false_is_true u
-  right_needed w (row.Next i) c u = false_is_true u
-  right_needed w (row.And i j) c u = false_is_true u
-  right_needed w (row.Or i j) c u = false_is_true u
-  right_needed w (row.Until i j) c u =
-      let a = row_tree t i in
-      let d = row_tree t j in
-      covers_more (support_at ps j) (together w (support_at ps j)) (fulfilling_pairs (table_at t) (Until a d)) (within_together_right w (support_at ps j))
-      (right_covers (table_at t) (support_at ps j) a d (before j c.1).pairs)
-  right_needed w (row.Release i j) c u = false_is_true u
-
-  -- one row more
-  pub needed_step : (counted : spec.RowSet) (w : Support) (c : Bool) → c ≡ has nat_cmp at counted → CoversCounted t counted k w → CoversCounted t counted (k + 1) (with_right ps w r c)
-  needed_step counted w c q all j m u h = elim (below_or_last j k m) [
-    | inl i ↦ covers_more w (with_right ps w r c) (fulfilling_pairs (table_at t) (row_tree t j)) (within_right ps w r c) (all j i u h)
-    | inr e ↦
-        let until : normal.is_until (row_tree t k) ≡ true = subst (λ i. normal.is_until (row_tree t i) ≡ true) e u in
-        let counts : has nat_cmp (row_place t (row_tree t k)) counted ≡ true = subst (λ i. has nat_cmp (row_place t (row_tree t i)) counted ≡ true) e h in
-        let yes : c ≡ true = q ∙ ap (λ i. has nat_cmp i counted) (p until) ∙ counts in
-        subst (λ i. Covers (with_right ps w r c) (fulfilling_pairs (table_at t) (row_tree t i))) (sym e)
-        (subst (λ o. Covers (with_right ps w r o) (fulfilling_pairs (table_at t) (row_tree t k))) (sym yes)
-        (subst (λ F. Covers (with_right ps w r true) (fulfilling_pairs (table_at t) F)) (sym row_is) (right_needed w r b (ap normal.is_until (sym row_is) ∙ until))))
-  ]
 
   -- ---- what a round adds
 
@@ -287,21 +216,15 @@ row_at t w f h =
     let c = rows_count t w in
     (k, omega arith, ap (λ xs. slice_index_or xs k Bottom) w.table.rows ∙ at_place same same_Decides f F Bottom h)
 
--- each until row of the formula is a row of the table
-until_at : (t : TableView) → IsTable t → (f : Normal) → Has (table_at t).untils f → (k : ℕ) × (k < length t.rows) × (row_tree t k ≡ f) × (normal.is_until f ≡ true)
-until_at t w f h =
-    let (m, u) = filter_cases normal.is_until (normal.rows (core_of t)) f h in
-    let (k, l, e) = row_at t w f m in
-    (k, l, e, u)
-
 module _ (t : TableView) (table : IsTable t) (counted : spec.RowSet) (round : IsRound t counted counted) where
   never_needed : (a b : Normal) (v : Support) → Covers v (spec.join (spec.pairs (place (table_at t)) a) (spec.later_pair (place (table_at t) (Until a b)) ∷ [])) → shares_some round.needed v ≡ false
       → (f : Normal) → Has (table_at t).untils f → is_counted (table_at t) counted f ≡ true
       → SharesNothing (fulfilling_pairs (table_at t) f) (spec.join (spec.pairs (place (table_at t)) a) (spec.later_pair (place (table_at t) (Until a b)) ∷ []))
   never_needed a b v c n f h i =
-      let (k, l, e, u) = until_at t table f h in
-      let d : Covers round.needed (fulfilling_pairs (table_at t) f) = subst (λ F. Covers round.needed (fulfilling_pairs (table_at t) F)) e
-      (round.covers k l (ap normal.is_until e ∙ u) (ap (is_counted (table_at t) counted) e ∙ i)) in
+      let T = table_at t in
+      let at = at_place same same_Decides f T.untils Bottom h in
+      let d : Covers round.needed (fulfilling_pairs T f) = subst (λ F. Covers round.needed (fulfilling_pairs T F)) at
+      (round.covers (place_of same f T.untils) (place_below same same_Decides f T.untils h) (subst (λ F. Has counted (place T F)) (sym at) ((has_Decides nat_linear (place T f) counted).0 i))) in
       record {
         literals = λ p q g j m x y. false_is_true (sym n ∙ shares_sign round.needed v m.positive m.proposition (d.literals m (p, g, x)) (c.literals m (q, j, y)));
         targets = λ p q g j m x y. false_is_true (sym n ∙ shares_row round.needed v m (d.rows m (p, g, x)) (c.rows m (q, j, y)));

@@ -1,6 +1,6 @@
 -- The transitions of components by number, where more are listed.
-use Rattle.std.proofs.Common.{◌≡◌, ℕ, Bool, true, inl, inr, List, [], ◌∷◌, arith, length, map, refl, sym, ◌∙◌, ap, subst, Some}
-use Rattle.std.specs.Prelude.{if◌then◌else◌, nat_eq, slice_index_or}
+use Rattle.std.proofs.Common.{◌≡◌, ℕ, Bool, true, inl, inr, List, [], ◌∷◌, map, refl, sym, ◌∙◌, ap, subst, Some}
+use Rattle.std.specs.Prelude.{if◌then◌else◌, nat_eq}
 use Rattle.std.specs.Cmp.Lexicographic.{pointwise, bytes_decides}
 use Rattle.std.specs.Map.{lookup}
 use Rattle.indexmap.specs.IndexMap.{insert_entry}
@@ -126,9 +126,3 @@ pub component_known : (T : Table) (r : Rule) (keep : Bool) (ps pairs : List (Lis
     → Some o ≡ lookup (pointwise nat_eq component) of_components → IsFinal T r keep ps lists component o
 component_known T r keep ps pairs lists of_joins of_components component o w e =
     map_known (pointwise nat_eq) set_exact (IsFinal T r keep ps lists component) component of_components (Some o) e (λ p h. w.of_components component p h)
-
--- one factor is that at the first place
-pub one_factor : (lists : List (List Transition)) (factors : List ℕ) (n d : ℕ) → length factors ≡ 1 → n ≡ slice_index_or factors 0 d → map (made_of lists) factors ≡ made_of lists n ∷ []
-one_factor lists [] n d l e = absurd (omega (arith, l))
-one_factor lists (f ∷ g ∷ fs) n d l e = absurd (omega (arith, l))
-one_factor lists (f ∷ []) n d l e = ap (λ k. made_of lists k ∷ []) (sym e)

@@ -14,7 +14,6 @@ pub mod ListsLaws
 pub mod KeyLaws
 pub mod MapLaws
 pub mod NeedsLaws
-pub mod OwnerLaws
 pub mod ConjunctTableLaws
 pub mod CountedLaws
 pub mod ConjunctLaws

@@ -28,7 +28,7 @@ use Rattle.ltl_spec.proofs.Transitions.LinkLaws.{LinksTell, without, taken_close
 use Rattle.ltl_spec.proofs.Transitions.JoinLaws.{join_parts, within_refl}
 use Rattle.ltl_spec.proofs.Transitions.LeastPairs.{enough_from}
 use Rattle.ltl_spec.proofs.Transitions.ConjunctJoins.{join_all, join_append, join_of, sound_join_of, transitions_by_rows}
-use Rattle.ltl_spec.proofs.Transitions.JoinedLists.{join_all_one, sound_join_all}
+use Rattle.ltl_spec.proofs.Transitions.JoinedLists.{sound_join_all}
 use Rattle.ltl_spec.proofs.Transitions.ConjunctSets.{AreConjunctsOf, conjuncts_in_order}
 use Rattle.ltl_spec.proofs.Transitions.ProductTransitions.{transitions_of, product, transitions_of_cases, in_order, alike_transitions}
 use Rattle.ltl_spec.proofs.Transitions.SameJoins.{AreSound, alike_sym, sound_some}
@@ -38,14 +38,12 @@ use Rattle.ltl_alt.specs.BasisView.{IsBasisOf}
 use Rattle.ltl_alt.specs.declared.basis.Basis.{Basis}
 use Rattle.ltl_alt.specs.declared.fulfilment.Fulfilment.{Fulfilment}
 use Rattle.ltl_alt.specs.FinalView.{AreFactorsOf, AreLists, IsFinal, made_of}
-use Rattle.ltl_alt.specs.OwnersView.{numbers_of, numbers_in}
-use Rattle.ltl_alt.specs.ConjunctTableView.{AreKeptBy, conjunct_of, dependency_of, links_of, AreLinked, HasEach, HasNoConjunct, IsComponent}
+use Rattle.ltl_alt.specs.ConjunctTableView.{AreKeptBy, conjunct_of, dependency_of, links_of, numbers_of, numbers_in, AreLinked, HasEach, HasNoConjunct, IsComponent}
 use Rattle.ltl_alt.specs.TransitionView.{table_at}
 use Rattle.ltl_alt.specs.declared.rule.Rule.{Rule}
 use Rattle.ltl_formula.specs.TableView.{TableView, IsTable, core_of}
 use Rattle.ltl_alt.specs.ProductView.{AreConsistent, join_transitions}
 use Rattle.ltl_alt.specs.StandIns.{IsKeptBy, IsRuleOf, StandsFor}
-use Rattle.ltl_alt.proofs.KeyLaws.{AllListsProper, lists_proper}
 use Rattle.ltl_alt.proofs.JoinOrderLaws.{kept_alike}
 use Rattle.ltl_alt.proofs.StandInLaws.{IsStandIn, kept_all, kept_join, kept_on, stands_in}
 use Rattle.ltl_alt.proofs.ConjunctTableLaws.{map_behind, numbers_below}
@@ -390,22 +388,8 @@ module _ {A : Type 0} (t : TableView) (keep : Bool) (r : Rule) (f : Fulfilment A
       (subst (λ x. IsPermutation (all_products T x) sorted) a.lists (IsPermutation-trans (all_products T tss) products sorted moved permuted)) order
       ∙ sym of_joins
 
-  -- of one list alone it is this list
-  one_list : (l : List Transition) (pss : List (List Pair)) → AllSound pss → l ∷ [] ≡ lists_transitions T keep pss → l ≡ transitions_of T keep (join_all pss)
-  one_list l [] s d = absurd (cc)
-  one_list l (ps ∷ qs ∷ pss) s d = absurd (cc)
-  one_list l (ps ∷ []) s d =
-      let here : l ≡ transitions_of T keep ps = cc in
-      here ∙ alike_transitions T keep ps (join_all (ps ∷ [])) (join_all_one ps (s ps (inl refl)))
-
-  pub set_of_one : (l : List Transition) → tss ≡ l ∷ [] → l ≡ transitions (table_at t) keep state
-  set_of_one l d = one_list l a.pairs sound (sym d ∙ a.lists) ∙ sym of_joins
-
   pub set_consistent : (k : ℕ) → AreConsistent (all_products (table_at t) (drop k tss))
   set_consistent k = subst (λ x. AreConsistent (all_products T (drop k x))) (sym a.lists) (suffix_consistent T keep a.pairs sound apart k)
-
-  pub set_proper : AllListsProper tss
-  set_proper = subst AllListsProper (sym a.lists) (lists_proper T keep a.pairs sound)
 
 -- where a place has no row there are none
 no_member : (conjunct : ℕ → List Pair) (e : List ℕ) (i : ℕ) → Has e i → conjunct i ≡ [] → (r : Pair) → Has (join_of conjunct e) r → ⊥

@@ -1,6 +1,6 @@
 -- Joins of long lists, each pair once, have the same set.
-use Rattle.std.proofs.Common.{◌≡◌, ℕ, suc, ◌+◌, List, [], ◌∷◌, ◌++◌, inl, inr, refl, sym, ◌∙◌, ap, subst, arith, Some, None, Option}
-use Rattle.std.specs.Prelude.{fold, filter_map, slice_get, take}
+use Rattle.std.proofs.Common.{◌≡◌, List, [], ◌∷◌, ◌++◌, inl, inr, refl, sym, ◌∙◌, ap, subst, Some, None, Option}
+use Rattle.std.specs.Prelude.{fold, filter_map}
 use Rattle.std.specs.List.{cons_option}
 use Rattle.std.specs.Ordering.{eq_by_cmp}
 use Rattle.std.proofs.lemmas.List.{append-nil}
@@ -15,7 +15,6 @@ use Rattle.ltl_spec.proofs.Collections.MemberLaws.{flat_map_cases, Has-flat_map,
 use Rattle.ltl_spec.proofs.Collections.Orders.{pair_linear}
 use Rattle.ltl_spec.proofs.Collections.SetLaws.{append_cases, append_left, append_right, set_of_alike, set_of_cases, Has-set_of}
 use Rattle.ltl_spec.proofs.Transitions.JoinLaws.{Has-join, join_parts}
-use Rattle.ltl_automaton.proofs.WayLaws.{take_got}
 use Rattle.ltl_alt.specs.PairHash.{pair_Decides}
 use Rattle.ltl_alt.specs.StandIns.{joins_by_right}
 
@@ -58,12 +57,6 @@ by_right left right = set_of_alike pair_linear (joins_by_right left right) (join
     (λ r h.
     let (p, q, k, m, e) = join_parts left right r h in
     Has-flat_map (λ x. filter_map (λ p. join_pair p x) left) right q r m (Has-filter_map (λ p. join_pair p q) left p r k e))
-
--- one more that is listed
-pub back_next : (keys put more : List Pair) (k : ℕ) (p : Pair) → put ≡ take k keys → slice_get keys k ≡ Some p → more ≡ put ++ p ∷ [] → more ≡ take (k + 1) keys
-back_next keys put more k p e g m =
-    let z : suc k ≡ k + 1 = omega arith in
-    m ∙ ap (λ ks. ks ++ p ∷ []) e ∙ sym (take_got keys k p g) ∙ ap (λ n. take n keys) z
 
 -- the set stays
 pub same_set : (xs keys zs : List Pair) → keys ≡ first_occurrences (eq_by_cmp pair_cmp) xs → zs ≡ keys → set_of pair_cmp zs ≡ set_of pair_cmp xs

@@ -59,7 +59,7 @@ places_push {K} p n (y ∷ xs) x = at (p y) (places_push p (n + 1) xs x ∙ ap (
     at false e = e
 
 -- a number above all others goes last
-pub put_last : (n : ℕ) (xs : List ℕ) → ((z : ℕ) → Has xs z → z < n) → put nat_cmp n xs ≡ xs ++ n ∷ []
+put_last : (n : ℕ) (xs : List ℕ) → ((z : ℕ) → Has xs z → z < n) → put nat_cmp n xs ≡ xs ++ n ∷ []
 put_last n [] f = refl
 put_last n (y ∷ ys) f =
     let l : y < n = f y (inl refl) in

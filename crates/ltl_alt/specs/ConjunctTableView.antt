@@ -1,18 +1,16 @@
 -- The conjuncts of all elementary rows, and the graph of their dependencies.
-use Rattle.std.specs.Prelude.{◌≡◌, ℕ, ◌+◌, ◌<◌, ◌≤◌, ◌⊎◌, Bool, true, false, List, [], ◌∷◌, ◌++◌, length, map, slice_index_or}
+use Rattle.std.specs.Prelude.{◌≡◌, ℕ, ◌+◌, ◌<◌, ◌≤◌, ◌⊎◌, Bool, true, false, List, [], ◌∷◌, ◌++◌, length, map, slice_index_or, nat_eq}
 use Rattle.std.specs.Ordering.{nat_cmp}
 use Rattle.ltl_spec.specs.Collections.Sets.{Has, has}
+use Rattle.ltl_spec.specs.Collections.Lists.{places_where}
 use Rattle.ltl_spec.specs.Transitions.Pairs.{RowSet, Pair}
 use Rattle.ltl_spec.specs.Transitions.RowTransitions.{Table, pairs_at}
 use Rattle.ltl_spec.proofs.Transitions.IndependenceTests.{no_support, is_independent}
 use Rattle.ltl_spec.proofs.Transitions.ConjunctJoins.{join_of}
 use Rattle.ltl_spec.proofs.Transitions.SameJoins.{AreSound}
 use Rattle.ltl_alt.specs.declared.conjunct_table.ConjunctTable.{ConjunctTable}
-use Rattle.ltl_alt.specs.declared.conjuncts.Conjunct.{Conjunct}
 use Rattle.ltl_alt.specs.declared.support.Dependencies.{Dependencies}
 use Rattle.ltl_alt.specs.declared.rule.Rule.{Rule}
-use Rattle.ltl_alt.specs.ConjunctView.{AreConjuncts}
-use Rattle.ltl_alt.specs.OwnersView.{numbers_of}
 use Rattle.ltl_alt.specs.SupportView.{AreDependencies}
 use Rattle.ltl_alt.specs.StandIns.{IsKeptBy, StandsFor}
 use Rattle.ltl_alt.specs.TransitionView.{table_at}
@@ -31,6 +29,13 @@ links_of links k = slice_index_or links k []
 -- the test finds that two conjuncts are independent
 abbrev pub tells_independent : Dependencies → Dependencies → Bool
 tells_independent d e = is_independent d.support d.fulfilling e.support e.fulfilling
+
+-- the numbers of the conjuncts of the row at a place, and of the rows of a set
+abbrev pub numbers_of : List ℕ → ℕ → List ℕ
+numbers_of owners i = places_where (λ o. nat_eq o i) owners
+
+abbrev pub numbers_in : List ℕ → RowSet → RowSet
+numbers_in owners state = places_where (λ o. has nat_cmp o state) owners
 
 -- a conjunct was linked with each of the first k of which it isn't independent
 pub record IsLinked (dependencies : List Dependencies) (d : Dependencies) (n k : ℕ) (old new : List RowSet) (own : RowSet) : Type 0 where
@@ -92,17 +97,6 @@ pub record AreAdded (T : Table) (r : Rule) (place : ℕ) (pss : List (List Pair)
 -- some conjuncts were appended
 abbrev pub IsLonger : List (List Pair) → List (List Pair) → Type 0
 IsLonger old new = (more : List (List Pair)) × (new ≡ old ++ more)
-
--- each conjunct so far has an owner, and there are numbers for so many more of the row at a place
-pub record HasRoom (place more : ℕ) (owners : List ℕ) (lists : List (List Pair)) : Type 0 where
-  pub within : place < 256
-  pub owned : length owners ≡ length lists
-  pub few : length lists + more ≤ 256
-
--- these are conjuncts, and there are numbers for all of them
-pub record AreFew (t : TableView) (ps : List Conjunct) (place : ℕ) (owners : List ℕ) (lists : List (List Pair)) : Type 0 where
-  pub fitting : AreConjuncts t ps
-  pub room : HasRoom place (length ps) owners lists
 
 -- the row at a place may get `most` numbers
 abbrev pub IsRoom : ℕ → ℕ → List (List Pair) → Type 0

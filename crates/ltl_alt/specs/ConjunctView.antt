@@ -1,5 +1,5 @@
 -- Splitting of a row into conjuncts: the joins of one pair of each are the pairs of the row.
-use Rattle.std.specs.Prelude.{◌≡◌, ◌<◌, List, [], ◌∷◌, ◌++◌, length}
+use Rattle.std.specs.Prelude.{◌≡◌, ◌+◌, ◌<◌, ◌≤◌, ℕ, List, [], ◌∷◌, ◌++◌, length}
 use Rattle.ltl_spec.specs.Collections.Sets.{Has}
 use Rattle.ltl_spec.specs.Transitions.Pairs.{Pair, join, later_pair, pairs}
 use Rattle.ltl_formula.specs.TableView.{TableView, row_tree}
@@ -21,6 +21,11 @@ IsConjunct t (conjunct.Released i k) = (i < length t.rows) × (k < length t.rows
 
 abbrev pub AreConjuncts : TableView → List Conjunct → Type 0
 AreConjuncts t ps = (p : Conjunct) → Has ps p → IsConjunct t p
+
+-- there is a number for each of them after the first n
+pub record AreFew (t : TableView) (ps : List Conjunct) (n : ℕ) : Type 0 where
+  pub fitting : AreConjuncts t ps
+  pub few : n + length ps ≤ 256
 
 -- the joins of the pairs of these two are the pairs of the conjunct
 pub record AreTwoConjuncts (t : TableView) (p : Conjunct) (two : Conjunct × Conjunct) : Type 0 where

@@ -1,17 +1,16 @@
 -- The until rows that count while pairs are pruned, by the supports of the pairs and of the sets of each row.
-use Rattle.std.specs.Prelude.{◌≡◌, ℕ, ◌<◌, Bool, true, false, ◌⊎◌, if◌then◌else◌, List, [], ◌∷◌, length, map, slice_index_or}
+use Rattle.std.specs.Prelude.{◌≡◌, ℕ, ◌<◌, false, ◌⊎◌, if◌then◌else◌, List, [], ◌∷◌, length, map, slice_index_or}
 use Rattle.ltl_spec.specs.Collections.Sets.{Has}
 use Rattle.ltl_spec.specs.NormalForms.Normal.{Normal, Next, Until}
-use Rattle.ltl_spec.specs.NormalForms.NormalForm.{is_until}
 use Rattle.ltl_spec.specs.Transitions.Pairs as spec
 use Rattle.ltl_spec.specs.Transitions.RowTransitions.{Table, place}
-use Rattle.ltl_spec.specs.Transitions.Pruning.{is_counted, fulfilling_pairs}
 use Rattle.ltl_spec.proofs.Transitions.IndependenceTests.{Support, no_support, support_of, together, shares_some, Covers}
 use Rattle.ltl_sets.specs.Literals.{literal_of}
 use Rattle.ltl_formula.specs.TableView.{TableView, row_tree}
 use Rattle.ltl_formula.specs.declared.row.Row.{Row}
 use Rattle.ltl_formula.specs.declared.row.Row.TheVariants as row
 use Rattle.ltl_alt.specs.RowLists.{row_place, next_pair}
+use Rattle.ltl_alt.specs.SupportView.{CoversAllFulfilling}
 use Rattle.ltl_alt.specs.TransitionView.{table_at}
 
 -- ---- the supports of the pairs and of the sets of each row
@@ -62,16 +61,6 @@ pub record AreSupported (t : TableView) (n : ℕ) (ps es : List Support) : Type 
 
 -- ---- one round
 
--- with what the pairs of an until row's right operand need, if the row counts
-abbrev pub with_right : List Support → Support → Row → Bool → Support
-with_right ps needed (row.Until i j) true = together needed (support_at ps j)
-with_right ps needed _ _ = needed
-
--- all that fulfils those of the first n rows that are until rows and count is there
-abbrev pub CoversCounted : TableView → spec.RowSet → ℕ → Support → Type 0
-CoversCounted t counted n needed = (k : ℕ) → k < n → is_until (row_tree t k) ≡ true → is_counted (table_at t) counted (row_tree t k) ≡ true
-    → Covers needed (fulfilling_pairs (table_at t) (row_tree t k))
-
 -- the places that count because of a row, by what is needed; `at` is the place of an until row
 abbrev pub places_added : List Support → List Support → Support → Row → ℕ → spec.RowSet
 places_added ps es needed (row.Next i) at = (support_at es i).targets
@@ -93,5 +82,5 @@ AreClosed t places needed n = (k : ℕ) → k < n → IsClosed (table_at t) plac
 pub record IsRound (t : TableView) (counted next : spec.RowSet) : Type 0 where
   pub more : (k : ℕ) → Has counted k → Has next k
   pub needed : Support
-  pub covers : CoversCounted t counted (length t.rows) needed
+  pub covers : CoversAllFulfilling (table_at t) counted (length (table_at t).untils) needed
   pub closed : AreClosed t next needed (length t.rows)

@@ -8,8 +8,6 @@ use Rattle.ltl_spec.proofs.Transitions.FactorLaws.{AreTakenOut, lists_transition
 use Rattle.ltl_spec.proofs.Transitions.ConjunctJoins.{join_of}
 use Rattle.ltl_spec.proofs.Transitions.ProductTransitions.{transitions_of}
 use Rattle.ltl_alt.specs.declared.basis.Basis.{Basis}
-use Rattle.ltl_alt.specs.declared.factors.SetTransitions.{SetTransitions}
-use Rattle.ltl_alt.specs.declared.factors.SetTransitions.TheVariants as set
 use Rattle.ltl_alt.specs.declared.finals.Finals.{Finals}
 use Rattle.ltl_alt.specs.declared.memo.JoinKey.{JoinKey}
 use Rattle.ltl_alt.specs.ComponentView.{HasComponents}
@@ -22,11 +20,6 @@ use Rattle.ltl_alt.specs.TransitionView.{table_at}
 -- the stored list with a number
 abbrev pub made_of : List (List Transition) → ℕ → List Transition
 made_of lists k = slice_index_or lists k []
-
--- the transitions of a set of rows, where a number stands for a stored list
-abbrev pub listed_in : {A : Type 0} → List (List Transition) → SetTransitions A → List Transition
-listed_in lists (set.Owned v) = v.items
-listed_in lists (set.Stored n) = made_of lists n
 
 abbrev pub AreWithin : List (List Transition) → List ℕ → Type 0
 AreWithin lists factors = (k : ℕ) → Has factors k → k < length lists
@@ -66,8 +59,7 @@ abbrev pub AreFactorsOf : {A : Type 0} → Basis A → List (List Transition) �
 AreFactorsOf b lists all factors rest =
     AreWithin lists factors × AreLists (table_at b.table.now) b.pruning.rule b.keep_implied b.conjuncts.lists.items all (map (made_of lists) factors) rest
 
--- the table is right, and the factors that it keeps are those of the conjuncts that were asked for last
+-- the table is right
 abbrev pub HasFinals : {A : Type 0} → Basis A → Finals A → Type 0
 HasFinals b f =
     HasComponents b f.components × AreFinals (table_at b.table.now) b.pruning.rule b.keep_implied b.conjuncts.lists.items f.components.memo.lists.keys f.lists.keys f.of_joins.entries f.of_components.entries
-    × AreFactorsOf b f.lists.keys f.asked f.factors.items []

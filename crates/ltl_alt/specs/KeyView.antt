@@ -1,5 +1,5 @@
 -- Sets of rows keyed by the list numbers of their components.
-use Rattle.std.specs.Prelude.{◌≡◌, ℕ, ◌<◌, ◌≤◌, Bool, List, [], ◌∷◌, insert, length, map}
+use Rattle.std.specs.Prelude.{◌≡◌, ℕ, ◌<◌, Bool, List, length, map}
 use Rattle.std.specs.declared.vec.Vec.{Vec}
 use Rattle.ltl_spec.specs.Collections.Sets.{Has}
 use Rattle.ltl_spec.specs.Transitions.Pairs.{RowSet}
@@ -7,16 +7,6 @@ use Rattle.ltl_spec.specs.Transitions.RowTransitions.{Table, Transition, transit
 use Rattle.ltl_spec.proofs.Transitions.FactorLaws.{all_products}
 use Rattle.ltl_spec.proofs.Transitions.ProductTransitions.{in_order}
 use Rattle.ltl_alt.specs.FinalView.{made_of}
-
--- the second list is a permutation of the first one, made by insertions
-abbrev pub IsMoved : {X : Type 0} → List X → List X → Type 0
-IsMoved [] ys = ys ≡ []
-IsMoved {X} (x ∷ xs) ys = (zs : List X) × (i : ℕ) × IsMoved xs zs × (i ≤ length zs) × (ys ≡ insert zs i x)
-
--- the numbers of these factors in some order
-pub record AreNumbersOf (lists : List (List Transition)) (factors numbers : List ℕ) : Type 0 where
-  pub within : (k : ℕ) → Has numbers k → k < length lists
-  pub moved : IsMoved (map (made_of lists) factors) (map (made_of lists) numbers)
 
 -- the transitions of a set of rows are the product of the lists with these numbers
 pub record IsKeyOf (T : Table) (keep : Bool) (lists : List (List Transition)) (numbers : List ℕ) (state : RowSet) : Type 0 where

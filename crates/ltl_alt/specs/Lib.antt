@@ -12,7 +12,6 @@ pub mod KeyView
 pub mod ListHash
 pub mod MemoView
 pub mod NeedsView
-pub mod OwnersView
 pub mod PairHash
 pub mod ProductView
 pub mod ReachView

@@ -1,6 +1,6 @@
 //! The conjuncts of all elementary rows, and the graph of their dependencies.
 
-ghost use Rattle.std.specs.Prelude.{◌≡◌, slice_get, ℕ, ◌+◌, ◌<◌, ◌≤◌, ◌++◌, ◌∷◌, [], List, length, map, MatchOption, OnOk, IfOk};
+ghost use Rattle.std.specs.Prelude.{◌≡◌, slice_get, ℕ, ◌+◌, ◌<◌, ◌≤◌, ◌++◌, ◌∷◌, [], length, map, MatchOption, OnOk, IfOk};
 ghost use Rattle.std.specs.Ordering.{nat_cmp};
 ghost use Rattle.ltl_spec.specs.Collections.Sets.{Has, put};
 ghost use Rattle.ltl_spec.specs.Transitions.Pairs as spec_pairs;
@@ -8,10 +8,9 @@ ghost use Rattle.ltl_spec.specs.Transitions.RowTransitions as spec;
 ghost use Rattle.ltl_spec.proofs.Transitions.SameJoins.{AreSound};
 ghost use Rattle.ltl_alt.specs.declared.conjuncts.Conjunct.TheVariants as made_conjunct;
 ghost use Rattle.ltl_alt.specs.declared.rule.Rule as made_rule;
-ghost use Rattle.ltl_alt.specs.ConjunctTableView.{AreAdded, AreFew, AreLinked, AreMade, HasAllParts, HasConjuncts, HasRoom, IsComponent};
-ghost use Rattle.ltl_alt.specs.ConjunctTableView.{HasEach, HasNoConjunct, IsLinked, IsRoom, links_of, conjunct_of};
-ghost use Rattle.ltl_alt.specs.ConjunctView.{IsConjunct, conjunct_pairs};
-ghost use Rattle.ltl_alt.specs.OwnersView.{numbers_in};
+ghost use Rattle.ltl_alt.specs.ConjunctTableView.{AreAdded, AreLinked, AreMade, HasAllParts, HasConjuncts, IsComponent};
+ghost use Rattle.ltl_alt.specs.ConjunctTableView.{HasEach, HasNoConjunct, IsLinked, IsRoom, links_of, numbers_in, conjunct_of};
+ghost use Rattle.ltl_alt.specs.ConjunctView.{AreFew, IsConjunct, conjunct_pairs};
 ghost use Rattle.ltl_alt.specs.RowLists.{AreLists, IsListedRow};
 ghost use Rattle.ltl_alt.specs.StandIns.{IsListed, StandsFor};
 ghost use Rattle.ltl_alt.specs.Tests.{AreTests};
@@ -21,7 +20,6 @@ use crate::conjuncts::{Conjunct, conjunct_at, conjuncts};
 use crate::context::Context;
 use crate::fulfilment::Fulfilment;
 use crate::lists::both;
-use crate::owners::Owners;
 use crate::pair::Pair;
 use crate::pair_set::PairSet;
 use crate::place::{elementary_places, first, place, put_if};
@@ -36,7 +34,7 @@ use std::alloc::{AllocError, Allocator};
 #[derive(Drop)]
 pub(crate) struct ConjunctTable<'a, A: Allocator> {
     /// For each conjunct, the place of its row.
-    pub(crate) owners: Owners<'a, A>,
+    pub(crate) owners: Vec<usize, &'a A>,
     pub(crate) lists: Vec<PairSet<'a, A>, &'a A>,
     pub(crate) dependencies: Vec<Dependencies, &'a A>,
     /// For each conjunct, the conjuncts that may depend on it, itself among them.
@@ -74,7 +72,7 @@ impl<'a, A: Allocator> ConjunctTable<'a, A> {
         ensures made { result.made ≡ [] }
     {
         ConjunctTable {
-            owners: Owners::new(alloc),
+            owners: Vec::new(alloc),
             lists: Vec::new(alloc),
             dependencies: Vec::new(alloc),
             links: Vec::new(alloc),
@@ -99,7 +97,7 @@ impl<'a, A: Allocator> ConjunctTable<'a, A> {
     ) -> Result<(), AllocError>
         requires tests { AreTests (table_at table.now) fulfilment.now }
         requires linked { AreLinked (table_at table.now) self.old.lists.items self.old.dependencies.items self.old.links.items }
-        requires room { HasRoom place 1 self.old.owners.items self.old.lists.items }
+        requires few { length self.old.lists.items < RowSet.LIMIT }
         requires sound { AreSound pairs }
         ensures linked { OnOk result (AreLinked (table_at table.now) self.new.lists.items self.new.dependencies.items self.new.links.items) }
         ensures owners { OnOk result (self.new.owners.items ≡ self.old.owners.items ++ place ∷ []) }
@@ -126,7 +124,7 @@ impl<'a, A: Allocator> ConjunctTable<'a, A> {
         requires lists { AreLists context.now.table.now context.now.pruning.rule rows.old.pairs.items rows.old.sets.items }
         requires tests { AreTests (table_at context.now.table.now) context.now.pruning.fulfilment.now }
         requires linked { AreLinked (table_at context.now.table.now) self.old.lists.items self.old.dependencies.items self.old.links.items }
-        requires conjuncts { AreFew context.now.table.now conjuncts.now place self.old.owners.items self.old.lists.items }
+        requires conjuncts { AreFew context.now.table.now conjuncts.now (length self.old.lists.items) }
         ensures lists { OnOk result (AreLists context.now.table.now context.now.pruning.rule rows.new.pairs.items rows.new.sets.items) }
         ensures linked { OnOk result (AreLinked (table_at context.now.table.now) self.new.lists.items self.new.dependencies.items self.new.links.items) }
         ensures added { OnOk result (AreAdded (table_at context.now.table.now) context.now.pruning.rule place
@@ -199,13 +197,18 @@ impl<'a, A: Allocator> ConjunctTable<'a, A> {
 
     /// The conjuncts of all rows of a set, or `None` if the set has a place without a row.
     pub(crate) fn numbers(&self, state: &RowSet) -> Option<RowSet>
+        requires { length self.now.owners.items ≤ RowSet.LIMIT }
         ensures { MatchOption result (HasNoConjunct self.now.made state.now) (λ all. all ≡ numbers_in self.now.owners.items state.now
             × HasEach self.now.made state.now) }
     {
         if !state.is_subset(&self.made) {
             return None;
         }
-        Some(self.owners.conjuncts_of(state))
+        let mut numbers = RowSet::empty();
+        'conjuncts: for k in 0..self.owners.len() {
+            put_if(&mut numbers, k, state.holds(self.owners[k]));
+        }
+        Some(numbers)
     }
 
     /// The conjuncts that are linked with the one of this number.

@@ -4,24 +4,26 @@
 //! counts in two cases:
 //!
 //! - It is in one of the sets of rows of `a`, for a row `X a`.
-//! - A pair that postpones it needs a literal or a row that a pair of the right operand of an until row that counts needs, too.
+//! - A pair that postpones it needs a literal or a row on which the test of an until row that counts depends.
 //!
-//! The second case is tested by supports. The until rows that count are found in rounds. Each round adds those that count because of the ones that were found
-//! before. The last round adds none.
+//! All that fulfilling pairs need is among what their tests depend on. The until rows that count are found in rounds. Each round adds those that count
+//! because of the ones that were found before. The last round adds none.
 
 ghost use Rattle.std.specs.Prelude.{◌≡◌, ◌<◌, length, true, IfOk};
 ghost use Rattle.ltl_spec.specs.Transitions.CountedUntils.{AreCounted};
 ghost use Rattle.ltl_spec.specs.NormalForms.NormalForm.{is_until};
 ghost use Rattle.ltl_formula.specs.SharedNodesView.{IsBelow};
 ghost use Rattle.ltl_formula.specs.TableView.{IsNamedBelow, is_elementary_row, is_until_row, row_tree};
-ghost use Rattle.ltl_alt.specs.CountedView.{AreSupported, CoversCounted, IsRound};
-ghost use Rattle.ltl_alt.specs.CountedView.{own_support, pairs_support, places_added, postponing_support, sets_support, with_right};
+ghost use Rattle.ltl_alt.specs.CountedView.{AreSupported, IsRound};
+ghost use Rattle.ltl_alt.specs.CountedView.{own_support, pairs_support, places_added, postponing_support, sets_support};
 ghost use Rattle.ltl_alt.specs.RowLists.{row_place};
+ghost use Rattle.ltl_alt.specs.Tests.{AreTests};
 ghost use Rattle.ltl_alt.specs.TransitionView.{table_at};
 
+use crate::fulfilment::Fulfilment;
 use crate::pair::Pair;
 use crate::place::place;
-use crate::support::Support;
+use crate::support::{Support, fulfilling_of};
 use ltl_formula::{Row, Table};
 use ltl_sets::RowSet;
 use std::alloc::{AllocError, Allocator};
@@ -126,31 +128,6 @@ impl<'a, A: Allocator> RowSupports<'a, A> {
         Ok(RowSupports { pairs, sets })
     }
 
-    /// Adds what the pairs of a row's right operand need, if the row is an until row that counts.
-    fn with_right(&self, needed: Support, row: Row, is_counted: bool) -> Support
-        requires { IsBelow (length self.now.pairs.items) row }
-        ensures { result ≡ with_right self.now.pairs.items needed row is_counted }
-    {
-        match row {
-            Row::Until(_, j) if is_counted => needed.together(&self.pairs[j]),
-            _ => needed,
-        }
-    }
-
-    /// What the pairs of the right operands of the until rows that count need. All that the fulfilling pairs of these rows need is among it.
-    fn needed(&self, table: &Table<'_, A>, counted: &RowSet) -> Support
-        requires { AreSupported table.now (length table.now.rows) self.now.pairs.items self.now.sets.items }
-        ensures { CoversCounted table.now counted.now (length table.now.rows) result }
-    {
-        table.invariant();
-        let mut needed = Support::nothing();
-        'rows: for k in 0..table.len() {
-            let is_counted = counted.holds(until_place(table, k));
-            needed = self.with_right(needed, table.row(k), is_counted);
-        }
-        needed
-    }
-
     /// The places that count because of a row. A row `X a` adds all members of the sets of `a`. An until row adds its own place if a pair that postpones it
     /// needs something that is needed.
     fn places_added(&self, needed: &Support, row: Row, place: usize) -> RowSet
@@ -174,12 +151,18 @@ impl<'a, A: Allocator> RowSupports<'a, A> {
     }
 
     /// The places that were found before, and those that count because of them.
-    fn round(&self, table: &Table<'_, A>, counted: &RowSet) -> RowSet
-        requires { AreSupported table.now (length table.now.rows) self.now.pairs.items self.now.sets.items }
+    fn round(
+        &self,
+        table: &Table<'_, A>,
+        fulfilment: &Fulfilment<'_, A>,
+        counted: &RowSet,
+    ) -> RowSet
+        requires tests { AreTests (table_at table.now) fulfilment.now }
+        requires supported { AreSupported table.now (length table.now.rows) self.now.pairs.items self.now.sets.items }
         ensures { IsRound table.now counted.now result }
     {
         table.invariant();
-        let needed = self.needed(table, counted);
+        let needed = fulfilling_of(table, fulfilment, counted);
         let mut next = *counted;
         'rows: for k in 0..table.len() {
             let added = self.places_added(&needed, table.row(k), until_place(table, k));
@@ -193,18 +176,20 @@ impl<'a, A: Allocator> RowSupports<'a, A> {
 pub(crate) fn counted<'a, A: Allocator>(
     alloc: &'a A,
     table: &Table<'_, A>,
+    fulfilment: &Fulfilment<'_, A>,
 ) -> Result<RowSet, AllocError>
+    requires { AreTests (table_at table.now) fulfilment.now }
     ensures { IfOk result (AreCounted (table_at table.now)) }
 {
     table.invariant();
     let supports = RowSupports::of(alloc, table)?;
     let mut counted = RowSet::empty();
-    let mut next = supports.round(table, &counted);
+    let mut next = supports.round(table, fulfilment, &counted);
     'rounds: while !next.is_subset(&counted) {
         counted.invariant();
         next.invariant();
         counted = next;
-        next = supports.round(table, &counted);
+        next = supports.round(table, fulfilment, &counted);
     }
     Ok(counted)
 }

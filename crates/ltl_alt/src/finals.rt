@@ -9,7 +9,6 @@ ghost use Rattle.ltl_spec.proofs.Transitions.SortedTransitions.{transitions_as_l
 ghost use Rattle.ltl_alt.specs.BasisView.{IsBasis};
 ghost use Rattle.ltl_alt.specs.FinalView.{HasFinals, IsFinal, IsListOf, IsLonger, made_of};
 ghost use Rattle.ltl_alt.specs.MemoView.{last_list};
-ghost use Rattle.ltl_alt.specs.ConjunctTableView.{conjunct_of};
 ghost use Rattle.ltl_alt.specs.TransitionView.{AllSets, table_at};
 
 use crate::basis::Basis;
@@ -39,10 +38,6 @@ pub(crate) struct Finals<'a, A: Allocator> {
     pub(crate) of_joins: IndexMap<JoinKey, usize, BuildHasherDefault<FoldHasher>, &'a A>,
     /// For each component that was met the number of its transitions.
     pub(crate) of_components: IndexMap<RowSet, usize, BuildHasherDefault<FoldHasher>, &'a A>,
-    /// The conjuncts whose factors were computed last.
-    pub(crate) asked: RowSet,
-    /// Their factors: for each of their components the number of its transitions.
-    pub(crate) factors: Vec<usize, &'a A>,
     /// The number of transitions and components that are stored.
     size: usize,
 }
@@ -90,8 +85,6 @@ impl<'a, A: Allocator> Finals<'a, A> {
             lists: Interner::new(basis.alloc),
             of_joins: IndexMap::new(basis.alloc),
             of_components: IndexMap::new(basis.alloc),
-            asked: RowSet::empty(),
-            factors: Vec::new(basis.alloc),
             size: 0,
         })
     }

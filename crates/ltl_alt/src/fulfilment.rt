@@ -31,20 +31,6 @@ pub(crate) struct Fulfilment<'a, A: Allocator> {
     pub(crate) untils: Vec<UntilTest, &'a A>,
 }
 
-/// The steps of a program in their order.
-fn listed_steps<'a, A: Allocator>(
-    alloc: &'a A,
-    program: &Program<'a, A>,
-) -> Result<Vec<Step, &'a A>, AllocError>
-    ensures { IfOk result (λ v. v.items ≡ program.now.steps.keys) }
-{
-    let mut steps = Vec::with_capacity(alloc, program.len())?;
-    'steps: for k in 0..program.len() {
-        steps.push(program.step(k))?;
-    }
-    Ok(steps)
-}
-
 /// The number of the step that is an until row's test, or 0 for another row. A pair fulfils an until row if it passes the right operand's test.
 fn test_step<A: Allocator>(program: &Program<'_, A>, row: Row) -> usize
     requires { IsBelow (length program.now.rows.items) row }
@@ -90,7 +76,7 @@ impl<'a, A: Allocator> Fulfilment<'a, A> {
     {
         table.invariant();
         let program = until_steps(alloc, table)?;
-        let steps = listed_steps(alloc, &program)?;
+        let steps = Vec::from_slice(alloc, program.steps())?;
         let leaves = leaves(alloc, steps.as_slice())?;
         let mut untils = Vec::new(alloc);
         'untils: for number in 0..until_count(table) {

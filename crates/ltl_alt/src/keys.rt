@@ -1,10 +1,10 @@
-//! Recognition of sets of rows with equal transitions, by the numbers of their components' lists.
+//! Recognition of sets of rows with equal transitions, by the list numbers of their components.
 
-ghost use Rattle.std.specs.Prelude.{◌≡◌, ◌≤◌, List, [], Bool, length, IfOk, IfSome, OnOk};
+ghost use Rattle.std.specs.Prelude.{◌≡◌, List, [], Bool, IfOk, IfSome, OnOk};
 ghost use Rattle.ltl_spec.specs.Transitions.RowTransitions as spec;
 ghost use Rattle.ltl_alt.specs.BasisView.{IsBasis};
-ghost use Rattle.ltl_alt.specs.FinalView.{AreWithin, HasFinals};
-ghost use Rattle.ltl_alt.specs.KeyView.{AreKeys, AreNumbersOf, IsKeyOf, HasSameTransitions};
+ghost use Rattle.ltl_alt.specs.FinalView.{HasFinals};
+ghost use Rattle.ltl_alt.specs.KeyView.{AreKeys, IsKeyOf, HasSameTransitions};
 ghost use Rattle.ltl_alt.specs.TransitionView.{table_at};
 
 use crate::basis::Basis;
@@ -14,40 +14,13 @@ use ltl_sets::RowSet;
 use std::alloc::{AllocError, Allocator};
 use std::hash::{BuildHasherDefault, FoldHasher};
 
-/// The sorted list numbers of the components of a set of rows. Sets with one key have the same transitions.
+/// The factors of a set of rows, by their list numbers. Sets with the same factors have the same transitions.
 type Key<'a, A> = Vec<usize, &'a A>;
 
 /// For each key the first set of rows that has it.
 #[derive(Drop)]
 pub(crate) struct Keys<'a, A: Allocator> {
     pub(crate) states: IndexMap<Key<'a, A>, RowSet, BuildHasherDefault<FoldHasher>, &'a A>,
-}
-
-/// The index at which a number is inserted among sorted ones.
-fn place_in(numbers: &[usize], number: usize) -> usize
-    ensures { result ≤ length numbers.now }
-{
-    for k in 0..numbers.len() {
-        if number <= numbers[k] {
-            return k;
-        }
-    }
-    numbers.len()
-}
-
-/// The sorted numbers of factors.
-fn key<'a, A: Allocator>(alloc: &'a A, factors: &[usize]) -> Result<Key<'a, A>, AllocError>
-    ensures { (lists : List (List spec.Transition)) → AreWithin lists factors.now → IfOk result (λ v. AreNumbersOf lists factors.now v.items) }
-{
-    let mut key = Vec::with_capacity(alloc, factors.len())?;
-    let mut left = factors.len();
-    'factors: while left > 0 {
-        left -= 1;
-        let number = factors[left];
-        let place = place_in(key.as_slice(), number);
-        key.insert(place, number)?;
-    }
-    Ok(key)
 }
 
 impl<'a, A: Allocator> Keys<'a, A> {
@@ -92,8 +65,7 @@ impl<'a, A: Allocator> Keys<'a, A> {
             return Ok(None);
         };
         state.invariant();
-        finals.find_factors(basis, &all)?;
-        let key = key(basis.alloc, finals.factors.as_slice())?;
+        let key = finals.factors(basis, &all)?;
         self.first(key, state)
     }
 }

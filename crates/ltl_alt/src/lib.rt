@@ -24,7 +24,7 @@
 //!   before the next set of rows (`reach`).
 //! - The transitions of the set are the products of one transition of each component. They are counted first, then made and sorted (`factors`, `product`).
 //!
-//! A set shares the edges of an earlier set if the components of both have the same lists of transitions (`keys`).
+//! A set shares the edges of an earlier set if the components of both have the same lists of transitions, in the same order (`keys`).
 //!
 //! Two points are subtle. First, a pair that needs less than another one may postpone an until row that the other one fulfils. So a pair doesn't replace
 //! another one merely because it needs less. Second, implied transitions are sought within each component alone. This is enough because components are
@@ -59,7 +59,6 @@ mod marks;
 mod memo;
 mod needs;
 pub mod of_table;
-mod owners;
 pub mod pair;
 pub mod pair_set;
 mod place;

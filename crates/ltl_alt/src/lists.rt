@@ -45,20 +45,6 @@ fn noted<'a, A: Allocator>(
     Ok(once)
 }
 
-/// The interned pairs as a list.
-fn listed<'a, A: Allocator>(
-    alloc: &'a A,
-    once: &Interner<'a, Pair, A>,
-) -> Result<Vec<Pair, &'a A>, AllocError>
-    ensures { IfOk result (λ v. v.items ≡ once.now.keys) }
-{
-    let mut pairs = Vec::with_capacity(alloc, once.len())?;
-    for k in 0..once.len() {
-        pairs.push(*once.get(k))?;
-    }
-    Ok(pairs)
-}
-
 /// The different joins of a pair of each side, in the order of their first occurrence.
 pub(crate) fn join<'a, A: Allocator>(
     alloc: &'a A,
@@ -69,7 +55,7 @@ pub(crate) fn join<'a, A: Allocator>(
     ensures once { IfOk result (λ v. HasNoRepeats v.items) }
 {
     let once = noted(alloc, left, right)?;
-    let pairs = listed(alloc, &once)?;
+    let pairs = Vec::from_slice(alloc, once.as_slice())?;
     Ok(pairs)
 }
 

@@ -3,7 +3,7 @@
 //! Whether a pair fulfils an until row is a Boolean function of its literals and targets. The function is read off the formula. A step combines earlier
 //! steps, so one pass evaluates all steps. Equal steps have one number.
 
-ghost use Rattle.std.specs.Prelude.{◌≡◌, ℕ, ◌+◌, ◌<◌, ◌≤◌, length, slice_get, Some, IfOk, OnOk, true};
+ghost use Rattle.std.specs.Prelude.{◌≡◌, ℕ, ◌+◌, ◌<◌, length, IfOk, OnOk, true};
 ghost use Rattle.ltl_formula.specs.SharedNodesView.{IsBelow};
 ghost use Rattle.ltl_formula.specs.TableView.{IsNamedBelow, is_elementary_row};
 ghost use Rattle.ltl_spec.proofs.Transitions.Fulfilment as test;
@@ -59,19 +59,11 @@ fn number<A: Allocator>(steps: &mut Interner<'_, Step, A>, step: Step) -> Result
 }
 
 impl<'a, A: Allocator> Program<'a, A> {
-    /// The number of steps.
-    pub(crate) fn len(&self) -> usize
-        ensures { result ≡ length self.now.steps.keys }
+    /// The steps in their order.
+    pub(crate) fn steps(&self) -> &[Step]
+        ensures { result.now ≡ self.now.steps.keys }
     {
-        self.steps.len()
-    }
-
-    /// The step with this number.
-    pub(crate) fn step(&self, number: usize) -> Step
-        requires { number < length self.now.steps.keys }
-        ensures { slice_get self.now.steps.keys number ≡ Some result }
-    {
-        *self.steps.get(number)
+        self.steps.as_slice()
     }
 
     /// The number of the step that a pair passes if it needs all that one of the row's pairs needs.

@@ -5,7 +5,7 @@ ghost use Rattle.ltl_spec.specs.Automata.Generalized.{IsGeneralized, IsTooLarge}
 ghost use Rattle.ltl_spec.specs.Tools.Limits.{stated_limits};
 ghost use Rattle.ltl_formula.specs.TableView.{core_of};
 ghost use Rattle.ltl_alt.specs.BasisView.{IsBasis};
-ghost use Rattle.ltl_alt.specs.FinalView.{HasFinals, listed_in};
+ghost use Rattle.ltl_alt.specs.FinalView.{HasFinals};
 ghost use Rattle.ltl_alt.specs.KeyView.{AreKeys};
 ghost use Rattle.ltl_automaton.specs.LabelTables.{IsBuilt, built_of};
 ghost use Rattle.ltl_models.specs.GbaView.{IsAcceptingGba};
@@ -15,7 +15,6 @@ ghost use Rattle.ltl_alt.specs.TransitionView.{table_at};
 use crate::basis::Basis;
 use crate::conjunct_table::ConjunctTable;
 use crate::context::Context;
-use crate::factors::SetTransitions;
 use crate::finals::Finals;
 use crate::fulfilment::Fulfilment;
 use crate::keys::Keys;
@@ -59,7 +58,7 @@ struct RowSets<'b, 't, 's, 'a, A: Allocator> {
     finals: Finals<'a, A>,
     keys: Keys<'a, A>,
     /// The transitions of the set of rows that was prepared last.
-    prepared: SetTransitions<'a, A>,
+    prepared: Vec<Transition, &'a A>,
 }
 
 impl<'b, 't, 's, 'a, A: Allocator> RowSets<'b, 't, 's, 'a, A> {
@@ -89,7 +88,7 @@ impl<'b, 't, 's, 'a, A: Allocator> Successors<RowSet, GbaEdge, Transition>
     ghost ready = { λ n. IsBasis n.basis × HasFinals n.basis n.finals
         × AreKeys (table_at n.basis.table.now) n.basis.keep_implied n.finals.lists.keys n.keys.states.entries };
 
-    ghost lent = { λ n. map transition_move (listed_in n.finals.lists.keys n.prepared) };
+    ghost lent = { λ n. map transition_move n.prepared.items };
 
     fn accepting(&self, _key: &RowSet) -> bool {
         true
@@ -112,7 +111,7 @@ impl<'b, 't, 's, 'a, A: Allocator> Successors<RowSet, GbaEdge, Transition>
     }
 
     fn steps(&self) -> &[Transition] {
-        self.finals.listed(&self.prepared)
+        self.prepared.as_slice()
     }
 }
 
@@ -130,7 +129,7 @@ fn explored<'a, A: Allocator>(
 {
     table.invariant();
     let fulfilment = Fulfilment::of(alloc, table)?;
-    let rule = Rule::of(alloc, table, keep_implied)?;
+    let rule = Rule::of(alloc, table, &fulfilment, keep_implied)?;
     let context = Context {
         alloc,
         table,
@@ -154,7 +153,7 @@ fn explored<'a, A: Allocator>(
         basis,
         finals,
         keys: Keys::new(alloc),
-        prepared: SetTransitions::Owned(Vec::new(alloc)),
+        prepared: Vec::new(alloc),
     };
     let root = RowSet::single(place(table, table.root()));
     let limits = Limits {

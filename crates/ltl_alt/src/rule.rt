@@ -2,6 +2,7 @@
 
 ghost use Rattle.std.specs.Prelude.{IfOk};
 ghost use Rattle.ltl_alt.specs.StandIns.{IsRuleOf};
+ghost use Rattle.ltl_alt.specs.Tests.{AreTests};
 ghost use Rattle.ltl_alt.specs.TransitionView.{table_at};
 
 use crate::counted::counted;
@@ -25,14 +26,16 @@ impl Rule {
     pub(crate) fn of<A: Allocator>(
         alloc: &A,
         table: &Table<'_, A>,
+        fulfilment: &Fulfilment<'_, A>,
         keep_implied: bool,
     ) -> Result<Rule, AllocError>
+        requires { AreTests (table_at table.now) fulfilment.now }
         ensures { IfOk result (IsRuleOf (table_at table.now) keep_implied) }
     {
         if keep_implied {
             return Ok(Rule::Duplicate);
         }
-        let counted = counted(alloc, table)?;
+        let counted = counted(alloc, table, fulfilment)?;
         Ok(Rule::SafelySubsumed(counted))
     }
 }

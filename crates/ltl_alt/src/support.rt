@@ -205,8 +205,8 @@ fn with_leaves(fulfilling: Support, leaves: &Support, is_put_off: bool) -> Suppo
     }
 }
 
-/// The literals and rows on which the tests of the until rows among these targets depend. All that the fulfilling pairs of these rows need is among them.
-fn fulfilling_of<A: Allocator>(
+/// The literals and rows on which the tests of the until rows at these places depend. All that the fulfilling pairs of these rows need is among them.
+pub(crate) fn fulfilling_of<A: Allocator>(
     table: &Table<'_, A>,
     fulfilment: &Fulfilment<'_, A>,
     targets: &RowSet,

@@ -1,6 +1,6 @@
 -- Labels that are numbered as they come, and in their order: what their numbers stand for.
 use Rattle.std.proofs.Common.{◌≡◌, ℕ, zero, suc, ◌+◌, ◌<◌, Bool, true, cond, inl, inr, List, [], ◌∷◌, ◌++◌, length, map, refl, sym, ◌∙◌, ap, subst, arith, length-append, Some, None}
-use Rattle.std.specs.Prelude.{nat_eq, slice_get, slice_index_or, slice_set, take, All, nat_lt, ◌≢◌, ◌≤◌}
+use Rattle.std.specs.Prelude.{nat_eq, slice_get, slice_index_or, slice_set, All, nat_lt, ◌≢◌, ◌≤◌}
 use Rattle.std.specs.List.{position}
 use Rattle.std.specs.Bool.{Decides}
 use Rattle.std.specs.declared.cmp.Ordering.{Ordering}
@@ -28,7 +28,6 @@ use Rattle.ltl_automaton.specs.SharedView.{with_state}
 use Rattle.ltl_automaton.specs.declared.coded_edge.CodedEdge as numbered
 use Rattle.ltl_automaton.specs.declared.labels.Labels as slices
 use Rattle.ltl_automaton.proofs.EdgeLaws.{map_pushed}
-use Rattle.ltl_automaton.proofs.NetLaws.{took}
 use Rattle.ltl_automaton.proofs.SharedLaws.{got_once}
 use Rattle.ltl_automaton.specs.CodedEdges.{coded_edge_of, labelled_edge_of, tables_of}
 use Rattle.ltl_automaton.specs.Labels.{Tables, AreTables, labelled_edge, labelled_state, labelled, IsCoded, AreCoded}
@@ -89,10 +88,6 @@ module _ {K : Type 0} (same : K → K → Bool) (decides : (x y : K) → Decides
       let found : position (same x) xs ≡ Some (place_of same x xs) = ap (λ b. cond b (Some (place_of same x xs)) None) there in
       let q : None ≡ Some (place_of same x xs) = e ∙ found in
       cc
-
--- the beginning with the element that was read
-pub take_read : {K : Type 0} (xs : List K) (n : ℕ) (x : K) → slice_get xs n ≡ Some x → take (n + 1) xs ≡ take n xs ++ x ∷ []
-take_read xs n x e = let w = index_there xs n x x e in took xs n x w.0 (sym w.1)
 
 -- ---- labels that are numbered as they come
 -- each is still there once

@@ -50,6 +50,13 @@ impl<'a, K: Eq + Hash + Drop, A: Allocator> Interner<'a, K, A> {
         self.things.len()
     }
 
+    /// The values by their numbers.
+    pub fn as_slice(&self) -> &[K]
+        ensures { result.now ≡ self.now.keys }
+    {
+        self.things.as_slice()
+    }
+
     /// The value with this number.
     pub fn get(&self, number: usize) -> &K
         requires { number < length self.now.keys }

@@ -1,6 +1,6 @@
 //! Different values in their order, and the place of each value there.
 
-ghost use Rattle.std.specs.Prelude.{◌≡◌, IfOk, length};
+ghost use Rattle.std.specs.Prelude.{◌≡◌, IfOk};
 ghost use Rattle.ltl_spec.specs.Collections.Lists.{HasNoRepeats};
 ghost use Rattle.ltl_spec.specs.Collections.Sets.{set_of};
 ghost use Rattle.ltl_automaton.specs.LabelTables.{AreRanks};
@@ -35,10 +35,7 @@ fn sorted<'a, T: ListOrder + Eq + Hash, A: Allocator>(
 ) -> Result<Vec<T, &'a A>, AllocError>
     ensures { IfOk result (λ v. v.items ≡ set_of T.order values.now.keys) }
 {
-    let mut sorted = Vec::with_capacity(alloc, values.len())?;
-    for number in 0..values.len() {
-        sorted.push(*values.get(number))?;
-    }
+    let mut sorted = Vec::from_slice(alloc, values.as_slice())?;
     sort_runs_dedup(&mut sorted)?;
     Ok(sorted)
 }

@@ -12,7 +12,7 @@ use Rattle.std.proofs.lemmas.List.Sorted.{Contains-permutation, IsPermutation-sy
 use Rattle.ltl_spec.specs.Collections.Sets.{Has, IsRising, has, is_subset, set_of}
 use Rattle.ltl_spec.specs.Transitions.Cubes.{literal_cmp}
 use Rattle.ltl_spec.specs.Automata.Automaton.{Edge, edge_cmp}
-use Rattle.ltl_spec.specs.Construction.Merging.{same_edge, unimplied_edges}
+use Rattle.ltl_spec.specs.Construction.Merging.{implies_edge, same_edge, unimplied_edges}
 use Rattle.ltl_spec.proofs.Collections.CaseLaws.{below_equal_above, false_is_true, left_true, nat_eq_is, nat_eq_other, nat_eq_same, right_true}
 use Rattle.ltl_spec.proofs.Collections.FoundLaws.{map_equal, map_same}
 use Rattle.ltl_spec.proofs.Collections.ListLaws.{All-at_has, All-from_has, Contains-from_has, Has-from_contains}
@@ -69,16 +69,14 @@ not_above w f e v u t =
 all_stay : (es : List Edge) → ((f e : Edge) → Has es f → Has es e → implies_other f e ≡ true → ⊥) → unimplied_edges es ≡ es
 all_stay es none = filter_all (is_left es) es (λ e h. not_from _ (λ t. let (f, k, a) = any_cases (λ f. implies_other f e) es t in none f e k h a))
 
--- so where all ask for as much all stay
-pub alike_stay : (w : ℕ) (ks : List made.RunEdge) → All (λ k. IsOfWeight w (run_edge k)) ks → ks ≡ left_of ks
-alike_stay w ks all = sym (filter_all (λ k. is_left (map run_edge ks) (run_edge k)) ks (λ k h.
-    not_from _ (λ t. let (f, i, a) = any_cases (λ f. implies_other f (run_edge k)) (map run_edge ks) t in not_above w f (run_edge k) (of f i) (at k h) a)))
-  where
-    at : (k : made.RunEdge) → Has ks k → IsOfWeight w (run_edge k)
-    at k h = All-at_has (λ (x : made.RunEdge). IsOfWeight w (run_edge x)) ks all k h
-
-    of : (e : Edge) → Has (map run_edge ks) e → IsOfWeight w e
-    of e h = let (k, i, c) = map_cases run_edge ks e h in subst (IsOfWeight w) (sym c) (at k i)
+-- one edge alone stays
+pub one_stays : (ks : List made.RunEdge) → length ks < 2 → ks ≡ left_of ks
+one_stays [] l = refl
+one_stays (k ∷ m ∷ ks) l = absurd (omega (arith, l))
+one_stays (k ∷ []) l =
+    let e = run_edge k in
+    let same : same_edge e e ≡ true = (same_edge_Decides e e).1 refl in
+    sym (ap (λ b. cond (not ((not b && implies_edge e e) || false)) (k ∷ []) []) same)
 
 -- to one target, to be below is to imply
 run_test : (t : ℕ) (k l : made.RunEdge) → target_of k ≡ t → target_of l ≡ t → (is_other k l && is_below k l) ≡ implies_other (run_edge k) (run_edge l)

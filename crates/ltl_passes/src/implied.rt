@@ -161,18 +161,6 @@ fn weight(edge: &Edge) -> usize
     literals + (RowSet::LIMIT - marks)
 }
 
-/// Whether each edge of a run has this weight.
-fn weigh_alike(run: &[RunEdge], asked: usize) -> bool
-    ensures { result ≡ true → All (λ k. IsOfWeight asked (run_edge k)) run.now }
-{
-    for item in run {
-        if weight(&item.edge) != asked {
-            return false;
-        }
-    }
-    true
-}
-
 /// Appends the edges to those that are kept.
 fn put_all<'a, A: Allocator>(
     run: &[RunEdge],
@@ -186,7 +174,7 @@ fn put_all<'a, A: Allocator>(
     Ok(())
 }
 
-/// Appends the edges of a run that no other one implies. If all weigh as much as the first one, these are all edges of the run.
+/// Appends the edges of a run that no other one implies. All lead to the target of `first`.
 fn put_least<'a, A: Allocator>(
     alloc: &'a A,
     run: &[RunEdge],
@@ -196,7 +184,7 @@ fn put_least<'a, A: Allocator>(
     requires { AllLeadTo (target_of first.now) run.now }
     ensures { OnOk result (kept.new.items ≡ kept.old.items ++ map code_of (left_of run.now)) }
 {
-    if weigh_alike(run, weight(&first.edge)) {
+    if run.len() < 2 {
         return put_all(run, kept);
     }
     let left = least(alloc, &Differing, run)?;

@@ -3,8 +3,8 @@ use Rattle.std.specs.Ordering.{nat_cmp}
 use Rattle.ltl_spec.specs.Collections.Sets.{put}
 use Rattle.ltl_spec.proofs.Transitions.ConjunctJoins.{join_all}
 use Rattle.ltl_spec.proofs.Transitions.SameJoins.{AreAlike}
-use Rattle.ltl_alt.specs.ConjunctTableView.{AreAdded, AreFew}
-use Rattle.ltl_alt.specs.ConjunctView.{conjunct_pairs}
+use Rattle.ltl_alt.specs.ConjunctTableView.{AreAdded}
+use Rattle.ltl_alt.specs.ConjunctView.{AreFew, conjunct_pairs}
 use Rattle.ltl_alt.specs.TransitionView.{table_at}
 use Rattle.ltl_alt.proofs.ConjunctTableLaws.{added_count, made_more}
 use Rattle.ltl_alt.proofs.ConjunctLaws.{conjuncts_long}
@@ -12,11 +12,10 @@ use Rattle.ltl_alt.proofs.conjunct_table.ConjunctTable.add.Goals as goal
 
 pub push_conjuncts-requires-clause-conjuncts : goal.push_conjuncts-requires-clause-conjuncts
 push_conjuncts-requires-clause-conjuncts g c =
-    let old = c.args.self.now in
+    let n = length c.args.self.now.lists.items in
     let few = c.in_ok-conjuncts.ensures.few in
     let room = c.requires.room.1.2 in
-    subst (λ xs. AreFew c.args.context.now.table.now xs c.args.place old.owners.items old.lists.items) (sym c.as_slice.ensures)
-    (record { fitting = c.in_ok-conjuncts.ensures.conjuncts; room = record { within = c.requires.room.1.0; owned = c.requires.conjuncts.rows.owner_count; few = omega arith } })
+    subst (λ xs. AreFew c.args.context.now.table.now xs n) (sym c.as_slice.ensures) (record { fitting = c.in_ok-conjuncts.ensures.conjuncts; few = omega arith })
 
 pub returns-clause-conjuncts : goal.returns-clause-conjuncts
 returns-clause-conjuncts g c =

@@ -13,12 +13,12 @@ use Rattle.ltl_alt.proofs.conjunct_table.ConjunctTable.push_conjuncts.Goals as g
 pub conjunct_pairs-requires-clause-conjunct : goal.conjunct_pairs-requires-clause-conjunct
 conjunct_pairs-requires-clause-conjunct g c = c.requires.conjuncts.fitting (slice_index_or c.args.conjuncts.now c.conjuncts.conjunct-index conjunct.Never) (Has-at c.args.conjuncts.now c.conjuncts.conjunct-index conjunct.Never c.conjuncts-test.true)
 
-pub push-requires-clause-room : goal.push-requires-clause-room
-push-requires-clause-room g c =
-    let few = c.requires.conjuncts.room.few in
+pub push-requires-clause-few : goal.push-requires-clause-few
+push-requires-clause-few g c =
+    let few = c.requires.conjuncts.few in
     let count = c.conjuncts.invariant.count in
     let inside : c.conjuncts.conjunct-index < length c.args.conjuncts.now = c.conjuncts-test.true in
-    record { within = c.requires.conjuncts.room.within; owned = c.conjuncts.invariant.owned; few = omega arith }
+    omega arith
 
 pub push-requires-clause-sound : goal.push-requires-clause-sound
 push-requires-clause-sound g c =
@@ -37,14 +37,11 @@ conjuncts-preserved g c =
     let new = c.push.new.self in
     let one : length new.lists.items ≡ length old.lists.items + 1 = ap length c.in_ok-push.ensures.lists ∙ length-append old.lists.items (c.in_ok-pairs.pairs ∷ []) in
     let count = c.conjuncts.invariant.count in
-    let owned = c.conjuncts.invariant.owned in
-    let own : length new.owners.items ≡ length old.owners.items + 1 = ap length c.in_ok-push.ensures.owners ∙ length-append old.owners.items (c.args.place ∷ []) in
     record {
       lists = c.in_ok-pairs.ensures.lists;
       linked = c.in_ok-push.ensures.linked;
       added = added_more (table_at t) c.args.context.now.pruning.rule c.args.place (map (conjunct_pairs t) (take i ps)) (map (conjunct_pairs t) (take (i + 1) ps)) c.args.self.now.owners.items old.owners.items new.owners.items
           c.args.self.now.lists.items old.lists.items new.lists.items (conjunct_pairs t p) c.in_ok-pairs.pairs c.conjuncts.invariant.added c.in_ok-pairs.ensures.pairs.kept next c.in_ok-push.ensures.owners c.in_ok-push.ensures.lists;
       made = c.in_ok-push.ensures.made ∙ c.conjuncts.invariant.made;
-      owned = omega arith;
       count = omega arith;
     }

@@ -11,6 +11,5 @@ invariant-conjuncts g l = record {
   linked : AreLinked (table_at l.context.table.now) l.self.lists.items l.self.dependencies.items l.self.links.items;
   added : AreAdded (table_at l.context.table.now) l.context.pruning.rule l.place (map (conjunct_pairs l.context.table.now) (take l.conjunct-index l.conjuncts)) l.fn.self.owners.items l.self.owners.items l.fn.self.lists.items l.self.lists.items;
   made : l.self.made ≡ l.fn.self.made;
-  owned : length l.self.owners.items ≡ length l.self.lists.items;
   count : length l.self.lists.items ≡ length l.fn.self.lists.items + l.conjunct-index;
 }

@@ -17,7 +17,7 @@ rows-preserved g c =
     let inside : k < length t.rows = omega arith in
     record {
       more = λ i h. subst (λ ys. Has ys i) (sym c.union-next.ensures) (union_left nat_linear xs added i (c.rows.invariant.more i h));
-      closed = subst (λ ys. AreClosed t ys c.needed-needed.result (k + 1)) (sym c.union-next.ensures)
-          (closed_step t c.args.self.now.pairs.items c.args.self.now.sets.items c.requires k c.row.result c.until_place.result inside c.row.ensures.found c.row.ensures.operands c.until_place.ensures.place
-          c.needed-needed.result xs added c.places_added-added.ensures c.rows.invariant.closed);
+      closed = subst (λ ys. AreClosed t ys c.fulfilling_of-needed.result (k + 1)) (sym c.union-next.ensures)
+          (closed_step t c.args.self.now.pairs.items c.args.self.now.sets.items c.requires.supported k c.row.result c.until_place.result inside c.row.ensures.found c.row.ensures.operands c.until_place.ensures.place
+          c.fulfilling_of-needed.result xs added c.places_added-added.ensures c.rows.invariant.closed);
     }

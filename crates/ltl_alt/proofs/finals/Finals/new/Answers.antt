@@ -1,8 +1,6 @@
-use Rattle.std.proofs.Common.{[], subst, sym}
+use Rattle.std.proofs.Common.{subst}
 use Rattle.ltl_spec.specs.Collections.Sets.{Has}
-use Rattle.ltl_alt.specs.FinalView.{AreFactorsOf}
 use Rattle.ltl_alt.specs.TransitionView.{table_at}
-use Rattle.ltl_alt.proofs.ProductLaws.{factors_none}
 use Rattle.ltl_alt.proofs.finals.Finals.new.Goals as goal
 
 pub returns : goal.returns
@@ -13,5 +11,4 @@ returns g c =
         of_joins = λ key n h. absurd (subst (λ es. Has es (key, n)) c.new-3.ensures.empty h);
         of_components = λ component n h. absurd (subst (λ es. Has es (component, n)) c.new-4.ensures.empty h);
       },
-      subst (λ all. AreFactorsOf b c.new-2.result.keys all c.new-5.result.items []) (sym c.empty.ensures) (factors_none b c.new-2.result.keys [] c.new-5.result.items c.new-5.ensures.items),
     )

@@ -28,7 +28,7 @@ of_join-requires g c =
     let at = c.in_ok-key.ensures.last in
     record {
       basis = c.requires.basis;
-      finals = (c.in_ok-key.ensures.components, finals_longer T b.pruning.rule b.keep_implied b.conjuncts.lists.items old.components.memo.lists.keys c.last.new.self.memo.lists.keys old.lists.keys old.lists.keys old.of_joins.entries old.of_components.entries c.in_ok-key.ensures.longer (longer_same old.lists.keys) c.requires.finals.1, c.requires.finals.2);
+      finals = (c.in_ok-key.ensures.components, finals_longer T b.pruning.rule b.keep_implied b.conjuncts.lists.items old.components.memo.lists.keys c.last.new.self.memo.lists.keys old.lists.keys old.lists.keys old.of_joins.entries old.of_components.entries c.in_ok-key.ensures.longer (longer_same old.lists.keys) c.requires.finals.1);
       within = at.0;
       sets = listed_sets T b.pruning.rule all (last_list c.last.new.self.memo.lists.keys c.in_ok-key.key) _ (joined_sound conjunct c.requires.basis.conjuncts.linked.sound c.args.component.now) at.1 refl;
     }
@@ -50,5 +50,4 @@ returns-clause-finals g c =
       after.0,
       components_more T b.pruning.rule b.keep_implied b.conjuncts.lists.items new.components.memo.lists.keys new.lists.keys new.of_joins.entries new.of_components.entries c.insert.new.self.entries c.args.component.now c.in_ok-number.number after.1
           found c.in_ok-insert.ensures.entries,
-      after.2,
     )

@@ -9,7 +9,7 @@ use Rattle.ltl_alt.specs.TransitionView.{AllSets, table_at}
 use Rattle.ltl_spec.specs.Transitions.Pairs.{join}
 use Rattle.ltl_alt.specs.ConjunctTableView.{conjunct_of}
 use Rattle.ltl_alt.specs.MemoView.{last_list}
-use Rattle.ltl_alt.proofs.FinalLaws.{factors_kept, finals_longer, list_known, lists_more, sets_by_set, transitions_by_set}
+use Rattle.ltl_alt.proofs.FinalLaws.{finals_longer, list_known, lists_more, sets_by_set, transitions_by_set}
 use Rattle.ltl_alt.proofs.MapLaws.{longer_new, longer_same, stored_at}
 use Rattle.ltl_alt.proofs.finals.Finals.of_join.Goals as goal
 
@@ -69,5 +69,4 @@ returns-clause-finals g c =
       c.requires.finals.0,
       lists_more T b.pruning.rule b.keep_implied b.conjuncts.lists.items pairs lists old.of_joins.entries c.insert.new.self.entries old.of_components.entries c.args.key c.in_ok-number.number
           (finals_longer T b.pruning.rule b.keep_implied b.conjuncts.lists.items pairs pairs old.lists.keys lists old.of_joins.entries old.of_components.entries (longer_same pairs) longer c.requires.finals.1) is c.in_ok-insert.ensures.entries,
-      factors_kept b old.lists.keys lists old.asked old.factors.items [] longer c.requires.finals.2,
     )

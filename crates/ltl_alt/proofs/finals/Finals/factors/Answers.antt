@@ -1,4 +1,4 @@
-use Rattle.std.proofs.Common.{◌≡◌, ◌<◌, ◌∷◌, [], ◌∙◌, ap, inl, inr, length, map, sym, subst}
+use Rattle.std.proofs.Common.{◌<◌, ◌∷◌, [], ◌∙◌, ap, inl, inr, length, map, sym, subst}
 use Rattle.std.specs.Prelude.{not}
 use Rattle.std.specs.Ordering.{nat_cmp}
 use Rattle.ltl_spec.specs.Collections.Sets.{Has, has}
@@ -9,17 +9,15 @@ use Rattle.ltl_alt.proofs.FinalLaws.{factors_kept}
 use Rattle.ltl_alt.proofs.MapLaws.{longer_same, longer_trans}
 use Rattle.ltl_alt.proofs.ConjunctTableLaws.{map_behind}
 use Rattle.ltl_alt.proofs.ProductLaws.{factors_none, fewer_left, lists_more}
-use Rattle.ltl_alt.proofs.finals.Finals.find_factors.Goals as goal
+use Rattle.ltl_alt.proofs.finals.Finals.factors.Goals as goal
 
 pub components-init : goal.components-init
 components-init g c =
     let b = c.args.basis.now in
     let keys = c.args.self.now.lists.keys in
-    let taken = c.replace-factors.new.dest.items in
-    let none : taken ≡ [] = (λ i. (c.replace-factors.ensures.after i).items) ∙ c.new.ensures.items in
     record {
-      finals = (c.requires.finals.0, c.requires.finals.1, subst (λ all. AreFactorsOf b keys all taken []) (sym c.empty-self.ensures) (factors_none b keys [] taken none));
-      factors = factors_none b keys c.args.all.now c.clear.new.self.items c.clear.ensures.items;
+      finals = c.requires.finals;
+      factors = factors_none b keys c.args.all.now c.new-factors.result.items c.new-factors.ensures.items;
       longer = longer_same keys;
       inside = c.requires.inside;
     }

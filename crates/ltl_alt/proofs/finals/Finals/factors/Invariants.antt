@@ -1,7 +1,7 @@
 use Rattle.std.proofs.Common.{ℕ, ◌<◌, length}
 use Rattle.ltl_spec.specs.Collections.Sets.{Has}
 use Rattle.ltl_alt.specs.FinalView.{AreFactorsOf, HasFinals, IsLonger}
-use Rattle.ltl_alt.proofs.finals.Finals.find_factors.Given as goal
+use Rattle.ltl_alt.proofs.finals.Finals.factors.Given as goal
 
 abbrev pub invariant-components : goal.invariant-components
 invariant-components g l = record {
