@@ -88,6 +88,13 @@ module _ {X : Type 0} where
   pub any_of_part : (p : X → Bool) (n : ℕ) (us : List X) → list_any p (part_at n us) ≡ true → list_any p us ≡ true
   any_of_part p n us e = let (j, u, f, g) = any_at p (part_at n us) e in at_any p us (256 * n + j) u (got_part n us j u f) g
 
+  pub any_between : (p : X → Bool) (from n : ℕ) (us : List X) → list_any p (take n (drop from us)) ≡ true → list_any p us ≡ true
+  any_between p from n us e =
+      let (j, u, f, g) = any_at p (take n (drop from us)) e in
+      let within : j < length (take n (drop from us)) = slice_get_within (take n (drop from us)) j u f in
+      let short = length-take n (drop from us) in
+      at_any p us (from + j) u (sym (got_take n (drop from us) j (omega (arith, within, short)) ∙ got_drop from us j) ∙ f) g
+
   pub parts_clear : (p : X → Bool) (us : List X) (m : ℕ) → length us ≤ 256 * m → ((n : ℕ) → n < m → list_any p (part_at n us) ≡ false) → list_any p us ≡ false
   parts_clear p us m cover clear = none_any p us (λ j u e. false_if (p u) (λ t.
       let within : j < length us = slice_get_within us j u e in

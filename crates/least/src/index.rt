@@ -1,6 +1,6 @@
 //! An index of items by blocks, and of many blocks by upper blocks.
 
-ghost use Rattle.std.specs.Prelude.{◌≡◌, ◌<◌, IfOk, false, true, length};
+ghost use Rattle.std.specs.Prelude.{◌≡◌, ◌<◌, IfOk, false, is_some, true, length};
 ghost use Rattle.least.specs.Blocks.{AreBlocks, AreClear, AreUppers, IsIndexed, part_at};
 ghost use Rattle.least.specs.Lookups.{is_above, is_found};
 
@@ -63,19 +63,19 @@ impl<'a, A: Allocator> Index<'a, A> {
     }
 }
 
-/// Whether an item of the block with this number is below this one and is taken into account. Only the candidates of the block are compared.
-fn has_in_block<T: Below, C: Counting<T>, A: Allocator>(
+/// The place of an item of the block with this number that is below this one and is taken into account. Only the candidates of the block are compared.
+fn place_in_block<T: Below, C: Counting<T>, A: Allocator>(
     items: &[T],
     index: &Index<'_, A>,
     counting: &C,
     item: &T,
     number: usize,
-) -> bool
+) -> Option<usize>
     requires { AreBlocks T.needs T.lacking items.now index.now.blocks.items }
-    ensures { result ≡ is_above T.below (C.counts counting.now) (part_at number items.now) item.now }
+    ensures { is_some result ≡ is_above T.below (C.counts counting.now) (part_at number items.now) item.now }
 {
     if number >= index.blocks.len() {
-        return false;
+        return None;
     }
     let part = part(items, number);
     let candidates = index.blocks[number].candidates(item);
@@ -83,72 +83,89 @@ fn has_in_block<T: Below, C: Counting<T>, A: Allocator>(
     'candidates: while let Some(j) = rest.next() {
         if let Some(other) = part.get(j) {
             if is_lesser(other, counting, item) {
-                return true;
+                return Some(number.saturating_mul(BLOCK).saturating_add(j));
             }
         }
     }
-    false
+    None
 }
 
-/// Whether one of the items is below this one and is taken into account, by one block after another.
-pub(crate) fn has_in_blocks<T: Below, C: Counting<T>, A: Allocator>(
+/// The place of an item that is below this one and is taken into account, by one block after another.
+fn place_in_blocks<T: Below, C: Counting<T>, A: Allocator>(
     items: &[T],
     index: &Index<'_, A>,
     counting: &C,
     item: &T,
-) -> bool
+) -> Option<usize>
     requires { AreBlocks T.needs T.lacking items.now index.now.blocks.items }
-    ensures { result ≡ is_above T.below (C.counts counting.now) items.now item.now }
+    ensures { is_some result ≡ is_above T.below (C.counts counting.now) items.now item.now }
 {
     'numbers: for number in 0..index.blocks.len() {
-        if has_in_block(items, index, counting, item, number) {
-            return true;
+        if let Some(place) = place_in_block(items, index, counting, item, number) {
+            return Some(place);
         }
     }
-    false
+    None
 }
 
-/// Whether an item of the blocks of the upper block with this number is below this one and is taken into account. Only the candidates of the upper
-/// block are searched.
-fn has_in_upper<T: Below, C: Counting<T>, A: Allocator>(
+/// The place of an item that is below this one and is taken into account, in the blocks of the upper block with this number. Only the candidates of
+/// the upper block are searched.
+fn place_in_upper<T: Below, C: Counting<T>, A: Allocator>(
     items: &[T],
     index: &Index<'_, A>,
     counting: &C,
     item: &T,
     number: usize,
-) -> bool
+) -> Option<usize>
     requires blocks { AreBlocks T.needs T.lacking items.now index.now.blocks.items }
     requires uppers { AreUppers T.needs items.now index.now.uppers.items }
     requires inside { number < length index.now.uppers.items }
-    ensures found { result ≡ true → is_above T.below (C.counts counting.now) items.now item.now ≡ true }
-    ensures clear { result ≡ false → AreClear (is_found T.below (C.counts counting.now) item.now) items.now number }
+    ensures found { is_some result ≡ true → is_above T.below (C.counts counting.now) items.now item.now ≡ true }
+    ensures clear { is_some result ≡ false → AreClear (is_found T.below (C.counts counting.now) item.now) items.now number }
 {
     let candidates = index.uppers[number].candidates(item);
     candidates.invariant();
     let mut rest = candidates.iter();
     'candidates: while let Some(b) = rest.next() {
-        if has_in_block(items, index, counting, item, number * BLOCK + b) {
-            return true;
+        if let Some(place) = place_in_block(items, index, counting, item, number * BLOCK + b) {
+            return Some(place);
         }
     }
-    false
+    None
 }
 
-/// Whether one of the items is below this one and is taken into account, by one upper block after another.
-pub(crate) fn has_in_uppers<T: Below, C: Counting<T>, A: Allocator>(
+/// The place of an item that is below this one and is taken into account, by one upper block after another.
+fn place_in_uppers<T: Below, C: Counting<T>, A: Allocator>(
     items: &[T],
     index: &Index<'_, A>,
     counting: &C,
     item: &T,
-) -> bool
+) -> Option<usize>
     requires blocks { AreBlocks T.needs T.lacking items.now index.now.blocks.items }
     requires uppers { AreUppers T.needs items.now index.now.uppers.items }
-    ensures { result ≡ is_above T.below (C.counts counting.now) items.now item.now }
+    ensures { is_some result ≡ is_above T.below (C.counts counting.now) items.now item.now }
 {
     'numbers: for number in 0..index.uppers.len() {
-        if has_in_upper(items, index, counting, item, number) {
-            return true;
+        if let Some(place) = place_in_upper(items, index, counting, item, number) {
+            return Some(place);
         }
     }
-    false
+    None
+}
+
+/// The place of an item that is below this one and is taken into account. There are blocks.
+pub(crate) fn place_of_lesser<T: Below, C: Counting<T>, A: Allocator>(
+    items: &[T],
+    index: &Index<'_, A>,
+    counting: &C,
+    item: &T,
+) -> Option<usize>
+    requires indexed { IsIndexed T.needs T.lacking items.now index.now.blocks.items index.now.uppers.items }
+    requires many { 0 < length index.now.blocks.items }
+    ensures { is_some result ≡ is_above T.below (C.counts counting.now) items.now item.now }
+{
+    if index.uppers.len() == 0 {
+        return place_in_blocks(items, index, counting, item);
+    }
+    place_in_uppers(items, index, counting, item)
 }

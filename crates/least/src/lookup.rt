@@ -1,19 +1,26 @@
 //! Lookup of an item below a given one.
 
-ghost use Rattle.std.specs.Prelude.{◌≡◌, ◌&&◌, IfOk};
+ghost use Rattle.std.specs.Prelude.{◌≡◌, ◌&&◌, Bool, IfOk, true};
+ghost use Rattle.least.specs.Lookups.{is_above};
 ghost use Rattle.std.specs.List.{list_any};
 
 use crate::below::Below;
 use crate::counting::{Counting, is_lesser};
-use crate::index::{Index, has_in_blocks, has_in_uppers};
+use crate::index::{Index, place_of_lesser};
 use std::alloc::{AllocError, Allocator};
 use std::marker::Model;
+
+/// How many items next to the one that was found last are compared before the index is searched. Items that are looked up one after another are often
+/// above the same item, or the next one.
+const NEAR: usize = 4;
 
 /// Items, with an index. Contracts see it as the list of the items.
 #[derive(Drop)]
 pub struct Lookup<'b, 'a, T: Below, A: Allocator> {
     items: &'b [T],
     index: Index<'a, A>,
+    /// The place of the item that was found last.
+    last: usize,
 }
 
 impl<'b, 'a, T: Below, A: Allocator> Model for Lookup<'b, 'a, T, A> {
@@ -33,26 +40,46 @@ impl<'b, 'a, T: Below, A: Allocator> Lookup<'b, 'a, T, A> {
         ensures { IfOk result (λ l. l ≡ items.now) }
     {
         let index = Index::of(alloc, items)?;
-        Ok(Lookup { items, index })
+        Ok(Lookup {
+            items,
+            index,
+            last: 0,
+        })
     }
 
-    /// Whether one of the items is below this one and is taken into account.
-    pub fn has_lesser<C: Counting<T>>(&self, counting: &C, item: &T) -> bool
-        ensures { result ≡ list_any (λ u. C.counts counting.now u item.now && T.below u item.now) self.now }
+    /// Whether one of the items is below this one and is taken into account. The items next to the one that was found last are compared first.
+    pub fn has_lesser<C: Counting<T>>(&mut self, counting: &C, item: &T) -> bool
+        ensures same { self.new ≡ self.old }
+        ensures lesser { result ≡ list_any (λ u. C.counts counting.now u item.now && T.below u item.now) self.old }
     {
         if self.index.blocks.len() == 0 {
             return has_among(self.items, counting, item);
         }
-        if self.index.uppers.len() == 0 {
-            return has_in_blocks(self.items, &self.index, counting, item);
+        if has_among(near(self.items, self.last), counting, item) {
+            return true;
         }
-        has_in_uppers(self.items, &self.index, counting, item)
+        match place_of_lesser(self.items, &self.index, counting, item) {
+            Some(place) => {
+                self.last = place;
+                true
+            }
+            None => false,
+        }
     }
 }
 
-/// The same by a comparison with each item.
+/// The items from this place on, but not more than [`NEAR`].
+fn near<T>(items: &[T], place: usize) -> &[T]
+    ensures { (p : T → Bool) → list_any p result.now ≡ true → list_any p items.now ≡ true }
+{
+    let from = items.len().min(place);
+    let end = items.len().min(from.saturating_add(NEAR));
+    &items[from..end]
+}
+
+/// Whether one of these items is below this one and is taken into account, by a comparison with each.
 fn has_among<T: Below, C: Counting<T>>(items: &[T], counting: &C, item: &T) -> bool
-    ensures { result ≡ list_any (λ u. C.counts counting.now u item.now && T.below u item.now) items.now }
+    ensures { result ≡ is_above T.below (C.counts counting.now) items.now item.now }
 {
     items.iter().any(|other| is_lesser(other, counting, item))
 }

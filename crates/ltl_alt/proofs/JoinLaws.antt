@@ -5,8 +5,8 @@ use Rattle.std.specs.Cmp.{first_so, second_so}
 use Rattle.std.specs.Cmp.Lexicographic.{pointwise, bytes_decides}
 use Rattle.std.proofs.lemmas.Bool.Decides.{Decides-eqb}
 use Rattle.indexmap.specs.IndexMap.{insert_entry}
-use Rattle.ltl_spec.specs.Collections.Sets.{Has, set_of}
-use Rattle.ltl_spec.specs.Transitions.Pairs.{Pair, pair_cmp, join, empty_pair}
+use Rattle.ltl_spec.specs.Collections.Sets.{Has}
+use Rattle.ltl_spec.specs.Transitions.Pairs.{Pair, join, empty_pair}
 use Rattle.ltl_spec.specs.Transitions.RowTransitions.{Table}
 use Rattle.ltl_sets.specs.CubeEq.{same_cube, cube_Decides}
 use Rattle.ltl_alt.specs.declared.memo.JoinKey.{JoinKey}
@@ -16,7 +16,6 @@ use Rattle.ltl_alt.specs.MemoView.{IsListAt, IsJoin, AreJoins}
 use Rattle.ltl_alt.specs.ConjunctTableView.{IsLonger, conjunct_of}
 use Rattle.ltl_alt.specs.declared.fulfilment.Fulfilment.{Fulfilment}
 use Rattle.ltl_alt.specs.StandIns.{IsFit, IsListed, IsPruned, StandsFor}
-use Rattle.ltl_alt.proofs.ComponentLaws.{joined_pruned}
 use Rattle.ltl_alt.proofs.MapLaws.{exact_cases, longer_within, longer_there}
 
 pub same_pair : (p q : Pair) → same_cube p.cube q.cube ≡ true → pointwise nat_eq p.targets q.targets ≡ true → p ≡ q
@@ -37,10 +36,9 @@ key_exact k l e =
     λ i. let m : JoinKey = record { left = left i; right = right i } in m
 
 -- what is kept of two lists
-pub kept_of : {A : Type 0} (T : Table) (r : Rule) (f : Fulfilment A) (lists : List (List Pair)) (left right : ℕ) (xs ys js zs : List Pair) → IsFit T r f → xs ≡ conjunct_of lists left → ys ≡ conjunct_of lists right
-    → set_of pair_cmp js ≡ set_of pair_cmp (join xs ys) → IsPruned r f js zs → IsListed (StandsFor T r) (join (conjunct_of lists left) (conjunct_of lists right)) zs
-kept_of T r f lists left right xs ys js zs fit e d g w =
-    joined_pruned T r f (join (conjunct_of lists left) (conjunct_of lists right)) js zs fit (g ∙ (λ i. set_of pair_cmp (join (e i) (d i)))) w
+pub kept_of : {A : Type 0} (T : Table) (r : Rule) (f : Fulfilment A) (lists : List (List Pair)) (left right : ℕ) (xs ys zs : List Pair) → IsFit T r f → xs ≡ conjunct_of lists left → ys ≡ conjunct_of lists right
+    → IsPruned r f (join xs ys) zs → IsListed (StandsFor T r) (join (conjunct_of lists left) (conjunct_of lists right)) zs
+kept_of T r f lists left right xs ys zs fit e d w = subst (λ js. IsListed (StandsFor T r) js zs) (λ i. join (e i) (d i)) (w T fit)
 
 module _ (T : Table) (r : Rule) where
   -- a join that was made

@@ -24,6 +24,7 @@ pub mod RowListLaws
 pub mod ProductLaws
 pub mod ProgramLaws
 pub mod PruneLaws
+pub mod PrunedJoinLaws
 pub mod SpareLaws
 pub mod StandInLaws
 pub mod TestLaws

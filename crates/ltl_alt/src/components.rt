@@ -1,6 +1,6 @@
 //! The pruned joins of a component's conjuncts, which the memo table keeps.
 
-ghost use Rattle.std.specs.Prelude.{◌≡◌, ℕ, ◌<◌, length, map, slice_index_or, IfOk, OnOk};
+ghost use Rattle.std.specs.Prelude.{◌≡◌, ℕ, ◌<◌, ◌≤◌, false, length, true, map, slice_index_or, IfOk, OnOk};
 ghost use Rattle.ltl_spec.specs.Collections.Sets.{Has};
 ghost use Rattle.ltl_spec.specs.Transitions.RowTransitions as spec;
 ghost use Rattle.ltl_alt.specs.declared.rule.Rule as made_rule;
@@ -16,6 +16,9 @@ use crate::pair::Pair;
 use crate::pair_set::PairSet;
 use ltl_sets::RowSet;
 use std::alloc::{AllocError, Allocator};
+
+/// A last join with more ways than these to choose a pair of each side is large.
+const MOST_WAYS: usize = 1_048_576;
 
 /// The memo table of joins, with the lists of all conjuncts in it.
 #[derive(Drop)]
@@ -116,8 +119,25 @@ impl<'a, A: Allocator> Components<'a, A> {
         best
     }
 
+    /// Whether two of these lists are joined before the last join: if there are more than two, or if the last join were large. A large join is pruned while it
+    /// grows.
+    fn has_more_joins(&self, lists: &[usize]) -> bool
+        requires within { (k : ℕ) → Has lists.now k → k < length self.now.memo.lists.keys }
+        ensures more { result ≡ true → 1 < length lists.now }
+        ensures few { result ≡ false → length lists.now ≤ 2 }
+    {
+        if lists.len() != 2 {
+            return lists.len() > 2;
+        }
+        let key = JoinKey {
+            left: lists[0],
+            right: lists[1],
+        };
+        self.memo.ways(&key) > MOST_WAYS
+    }
+
     /// The operands of a component's last join, by their numbers. The lists of the conjuncts are joined two by two, the two whose join costs least first,
-    /// until two lists are left.
+    /// until two lists are left. If their join were large, it is made, too, and the other operand is the list whose only pair needs nothing.
     pub(crate) fn last(
         &mut self,
         basis: &Basis<'_, '_, '_, 'a, A>,
@@ -132,7 +152,7 @@ impl<'a, A: Allocator> Components<'a, A> {
         ensures longer { OnOk result (IsLonger self.old.memo.lists.keys self.new.memo.lists.keys) }
     {
         let mut lists = self.numbers(basis.alloc, component)?;
-        'joins: while lists.len() > 2 {
+        'joins: while self.has_more_joins(lists.as_slice()) {
             let (first, second) = self.cheapest(lists.as_slice());
             let right = lists.remove(second);
             let left = lists.remove(first);

@@ -59,7 +59,8 @@ fn listed_transitions<'a, A: Allocator>(
     Ok(transitions)
 }
 
-/// The transitions of different pairs. They are sorted after implied ones are removed, since most of them are implied.
+/// The transitions of different pairs. They are sorted after implied ones are removed, since most of them are implied. The vector has room for those that
+/// are left alone, since it is kept in memory.
 fn pair_transitions<'a, A: Allocator>(
     basis: &Basis<'_, '_, '_, 'a, A>,
     pairs: &[Pair],
@@ -69,8 +70,9 @@ fn pair_transitions<'a, A: Allocator>(
     requires once { HasNoRepeats pairs.now }
     ensures { IfOk result (λ l. l ≡ transitions_of (table_at basis.now.table.now) basis.now.keep_implied pairs.now) }
 {
-    let mut transitions = listed_transitions(basis, pairs)?;
-    sort(&mut transitions)?;
+    let mut left = listed_transitions(basis, pairs)?;
+    sort(&mut left)?;
+    let transitions = Vec::from_slice(basis.alloc, left.as_slice())?;
     Ok(TransitionList { transitions })
 }
 

@@ -2,11 +2,11 @@
 
 ghost use Rattle.std.specs.Prelude.{◌≡◌, IfOk, not};
 ghost use Rattle.std.specs.List.{filter};
-ghost use Rattle.ltl_alt.specs.TransitionView.{AllSets, AreUpTo, is_heavy, is_implied};
+ghost use Rattle.ltl_alt.specs.TransitionView.{AllSets, AreUpTo, is_heavy};
 ghost use Rattle.ltl_spec.specs.Transitions.RowTransitions as spec;
 
 use crate::transition::{Differing, Transition};
-use least::Lookup;
+use least::not_above;
 use std::alloc::{AllocError, Allocator};
 
 /// The greatest weight of these transitions, 0 if there are none. A transition that implies another one has a smaller weight.
@@ -40,23 +40,6 @@ fn lighter<'a, A: Allocator>(
     Ok(lighter)
 }
 
-/// The transitions that none of the others implies.
-fn left<'a, A: Allocator>(
-    alloc: &'a A,
-    others: &Lookup<'_, '_, Transition, A>,
-    transitions: &[Transition],
-) -> Result<Vec<Transition, &'a A>, AllocError>
-    ensures { IfOk result (λ v. v.items ≡ filter (λ t. not (is_implied others.now t)) transitions.now) }
-{
-    let mut rest = Vec::new(alloc);
-    'transitions: for transition in transitions {
-        if !others.has_lesser(&Differing, transition) {
-            rest.push(*transition)?;
-        }
-    }
-    Ok(rest)
-}
-
 /// The transitions that no other one implies, in their order.
 pub(crate) fn unimplied<'a, A: Allocator>(
     alloc: &'a A,
@@ -67,7 +50,11 @@ pub(crate) fn unimplied<'a, A: Allocator>(
 {
     let most = heaviest(transitions.as_slice());
     let lighter = lighter(alloc, transitions.as_slice(), most)?;
-    let lookup = Lookup::new(alloc, lighter.as_slice())?;
-    let kept = left(alloc, &lookup, transitions.as_slice())?;
+    let kept = not_above(
+        alloc,
+        &Differing,
+        lighter.as_slice(),
+        transitions.as_slice(),
+    )?;
     Ok(kept)
 }

@@ -18,10 +18,10 @@
 //!
 //! - The conjuncts of its rows are divided into connected components of the links.
 //! - The pairs of a component's conjuncts are joined (`lists`), the two lists first whose join costs least (`components`). Each join but the
-//!   last one is pruned: it loses the pairs that would stay implied whatever is joined later (`prune`, `rule`, `roots`, `lacks`, `wanted`). A memo table
-//!   keeps the joins (`memo`). The pairs of the last join get their marks (`marks`), and implied transitions are removed (`implied`). Tests are evaluated
-//!   for many pairs at once (`columns`). Another table keeps the result of each component (`finals`). Tables that are full are replaced by empty ones
-//!   before the next set of rows (`reach`).
+//!   last one is pruned: it loses the pairs that would stay implied whatever is joined later (`prune`, `rule`, `roots`, `lacks`, `wanted`). Large joins
+//!   are pruned while they grow (`pruned_join`). A memo table keeps the joins (`memo`). The pairs of the last join get their marks (`marks`), and implied
+//!   transitions are removed (`implied`). Tests are evaluated for many pairs at once (`columns`). Another table keeps the result of each component
+//!   (`finals`). Tables that are full are replaced by empty ones before the next set of rows (`reach`).
 //! - The transitions of the set are the products of one transition of each component. They are counted first, then made and sorted (`factors`, `product`).
 //!
 //! A set shares the edges of an earlier set if the components of both have the same lists of transitions, in the same order (`keys`).
@@ -65,6 +65,7 @@ mod place;
 mod product;
 mod program;
 mod prune;
+mod pruned_join;
 mod reach;
 mod roots;
 mod row_lists;

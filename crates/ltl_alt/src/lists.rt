@@ -14,7 +14,7 @@ use ltl_automaton::Interner;
 use std::alloc::{AllocError, Allocator};
 
 /// Adds the joins of each pair of a list with one pair, unless they are there.
-fn note_joins<A: Allocator>(
+pub(crate) fn note_joins<A: Allocator>(
     once: &mut Interner<'_, Pair, A>,
     left: &[Pair],
     right: &Pair,

@@ -13,7 +13,7 @@ ghost use Rattle.ltl_alt.specs.StandIns.{IsFit, IsListed, StandsFor};
 use crate::lists::join;
 use crate::pair::Pair;
 use crate::pair_set::PairSet;
-use crate::prune::prune;
+use crate::pruned_join::pruned_join;
 use crate::rule::Pruning;
 use crate::support::Extent;
 use indexmap::IndexMap;
@@ -99,10 +99,7 @@ impl<'a, A: Allocator> Memo<'a, A> {
             → IfOk result (IsListed (StandsFor T pruning.now.rule)
             (join (conjunct_of self.now.lists.keys key.now.left) (conjunct_of self.now.lists.keys key.now.right))) }
     {
-        let left = self.pairs(key.left);
-        let right = self.pairs(key.right);
-        let joined = join(alloc, left, right)?;
-        let pairs = prune(alloc, pruning, joined)?;
+        let pairs = pruned_join(alloc, pruning, self.pairs(key.left), self.pairs(key.right))?;
         Ok(PairSet { pairs })
     }
 

@@ -41,10 +41,10 @@ fn smaller<'a, A: Allocator>(alloc: &'a A, pairs: &[Pair]) -> Result<Vec<Pair, &
 /// The pairs that no smaller one of the spares may replace.
 fn left<'a, A: Allocator>(
     alloc: &'a A,
-    spares: &Lookup<'_, '_, Spare, A>,
+    spares: &mut Lookup<'_, '_, Spare, A>,
     pairs: &[Pair],
 ) -> Result<Vec<Pair, &'a A>, AllocError>
-    ensures { IfOk result (λ v. v.items ≡ filter (λ p. not (is_replaced spares.now p)) pairs.now) }
+    ensures { IfOk result (λ v. v.items ≡ filter (λ p. not (is_replaced spares.old p)) pairs.now) }
 {
     let mut rest = Vec::with_capacity(alloc, pairs.len())?;
     'pairs: for pair in pairs {
@@ -70,8 +70,8 @@ fn pruned_safely<'a, A: Allocator>(
     }
     let roots = counted_steps(alloc, fulfilment, counted)?;
     let spares = spares_of(alloc, fulfilment, roots.as_slice(), smaller.as_slice())?;
-    let lookup = Lookup::new(alloc, spares.as_slice())?;
-    let kept = left(alloc, &lookup, pairs.as_slice())?;
+    let mut lookup = Lookup::new(alloc, spares.as_slice())?;
+    let kept = left(alloc, &mut lookup, pairs.as_slice())?;
     Ok(kept)
 }
 
@@ -92,7 +92,7 @@ fn kept<'a, A: Allocator>(
 }
 
 /// The pairs that no other, smaller pair may replace by the rule, sorted and without duplicates. They are sorted last, since most are removed, and by runs,
-/// since the joins with one pair often stay in the order of the other pairs.
+/// since the joins with one pair often stay in the order of the other pairs. The vector has room for them alone, since most lists are kept in memory.
 pub(crate) fn prune<'a, A: Allocator>(
     alloc: &'a A,
     pruning: &Pruning<'_, '_, A>,
@@ -102,5 +102,6 @@ pub(crate) fn prune<'a, A: Allocator>(
 {
     let mut kept = kept(alloc, pruning, pairs)?;
     sort_runs_dedup(&mut kept)?;
-    Ok(kept)
+    let exact = Vec::from_slice(alloc, kept.as_slice())?;
+    Ok(exact)
 }

@@ -9,4 +9,4 @@ returns g c =
     let most = c.heaviest-most.result in
     left_by_lighter c.args.transitions.items c.in_ok-lighter.lighter.items c.in_ok-kept.kept.items most c.requires (subst (AreUpTo most) c.as_slice.ensures.value c.heaviest-most.ensures)
     (c.in_ok-lighter.ensures ∙ ap (filter (λ t. not (is_heavy most t))) c.as_slice-2.ensures.value)
-    (c.in_ok-kept.ensures ∙ (λ i. filter (λ t. not (is_implied ((c.in_ok-lookup.ensures ∙ c.as_slice-3.ensures.value) i) t)) (c.as_slice-4.ensures.value i)))
+    (c.in_ok-kept.ensures ∙ (λ i. filter (λ t. not (is_implied (c.as_slice-3.ensures.value i) t)) (c.as_slice-4.ensures.value i)))

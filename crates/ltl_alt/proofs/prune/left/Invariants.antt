@@ -4,4 +4,7 @@ use Rattle.ltl_alt.specs.StandIns.{is_replaced}
 use Rattle.ltl_alt.proofs.prune.left.Given as goal
 
 abbrev pub invariant-pairs : goal.invariant-pairs
-invariant-pairs g l = l.rest.items ≡ filter (λ p. not (is_replaced l.spares p)) (take l.pair-index l.fn.pairs)
+invariant-pairs g l = record {
+  same : l.spares ≡ l.initial.spares;
+  kept : l.rest.items ≡ filter (λ p. not (is_replaced l.initial.spares p)) (take l.pair-index l.fn.pairs);
+}

@@ -1,4 +1,4 @@
-use Rattle.std.proofs.Common.{◌≡◌, ℕ, ◌<◌, ◌∷◌, ◌++◌, [], ◌∙◌, ap, arith, length, sym, subst, slice_index_or}
+use Rattle.std.proofs.Common.{◌≡◌, ℕ, ◌<◌, ◌≤◌, ◌∷◌, ◌++◌, [], ◌∙◌, ap, arith, length, sym, subst, slice_index_or}
 use Rattle.std.specs.List.{remove}
 use Rattle.ltl_spec.specs.Collections.Sets.{Has, set_of}
 use Rattle.ltl_spec.specs.Transitions.Pairs.{pair_cmp, empty_pair, join}
@@ -39,7 +39,7 @@ join-requires g c =
     let j = c.cheapest-first.result.1 in
     let x = c.remove-left.result in
     let y = c.remove-right.result in
-    let below = subst (λ xs. j < length xs) c.as_slice.ensures.value c.cheapest-first.ensures.1 in
+    let below = subst (λ xs. j < length xs) c.as_slice-in-joins.ensures.value c.cheapest-first.ensures.1 in
     let order = c.cheapest-first.ensures.0 in
     let fewer = left_fewer ns j y below c.remove-right.ensures.value in
     let under : i < length (remove ns j) = omega (arith, below, order, fewer) in
@@ -71,7 +71,7 @@ joins-preserved g c =
     let fit = tests_fit T r b.pruning.fulfilment.now c.requires.basis.tests in
     let joins = c.in_ok-joined.ensures.joins T fit components.joins in
     let is : IsJoin T r new (record { left = x; right = y }) n = c.in_ok-joined.ensures.joined T fit components.joins in
-    let below = subst (λ xs. j < length xs) c.as_slice.ensures.value c.cheapest-first.ensures.1 in
+    let below = subst (λ xs. j < length xs) c.as_slice-in-joins.ensures.value c.cheapest-first.ensures.1 in
     let order = c.cheapest-first.ensures.0 in
     let right = c.remove-right.ensures.value in
     let fewer = left_fewer ns j y below right in
@@ -103,9 +103,8 @@ returns-clause-last g c =
     let none = c.joins.self.nothing in
     let at = c.joins.invariant.components.nothing in
     let all = joined_on (conjunct_of b.conjuncts.lists.items) (empty_pair ∷ []) c.args.component.now in
-    let test = c.joins-test.false in
-    let long = c.len.ensures in
-    let few : length ns < 3 = omega arith in
+    let two : length ns ≤ 2 = subst (λ l. length l ≤ 2) c.as_slice.ensures.value (c.has_more_joins.ensures.few c.joins-test.false) in
+    let few : length ns < 3 = omega (arith, two) in
     let left : c.number_at.result ≡ slice_index_or ns 0 none = c.number_at.ensures ∙ ap (λ l. slice_index_or l 0 none) c.as_slice-2.ensures.value in
     let right : c.number_at-2.result ≡ slice_index_or ns 1 none = c.number_at-2.ensures ∙ ap (λ l. slice_index_or l 1 none) c.as_slice-3.ensures.value in
     let within : (m : ℕ) → slice_index_or ns m none < length lists = λ m. at_place (λ k. k < length lists) ns none m c.joins.invariant.within at.0 in

@@ -4,7 +4,7 @@ use Rattle.std.proofs.lemmas.Option.{slice_get_read}
 use Rattle.least.specs.Blocks.{HasCandidates}
 use Rattle.least.specs.Lookups.{is_found}
 use Rattle.least.proofs.SearchLaws.{IsClearAt, block_clear, clear_here, clear_past, done_begins, done_ends, done_step}
-use Rattle.least.proofs.index.has_in_block.Goals as goal
+use Rattle.least.proofs.index.place_in_block.Goals as goal
 
 pub candidates-init : goal.candidates-init
 candidates-init g c = done_begins (IsClearAt (is_found g.T.Below.below (g.C.Counting.counts c.args.counting.now) c.args.item.now) c.part-part.result.now) c.iter-rest.result c.iter-rest.result refl

@@ -3,7 +3,7 @@ use Rattle.std.specs.List.{AllByRecursion}
 use Rattle.least.specs.Blocks.{part_at}
 use Rattle.least.specs.Lookups.{is_above}
 use Rattle.least.proofs.SearchLaws.{IsDoneBut}
-use Rattle.least.proofs.index.has_in_upper.Given as goal
+use Rattle.least.proofs.index.place_in_upper.Given as goal
 
 abbrev pub invariant-candidates : goal.invariant-candidates
 invariant-candidates g l = record {

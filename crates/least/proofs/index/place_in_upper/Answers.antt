@@ -6,7 +6,7 @@ use Rattle.least.specs.Blocks.{HasCandidates, part_at}
 use Rattle.least.specs.Lookups.{is_above, is_found}
 use Rattle.least.proofs.PartLaws.{any_of_part}
 use Rattle.least.proofs.SearchLaws.{done_begins, done_ends, done_step, place_fits, turned, upper_clear}
-use Rattle.least.proofs.index.has_in_upper.Goals as goal
+use Rattle.least.proofs.index.place_in_upper.Goals as goal
 
 pub candidates-init : goal.candidates-init
 candidates-init g c = record {
@@ -24,7 +24,7 @@ candidates-preserved g c =
     record {
       low = (subst (AllByRecursion (λ b. b < 256)) c.in-Some.ensures.steps c.candidates.invariant.low).1;
       done = done_step (λ b. is_above below counts (part_at (256 * s + b) us) t ≡ false) c.iter-rest.result c.candidates.rest c.next.new.self c.in-Some.b c.in-Some.ensures.steps
-          (ap (λ n. is_above below counts (part_at n us) t) (turned s c.in-Some.b) ∙ sym c.has_in_block.ensures ∙ c.if-has_in_block.false) c.candidates.invariant.done;
+          (ap (λ n. is_above below counts (part_at n us) t) (turned s c.in-Some.b) ∙ sym c.in_default-place_in_block.ensures) c.candidates.invariant.done;
     }
 
 pub overflow_add-number : goal.overflow_add-number
@@ -35,11 +35,6 @@ overflow_add-number g c =
 
 pub overflow_mul-number : goal.overflow_mul-number
 overflow_mul-number g c = let all = overflow_add-number g c in omega (arith, all)
-
-pub returns-then-has_in_block-clause-found : goal.returns-then-has_in_block-clause-found
-returns-then-has_in_block-clause-found g c =
-    let p = is_found g.T.Below.below (g.C.Counting.counts c.args.counting.now) c.args.item.now in
-    λ e. any_of_part p (c.args.number * 256 + c.in-Some.b) c.args.items.now (sym c.has_in_block.ensures ∙ c.if-has_in_block.true)
 
 pub returns-clause-clear : goal.returns-clause-clear
 returns-clause-clear g c =
@@ -56,3 +51,8 @@ returns-clause-clear g c =
     let each : HasCandidates (needs t) (asks t) block all = subst (HasCandidates (needs t) (asks t) block) (sym c.iter-rest.ensures.members) c.candidates-candidates.ensures in
     λ e. upper_clear below counts needs asks g.T.Elements.lacking g.met.T.Below.needed g.met.T.Below.lacked t c.args.items.now uppers s block all c.requires.uppers got each
     (done_ends (λ b. is_above below counts (part_at (256 * s + b) c.args.items.now) t ≡ false) all c.candidates.rest c.in_default.ensures.steps.0 c.candidates.invariant.done)
+
+pub returns-in-Some-place_in_block-clause-found : goal.returns-in-Some-place_in_block-clause-found
+returns-in-Some-place_in_block-clause-found g c =
+    let p = is_found g.T.Below.below (g.C.Counting.counts c.args.counting.now) c.args.item.now in
+    λ e. any_of_part p (c.args.number * 256 + c.in-Some.b) c.args.items.now (sym c.in-Some-place_in_block.ensures)

@@ -1,6 +1,6 @@
 use Rattle.std.proofs.Common.{◌≤◌, arith, length}
 use Rattle.least.proofs.SearchLaws.{uppers_clear}
-use Rattle.least.proofs.index.has_in_uppers.Goals as goal
+use Rattle.least.proofs.index.place_in_uppers.Goals as goal
 
 pub returns : goal.returns
 returns g c =
