@@ -32,8 +32,8 @@ impl Write for Narrow {
     }
 }
 
-/// Formulas, and the texts of their automata after the quotient.
-const MERGED: [(&str, &str); 5] = [
+/// Formulas, and the texts of their automata after merging. In the last one, states 1 and 2 are bisimilar; merging leaves them apart.
+const MERGED: [(&str, &str); 6] = [
     (
         "[]<>p",
         "HOA: v1\nname: \"[]<>p\"\nStates: 1\nStart: 0\nAP: 1 \"p\"\nacc-name: generalized-Buchi 1\nAcceptance: 1 Inf(0)\nproperties: trans-labels explicit-labels trans-acc\n--BODY--\nState: 0\n[t] 0\n[0] 0 {0}\n--END--\n",
@@ -54,9 +54,13 @@ const MERGED: [(&str, &str); 5] = [
         "!(<>p -> q U r)",
         "HOA: v1\nname: \"!(<>p -> (q U r))\"\nStates: 4\nStart: 0\nAP: 3 \"p\" \"q\" \"r\"\nacc-name: generalized-Buchi 1\nAcceptance: 1 Inf(0)\nproperties: trans-labels explicit-labels trans-acc\n--BODY--\nState: 0\n[0&!1&!2] 1 {0}\n[0&!2] 2 {0}\n[!1&!2] 3\n[!2] 0\nState: 1\n[t] 1 {0}\nState: 2\n[!1&!2] 1 {0}\n[!2] 2 {0}\nState: 3\n[t] 3\n[0] 1 {0}\n--END--\n",
     ),
+    (
+        "[](p && q) || []p && []q",
+        "HOA: v1\nname: \"([](p && q) || ([]p && []q))\"\nStates: 3\nStart: 0\nAP: 2 \"p\" \"q\"\nacc-name: all\nAcceptance: 0 t\nproperties: trans-labels explicit-labels trans-acc\n--BODY--\nState: 0\n[0&1] 1\n[0&1] 2\nState: 1\n[0&1] 1\nState: 2\n[0&1] 2\n--END--\n",
+    ),
 ];
 
-/// The automaton of `[]<>p` if equivalent states are kept, and if subsumed edges are kept.
+/// The automaton of `[]<>p` if states with equal edges are kept, and if subsumed edges are kept.
 const KEPT: [(bool, bool, &str); 2] = [
     (
         false,

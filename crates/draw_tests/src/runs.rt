@@ -1,6 +1,7 @@
 //! Tests of runs of the program.
 
 use crate::streams::{Given, Taken};
+use ltl_cli::Source;
 use ltl_draw::{draw_over, plan};
 use ltl_streams::{ReaderSource, WriterSink};
 use refusing::Refusing;
@@ -11,7 +12,7 @@ const AUTOMATON: &str =
     "HOA: v1\nStates: 2\nStart: 0\nAP: 1 \"p\"\nAcceptance: 1 Inf(0)\n--BODY--\nState: 0\n[t] 0\n[0] 1\n[0] 0\n[!0] 1\n[0] 1\n[0] 1\nState: 1 {0}\n[0] 1\n--END--\n";
 
 const PICTURE: &str =
-    "digraph automaton {\n  rankdir=LR\n  labelloc=t\n  label=\"Buchi\"\n  node [shape=circle]\n  I [label=\"\", style=invis, width=0]\n  I -> 0\n  0\n  0 -> 0 [label=\"1\\np\"]\n  0 -> 1 [label=\"p\\n!p\\np\\np\"]\n  1 [peripheries=2]\n  1 -> 1 [label=\"p\"]\n}\n";
+    "digraph automaton {\n  rankdir=LR\n  labelloc=t\n  label=\"B&uuml;chi\"\n  node [shape=circle]\n  I [label=\"\", style=invis, width=0]\n  I -> 0\n  0\n  0 -> 0 [label=\"1 || p\"]\n  0 -> 1 [label=\"p || !p || p || p\"]\n  1 [peripheries=2]\n  1 -> 1 [label=\"p\"]\n}\n";
 
 /// More allocations than a run makes.
 const MOST_GROWTHS: u64 = 1_000;
@@ -28,7 +29,7 @@ fn drawn<A: Allocator>(
     draw_over(
         alloc,
         &plan(memory, words),
-        &mut ReaderSource::new(input),
+        &mut Source::Input(ReaderSource::new(input)),
         &mut WriterSink::new(output),
         &mut WriterSink::new(message),
     )
@@ -83,14 +84,14 @@ const RUNS: [(&[&str], &str, &str, &str, u8); 18] = [
         &["ltldraw", "-h"],
         AUTOMATON,
         "",
-        "ltldraw: usage: ltldraw [-w lasso | -t lasso [-f formula]]\n",
+        "ltldraw: usage: ltldraw [-A file] [-w lasso] | -t lasso [-f formula]\n",
         2,
     ),
     (
         &["ltldraw", "x"],
         AUTOMATON,
         "",
-        "ltldraw: usage: ltldraw [-w lasso | -t lasso [-f formula]]\n",
+        "ltldraw: usage: ltldraw [-A file] [-w lasso] | -t lasso [-f formula]\n",
         2,
     ),
     (&[], AUTOMATON, PICTURE, "", 0),
@@ -126,14 +127,14 @@ const RUNS: [(&[&str], &str, &str, &str, u8); 18] = [
         &["ltldraw", "-f", "p"],
         AUTOMATON,
         "",
-        "ltldraw: usage: ltldraw [-w lasso | -t lasso [-f formula]]\n",
+        "ltldraw: usage: ltldraw [-A file] [-w lasso] | -t lasso [-f formula]\n",
         2,
     ),
     (
         &["ltldraw", "-t", "cycle {p}", "-t", "cycle {}"],
         "",
         "",
-        "ltldraw: usage: ltldraw [-w lasso | -t lasso [-f formula]]\n",
+        "ltldraw: usage: ltldraw [-A file] [-w lasso] | -t lasso [-f formula]\n",
         2,
     ),
     (
@@ -161,7 +162,7 @@ const RUNS: [(&[&str], &str, &str, &str, u8); 18] = [
     (
         &["ltldraw", "-w", "{p}; cycle {}"],
         AUTOMATON,
-        "digraph automaton {\n  rankdir=LR\n  labelloc=t\n  label=\"Buchi\\nno run on this word is accepting\"\n  node [shape=circle]\n  I [label=\"\", style=invis, width=0]\n  I -> 0\n  0\n  0 -> 0 [label=\"1\\np\"]\n  0 -> 1 [label=\"p\\n!p\\np\\np\"]\n  1 [peripheries=2]\n  1 -> 1 [label=\"p\"]\n}\n",
+        "digraph automaton {\n  rankdir=LR\n  labelloc=t\n  label=\"B&uuml;chi\\nno run on this word is accepting\"\n  node [shape=circle]\n  I [label=\"\", style=invis, width=0]\n  I -> 0\n  0\n  0 -> 0 [label=\"1 || p\"]\n  0 -> 1 [label=\"p || !p || p || p\"]\n  1 [peripheries=2]\n  1 -> 1 [label=\"p\"]\n}\n",
         "",
         0,
     ),
@@ -176,7 +177,7 @@ const RUNS: [(&[&str], &str, &str, &str, u8); 18] = [
         &["ltldraw", "-w", "cycle {}", "-t", "cycle {}"],
         AUTOMATON,
         "",
-        "ltldraw: usage: ltldraw [-w lasso | -t lasso [-f formula]]\n",
+        "ltldraw: usage: ltldraw [-A file] [-w lasso] | -t lasso [-f formula]\n",
         2,
     ),
 ];
@@ -185,7 +186,7 @@ const RUNS: [(&[&str], &str, &str, &str, u8); 18] = [
 const RUN: [&str; 3] = ["ltldraw", "-w", "cycle {p}"];
 
 const RUN_PICTURE: &str =
-    "digraph automaton {\n  rankdir=LR\n  labelloc=t\n  label=\"Buchi\"\n  node [shape=circle]\n  I [label=\"\", style=invis, width=0]\n  I -> 0\n  0 [color=red, penwidth=2]\n  0 -> 0 [label=\"1\\np\"]\n  0 -> 1 [label=\"!p\\np\\np\"]\n  0 -> 1 [label=\"p\", color=red, fontcolor=red, penwidth=2]\n  1 [peripheries=2, color=red, penwidth=2]\n  1 -> 1 [label=\"p\", color=red, fontcolor=red, penwidth=2]\n}\n";
+    "digraph automaton {\n  rankdir=LR\n  labelloc=t\n  label=\"B&uuml;chi\"\n  node [shape=circle]\n  I [label=\"\", style=invis, width=0]\n  I -> 0\n  0 [color=red, penwidth=2]\n  0 -> 0 [label=\"1 || p\"]\n  0 -> 1 [label=<<font color=\"red\">p</font> || !p || p || p>, color=red, penwidth=2]\n  1 [peripheries=2, color=red, penwidth=2]\n  1 -> 1 [label=<<font color=\"red\">p</font>>, color=red, penwidth=2]\n}\n";
 
 const TABLE: &str = "        0 | 1 2\np       * | . .\nq       . | * .\n(p U q) * | * .\n";
 

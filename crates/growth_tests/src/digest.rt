@@ -4,7 +4,7 @@ use ltl_alt::{Edges, Gba, PairSet};
 use ltl_buchi::{Ba, Gen};
 use ltl_check::{Outcome, Taken, Verdict, Walk};
 use ltl_formula::{Row, Table};
-use ltl_hoa::Marked;
+use ltl_hoa::{HoaNames, Marked};
 use ltl_sets::{Cube, RowSet};
 use ltl_syntax::{Formula, text_to};
 use ltl_word::Lasso;
@@ -60,6 +60,16 @@ impl Digest {
             self.take(row);
         }
         self.take(usize::MAX);
+    }
+
+    /// Adds a name, or that there is none.
+    fn name(&mut self, name: Option<&[u8]>) {
+        if let Some(bytes) = name {
+            for byte in bytes {
+                self.take(*byte as usize);
+            }
+        }
+        self.take(usize::MAX - name.is_some() as usize);
     }
 
     /// Adds a row of a table.
@@ -182,6 +192,16 @@ pub(crate) fn of_marked<A: Allocator>(automaton: &Marked<'_, A>) -> Digest {
             digest.rows(&edge.sets.to_row_set());
         }
         digest.take(usize::MAX);
+    }
+    digest
+}
+
+/// The digest of the names of an automaton and of its first few states.
+pub(crate) fn of_names<A: Allocator>(names: &HoaNames<'_, A>) -> Digest {
+    let mut digest = Digest::new();
+    digest.name(names.automaton());
+    for i in 0..4 {
+        digest.name(names.state(i));
     }
     digest
 }

@@ -4,15 +4,15 @@ ghost use Rattle.std.specs.Prelude.{◌<◌, length, IfSome};
 ghost use Rattle.ltl_spec.specs.Checking.Bounds.{HasNamesBelow};
 
 use crate::digest::{
-    Digest, of_ba, of_formula, of_gba, of_gen, of_marked, of_pairs, of_table, of_verdict, of_walk,
-    of_word,
+    Digest, of_ba, of_formula, of_gba, of_gen, of_marked, of_names, of_pairs, of_table, of_verdict,
+    of_walk, of_word,
 };
 use crate::inputs::{CASES, Case};
 use ltl_alt::{AltFault, Gba, Reach, pairs};
 use ltl_buchi::{Ba, BaFault, Options, generalized, levels, merge, merge_ba, renumber, translate};
 use ltl_check::{CheckFault, Graph, PRODUCT_LIMIT, Product, Steps, check, find};
 use ltl_formula::{BuildFault, Table};
-use ltl_hoa::{HoaFault, Marked, hoa_read};
+use ltl_hoa::{HoaFault, Marked, hoa_names, hoa_read};
 use ltl_pictures::{TimelineFault, timeline_to};
 use ltl_sets::RowSet;
 use ltl_streams::WriterSink;
@@ -386,10 +386,24 @@ fn made_of_formula<'a, B: Allocator>(
     made_of_table(alloc, &table)
 }
 
-/// The digest of an automaton that is read.
+/// The digest of the names in the text of an automaton.
+fn names<B: Allocator>(alloc: &Memory<B>, text: &str) -> Option<Digest> {
+    if text.len() > 65_536 {
+        return None;
+    }
+    let found = made!(
+        alloc,
+        Digest::new(),
+        _,
+        hoa_names(alloc, text.as_bytes(), 3)
+    );
+    Some(of_names(&found))
+}
+
+/// The digest of an automaton that is read, and of its names.
 fn automaton_of<B: Allocator>(alloc: &Memory<B>, text: &str) -> Option<Digest> {
     let read = automaton(alloc, text)?;
-    Some(of_marked(&read))
+    Some(of_marked(&read).with(names(alloc, text)?))
 }
 
 /// The digest of all that is made of a case, or `None` if a call answers wrongly. `calm` refuses no allocation.

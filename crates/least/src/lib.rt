@@ -1,4 +1,4 @@
-//! Minimal elements of a finite preorder, without a comparison of every two items.
+//! Minimal elements of a list by a relation such as inclusion, mostly without a comparison of every two items.
 //!
 //! In the field's words: from a list of sets, it keeps those that include no other one of the list, which form an antichain. This makes automata
 //! smaller: it removes transitions and edges that another one subsumes, and pairs that a weaker pair may replace.

@@ -1,7 +1,7 @@
 //! Which until rows count while pairs are pruned.
 //!
-//! A pair may replace another one before a join is complete if it needs no more, and if it is marked for the same until rows of those that count. An until row
-//! counts in two cases:
+//! A pair may replace another one before a join is complete if it needs no more, and if it is marked for each until row that counts and for which the other one
+//! is. An until row counts in two cases:
 //!
 //! - It is in one of the sets of rows of `a`, for a row `X a`.
 //! - A pair that postpones it needs a literal or a row on which the test of an until row that counts depends.

@@ -18,7 +18,7 @@
 //!
 //! - The conjuncts of its rows are divided into connected components of the links.
 //! - The pairs of a component's conjuncts are joined (`lists`), the two lists first whose join costs least (`components`). Each join but the
-//!   last one is pruned: it loses the pairs that would stay implied whatever is joined later (`prune`, `rule`, `roots`, `lacks`, `wanted`). Large joins
+//!   last one is pruned: it loses pairs that would stay implied whatever is joined later (`prune`, `rule`, `roots`, `lacks`, `wanted`). Large joins
 //!   are pruned while they grow (`pruned_join`). A memo table keeps the joins (`memo`). The pairs of the last join get their marks (`marks`), and implied
 //!   transitions are removed (`implied`). Tests are evaluated for many pairs at once (`columns`). Another table keeps the result of each component
 //!   (`finals`). Tables that are full are replaced by empty ones before the next set of rows (`reach`).

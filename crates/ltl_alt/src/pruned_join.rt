@@ -14,8 +14,8 @@ use std::alloc::{AllocError, Allocator};
 /// The number of different joins that are made before they are pruned for the first time.
 const MANY: usize = 65_536;
 
-/// The joins of a pair of each side, pruned by the rule. If there are many, they are pruned while they grow. So they take no more memory than twice what is
-/// left of them, or little.
+/// The joins of a pair of each side, pruned by the rule. If there are many, they are pruned while they grow. So their memory goes by how many are left in
+/// between, and not by how many are made.
 pub(crate) fn pruned_join<'a, A: Allocator>(
     alloc: &'a A,
     pruning: &Pruning<'_, '_, A>,

@@ -16,8 +16,8 @@ use std::alloc::{AllocError, Allocator};
 pub(crate) enum Rule {
     /// Only duplicates are dropped.
     Duplicate,
-    /// A pair may be dropped if another one needs no more, and if that one is marked for the same until rows of those that count, whatever both are joined
-    /// with. The set has the places of the until rows that count.
+    /// A pair may be dropped if another one needs no more, and if that one is marked for each until row that counts and for which the pair is, whatever both
+    /// are joined with. The set has the places of the until rows that count.
     SafelySubsumed(RowSet),
 }
 

@@ -34,13 +34,6 @@ impl Model for Transition {
 }
 
 impl Transition {
-    /// The set of rows to which it leads.
-    pub(crate) fn target(&self) -> RowSet
-        ensures { result ≡ self.now.targets }
-    {
-        self.targets
-    }
-
     /// The union of both transitions' literals and targets, with the marks that both have, or `None` if their literals contradict each other.
     pub(crate) fn at_once(&self, other: &Transition) -> Option<Transition>
         ensures { result ≡ join_transitions self.now other.now }

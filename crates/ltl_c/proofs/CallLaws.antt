@@ -1,7 +1,6 @@
 -- What a call hands over is what a run of the program shows.
 use Rattle.std.proofs.Common.{◌≡◌, ◌∙◌, ◌⊎◌, ◌↔◌, ap, sym, subst, refl, inl, inr, Bool, true, false, ℕ, ◌≤◌, ◌<◌, List, [], ◌∷◌, length, Option, Some, None, arith, drop}
 use Rattle.std.specs.Prelude.{Result, Ok, Err, IsTrue}
-use Rattle.std.specs.Option.{option_map_or}
 use Rattle.ltl_spec.specs.Checking.Check.{Verdict, Contained, Violated}
 use Rattle.ltl_spec.specs.Hoa.HoaReading.{stated_form}
 use Rattle.ltl_spec.specs.Tools.Limits.{stated_limits}
@@ -16,41 +15,39 @@ use Rattle.ltl_cli.specs.declared.refusal.Refusal.{Refusal}
 use Rattle.ltl_cli.specs.declared.refusal.Refusal.TheVariants.{OutOfMemory}
 use Rattle.ltl_cli.specs.Refusals.{refusal_of}
 use Rattle.ltl_c.specs.declared.refusal_code.RefusalCode.{RefusalCode}
-use Rattle.ltl_c.specs.Calls.{Delivers, HandsOver, MayEnd, PrintsAsked, checker_asked, run_with, text_alone, told, truth_line, verdict_lines}
-use Rattle.ltl_c.specs.Codes.{refusal_in}
+use Rattle.ltl_c.specs.Calls.{Delivers, Ends, HandsOver, MayEnd, PrintsAsked, checker_asked, run_with, text_alone, truth_line, verdict_lines}
+use Rattle.ltl_c.specs.Codes.{code_for}
 use Rattle.ltl_c.specs.Verdicts.{FindsAsked, Saying, SaysVerdict, is_contained, said, verdict_status, word_text}
 use Rattle.ltl_c.proofs.StepLaws.{Refuses}
 
-module _ (tool : Tool) (plan : Option (PlanOf tool)) (file : Input) (code : RefusalCode) where
+module _ (tool : Tool) (plan : Option (PlanOf tool)) (file : Input) where
   abbrev Right : Answer → Type 0
   Right = ToolAnswers stated_limits stated_form tool plan NotOpened file
 
-  told_with : (x : Option spec.Refusal) → refusal_in code ≡ x → told tool code ≡ option_map_or (message stated_limits tool) x []
-  told_with x e = ap (λ y. option_map_or (message stated_limits tool) y []) e
-
   -- a right answer with no message
-  pub answer_ends : (a : Answer) → Right a → a.message ≡ [] → refusal_in code ≡ None → MayEnd tool plan file a.status a.output (told tool code)
-  answer_ends a right silent none =
-      promised_shown stated_limits stated_form tool plan NotOpened file (run_with a.status a.output (told tool code))
-      (inl (a, right, (refl, refl, refl, inl (told_with None none ∙ sym silent, refl))))
+  pub answer_ends : (a : Answer) → Right a → a.message ≡ [] → MayEnd tool plan file a.status a.output []
+  answer_ends a right silent =
+      promised_shown stated_limits stated_form tool plan NotOpened file (run_with a.status a.output []) (inl (a, right, (refl, refl, refl, inl (sym silent, refl))))
 
   -- a refusal
-  pub refusal_ends : (e : Refusal) → (e ≡ OutOfMemory) ⊎ Right (refused stated_limits tool (refusal_of e)) → refusal_in code ≡ Some (refusal_of e)
-      → MayEnd tool plan file (status_of (refusal_of e)) [] (told tool code)
-  refusal_ends e (inl m) some =
-      promised_shown stated_limits stated_form tool plan NotOpened file (run_with (status_of (refusal_of e)) [] (told tool code))
-      (inr (inl (ap (λ x. status_of (refusal_of x)) m, refl, ap (λ x. (run_with (status_of (refusal_of x)) [] []).output_stage) m, inl (told_with (Some (refusal_of e)) some ∙ ap (λ x. message stated_limits tool (refusal_of x)) m, refl))))
-  refusal_ends e (inr right) some =
-      promised_shown stated_limits stated_form tool plan NotOpened file (run_with (status_of (refusal_of e)) [] (told tool code))
-      (inl (refused stated_limits tool (refusal_of e), right, (refl, refl, refl, inl (told_with (Some (refusal_of e)) some, refl))))
+  pub refusal_ends : (e : Refusal) → (e ≡ OutOfMemory) ⊎ Right (refused stated_limits tool (refusal_of e)) → MayEnd tool plan file (status_of (refusal_of e)) [] (message stated_limits tool (refusal_of e))
+  refusal_ends e (inl m) =
+      promised_shown stated_limits stated_form tool plan NotOpened file (run_with (status_of (refusal_of e)) [] (message stated_limits tool (refusal_of e)))
+      (inr (inl (ap (λ x. status_of (refusal_of x)) m, refl, ap (λ x. (run_with (status_of (refusal_of x)) [] []).output_stage) m, inl (ap (λ x. message stated_limits tool (refusal_of x)) m, refl))))
+  refusal_ends e (inr right) =
+      promised_shown stated_limits stated_form tool plan NotOpened file (run_with (status_of (refusal_of e)) [] (message stated_limits tool (refusal_of e)))
+      (inl (refused stated_limits tool (refusal_of e), right, (refl, refl, refl, inl (refl, refl))))
 
   -- a refusal that is handed over with an empty text
-  pub refusal_handed : (shown : ℕ → List ℕ → List ℕ) (e : Refusal) → shown (status_of (refusal_of e)) [] ≡ [] → (e ≡ OutOfMemory) ⊎ Right (refused stated_limits tool (refusal_of e)) → refusal_in code ≡ Some (refusal_of e)
-      → (old new : List ℕ) (count status n : ℕ) → n ≡ status_of (refusal_of e) → Delivers n [] old new count status → HandsOver tool plan file shown code old new count status
-  refusal_handed shown e empty right some old new count status n q d = record {
+  pub refusal_handed : (shown : ℕ → List ℕ → List ℕ) (e : Refusal) → shown (status_of (refusal_of e)) [] ≡ [] → (e ≡ OutOfMemory) ⊎ Right (refused stated_limits tool (refusal_of e))
+      → (code : RefusalCode) → code ≡ code_for (Some (refusal_of e)) → (old new : List ℕ) (count status n : ℕ) → n ≡ status_of (refusal_of e) → Delivers n [] old new count status → HandsOver tool plan file shown code old new count status
+  refusal_handed shown e empty right code some old new count status n q d = record {
     text = [];
     ended = n;
-    shown = subst (λ m. MayEnd tool plan file m (shown m []) (told tool code)) (sym q) (subst (λ t. MayEnd tool plan file (status_of (refusal_of e)) t (told tool code)) (sym empty) (refusal_ends e right some));
+    reason = Some (refusal_of e);
+    shown = subst (λ m. MayEnd tool plan file m (shown m []) (message stated_limits tool (refusal_of e))) (sym q)
+        (subst (λ t. MayEnd tool plan file (status_of (refusal_of e)) t (message stated_limits tool (refusal_of e))) (sym empty) (refusal_ends e right));
+    coded = some;
     delivered = d;
   }
 
@@ -61,11 +58,13 @@ asked_answers None r h = ap (answer_by stated_limits Translator (λ text. printe
 asked_answers (Some p) r h = (r, h, refl)
 
 module _ (plan : Option TranslatorPlan) (code : RefusalCode) (old new : List ℕ) (count status : ℕ) where
-  pub text_handed : (text : List ℕ) → PrintsAsked plan (Ok text) → refusal_in code ≡ None → Delivers 0 text old new count status → HandsOver Translator plan NotOpened text_alone code old new count status
+  pub text_handed : (text : List ℕ) → PrintsAsked plan (Ok text) → code ≡ code_for None → Delivers 0 text old new count status → HandsOver Translator plan NotOpened text_alone code old new count status
   text_handed text h none d = record {
     text = text;
     ended = 0;
-    shown = answer_ends Translator plan NotOpened code (printed text 0) (asked_answers plan (Ok text) h) refl none;
+    reason = None;
+    shown = answer_ends Translator plan NotOpened (printed text 0) (asked_answers plan (Ok text) h) refl;
+    coded = none;
     delivered = d;
   }
 
@@ -73,8 +72,8 @@ module _ (plan : Option TranslatorPlan) (code : RefusalCode) (old new : List ℕ
   translator_refuses e (inl m) = inl m
   translator_refuses e (inr h) = inr (asked_answers plan (Err (refusal_of e)) h)
 
-  pub text_refused : (e : Refusal) → Refuses (PrintsAsked plan) e → refusal_in code ≡ Some (refusal_of e) → (n : ℕ) → n ≡ status_of (refusal_of e) → Delivers n [] old new count status → HandsOver Translator plan NotOpened text_alone code old new count status
-  text_refused e h some n q d = refusal_handed Translator plan NotOpened code text_alone e refl (translator_refuses e h) some old new count status n q d
+  pub text_refused : (e : Refusal) → Refuses (PrintsAsked plan) e → code ≡ code_for (Some (refusal_of e)) → (n : ℕ) → n ≡ status_of (refusal_of e) → Delivers n [] old new count status → HandsOver Translator plan NotOpened text_alone code old new count status
+  text_refused e h some n q d = refusal_handed Translator plan NotOpened text_alone e refl (translator_refuses e h) code some old new count status n q d
 
 -- ---- the evaluator
 
@@ -97,21 +96,26 @@ no_truth (spec.BadWord place) = refl
 no_truth (spec.BadAutomaton number kind) = refl
 
 module _ (p : EvaluatorPlan) (code : RefusalCode) where
-  truth_ends : (b : Bool) → EvaluatorFinds stated_limits p NotOpened (Ok b) → refusal_in code ≡ None → MayEnd Evaluator (Some p) NotOpened (truth_answer stated_limits b).status (truth_answer stated_limits b).output (told Evaluator code)
-  truth_ends true h none = answer_ends Evaluator (Some p) NotOpened code (truth_answer stated_limits true) (Ok true, h, refl) refl none
-  truth_ends false h none = answer_ends Evaluator (Some p) NotOpened code (truth_answer stated_limits false) (Ok false, h, refl) refl none
+  abbrev EndsWith : ℕ → Type 0
+  EndsWith = Ends Evaluator (Some p) NotOpened truth_line code
 
-  pub true_ends : (b : Bool) → EvaluatorFinds stated_limits p NotOpened (Ok b) → refusal_in code ≡ None → b ≡ true → MayEnd Evaluator (Some p) NotOpened 0 (truth_line 0) (told Evaluator code)
+  truth_ends : (b : Bool) → EvaluatorFinds stated_limits p NotOpened (Ok b) → code ≡ code_for None → EndsWith (truth_answer stated_limits b).status
+  truth_ends true h none = record { reason = None; shown = answer_ends Evaluator (Some p) NotOpened (truth_answer stated_limits true) (Ok true, h, refl) refl; coded = none }
+  truth_ends false h none = record { reason = None; shown = answer_ends Evaluator (Some p) NotOpened (truth_answer stated_limits false) (Ok false, h, refl) refl; coded = none }
+
+  pub true_ends : (b : Bool) → EvaluatorFinds stated_limits p NotOpened (Ok b) → code ≡ code_for None → b ≡ true → EndsWith 0
   true_ends b h none e = truth_ends true (subst (λ (c : Bool). EvaluatorFinds stated_limits p NotOpened (Ok c)) e h) none
 
-  pub false_ends : (b : Bool) → EvaluatorFinds stated_limits p NotOpened (Ok b) → refusal_in code ≡ None → b ≡ false → MayEnd Evaluator (Some p) NotOpened 1 (truth_line 1) (told Evaluator code)
+  pub false_ends : (b : Bool) → EvaluatorFinds stated_limits p NotOpened (Ok b) → code ≡ code_for None → b ≡ false → EndsWith 1
   false_ends b h none e = truth_ends false (subst (λ (c : Bool). EvaluatorFinds stated_limits p NotOpened (Ok c)) e h) none
 
-  pub no_truth_ends : (e : Refusal) → Refuses (EvaluatorFinds stated_limits p NotOpened) e → refusal_in code ≡ Some (refusal_of e) → (n : ℕ) → n ≡ status_of (refusal_of e) → MayEnd Evaluator (Some p) NotOpened n (truth_line n) (told Evaluator code)
-  no_truth_ends e h some n q =
-      subst (λ m. MayEnd Evaluator (Some p) NotOpened m (truth_line m) (told Evaluator code)) (sym q)
-      (subst (λ t. MayEnd Evaluator (Some p) NotOpened (status_of (refusal_of e)) t (told Evaluator code)) (sym (no_truth (refusal_of e)))
-      (refusal_ends Evaluator (Some p) NotOpened code e (refuses h) some))
+  pub no_truth_ends : (e : Refusal) → Refuses (EvaluatorFinds stated_limits p NotOpened) e → code ≡ code_for (Some (refusal_of e)) → (n : ℕ) → n ≡ status_of (refusal_of e) → EndsWith n
+  no_truth_ends e h some n q = subst EndsWith (sym q) (record {
+    reason = Some (refusal_of e);
+    shown = subst (λ t. MayEnd Evaluator (Some p) NotOpened (status_of (refusal_of e)) t (message stated_limits Evaluator (refusal_of e))) (sym (no_truth (refusal_of e)))
+        (refusal_ends Evaluator (Some p) NotOpened e (refuses h));
+    coded = some;
+  })
     where
       refuses : Refuses (EvaluatorFinds stated_limits p NotOpened) e → (e ≡ OutOfMemory) ⊎ ToolAnswers stated_limits stated_form Evaluator (Some p) NotOpened NotOpened (refused stated_limits Evaluator (refusal_of e))
       refuses (inl m) = inl m
@@ -147,28 +151,32 @@ module _ (text automaton : List ℕ) (code : RefusalCode) (old new : List ℕ) (
   abbrev Hands : Type 0
   Hands = HandsOver Checker (Some (checker_asked text)) (Ended automaton) verdict_lines code old new count status
 
-  handed : (v : Verdict) → FindsAsked text automaton (Ok v) → refusal_in code ≡ None → Delivers (verdict_status (is_contained v)) (word_text v) old new count status → Hands
+  handed : (v : Verdict) → FindsAsked text automaton (Ok v) → code ≡ code_for None → Delivers (verdict_status (is_contained v)) (word_text v) old new count status → Hands
   handed Contained h none d = record {
     text = [];
     ended = 0;
-    shown = answer_ends Checker (Some (checker_asked text)) (Ended automaton) code (verdict_answer stated_limits Contained) (Ok Contained, h, refl) refl none;
+    reason = None;
+    shown = answer_ends Checker (Some (checker_asked text)) (Ended automaton) (verdict_answer stated_limits Contained) (Ok Contained, h, refl) refl;
+    coded = none;
     delivered = d;
   }
   handed (Violated w) h none d = record {
     text = word_text (Violated w);
     ended = 1;
-    shown = answer_ends Checker (Some (checker_asked text)) (Ended automaton) code (verdict_answer stated_limits (Violated w)) (Ok (Violated w), h, refl) refl none;
+    reason = None;
+    shown = answer_ends Checker (Some (checker_asked text)) (Ended automaton) (verdict_answer stated_limits (Violated w)) (Ok (Violated w), h, refl) refl;
+    coded = none;
     delivered = d;
   }
 
-  pub verdict_handed : (contained : Bool) (word : List ℕ) → SaysVerdict text automaton (Ok (said contained word)) → refusal_in code ≡ None → (n : ℕ) → n ≡ verdict_status contained → Delivers n word old new count status → Hands
+  pub verdict_handed : (contained : Bool) (word : List ℕ) → SaysVerdict text automaton (Ok (said contained word)) → code ≡ code_for None → (n : ℕ) → n ≡ verdict_status contained → Delivers n word old new count status → Hands
   verdict_handed contained word h none n q d =
       let (v, found, e) = then_ok (FindsAsked text automaton) (λ v r. r ≡ Ok (said (is_contained v) (word_text v))) (said contained word) h in
       let s = same_ok (said contained word) (said (is_contained v) (word_text v)) e in
       handed v found none (subst (λ (x : Saying). Delivers (verdict_status x.contained) x.text old new count status) s (subst (λ m. Delivers m word old new count status) q d))
 
-  pub verdict_refused : (e : Refusal) → Refuses (SaysVerdict text automaton) e → refusal_in code ≡ Some (refusal_of e) → (n : ℕ) → n ≡ status_of (refusal_of e) → Delivers n [] old new count status → Hands
-  verdict_refused e h some n q d = refusal_handed Checker (Some (checker_asked text)) (Ended automaton) code verdict_lines e (no_lines (refusal_of e)) (refuses h) some old new count status n q d
+  pub verdict_refused : (e : Refusal) → Refuses (SaysVerdict text automaton) e → code ≡ code_for (Some (refusal_of e)) → (n : ℕ) → n ≡ status_of (refusal_of e) → Delivers n [] old new count status → Hands
+  verdict_refused e h some n q d = refusal_handed Checker (Some (checker_asked text)) (Ended automaton) verdict_lines e (no_lines (refusal_of e)) (refuses h) code some old new count status n q d
     where
       unsaid : (x : spec.Refusal) → SaysVerdict text automaton (Err x) → FindsAsked text automaton (Err x)
       unsaid x (inl (y, k, t)) = subst (λ (z : spec.Refusal). FindsAsked text automaton (Err z)) (same_err x y t) k

@@ -15,7 +15,7 @@ use Rattle.ltl_spec.specs.Tools.Limits.{stated_limits}
 use Rattle.ltl_spec.specs.Tools.Outcome.{NotOpened, Text, Then, printed, refused, taken}
 use Rattle.ltl_spec.specs.Tools.Programs.{Claim, Generalized, Hoa, InputReads, KeepsRows, Layout, ReadsFormula, Translates, TranslatesGeneralized, TranslatorAnswers, TranslatorPlan}
 use Rattle.ltl_spec.specs.Tools.Refusal as spec
-use Rattle.ltl_spec.specs.Tools.Refusal.{Translator, status_of}
+use Rattle.ltl_spec.specs.Tools.Refusal.{Translator, message, status_of}
 use Rattle.ltl_spec.specs.Tools.Run.{laid_out}
 use Rattle.ltl_spec.proofs.Semantics.LanguageLaws.{generalized_models, translation_models}
 use Rattle.ltl_spec.proofs.Tools.StepLaws.{never, same_ok, then_ok}
@@ -26,11 +26,9 @@ use Rattle.ltl_cli.specs.declared.refusal.Refusal.TheVariants.{OutOfMemory, Usag
 use Rattle.ltl_cli.specs.Refusals.{TakesStep, refusal_of}
 use Rattle.ltl_cli.specs.Translations.{MakesAutomaton, MakesGeneralized, MakesText}
 use Rattle.ltl_cli.proofs.AutomatonLaws.{claim_made, hoa_made, sets_made}
-use Rattle.ltl_c.specs.declared.refusal_code.RefusalCode.{RefusalCode}
 use Rattle.ltl_c.specs.declared.text_options.TextOptions.{TextOptions}
 use Rattle.ltl_c.specs.Arrays.{FindsPlanned, Found, MakesAsked, MakesShown, found}
-use Rattle.ltl_c.specs.Calls.{MayEnd, PrintsAsked, layout_numbered, plan_with, told, translator_asked}
-use Rattle.ltl_c.specs.Codes.{refusal_in}
+use Rattle.ltl_c.specs.Calls.{MayEnd, PrintsAsked, layout_numbered, plan_with, translator_asked}
 use Rattle.ltl_c.proofs.CallLaws.{answer_ends, asked_answers, refusal_ends}
 use Rattle.ltl_c.proofs.StepLaws.{Refuses, first_refused, second_refused, then_refused}
 
@@ -108,23 +106,23 @@ module _ (R : Reading) (rewrite : Bool) (o : Options) where
 
 -- ---- what the program says
 
-module _ (text : List ℕ) (o : TextOptions) (c : RefusalCode) where
+module _ (text : List ℕ) (o : TextOptions) where
   -- of a formula and an automaton
   pub record IsShown (R : Reading) (B : Automaton) : Type 0 where
     pub read : IsTextOf text R
     pub layout : Layout
     pub asked : layout_numbered o.layout ≡ Some layout
     pub models : AcceptsModels B R.formula
-    pub shown : MayEnd Translator (translator_asked text o) NotOpened 0 (laid_out layout B R) (told Translator c)
+    pub shown : MayEnd Translator (translator_asked text o) NotOpened 0 (laid_out layout B R) []
 
   read_text : (R : Reading) → InputReads stated_limits (Text text) (Ok R) → IsTextOf text R
   read_text R h =
       let (t, e, reads) = then_ok (λ r. r ≡ taken stated_limits.formula_bytes (Text text)) (ReadsFormula stated_limits) R h in
       subst (λ (x : List ℕ). IsTextOf x R) (same_ok t text e) reads.1
 
-  shown_by : refusal_in c ≡ None → (R : Reading) (B : Automaton) (x : Option Layout) → layout_numbered o.layout ≡ x → FindsPlanned text (option_map (plan_with text o) x) (Ok (found R B)) → IsShown R B
-  shown_by none R B None e h = absurd (never (found R B) spec.Usage (sym h))
-  shown_by none R B (Some layout) e h =
+  shown_by : (R : Reading) (B : Automaton) (x : Option Layout) → layout_numbered o.layout ≡ x → FindsPlanned text (option_map (plan_with text o) x) (Ok (found R B)) → IsShown R B
+  shown_by R B None e h = absurd (never (found R B) spec.Usage (sym h))
+  shown_by R B (Some layout) e h =
       let p = plan_with text o layout in
       let (S, reads, h1) = then_ok (InputReads stated_limits (Text text)) (λ R. Then (MakesShown layout R p.rewrite p.options) (λ B r. r ≡ Ok (found R B))) (found R B) h in
       let (C, makes, h2) = then_ok (MakesShown layout S p.rewrite p.options) (λ B r. r ≡ Ok (found S B)) (found R B) h1 in
@@ -133,13 +131,13 @@ module _ (text : List ℕ) (o : TextOptions) (c : RefusalCode) where
         layout = layout;
         asked = e;
         models = shown_models S p.rewrite p.options layout C makes;
-        shown = answer_ends Translator (translator_asked text o) NotOpened c (printed (laid_out layout C S) 0)
+        shown = answer_ends Translator (translator_asked text o) NotOpened (printed (laid_out layout C S) 0)
             (subst (λ (x : Option Layout). TranslatorAnswers stated_limits (option_map (plan_with text o) x) NotOpened (printed (laid_out layout C S) 0)) (sym e)
-            (asked_answers (Some p) (Ok (laid_out layout C S)) (inr (S, reads, shown_text S p.rewrite p.options layout C makes)))) refl none;
+            (asked_answers (Some p) (Ok (laid_out layout C S)) (inr (S, reads, shown_text S p.rewrite p.options layout C makes)))) refl;
       })
 
-  pub is_shown : (R : Reading) (B : Automaton) → MakesAsked text o (Ok (found R B)) → refusal_in c ≡ None → IsShown R B
-  is_shown R B h none = shown_by none R B (layout_numbered o.layout) refl h
+  pub is_shown : (R : Reading) (B : Automaton) → MakesAsked text o (Ok (found R B)) → IsShown R B
+  is_shown R B h = shown_by R B (layout_numbered o.layout) refl h
 
   -- of a refusal
   moved : (x y : spec.Refusal) → ◌≡◌ {A = Result Found spec.Refusal} (Err x) (Err y) → ◌≡◌ {A = Result (List ℕ) spec.Refusal} (Err x) (Err y)
@@ -154,9 +152,10 @@ module _ (text : List ℕ) (o : TextOptions) (c : RefusalCode) where
   not_printed x (Some layout) (inl (y, h, e)) = inl (y, h, moved x y e)
   not_printed x (Some layout) (inr (R, h, k)) = inr (R, h, text_not_made (plan_with text o layout) R x k)
 
-  pub is_refused : (e : Refusal) → Refuses (MakesAsked text o) e → refusal_in c ≡ Some (refusal_of e) → (n : ℕ) → n ≡ status_of (refusal_of e)
-      → MayEnd Translator (translator_asked text o) NotOpened n [] (told Translator c)
-  is_refused e h some n q = subst (λ m. MayEnd Translator (translator_asked text o) NotOpened m [] (told Translator c)) (sym q) (refusal_ends Translator (translator_asked text o) NotOpened c e (answers h) some)
+  pub is_refused : (e : Refusal) → Refuses (MakesAsked text o) e → (n : ℕ) → n ≡ status_of (refusal_of e)
+      → MayEnd Translator (translator_asked text o) NotOpened n [] (message stated_limits Translator (refusal_of e))
+  is_refused e h n q = subst (λ m. MayEnd Translator (translator_asked text o) NotOpened m [] (message stated_limits Translator (refusal_of e))) (sym q)
+      (refusal_ends Translator (translator_asked text o) NotOpened e (answers h))
     where
       answers : Refuses (MakesAsked text o) e → (e ≡ OutOfMemory) ⊎ TranslatorAnswers stated_limits (translator_asked text o) NotOpened (refused stated_limits Translator (refusal_of e))
       answers (inl m) = inl m

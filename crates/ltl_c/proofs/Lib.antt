@@ -1,5 +1,6 @@
 pub mod ArrayLaws
 pub mod CallLaws
+pub mod CodeLaws
 pub mod FoundLaws
 pub mod HandLaws
 pub mod LineLaws

@@ -11,7 +11,7 @@ use Rattle.ltl_spec.specs.Semantics.Word.{Name}
 use Rattle.ltl_spec.specs.Tools.Limits.{stated_limits}
 use Rattle.ltl_spec.specs.Tools.Outcome.{NotOpened, Text, Then}
 use Rattle.ltl_spec.specs.Tools.Programs.{InputReads, Layout, Claim, Hoa, Generalized, TranslatorPlan}
-use Rattle.ltl_spec.specs.Tools.Refusal.{Refusal, Translator, Usage, status_of}
+use Rattle.ltl_spec.specs.Tools.Refusal.{Refusal, Translator, Usage, message, status_of}
 use Rattle.ltl_spec.specs.Tools.Run.{laid_out}
 use Rattle.ltl_sets.specs.Words.{forbidden_of, letter_of, words_with}
 use Rattle.ltl_cli.specs.Translations.{MakesAutomaton, MakesGeneralized}
@@ -23,8 +23,8 @@ use Rattle.ltl_c.specs.declared.rows.StateRow.{StateRow}
 use Rattle.ltl_c.specs.declared.shown.Shown.{Shown}
 use Rattle.ltl_c.specs.declared.shown.Shown.TheVariants as shown
 use Rattle.ltl_c.specs.declared.text_options.TextOptions.{TextOptions}
-use Rattle.ltl_c.specs.Calls.{MayEnd, layout_numbered, plan_with, told, too_short, translator_asked}
-use Rattle.ltl_c.specs.Codes.{refusal_in}
+use Rattle.ltl_c.specs.Calls.{MayEnd, layout_numbered, plan_with, too_short, translator_asked}
+use Rattle.ltl_c.specs.Codes.{code_for}
 
 -- ---- rows
 
@@ -144,18 +144,16 @@ pub record GivesAutomaton (text : List ℕ) (o : TextOptions) (counts : Counts) 
   pub asked : layout_numbered o.layout ≡ Some layout
   pub made : MakesAsked text o (Ok (found reading automaton))
   pub models : AcceptsModels automaton reading.formula
-  pub shown : MayEnd Translator (translator_asked text o) NotOpened 0 (laid_out layout automaton reading) (told Translator counts.refusal)
-  pub told : refusal_in counts.refusal ≡ None
-  pub counted : counts ≡ counted (rows_of text reading automaton) automaton.sets counts.refusal
+  pub shown : MayEnd Translator (translator_asked text o) NotOpened 0 (laid_out layout automaton reading) []
+  pub counted : counts ≡ counted (rows_of text reading automaton) automaton.sets (code_for None)
   pub delivered : DeliversRows counts (rows_of text reading automaton) old new status
 
 -- There is no automaton, as the program reports. The arrays are unchanged
 pub record RefusesAutomaton (text : List ℕ) (o : TextOptions) (counts : Counts) (old new : Arrays) (status : ℕ) : Type 0 where
   pub reason : Refusal
-  pub shown : MayEnd Translator (translator_asked text o) NotOpened status [] (told Translator counts.refusal)
-  pub told : refusal_in counts.refusal ≡ Some reason
+  pub shown : MayEnd Translator (translator_asked text o) NotOpened status [] (message stated_limits Translator reason)
   pub ended : status ≡ status_of reason
-  pub counted : counts ≡ no_rows counts.refusal
+  pub counted : counts ≡ no_rows (code_for (Some reason))
   pub kept : new ≡ old
 
 abbrev pub HandsAutomaton : List ℕ → TextOptions → Counts → Arrays → Arrays → ℕ → Type 0

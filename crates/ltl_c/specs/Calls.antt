@@ -11,7 +11,7 @@ use Rattle.ltl_spec.specs.Tools.Programs.{CheckerPlan, EvaluatorPlan, Layout, Cl
 use Rattle.ltl_spec.specs.Tools.Run.{MayShow, PlanOf}
 use Rattle.ltl_c.specs.declared.refusal_code.RefusalCode.{RefusalCode}
 use Rattle.ltl_c.specs.declared.text_options.TextOptions.{TextOptions}
-use Rattle.ltl_c.specs.Codes.{refusal_in}
+use Rattle.ltl_c.specs.Codes.{code_for}
 
 -- ---- the plans of the programs
 
@@ -40,9 +40,9 @@ checker_asked text = record { formula = Given text; automaton = None }
 
 -- ---- what a call returns
 
--- the line that the program prints for the refusal with this code; empty if there is no refusal
-abbrev pub told : Tool → RefusalCode → List ℕ
-told tool code = option_map_or (message stated_limits tool) (refusal_in code) []
+-- the line that the program prints for the refusal; empty if there is none
+abbrev pub told : Tool → Option Refusal → List ℕ
+told tool reason = option_map_or (message stated_limits tool) reason []
 
 -- a run that ended with this status, and in which no write failed
 abbrev pub run_with : ℕ → List ℕ → List ℕ → Seen
@@ -62,12 +62,21 @@ abbrev pub Delivers : ℕ → List ℕ → List ℕ → List ℕ → ℕ → ℕ
 Delivers ended text old new count status = (count ≡ length text) × ((status ≡ ended) × (new ≡ text ++ drop (length text) old)
     ⊎ (status ≡ too_short) × (length old < length text) × (new ≡ old))
 
--- A call with a buffer: the program may end with this status and this text in its output, and the text is delivered
+-- A call with a buffer: the program may end with this status, this text in its output, and the line for this refusal. The text is delivered, and the code
+-- is that of the refusal, or of none
 pub record HandsOver (tool : Tool) (plan : Option (PlanOf tool)) (file : Input) (printed : ℕ → List ℕ → List ℕ) (code : RefusalCode) (old new : List ℕ) (count status : ℕ) : Type 0 where
   pub text : List ℕ
   pub ended : ℕ
-  pub shown : MayEnd tool plan file ended (printed ended text) (told tool code)
+  pub reason : Option Refusal
+  pub shown : MayEnd tool plan file ended (printed ended text) (told tool reason)
+  pub coded : code ≡ code_for reason
   pub delivered : Delivers ended text old new count status
+
+-- A call without a buffer: the program may end with this status, and the code is that of the refusal which it reports, or of none
+pub record Ends (tool : Tool) (plan : Option (PlanOf tool)) (file : Input) (printed : ℕ → List ℕ) (code : RefusalCode) (status : ℕ) : Type 0 where
+  pub reason : Option Refusal
+  pub shown : MayEnd tool plan file status (printed status) (told tool reason)
+  pub coded : code ≡ code_for reason
 
 -- ---- the outputs of the programs, by status and text
 
@@ -77,8 +86,9 @@ text_alone status text = text
 abbrev pub truth_line : ℕ → List ℕ
 truth_line status = slice_index_or (line (codes "true") ∷ line (codes "false") ∷ []) status []
 
+-- with the verdict `contained` there is no text
 abbrev pub verdict_lines : ℕ → List ℕ → List ℕ
-verdict_lines status text = slice_index_or (line (codes "contained") ∷ (line (codes "violated") ++ line text) ∷ []) status text
+verdict_lines status text = slice_index_or ((text ++ line (codes "contained")) ∷ (line (codes "violated") ++ line text) ∷ []) status text
 
 -- ---- on the way there
 

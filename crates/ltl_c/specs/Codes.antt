@@ -21,9 +21,52 @@ refusals fault place = None ∷ Some Usage ∷ Some OutOfMemory ∷ Some LongFor
     ∷ Some TooManyPropositions ∷ Some TooManyRows ∷ Some TooManyElementaryRows ∷ Some LargeAutomaton ∷ Some LongWord ∷ Some (BadWord place)
     ∷ option_map (BadAutomaton place) (slice_get automaton_faults fault) ∷ Some LargeProduct ∷ Some CannotOpen ∷ Some CannotRead ∷ Some CannotWrite ∷ []
 
--- the refusal with this code, if there is one
+-- the refusal with this code, if there is one. Numbers that it doesn't have may be any
 abbrev pub refusal_in : RefusalCode → Option Refusal
 refusal_in c = slice_index_or (refusals c.fault c.place) c.kind None
+
+-- the number of a fault in its list
+
+abbrev pub formula_fault_number : FaultKind → ℕ
+formula_fault_number UnexpectedByte = 0
+formula_fault_number ExpectedOperand = 1
+formula_fault_number ExpectedOperatorOrEnd = 2
+formula_fault_number ExpectedCloseOrOperator = 3
+
+abbrev pub automaton_fault_number : HoaFaultKind → ℕ
+automaton_fault_number NotHoaVersion1 = 0
+automaton_fault_number BadToken = 1
+automaton_fault_number ItemTwice = 2
+automaton_fault_number ItemMissing = 3
+automaton_fault_number UnknownItem = 4
+automaton_fault_number Unsupported = 5
+automaton_fault_number NumberOutOfRange = 6
+automaton_fault_number BadPropositionList = 7
+automaton_fault_number StateDefinedTwice = 8
+automaton_fault_number TextAfterEnd = 9
+automaton_fault_number LimitPassed = 10
+
+abbrev pub code_with : ℕ → ℕ → ℕ → RefusalCode
+code_with kind fault place = record { kind = kind; fault = fault; place = place }
+
+-- the code that a call reports for this refusal, or for none: all numbers are 0 but those that the refusal has
+abbrev pub code_for : Option Refusal → RefusalCode
+code_for None = code_with 0 0 0
+code_for (Some Usage) = code_with 1 0 0
+code_for (Some OutOfMemory) = code_with 2 0 0
+code_for (Some LongFormula) = code_with 3 0 0
+code_for (Some (BadFormula place kind)) = code_with 4 (formula_fault_number kind) place
+code_for (Some TooManyPropositions) = code_with 5 0 0
+code_for (Some TooManyRows) = code_with 6 0 0
+code_for (Some TooManyElementaryRows) = code_with 7 0 0
+code_for (Some LargeAutomaton) = code_with 8 0 0
+code_for (Some LongWord) = code_with 9 0 0
+code_for (Some (BadWord place)) = code_with 10 0 place
+code_for (Some (BadAutomaton line kind)) = code_with 11 (automaton_fault_number kind) line
+code_for (Some LargeProduct) = code_with 12 0 0
+code_for (Some CannotOpen) = code_with 13 0 0
+code_for (Some CannotRead) = code_with 14 0 0
+code_for (Some CannotWrite) = code_with 15 0 0
 
 -- the programs by number
 abbrev pub tool_numbered : ℕ → Option Tool

@@ -9,7 +9,7 @@ use Rattle.ltl_spec.specs.Tools.Outcome.{Text, Then}
 use Rattle.ltl_spec.specs.Tools.Programs.{InputReads}
 use Rattle.ltl_c.specs.declared.refusal_code.RefusalCode.{RefusalCode}
 use Rattle.ltl_c.specs.Calls.{Delivers}
-use Rattle.ltl_c.specs.Codes.{refusal_in}
+use Rattle.ltl_c.specs.Codes.{code_for}
 
 -- the names, each followed by a zero byte
 abbrev pub names_text : List Name → List ℕ
@@ -23,14 +23,14 @@ NamesOf text = Then (InputReads stated_limits (Text text)) (λ R r. r ≡ Ok (na
 pub record RefusesNames (text : List ℕ) (code : RefusalCode) (old new : List ℕ) (count status : ℕ) : Type 0 where
   pub reason : Refusal
   pub right : (reason ≡ OutOfMemory) ⊎ NamesOf text (Err reason)
-  pub told : refusal_in code ≡ Some reason
+  pub coded : code ≡ code_for (Some reason)
   pub delivered : Delivers (status_of reason) [] old new count status
 
 -- the text has a formula, whose names are delivered
 pub record GivesNames (text : List ℕ) (code : RefusalCode) (old new : List ℕ) (count status : ℕ) : Type 0 where
   pub names : List ℕ
   pub right : NamesOf text (Ok names)
-  pub told : refusal_in code ≡ None
+  pub coded : code ≡ code_for None
   pub delivered : Delivers 0 names old new count status
 
 abbrev pub HandsNames : List ℕ → RefusalCode → List ℕ → List ℕ → ℕ → ℕ → Type 0

@@ -5,7 +5,7 @@ ghost use Rattle.std.specs.Bool.{Decides};
 ghost use Rattle.ltl_syntax.specs.FormulaView.{reading_of};
 ghost use Rattle.ltl_cli.specs.Refusals.{TakesStep, refusal_of};
 ghost use Rattle.ltl_c.specs.Arrays.{Fit, HandsAutomaton, MakesAsked, arrays, automaton_in, counted, found, no_rows, rows_of};
-ghost use Rattle.ltl_c.specs.Codes.{refusal_in};
+ghost use Rattle.ltl_c.specs.Codes.{code_for};
 
 use crate::arrays::{edge_count, put_states};
 use crate::buffer::TOO_SHORT;
@@ -50,9 +50,8 @@ fn made_of<'a, A: Allocator>(
 
 /// The number of rows of each kind.
 fn counts_of<A: Allocator>(made: &Made<'_, A>) -> Counts
-    ensures counts { (text : List ℕ) → let B = automaton_in made.now.automaton in
-        result ≡ counted (rows_of text (reading_of made.now.formula) B) B.sets result.refusal }
-    ensures told { refusal_in result.refusal ≡ None }
+    ensures { (text : List ℕ) → let B = automaton_in made.now.automaton in
+        result ≡ counted (rows_of text (reading_of made.now.formula) B) B.sets (code_for None) }
 {
     Counts {
         states: made.automaton.len(),
@@ -72,8 +71,7 @@ fn fits(counts: &Counts, states: &[StateRow], edges: &[EdgeRow], names: &[NameRo
 
 /// The counts for a refusal: all 0, and its code.
 fn refused(reason: Refusal) -> Counts
-    ensures counts { result ≡ no_rows result.refusal }
-    ensures told { refusal_in result.refusal ≡ Some (refusal_of reason) }
+    ensures { result ≡ no_rows (code_for (Some (refusal_of reason))) }
 {
     Counts {
         states: 0,

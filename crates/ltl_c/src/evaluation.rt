@@ -6,7 +6,7 @@ ghost use Rattle.ltl_spec.specs.Tools.Outcome as spec;
 ghost use Rattle.ltl_spec.specs.Tools.Refusal.{Evaluator};
 ghost use Rattle.ltl_spec.specs.Tools.Programs.{EvaluatorFinds};
 ghost use Rattle.ltl_cli.specs.Refusals.{TakesStep};
-ghost use Rattle.ltl_c.specs.Calls.{MayEnd, evaluator_asked, told, truth_line};
+ghost use Rattle.ltl_c.specs.Calls.{Ends, evaluator_asked, truth_line};
 
 use crate::refusal_code::{RefusalCode, code_of, no_refusal};
 use crate::steps::formula_of;
@@ -34,7 +34,7 @@ pub extern "C" fn ltleval_holds(
     truth: &mut bool,
     refusal: &mut RefusalCode,
 ) -> u8
-    ensures shown { MayEnd Evaluator (Some (evaluator_asked formula.now word.now)) spec.NotOpened result (truth_line result) (told Evaluator refusal.new) }
+    ensures shown { Ends Evaluator (Some (evaluator_asked formula.now word.now)) spec.NotOpened truth_line refusal.new result }
     ensures truth { IsTrue truth.new ↔ result ≡ 0 }
 {
     match evaluated(&alloc, formula, word) {

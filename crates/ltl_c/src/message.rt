@@ -1,6 +1,6 @@
 //! The C call `ltl2ba_message`: the line that a program prints for a refusal.
 
-ghost use Rattle.std.specs.Prelude.{◌≡◌, ◌+◌, ◌≤◌, ◌++◌, codes, length, option_map};
+ghost use Rattle.std.specs.Prelude.{◌≡◌, ◌+◌, ◌≤◌, ◌++◌, Option, codes, length, option_map};
 ghost use Rattle.ltl_spec.specs.Hoa.HoaFaultKind.{hoa_fault_text};
 ghost use Rattle.ltl_spec.specs.Tools.Refusal as spec;
 ghost use Rattle.ltl_syntax.specs.ParserView.{kind_of};
@@ -9,7 +9,7 @@ ghost use Rattle.ltl_words.specs.Tools.{tool_of};
 ghost use Rattle.ltl_cli.specs.Messages.{back_text, front_text, line_for, number_in, number_text};
 ghost use Rattle.ltl_cli.specs.Refusals.{refusal_of};
 ghost use Rattle.ltl_c.specs.Calls.{Delivers};
-ghost use Rattle.ltl_c.specs.Codes.{line_numbered, tool_numbered};
+ghost use Rattle.ltl_c.specs.Codes.{code_for, line_numbered, refusal_in, tool_numbered};
 
 use crate::buffer::deliver;
 use crate::line::Line;
@@ -166,13 +166,15 @@ fn tool_at(number: u32) -> Option<Tool>
 /// if there is no such program or if the code is that of no refusal. The result is 0, or 6 if the buffer is too short; `count` is the length of the line in
 /// bytes. It allocates nothing.
 #[unsafe(no_mangle)]
+#[tactic(auto, using(crate::proofs::CodeLaws::code_read))]
 pub extern "C" fn ltl2ba_message(
     program: u32,
     refusal: &RefusalCode,
     buffer: &mut [u8],
     count: &mut usize,
 ) -> u8
-    ensures { Delivers 0 (line_numbered program refusal.now) buffer.old buffer.new count.new result }
+    ensures line { Delivers 0 (line_numbered program refusal.now) buffer.old buffer.new count.new result }
+    ensures reported { (reason : Option spec.Refusal) → refusal.now ≡ code_for reason → refusal_in refusal.now ≡ reason }
 {
     match (tool_at(program), refusal_at(refusal)) {
         (Some(tool), Some(reason)) => deliver(0, line_of(tool, reason).as_slice(), buffer, count),

@@ -4,7 +4,7 @@ ghost use Rattle.std.specs.Prelude.{◌≡◌, Some, None, option_map, slice_get
 ghost use Rattle.ltl_syntax.specs.ParserView.{kind_of};
 ghost use Rattle.ltl_hoa.specs.TokenView as hoa;
 ghost use Rattle.ltl_cli.specs.Refusals.{refusal_of};
-ghost use Rattle.ltl_c.specs.Codes.{automaton_faults, formula_faults, refusal_in};
+ghost use Rattle.ltl_c.specs.Codes.{automaton_fault_number, automaton_faults, code_for, code_with, formula_fault_number, formula_faults, refusal_in};
 
 use ltl_cli::Refusal;
 use ltl_hoa::HoaFaultKind;
@@ -24,7 +24,7 @@ pub struct RefusalCode {
 
 /// The number of a syntax error in a formula.
 fn formula_fault(kind: FaultKind) -> u32
-    ensures { slice_get formula_faults result ≡ Some (kind_of kind) }
+    ensures { result ≡ formula_fault_number (kind_of kind) }
 {
     match kind {
         FaultKind::UnexpectedByte => 0,
@@ -36,7 +36,7 @@ fn formula_fault(kind: FaultKind) -> u32
 
 /// The number of an error in an automaton.
 fn automaton_fault(kind: HoaFaultKind) -> u32
-    ensures { slice_get automaton_faults result ≡ Some (hoa.kind_of kind) }
+    ensures { result ≡ automaton_fault_number (hoa.kind_of kind) }
 {
     match kind {
         HoaFaultKind::NotHoaVersion1 => 0,
@@ -55,7 +55,7 @@ fn automaton_fault(kind: HoaFaultKind) -> u32
 
 /// The code with this number, without an error and a place.
 fn plain(kind: u32) -> RefusalCode
-    ensures { result ≡ record { kind = kind; fault = 0; place = 0 } }
+    ensures { result ≡ code_with kind 0 0 }
 {
     RefusalCode {
         kind,
@@ -66,14 +66,14 @@ fn plain(kind: u32) -> RefusalCode
 
 /// The code for no refusal.
 pub(crate) fn no_refusal() -> RefusalCode
-    ensures { refusal_in result ≡ None }
+    ensures { result ≡ code_for None }
 {
     plain(0)
 }
 
 /// The code of a refusal.
 pub(crate) fn code_of(refusal: Refusal) -> RefusalCode
-    ensures { refusal_in result ≡ Some (refusal_of refusal) }
+    ensures { result ≡ code_for (Some (refusal_of refusal)) }
 {
     match refusal {
         Refusal::Usage => plain(1),

@@ -84,7 +84,11 @@ fn verdict_on_an_automaton(rt: HostRuntime) {
         count: 0,
         contained: false,
     };
-    let mut refusal = no_refusal();
+    let mut refusal = RefusalCode {
+        kind: 9,
+        fault: 9,
+        place: 9,
+    };
     let status = ltlcheck_verdict(
         rt.alloc(),
         b"<>[]p",
@@ -111,7 +115,8 @@ fn verdict_on_an_automaton(rt: HostRuntime) {
         &mut found,
         &mut refusal,
     );
-    assert_eq!(rt; (contained, found.contained), (0, true));
+    assert_eq!(rt; (contained, found.contained, found.count), (0, true, 0));
+    assert_eq!(rt; (refusal.kind, refusal.fault, refusal.place), (0, 0, 0));
 }
 
 #[test]

@@ -14,7 +14,7 @@ pub struct TextOptions {
     pub no_rewrite: bool,
     /// Transitions that another one implies are kept (`-o`).
     pub keep_implied: bool,
-    /// States that are equivalent to another one are kept (`-p`).
+    /// States with the same edges as another one are kept (`-p`).
     pub keep_equal: bool,
     /// 0 for a never claim, 1 for a Büchi automaton in the Hanoi Omega-Automata format (HOA v1), 2 for a generalized Büchi automaton in HOA. Another number
     /// is a usage error.

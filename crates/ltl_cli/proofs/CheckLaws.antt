@@ -30,11 +30,19 @@ use Rattle.ltl_cli.specs.declared.refusal.Refusal.TheVariants.{OutOfMemory}
 use Rattle.ltl_words.specs.declared.request.Plan.{Plan}
 use Rattle.ltl_cli.specs.Refusals.{TakesStep, of_check, of_hoa, refusal_of}
 use Rattle.ltl_words.specs.Plans.{formula_word}
-use Rattle.ltl_cli.specs.Inputs.{RefusesInput, TakesFewer, TakesUpTo, WasStream, most_of_automaton}
-use Rattle.ltl_cli.specs.Checks.{FindsVerdict, IsChecked, Negates, ReadsAutomaton, RefusesCheck}
-use Rattle.ltl_cli.proofs.InputLaws.{not_long, reads_takes}
+use Rattle.ltl_cli.specs.Inputs.{IsFailed, RefusesFor, RefusesInput, RefusesUnless, TakesFewer, TakesUpTo, WasStream, most_of_automaton}
+use Rattle.ltl_cli.specs.Checks.{CheckNeverShort, FindsVerdict, IsChecked, Negates, ReadsAutomaton, RefusesCheck}
+use Rattle.ltl_cli.proofs.InputLaws.{not_at_fault, not_long, reads_takes}
 use Rattle.ltl_cli.proofs.RunLaws.{DecidesAnswers, input_refused, input_takes, taken_takes, then_takes}
-use Rattle.ltl_spec.proofs.Tools.StepLaws.{never}
+use Rattle.ltl_spec.proofs.Tools.StepLaws.{never, then_ok}
+
+-- ---- inputs
+
+failed_fault : (file : Input) → IsFailed file → outcome.IsAtFault file
+failed_fault (outcome.Failed bs) f = f
+failed_fault (outcome.Text bs) f = absurd f
+failed_fault outcome.NotOpened f = absurd f
+failed_fault (outcome.Ended bs) f = absurd f
 
 -- ---- steps
 
@@ -59,18 +67,28 @@ Rest R file B = Then (λ r. r ≡ outcome.taken stated_limits.hoa_bytes file) (�
 
 -- ---- the formula and its automaton
 
+-- memory may have run out for the formula, and no read of the automaton failed
+never_either : {Never : Type 0} (file : Input) → ¬ Never → ¬ (IsFailed file) → ¬ (Never ⊎ IsFailed file)
+never_either file n f (inl h) = n h
+never_either file n f (inr h) = f h
+
 -- the formula was refused
-pub formula_refused : (p : Plan) (input file : Input) (e : Refusal) → RefusesInput (formula_word p.formula) input e → RefusesCheck p input file e
-formula_refused p input file = input_refused (formula_word p.formula) input (λ R. Then (KeepsRows stated_limits (core R.formula true true)) (λ N. Then (Translates stated_limits N plain_options) (Rest R file)))
+pub formula_refused : (p : Plan) (input file : Input) → ¬ (IsFailed file) → (e : Refusal) → RefusesInput (formula_word p.formula) input e → RefusesCheck p input file e
+formula_refused p input file f e h =
+    widened (input_refused (formula_word p.formula) input (λ R. Then (KeepsRows stated_limits (core R.formula true true)) (λ N. Then (Translates stated_limits N plain_options) (Rest R file))) e h)
+  where
+    widened : RefusesFor (formula_word p.formula) input (FindsVerdict p input file) e → RefusesCheck p input file e
+    widened (inl (m, n)) = inl (m, never_either file n f)
+    widened (inr k) = inr k
 
 module _ (p : Plan) (input : Input) (R : Reading) (reads : InputReads stated_limits (outcome.input_of (formula_word p.formula) input) (Ok R)) where
-  takes : ¬ (outcome.TakesNoMemory stated_limits.formula_bytes (Some (formula_word p.formula)) input)
-  takes = reads_takes (formula_word p.formula) input R reads
+  takes : (file : Input) → ¬ (IsFailed file) → ¬ (CheckNeverShort p input file)
+  takes file = never_either file (reads_takes (formula_word p.formula) input R reads)
 
   -- the negation has no automaton
-  pub negation_refused : (file : Input) (e : Refusal) → (e ≡ OutOfMemory) ⊎ Negates R (Err (refusal_of e)) → RefusesCheck p input file e
-  negation_refused file e (inl h) = inl (h, takes)
-  negation_refused file e (inr h) =
+  pub negation_refused : (file : Input) → ¬ (IsFailed file) → (e : Refusal) → (e ≡ OutOfMemory) ⊎ Negates R (Err (refusal_of e)) → RefusesCheck p input file e
+  negation_refused file f e (inl h) = inl (h, takes file f)
+  negation_refused file f e (inr h) =
       inr (inr (R, reads, then_refused (KeepsRows stated_limits (core R.formula true true)) (λ N. Translates stated_limits N plain_options) (Rest R file) (refusal_of e) h))
 
   module _ (B : Automaton) (negates : Negates R (Ok B)) (file : Input) where
@@ -78,8 +96,8 @@ module _ (p : Plan) (input : Input) (R : Reading) (reads : InputReads stated_lim
     found r h = inr (R, reads, then_goes (KeepsRows stated_limits (core R.formula true true)) (λ N. Translates stated_limits N plain_options) (Rest R file) B r negates h)
 
     -- the given automaton was refused
-    pub automaton_refused : (e : Refusal) → (e ≡ OutOfMemory) ⊎ ReadsAutomaton file (Err (refusal_of e)) → RefusesCheck p input file e
-    automaton_refused e (inl h) = inl (h, takes)
+    pub automaton_refused : (e : Refusal) → RefusesUnless (IsFailed file) (ReadsAutomaton file) e → RefusesCheck p input file e
+    automaton_refused e (inl (h, f)) = inl (h, takes file f)
     automaton_refused e (inr h) =
         inr (found (Err (refusal_of e)) (then_refused (λ r. r ≡ outcome.taken stated_limits.hoa_bytes file) (ReadsHoa stated_limits stated_form) (λ A. Judges stated_limits A R.names B (IsViolation A R)) (refusal_of e) h))
 
@@ -87,9 +105,15 @@ module _ (p : Plan) (input : Input) (R : Reading) (reads : InputReads stated_lim
       judges : (r : Result Verdict spec.Refusal) → Judges stated_limits A R.names B (IsViolation A R) r → FindsVerdict p input file r
       judges r h = found r (then_goes (λ s. s ≡ outcome.taken stated_limits.hoa_bytes file) (ReadsHoa stated_limits stated_form) (λ M. Judges stated_limits M R.names B (IsViolation M R)) A r automaton h)
 
+      -- the automaton was read
+      whole : ¬ (IsFailed file)
+      whole =
+          let (text, q, reads) = then_ok (λ s. s ≡ outcome.taken stated_limits.hoa_bytes file) (ReadsHoa stated_limits stated_form) A automaton in
+          λ f. not_at_fault stated_limits.hoa_bytes text reads.within.bytes file q (failed_fault file f)
+
       -- there is no verdict
       check_refused : (e : Refusal) → (e ≡ OutOfMemory) ⊎ Judges stated_limits A R.names B (IsViolation A R) (Err (refusal_of e)) → RefusesCheck p input file e
-      check_refused e (inl h) = inl (h, takes)
+      check_refused e (inl h) = inl (h, takes file whole)
       check_refused e (inr h) = inr (judges (Err (refusal_of e)) h)
 
       -- or one
@@ -118,12 +142,12 @@ either_well s (inr (p, e)) = inl e
 
 -- or why it was refused
 pub automaton_fault : (old new : SourceState) (f : HoaFault) → AnswersHeld old.rest (Err f) → TakesUpTo old.rest new.rest most_of_automaton → (f ≡ hoa.CannotRead → TakesFewer old.rest new.rest most_of_automaton)
-    → LeavesStage (Err f) new.stage → (file : Input) × WasStream most_of_automaton old new file × ((of_hoa f ≡ OutOfMemory) ⊎ ReadsAutomaton file (Err (refusal_of (of_hoa f))))
+    → LeavesStage (Err f) new.stage → (file : Input) × WasStream most_of_automaton old new file × RefusesUnless (IsFailed file) (ReadsAutomaton file) (of_hoa f)
 automaton_fault old new (hoa.AtLine line kind) (text, s, h) few fewer e = (outcome.Ended text, (s, record { taken = few; stage = either_well new.stage e }), inr (inr (text, refl, h)))
 automaton_fault old new hoa.CannotRead a few fewer e =
     let (bs, c, l) = fewer refl in
     (outcome.Failed bs, record { taken = c; few = l; stage = e }, inr (few_failed bs l))
-automaton_fault old new hoa.OutOfMemory (text, s, h) few fewer e = (outcome.Ended text, (s, record { taken = few; stage = swapped e }), inl refl)
+automaton_fault old new hoa.OutOfMemory (text, s, h) few fewer e = (outcome.Ended text, (s, record { taken = few; stage = swapped e }), inl (refl, λ z. z))
   where
     swapped : (new.stage ≡ Closed) ⊎ (new.stage ≡ Open) → (new.stage ≡ Open) ⊎ (new.stage ≡ Closed)
     swapped (inl c) = inr c
@@ -146,7 +170,7 @@ verdict_refused A names B Found fault.OutOfMemory many large = inl refl
 
 -- ---- what was found decides the answers
 
-pub checker_decides : (p : Plan) (input file : Input) → DecidesAnswers spec.Checker p input file (FindsVerdict p input file) (verdict_answer stated_limits)
+pub checker_decides : (p : Plan) (input file : Input) → DecidesAnswers (CheckNeverShort p input file) spec.Checker p input file (FindsVerdict p input file) (verdict_answer stated_limits)
 checker_decides p input file = record { right = λ r h. (r, h, refl); takes = λ t. t; other = other; silent = silent; low = low }
   where
     other : FindsVerdict p input file (Err spec.OutOfMemory) → ⊥

@@ -73,10 +73,10 @@ word_takes R w (inr (q, h)) = cc
 word_planned : (p : Plan) (word : Option (List ℕ)) → option_map (λ s. s.now) p.word ≡ word → planned spec.Evaluator (Ok p) ≡ evaluator_plan (record (request_in p) { word = word })
 word_planned p word same = ap (λ (w : Option (List ℕ)). evaluator_plan (record (request_in p) { word = w })) same
 
-pub evaluator_decides : (p : Plan) (text : List ℕ) (input file : Input) → option_map (λ s. s.now) p.word ≡ Some text → DecidesAnswers spec.Evaluator p input file (FindsTruth p text input) (truth_answer stated_limits)
+pub evaluator_decides : (p : Plan) (text : List ℕ) (input file : Input) → option_map (λ s. s.now) p.word ≡ Some text → DecidesAnswers (outcome.IsNeverShort stated_limits.formula_bytes (Some (formula_word p.formula)) input) spec.Evaluator p input file (FindsTruth p text input) (truth_answer stated_limits)
 evaluator_decides p text input file same = record {
   right = λ r h. subst (λ (w : Option EvaluatorPlan). EvaluatorAnswers stated_limits w input (outcome.answer_by stated_limits spec.Evaluator (truth_answer stated_limits) r)) (sym (word_planned p (Some text) same)) (r, h, refl);
-  takes = subst (λ (w : Option EvaluatorPlan). outcome.TakesNoMemory stated_limits.formula_bytes (option_map (formula_asked spec.Evaluator) w) input) (word_planned p (Some text) same);
+  takes = subst (λ (w : Option EvaluatorPlan). outcome.IsNeverShort stated_limits.formula_bytes (option_map (formula_asked spec.Evaluator) w) input) (word_planned p (Some text) same);
   other = then_takes (InputReads stated_limits (outcome.input_of (formula_word p.formula) input)) (λ R. Then (ReadsWord stated_limits R.names text) (λ w. Evaluates stated_limits R w)) (input_takes (outcome.input_of (formula_word p.formula) input))
       (λ R. then_takes (ReadsWord stated_limits R.names text) (λ w. Evaluates stated_limits R w) (λ z. z) (word_takes R));
   silent = silent;

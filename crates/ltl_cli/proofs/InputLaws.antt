@@ -1,5 +1,5 @@
 -- What was read, as an input of the definitions.
-use Rattle.std.proofs.Common.{◌≡◌, ◌∙◌, ap, sym, subst, refl, ℕ, ◌+◌, ◌<◌, ◌≤◌, nat_lt, false, inl, inr, ◌⊎◌, List, [], length, take, Option, Some, None, arith, length-take}
+use Rattle.std.proofs.Common.{◌≡◌, ◌∙◌, ap, sym, subst, refl, ℕ, ◌+◌, ◌<◌, ◌≤◌, nat_lt, Bool, true, false, cond, inl, inr, ◌⊎◌, List, [], length, take, Option, Some, None, arith, length-take}
 use Rattle.std.proofs.Math.Seq.{take-append_seam}
 use Rattle.std.proofs.lemmas.Bool.{cases_lt}
 use Rattle.std.proofs.lemmas.List.{take_all}
@@ -23,8 +23,8 @@ use Rattle.ltl_cli.specs.declared.refusal.Refusal.TheVariants.{OutOfMemory, Cann
 use Rattle.ltl_words.specs.declared.request.FormulaWord.{FormulaWord}
 use Rattle.ltl_words.specs.Plans.{formula_word}
 use Rattle.ltl_cli.specs.Refusals.{of_read, refusal_of}
-use Rattle.ltl_cli.specs.Inputs.{GivesBytesOf, IsInputOf, IsOpen, IsReadFrom, IsStream, IsUnread, RefusesInput, TakesFewer, TakesUpTo, WasInput, WasStream, WentWell, most_taken}
-use Rattle.ltl_spec.proofs.Tools.StepLaws.{never}
+use Rattle.ltl_cli.specs.Inputs.{GivesBytesOf, IsFailed, IsInputOf, IsOpen, IsReadFrom, IsStream, IsUnread, RefusesInput, TakesFewer, TakesUpTo, WasInput, WasStream, WentWell, most_taken}
+use Rattle.ltl_spec.proofs.Tools.StepLaws.{never, then_ok}
 use Rattle.ltl_cli.proofs.StreamLaws.{stayed}
 
 -- a text is refused as the definitions say
@@ -36,9 +36,6 @@ given_refused text fault.OutOfMemory h = inl (refl, λ m. absurd (omega (arith, 
 
 ok_is : {A B : Type 0} (a b : A) → ◌≡◌ {A = Result A B} (Ok a) (Ok b) → a ≡ b
 ok_is a b e = cc
-
-not_opened : (xs : List ℕ) → outcome.Ended xs ≡ outcome.NotOpened → ⊥
-not_opened xs e = cc
 
 -- the first 65,537 bytes are all of them, or both are too long
 same_or_long : (v xs : List ℕ) → v ≡ take most_taken xs → (v ≡ xs) ⊎ (stated_limits.formula_bytes < length v) × (stated_limits.formula_bytes < length xs)
@@ -83,12 +80,12 @@ reads_from v xs e r h = inr (
 
 file_read : (v xs : List ℕ) → v ≡ take most_taken xs → (r : Result FormulaView Refusal) → IsReadFrom (outcome.Given v) outcome.NotOpened r → IsReadFrom (outcome.File []) (outcome.Ended xs) r
 file_read v xs e (Ok f) h = reads_from v xs e (Ok (reading_of f)) h
-file_read v xs e (Err x) (inl p) = inl (p.0, not_opened xs)
+file_read v xs e (Err x) (inl p) = inl (p.0, λ z. z)
 file_read v xs e (Err x) (inr h) = inr (reads_from v xs e (Err (refusal_of x)) h)
 
 file_same : (v : List ℕ) (r : Result FormulaView Refusal) → IsReadFrom (outcome.Given v) outcome.NotOpened r → IsReadFrom (outcome.File []) (outcome.Ended v) r
 file_same v (Ok f) h = h
-file_same v (Err x) (inl p) = inl (p.0, not_opened v)
+file_same v (Err x) (inl p) = inl (p.0, λ z. z)
 file_same v (Err x) (inr h) = inr h
 
 -- what was read from a file's bytes
@@ -112,7 +109,7 @@ some_bytes (Some xs) = (xs, refl)
 short_file : (old new : SourceState) → WentWell most_taken old new → (input : outcome.Input) × WasStream most_taken old new input × RefusesInput (outcome.File []) input OutOfMemory
 short_file old new well =
     let (bs, same) = some_bytes old.rest in
-    (outcome.Ended bs, (same, well), inl (refl, not_opened bs))
+    (outcome.Ended bs, (same, well), inl (refl, λ z. z))
 
 -- a list that isn't longer than the limit
 pub not_long : (n : ℕ) (bs : List ℕ) → length bs < n + 1 → nat_lt n (length bs) ≡ false
@@ -139,17 +136,22 @@ unread_few old new (inr (c, well)) = absurd (not_memory c)
 pub failed_few : (old new : SourceState) (e : Refusal) → IsUnread most_taken old new e → e ≡ CannotRead → TakesFewer old.rest new.rest most_taken
 failed_few old new e u c = unread_few old new (subst (IsUnread most_taken old new) c u)
 
--- a source that isn't read is some input
+-- a source that isn't read is some input, of which no read failed
 module _ (most : ℕ) {R : Type 0} (state : R → SourceState) where
-  unread_stream : (o : SourceState) → o.stage ≡ Open → (input : outcome.Input) × WasStream most o o input
+  unread_stream : (o : SourceState) → o.stage ≡ Open → (input : outcome.Input) × WasStream most o o input × ¬ (IsFailed input)
   unread_stream o e =
       let (bs, same) = some_bytes o.rest in
-      (outcome.Ended bs, (same, stayed most o e))
+      (outcome.Ended bs, (same, stayed most o e), λ z. z)
+
+  pub unread_whole : (s : Source R) → IsOpen state s → (input : outcome.Input) × WasInput most state s s input × ¬ (IsFailed input)
+  unread_whole source.Text o = (outcome.NotOpened, refl, λ z. z)
+  unread_whole source.NotOpened o = (outcome.NotOpened, refl, λ z. z)
+  unread_whole (source.Input r) o = unread_stream (state r) o
 
   pub unread : (s : Source R) → IsOpen state s → (input : outcome.Input) × WasInput most state s s input
-  unread source.Text o = (outcome.NotOpened, refl)
-  unread source.NotOpened o = (outcome.NotOpened, refl)
-  unread (source.Input r) o = unread_stream (state r) o
+  unread s o =
+      let (input, was, whole) = unread_whole s o in
+      (input, was)
 
 -- ---- readers of which nobody knows how the calls on them went
 
@@ -212,15 +214,27 @@ stream_few most old new (outcome.Failed bs) w = let l = w.few in (bs, w.taken, o
 stream_few most old new (outcome.Text bs) w = absurd w
 stream_few most old new outcome.NotOpened w = absurd w
 
--- where a formula was read, memory may have been taken
+-- an input with a text that isn't too long is not at fault
+module _ (most : ℕ) (text : List ℕ) (fits : length text ≤ most) where
+  whole : (b : Bool) (bs : List ℕ) → nat_lt most (length bs) ≡ b → Ok text ≡ cond b (Ok bs) (Err spec.CannotRead) → ⊥
+  whole true bs e q =
+      let short = not_long most bs (let same = ap length (ok_is text bs q) in omega (arith, same, fits)) in
+      cc
+  whole false bs e q = never text spec.CannotRead (sym q)
+
+  pub not_at_fault : (input : outcome.Input) → Ok text ≡ outcome.taken most input → ¬ (outcome.IsAtFault input)
+  not_at_fault (outcome.Text bs) q = λ z. z
+  not_at_fault outcome.NotOpened q = λ z. never text spec.CannotOpen (sym q)
+  not_at_fault (outcome.Ended bs) q = λ z. z
+  not_at_fault (outcome.Failed bs) q = λ z. whole (nat_lt most (length bs)) bs refl q
+
+-- where a formula was read, memory may have run out
 pub reads_takes : (word : outcome.FormulaWord) (input : outcome.Input) (R : Reading) → InputReads stated_limits (outcome.input_of word input) (Ok R)
-    → ¬ (outcome.TakesNoMemory stated_limits.formula_bytes (Some word) input)
+    → ¬ (outcome.IsNeverShort stated_limits.formula_bytes (Some word) input)
 reads_takes (outcome.Given text) input R h = λ m. absurd (omega (arith, m, (text_reads text (Ok R) h).0))
-reads_takes (outcome.File name) input R h = λ m. closed (subst (λ (i : outcome.Input). InputReads stated_limits i (Ok R)) m h)
-  where
-    closed : InputReads stated_limits outcome.NotOpened (Ok R) → ⊥
-    closed (inl (e, p, q)) = never R e (sym q)
-    closed (inr (a, p, q)) = never a spec.CannotOpen (sym p)
+reads_takes (outcome.File name) input R h =
+    let (text, q, reads) = then_ok (λ r. r ≡ outcome.taken stated_limits.formula_bytes input) (ReadsFormula stated_limits) R h in
+    not_at_fault stated_limits.formula_bytes text reads.0 input q
 
 -- the same words read as the same formula, and are refused for the same
 pub read_same : (w v : FormulaWord) → w ≡ v → (input : outcome.Input) (R : Reading) → InputReads stated_limits (outcome.input_of (formula_word w) input) (Ok R)

@@ -10,7 +10,7 @@ use Rattle.ltl_spec.specs.Tools.Limits.{stated_limits}
 use Rattle.ltl_spec.specs.Tools.Refusal as spec
 use Rattle.ltl_spec.specs.Tools.Outcome as outcome
 use Rattle.ltl_spec.specs.Tools.Stage.{Stage, Open, Closed, Broken}
-use Rattle.ltl_spec.specs.Tools.Outcome.{Answer, FormulaWord, Input, IsGiven, IsPromised, IsShortOfMemory, Seen, TakesNoMemory, TellsMessage, Then, answer_by, refused, stage_behind}
+use Rattle.ltl_spec.specs.Tools.Outcome.{Answer, FormulaWord, Input, IsGiven, IsPromised, IsShortOfMemory, Seen, TellsMessage, Then, answer_by, refused, stage_behind}
 use Rattle.ltl_spec.specs.Tools.Programs.{InputReads, ReadsFormula}
 use Rattle.ltl_spec.specs.Tools.Run.{MayShow, ToolAnswers}
 use Rattle.ltl_spec.proofs.Tools.RunLaws.{promised_shown}
@@ -25,9 +25,9 @@ use Rattle.ltl_words.specs.declared.request.PlanFault.{PlanFault}
 use Rattle.ltl_words.specs.declared.request.PlanFault.TheVariants as fault
 use Rattle.ltl_cli.specs.Refusals.{of_plan, refusal_of}
 use Rattle.ltl_words.specs.Tools.{status_number}
-use Rattle.ltl_words.specs.Plans.{formula_word, planned}
-use Rattle.ltl_cli.specs.Inputs.{RefusesFor, RefusesInput}
-use Rattle.ltl_cli.specs.Runs.{Finishes, IsOutcome, IsTold, Shows, ShowsBytes, TakesNone, ToolRun, message_with, status_with}
+use Rattle.ltl_words.specs.Plans.{planned}
+use Rattle.ltl_cli.specs.Inputs.{RefusesFor, RefusesInput, RefusesUnless}
+use Rattle.ltl_cli.specs.Runs.{Finishes, IsOutcome, IsTold, RunNeverShort, Shows, ShowsBytes, ToolRun, message_with, status_with}
 
 -- ---- no step says that memory was refused
 
@@ -109,7 +109,7 @@ answer_closed n h = ap (λ (b : Bool). cond b Closed Open) (below_two n h)
 
 -- a promise that was kept, as a run
 promised_run : (tool : spec.Tool) (plan : Result Plan PlanFault) (input file : Input) (seen : Seen) → IsPromised stated_limits tool (ToolAnswers stated_limits stated_form tool (planned tool plan) input file) seen
-    → (TakesNone tool plan input → ¬ (seen.status ≡ 4)) → (plan ≡ Err fault.OutOfMemory → IsShortOfMemory stated_limits tool seen) → ToolRun tool plan input file seen
+    → (RunNeverShort tool plan input file → ¬ (seen.status ≡ 4)) → (plan ≡ Err fault.OutOfMemory → IsShortOfMemory stated_limits tool seen) → ToolRun tool plan input file seen
 promised_run tool plan input file seen promised memory short = record { shown = promised_shown stated_limits stated_form tool (planned tool plan) input file seen promised; memory = memory; short = short }
 
 -- nothing went out before a refusal
@@ -117,20 +117,21 @@ refusal_given : (tool : spec.Tool) (e : spec.Refusal) (seen : Seen) → seen.out
     → IsGiven seen (refused stated_limits tool e)
 refusal_given tool e seen o g s t = (s, o, g ∙ sym (refusal_open e), t)
 
--- What is found for a plan decides the program's right answers. One that is no refusal has no message, and a status below theirs
-pub record DecidesAnswers {A : Type 0} (tool : spec.Tool) (p : Plan) (input file : Input) (Finds : Result A spec.Refusal → Type 0) (answer : A → Answer) : Type 0 where
+-- What is found for a plan decides the program's right answers, and where lack of memory is never reported. An answer that is no refusal has no message,
+-- and a status below theirs
+pub record DecidesAnswers {A : Type 0} (Never : Type 0) (tool : spec.Tool) (p : Plan) (input file : Input) (Finds : Result A spec.Refusal → Type 0) (answer : A → Answer) : Type 0 where
   pub right : (r : Result A spec.Refusal) → Finds r → ToolAnswers stated_limits stated_form tool (planned tool (Ok p)) input file (answer_by stated_limits tool answer r)
-  pub takes : TakesNone tool (Ok p) input → TakesNoMemory stated_limits.formula_bytes (Some (formula_word p.formula)) input
+  pub takes : RunNeverShort tool (Ok p) input file → Never
   pub other : Finds (Err spec.OutOfMemory) → ⊥
   pub silent : (a : A) → (answer a).message ≡ []
   pub low : (a : A) → (answer a).status ≤ 1
 
-module _ {A : Type 0} {tool : spec.Tool} {p : Plan} {input file : Input} {Finds : Result A spec.Refusal → Type 0} {answer : A → Answer} (d : DecidesAnswers tool p input file Finds answer) where
-  plan_run : (seen : Seen) → IsPromised stated_limits tool (ToolAnswers stated_limits stated_form tool (planned tool (Ok p)) input file) seen → (TakesNone tool (Ok p) input → ¬ (seen.status ≡ 4)) → ToolRun tool (Ok p) input file seen
+module _ {A : Type 0} {Never : Type 0} {tool : spec.Tool} {p : Plan} {input file : Input} {Finds : Result A spec.Refusal → Type 0} {answer : A → Answer} (d : DecidesAnswers Never tool p input file Finds answer) where
+  plan_run : (seen : Seen) → IsPromised stated_limits tool (ToolAnswers stated_limits stated_form tool (planned tool (Ok p)) input file) seen → (RunNeverShort tool (Ok p) input file → ¬ (seen.status ≡ 4)) → ToolRun tool (Ok p) input file seen
   plan_run seen promised memory = promised_run tool (Ok p) input file seen promised memory (λ q. absurd (never p fault.OutOfMemory (sym q)))
 
   -- nothing was found
-  pub outcome_refused : (o : SinkState) (e : Refusal) → o.stage ≡ Open → RefusesFor (formula_word p.formula) input Finds e → IsOutcome tool (Ok p) input file o o (Err e)
+  pub outcome_refused : (o : SinkState) (e : Refusal) → o.stage ≡ Open → RefusesUnless Never Finds e → IsOutcome tool (Ok p) input file o o (Err e)
   outcome_refused o e g (inl (c, some)) = subst (λ (x : Refusal). IsOutcome tool (Ok p) input file o o (Err x)) (sym c) (record {
     output = [];
     written = wrote_nothing o.bytes;

@@ -1,9 +1,9 @@
 -- What the translator knows before it prints.
 use Rattle.std.proofs.Common.{◌≡◌, refl, inl, inr, ◌⊎◌, List, ℕ, arith}
-use Rattle.std.specs.Prelude.{Ok, Err}
+use Rattle.std.specs.Prelude.{Some, Ok, Err}
 use Rattle.ltl_spec.specs.Tools.Limits.{stated_limits}
 use Rattle.ltl_spec.specs.Tools.Refusal as spec
-use Rattle.ltl_spec.specs.Tools.Outcome.{Input, input_of, printed}
+use Rattle.ltl_spec.specs.Tools.Outcome.{Input, IsNeverShort, input_of, printed}
 use Rattle.ltl_spec.specs.Tools.Programs.{InputReads}
 use Rattle.ltl_syntax.specs.FormulaView.{FormulaView, reading_of}
 use Rattle.ltl_cli.specs.declared.refusal.Refusal.{Refusal}
@@ -33,7 +33,7 @@ module _ (p : Plan) (input : Input) (f : FormulaView) (reads : InputReads stated
   text_prints text h = inr (reading_of f, reads, h)
 
 -- what is printed decides the answers
-pub translator_decides : (p : Plan) (input file : Input) → DecidesAnswers spec.Translator p input file (PlanPrints p input) (λ text. printed text 0)
+pub translator_decides : (p : Plan) (input file : Input) → DecidesAnswers (IsNeverShort stated_limits.formula_bytes (Some (formula_word p.formula)) input) spec.Translator p input file (PlanPrints p input) (λ text. printed text 0)
 translator_decides p input file = record {
   right = λ r h. (r, h, refl);
   takes = λ t. t;

@@ -121,13 +121,26 @@ IsFileOf state May Text = ⊥
 IsFileOf state May (Input r) = TurnsOut state May r
 IsFileOf state May NotOpened = May spec.NotOpened
 
--- The code finds what the definitions find for this formula, or refuses it as they do. Memory may run out if some is allocated
+-- a read of the input failed
+abbrev pub IsFailed : spec.Input → Type 0
+IsFailed (spec.Failed bytes) = ⊤
+IsFailed input = ⊥
+
+-- The code finds what the definitions find, or refuses it as they do, or memory ran out. That isn't reported where `Never` holds
+
+abbrev pub RefusesUnless : {A : Type 0} → Type 0 → (Result A tools.Refusal → Type 0) → Refusal → Type 0
+RefusesUnless Never Finds e = (e ≡ OutOfMemory) × ¬ Never ⊎ Finds (Err (refusal_of e))
+
+abbrev pub IsFoundUnless : {A F : Type 0} → Type 0 → (Result A tools.Refusal → Type 0) → (F → A) → Result F Refusal → Type 0
+IsFoundUnless Never Finds view r = MatchResult r (λ f. Finds (Ok (view f))) (RefusesUnless Never Finds)
+
+-- the same for what is found of a formula
 
 abbrev pub RefusesFor : {A : Type 0} → spec.FormulaWord → spec.Input → (Result A tools.Refusal → Type 0) → Refusal → Type 0
-RefusesFor word input Finds e = (e ≡ OutOfMemory) × ¬ (spec.TakesNoMemory stated_limits.formula_bytes (Some word) input) ⊎ Finds (Err (refusal_of e))
+RefusesFor word input = RefusesUnless (spec.IsNeverShort stated_limits.formula_bytes (Some word) input)
 
 abbrev pub IsFound : {A F : Type 0} → spec.FormulaWord → spec.Input → (Result A tools.Refusal → Type 0) → (F → A) → Result F Refusal → Type 0
-IsFound word input Finds view r = MatchResult r (λ f. Finds (Ok (view f))) (RefusesFor word input Finds)
+IsFound word input = IsFoundUnless (spec.IsNeverShort stated_limits.formula_bytes (Some word) input)
 
 -- the input reads as this formula, or is refused for this reason
 abbrev pub RefusesInput : spec.FormulaWord → spec.Input → Refusal → Type 0

@@ -1,11 +1,11 @@
 -- The possible outcomes of a run of a program: output, message and exit status.
-use Rattle.std.specs.Prelude.{◌≡◌, ◌⊎◌, ◌<◌, ℕ, List, [], length, Option, Result, Ok, Err, option_map}
+use Rattle.std.specs.Prelude.{◌≡◌, ◌⊎◌, ◌<◌, ℕ, List, [], length, Option, Some, Result, Ok, Err, option_map}
 use Rattle.std.specs.Io.KnownBytes.{Appends}
 use Rattle.ltl_spec.specs.Hoa.HoaReading.{stated_form}
 use Rattle.ltl_spec.specs.Tools.Limits.{stated_limits}
 use Rattle.ltl_spec.specs.Tools.Refusal as spec
 use Rattle.ltl_spec.specs.Tools.Stage.{Open, Closed, Broken}
-use Rattle.ltl_spec.specs.Tools.Outcome.{FormulaWord, Input, IsShortOfMemory, Seen, TakesNoMemory, TellsMessage}
+use Rattle.ltl_spec.specs.Tools.Outcome.{FormulaWord, Input, IsNeverShort, IsShortOfMemory, Seen, TellsMessage}
 use Rattle.ltl_spec.specs.Tools.Run.{MayShow, PlanOf}
 use Rattle.ltl_streams.specs.Streams.{Breaks, SinkState, SourceState, Takes}
 use Rattle.ltl_cli.specs.declared.refusal.Refusal.{Refusal}
@@ -16,7 +16,7 @@ use Rattle.ltl_words.specs.declared.request.PlanFault.TheVariants as fault
 use Rattle.ltl_cli.specs.Refusals.{refusal_of}
 use Rattle.ltl_words.specs.Tools.{status_number}
 use Rattle.ltl_cli.specs.declared.source.Source.{Source}
-use Rattle.ltl_cli.specs.Inputs.{HoldsText, IsSourceAtFault}
+use Rattle.ltl_cli.specs.Inputs.{HoldsText, IsFailed, IsSourceAtFault}
 use Rattle.ltl_words.specs.Plans.{formula_word, planned}
 
 -- the formula of a plan
@@ -25,16 +25,21 @@ formula_asked spec.Translator p = p.formula
 formula_asked spec.Checker p = p.formula
 formula_asked spec.Evaluator p = p.formula
 
--- the run ends before any allocation
-abbrev pub TakesNone : spec.Tool → Result Plan PlanFault → Input → Type 0
-TakesNone tool (Err fault.OutOfMemory) input = ⊥
-TakesNone tool plan input = TakesNoMemory stated_limits.formula_bytes (option_map (formula_asked tool) (planned tool plan)) input
+-- Where lack of memory is never reported for a plan: as for its formula, or if a read of the checker's automaton failed
+abbrev pub PlanNeverShort : (tool : spec.Tool) → Option (PlanOf tool) → Input → Input → Type 0
+PlanNeverShort spec.Checker (Some p) input file = IsNeverShort stated_limits.formula_bytes (Some p.formula) input ⊎ IsFailed file
+PlanNeverShort tool plan input file = IsNeverShort stated_limits.formula_bytes (option_map (formula_asked tool) plan) input
 
--- A run of a program for its plan and its inputs shows what it may show. Lack of memory is reported only if memory is allocated; if there was none for the
--- command line, nothing else is reported
+-- the same for words, unless memory ran out for these
+abbrev pub RunNeverShort : spec.Tool → Result Plan PlanFault → Input → Input → Type 0
+RunNeverShort tool (Err fault.OutOfMemory) input file = ⊥
+RunNeverShort tool plan input file = PlanNeverShort tool (planned tool plan) input file
+
+-- A run of a program for its plan and its inputs shows what it may show. Lack of memory isn't reported for usage, an input of which a read failed, or a
+-- formula that wasn't opened or is too long; if there was none for the command line, nothing else is reported
 pub record ToolRun (tool : spec.Tool) (plan : Result Plan PlanFault) (input file : Input) (seen : Seen) : Type 0 where
   pub shown : MayShow stated_limits stated_form tool (planned tool plan) input file seen
-  pub memory : TakesNone tool plan input → ¬ (seen.status ≡ spec.status_of spec.OutOfMemory)
+  pub memory : RunNeverShort tool plan input file → ¬ (seen.status ≡ spec.status_of spec.OutOfMemory)
   pub short : plan ≡ Err fault.OutOfMemory → IsShortOfMemory stated_limits tool seen
 
 -- a run with this status, whose output and message went to these sinks

@@ -12,7 +12,7 @@ ghost use Rattle.ltl_streams.specs.Streams.{Breaks, Takes};
 ghost use Rattle.ltl_syntax.specs.FormulaView.{reading_of};
 ghost use Rattle.ltl_check.specs.VerdictView.{verdict_of};
 ghost use Rattle.ltl_words.specs.declared.request.Plan as asked;
-ghost use Rattle.ltl_cli.specs.Inputs.{IsOpen, IsSourceAtFault, WasAutomaton, WasFormula};
+ghost use Rattle.ltl_cli.specs.Inputs.{IsFailed, IsFoundUnless, IsOpen, IsSourceAtFault, WasAutomaton, WasFormula};
 ghost use Rattle.ltl_cli.specs.Refusals.{TakesStep};
 ghost use Rattle.ltl_words.specs.Tools.{status_number};
 ghost use Rattle.ltl_cli.specs.Runs.{Finishes, HasCause, IsOutcome, Shows, StaysAt, ToolRun};
@@ -68,7 +68,7 @@ fn read_automaton<'a, A: Allocator, T: ByteSource>(
     source: &mut Source<T>,
 ) -> Result<Marked<'a, A>, Refusal>
     requires { IsOpen T.state source.old }
-    ensures { (file : spec.Input) × WasAutomaton T.state source.old source.new file × TakesStep (ReadsAutomaton file) (λ A. A) result }
+    ensures { (file : spec.Input) × WasAutomaton T.state source.old source.new file × IsFoundUnless (IsFailed file) (ReadsAutomaton file) (λ A. A) result }
 {
     match source {
         Source::Input(reader) => {

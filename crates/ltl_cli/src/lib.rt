@@ -1,8 +1,8 @@
 //! The programs `ltl2ba`, `ltlcheck` and `ltleval` over byte streams.
 //!
 //! `run` is a whole program, from the words of its command line to its exit status, over any files, output and message. Its contract is what the three
-//! programs promise; each `main` calls it. A caller that opens the files itself calls `plan`, and then `translate_over`, `check_over` or `evaluate_over`.
-//! `run_translate`, `run_check` and `run_eval` are the same three over readers and writers of the standard library.
+//! programs promise; their `main`s call it through `ltl_host`. A caller that opens the files itself calls `plan`, and then `translate_over`, `check_over` or
+//! `evaluate_over`. `run_translate`, `run_check` and `run_eval` are the same three over readers and writers of the standard library.
 //!
 //! `plan` (of `ltl_words`, exported here too) parses a command line into a `Plan`. The files that it names are opened as sources (`files`, `program`). The
 //! formula is read from the plan or from a `Source` (`input`). The translator makes its automaton and writes that. The checker translates its negation, reads

@@ -113,8 +113,9 @@ fn run_plan<F: Files, S: ByteSink, M: ByteSink>(
 }
 
 /// Runs a program with the words of its command line and returns the exit status. The first word is the program's name and isn't looked at. If the words
-/// couldn't be obtained, that is reported as a usage error or as lack of memory. Only files that the words name are opened. The checker reads the automaton
-/// from the standard input if they name no file for it. `output` and `message` are fresh: no call has been made on them.
+/// couldn't be obtained, that is reported as a usage error or as lack of memory. The checker reads the automaton from the standard input if they name no
+/// file for it. `output` and `message` are fresh: no call has been made on them. The contract speaks of these and of the status; that only files which the
+/// words name are opened, and none is read after its end, is left to the code.
 pub fn run<'a, F: Files, S: ByteSink, M: ByteSink>(
     alloc: Global,
     tool: Tool,

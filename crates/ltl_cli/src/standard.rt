@@ -5,7 +5,7 @@ ghost use Rattle.ltl_spec.specs.Tools.Refusal.{Checker, Evaluator, Translator};
 ghost use Rattle.ltl_spec.specs.Tools.Outcome as spec;
 ghost use Rattle.ltl_words.specs.Plans.{formula_word};
 ghost use Rattle.ltl_cli.specs.Inputs.{GivesBytesOf, HoldsText, IsInputOf, IsReadFrom, TakesFewer, TakesUpTo, bytes_of, most_taken};
-ghost use Rattle.ltl_cli.specs.Runs.{ShowsBytes, TakesNone, ToolRun};
+ghost use Rattle.ltl_cli.specs.Runs.{RunNeverShort, ShowsBytes, ToolRun};
 
 use crate::check::check_over;
 use crate::evaluate::evaluate_over;
@@ -63,7 +63,7 @@ pub fn run_translate<A: Allocator, R: Read + Drop, W: Write, E: Write>(
     ensures shown { (input : spec.Input) × IsInputOf R.remaining source input × ((file : spec.Input)
         → ShowsBytes (ToolRun Translator plan.now input file)
         (W.contents output.old) (W.contents output.new) (E.contents message.old) (E.contents message.new) result) }
-    ensures memory { ((input : spec.Input) → IsInputOf R.remaining source input → TakesNone Translator plan.now input) → ¬ (result ≡ 4) }
+    ensures memory { ((input : spec.Input) → IsInputOf R.remaining source input → RunNeverShort Translator plan.now input spec.NotOpened) → ¬ (result ≡ 4) }
 {
     translate_over(
         alloc,

@@ -9,7 +9,7 @@ ghost use Rattle.ltl_spec.specs.Tools.Outcome as spec;
 ghost use Rattle.ltl_streams.specs.Streams.{Breaks, Takes};
 ghost use Rattle.ltl_syntax.specs.FormulaView.{reading_of};
 ghost use Rattle.ltl_cli.specs.Inputs.{IsOpen, WasFormula};
-ghost use Rattle.ltl_cli.specs.Runs.{Finishes, HasCause, IsOutcome, Shows, StaysAt, TakesNone, ToolRun};
+ghost use Rattle.ltl_cli.specs.Runs.{Finishes, HasCause, IsOutcome, RunNeverShort, Shows, StaysAt, ToolRun};
 ghost use Rattle.ltl_cli.specs.Translations.{IsTranslated, automaton_in, text_of};
 
 use crate::finish::finish;
@@ -133,7 +133,7 @@ pub fn translate_over<A: Allocator, R: ByteSource, S: ByteSink, M: ByteSink>(
     ensures same_output { StaysAt (S.state output.old) (S.state output.new) }
     ensures same_message { StaysAt (M.state message.old) (M.state message.new) }
     ensures cause { result ≡ 5 → HasCause R.state plan.now source.new (S.state output.new) }
-    ensures memory { ((input : spec.Input) → WasFormula R.state source.old source.new input → TakesNone Translator plan.now input) → ¬ (result ≡ 4) }
+    ensures memory { ((input : spec.Input) → WasFormula R.state source.old source.new input → RunNeverShort Translator plan.now input spec.NotOpened) → ¬ (result ≡ 4) }
 {
     let outcome = answered(alloc, plan, source, output);
     finish(Tool::Translator, outcome, message)

@@ -26,35 +26,35 @@ use Rattle.ltl_draw.specs.Plans.{Run}
 use Rattle.ltl_draw.specs.Runs.{DrawAnswers, IsOutcome, RunsOn, of_run}
 use Rattle.ltl_draw.proofs.RunLaws.{all_printed, nothing_printed, some_printed}
 
-right : (input : Input) (text : List ℕ) (w : Lasso) → ReadsWord stated_limits [] text (Ok w) → (A : MarkedAutomaton) → ReadsAutomaton input (Ok A) → (P : RunPicture) → RunsOn A w (Ok P) → DrawAnswers (Ok (Run text)) input (printed (run_text P) 0)
-right input text w word A reads P runs = (Ok (run_text P), inr (w, word, inr (A, reads, inr (P, runs, refl))), refl)
+right : (input : Input) (text : List ℕ) (file : Option (List ℕ)) (w : Lasso) → ReadsWord stated_limits [] text (Ok w) → (A : MarkedAutomaton) → ReadsAutomaton input (Ok A) → (P : RunPicture) → RunsOn A w (Ok P) → DrawAnswers (Ok (Run text file)) input (printed (run_text P) 0)
+right input text file w word A reads P runs = (Ok (run_text P), inr (w, word, inr (A, reads, inr (P, runs, refl))), refl)
 
-module _ {T : Type 0} (input : Input) (o : SinkState) (open_before : o.stage ≡ Open) (text : List ℕ) where
+module _ {T : Type 0} (input : Input) (o : SinkState) (open_before : o.stage ≡ Open) (text : List ℕ) (file : Option (List ℕ)) where
   -- the word was refused
-  pub run_word_refused : (e : Refusal) → (e ≡ OutOfMemory) ⊎ ReadsWord stated_limits [] text (Err (refusal_of e)) → IsOutcome {T = T} (Ok (Run text)) input o o (Err e)
-  run_word_refused e (inl m) = nothing_printed input o open_before (Ok (Run text)) e (inl m)
-  run_word_refused e (inr h) = nothing_printed input o open_before (Ok (Run text)) e (inr (Err (refusal_of e), inl (refusal_of e, h, refl), refl))
+  pub run_word_refused : (e : Refusal) → (e ≡ OutOfMemory) ⊎ ReadsWord stated_limits [] text (Err (refusal_of e)) → IsOutcome {T = T} (Ok (Run text file)) input o o (Err e)
+  run_word_refused e (inl m) = nothing_printed input o open_before (Ok (Run text file)) e (inl m)
+  run_word_refused e (inr h) = nothing_printed input o open_before (Ok (Run text file)) e (inr (Err (refusal_of e), inl (refusal_of e, h, refl), refl))
 
   module _ (w : Lasso) (word : ReadsWord stated_limits [] text (Ok w)) where
     -- the automaton was refused
-    pub run_automaton_refused : (e : Refusal) → (e ≡ OutOfMemory) ⊎ ReadsAutomaton input (Err (refusal_of e)) → IsOutcome {T = T} (Ok (Run text)) input o o (Err e)
-    run_automaton_refused e (inl m) = nothing_printed input o open_before (Ok (Run text)) e (inl m)
-    run_automaton_refused e (inr h) = nothing_printed input o open_before (Ok (Run text)) e (inr (Err (refusal_of e), inr (w, word, inl (refusal_of e, h, refl)), refl))
+    pub run_automaton_refused : (e : Refusal) → (e ≡ OutOfMemory) ⊎ ReadsAutomaton input (Err (refusal_of e)) → IsOutcome {T = T} (Ok (Run text file)) input o o (Err e)
+    run_automaton_refused e (inl m) = nothing_printed input o open_before (Ok (Run text file)) e (inl m)
+    run_automaton_refused e (inr h) = nothing_printed input o open_before (Ok (Run text file)) e (inr (Err (refusal_of e), inr (w, word, inl (refusal_of e, h, refl)), refl))
 
     module _ (A : MarkedAutomaton) (reads : ReadsAutomaton input (Ok A)) where
       -- so was the search
-      pub run_search_refused : (e : Refusal) → (e ≡ OutOfMemory) ⊎ RunsOn A w (Err (refusal_of e)) → IsOutcome {T = T} (Ok (Run text)) input o o (Err e)
-      run_search_refused e (inl m) = nothing_printed input o open_before (Ok (Run text)) e (inl m)
+      pub run_search_refused : (e : Refusal) → (e ≡ OutOfMemory) ⊎ RunsOn A w (Err (refusal_of e)) → IsOutcome {T = T} (Ok (Run text file)) input o o (Err e)
+      run_search_refused e (inl m) = nothing_printed input o open_before (Ok (Run text file)) e (inl m)
       run_search_refused e (inr h) =
-          nothing_printed input o open_before (Ok (Run text)) e (inr (Err (refusal_of e), inr (w, word, inr (A, reads, inl (refusal_of e, h, refl))), refl))
+          nothing_printed input o open_before (Ok (Run text file)) e (inr (Err (refusal_of e), inr (w, word, inr (A, reads, inl (refusal_of e, h, refl))), refl))
 
       module _ (n : SinkState) (P : RunPicture) (runs : RunsOn A w (Ok P)) where
         -- it was drawn
-        pub run_drawn : (x : T) → Finishes o n (run_text P) → IsOutcome {T = T} (Ok (Run text)) input o n (Ok x)
-        run_drawn x h = all_printed input o open_before (Ok (Run text)) n (run_text P) (right input text w word A reads P runs) x h
+        pub run_drawn : (x : T) → Finishes o n (run_text P) → IsOutcome {T = T} (Ok (Run text file)) input o n (Ok x)
+        run_drawn x h = all_printed input o open_before (Ok (Run text file)) n (run_text P) (right input text file w word A reads P runs) x h
 
-        pub run_cut_off : Breaks o n (run_text P) → IsOutcome {T = T} (Ok (Run text)) input o n (Err CannotWrite)
-        run_cut_off h = some_printed input o open_before (Ok (Run text)) n (run_text P) (right input text w word A reads P runs) h
+        pub run_cut_off : Breaks o n (run_text P) → IsOutcome {T = T} (Ok (Run text file)) input o n (Err CannotWrite)
+        run_cut_off h = some_printed input o open_before (Ok (Run text file)) n (run_text P) (right input text file w word A reads P runs) h
 
 -- ---- the search
 pub search_refused : {T : Type 0} (A : MarkedAutomaton) (w : Lasso) (f : RunFault) (e : Refusal) → e ≡ of_run f → (◌≡◌ {A = Result T RunFault} (Err f) (Err fault.TooLarge) → stated_limits.product < run_size A w)

@@ -3,6 +3,7 @@ use Rattle.std.proofs.Common.{◌≡◌, ◌∙◌, ◌⊎◌, sym, subst, refl,
 use Rattle.std.proofs.lemmas.List.{append-nil}
 use Rattle.std.specs.Prelude.{Result, Ok, Err}
 use Rattle.std.specs.Io.KnownBytes.{Appends}
+use Rattle.clap.specs.Words.{Text}
 use Rattle.ltl_spec.specs.Hoa.HoaReading.{MarkedAutomaton}
 use Rattle.ltl_spec.specs.Tools.Refusal as spec
 use Rattle.ltl_spec.specs.Tools.Stage.{Open}
@@ -61,8 +62,8 @@ refused_short request input o g = record {
   ends = λ seen w b s t. inr (inl (refusal_given spec.OutOfMemory seen w (b ∙ g) s t));
 }
 
-right_picture : (input : Input) (A : MarkedAutomaton) → ReadsAutomaton input (Ok A) → DrawAnswers (Ok Picture) input (printed (dot_text A) 0)
-right_picture input A reads = (Ok (dot_text A), inr (A, reads, refl), refl)
+right_picture : (input : Input) (file : Option Text) (A : MarkedAutomaton) → ReadsAutomaton input (Ok A) → DrawAnswers (Ok (Picture file)) input (printed (dot_text A) 0)
+right_picture input file A reads = (Ok (dot_text A), inr (A, reads, refl), refl)
 
 module _ {T : Type 0} (input : Input) (o : SinkState) (open_before : o.stage ≡ Open) where
   -- memory was refused, or the definitions refuse what was asked for
@@ -71,9 +72,9 @@ module _ {T : Type 0} (input : Input) (o : SinkState) (open_before : o.stage ≡
   nothing_printed request e (inr h) = refused_right request input o e open_before h
 
   -- the automaton was refused
-  pub automaton_refused : (e : Refusal) → (e ≡ OutOfMemory) ⊎ ReadsAutomaton input (Err (refusal_of e)) → IsOutcome {T = T} (Ok Picture) input o o (Err e)
-  automaton_refused e (inl m) = nothing_printed (Ok Picture) e (inl m)
-  automaton_refused e (inr h) = nothing_printed (Ok Picture) e (inr (Err (refusal_of e), inl (refusal_of e, h, refl), refl))
+  pub automaton_refused : (file : Option Text) (e : Refusal) → (e ≡ OutOfMemory) ⊎ ReadsAutomaton input (Err (refusal_of e)) → IsOutcome {T = T} (Ok (Picture file)) input o o (Err e)
+  automaton_refused file e (inl m) = nothing_printed (Ok (Picture file)) e (inl m)
+  automaton_refused file e (inr h) = nothing_printed (Ok (Picture file)) e (inr (Err (refusal_of e), inl (refusal_of e, h, refl), refl))
 
   -- so were the words
   pub words_refused : (request : Result Request PlanFault) (f : PlanFault) (e : Refusal) → request ≡ Err f → e ≡ of_plan f → IsOutcome {T = T} request input o o (Err e)
@@ -100,13 +101,13 @@ module _ {T : Type 0} (input : Input) (o : SinkState) (open_before : o.stage ≡
       ends = λ seen u b s t. inr (inr (printed text 0, right, refl, s, (w.count, u), b ∙ w.stage open_before, t));
     }
 
-  module _ (n : SinkState) (A : MarkedAutomaton) (reads : ReadsAutomaton input (Ok A)) where
+  module _ (file : Option Text) (n : SinkState) (A : MarkedAutomaton) (reads : ReadsAutomaton input (Ok A)) where
     -- it was drawn
-    pub drawn : (x : T) → Finishes o n (dot_text A) → IsOutcome {T = T} (Ok Picture) input o n (Ok x)
-    drawn x w = all_printed (Ok Picture) n (dot_text A) (right_picture input A reads) x w
+    pub drawn : (x : T) → Finishes o n (dot_text A) → IsOutcome {T = T} (Ok (Picture file)) input o n (Ok x)
+    drawn x w = all_printed (Ok (Picture file)) n (dot_text A) (right_picture input file A reads) x w
 
-    pub cut_off : Breaks o n (dot_text A) → IsOutcome {T = T} (Ok Picture) input o n (Err CannotWrite)
-    cut_off w = some_printed (Ok Picture) n (dot_text A) (right_picture input A reads) w
+    pub cut_off : Breaks o n (dot_text A) → IsOutcome {T = T} (Ok (Picture file)) input o n (Err CannotWrite)
+    cut_off w = some_printed (Ok (Picture file)) n (dot_text A) (right_picture input file A reads) w
 
 -- an outcome and its message
 pub outcome_shows : {T : Type 0} (request : Result Request PlanFault) (input : Input) (o n mo mn : SinkState) (status : ℕ) (r : Result T Refusal) → IsOutcome request input o n r → status ≡ status_with r

@@ -5,7 +5,7 @@ use Rattle.ltl_spec.specs.Tools.Limits.{stated_limits}
 use Rattle.ltl_spec.specs.Tools.Refusal.{Checker, Refusal, Usage, refusal_text}
 
 abbrev pub draw_usage : List ℕ
-draw_usage = codes "usage: ltldraw [-w lasso | -t lasso [-f formula]]"
+draw_usage = codes "usage: ltldraw [-A file] [-w lasso] | -t lasso [-f formula]"
 
 abbrev pub draw_text : Refusal → List ℕ
 draw_text Usage = draw_usage

@@ -8,27 +8,38 @@ use Rattle.ltl_words.specs.declared.request.PlanFault.TheVariants.{Usage, OutOfM
 use Rattle.ltl_draw.specs.declared.request.Plan.{Plan}
 use Rattle.ltl_draw.specs.declared.request.Plan.TheVariants as plan
 
--- what a command line asks for: a drawing of the automaton that is read, one with a run on a word, or the timeline of a word, with or without a formula
+-- what a command line asks for: a drawing of an automaton, one with a run on a word, or the timeline of a word, with or without a formula. The automaton is in
+-- the file with the name, if there is one, and else in the standard input
 pub data Request : Type 0 where
-  Picture : Request
-  Run : Text → Request
+  Picture : Option Text → Request
+  Run : Text → Option Text → Request
   Timeline : Text → Option Text → Request
 
--- `-w lasso`, `-t lasso` and `-f formula`
-abbrev pub draw_app : App
-draw_app = with_rule (with_rule (with_rule (new_app (codes "ltldraw")) (value_rule (codes "w") 119)) (value_rule (codes "t") 116)) (value_rule (codes "f") 102)
+-- the name of the automaton's file
+abbrev pub automaton_file : Result Request PlanFault → Option Text
+automaton_file (Ok (Picture file)) = file
+automaton_file (Ok (Run word file)) = file
+automaton_file (Ok (Timeline word formula)) = None
+automaton_file (Err e) = None
 
--- the request for the values of `-w`, `-t` and `-f`, if they have a meaning: `-w` with another option, and `-f` without `-t`, have none
-abbrev pub request_for : Option Text → Option Text → Option Text → Option Request
-request_for (Some run) None None = Some (Run run)
-request_for None (Some word) formula = Some (Timeline word formula)
-request_for None None None = Some Picture
-request_for (Some run) (Some word) formula = None
-request_for (Some run) None (Some formula) = None
-request_for None None (Some formula) = None
+-- `-w lasso`, `-t lasso`, `-f formula` and `-A file`
+abbrev pub draw_app : App
+draw_app =
+    with_rule (with_rule (with_rule (with_rule (new_app (codes "ltldraw")) (value_rule (codes "w") 119)) (value_rule (codes "t") 116)) (value_rule (codes "f") 102))
+    (value_rule (codes "A") 65)
+
+-- the request for the values of `-w`, `-t`, `-f` and `-A`, if they have a meaning: `-t` with `-w` or `-A`, and `-f` without `-t`, have none
+abbrev pub request_for : Option Text → Option Text → Option Text → Option Text → Option Request
+request_for (Some run) None None file = Some (Run run file)
+request_for None (Some word) formula None = Some (Timeline word formula)
+request_for None None None file = Some (Picture file)
+request_for None (Some word) formula (Some file) = None
+request_for (Some run) (Some word) formula file = None
+request_for (Some run) None (Some formula) file = None
+request_for None None (Some formula) file = None
 
 abbrev pub request_of_rows : List Row → Option Request
-request_of_rows rows = request_for (first_of (codes "w") rows) (first_of (codes "t") rows) (first_of (codes "f") rows)
+request_of_rows rows = request_for (first_of (codes "w") rows) (first_of (codes "t") rows) (first_of (codes "f") rows) (first_of (codes "A") rows)
 
 abbrev pub request_if : Kinds → List Row → Option Request
 request_if [] rows = request_of_rows rows
@@ -62,8 +73,8 @@ Matches words r = MatchResult r (IsMatched words) (RefusesWords words)
 -- ---- plans of the code
 
 abbrev pub request_in : Plan → Request
-request_in plan.Picture = Picture
-request_in (plan.Run word) = Run word.now
+request_in (plan.Picture file) = Picture (option_map (λ s. s.now) file)
+request_in (plan.Run word file) = Run word.now (option_map (λ s. s.now) file)
 request_in (plan.Timeline word formula) = Timeline word.now (option_map (λ s. s.now) formula)
 
 abbrev pub requested : Result Plan PlanFault → Result Request PlanFault

@@ -15,6 +15,7 @@ use Rattle.ltl_words.specs.declared.request.PlanFault.{PlanFault}
 use Rattle.ltl_cli.specs.declared.refusal.Refusal.{Refusal}
 use Rattle.ltl_cli.specs.declared.refusal.Refusal.TheVariants.{CannotWrite, LargeProduct, OutOfMemory}
 use Rattle.ltl_cli.specs.Checks.{ReadsAutomaton}
+use Rattle.ltl_cli.specs.Headline.{IsBehind}
 use Rattle.ltl_cli.specs.Refusals.{of_plan, refusal_of}
 use Rattle.ltl_cli.specs.Runs.{Finishes}
 use Rattle.ltl_spec.specs.Hoa.HoaReading.{MarkedAutomaton}
@@ -26,7 +27,7 @@ use Rattle.ltl_pictures.specs.Timeline.{word_timeline}
 use Rattle.ltl_pictures.specs.TimelineView.{FailsToShow, HasTrueMarks}
 use Rattle.ltl_pictures.specs.declared.fault.TimelineFault as timeline
 use Rattle.ltl_draw.specs.Messages.{draw_message}
-use Rattle.ltl_draw.specs.Plans.{PlansFor, Request, Picture, Run, Timeline}
+use Rattle.ltl_draw.specs.Plans.{PlansFor, Request, Picture, Run, Timeline, automaton_file}
 
 -- no output, the message and the status of the refusal
 abbrev pub draw_refused : spec.Refusal → Answer
@@ -49,8 +50,8 @@ RunsOn A w (Err e) = (e ≡ spec.LargeProduct) × (stated_limits.product < run_s
 -- The output for a request, or the refusal: the drawing of the automaton in the input; the same with a run on a word, whose text is read first; the timeline
 -- of a word; or that of a word and a formula, whose text is read first and whose names count together with the word's
 abbrev pub Prints : Request → Input → Result (List ℕ) spec.Refusal → Type 0
-Prints Picture input = Then (ReadsAutomaton input) (λ A r. r ≡ Ok (dot_text A))
-Prints (Run text) input = Then (ReadsWord stated_limits [] text) (λ w. Then (ReadsAutomaton input) (λ A. Then (RunsOn A w) (λ P r. r ≡ Ok (run_text P))))
+Prints (Picture file) input = Then (ReadsAutomaton input) (λ A r. r ≡ Ok (dot_text A))
+Prints (Run text file) input = Then (ReadsWord stated_limits [] text) (λ w. Then (ReadsAutomaton input) (λ A. Then (RunsOn A w) (λ P r. r ≡ Ok (run_text P))))
 Prints (Timeline text None) input = Then (ReadsWord stated_limits [] text) (λ w r. r ≡ Ok (word_timeline w))
 Prints (Timeline text (Some formula)) input = Then (ReadsFormula stated_limits formula) (λ R. Then (ReadsWord stated_limits R.names text) (λ w. ShowsTruth R w))
 
@@ -69,14 +70,18 @@ IsCutOff request input seen =
 abbrev pub MayDraw : Result Request PlanFault → Input → Seen → Type 0
 MayDraw request input seen = ((a : Answer) × DrawAnswers request input a × IsGiven seen a) ⊎ IsGiven seen (draw_refused spec.OutOfMemory) ⊎ IsCutOff request input seen
 
+-- the same for some input that the automaton's file or the standard input may give
+abbrev pub PlanMayDraw : (Text → Input → Type 0) → (Input → Type 0) → Result Request PlanFault → Seen → Type 0
+PlanMayDraw Stands Comes request seen = (input : Input) × IsBehind Stands Comes (automaton_file request) input × MayDraw request input seen
+
 -- the same for a command line, or for the lack of one
-abbrev pub WordsMayDraw : Result (List Text) PlanFault → Seen → Type 0
-WordsMayDraw words seen = (request : Result Request PlanFault) × PlansFor words request × (input : Input) × MayDraw request input seen
+abbrev pub WordsMayDraw : (Text → Input → Type 0) → (Input → Type 0) → Result (List Text) PlanFault → Seen → Type 0
+WordsMayDraw Stands Comes words seen = (request : Result Request PlanFault) × PlansFor words request × PlanMayDraw Stands Comes request seen
 
 -- only drawings read the input
 abbrev pub NeedsNoInput : Result Request PlanFault → Type 0
-NeedsNoInput (Ok Picture) = ⊥
-NeedsNoInput (Ok (Run text)) = ⊥
+NeedsNoInput (Ok (Picture file)) = ⊥
+NeedsNoInput (Ok (Run text file)) = ⊥
 NeedsNoInput request = ⊤
 
 -- ---- before the message

@@ -19,14 +19,15 @@ fn value<'a>(alloc: Global, id: &'a str, short: char) -> Arg<'a>
     Arg::new(alloc, id).short(short).action(ArgAction::Set)
 }
 
-/// The command: `-w`, `-t` and `-f`, each with a value.
+/// The command: `-w`, `-t`, `-f` and `-A`, each with a value.
 fn command<'a>(alloc: Global) -> Result<Command<'a>, AllocError>
     ensures { IfOk result (λ c. app_of c ≡ draw_app) }
 {
     Command::new(alloc, "ltldraw")
         .arg(value(alloc, "w", 'w'))?
         .arg(value(alloc, "t", 't'))?
-        .arg(value(alloc, "f", 'f'))
+        .arg(value(alloc, "f", 'f'))?
+        .arg(value(alloc, "A", 'A'))
 }
 
 /// The values of the options. Words that don't fit are usage errors.
@@ -43,19 +44,21 @@ fn matched<'a>(alloc: Global, words: &'a [&'a str]) -> Result<ArgMatches<'a>, Pl
     }
 }
 
-/// The plan for the values of `-w`, `-t` and `-f`. `-w` together with another option, and `-f` without `-t`, mean nothing: the result is `None`.
+/// The plan for the values of `-w`, `-t`, `-f` and `-A`. `-t` together with `-w` or `-A`, and `-f` without `-t`, mean nothing: the result is `None`.
 fn one_plan<'a>(
     run: Option<&'a str>,
     word: Option<&'a str>,
     formula: Option<&'a str>,
+    file: Option<&'a str>,
 ) -> Option<Plan<'a>>
     ensures { option_map request_in result
-        ≡ request_for (option_map (λ s. s.now) run.entry) (option_map (λ s. s.now) word.entry) (option_map (λ s. s.now) formula.entry) }
+        ≡ request_for (option_map (λ s. s.now) run.entry) (option_map (λ s. s.now) word.entry) (option_map (λ s. s.now) formula.entry)
+        (option_map (λ s. s.now) file.entry) }
 {
-    match (run, word, formula) {
-        (Some(run), None, None) => Some(Plan::Run(run)),
-        (None, Some(word), formula) => Some(Plan::Timeline(word, formula)),
-        (None, None, None) => Some(Plan::Picture),
+    match (run, word, formula, file) {
+        (Some(run), None, None, file) => Some(Plan::Run(run, file)),
+        (None, Some(word), formula, None) => Some(Plan::Timeline(word, formula)),
+        (None, None, None, file) => Some(Plan::Picture(file)),
         _ => None,
     }
 }
@@ -68,6 +71,7 @@ fn planned<'a>(matches: &ArgMatches<'a>) -> Option<Plan<'a>>
         matches.get_str("w"),
         matches.get_str("t"),
         matches.get_str("f"),
+        matches.get_str("A"),
     )
 }
 

@@ -1,11 +1,11 @@
 //! The program over byte streams: from an automaton's text to its drawing, or a timeline.
 
-ghost use Rattle.std.specs.Prelude.{◌≡◌, OnOk, OnErr, Ok};
+ghost use Rattle.std.specs.Prelude.{◌≡◌, ℕ, List, Option, OnOk, OnErr, Ok};
 ghost use Rattle.ltl_spec.specs.Tools.Stage.{Open};
 ghost use Rattle.ltl_spec.specs.Tools.Outcome as spec;
 ghost use Rattle.ltl_streams.specs.Streams.{Breaks};
 ghost use Rattle.ltl_cli.specs.Checks.{ReadsAutomaton};
-ghost use Rattle.ltl_cli.specs.Inputs.{WasStream, most_of_automaton};
+ghost use Rattle.ltl_cli.specs.Inputs.{IsOpen, WasAutomaton};
 ghost use Rattle.ltl_cli.specs.Refusals.{TakesStep};
 ghost use Rattle.ltl_cli.specs.Runs.{Finishes, Shows, StaysAt};
 ghost use Rattle.ltl_pictures.specs.DotText.{dot_text};
@@ -16,33 +16,38 @@ use crate::finish::finish;
 use crate::request::Plan;
 use crate::run_picture::run_shown;
 use crate::timeline::shown;
-use ltl_cli::Refusal;
+use ltl_cli::{Refusal, Source};
 use ltl_hoa::{Marked, hoa_read_from};
 use ltl_pictures::Drawing;
 use ltl_streams::{ByteSink, ByteSource, WriteFault};
 use ltl_words::PlanFault;
 use std::alloc::Allocator;
 
-/// Reads an automaton from the source.
+/// Reads an automaton from the source. `Source::Text` holds no automaton; it counts as a file that couldn't be opened.
 pub(crate) fn automaton_of<'a, A: Allocator, R: ByteSource>(
     alloc: &'a A,
-    source: &mut R,
+    source: &mut Source<R>,
 ) -> Result<Marked<'a, A>, Refusal>
-    requires { (R.state source.old).stage ≡ Open }
-    ensures { (input : spec.Input) × WasStream most_of_automaton (R.state source.old) (R.state source.new) input
+    requires { IsOpen R.state source.old }
+    ensures { (input : spec.Input) × WasAutomaton R.state source.old source.new input
         × TakesStep (ReadsAutomaton input) (λ A. A) result }
 {
-    let automaton = hoa_read_from(alloc, source)?;
-    Ok(automaton)
+    match source {
+        Source::Input(reader) => {
+            let automaton = hoa_read_from(alloc, reader)?;
+            Ok(automaton)
+        }
+        Source::Text | Source::NotOpened => Err(Refusal::CannotOpen),
+    }
 }
 
 /// Reads an automaton from the source, and prepares its drawing.
 fn drawing_of<'a, A: Allocator, R: ByteSource>(
     alloc: &'a A,
-    source: &mut R,
+    source: &mut Source<R>,
 ) -> Result<Drawing<'a, A>, Refusal>
-    requires { (R.state source.old).stage ≡ Open }
-    ensures { (input : spec.Input) × WasStream most_of_automaton (R.state source.old) (R.state source.new) input
+    requires { IsOpen R.state source.old }
+    ensures { (input : spec.Input) × WasAutomaton R.state source.old source.new input
         × TakesStep (ReadsAutomaton input) (λ A. A) result }
 {
     let automaton = automaton_of(alloc, source)?;
@@ -65,13 +70,13 @@ fn print<A: Allocator, S: ByteSink>(
 /// Reads an automaton from the source, and writes its drawing.
 fn printed<A: Allocator, R: ByteSource, S: ByteSink>(
     alloc: &A,
-    source: &mut R,
+    source: &mut Source<R>,
     output: &mut S,
 ) -> Result<(), Refusal>
-    requires source { (R.state source.old).stage ≡ Open }
+    requires source { IsOpen R.state source.old }
     requires output { (S.state output.old).stage ≡ Open }
-    ensures { (input : spec.Input) × WasStream most_of_automaton (R.state source.old) (R.state source.new) input
-        × IsOutcome (Ok Picture) input (S.state output.old) (S.state output.new) result }
+    ensures { (input : spec.Input) × WasAutomaton R.state source.old source.new input
+        × ((file : Option (List ℕ)) → IsOutcome (Ok (Picture file)) input (S.state output.old) (S.state output.new) result) }
 {
     let drawing = drawing_of(alloc, source)?;
     let printed = print(&drawing, output);
@@ -84,18 +89,18 @@ fn printed<A: Allocator, R: ByteSource, S: ByteSink>(
 fn asked<A: Allocator, R: ByteSource, S: ByteSink>(
     alloc: &A,
     plan: &Plan<'_>,
-    source: &mut R,
+    source: &mut Source<R>,
     output: &mut S,
 ) -> Result<(), Refusal>
-    requires source { (R.state source.old).stage ≡ Open }
+    requires source { IsOpen R.state source.old }
     requires output { (S.state output.old).stage ≡ Open }
-    ensures shown { (input : spec.Input) × WasStream most_of_automaton (R.state source.old) (R.state source.new) input
+    ensures shown { (input : spec.Input) × WasAutomaton R.state source.old source.new input
         × IsOutcome (Ok (request_in plan.now)) input (S.state output.old) (S.state output.new) result }
     ensures unread { NeedsNoInput (Ok (request_in plan.now)) → source.new ≡ source.old }
 {
     match plan {
-        Plan::Picture => printed(alloc, source, output),
-        Plan::Run(text) => run_shown(alloc, *text, source, output),
+        Plan::Picture(_) => printed(alloc, source, output),
+        Plan::Run(text, _) => run_shown(alloc, *text, source, output),
         Plan::Timeline(text, formula) => shown(alloc, *text, *formula, output),
     }
 }
@@ -104,12 +109,12 @@ fn asked<A: Allocator, R: ByteSource, S: ByteSink>(
 fn answered<A: Allocator, R: ByteSource, S: ByteSink>(
     alloc: &A,
     plan: &Result<Plan<'_>, PlanFault>,
-    source: &mut R,
+    source: &mut Source<R>,
     output: &mut S,
 ) -> Result<(), Refusal>
-    requires source { (R.state source.old).stage ≡ Open }
+    requires source { IsOpen R.state source.old }
     requires output { (S.state output.old).stage ≡ Open }
-    ensures shown { (input : spec.Input) × WasStream most_of_automaton (R.state source.old) (R.state source.new) input
+    ensures shown { (input : spec.Input) × WasAutomaton R.state source.old source.new input
         × IsOutcome (requested plan.now) input (S.state output.old) (S.state output.new) result }
     ensures unread { NeedsNoInput (requested plan.now) → source.new ≡ source.old }
 {
@@ -119,20 +124,21 @@ fn answered<A: Allocator, R: ByteSource, S: ByteSink>(
     }
 }
 
-/// Carries out a plan and returns the exit status. It writes the drawing of the automaton that the source holds, or the timeline of a word, and flushes the
+/// Carries out a plan and returns the exit status. It writes the drawing of the automaton that the source gives, which is that of the plan's file or the standard
+/// input, or the timeline of a word, and flushes the
 /// output; or it writes the message of a refusal. Only a drawing reads the source. Only a refusal because of a failed write leaves something in the output. A
 /// stream isn't used again after one of its calls has failed.
 pub fn draw_over<A: Allocator, R: ByteSource, S: ByteSink, M: ByteSink>(
     alloc: &A,
     plan: &Result<Plan<'_>, PlanFault>,
-    source: &mut R,
+    source: &mut Source<R>,
     output: &mut S,
     message: &mut M,
 ) -> u8
-    requires source { (R.state source.old).stage ≡ Open }
+    requires source { IsOpen R.state source.old }
     requires output { (S.state output.old).stage ≡ Open }
     requires message { (M.state message.old).stage ≡ Open }
-    ensures shown { (input : spec.Input) × WasStream most_of_automaton (R.state source.old) (R.state source.new) input
+    ensures shown { (input : spec.Input) × WasAutomaton R.state source.old source.new input
         × Shows (MayDraw (requested plan.now) input) (S.state output.old) (S.state output.new) (M.state message.old) (M.state message.new) result }
     ensures unread { NeedsNoInput (requested plan.now) → source.new ≡ source.old }
     ensures same_output { StaysAt (S.state output.old) (S.state output.new) }

@@ -1,7 +1,7 @@
 //! The program `ltldraw` over byte streams: an automaton as a drawing, or a word as a timeline.
 //!
-//! `plan` parses a command line into a `Plan`. For a drawing, `draw_over` reads an automaton from its source and writes its graph; with `-w`, an accepting
-//! run on a word is in colour. For a timeline (`timeline`), the command line has the text of a word and, with `-f`, that of a formula. Each step returns a
+//! `draw_words` is the whole program, from the words of its command line to its exit status, over any files, output and message. `plan` parses a command line
+//! into a `Plan`. For a drawing, `draw_over` reads an automaton from its source and writes its graph; with `-w`, an accepting run on a word is in red. For a timeline (`timeline`), the command line has the text of a word and, with `-f`, that of a formula. Each step returns a
 //! value, or a refusal with the exit status that `ltlcheck` and `ltleval` have for it. The message of a refusal (`message`) begins with the program's name.
 //! Nothing is written before the drawing is complete in memory, or before all memory for the timeline has been allocated.
 //!
@@ -16,6 +16,7 @@ pub mod draw;
 mod finish;
 mod message;
 pub mod process;
+pub mod program;
 pub mod request;
 mod run_picture;
 mod timeline;
@@ -23,4 +24,5 @@ mod timeline;
 pub use command::plan;
 pub use draw::draw_over;
 pub use process::run;
+pub use program::draw_words;
 pub use request::Plan;

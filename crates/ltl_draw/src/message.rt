@@ -18,7 +18,7 @@ fn put_text<M: ByteSink>(refusal: Refusal, message: &mut M) -> Result<(), WriteF
     match refusal {
         Refusal::Usage => write_whole(
             message,
-            b"usage: ltldraw [-w lasso | -t lasso [-f formula]]",
+            b"usage: ltldraw [-A file] [-w lasso] | -t lasso [-f formula]",
         ),
         _ => ltl_cli::put_text(Tool::Checker, refusal, message),
     }

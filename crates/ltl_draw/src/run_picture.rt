@@ -1,10 +1,10 @@
 //! The drawing of an automaton with an accepting run on a word.
 
-ghost use Rattle.std.specs.Prelude.{◌≡◌, OnOk, OnErr, Ok};
+ghost use Rattle.std.specs.Prelude.{◌≡◌, ℕ, List, Option, OnOk, OnErr, Ok};
 ghost use Rattle.ltl_spec.specs.Tools.Stage.{Open};
 ghost use Rattle.ltl_spec.specs.Tools.Outcome as spec;
 ghost use Rattle.ltl_streams.specs.Streams.{Breaks};
-ghost use Rattle.ltl_cli.specs.Inputs.{WasStream, most_of_automaton};
+ghost use Rattle.ltl_cli.specs.Inputs.{IsOpen, WasAutomaton};
 ghost use Rattle.ltl_cli.specs.Refusals.{TakesStep};
 ghost use Rattle.ltl_cli.specs.Runs.{Finishes};
 ghost use Rattle.ltl_pictures.specs.RunText.{run_text};
@@ -13,7 +13,7 @@ ghost use Rattle.ltl_draw.specs.Runs.{IsOutcome, RunsOn, of_run};
 
 use crate::draw::automaton_of;
 use crate::timeline::word_alone;
-use ltl_cli::Refusal;
+use ltl_cli::{Refusal, Source};
 use ltl_hoa::Marked;
 use ltl_pictures::{RunDrawing, RunFault, accepting_run};
 use ltl_streams::{ByteSink, ByteSource, WriteFault};
@@ -63,13 +63,13 @@ fn print<A: Allocator, S: ByteSink>(
 pub(crate) fn run_shown<A: Allocator, R: ByteSource, S: ByteSink>(
     alloc: &A,
     text: &str,
-    source: &mut R,
+    source: &mut Source<R>,
     output: &mut S,
 ) -> Result<(), Refusal>
-    requires source { (R.state source.old).stage ≡ Open }
+    requires source { IsOpen R.state source.old }
     requires output { (S.state output.old).stage ≡ Open }
-    ensures { (input : spec.Input) × WasStream most_of_automaton (R.state source.old) (R.state source.new) input
-        × IsOutcome (Ok (Run text.now)) input (S.state output.old) (S.state output.new) result }
+    ensures { (input : spec.Input) × WasAutomaton R.state source.old source.new input
+        × ((file : Option (List ℕ)) → IsOutcome (Ok (Run text.now file)) input (S.state output.old) (S.state output.new) result) }
 {
     let word = word_alone(alloc, text)?;
     let automaton = automaton_of(alloc, source)?;

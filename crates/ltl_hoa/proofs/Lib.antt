@@ -8,6 +8,7 @@ pub mod StreamReaderLaws
 pub mod MarkedLaws
 pub mod MarksLaws
 pub mod NameLaws
+pub mod NamesReaderLaws
 pub mod ParserLaws
 pub mod PrintedLaws
 pub mod PrintedTokens

@@ -3,6 +3,8 @@ pub mod HeaderView
 pub mod LexerView
 pub mod StreamReaderView
 pub mod MarkedView
+pub mod NamingView
+pub mod NamesReaderView
 pub mod MarksAgain
 pub mod MarksView
 pub mod NumberView

@@ -13,9 +13,9 @@
 //! HOA: v1
 //! States: 1 Start: 0 AP: 2 "p" "q"
 //! Acceptance: 1 Inf(0)
-//! BODY--
+//! --BODY--
 //! State: 0 [0|!1] 0 {0} [!0&1] 0
-//! END--
+//! --END--
 //! ```
 //!
 //! This is read as one state with three edges to itself: `p` and `!q`, which are in set 0, and `!p && q`, which is in none. It accepts the words on
@@ -31,6 +31,8 @@ mod lexer;
 pub mod marked;
 pub mod marks;
 mod names;
+mod names_reader;
+pub mod naming;
 mod number;
 mod parser;
 mod place;
@@ -41,4 +43,6 @@ mod token;
 pub use fault::{HoaFault, HoaFaultKind};
 pub use marked::{Marked, MarkedEdge};
 pub use marks::Marks;
+pub use names_reader::hoa_names;
+pub use naming::HoaNames;
 pub use read::{hoa_read, hoa_read_from};

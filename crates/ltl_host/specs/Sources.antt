@@ -7,11 +7,7 @@ use Rattle.ltl_streams.specs.declared.stage.Stage.TheVariants.{Open}
 use Rattle.ltl_cli.specs.declared.source.Source.{Source}
 use Rattle.ltl_cli.specs.declared.source.Source.TheVariants as source
 
--- any input may come from the standard input, or stand behind a name
-
-abbrev pub Anything : Input → Type 0
-Anything input = ⊤
-
+-- any input may stand behind a name
 abbrev pub AnythingBehind : List ℕ → Input → Type 0
 AnythingBehind name input = ⊤
 

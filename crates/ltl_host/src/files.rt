@@ -1,5 +1,6 @@
 //! The files and the standard input of a runtime.
 
+ghost use Rattle.std.specs.Prelude.{◌≡◌};
 ghost use Rattle.ltl_host.specs.Sources.{IsOpenedAs};
 
 use ltl_cli::Source;
@@ -18,7 +19,9 @@ pub struct HostFiles<'r, R, I> {
 
 impl<'r, R, I> HostFiles<'r, R, I> {
     /// Makes the value. Nothing is opened or read yet.
-    pub fn new(rt: &'r R, input: I) -> HostFiles<'r, R, I> {
+    pub fn new(rt: &'r R, input: I) -> HostFiles<'r, R, I>
+        ensures { result.input ≡ input }
+    {
         HostFiles { rt, input }
     }
 }
@@ -38,11 +41,12 @@ impl<R: Files, I: Read + Copy + Drop> ltl_cli::Files for HostFiles<'_, R, I> {
 
     type Input = ReaderSource<I>;
 
-    ghost use Rattle.ltl_host.specs.Sources.{Anything, AnythingBehind};
+    ghost use Rattle.ltl_host.specs.Sources.{AnythingBehind};
+    ghost use Rattle.ltl_cli.specs.Inputs.{IsStream};
 
     ghost Stands = { λ _ name input. AnythingBehind name input };
 
-    ghost Comes = { λ _ input. Anything input };
+    ghost Comes = { λ h given. IsStream (I.remaining h.input) given };
 
     fn open(&self, name: &str) -> Source<ReaderSource<R::File>> {
         opened(File::open(self.rt, name))

@@ -23,7 +23,8 @@ ghost use Rattle.ltl_words.specs.Tools.{tool_of};
 ghost use Rattle.ltl_cli.specs.Runs.{Shows, ShowsBytes, StaysAt};
 ghost use Rattle.ltl_cli.specs.Headline.{WordsMayShow};
 ghost use Rattle.ltl_host.specs.Given.{HandsOver, fault_for};
-ghost use Rattle.ltl_host.specs.Sources.{Anything, AnythingBehind};
+ghost use Rattle.ltl_cli.specs.Inputs.{IsStream};
+ghost use Rattle.ltl_host.specs.Sources.{AnythingBehind};
 
 pub use files::{HostFiles, opened};
 use ltl_streams::{ByteSink, WriterSink};
@@ -110,7 +111,7 @@ where
     M: ByteSink,
     requires output { (S.state output.old).stage ≡ Open }
     requires message { (M.state message.old).stage ≡ Open }
-    ensures shown { (words : Result (List (List ℕ)) cli.PlanFault) × Shows (WordsMayShow AnythingBehind Anything (tool_of tool) words)
+    ensures shown { (words : Result (List (List ℕ)) cli.PlanFault) × Shows (WordsMayShow AnythingBehind (IsStream (I.remaining input)) (tool_of tool) words)
         (S.state output.old) (S.state output.new) (M.state message.old) (M.state message.new) result }
     ensures same_output { StaysAt (S.state output.old) (S.state output.new) }
     ensures same_message { StaysAt (M.state message.old) (M.state message.new) }
@@ -142,7 +143,7 @@ where
     I: Read + Copy + Drop,
     W: Write,
     E: Write,
-    ensures { (words : Result (List (List ℕ)) cli.PlanFault) × ShowsBytes (WordsMayShow AnythingBehind Anything (tool_of tool) words)
+    ensures { (words : Result (List (List ℕ)) cli.PlanFault) × ShowsBytes (WordsMayShow AnythingBehind (IsStream (I.remaining input)) (tool_of tool) words)
         (W.contents output.old) (W.contents output.new) (E.contents message.old) (E.contents message.new) result }
 {
     run_over(

@@ -7,7 +7,7 @@ use std::marker::Model;
 pub struct Options {
     /// Transitions that another one subsumes are kept.
     pub keep_implied: bool,
-    /// States that are equivalent to another one are kept: no quotient is made.
+    /// States with the same edges as another one are kept: no states are merged.
     pub keep_equal: bool,
 }
 

@@ -1,4 +1,4 @@
--- Partition refinement: states with one signature are one class, which has the name of its least state.
+-- Classes of states: states with one signature are one class, which has the name of its least state.
 use Rattle.std.specs.Prelude.{◌≡◌, ℕ, ◌<◌, ◌≤◌, Bool, true, if◌then◌else◌, List, [], length, map, slice_index, slice_index_or, slice_get, Some, All, ◌==◌}
 use Rattle.std.specs.Ordering.{nat_cmp}
 use Rattle.ltl_spec.specs.Collections.Sets.{set_of}

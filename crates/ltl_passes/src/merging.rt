@@ -1,4 +1,4 @@
-//! The quotient of an automaton by bisimilarity: equivalent states are merged.
+//! Merging of states with equal edges: the quotient of an automaton by the classes of the last round.
 
 ghost use Rattle.std.specs.Prelude.{◌≡◌, if◌then◌else◌, length, IfOk, IfErr};
 ghost use Rattle.ltl_spec.specs.Construction.Merging as merging;
@@ -74,8 +74,8 @@ fn merged_states<'a, A: Allocator>(
     })
 }
 
-/// The generalized automaton with equivalent states merged and without the transitions that another one with the same target implies. Each option turns one
-/// of these two simplifications off. The only fault is `OutOfMemory`.
+/// The generalized automaton with states of equal edges merged, round by round until nothing changes, and then without the transitions that another one with
+/// the same target implies. Each option turns one of these two simplifications off. The only fault is `OutOfMemory`.
 pub fn merge<'a, A: Allocator>(
     alloc: &'a A,
     gba: &Gba<'_, A>,
@@ -89,8 +89,8 @@ pub fn merge<'a, A: Allocator>(
     Ok(Gba::new(small))
 }
 
-/// The Büchi automaton with equivalent states merged and without the edges that another one with the same target implies. Each option turns one of these two
-/// simplifications off. The only fault is `OutOfMemory`.
+/// The Büchi automaton with states of equal edges merged, round by round until nothing changes, and then without the edges that another one with the same
+/// target implies. Each option turns one of these two simplifications off. The only fault is `OutOfMemory`.
 pub fn merge_ba<'a, A: Allocator>(
     alloc: &'a A,
     ba: &Ba<'_, A>,

@@ -1,4 +1,4 @@
-//! Partition refinement by signatures: the coarsest partition whose classes hold bisimilar states.
+//! The classes of states with equal edges up to classes, found by rounds that begin with each state as a class of its own.
 
 ghost use Rattle.std.specs.Prelude.{◌≡◌, ◌<◌, List, ◌++◌, length, map, slice_get, slice_index, Some, All, IfOk, OnOk};
 ghost use Rattle.std.specs.List.{range_with_len};
@@ -192,8 +192,8 @@ fn refined<'a, A: Allocator>(
     Ok(names)
 }
 
-/// For each state the name of its class, which is the least state of the class. Two states are in one class if both or neither is accepting and their edges
-/// are equal up to the classes of the targets.
+/// For each state the name of its class, which is the least state of the class. At first each state is a class. In the next round two states are in one class
+/// if both or neither is accepting and their edges are equal up to the classes of the targets, until nothing changes.
 pub(crate) fn class_names<'a, A: Allocator>(
     alloc: &'a A,
     states: &SharedStates<'_, CodedEdge, A>,

@@ -1,8 +1,8 @@
 -- The arrows of a state from the places of its edges.
 use Rattle.std.proofs.Common.{◌≡◌, ◌∙◌, ap, ap₂, sym, refl, subst, ℕ, suc, ◌+◌, ◌<◌, ◌≤◌, Bool, cond, List, [], ◌∷◌, ◌++◌, length, map, append_assoc, arith, take, drop, length-drop}
-use Rattle.std.specs.Prelude.{◌==◌, codes}
+use Rattle.std.specs.Prelude.{codes}
 use Rattle.std.specs.Fmt.{decimal}
-use Rattle.std.specs.List.{All, filter, flat_map, range_with_len, prefix_len}
+use Rattle.std.specs.List.{All, filter, flat_map, list_any, range_with_len, prefix_len}
 use Rattle.std.specs.Ordering.{nat_cmp}
 use Rattle.std.proofs.lemmas.List.Elements.{All-drop}
 use Rattle.std.proofs.lemmas.Simd.{pick_l_whole}
@@ -17,15 +17,15 @@ use Rattle.ltl_spec.specs.Automata.Automaton.{Edge}
 use Rattle.ltl_models.specs.BaView.{IsTargetOrder, target_at}
 use Rattle.ltl_sets.specs.PlaceLaws.{IsRising-range, Has-range}
 use Rattle.ltl_text.specs.Options.{edge_at}
-use Rattle.ltl_text.proofs.OptionLaws.{at_target, entries, entries_step, filter-map, flat_map_same, place_cmp, range_below, rise_alone, rising_step, same_test, test_same}
+use Rattle.ltl_text.proofs.OptionLaws.{at_target, entries, entries_step, flat_map_same, place_cmp, range_below, rise_alone, rising_step, same_test, test_same}
 use Rattle.ltl_pictures.specs.Picture.{arrow_to, arrows}
-use Rattle.ltl_pictures.specs.DotText.{arrow_end, arrow_text, edge_text}
-use Rattle.ltl_pictures.specs.Pieces.{front_text, lines_text, placed_text}
+use Rattle.ltl_pictures.specs.DotText.{arrow_text, is_broken, label_end, label_start, or_text}
+use Rattle.ltl_pictures.specs.Pieces.{front_text, parts_text, place_text}
 use Rattle.ltl_pictures.proofs.PutLaws.{flat_mapped}
 
-map_twice : {X Y Z : Type 0} (f : Y → Z) (g : X → Y) (xs : List X) → map f (map g xs) ≡ map (λ x. f (g x)) xs
-map_twice f g [] = refl
-map_twice f g (x ∷ xs) = ap (λ t. f (g x) ∷ t) (map_twice f g xs)
+-- the arrow to a target, with the edges at these places
+abbrev pub placed_text : List Name → Bool → (ℕ → Bool) → List Edge → ℕ → ℕ → List ℕ → List ℕ
+placed_text names shown taken es k t ps = arrow_text names shown taken es (record { from = k; to = t; places = ps })
 
 module _ (es : List Edge) (ps : List ℕ) (o : IsTargetOrder es ps) where
   abbrev all_places : List ℕ
@@ -48,13 +48,6 @@ module _ (es : List Edge) (ps : List ℕ) (o : IsTargetOrder es ps) where
   all_edges : map (edge_at es) all_places ≡ es
   all_edges = pick_l_whole (record { cube = []; target = 0; marks = [] }) es (length es) refl
 
-  same_lines : (text : Edge → List ℕ) (t : ℕ) → map (λ p. text (edge_at es p)) (filter (at_target (target_at es) t) ps) ≡ map text (filter (λ e. e.target == t) es)
-  same_lines text t =
-      ap (map (λ p. text (edge_at es p))) (same_places t)
-      ∙ sym (map_twice text (edge_at es) (filter (at_target (target_at es) t) all_places))
-      ∙ ap (map text) (sym (filter-map (λ (e : Edge). e.target == t) (edge_at es) all_places))
-      ∙ ap (λ l. map text (filter (λ (e : Edge). e.target == t) l)) all_edges
-
   same_targets : set_of nat_cmp (map (target_at es) ps) ≡ set_of nat_cmp (map (λ e. e.target) es)
   same_targets =
       same_members nat_linear (set_of nat_cmp (map (target_at es) ps)) (set_of nat_cmp (map (λ (e : Edge). e.target) es))
@@ -76,38 +69,25 @@ module _ (es : List Edge) (ps : List ℕ) (o : IsTargetOrder es ps) where
           (Has-map (target_at es) ps k.0 (o.whole k.0 (let lt = range_below 0 (length es) k.0 k.1 in omega (arith, lt)))))
 
   -- the entries of the places are the arrows
-  module _ (names : List Name) (shown colour : Bool) (k : ℕ) where
-    arrow_is : (t : ℕ) → placed_text names shown colour k es t (filter (at_target (target_at es) t) ps) ≡ arrow_text names shown colour (arrow_to k es t)
-    arrow_is t =
-        ap (λ ls. front_text k t ++ (joined_by (codes "\\n") ls ++ arrow_end colour)) (same_lines (edge_text names shown) t)
-        ∙ regroup (codes "  ") (decimal k) (codes " -> ") (decimal t) (codes " [label=\"") (joined_by (codes "\\n") (map (edge_text names shown) (filter (λ (e : Edge). e.target == t) es))) (arrow_end colour)
-      where
-        regroup : (a b c d e f g : List ℕ) → (a ++ (b ++ (c ++ (d ++ e)))) ++ (f ++ g) ≡ (((((a ++ b) ++ c) ++ d) ++ e) ++ f) ++ g
-        regroup a b c d e f g = simp append_assoc
-
-    pub entries_whole : entries (target_at es) (placed_text names shown colour k es) ps ≡ flat_map (arrow_text names shown colour) (arrows k es)
-    entries_whole =
-        ap (flat_map (λ t. placed_text names shown colour k es t (filter (at_target (target_at es) t) ps))) same_targets
-        ∙ flat_map_same (λ t. placed_text names shown colour k es t (filter (at_target (target_at es) t) ps)) (λ t. arrow_text names shown colour (arrow_to k es t)) (set_of nat_cmp (map (λ (x : Edge). x.target) es)) (λ t h. arrow_is t)
-        ∙ sym (flat_mapped (arrow_text names shown colour) (arrow_to k es) (set_of nat_cmp (map (λ (x : Edge). x.target) es)))
+  pub entries_whole : (names : List Name) (shown : Bool) (taken : ℕ → Bool) (k : ℕ) → entries (target_at es) (placed_text names shown taken es k) ps ≡ flat_map (arrow_text names shown taken es) (arrows k es)
+  entries_whole names shown taken k =
+      ap (flat_map (λ t. placed_text names shown taken es k t (filter (at_target (target_at es) t) ps))) same_targets
+      ∙ flat_map_same (λ t. placed_text names shown taken es k t (filter (at_target (target_at es) t) ps)) (λ t. arrow_text names shown taken es (arrow_to k es t)) (set_of nat_cmp (map (λ (x : Edge). x.target) es)) (λ t h. ap (placed_text names shown taken es k t) (same_places t))
+      ∙ sym (flat_mapped (arrow_text names shown taken es) (arrow_to k es) (set_of nat_cmp (map (λ (x : Edge). x.target) es)))
 
 -- ---- the first arrow, and the others
-module _ (names : List Name) (shown colour : Bool) (k : ℕ) (es : List Edge) (p n t : ℕ) (tail rest group others : List ℕ) (e : rest ≡ p ∷ tail) (f : target_at es p ≡ t)
+module _ (names : List Name) (shown : Bool) (taken : ℕ → Bool) (k : ℕ) (es : List Edge) (p n t : ℕ) (tail rest group others : List ℕ) (e : rest ≡ p ∷ tail) (f : target_at es p ≡ t)
     (is : n ≡ prefix_len (at_target (target_at es) t) rest) (rising : IsRising (place_cmp (target_at es)) rest) (front : group ≡ take n rest) (back : others ≡ drop n rest) where
   abbrev pub what_is_left : List ℕ → List ℕ
-  what_is_left ps = entries (target_at es) (placed_text names shown colour k es) ps
+  what_is_left ps = entries (target_at es) (placed_text names shown taken es k) ps
 
-  pub arrows_step : what_is_left rest ≡ front_text k t ++ (lines_text names shown es group ++ (arrow_end colour ++ what_is_left others))
+  pub arrows_step : what_is_left rest ≡ placed_text names shown taken es k t group ++ what_is_left others
   arrows_step =
-      entries_step (target_at es) t (placed_text names shown colour k es) p n tail rest e f is rising
-      ∙ ap₂ (λ a b. placed_text names shown colour k es t a ++ what_is_left b) (sym front) (sym back)
-      ∙ regroup (front_text k t) (lines_text names shown es group) (arrow_end colour) (what_is_left others)
-    where
-      regroup : (a b c d : List ℕ) → (a ++ (b ++ c)) ++ d ≡ a ++ (b ++ (c ++ d))
-      regroup a b c d = simp append_assoc
+      entries_step (target_at es) t (placed_text names shown taken es k) p n tail rest e f is rising
+      ∙ ap₂ (λ a b. placed_text names shown taken es k t a ++ what_is_left b) (sym front) (sym back)
 
   pub arrows_rise : IsRising (place_cmp (target_at es)) others
-  arrows_rise = subst (IsRising (place_cmp (target_at es))) (sym back) (rising_step (target_at es) t (placed_text names shown colour k es) p n tail rest e f is rising)
+  arrows_rise = subst (IsRising (place_cmp (target_at es))) (sym back) (rising_step (target_at es) t (placed_text names shown taken es k) p n tail rest e f is rising)
 
   first_length : n ≡ 1 + prefix_len (at_target (target_at es) t) tail
   first_length = is ∙ ap (prefix_len (at_target (target_at es) t)) e ∙ ap (λ (b : Bool). cond b (1 + prefix_len (at_target (target_at es) t) tail) 0) (same_test (target_at es p) t f)
@@ -117,3 +97,20 @@ module _ (names : List Name) (shown colour : Bool) (k : ℕ) (es : List Edge) (p
 
   pub arrows_within : (P : ℕ → Type 0) → All P rest → All P others
   arrows_within P h = subst (All P) (sym back) (All-drop P n rest h)
+
+-- ---- an arrow
+module _ (names : List Name) (shown : Bool) (taken : ℕ → Bool) (es : List Edge) (from to : ℕ) (ps : List ℕ) where
+  -- the arrow with a label of this kind
+  abbrev styled : Bool → Bool → List ℕ
+  styled red broken =
+      codes "  " ++ decimal from ++ codes " -> " ++ decimal to ++ label_start red ++ joined_by (or_text broken red) (map (place_text names shown taken es red) ps) ++ label_end red
+
+  pub arrow_pieces : (red broken : Bool) (between end : List ℕ) → red ≡ list_any taken ps → broken ≡ is_broken es ps → between ≡ or_text broken red → end ≡ label_end red
+      → placed_text names shown taken es from to ps ≡ front_text from to red ++ (parts_text names shown taken es red between ps ++ end)
+  arrow_pieces red broken between end r b t e =
+      ap₂ styled (sym r) (sym b)
+      ∙ regroup (codes "  ") (decimal from) (codes " -> ") (decimal to) (label_start red) (joined_by (or_text broken red) (map (place_text names shown taken es red) ps)) (label_end red)
+      ∙ ap₂ (λ x y. front_text from to red ++ (parts_text names shown taken es red x ps ++ y)) (sym t) (sym e)
+    where
+      regroup : (a b c d e f g : List ℕ) → (((((a ++ b) ++ c) ++ d) ++ e) ++ f) ++ g ≡ (a ++ (b ++ (c ++ (d ++ e)))) ++ (f ++ g)
+      regroup a b c d e f g = simp append_assoc

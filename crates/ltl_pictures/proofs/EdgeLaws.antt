@@ -1,6 +1,6 @@
 -- The edges of the code at their places.
-use Rattle.std.proofs.Common.{◌≡◌, ◌∙◌, ap, sym, subst, ℕ, ◌<◌, false, List, [], ◌∷◌, ◌++◌, length, map, slice_index_or, append_assoc, Bool}
-use Rattle.std.specs.Prelude.{◌==◌, codes}
+use Rattle.std.proofs.Common.{◌≡◌, ◌∙◌, ap, ap₂, sym, subst, ℕ, ◌<◌, false, List, [], ◌∷◌, ◌++◌, length, map, slice_index_or, append_assoc, Bool}
+use Rattle.std.specs.Prelude.{◌==◌}
 use Rattle.ltl_spec.specs.Semantics.Word.{Name}
 use Rattle.ltl_spec.specs.Transitions.Cubes.{Cube, Literal}
 use Rattle.ltl_spec.specs.Automata.Automaton as spec
@@ -16,8 +16,8 @@ use Rattle.ltl_text.proofs.BlockLaws.{unequal}
 use Rattle.ltl_text.proofs.TextLaws.{joined_led, led}
 use Rattle.ltl_pictures.specs.Drawn.{AreNamed}
 use Rattle.ltl_pictures.specs.Picture.{edges_at}
-use Rattle.ltl_pictures.specs.DotText.{edge_text}
-use Rattle.ltl_pictures.specs.Pieces.{lines_text}
+use Rattle.ltl_pictures.specs.DotText.{edge_text, part_text}
+use Rattle.ltl_pictures.specs.Pieces.{parts_text, place_text}
 
 there : (es : List MarkedEdge) (p : ℕ) (d : MarkedEdge) → p < length es → edge_at (map edge_of es) p ≡ edge_of (slice_index_or es p d)
 there es p d within = at_map edge_of es p d (record { cube = []; target = 0; marks = [] }) within
@@ -50,19 +50,19 @@ state_named A k n es marked lt e f =
     subst (λ m. AreNamed m es) (sym e) (subst (AreNamed (length A.names)) (sym f)
     (λ i d l. (marked.within k [] (subst (λ m. k < m) (sym marked.counted) lt) i d l).cube))
 
--- ---- the lines of an arrow
-module _ (names : List Name) (shown : Bool) (es : List spec.Edge) where
-  abbrev pub lines_of : List ℕ → List (List ℕ)
-  lines_of ps = map (λ p. edge_text names shown (edge_at es p)) ps
+-- ---- the parts of a label
+module _ (names : List Name) (shown : Bool) (taken : ℕ → Bool) (es : List spec.Edge) (red : Bool) (between : List ℕ) where
+  abbrev pub parts_of : List ℕ → List (List ℕ)
+  parts_of ps = map (place_text names shown taken es red) ps
 
-  pub lines_begin : (e : spec.Edge) (p : ℕ) (others places : List ℕ) → places ≡ p ∷ others → edge_at es p ≡ e
-      → lines_text names shown es places ≡ edge_text names shown e ++ led (codes "\\n") (lines_of others)
-  lines_begin e p others places f is =
-      ap (lines_text names shown es) f ∙ joined_led (codes "\\n") (edge_text names shown (edge_at es p)) (lines_of others)
-      ∙ ap (λ x. edge_text names shown x ++ led (codes "\\n") (lines_of others)) is
+  pub parts_begin : (e : spec.Edge) (flag : Bool) (p : ℕ) (others places : List ℕ) → places ≡ p ∷ others → edge_at es p ≡ e → flag ≡ taken p
+      → parts_text names shown taken es red between places ≡ part_text flag (edge_text names shown red e) ++ led between (parts_of others)
+  parts_begin e flag p others places f is t =
+      ap (parts_text names shown taken es red between) f ∙ joined_led between (place_text names shown taken es red p) (parts_of others)
+      ∙ ap₂ (λ (b : Bool) x. part_text b (edge_text names shown red x) ++ led between (parts_of others)) (sym t) is
 
-  pub lines_go_on : (e : spec.Edge) (p : ℕ) (ps rest : List ℕ) → rest ≡ p ∷ ps → edge_at es p ≡ e
-      → led (codes "\\n") (lines_of rest) ≡ codes "\\n" ++ (edge_text names shown e ++ led (codes "\\n") (lines_of ps))
-  lines_go_on e p ps rest f is =
-      ap (λ t. led (codes "\\n") (lines_of t)) f ∙ append_assoc (codes "\\n") (edge_text names shown (edge_at es p)) (led (codes "\\n") (lines_of ps))
-      ∙ ap (λ x. codes "\\n" ++ (edge_text names shown x ++ led (codes "\\n") (lines_of ps))) is
+  pub parts_go_on : (e : spec.Edge) (flag : Bool) (p : ℕ) (ps rest : List ℕ) → rest ≡ p ∷ ps → edge_at es p ≡ e → flag ≡ taken p
+      → led between (parts_of rest) ≡ between ++ (part_text flag (edge_text names shown red e) ++ led between (parts_of ps))
+  parts_go_on e flag p ps rest f is t =
+      ap (λ t. led between (parts_of t)) f ∙ append_assoc between (place_text names shown taken es red p) (led between (parts_of ps))
+      ∙ ap₂ (λ (b : Bool) x. between ++ (part_text b (edge_text names shown red x) ++ led between (parts_of ps))) (sym t) is

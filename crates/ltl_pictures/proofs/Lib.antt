@@ -1,6 +1,8 @@
+pub mod AcceptLaws
 pub mod ArrowLaws
 pub mod DrawnLaws
 pub mod EdgeLaws
+pub mod FlagLaws
 pub mod LetterLaws
 pub mod LineLaws
 pub mod NameLaws
@@ -9,7 +11,6 @@ pub mod PickLaws
 pub mod PrintLaws
 pub mod PutLaws
 pub mod RunLaws
-pub mod ShareLaws
 pub mod StepLaws
 pub mod TimelineLaws
 pub mod WalkLaws

@@ -1,5 +1,7 @@
 -- Texts that are made of numbered pieces, and how they go out.
-use Rattle.std.proofs.Common.{◌≡◌, ◌∙◌, ap, ap₂, refl, subst, ℕ, zero, suc, ◌+◌, ◌-◌, ◌<◌, ◌≤◌, arith, List, [], ◌++◌, append_assoc, length}
+use Rattle.std.proofs.Common.{◌≡◌, ◌∙◌, ap, ap₂, refl, subst, sym, ℕ, zero, suc, ◌+◌, ◌-◌, ◌<◌, ◌≤◌, arith, List, [], ◌∷◌, ◌++◌, append_assoc, length, reverse, slice_index_or}
+use Rattle.std.specs.Fmt.{decimal}
+use Rattle.std.proofs.lemmas.List.{get_or-reverse, length-reverse}
 use Rattle.std.specs.Prelude.{◌≢◌, ◌==◌, if◌then◌else◌, codes, replicate}
 use Rattle.ltl_streams.specs.Streams.{SinkState}
 use Rattle.ltl_pictures.specs.declared.printer.Printer.{Printer}
@@ -8,7 +10,8 @@ use Rattle.ltl_pictures.proofs.PrintLaws.{Lacks, lacks_end, lacks_step}
 use Rattle.std.proofs.lemmas.Bool.Decides.{nat_tests}
 use Rattle.ltl_spec.specs.Semantics.Word.{Lasso}
 use Rattle.ltl_word.specs.LassoView.{size}
-use Rattle.ltl_pictures.specs.Timeline.{column, line, padded, texts_from}
+use Rattle.ltl_pictures.specs.Timeline.{column, digit, line, padded, texts_from}
+use Rattle.ltl_pictures.proofs.FlagLaws.{any_default}
 
 -- what is left of n pieces from the i-th on begins with that one
 texts_go_on : (text : ℕ → List ℕ) (i n : ℕ) → i < n → texts_from text i (n - i) ≡ text i ++ texts_from text (i + 1) (n - (i + 1))
@@ -57,3 +60,20 @@ blanks_end at to l = let e : to - at ≡ zero = omega (arith, l) in ap (λ n. re
 pub line_pieces : (width : ℕ) (w : Lasso) (label : List ℕ) (character : ℕ → ℕ)
     → line width w label character ≡ padded width label ++ (texts_from (λ i. column (length w.stem) i (character i)) 0 (size w) ++ codes "\n")
 line_pieces width w label character = append_assoc (padded width label) (texts_from (λ i. column (length w.stem) i (character i)) 0 (size w)) (codes "\n")
+
+-- ---- digits
+
+blank_behind : (ds : List ℕ) (k : ℕ) → length ds ≤ k → slice_index_or ds k 32 ≡ 32
+blank_behind [] zero l = refl
+blank_behind [] (suc k) l = refl
+blank_behind (d ∷ ds) zero l = absurd (omega (arith, l))
+blank_behind (d ∷ ds) (suc k) l = blank_behind ds k (omega (arith, l))
+
+pub digit_there : (ds : List ℕ) (k i : ℕ) → ds ≡ decimal i → k < length ds → slice_index_or ds (length ds - 1 - k) 0 ≡ digit k i
+digit_there ds k i is l =
+    any_default ds (length ds - 1 - k) 0 32 (omega (arith, l)) ∙ sym (get_or-reverse ds k 32 l) ∙ ap (λ (xs : List ℕ). slice_index_or (reverse xs) k 32) is
+
+pub no_digit : (ds : List ℕ) (k i : ℕ) → ds ≡ decimal i → length ds ≤ k → 32 ≡ digit k i
+no_digit ds k i is l =
+    let long : length (reverse ds) ≤ k = (let n = length-reverse ds in omega (arith, n, l)) in
+    sym (blank_behind (reverse ds) k long) ∙ ap (λ (xs : List ℕ). slice_index_or (reverse xs) k 32) is

@@ -1,20 +1,20 @@
 -- The parts of the text, one after the other.
 use Rattle.std.proofs.Common.{◌≡◌, ◌∙◌, ap, ap₂, sym, refl, ℕ, zero, suc, ◌-◌, ◌<◌, Bool, true, false, List, [], ◌∷◌, ◌++◌, length, map, append_assoc, append-nil, slice_index_or, drop, arith}
-use Rattle.std.specs.Prelude.{codes, flat_map, not, ◌&&◌, ◌||◌, ◌==◌, nat_le, if◌then◌else◌}
+use Rattle.std.specs.Prelude.{codes, flat_map, ◌&&◌, ◌||◌, if◌then◌else◌}
 use Rattle.std.specs.Fmt.{decimal}
 use Rattle.std.specs.List.{list_all, list_any}
-use Rattle.std.proofs.lemmas.Bool.Decides.{nat_tests}
 use Rattle.ltl_spec.specs.Semantics.Word.{Name}
 use Rattle.ltl_spec.proofs.Collections.MemberLaws.{at_map}
 use Rattle.ltl_spec.specs.Transitions.Cubes.{Literal, Cube}
 use Rattle.ltl_spec.specs.Automata.Automaton.{Edge}
+use Rattle.ltl_spec.specs.Automata.GeneralizedText.{marks_text}
 use Rattle.ltl_spec.specs.Hoa.HoaReading.{MarkedAutomaton}
 use Rattle.ltl_streams.specs.Streams.{SinkState}
 use Rattle.ltl_streams.proofs.SendLaws.{Leaves, leaves_all, leaves_step, sends_nothing}
 use Rattle.ltl_sets.specs.declared.literal.Literal as made
 use Rattle.ltl_sets.specs.Literals.{literal_of, cube_of}
 use Rattle.ltl_text.proofs.TextLaws.{joined_led, led}
-use Rattle.ltl_pictures.specs.DotText.{acceptance_name, disc, edge_text, escaped, formula_text, head_text, literal_text, node_end, node_text}
+use Rattle.ltl_pictures.specs.DotText.{acceptance_name, and_text, edge_text, formula_text, head_text, literal_text, node_end, node_text, part_text}
 
 -- ---- element by element
 
@@ -44,10 +44,14 @@ any_mapped f p (x ∷ xs) = ap (λ b. p (f x) || b) (any_mapped f p xs)
 -- ---- a label
 
 module _ (names : List Name) where
-  pub negative_text : (l : Literal) (name : List ℕ) → name ≡ slice_index_or names l.proposition [] → l.positive ≡ false → literal_text names l ≡ codes "!" ++ escaped name
+  pub positive_text : (l : Literal) (name : List ℕ) → name ≡ slice_index_or names l.proposition [] → l.positive ≡ true → literal_text names l ≡ name
+  positive_text l name is e =
+      ap (λ (b : Bool). if b then slice_index_or names l.proposition [] else codes "!" ++ slice_index_or names l.proposition []) e ∙ sym is
+
+  pub negative_text : (l : Literal) (name : List ℕ) → name ≡ slice_index_or names l.proposition [] → l.positive ≡ false → literal_text names l ≡ codes "!" ++ name
   negative_text l name is e =
-      ap (λ (b : Bool). if b then escaped (slice_index_or names l.proposition []) else codes "!" ++ escaped (slice_index_or names l.proposition [])) e
-      ∙ ap (λ t. codes "!" ++ escaped t) (sym is)
+      ap (λ (b : Bool). if b then slice_index_or names l.proposition [] else codes "!" ++ slice_index_or names l.proposition []) e
+      ∙ ap (λ t. codes "!" ++ t) (sym is)
 
   abbrev pub literals_of : List made.Literal → List (List ℕ)
   literals_of ls = map (λ l. literal_text names (literal_of l)) ls
@@ -56,42 +60,38 @@ module _ (names : List Name) where
   literals_are [] = refl
   literals_are (l ∷ ls) = ap (λ t. literal_text names (literal_of l) ∷ t) (literals_are ls)
 
-  pub formula_begins : (c : Cube) (l : made.Literal) (ls rest : List made.Literal) → cube_of rest ≡ c → rest ≡ l ∷ ls
-      → formula_text names c ≡ literal_text names (literal_of l) ++ led (codes " && ") (literals_of ls)
-  formula_begins c l ls rest e f =
-      ap (formula_text names) (sym e ∙ ap cube_of f) ∙ joined_led (codes " && ") (literal_text names (literal_of l)) (map (literal_text names) (cube_of ls))
-      ∙ ap (λ t. literal_text names (literal_of l) ++ led (codes " && ") t) (literals_are ls)
+  module _ (red : Bool) where
+    pub formula_begins : (c : Cube) (l : made.Literal) (ls rest : List made.Literal) → cube_of rest ≡ c → rest ≡ l ∷ ls
+        → formula_text names red c ≡ literal_text names (literal_of l) ++ led (and_text red) (literals_of ls)
+    formula_begins c l ls rest e f =
+        ap (formula_text names red) (sym e ∙ ap cube_of f) ∙ joined_led (and_text red) (literal_text names (literal_of l)) (map (literal_text names) (cube_of ls))
+        ∙ ap (λ t. literal_text names (literal_of l) ++ led (and_text red) t) (literals_are ls)
 
-  pub formula_goes_on : (rest : List made.Literal) (l : made.Literal) (ls : List made.Literal) → rest ≡ l ∷ ls
-      → led (codes " && ") (literals_of rest) ≡ codes " && " ++ (literal_text names (literal_of l) ++ led (codes " && ") (literals_of ls))
-  formula_goes_on rest l ls e =
-      ap (λ t. led (codes " && ") (literals_of t)) e ∙ append_assoc (codes " && ") (literal_text names (literal_of l)) (led (codes " && ") (literals_of ls))
+    pub formula_goes_on : (between : List ℕ) (rest : List made.Literal) (l : made.Literal) (ls : List made.Literal) → between ≡ and_text red → rest ≡ l ∷ ls
+        → led (and_text red) (literals_of rest) ≡ between ++ (literal_text names (literal_of l) ++ led (and_text red) (literals_of ls))
+    formula_goes_on between rest l ls b e =
+        ap (λ t. led (and_text red) (literals_of t)) e ∙ append_assoc (and_text red) (literal_text names (literal_of l)) (led (and_text red) (literals_of ls))
+        ∙ ap (λ t. t ++ (literal_text names (literal_of l) ++ led (and_text red) (literals_of ls))) (sym b)
 
-  pub shown_edge : (b : Bool) (e : Edge) → b ≡ true → edge_text names b e ≡ formula_text names e.cube ++ flat_map disc e.marks
-  shown_edge b e h = ap (λ (x : Bool). edge_text names x e) h
+    pub shown_edge : (b : Bool) (e : Edge) → b ≡ true → edge_text names b red e ≡ formula_text names red e.cube ++ marks_text e.marks
+    shown_edge b e h = ap (λ (x : Bool). edge_text names x red e) h
 
-  pub plain_edge : (b : Bool) (e : Edge) → b ≡ false → edge_text names b e ≡ formula_text names e.cube
-  plain_edge b e h = ap (λ (x : Bool). edge_text names x e) h ∙ append-nil (formula_text names e.cube)
+    pub plain_edge : (b : Bool) (e : Edge) → b ≡ false → edge_text names b red e ≡ formula_text names red e.cube
+    plain_edge b e h = ap (λ (x : Bool). edge_text names x red e) h ∙ append-nil (formula_text names red e.cube)
 
--- ---- a set
-pub disc_bracketed : (k : ℕ) → 20 < k → disc k ≡ codes " (" ++ (decimal k ++ codes ")")
-disc_bracketed k h = rw (not_zero k h, above_ten k h, above_twenty k h) (append_assoc (codes " (") (decimal k) (codes ")"))
-  where
-    not_zero : (k : ℕ) → 20 < k → (k == 0) ≡ false
-    not_zero k h = grind (arith, nat_tests)
+-- ---- a part of a label
+pub taken_part : (taken : Bool) (text : List ℕ) → taken ≡ true → part_text taken text ≡ codes "<font color=\"red\">" ++ (text ++ codes "</font>")
+taken_part taken text e = ap (λ (b : Bool). part_text b text) e ∙ append_assoc (codes "<font color=\"red\">") text (codes "</font>")
 
-    above_ten : (k : ℕ) → 20 < k → nat_le k 10 ≡ false
-    above_ten k h = grind (arith, nat_tests)
-
-    above_twenty : (k : ℕ) → 20 < k → nat_le k 20 ≡ false
-    above_twenty k h = grind (arith, nat_tests)
+pub other_part : (taken : Bool) (text : List ℕ) → taken ≡ false → part_text taken text ≡ text
+other_part taken text e = ap (λ (b : Bool). part_text b text) e
 
 -- ---- a state
-pub node_pieces : (accepting colour : Bool) (k : ℕ) (end : List ℕ) → end ≡ node_end accepting colour → node_text accepting colour k ≡ codes "  " ++ (decimal k ++ end)
-node_pieces accepting colour k end e = append_assoc (codes "  ") (decimal k) (node_end accepting colour) ∙ ap (λ t. codes "  " ++ (decimal k ++ t)) (sym e)
+pub node_pieces : (accepting red : Bool) (k : ℕ) (end : List ℕ) → end ≡ node_end accepting red → node_text accepting red k ≡ codes "  " ++ (decimal k ++ end)
+node_pieces accepting red k end e = append_assoc (codes "  ") (decimal k) (node_end accepting red) ∙ ap (λ t. codes "  " ++ (decimal k ++ t)) (sym e)
 
 -- ---- the head
-pub many_sets : (n : ℕ) → 1 < n → acceptance_name n ≡ codes "generalized-Buchi " ++ decimal n
+pub many_sets : (n : ℕ) → 1 < n → acceptance_name n ≡ codes "generalized-B&uuml;chi " ++ decimal n
 many_sets zero h = absurd (omega (arith, h))
 many_sets (suc zero) h = absurd (omega (arith, h))
 many_sets (suc (suc n)) h = refl

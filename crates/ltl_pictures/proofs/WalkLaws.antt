@@ -43,7 +43,7 @@ place_in (y ∷ ys) x d (inl e) = (0, omega arith, sym e)
 place_in (y ∷ ys) x d (inr h) = let w = place_in ys x d h in let l = w.1 in (suc w.0, omega arith, w.2)
 
 -- the edges of a state
-at_state : (ess : List (List Edge)) (s : ℕ) → (slice_index_or (map (λ (es : List Edge). record { accepting = true; edges = es }) ess) s no_state).edges ≡ slice_index_or ess s []
+pub at_state : (ess : List (List Edge)) (s : ℕ) → (slice_index_or (map (λ (es : List Edge). record { accepting = true; edges = es }) ess) s no_state).edges ≡ slice_index_or ess s []
 at_state [] zero = refl
 at_state [] (suc s) = refl
 at_state (es ∷ ess) zero = refl

@@ -1,11 +1,13 @@
 -- The text of a drawing in Graphviz' DOT language.
-use Rattle.std.specs.Prelude.{ℕ, zero, suc, ◌+◌, Bool, true, false, not, ◌&&◌, ◌||◌, ◌==◌, nat_le, if◌then◌else◌, List, [], ◌∷◌, ◌++◌, map, flat_map, slice_index_or, codes, decimal}
-use Rattle.std.specs.List.{range_with_len}
+use Rattle.std.specs.Prelude.{ℕ, zero, suc, Bool, true, false, not, ◌&&◌, ◌||◌, ◌==◌, nat_lt, if◌then◌else◌, List, [], ◌∷◌, ◌++◌, length, map, flat_map, slice_index_or, codes, decimal}
+use Rattle.std.specs.List.{list_any, range_with_len}
 use Rattle.ltl_spec.specs.Collections.Lists.{joined_by}
 use Rattle.ltl_spec.specs.Semantics.Word.{Name}
 use Rattle.ltl_spec.specs.Transitions.Cubes.{Literal, Cube}
 use Rattle.ltl_spec.specs.Automata.Automaton.{Edge}
+use Rattle.ltl_spec.specs.Automata.GeneralizedText.{marks_text}
 use Rattle.ltl_spec.specs.Hoa.HoaReading.{MarkedAutomaton}
+use Rattle.ltl_text.specs.Options.{edge_at}
 use Rattle.ltl_pictures.specs.Picture.{Arrow, arrows, edges_at, is_accepting, is_state_based}
 
 -- a byte within quotes: a quote or a backslash gets a backslash before it
@@ -15,34 +17,52 @@ escaped_byte b = if b == 34 || b == 92 then 92 ∷ b ∷ [] else b ∷ []
 abbrev pub escaped : List ℕ → List ℕ
 escaped text = flat_map escaped_byte text
 
--- a blank and the number of a set: up to 20 as a character with the number in a black circle (U+24FF, from U+2776, from U+24EB), then in parentheses
-abbrev pub disc : ℕ → List ℕ
-disc k =
-    if k == 0 then 32 ∷ 226 ∷ 147 ∷ 191 ∷ [] else
-    if nat_le k 10 then 32 ∷ 226 ∷ 157 ∷ (181 + k) ∷ [] else
-    if nat_le k 20 then 32 ∷ 226 ∷ 147 ∷ (160 + k) ∷ [] else
-    codes " (" ++ decimal k ++ codes ")"
+-- ---- the label of an arrow. It is in quotes; that of an arrow in red is HTML, since some of its edges may be in red and others not
 
+-- the name of a proposition needs no escape: it has letters, digits and `_`
 abbrev pub literal_text : List Name → Literal → List ℕ
-literal_text names l = let name = escaped (slice_index_or names l.proposition []) in if l.positive then name else codes "!" ++ name
+literal_text names l = let name = slice_index_or names l.proposition [] in if l.positive then name else codes "!" ++ name
 
--- a label as a formula of propositions, `1` if it has no literal
-abbrev pub formula_text : List Name → Cube → List ℕ
-formula_text names [] = codes "1"
-formula_text names (l ∷ ls) = joined_by (codes " && ") (map (literal_text names) (l ∷ ls))
+-- `&&`, also as HTML
+abbrev pub and_text : Bool → List ℕ
+and_text red = if red then codes " &amp;&amp; " else codes " && "
 
--- an edge: its label, and its sets if they are shown
-abbrev pub edge_text : List Name → Bool → Edge → List ℕ
-edge_text names shown e = formula_text names e.cube ++ (if shown then flat_map disc e.marks else [])
+-- the literals of an edge, `1` if it has none
+abbrev pub formula_text : List Name → Bool → Cube → List ℕ
+formula_text names red [] = codes "1"
+formula_text names red (l ∷ ls) = joined_by (and_text red) (map (literal_text names) (l ∷ ls))
 
--- the end of an arrow's statement
-abbrev pub arrow_end : Bool → List ℕ
-arrow_end colour = if colour then codes "\", color=red, fontcolor=red, penwidth=2]\n" else codes "\"]\n"
+-- an edge: its literals, and its sets if they are shown
+abbrev pub edge_text : List Name → Bool → Bool → Edge → List ℕ
+edge_text names shown red e = formula_text names red e.cube ++ (if shown then marks_text e.marks else [])
 
--- an arrow with a line for each of its edges, in colour or not
-abbrev pub arrow_text : List Name → Bool → Bool → Arrow → List ℕ
-arrow_text names shown colour a =
-    codes "  " ++ decimal a.from ++ codes " -> " ++ decimal a.to ++ codes " [label=\"" ++ joined_by (codes "\\n") (map (edge_text names shown) a.edges) ++ arrow_end colour
+-- an edge in red if it is taken
+abbrev pub part_text : Bool → List ℕ → List ℕ
+part_text taken text = if taken then codes "<font color=\"red\">" ++ text ++ codes "</font>" else text
+
+-- `||`, and a line end if the label is broken into lines
+abbrev pub or_text : Bool → Bool → List ℕ
+or_text broken red = if broken then (if red then codes " ||<br/>" else codes " ||\\n") else codes " || "
+
+-- a label has a line for each edge if one of them has more than one literal
+abbrev pub is_broken : List Edge → List ℕ → Bool
+is_broken es places = list_any (λ p. nat_lt 1 (length (edge_at es p).cube)) places
+
+-- what stands before a label and behind it
+abbrev pub label_start : Bool → List ℕ
+label_start red = if red then codes " [label=<" else codes " [label=\""
+
+abbrev pub label_end : Bool → List ℕ
+label_end red = if red then codes ">, color=red, penwidth=2]\n" else codes "\"]\n"
+
+-- an arrow, with these edges of its source; it is in red if one of its edges is taken
+abbrev pub arrow_text : List Name → Bool → (ℕ → Bool) → List Edge → Arrow → List ℕ
+arrow_text names shown taken es a =
+    let red = list_any taken a.places in
+    codes "  " ++ decimal a.from ++ codes " -> " ++ decimal a.to ++ label_start red
+    ++ joined_by (or_text (is_broken es a.places) red) (map (λ p. part_text (taken p) (edge_text names shown red (edge_at es p))) a.places) ++ label_end red
+
+-- ---- states
 
 -- the end of a state's statement: a double circle if it is accepting, and the colour
 abbrev pub node_end : Bool → Bool → List ℕ
@@ -52,20 +72,22 @@ node_end false true = codes " [color=red, penwidth=2]\n"
 node_end true true = codes " [peripheries=2, color=red, penwidth=2]\n"
 
 abbrev pub node_text : Bool → Bool → ℕ → List ℕ
-node_text accepting colour k = codes "  " ++ decimal k ++ node_end accepting colour
+node_text accepting red k = codes "  " ++ decimal k ++ node_end accepting red
 
--- a state and the arrows from it
-abbrev pub state_text : MarkedAutomaton → ℕ → List ℕ
-state_text A k =
+-- a state, in red if one of its edges is taken, and the arrows from it
+abbrev pub state_text : MarkedAutomaton → (ℕ → ℕ → Bool) → ℕ → List ℕ
+state_text A taken k =
     let es = edges_at A k in
     let by_states = is_state_based A in
-    node_text (by_states && is_accepting es) false k ++ flat_map (arrow_text A.names (not by_states) false) (arrows k es)
+    node_text (by_states && is_accepting es) (list_any (taken k) (range_with_len 0 (length es))) k ++ flat_map (arrow_text A.names (not by_states) (taken k) es) (arrows k es)
+
+-- ---- the whole
 
 -- the name of the acceptance condition with this number of sets
 abbrev pub acceptance_name : ℕ → List ℕ
 acceptance_name zero = codes "all"
-acceptance_name (suc zero) = codes "Buchi"
-acceptance_name n = codes "generalized-Buchi " ++ decimal n
+acceptance_name (suc zero) = codes "B&uuml;chi"
+acceptance_name n = codes "generalized-B&uuml;chi " ++ decimal n
 
 -- the head: the acceptance condition and a note as title, and an arrow without source to the initial state
 abbrev pub head_text : MarkedAutomaton → List ℕ → List ℕ
@@ -73,6 +95,10 @@ head_text A note =
     codes "digraph automaton {\n  rankdir=LR\n  labelloc=t\n  label=\"" ++ acceptance_name A.sets ++ note
     ++ codes "\"\n  node [shape=circle]\n  I [label=\"\", style=invis, width=0]\n  I -> " ++ decimal A.start ++ codes "\n"
 
--- the whole text
+-- the picture with these edges in red, by the numbers of their states and by their indices there
+abbrev pub picture_text : MarkedAutomaton → (ℕ → ℕ → Bool) → List ℕ → List ℕ
+picture_text A taken note = head_text A note ++ flat_map (state_text A taken) (range_with_len 0 A.states) ++ codes "}\n"
+
+-- the picture without a run
 abbrev pub dot_text : MarkedAutomaton → List ℕ
-dot_text A = head_text A [] ++ flat_map (state_text A) (range_with_len 0 A.states) ++ codes "}\n"
+dot_text A = picture_text A (λ _ _. false) []

@@ -1,10 +1,11 @@
 -- An automaton as a drawing: its accepting states, and one arrow from a state to each of its targets.
-use Rattle.std.specs.Prelude.{ℕ, Bool, true, false, not, ◌&&◌, ◌||◌, ◌==◌, List, [], ◌∷◌, map, filter, slice_index_or}
-use Rattle.std.specs.List.{list_all, list_any}
+use Rattle.std.specs.Prelude.{ℕ, Bool, true, false, not, ◌&&◌, ◌||◌, ◌==◌, List, [], ◌∷◌, length, map, filter, slice_index_or}
+use Rattle.std.specs.List.{list_all, list_any, range_with_len}
 use Rattle.std.specs.Ordering.{nat_cmp}
 use Rattle.ltl_spec.specs.Collections.Sets.{set_of}
 use Rattle.ltl_spec.specs.Automata.Automaton.{Edge}
 use Rattle.ltl_spec.specs.Hoa.HoaReading.{MarkedAutomaton}
+use Rattle.ltl_text.specs.Options.{edge_at}
 -- the edges of a state
 pub use Rattle.ltl_pictures.specs.Edges.{edges_at}
 
@@ -28,15 +29,15 @@ is_state_based A = A.sets == 1 && list_all is_even A.edges
 abbrev pub is_accepting : List Edge → Bool
 is_accepting es = list_any is_marked es && list_all is_marked es
 
--- an arrow and the edges that it represents
+-- an arrow, and the indices of the edges that it represents
 pub record Arrow : Type 0 where
   pub from : ℕ
   pub to : ℕ
-  pub edges : List Edge
+  pub places : List ℕ
 
 -- the arrow from state k with these edges to a target
 abbrev pub arrow_to : ℕ → List Edge → ℕ → Arrow
-arrow_to k es t = record { from = k; to = t; edges = filter (λ e. e.target == t) es }
+arrow_to k es t = record { from = k; to = t; places = filter (λ p. (edge_at es p).target == t) (range_with_len 0 (length es)) }
 
 -- the arrows from the state, in the order of their targets
 abbrev pub arrows : ℕ → List Edge → List Arrow

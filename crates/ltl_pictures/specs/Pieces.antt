@@ -4,16 +4,16 @@ use Rattle.ltl_spec.specs.Collections.Lists.{joined_by}
 use Rattle.ltl_spec.specs.Semantics.Word.{Name}
 use Rattle.ltl_spec.specs.Automata.Automaton.{Edge}
 use Rattle.ltl_text.specs.Options.{edge_at}
-use Rattle.ltl_pictures.specs.DotText.{arrow_end, edge_text}
+use Rattle.ltl_pictures.specs.DotText.{edge_text, label_start, part_text}
 
 -- an arrow up to its label
-abbrev pub front_text : ℕ → ℕ → List ℕ
-front_text from to = codes "  " ++ (decimal from ++ (codes " -> " ++ (decimal to ++ codes " [label=\"")))
+abbrev pub front_text : ℕ → ℕ → Bool → List ℕ
+front_text from to red = codes "  " ++ (decimal from ++ (codes " -> " ++ (decimal to ++ label_start red)))
 
--- the edges with these indices, as lines of a label
-abbrev pub lines_text : List Name → Bool → List Edge → List ℕ → List ℕ
-lines_text names shown es ps = joined_by (codes "\\n") (map (λ p. edge_text names shown (edge_at es p)) ps)
+-- the edge with this index, as a part of a label
+abbrev pub place_text : List Name → Bool → (ℕ → Bool) → List Edge → Bool → ℕ → List ℕ
+place_text names shown taken es red p = part_text (taken p) (edge_text names shown red (edge_at es p))
 
--- the arrow to a target with the edges with these indices
-abbrev pub placed_text : List Name → Bool → Bool → ℕ → List Edge → ℕ → List ℕ → List ℕ
-placed_text names shown colour k es t ps = front_text k t ++ (lines_text names shown es ps ++ arrow_end colour)
+-- the edges with these indices, with a text between each two
+abbrev pub parts_text : List Name → Bool → (ℕ → Bool) → List Edge → Bool → List ℕ → List ℕ → List ℕ
+parts_text names shown taken es red between ps = joined_by between (map (place_text names shown taken es red) ps)

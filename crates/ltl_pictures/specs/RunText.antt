@@ -1,15 +1,12 @@
--- The text of a drawing of an automaton with a run in colour.
-use Rattle.std.specs.Prelude.{◌≡◌, ℕ, ◌+◌, ◌<◌, ◌↔◌, Bool, true, false, not, ◌&&◌, ◌==◌, List, [], ◌++◌, length, flat_map, codes, Option, Some, None}
-use Rattle.std.specs.List.{range_with_len}
+-- The text of a drawing of an automaton with a run in red.
+use Rattle.std.specs.Prelude.{ℕ, ◌<◌, ◌↔◌, ◌&&◌, ◌==◌, Bool, IsTrue, List, [], length, codes, Option, Some, None}
+use Rattle.std.specs.List.{list_any, range_with_len}
 use Rattle.ltl_spec.specs.Collections.Sets.{Has}
-use Rattle.ltl_spec.specs.Automata.Automaton.{Edge}
 use Rattle.ltl_spec.specs.Hoa.HoaReading.{MarkedAutomaton}
-use Rattle.ltl_text.specs.Options.{edge_at}
 use Rattle.ltl_pictures.specs.Drawn.{AreDrawn}
 use Rattle.ltl_pictures.specs.declared.pick.Pick.{Pick}
-use Rattle.ltl_pictures.specs.Picked.{other_edges, picked_edges}
-use Rattle.ltl_pictures.specs.Picture.{arrows, edges_at, is_accepting, is_state_based}
-use Rattle.ltl_pictures.specs.DotText.{arrow_text, head_text, node_text}
+use Rattle.ltl_pictures.specs.Picture.{Arrow, arrows, edges_at}
+use Rattle.ltl_pictures.specs.DotText.{picture_text}
 
 -- an automaton and the edges of a run, or none if there is no accepting run
 pub record RunPicture : Type 0 where
@@ -20,34 +17,24 @@ abbrev pub picks_in : Option (List Pick) → List Pick
 picks_in None = []
 picks_in (Some picks) = picks
 
+-- the edge of state k with this index is picked
+abbrev pub is_picked : List Pick → ℕ → ℕ → Bool
+is_picked picks k place = list_any (λ q. q.state == k && q.place == place) picks
+
 -- the note below the name of the acceptance condition
 abbrev pub note_of : Option (List Pick) → List ℕ
 note_of None = codes "\\nno run on this word is accepting"
 note_of (Some picks) = []
 
--- A state, in colour if the run has an edge from it, then the arrows of its other edges, then those of the run's edges, in colour
-abbrev pub run_state_text : RunPicture → ℕ → List ℕ
-run_state_text P k =
-    let A = P.automaton in
-    let by_states = is_state_based A in
-    let own = picked_edges (picks_in P.run) A k in
-    let others = other_edges (picks_in P.run) A k in
-    node_text (by_states && is_accepting (edges_at A k)) (not (length own == 0)) k
-    ++ flat_map (arrow_text A.names (not by_states) false) (arrows k others)
-    ++ flat_map (arrow_text A.names (not by_states) true) (arrows k own)
-
-abbrev pub run_states_text : RunPicture → List ℕ
-run_states_text P = flat_map (run_state_text P) (range_with_len 0 P.automaton.states)
-
 -- the whole text
 abbrev pub run_text : RunPicture → List ℕ
-run_text P = head_text P.automaton (note_of P.run) ++ run_states_text P ++ codes "}\n"
+run_text P = picture_text P.automaton (is_picked (picks_in P.run)) (note_of P.run)
 
--- With these picks, each picked edge of a state is drawn in colour and no other edge is. Each edge with another index is drawn without colour, and none
--- twice.
+-- The arrows from a state represent each of its edges once. An edge is in red if and only if it is picked; an arrow, if and only if one of its edges is; the
+-- state, if and only if one of all its edges is
 pub record AreShown (picks : List Pick) (A : MarkedAutomaton) (k : ℕ) : Type 0 where
-  pub own : (e : Edge) → Has (picked_edges picks A k) e ↔ ((place : ℕ) × (place < length (edges_at A k)) × Has picks (record { state = k; place = place }) × (edge_at (edges_at A k) place ≡ e))
-  pub others : (e : Edge) → Has (other_edges picks A k) e ↔ ((place : ℕ) × (place < length (edges_at A k)) × (¬ (Has picks (record { state = k; place = place }))) × (edge_at (edges_at A k) place ≡ e))
-  pub counted : length (picked_edges picks A k) + length (other_edges picks A k) ≡ length (edges_at A k)
-  pub drawn : AreDrawn k (picked_edges picks A k)
-  pub plain : AreDrawn k (other_edges picks A k)
+  pub drawn : AreDrawn k (edges_at A k)
+  pub edge : (p : ℕ) → IsTrue (is_picked picks k p) ↔ Has picks (record { state = k; place = p })
+  pub arrow : (a : Arrow) → Has (arrows k (edges_at A k)) a
+      → IsTrue (list_any (is_picked picks k) a.places) ↔ ((p : ℕ) × Has a.places p × Has picks (record { state = k; place = p }))
+  pub state : IsTrue (list_any (is_picked picks k) (range_with_len 0 (length (edges_at A k)))) ↔ ((p : ℕ) × (p < length (edges_at A k)) × Has picks (record { state = k; place = p }))

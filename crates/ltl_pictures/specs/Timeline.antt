@@ -1,5 +1,5 @@
 -- The timeline of a word: a table of characters, with a line for each proposition and for each subformula.
-use Rattle.std.specs.Prelude.{ℕ, zero, suc, ◌+◌, ◌-◌, ◌%◌, ◌<◌, max, Bool, true, false, ◌==◌, ◌||◌, if◌then◌else◌, List, [], ◌∷◌, ◌++◌, codes, fold, length, replicate, slice_index_or}
+use Rattle.std.specs.Prelude.{ℕ, zero, suc, ◌+◌, ◌-◌, ◌<◌, max, Bool, true, false, ◌==◌, ◌||◌, if◌then◌else◌, List, [], ◌∷◌, ◌++◌, codes, decimal, fold, length, replicate, reverse, slice_index_or}
 use Rattle.std.specs.Bool.{Decides}
 use Rattle.std.specs.List.{list_any, range_with_len}
 use Rattle.ltl_spec.specs.Collections.Lists.{with_new}
@@ -21,9 +21,9 @@ abbrev pub mark : Bool → ℕ
 mark true = 42
 mark false = 46
 
--- the last digit of a position's number
-abbrev pub digit : ℕ → ℕ
-digit i = 48 + i % 10
+-- the digit of a position's number before k others, or a blank if it has no more than k
+abbrev pub digit : ℕ → ℕ → ℕ
+digit k i = slice_index_or (reverse (decimal i)) k 32
 
 -- a blank and the character of position i, behind a bar where the cycle begins
 abbrev pub column : ℕ → ℕ → ℕ → List ℕ
@@ -49,6 +49,15 @@ padded width label = label ++ replicate (width - length label) 32
 abbrev pub line : ℕ → Lasso → List ℕ → (ℕ → ℕ) → List ℕ
 line width w label character = padded width label ++ texts_from (λ i. column (length w.stem) i (character i)) 0 (size w) ++ codes "\n"
 
+-- the numbers of the positions from top to bottom, in so many lines of digits
+abbrev pub number_lines : ℕ → Lasso → ℕ → List ℕ
+number_lines width w zero = []
+number_lines width w (suc k) = line width w [] (digit k) ++ number_lines width w k
+
+-- the digits of the greatest number
+abbrev pub digit_count : Lasso → ℕ
+digit_count w = length (decimal (size w - 1))
+
 -- ---- propositions
 
 -- the names, and then those of the word that they lack, each where it first stands
@@ -67,7 +76,7 @@ proposition_line width w name = line width w name (λ i. mark (has name_cmp name
 
 -- the numbers of the positions, and a line for each proposition
 abbrev pub proposition_lines : ℕ → Lasso → List Name → List ℕ
-proposition_lines width w names = line width w [] digit ++ texts_from (λ p. proposition_line width w (name_at names p)) 0 (length names)
+proposition_lines width w names = number_lines width w (digit_count w) ++ texts_from (λ p. proposition_line width w (name_at names p)) 0 (length names)
 
 -- the word alone
 abbrev pub word_timeline : Lasso → List ℕ

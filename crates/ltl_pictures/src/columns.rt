@@ -8,6 +8,7 @@ ghost use Rattle.ltl_word.specs.Rows.{bit_of};
 
 use crate::printer::Printer;
 use ltl_streams::ByteSink;
+use ltl_text::Digits;
 use ltl_word::{Bits, Lasso};
 use std::alloc::Allocator;
 
@@ -17,10 +18,17 @@ fn mark(value: bool) -> u8
     if value { b'*' } else { b'.' }
 }
 
-fn digit(i: usize) -> u8
-    ensures { result ≡ spec.digit i }
+/// The digit of the number `i` before `k` others, or a blank if there is none.
+fn digit(k: usize, i: usize) -> u8
+    ensures { result ≡ spec.digit k i }
 {
-    b'0' + (i % 10) as u8
+    let number = Digits::of(i as u64);
+    let digits = number.as_slice();
+    if k < digits.len() {
+        digits[digits.len() - 1 - k]
+    } else {
+        b' '
+    }
 }
 
 /// Writes a bar if the cycle begins at this position.
@@ -40,13 +48,17 @@ fn put_column<S: ByteSink>(stem: usize, i: usize, byte: u8, out: &mut Printer<'_
     out.put(&[b' ', byte]);
 }
 
-/// Writes the last digit of each position's number.
-pub(crate) fn put_numbers<C: Allocator, S: ByteSink>(word: &Lasso<'_, C>, out: &mut Printer<'_, S>)
+/// Writes the digit before `k` others of each position's number.
+pub(crate) fn put_digits<C: Allocator, S: ByteSink>(
+    word: &Lasso<'_, C>,
+    k: usize,
+    out: &mut Printer<'_, S>,
+)
     ensures { Prints S.state out.old out.new
-        (spec.texts_from (λ i. spec.column (length word.now.stem) i (spec.digit i)) 0 (size word.now)) }
+        (spec.texts_from (λ i. spec.column (length word.now.stem) i (spec.digit k i)) 0 (size word.now)) }
 {
     for i in 0..word.len() {
-        put_column(word.stem_len(), i, digit(i), out);
+        put_column(word.stem_len(), i, digit(k, i), out);
     }
 }
 

@@ -1,7 +1,9 @@
 //! Flags that say which edges a run takes.
 
 ghost use Rattle.std.specs.Prelude.{◌≡◌, ℕ, ◌<◌, true, false, length, All, IfOk, slice_index_or, slice_set};
-ghost use Rattle.ltl_pictures.specs.Picked.{AreFlags, IsPick, is_picked};
+ghost use Rattle.std.specs.List.{list_any};
+ghost use Rattle.ltl_pictures.specs.Picked.{AreFlags, IsPick};
+ghost use Rattle.ltl_pictures.specs.RunText.{is_picked};
 
 use crate::pick::Pick;
 use ltl_hoa::Marked;
@@ -40,12 +42,18 @@ impl<'a, A: Allocator> Flags<'a, A> {
         self.flags[place] = true;
     }
 
-    /// The flag of an edge.
-    pub(crate) fn get(&self, place: usize) -> bool
-        requires { place < length self.now }
-        ensures { result ≡ slice_index_or self.now place false }
+    /// The flags by the indices of the edges.
+    pub(crate) fn as_slice(&self) -> &[bool]
+        ensures { result.now ≡ self.now }
     {
-        self.flags[place]
+        self.flags.as_slice()
+    }
+
+    /// Whether a flag is set.
+    pub(crate) fn is_one_set(&self) -> bool
+        ensures { result ≡ list_any (λ flag. flag) self.now }
+    {
+        self.flags.as_slice().iter().any(|flag| *flag)
     }
 }
 

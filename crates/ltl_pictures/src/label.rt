@@ -1,11 +1,13 @@
 //! Labels of edges, as formulas of propositions.
 
-ghost use Rattle.std.specs.Prelude.{◌<◌, length, map, flat_map, string_bytes, All};
+ghost use Rattle.std.specs.Prelude.{◌≡◌, ◌<◌, ◌++◌, ◌∷◌, codes, length, map, string_bytes, All};
 ghost use Rattle.std.specs.Fmt.{decimal};
+ghost use Rattle.ltl_spec.specs.Automata.GeneralizedText.{marks_text};
 ghost use Rattle.ltl_sets.specs.Literals.{literal_of};
 ghost use Rattle.ltl_hoa.specs.MarkedView.{HasPropositionsBelow, edge_of};
 ghost use Rattle.ltl_pictures.specs.Printing.{Prints};
-ghost use Rattle.ltl_pictures.specs.DotText.{disc, edge_text, formula_text, literal_text};
+ghost use Rattle.ltl_pictures.specs.DotText as text;
+ghost use Rattle.ltl_pictures.specs.DotText.{edge_text, formula_text, literal_text};
 
 use crate::printer::Printer;
 use ltl_hoa::MarkedEdge;
@@ -32,21 +34,29 @@ fn put_literal<A: Allocator, S: ByteSink>(
 {
     let name = names[literal.proposition].as_bytes();
     if literal.positive {
-        out.put_escaped(name);
+        out.put(name);
     } else {
         out.put(b"!");
-        out.put_escaped(name);
+        out.put(name);
     }
+}
+
+/// What is between two literals; with `red` as HTML.
+fn and_text(red: bool) -> &'static [u8]
+    ensures { result.now ≡ text.and_text red }
+{
+    if red { b" &amp;&amp; " } else { b" && " }
 }
 
 /// Writes the literals with `&&` between them, or `1` if there are none.
 fn put_formula<A: Allocator, S: ByteSink>(
     names: &[String<&A>],
+    red: bool,
     cube: &Cube,
     out: &mut Printer<'_, S>,
 )
     requires { HasPropositionsBelow (length names.now) cube.now }
-    ensures { Prints S.state out.old out.new (formula_text (map string_bytes names.now) cube.now) }
+    ensures { Prints S.state out.old out.new (formula_text (map string_bytes names.now) red cube.now) }
 {
     let mut literals = cube.iter();
     let Some(first) = literals.next() else {
@@ -54,51 +64,49 @@ fn put_formula<A: Allocator, S: ByteSink>(
         return;
     };
     put_literal(names, first, out);
+    let between = and_text(red);
     for literal in literals {
-        out.put(b" && ");
+        out.put(between);
         put_literal(names, literal, out);
     }
 }
 
-/// Writes a blank and the number of an acceptance set: as a character with the number in a black circle up to 20 (U+24FF, from U+2776 and from U+24EB on),
-/// beyond that in parentheses.
-fn put_disc<S: ByteSink>(k: usize, out: &mut Printer<'_, S>)
-    ensures { Prints S.state out.old out.new (disc k) }
+/// Writes a blank and the numbers of the acceptance sets in braces, or nothing if there are none.
+fn put_sets<S: ByteSink>(sets: &RowSet, out: &mut Printer<'_, S>)
+    ensures { Prints S.state out.old out.new (marks_text sets.now) }
 {
-    if k == 0 {
-        out.put(&[b' ', 226, 147, 191]);
-    } else if k <= 10 {
-        out.put(&[b' ', 226, 157, 181 + k as u8]);
-    } else if k <= 20 {
-        out.put(&[b' ', 226, 147, 160 + k as u8]);
-    } else {
-        out.put(b" (");
-        put_number(k, out);
-        out.put(b")");
+    let mut numbers = sets.iter();
+    let Some(first) = numbers.next() else {
+        return;
+    };
+    out.put(b" {");
+    put_number(first, out);
+    for number in numbers {
+        out.put(b" ");
+        put_number(number, out);
     }
+    out.put(b"}");
 }
 
-/// Writes the numbers of all these acceptance sets.
-fn put_discs<S: ByteSink>(sets: &RowSet, out: &mut Printer<'_, S>)
-    ensures { Prints S.state out.old out.new (flat_map disc sets.now) }
-{
-    for k in sets.iter() {
-        put_disc(k, out);
-    }
+/// How a label is written: whether it shows acceptance sets, and whether it is HTML with parts in red.
+#[derive(Clone, Copy)]
+pub(crate) struct Style {
+    pub shown: bool,
+    pub red: bool,
 }
 
-/// Writes the label of an edge, and its acceptance sets if they are shown.
+/// Writes the literals of an edge, and its acceptance sets if they are shown.
 pub(crate) fn put_edge<A: Allocator, S: ByteSink>(
     names: &[String<&A>],
-    shown: bool,
+    style: Style,
     edge: &MarkedEdge,
     out: &mut Printer<'_, S>,
 )
     requires { HasPropositionsBelow (length names.now) edge.now.cube }
-    ensures { Prints S.state out.old out.new (edge_text (map string_bytes names.now) shown (edge_of edge.now)) }
+    ensures { Prints S.state out.old out.new (edge_text (map string_bytes names.now) style.shown style.red (edge_of edge.now)) }
 {
-    put_formula(names, &edge.cube, out);
-    if shown {
-        put_discs(&edge.sets.to_row_set(), out);
+    put_formula(names, style.red, &edge.cube, out);
+    if style.shown {
+        put_sets(&edge.sets.to_row_set(), out);
     }
 }

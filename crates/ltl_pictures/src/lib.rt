@@ -2,9 +2,9 @@
 //!
 //! `ltl_hoa` reads an automaton. `Drawing` sorts the edges of each state by target, and writes the graph to a sink (`put_dot`) or to a standard writer
 //! (`dot_to`) without allocation. States are circles. If acceptance is state-based, accepting states are double circles; else each edge has the numbers of its
-//! acceptance sets after its label, in black circles. Edges with the same source and target share an arrow.
+//! acceptance sets after its label, as ` {0 1}`. Edges with the same source and target share an arrow, with `||` between their labels.
 //!
-//! `accepting_run` finds an accepting run of an automaton on an ultimately periodic word (a lasso), and `RunDrawing` draws it in colour. `letters` finds for
+//! `accepting_run` finds an accepting run of an automaton on an ultimately periodic word (a lasso), and `RunDrawing` draws it in red. `letters` finds for
 //! each position of the word which of the automaton's propositions are true there. The product of automaton and word (`places`) is an implicit graph. `find` of
 //! `ltl_check` searches it for a path to a cycle with an edge of every acceptance set. The edges of that lasso are those of an accepting run; if there is none,
 //! the automaton doesn't accept the word.
@@ -55,7 +55,6 @@ mod printer;
 mod propositions;
 pub mod run;
 pub mod run_drawing;
-mod share;
 mod subformulas;
 pub mod timeline;
 

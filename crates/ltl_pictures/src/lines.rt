@@ -6,9 +6,10 @@ ghost use Rattle.ltl_pictures.specs.Timeline as spec;
 ghost use Rattle.ltl_word.specs.LassoView.{size};
 ghost use Rattle.ltl_word.specs.Rows.{bit_of};
 
-use crate::columns::{put_marks, put_numbers};
+use crate::columns::{put_digits, put_marks};
 use crate::printer::Printer;
 use ltl_streams::ByteSink;
+use ltl_text::Digits;
 use ltl_word::{Bits, Lasso};
 use std::alloc::Allocator;
 
@@ -31,17 +32,34 @@ fn put_label<S: ByteSink>(width: usize, label: &[u8], out: &mut Printer<'_, S>)
     put_blanks(label.len(), width, out);
 }
 
-/// Writes the line with the numbers of the positions.
+/// Writes a line with the digit before `k` others of each position's number.
+fn put_number_line<C: Allocator, S: ByteSink>(
+    width: usize,
+    word: &Lasso<'_, C>,
+    k: usize,
+    out: &mut Printer<'_, S>,
+)
+    ensures { Prints S.state out.old out.new (spec.line width word.now [] (spec.digit k)) }
+{
+    put_label(width, b"", out);
+    put_digits(word, k, out);
+    out.put(b"\n");
+}
+
+/// Writes the numbers of the positions from top to bottom, in as many lines as the greatest number has digits.
 pub(crate) fn put_head<C: Allocator, S: ByteSink>(
     width: usize,
     word: &Lasso<'_, C>,
     out: &mut Printer<'_, S>,
 )
-    ensures { Prints S.state out.old out.new (spec.line width word.now [] spec.digit) }
+    ensures { Prints S.state out.old out.new (spec.number_lines width word.now (spec.digit_count word.now)) }
 {
-    put_label(width, b"", out);
-    put_numbers(word, out);
-    out.put(b"\n");
+    let greatest = Digits::of(word.len().saturating_sub(1) as u64);
+    let mut left = greatest.as_slice().len();
+    'lines: while left > 0 {
+        left -= 1;
+        put_number_line(width, word, left, out);
+    }
 }
 
 /// Writes the line of a bit vector.

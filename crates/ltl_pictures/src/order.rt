@@ -3,13 +3,15 @@
 ghost use Rattle.std.specs.Prelude.{◌≡◌, ◌+◌, ◌*◌, ◌%◌, ◌<◌, map, IfOk, OnOk};
 ghost use Rattle.ltl_models.specs.BaView.{IsTargetOrder};
 ghost use Rattle.ltl_hoa.specs.MarkedView.{edge_of};
+ghost use Rattle.ltl_pictures.specs.Picked.{AreOrders};
 
-use ltl_hoa::MarkedEdge;
+use ltl_hoa::{Marked, MarkedEdge};
 use smallvec::SmallVec;
 use std::alloc::{AllocError, Allocator};
+use std::marker::Model;
 
 /// Indices of edges. Most states have few edges.
-pub(crate) type Indices<'a, A> = SmallVec<usize, 4, &'a A>;
+type Indices<'a, A> = SmallVec<usize, 4, &'a A>;
 
 /// 2^32, which is greater than every state and every index.
 const PLACES: usize = 4_294_967_296;
@@ -26,7 +28,7 @@ fn key(target: usize, place: usize) -> Result<u64, AllocError>
 }
 
 /// The indices of the edges, sorted by target and then by index. The sort key is one number made of both.
-pub(crate) fn places_by_target<'a, A: Allocator>(
+fn places_by_target<'a, A: Allocator>(
     alloc: &'a A,
     edges: &[MarkedEdge],
 ) -> Result<Indices<'a, A>, AllocError>
@@ -50,4 +52,49 @@ fn places<'a, A: Allocator>(alloc: &'a A, keys: &[u64]) -> Result<Indices<'a, A>
         places.push(*key as usize % PLACES)?;
     }
     Ok(places)
+}
+
+/// The indices of a state's edges, sorted by target and then by index.
+#[derive(Drop)]
+pub(crate) struct Order<'a, A: Allocator> {
+    places: Indices<'a, A>,
+}
+
+impl<'a, A: Allocator> Model for Order<'a, A> {
+    ghost use Rattle.std.specs.Prelude.{ℕ, List};
+
+    ghost Value = { List ℕ };
+
+    ghost view = { λ o. o.places.items };
+}
+
+impl<'a, A: Allocator> Order<'a, A> {
+    /// Sorts the indices.
+    fn of(alloc: &'a A, edges: &[MarkedEdge]) -> Result<Order<'a, A>, AllocError>
+        ensures { IfOk result (λ o. IsTargetOrder (map edge_of edges.now) o) }
+    {
+        let places = places_by_target(alloc, edges)?;
+        Ok(Order { places })
+    }
+
+    /// The sorted indices.
+    pub(crate) fn as_slice(&self) -> &[usize]
+        ensures { result.now ≡ self.now }
+    {
+        self.places.as_slice()
+    }
+}
+
+/// For each state the order of its edges.
+pub(crate) fn orders<'a, A: Allocator>(
+    alloc: &'a A,
+    automaton: &Marked<'_, A>,
+) -> Result<Vec<Order<'a, A>, &'a A>, AllocError>
+    ensures { IfOk result (λ v. AreOrders automaton.now v.items) }
+{
+    let mut orders = Vec::new(alloc);
+    for k in 0..automaton.len() {
+        orders.push(Order::of(alloc, automaton.edges(k))?)?;
+    }
+    Ok(orders)
 }

@@ -13,16 +13,16 @@ use ltl_hoa::{Marked, MarkedEdge};
 use ltl_streams::ByteSink;
 use std::alloc::Allocator;
 
-/// Writes the name of the acceptance condition with this number of sets, as HOA has it.
+/// Writes the name of the acceptance condition with this number of sets. DOT reads `&uuml;` as `ü`.
 fn put_acceptance_name<S: ByteSink>(sets: usize, out: &mut Printer<'_, S>)
     ensures { Prints S.state out.old out.new (text.acceptance_name sets) }
 {
     if sets == 0 {
         out.put(b"all");
     } else if sets == 1 {
-        out.put(b"Buchi");
+        out.put(b"B&uuml;chi");
     } else {
-        out.put(b"generalized-Buchi ");
+        out.put(b"generalized-B&uuml;chi ");
         put_number(sets, out);
     }
 }
@@ -51,10 +51,10 @@ pub(crate) fn is_double(by_states: bool, edges: &[MarkedEdge]) -> bool
 }
 
 /// The end of a state's statement, after its number.
-fn node_end(accepting: bool, colour: bool) -> &'static [u8]
-    ensures { result.now ≡ text.node_end accepting colour }
+fn node_end(accepting: bool, red: bool) -> &'static [u8]
+    ensures { result.now ≡ text.node_end accepting red }
 {
-    match (accepting, colour) {
+    match (accepting, red) {
         (false, false) => b"\n",
         (true, false) => b" [peripheries=2]\n",
         (false, true) => b" [color=red, penwidth=2]\n",
@@ -62,16 +62,11 @@ fn node_end(accepting: bool, colour: bool) -> &'static [u8]
     }
 }
 
-/// Writes a state, as a double circle if it is accepting, and in colour if `colour`.
-pub(crate) fn put_node<S: ByteSink>(
-    accepting: bool,
-    colour: bool,
-    k: usize,
-    out: &mut Printer<'_, S>,
-)
-    ensures { Prints S.state out.old out.new (text.node_text accepting colour k) }
+/// Writes a state, as a double circle if it is accepting, and in red if `red`.
+pub(crate) fn put_node<S: ByteSink>(accepting: bool, red: bool, k: usize, out: &mut Printer<'_, S>)
+    ensures { Prints S.state out.old out.new (text.node_text accepting red k) }
 {
     out.put(b"  ");
     put_number(k, out);
-    out.put(node_end(accepting, colour));
+    out.put(node_end(accepting, red));
 }

@@ -1,10 +1,8 @@
 //! Buffered output that remembers a failed write.
 
 ghost use Rattle.std.specs.Prelude.{◌≡◌, [], false, MatchResult};
-ghost use Rattle.ltl_pictures.specs.DotText.{escaped};
 ghost use Rattle.ltl_pictures.specs.Printing.{EndsShort, EndsWhole, Prints};
 
-use crate::escape::put_escaped;
 use ltl_streams::{ByteSink, OutputBuffer, WriteFault};
 
 /// A sink with a buffer of 16 KiB. After a failed write it writes nothing more, and `end` returns the error. So what prints needn't look at each write.
@@ -36,15 +34,6 @@ impl<'s, S: ByteSink> Printer<'s, S> {
     {
         if !self.failed {
             self.failed = self.buffer.put(bytes, self.sink).is_err();
-        }
-    }
-
-    /// Puts a text for use within quotes, as the function `put_escaped` does.
-    pub(crate) fn put_escaped(&mut self, text: &[u8])
-        ensures { Prints S.state self.old self.new (escaped text.now) }
-    {
-        if !self.failed {
-            self.failed = put_escaped(text, &mut self.buffer, self.sink).is_err();
         }
     }
 

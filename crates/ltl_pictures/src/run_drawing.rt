@@ -1,38 +1,35 @@
 //! An automaton and a run of it, prepared for drawing.
 
-ghost use Rattle.std.specs.Prelude.{◌≡◌, ◌<◌, not, option_map, All, IfOk, OnOk, OnErr};
+ghost use Rattle.std.specs.Prelude.{◌≡◌, ◌<◌, flat_map, option_map, All, IfOk, OnOk, OnErr};
 ghost use Rattle.std.specs.Io.KnownBytes.{Appends};
 ghost use Rattle.ltl_streams.specs.Streams.{AppendsBeginning, Breaks, Takes};
-ghost use Rattle.ltl_pictures.specs.Picked.{HaveShares, IsPick, is_picked};
+ghost use Rattle.std.specs.List.{range_with_len};
+ghost use Rattle.ltl_pictures.specs.DotText.{state_text};
+ghost use Rattle.ltl_pictures.specs.Picked.{IsPick};
 ghost use Rattle.ltl_pictures.specs.Printing.{Prints};
-ghost use Rattle.ltl_pictures.specs.RunText.{note_of, picks_in, run_state_text, run_states_text, run_text};
+ghost use Rattle.ltl_pictures.specs.RunText.{is_picked, note_of, picks_in, run_text};
 
 use crate::acceptance::is_state_based;
-use crate::arrows::put_arrows;
-use crate::flags::set_flags;
+use crate::arrows::{Row, put_arrows};
+use crate::flags::{Flags, set_flags};
+use crate::order::{Order, orders};
 use crate::pick::Pick;
 use crate::picture::{is_double, put_head, put_node};
 use crate::printer::Printer;
-use crate::share::{Share, shares};
 use ltl_hoa::Marked;
 use ltl_streams::{ByteSink, WriteFault, WriterSink};
 use std::alloc::{AllocError, Allocator};
 use std::io::Write;
 use std::marker::Model;
 
-/// For each state, the edges that a run takes, and apart from them the others.
-#[derive(Drop)]
-struct Shares<'a, A: Allocator> {
-    own: Vec<Share<'a, A>, &'a A>,
-    others: Vec<Share<'a, A>, &'a A>,
-}
-
-/// An automaton and the edges of a run, or `None` if there is no accepting run. For each state, the edges that the run takes are kept apart from the others.
+/// An automaton and the edges of a run, or `None` if there is no accepting run. The edges of each state are sorted by target, and a flag says which of them the
+/// run takes.
 #[derive(Drop)]
 pub struct RunDrawing<'a, A: Allocator> {
     automaton: Marked<'a, A>,
     run: Option<Vec<Pick, &'a A>>,
-    shares: Shares<'a, A>,
+    orders: Vec<Order<'a, A>, &'a A>,
+    flags: Vec<Flags<'a, A>, &'a A>,
     by_states: bool,
 }
 
@@ -46,7 +43,7 @@ impl<'a, A: Allocator> Model for RunDrawing<'a, A> {
 
     ghost view = { λ d. record { automaton = d.automaton; run = option_map (λ v. v.items) d.run } };
 
-    ghost invariant = { λ d. IsRunDrawing (picks_in (option_map (λ v. v.items) d.run)) d.automaton d.shares.own.items d.shares.others.items d.by_states };
+    ghost invariant = { λ d. IsRunDrawing (picks_in (option_map (λ v. v.items) d.run)) d.automaton d.orders.items d.flags.items d.by_states };
 }
 
 /// The edges of the run; none if there is no run.
@@ -69,24 +66,8 @@ fn note<'a, A: Allocator>(run: &Option<Vec<Pick, &'a A>>) -> &'static [u8]
     }
 }
 
-/// Separates the edges that are picked from the others.
-fn divided<'a, A: Allocator>(
-    alloc: &'a A,
-    automaton: &Marked<'_, A>,
-    picks: &[Pick],
-) -> Result<Shares<'a, A>, AllocError>
-    requires { All (IsPick automaton.now) picks.now }
-    ensures own { IfOk result (λ s. HaveShares automaton.now (is_picked picks.now) s.own.items) }
-    ensures others { IfOk result (λ s. HaveShares automaton.now (λ k place. not (is_picked picks.now k place)) s.others.items) }
-{
-    let flags = set_flags(alloc, automaton, picks)?;
-    let own = shares(alloc, automaton, flags.as_slice(), true)?;
-    let others = shares(alloc, automaton, flags.as_slice(), false)?;
-    Ok(Shares { own, others })
-}
-
 impl<'a, A: Allocator> RunDrawing<'a, A> {
-    /// Separates the edges of the run from the others, and sorts both by target. Each pick is an edge of the automaton.
+    /// Sorts the edges of each state by target, and finds those that the run takes. Each pick is an edge of the automaton.
     pub fn new(
         alloc: &'a A,
         automaton: Marked<'a, A>,
@@ -95,41 +76,45 @@ impl<'a, A: Allocator> RunDrawing<'a, A> {
         requires { All (IsPick automaton) (picks_in (option_map (λ v. v.items) run)) }
         ensures { IfOk result (λ d. d ≡ record { automaton = automaton.entry; run = option_map (λ v. v.items) run.entry }) }
     {
-        let shares = divided(alloc, &automaton, picks(&run))?;
+        let orders = orders(alloc, &automaton)?;
+        let flags = set_flags(alloc, &automaton, picks(&run))?;
         let by_states = is_state_based(&automaton);
         Ok(RunDrawing {
             automaton,
             run,
-            shares,
+            orders,
+            flags,
             by_states,
         })
     }
 
-    /// Writes a state and the arrows from it, those of the run last.
+    /// Writes a state and the arrows from it.
     fn put_state<S: ByteSink>(&self, k: usize, out: &mut Printer<'_, S>)
         requires { k < self.now.automaton.states }
-        ensures { Prints S.state out.old out.new (run_state_text self.now k) }
+        ensures { Prints S.state out.old out.new (state_text self.now.automaton (is_picked (picks_in self.now.run)) k) }
     {
         self.automaton.invariant();
-        let is_double = is_double(self.by_states, self.automaton.edges(k));
-        let own = &self.shares.own[k];
-        put_node(is_double, !own.is_empty(), k, out);
-        let names = self.automaton.names();
-        let others = self.shares.others[k].ordered(false);
-        put_arrows(names, !self.by_states, others, k, out);
-        put_arrows(names, !self.by_states, own.ordered(true), k, out);
+        let edges = self.automaton.edges(k);
+        let flags = &self.flags[k];
+        put_node(is_double(self.by_states, edges), flags.is_one_set(), k, out);
+        let row = Row {
+            edges,
+            places: self.orders[k].as_slice(),
+            taken: flags.as_slice(),
+        };
+        put_arrows(self.automaton.names(), !self.by_states, row, k, out);
     }
 
     /// Writes all states.
     fn put_states<S: ByteSink>(&self, out: &mut Printer<'_, S>)
-        ensures { Prints S.state out.old out.new (run_states_text self.now) }
+        ensures { Prints S.state out.old out.new (flat_map (state_text self.now.automaton (is_picked (picks_in self.now.run))) (range_with_len 0 self.now.automaton.states)) }
     {
         for k in 0..self.automaton.len() {
             self.put_state(k, out);
         }
     }
 
-    /// Writes the automaton as a graph in Graphviz' DOT language, the run in colour. It allocates nothing. After an error of the sink it writes nothing more.
+    /// Writes the automaton as a graph in Graphviz' DOT language, the run in red. It allocates nothing. After an error of the sink it writes nothing more.
     pub fn put_dot<S: ByteSink>(&self, sink: &mut S) -> Result<(), WriteFault>
         ensures ok { OnOk result (Takes (S.state sink.old) (S.state sink.new) (run_text self.now)) }
         ensures err { OnErr result (Breaks (S.state sink.old) (S.state sink.new) (run_text self.now)) }

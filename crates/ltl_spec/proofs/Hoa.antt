@@ -3,6 +3,7 @@ pub mod HoaLabelLaws
 pub mod HoaHeaderLaws
 pub mod HoaBodyLaws
 pub mod HoaLaws
+pub mod HoaNameLaws
 pub mod HoaFaultLaws
 pub mod HoaLabelBack
 pub mod HoaHeaderBack

@@ -8,3 +8,4 @@ pub mod HoaPlace
 pub mod HoaStep
 pub mod HoaFault
 pub mod HoaMachine
+pub mod HoaNames

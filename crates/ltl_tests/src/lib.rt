@@ -16,6 +16,8 @@ mod checks;
 #[cfg(test)]
 mod faults;
 #[cfg(test)]
+mod fixed;
+#[cfg(test)]
 mod host;
 #[cfg(test)]
 mod parts;

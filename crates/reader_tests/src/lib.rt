@@ -1,5 +1,5 @@
-//! Tests of readers: automata and the lines of their faults, words with their least forms and texts, timelines, and the number of calls on standard
-//! readers and writers.
+//! Tests of readers: automata, their names and the lines of their faults, words with their least forms and texts, timelines, and the number of calls
+//! on standard readers and writers.
 //!
 //! `ltl_tests` says why tests are crates of their own, divided by what they call, and where the others are.
 //!
@@ -8,6 +8,8 @@
 
 #[cfg(test)]
 mod hoa;
+#[cfg(test)]
+mod names;
 #[cfg(test)]
 mod streams;
 #[cfg(test)]

@@ -20,13 +20,13 @@ use Rattle.ltl_spec.proofs.Examples.InputTexts.{text_e, automaton_e, reads_e, ri
 use Rattle.ltl_spec.proofs.Examples.ProgramTexts.{answer}
 
 -- `<>p`
-abbrev eventually : Reading
+abbrev pub eventually : Reading
 eventually = record { formula = Unary Eventually (Proposition 0); names = codes "p" ∷ [] }
 
 eventually_text : IsTextOf (codes "<>p") eventually
 eventually_text = verdict_reading (codes "<>p") eventually refl
 
-eventually_read : ReadsFormula stated_limits (codes "<>p") (Ok eventually)
+pub eventually_read : ReadsFormula stated_limits (codes "<>p") (Ok eventually)
 eventually_read = (omega arith, eventually_text, omega arith)
 
 -- two sets of rows, and two copies
@@ -65,7 +65,7 @@ claim_answer = (
 )
 
 -- the word `cycle {}` is accepted by the sample automaton, and p is never true in it
-abbrev empty_word : Lasso
+abbrev pub empty_word : Lasso
 empty_word = record { stem = []; cycle = [] ∷ [] }
 
 abbrev loop : Edge
@@ -88,13 +88,13 @@ stays : (k : ℕ) → after_steps (next empty_word) k 0 ≡ 0
 stays zero = refl
 stays (suc k) = stays k
 
-empty_violates : IsViolation automaton_e eventually empty_word
+pub empty_violates : IsViolation automaton_e eventually empty_word
 empty_violates = (empty_accepted, λ h. never h.0 (stays h.0) h.1)
   where
     never : (k : ℕ) → after_steps (next empty_word) k 0 ≡ 0 → IsTrue (is_true_at (codes "p" ∷ []) empty_word (after_steps (next empty_word) k 0) 0) → ⊥
     never k e t = false≢true (sym (ap (λ i. is_true_at (codes "p" ∷ []) empty_word i 0) e) ∙ t)
 
-empty_lasso : IsLasso empty_word
+pub empty_lasso : IsLasso empty_word
 empty_lasso = record { sets = rising ([] ∷ []) (tt, tt); cycles = omega arith }
 
 abbrev check_plan : CheckerPlan

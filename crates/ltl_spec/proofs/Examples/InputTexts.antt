@@ -17,7 +17,7 @@ use Rattle.ltl_spec.specs.Tools.Refusal.{Tool, Translator, Checker, Evaluator, R
 use Rattle.ltl_spec.specs.Transitions.Cubes.{Literal}
 use Rattle.ltl_spec.specs.Hoa.HoaToken.{hoa_tokens}
 use Rattle.ltl_spec.specs.Hoa.HoaLabel.{Label, NumberLabel, NotLabel, BracketLabel, AndLabel, OrLabel, label_cubes, is_wide}
-use Rattle.ltl_spec.specs.Hoa.HoaReading.{AcceptanceForm, MarkedAutomaton, StatesItem, StartItem, NamesItem, SetsItem, is_item, states_in, start_in, sets_in, names_in, is_state_inside, state_edges, edges_at, HoaDocument, document_tokens, HoaReadsWithin}
+use Rattle.ltl_spec.specs.Hoa.HoaReading.{AcceptanceForm, MarkedAutomaton, StatesItem, StartItem, NamesItem, SetsItem, is_item, states_in, start_in, sets_in, names_in, is_state_inside, state_edges, edges_at, HoaDocument, document_tokens, HoaReadsWithin, stated_form}
 use Rattle.ltl_spec.specs.Hoa.HoaFault.{HoaFault, fault_at, hoa_fault}
 use Rattle.ltl_spec.proofs.Words.LeastLaws.{least_form_is}
 use Rattle.ltl_spec.proofs.Words.WordReadingLaws.{run_word, fault_at_byte, fault_at_end}
@@ -172,13 +172,18 @@ automaton_e = record {
   edges = (record { cube = literal 0 false ∷ []; target = 0; marks = 0 ∷ [] } ∷ []) ∷ [];
 }
 
+abbrev document_e : HoaDocument
+document_e = record {
+  items = StatesItem 1 ∷ StartItem 0 ∷ NamesItem (codes "p" ∷ []) ∷ SetsItem 1 ∷ [];
+  states = record { number = 0; name = None; sets = Some (0 ∷ []); edges = record { label = NotLabel (NumberLabel 0); target = 0; sets = None } ∷ [] } ∷ [];
+}
+
 pub reads_e : HoaReadsWithin stated_limits 1 text_e automaton_e
-reads_e = reads_as 1 text_e automaton_e (
-    record {
-      items = StatesItem 1 ∷ StartItem 0 ∷ NamesItem (codes "p" ∷ []) ∷ SetsItem 1 ∷ [];
-      states = record { number = 0; name = None; sets = Some (0 ∷ []); edges = record { label = NotLabel (NumberLabel 0); target = 0; sets = None } ∷ [] } ∷ [];
-    }
-    ) refl (refl, refl, refl, refl) refl refl refl ((λ h. h), tt) ((λ h. h), tt)
+reads_e = reads_as 1 text_e automaton_e document_e refl (refl, refl, refl, refl) refl refl refl ((λ h. h), tt) ((λ h. h), tt)
+
+-- as the programs read it
+pub program_reads_e : HoaReadsWithin stated_limits stated_form text_e automaton_e
+program_reads_e = reads_as stated_form text_e automaton_e document_e refl (refl, refl, refl, refl) refl refl refl ((λ h. h), tt) ((λ h. h), tt)
 
 abbrev text_p : List ℕ
 text_p = codes "HOA: v1\nStates: 2\nStart: 0\nAP: 1 \"p\"\nAcceptance: 1 Inf(0)\n--BODY--\nState: 0 {0}\n[0] 1\nState: 1\n[!0] 0\n--END--\n"

@@ -26,11 +26,17 @@ taken most NotOpened = Err CannotOpen
 taken most (Ended bytes) = Ok bytes
 taken most (Failed bytes) = if nat_lt most (length bytes) then Ok bytes else Err CannotRead
 
--- Where no memory is taken: usage, a file that couldn't be opened, and a formula's text that is too long
-abbrev pub TakesNoMemory : ℕ → Option FormulaWord → Input → Type 0
-TakesNoMemory most None input = ⊤
-TakesNoMemory most (Some (Given text)) input = most < length text
-TakesNoMemory most (Some (File name)) input = input ≡ NotOpened
+-- a file that couldn't be opened, or a read that failed
+abbrev pub IsAtFault : Input → Type 0
+IsAtFault NotOpened = ⊤
+IsAtFault (Failed bytes) = ⊤
+IsAtFault input = ⊥
+
+-- Where lack of memory is never reported: usage, a file at fault, and a formula's text that is too long
+abbrev pub IsNeverShort : ℕ → Option FormulaWord → Input → Type 0
+IsNeverShort most None input = ⊤
+IsNeverShort most (Some (Given text)) input = most < length text
+IsNeverShort most (Some (File name)) input = IsAtFault input
 
 -- what a program writes to its output and as a message, and its exit status
 pub record Answer : Type 0 where
@@ -94,9 +100,3 @@ IsCutOff l tool Answers seen =
 -- What is promised of every run. That memory was really refused isn't said here
 abbrev pub IsPromised : Limits → Tool → (Answer → Type 0) → Seen → Type 0
 IsPromised l tool Answers seen = ((a : Answer) × Answers a × IsGiven seen a) ⊎ IsShortOfMemory l tool seen ⊎ IsCutOff l tool Answers seen
-
--- a file that couldn't be opened, or a read that failed
-abbrev pub IsAtFault : Input → Type 0
-IsAtFault NotOpened = ⊤
-IsAtFault (Failed bytes) = ⊤
-IsAtFault input = ⊥

@@ -18,7 +18,7 @@ returns-clause-cause g c failed =
 pub returns-clause-memory : goal.returns-clause-memory
 returns-clause-memory g c takes =
     let (input, s, h) = c.answered-outcome.ensures in
-    let shows = outcome_shows Translator c.args.plan.now input input _ _ _ _ _ _ (h input) c.finish.ensures.status c.requires.message c.finish.ensures.message in
+    let shows = outcome_shows Translator c.args.plan.now input spec.NotOpened _ _ _ _ _ _ (h spec.NotOpened) c.finish.ensures.status c.requires.message c.finish.ensures.message in
     shows.promised.memory (takes input s)
 
 pub returns-clause-same_output : goal.returns-clause-same_output

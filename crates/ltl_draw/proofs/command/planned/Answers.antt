@@ -10,4 +10,5 @@ returns c =
     let run = c.get_str.ensures ∙ first_value-rows f (codes "w") in
     let word = c.get_str-2.ensures ∙ first_value-rows f (codes "t") in
     let formula = c.get_str-3.ensures ∙ first_value-rows f (codes "f") in
-    c.one_plan.ensures ∙ (λ i. request_for (run i) (word i) (formula i))
+    let file = c.get_str-4.ensures ∙ first_value-rows f (codes "A") in
+    c.one_plan.ensures ∙ (λ i. request_for (run i) (word i) (formula i) (file i))

@@ -6,17 +6,17 @@ pub returns-in_err-drawing : goal.returns-in_err-drawing
 returns-in_err-drawing g c =
     let (input, s, h) = c.in_err-drawing.ensures in
     let p = err_from_is_err_and c.from_residual.result c.from_residual.ensures.1 in
-    (input, s, rw (p.1, p.2) (automaton_refused input _ c.requires.output _ h))
+    (input, s, rw (p.1, p.2) (λ file. automaton_refused input _ c.requires.output file _ h))
 
 pub returns-in_err-printed : goal.returns-in_err-printed
 returns-in_err-printed g c =
     let (input, s, h) = c.in_ok-drawing.ensures in
     let p = err_from_is_err_and c.from_residual-in_err-printed.result c.from_residual-in_err-printed.ensures.1 in
     let w = rw c.in_err-printed.was at c.print-printed.ensures.err in
-    (input, s, rw (p.1, p.2) (cut_off input _ c.requires.output _ _ h w))
+    (input, s, rw (p.1, p.2) (λ file. cut_off input _ c.requires.output file _ _ h w))
 
 pub returns : goal.returns
 returns g c =
     let (input, s, h) = c.in_ok-drawing.ensures in
     let w = rw c.in_ok-printed.was at c.print-printed.ensures.ok in
-    (input, s, drawn input _ c.requires.output _ _ h _ w)
+    (input, s, λ file. drawn input _ c.requires.output file _ _ h _ w)

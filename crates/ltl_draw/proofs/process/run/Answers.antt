@@ -4,5 +4,5 @@ use Rattle.ltl_draw.proofs.process.run.Goals as goal
 
 pub returns : goal.returns
 returns g c =
-    let (words, h) = c.draw_words.ensures.shown in
-    (words, shows_bytes (ap g.W.Write.contents c.new-2.ensures.now) (search rules) (ap g.E.Write.contents c.new-3.ensures.now) (search rules) h)
+    let (words, h) = c.run_over.ensures.shown in
+    (words, shows_bytes (ap g.W.Write.contents c.new.ensures.now) (search rules) (ap g.E.Write.contents c.new-2.ensures.now) (search rules) h)

@@ -1,5 +1,4 @@
 use Rattle.std.proofs.lemmas.Result.{err_from_is_err_and}
-use Rattle.ltl_cli.specs.declared.source.Source.TheVariants as source
 use Rattle.ltl_cli.specs.Inputs.{most_of_automaton}
 use Rattle.ltl_cli.proofs.InputLaws.{unread}
 use Rattle.ltl_draw.proofs.PictureLaws.{run_automaton_refused, run_cut_off, run_drawn, run_search_refused, run_word_refused}
@@ -7,31 +6,31 @@ use Rattle.ltl_draw.proofs.run_picture.run_shown.Goals as goal
 
 pub returns-in_err-word : goal.returns-in_err-word
 returns-in_err-word g c =
-    let (input, s) = unread most_of_automaton g.R.ByteSource.state (source.Input c.args.source.now) c.requires.source in
+    let (input, s) = unread most_of_automaton g.R.ByteSource.state c.args.source.now c.requires.source in
     let p = err_from_is_err_and c.from_residual.result c.from_residual.ensures.1 in
-    (input, s, rw (p.1, p.2) (run_word_refused input _ c.requires.output _ _ c.in_err-word.ensures))
+    (input, s, rw (p.1, p.2) (λ file. run_word_refused input _ c.requires.output _ file _ c.in_err-word.ensures))
 
 pub returns-in_err-automaton : goal.returns-in_err-automaton
 returns-in_err-automaton g c =
     let (input, s, h) = c.in_err-automaton.ensures in
     let p = err_from_is_err_and c.from_residual-in_err-automaton.result c.from_residual-in_err-automaton.ensures.1 in
-    (input, s, rw (p.1, p.2) (run_automaton_refused input _ c.requires.output _ _ c.in_ok-word.ensures _ h))
+    (input, s, rw (p.1, p.2) (λ file. run_automaton_refused input _ c.requires.output _ file _ c.in_ok-word.ensures _ h))
 
 pub returns-in_err-drawing : goal.returns-in_err-drawing
 returns-in_err-drawing g c =
     let (input, s, h) = c.in_ok-automaton.ensures in
     let p = err_from_is_err_and c.from_residual-in_err-drawing.result c.from_residual-in_err-drawing.ensures.1 in
-    (input, s, rw (p.1, p.2) (run_search_refused input _ c.requires.output _ _ c.in_ok-word.ensures _ h _ c.in_err-drawing.ensures))
+    (input, s, rw (p.1, p.2) (λ file. run_search_refused input _ c.requires.output _ file _ c.in_ok-word.ensures _ h _ c.in_err-drawing.ensures))
 
 pub returns-in_err-printed : goal.returns-in_err-printed
 returns-in_err-printed g c =
     let (input, s, h) = c.in_ok-automaton.ensures in
     let p = err_from_is_err_and c.from_residual-in_err-printed.result c.from_residual-in_err-printed.ensures.1 in
     let w = rw c.in_err-printed.was at c.print-printed.ensures.err in
-    (input, s, rw (p.1, p.2) (run_cut_off input _ c.requires.output _ _ c.in_ok-word.ensures _ h _ _ c.in_ok-drawing.ensures w))
+    (input, s, rw (p.1, p.2) (λ file. run_cut_off input _ c.requires.output _ file _ c.in_ok-word.ensures _ h _ _ c.in_ok-drawing.ensures w))
 
 pub returns : goal.returns
 returns g c =
     let (input, s, h) = c.in_ok-automaton.ensures in
     let w = rw c.in_ok-printed.was at c.print-printed.ensures.ok in
-    (input, s, run_drawn input _ c.requires.output _ _ c.in_ok-word.ensures _ h _ _ c.in_ok-drawing.ensures _ w)
+    (input, s, λ file. run_drawn input _ c.requires.output _ file _ c.in_ok-word.ensures _ h _ _ c.in_ok-drawing.ensures _ w)

@@ -1,5 +1,5 @@
 use Rattle.std.proofs.Common.{[]}
-use Rattle.ltl_pictures.proofs.ShareLaws.{UnsetAt}
+use Rattle.ltl_pictures.proofs.FlagLaws.{UnsetAt}
 use Rattle.ltl_pictures.proofs.OrderLaws.{Rows}
 use Rattle.ltl_pictures.proofs.flags.all_unset.Given as goal
 

@@ -11,7 +11,7 @@ put_literal-requires g c = first_name _ _ _ _ c.in-Some.ensures.steps (text.has_
 
 pub loop-literal-init : goal.loop-literal-init
 loop-literal-init g c =
-    let e = formula_begins (map string_bytes c.args.names.now) _ _ _ _ c.iter-literals.ensures.literals c.in-Some.ensures.steps in
+    let e = formula_begins (map string_bytes c.args.names.now) c.args.red _ _ _ _ c.iter-literals.ensures.literals c.in-Some.ensures.steps in
     rw c.into_iter-literal-iterator.ensures.into_iter_gives
     record {
       named = other_names _ _ _ _ c.in-Some.ensures.steps (text.has_names _ _ _ c.iter-literals.ensures.literals (has_names _ _ c.requires));
@@ -23,7 +23,7 @@ put_literal-requires-in-loop-literal g c = first_name _ _ _ _ c.in-Some-literal.
 
 pub loop-literal-preserved : goal.loop-literal-preserved
 loop-literal-preserved g c =
-    let e = formula_goes_on (map string_bytes c.args.names.now) _ _ _ c.in-Some-literal.ensures.steps in
+    let e = formula_goes_on (map string_bytes c.args.names.now) c.args.red _ _ _ _ c.and_text-between.ensures c.in-Some-literal.ensures.steps in
     record {
       named = other_names _ _ _ _ c.in-Some-literal.ensures.steps c.loop-literal.invariant.named;
       text = lacks_step (lacks_step c.loop-literal.invariant.text _ e c.put-in-loop-literal.ensures) _ refl c.put_literal-in-loop-literal.ensures;

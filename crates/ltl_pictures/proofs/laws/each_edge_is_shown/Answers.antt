@@ -1,4 +1,4 @@
-use Rattle.ltl_pictures.proofs.ShareLaws.{are_shown}
+use Rattle.ltl_pictures.proofs.FlagLaws.{are_shown}
 use Rattle.ltl_pictures.proofs.laws.each_edge_is_shown.Goals as goal
 
 pub returns : goal.returns

@@ -1,7 +1,7 @@
 use Rattle.std.proofs.Common.{ap, ◌∙◌, length, false}
 use Rattle.std.specs.Prelude.{slice_index_or}
 use Rattle.std.proofs.lemmas.List.{length-replicate}
-use Rattle.ltl_pictures.proofs.ShareLaws.{none_set}
+use Rattle.ltl_pictures.proofs.FlagLaws.{none_set}
 use Rattle.ltl_pictures.proofs.flags.Flags.new.Goals as goal
 
 pub returns-clause-long : goal.returns-clause-long

@@ -2,10 +2,9 @@ use Rattle.ltl_pictures.proofs.run_drawing.RunDrawing.new.Goals as goal
 
 pub invariant_of-result : goal.invariant_of-result
 invariant_of-result g c =
-    let own = rw c.picks.ensures at c.in_ok-shares.ensures.own in
-    let others = rw c.picks.ensures at c.in_ok-shares.ensures.others in
+    let flags = rw c.picks.ensures at c.in_ok-flags.ensures in
     record {
-      picked = own;
-      unpicked = others;
+      sorted = c.in_ok-orders.ensures;
+      taken = flags;
       states = c.is_state_based-by_states.ensures;
     }

@@ -1,0 +1,6 @@
+use Rattle.ltl_cli.proofs.RunLaws.{shows_more}
+use Rattle.ltl_draw.specs.Plans.{requested}
+use Rattle.ltl_draw.proofs.program.draw_words.Goals as goal
+
+pub returns-clause-shown : goal.returns-clause-shown
+returns-clause-shown g c = shows_more (λ seen m. (requested c.planned-plan.result, c.planned-plan.ensures, m)) c.draw_plan.ensures.shown
