@@ -1,0 +1,163 @@
+"""What `tools/edits --gate` does: it tries wrong bodies of docs/edits whose last refusal isn't noted, or whose note no longer holds, for at most ten minutes.
+
+A check that runs then is given five minutes more. Nothing is noted, so that the gate leaves the tree as it is. The edits of a crate come together into one
+check of the functions that they change, and of what these call, from nothing: over the libraries that `rt ci` keeps on this machine, which it gives to a
+copy of the sources within seconds. Each check has one processor. The crates come in an order that begins elsewhere for each commit, so that what is left
+untried by one commit's gate comes first in another's. An edit that isn't refused among others is tried alone; the gate fails if all is proved with
+it. Edits that change no single body need a proof of their crate, and are left to `tools/edits`. WITHOUT_EDITS=1 leaves all of this out, and says so."""
+
+import os
+import shutil
+import signal
+import subprocess
+import sys
+import tempfile
+import time
+from concurrent.futures import ThreadPoolExecutor
+from pathlib import Path
+
+sys.dont_write_bytecode = True
+from edit_checks import asked_for, evidence, texts_of, together
+from edit_files import TOP, change_of, crates_below, edits_of, functions_of, lines_of_crates
+
+# Seconds in which checks begin; those that a running check has then; and those in which `rt ci` gives what it keeps.
+BEGIN, MORE, KEPT = 600, 300, 120
+REFUSED, PROVED, UNTRIED = "refused", "NOT REFUSED: all is proved with it", "not tried"
+
+
+def said_by(words, folder, seconds):
+    """What a command says, and its status, which is None if it was stopped after so many seconds."""
+    how = {"stdin": subprocess.DEVNULL, "stdout": subprocess.PIPE, "stderr": subprocess.STDOUT, "text": True, "errors": "replace"}
+    with subprocess.Popen(words, cwd=folder, start_new_session=True, **how) as ran:
+        try:
+            return ran.communicate(timeout=max(1, seconds))[0], ran.returncode
+        except subprocess.TimeoutExpired:
+            os.killpg(ran.pid, signal.SIGKILL)
+            return ran.communicate()[0], None
+
+
+def put_sources(crate, folder):
+    """A copy of a crate's code, definitions and proofs."""
+    shutil.copytree(TOP / "crates" / crate, folder, ignore=shutil.ignore_patterns("out", "must-fail"))
+
+
+def libraries(room, crates):
+    """Has `rt ci` put into a room what it keeps of these libraries. Returns whether it did."""
+    (room / "crates").mkdir()
+    shutil.copy(TOP / "HANDLES", room)
+    lines = lines_of_crates()
+    (room / "crates.txt").write_text("".join(f"{it}: {' '.join(lines[it][1])}\n" for it in crates), encoding="utf-8")
+    for crate in crates:
+        put_sources(crate, room / "crates" / crate)
+    _, status = said_by(["rt", "ci"], room, KEPT)
+    return status == 0
+
+
+class Base:
+    """The kit, and the room with the libraries."""
+
+    def __init__(self, room):
+        self.room, self.lines, self.below = room, lines_of_crates(), crates_below()
+        self.kit = Path(subprocess.run(["rt", "doc"], stdout=subprocess.PIPE, text=True, check=True).stdout.strip()).parent
+
+    def rlib(self, crate):
+        return self.room / "crates" / crate / "out/rlib" / f"{crate}.rlib"
+
+    def check(self, crate):
+        """The words of a check of a crate over the libraries."""
+        kinds, direct = self.lines[crate]
+        words = [self.kit / "bin/rattle", "check", "--crate-name", crate, "src/lib.rt"]
+        for name in ("std", *(it for it in direct if it not in self.lines)):
+            words += ["--extern", f"{name}={self.kit}/rlibs/{name}.rlib"]
+        words += ["-L", f"dependency={self.kit}/rlibs"]
+        for name in (it for it in direct if it in self.lines):
+            words += ["--extern", f"{name}={self.rlib(name)}"]
+        for name in self.below[crate]:
+            words += ["-L", f"dependency={self.rlib(name).parent}"]
+        words += ["--antt-project", f"{self.kit}/rattle/logic/antt-project.json", "--logic-built", f"{self.kit}/logic_built"]
+        return [*words, "--jobs", "1", "--links", f"{crate}=", *(["--crate-type", "staticlib"] if "staticlib" in kinds else [])]
+
+
+class Trial:
+    """The edits of a crate that come into one check."""
+
+    def __init__(self, crate, changes, texts, functions):
+        self.crate, self.changes, self.texts, self.functions = crate, changes, texts, functions
+
+    def checked(self, base, until):
+        """What a check of the crate with these edits says of each: refused, with the line that says so, or else what is known."""
+        with tempfile.TemporaryDirectory(prefix="edits-") as room:
+            folder = Path(room) / self.crate
+            put_sources(self.crate, folder)
+            for name, text in self.texts.items():
+                (folder / name).write_text(text, encoding="utf-8")
+            said, status = said_by([*base.check(self.crate), *asked_for(self.changes)], folder, until - time.monotonic())
+        lines = said.splitlines()
+        found = {it.name: evidence(lines, it, self.functions) if status is not None else None for it in self.changes}
+        other = PROVED if status == 0 else UNTRIED
+        return {name: (REFUSED if line else other, line or (lines or [""])[-1]) for name, line in found.items()}
+
+
+def trials_of(crate, names):
+    """The checks that the edits of a crate make, and the edits that no check here can try."""
+    folder = TOP / "crates" / crate
+    functions = functions_of(folder)
+    changes, before = [change_of(edits_of(crate)[name], folder, functions) for name in names], texts_of(folder, functions)
+    left, found = [it for it in changes if it.function], []
+    while left:
+        chosen, texts, left = together(left, before)
+        if not chosen:
+            break
+        found.append(Trial(crate, chosen, texts, functions))
+    return found, [it.name for it in changes if not it.function or it in left]
+
+
+def turned(crates):
+    """The crates, from another one on for each commit."""
+    commit = subprocess.run(["git", "rev-parse", "HEAD"], cwd=TOP, stdout=subprocess.PIPE, stderr=subprocess.DEVNULL, text=True, check=False).stdout.strip()
+    at = int(commit[:8] or "0", 16) % max(1, len(crates))
+    return crates[at:] + crates[:at]
+
+
+def tried(base, trial, start):
+    """What is known of each edit of a trial, some of them tried alone. Nothing begins after the ten minutes."""
+    until = start + BEGIN + MORE
+    if time.monotonic() - start > BEGIN:
+        return {it.name: (UNTRIED, "") for it in trial.changes}
+    found = trial.checked(base, until)
+    before = texts_of(TOP / "crates" / trial.crate, trial.functions)
+    for it in trial.changes:
+        if found[it.name][0] == UNTRIED and len(trial.changes) > 1 and time.monotonic() - start < BEGIN:
+            alone, texts, _ = together([it], before)
+            found |= Trial(trial.crate, alone, texts, trial.functions).checked(base, until)
+    return found
+
+
+def main(wanted):
+    """Tries those of the wanted edits that `rt ci` doesn't try. The last line is 'N passed, M failed'."""
+    names = {}
+    for crate, name in sorted(wanted):
+        if edits_of(crate)[name].parent.name != "must-fail":
+            names.setdefault(crate, []).append(name)
+    count = sum(len(it) for it in names.values())
+    if os.environ.get("WITHOUT_EDITS") == "1" or not count:
+        print(f"skipped: {count} wrong bodies that are due, as WITHOUT_EDITS=1 asks" if count else "no wrong body is due")
+        print("0 passed, 0 failed")
+        return 0
+    start, found = time.monotonic(), {}
+    with tempfile.TemporaryDirectory(prefix="edits-") as folder:
+        base, of = Base(Path(folder)), {crate: trials_of(crate, names[crate]) for crate in turned(sorted(names))}
+        below = [it for it in base.lines if any(it in base.below[crate] for crate in names)]
+        if libraries(base.room, below):
+            with ThreadPoolExecutor(len(os.sched_getaffinity(0))) as pool:
+                trials = [it for crate in of for it in of[crate][0]]
+                for trial, told in zip(trials, pool.map(lambda it: tried(base, it, start), trials)):
+                    for name, (verdict, line) in told.items():
+                        found[trial.crate, name] = verdict
+                        print(f"{trial.crate}/{name}: {verdict}: {line[:140]}\n" if line else "", end="", flush=True)
+        else:
+            print(f"skipped: {count} wrong bodies that are due, since `rt ci` keeps no libraries of this tree here")
+    refused, proved = (sum(it == verdict for it in found.values()) for verdict in (REFUSED, PROVED))
+    print(f"{count - refused - proved} wrong bodies that are due are left untried; tools/edits tries them, and notes what is refused")
+    print(f"{refused} passed, {proved} failed")
+    return 1 if proved else 0
