@@ -6,23 +6,24 @@ begins with 'skipped: '. The last line is 'N passed, M failed'."""
 
 import contextlib
 import html
-import http.client
 import os
 import re
 import shutil
-import signal
+import socket
 import subprocess
 import sys
 import tempfile
 import threading
 import time
-import urllib.parse
 from concurrent.futures import ThreadPoolExecutor
 from pathlib import Path
 
-TOP = Path(__file__).resolve().parent.parent
-PROGRAMS = "ltl2ba", "ltlcheck", "ltleval"
-SECONDS = 120
+sys.dont_write_bytecode = True
+sys.path[:0] = [str(Path(__file__).resolve().parent), str(Path(__file__).resolve().parent.parent)]
+
+import page_answers as tries  # noqa: E402
+from page_kit import PROGRAMS, SECONDS, TOP, Count, Page, fault, path_of, seen, sentences  # noqa: E402
+from page_looks import try_looks  # noqa: E402
 
 # Programs that misbehave, in place of the built ones. The formula says how.
 MEAN = r"""import os, signal, sys, time
@@ -67,124 +68,9 @@ else:
 """
 
 
-class Count:
-    """The numbers of tests that passed and failed."""
-
-    passed = failed = 0
-
-    def expect(self, about, seen, wanted=True):
-        self.passed, self.failed = self.passed + (seen == wanted), self.failed + (seen != wanted)
-        if seen != wanted:
-            print(f"{about}: {str(seen)[:400]}, and not {str(wanted)[:400]}")
-
-    def add(self, other):
-        self.passed, self.failed = self.passed + other.passed, self.failed + other.failed
-
-
-class Page:
-    """A page that is running, and requests to it."""
-
-    def __init__(self, *words, **variables):
-        self.process = subprocess.Popen([sys.executable, TOP / "page", *words], stdout=subprocess.PIPE, text=True, env={**os.environ, **variables})
-        self.line = self.process.stdout.readline()
-        told = re.fullmatch(r"http://127\.0\.0\.1:(\d+)/\n", self.line)
-        self.port = int(told[1]) if told else 0
-
-    def __enter__(self):
-        return self
-
-    def __exit__(self, *_):
-        self.process.send_signal(signal.SIGINT)
-        self.process.wait(SECONDS)
-
-    def request(self, path="/", method="GET", **headers):
-        """The status, the headers and the text of an answer."""
-        connection = http.client.HTTPConnection("127.0.0.1", self.port, timeout=SECONDS)
-        connection.putrequest(method, path, skip_host=True)
-        for name, value in {"Host": f"127.0.0.1:{self.port}", **headers}.items():
-            for it in value if isinstance(value, list) else [value] if value else []:
-                connection.putheader(name.replace("_", "-"), it)
-        connection.endheaders()
-        answer = connection.getresponse()
-        return answer.status, answer.headers, answer.read().decode("utf-8")
-
-    def status(self, path="/", method="GET", **headers):
-        return self.request(path, method, **headers)[0]
-
-    def ask(self, formula, second="", word=""):
-        """The part of the answer between the form and the help."""
-        status, _, text = self.request(path_of(formula, second, word))
-        return text.partition("</form>")[2].partition("<summary>What can be asked")[0] if status == 200 else f"status {status}"
-
-
-def path_of(formula, second="", word=""):
-    return "/?" + urllib.parse.urlencode({"f": formula, "g": second, "w": word})
-
-
-def seen(text):
-    """The text that a reader sees, without markup."""
-    return html.unescape(re.sub(r"<[^>]*>", "", text))
-
-
-def fault(text):
-    return [seen(it) for it in re.findall(r'<pre class="fault"[^>]*>(.*?)</pre>', text, re.S)], re.findall(r"<mark[^>]*>(.*?)</mark>", text)
-
-
-def try_formulas(page, count):
-    status, headers, text = page.request()
-    count.expect("the beginning", (status, headers["Content-Type"], "<form" in text, "<script" in text), (200, "text/html; charset=utf-8", True, False))
-    count.expect("the style sheet", [(it[0], it[1]["Content-Type"]) for it in [page.request("/style.css")]], [(200, "text/css; charset=utf-8")])
-    text = page.ask("[]<>p")
-    count.expect("sizes", "2 states and 4 edges" in seen(text))
-    count.expect("as it is read", "It is read as (p && []q)." in seen(page.ask("p && G q")))
-    claim = "never { /* []<>p */\nT0_init:\n\tif\n\t:: (1) -> goto T0_init\n\t:: (p) -> goto accept_S1\n\tfi;\naccept_S1:\n"
-    count.expect("the claim", claim in seen(text))
-    count.expect("the automaton", 'HOA: v1\nname: "[]<>p"\nStates: 2\nStart: 0\nAP: 1 "p"\n' in seen(text) and "[t] 0\n[0] 1\n--END--\n" in seen(text))
-    count.expect("a link to it", f'<a href="/?{html.escape(urllib.parse.urlencode({"f": "[]<>p"}))}">' in text)
-    for formula, before, at in ("p W q", "p W q", "W"), ("p &&", "p &&end", "end"), ("p && é q", "p && é q", "é"), ("(p", "(pend", "end"):
-        text = page.ask(formula)
-        count.expect(f"the fault of {formula}", fault(text), ([before], [at]))
-    count.expect("its kind", "ltl2ba: formula: byte 2: unexpected byte" in seen(page.ask("p W q")))
-    text = page.ask("p " * 300 + "p")
-    count.expect("a fault far behind", (fault(text)[1], len(fault(text)[0][0]) < 500), (["p"], True))
-
-
-def try_pairs(page, count):
-    for first, second, wanted in (
-        ("p U q", "!(!p R !q)", "They are equivalent"),
-        ("[]p", "<>p", "The first implies the second, and not"),
-        ("<>p", "[]p", "The second implies the first, and not"),
-        ("p", "q", "Neither implies"),
-    ):
-        text = seen(page.ask(first, second))
-        count.expect(f"{first} and {second}", wanted in text)
-        words = re.findall(r"On this word the (first|second) one holds, and the (?:first|second) one doesn’t: ((?:\{[^}]*\}; )*cycle \{.*\})", text)
-        count.expect(f"words of {first} and {second}", len(words), {"They": 0, "The ": 1, "Neit": 2}[wanted[:4]])
-        for which, word in words:
-            judged = seen(page.ask(first, second, word))
-            one, other = ("first", "second") if which == "first" else ("second", "first")
-            count.expect(f"{word} of {first} and {second}", (f"The {one} formula holds on it." in judged, f"The {other} formula doesn’t hold on it." in judged), (True, True))
-    text = page.ask("p", "q &&")
-    count.expect("a fault in the second", (fault(text), "formulas" in seen(text)), ((["q &&end"], ["end"]), False))
-
-
-def try_words(page, count):
-    for formula, word, wanted in (
-        ("[]<>p", "cycle {p}; {}", "The formula holds on it."),
-        ("[]<>p", "{p}; cycle {}", "The formula doesn’t hold on it."),
-        ("p", "-f; cycle {}", "ltleval: word: byte 0: bad word"),
-        ("p", "={p}; cycle {}", "ltleval: word: byte 0: bad word"),
-        ("p", "{p};cycle {}", "ltleval: word: byte 4: bad word"),
-        ("p", "\0", "ltleval: no program can be given this"),
-        ("p", "{}; " * 16_384 + "cycle {}", "ltleval: limit: word longer than 65536 bytes"),
-        ("p", "{}; " * 40_000 + "cycle {}", "ltleval: no program can be given this"),
-    ):
-        count.expect(f"{formula} on {word[:40]}", wanted in seen(page.ask(formula, "", word)))
-    count.expect("the fault of a word", fault(page.ask("p", "", "{p};cycle {}")), (["{p};cycle {}"], ["c"]))
-
-
 def try_hostile(page, count):
-    for text in '<script>alert(1)</script>', '"><img src=x onerror=alert(1)>', "'; touch owned; '", "$(touch owned) `touch owned`", "$formula ${answers}", "&lt;b>\x1b[2J":
+    texts = '<script>alert(1)</script>', '"><img src=x onerror=alert(1)>', "'; touch owned; '", "$(touch owned) `touch owned`", "$formula ${answers}"
+    for text in *texts, "&lt;b>\x1b[2J":
         for fields in (text, "", ""), ("p", text, ""), ("p", "q", text):
             body = page.request(path_of(*fields))[2]
             count.expect(f"{text} is escaped", any(it in body for it in ("<script", "<img", "onerror=alert(1)>", "<b>", "\x1b")), False)
@@ -227,18 +113,42 @@ def try_requests(page, count):
         ("from another site", 403, {"Sec_Fetch_Site": "cross-site"}),
         ("from another port", 403, {"Sec_Fetch_Site": "same-site"}),
     ):
-        for path in "/", path_of("p"), "/style.css":
+        for path in "/", path_of("p"), "/style.css", "/picture" + path_of("p")[1:]:
             count.expect(f"{about}, {path}", page.status(path, **headers), wanted)
-    for method in "POST", "HEAD", "PUT", "DELETE", "OPTIONS", "TRACE", "get", "X":
+    for method in "POST", "PUT", "DELETE", "OPTIONS", "TRACE", "get", "head", "X":
         status, headers, _ = page.request(path_of("p"), method)
-        count.expect(f"method {method}", (status, headers["Allow"]), (405, "GET"))
-    for path in "/page", "/../page", "/web/page.html", "/style.css?x", "/favicon.ico":
+        count.expect(f"method {method}", (status, headers["Allow"]), (405, "GET, HEAD"))
+    for path in "/", path_of("p"), "/style.css", "/none":
+        answers = [page.request(path, method) for method in ("GET", "HEAD")]
+        heads = [(status, {name: it for name, it in headers.items() if name != "Date"}) for status, headers, _ in answers]
+        count.expect(f"the head of {path}", (heads[1], answers[1][2]), (heads[0], ""))
+    for path in "/page", "/../page", "/web/page.html", "/style.css?x", "/favicon.ico", "/web/server.py", "/picture.html":
         count.expect(f"path {path}", page.status(path), 404)
     _, headers, _ = page.request()
     count.expect("no frame", (headers["X-Frame-Options"], "frame-ancestors 'none'" in headers["Content-Security-Policy"]), ("DENY", True))
     count.expect("no script", headers["Content-Security-Policy"].startswith("default-src 'none'; style-src 'self';"))
     count.expect("for no other page", headers["Cross-Origin-Resource-Policy"], "same-origin")
     count.expect("no other address", [it for it in headers if it.lower().startswith("access-control")], [])
+
+
+def try_silent(page, count):
+    """Connections that say nothing, or only the beginning of a request, hold up no other one, and are closed after a while."""
+    begun, open_ones = time.monotonic(), []
+    with contextlib.ExitStack() as stack:
+        for k in range(106):
+            open_ones.append(stack.enter_context(socket.create_connection(("127.0.0.1", page.port), SECONDS)))
+            if k % 2:
+                open_ones[-1].sendall(b"GET / HT")
+            if k == 5:
+                count.expect("beside six silent connections", (page.status(), time.monotonic() - begun < 5), (200, True))
+        count.expect("beside a hundred", (page.status(path_of("p")), time.monotonic() - begun < 9), (200, True))
+        with contextlib.suppress(ConnectionError):
+            count.expect("the last one is closed", (open_ones[-1].recv(1), 9 < time.monotonic() - begun < 60), (b"", True))
+    with socket.create_connection(("127.0.0.1", page.port), SECONDS) as slow:
+        for part in "GET / HTTP/1.1\r", f"\nHost: 127.0.0.1:{page.port}\r\n", "\r", "\n":
+            slow.sendall(part.encode())
+            time.sleep(0.1)
+        count.expect("a request in pieces", slow.recv(15), b"HTTP/1.0 200 OK")
 
 
 def try_times(page, count, formula, about):
@@ -256,20 +166,32 @@ def try_times(page, count, formula, about):
     count.expect(f"{about}: in time", 9 < time.monotonic() - begun < 60)
 
 
+def put_mean(folder, *names):
+    """Puts malicious programs into a folder."""
+    for name in names:
+        (Path(folder) / name).write_text(f"#!{sys.executable}\n{MEAN}", encoding="utf-8")
+        (Path(folder) / name).chmod(0o755)
+
+
 def try_mean(count):
     """Malicious programs are stopped, and what they write is escaped."""
     with tempfile.TemporaryDirectory() as folder:
-        for name in (*PROGRAMS, "ltldraw", "dot"):
-            (Path(folder) / name).write_text(f"#!{sys.executable}\n{MEAN}", encoding="utf-8")
-            (Path(folder) / name).chmod(0o755)
+        put_mean(folder, *PROGRAMS, "ltldraw", "dot")
         with Page("-p", folder) as page:
             text = page.ask("first", "second", "<u>; cycle {}")
             count.expect("what programs write is escaped", re.findall(r"<(?:b|i|u|script|a href=.http|foreignObject)\b", text), [])
-            count.expect("a picture", re.findall(r"<svg.*?</svg>", text, re.S)[0].replace("\n", ""), '<svg width="9pt"><g class="node"><text x="1">&lt;b&gt;kept</text><path d="M1,2" stroke="currentColor" fill="none"></path></g></svg>')
+            wanted = '<svg width="9pt"><g class="node"><text x="1">&lt;b&gt;kept</text><path d="M1,2" stroke="currentColor" fill="none"></path></g></svg>'
+            count.expect("a picture", re.findall(r"<svg.*?</svg>", text, re.S)[0].replace("\n", ""), wanted)
             count.expect("as it is read", "It is read as <i>first." in seen(text))
             count.expect("a word that tells them apart", "On this word the first one holds, and the second one doesn’t: <u>; cycle {}" in seen(text))
             count.expect("that nobody agrees on", "ltleval doesn’t agree about the word <u>; cycle {}" in seen(text))
-            count.expect("timelines", re.findall(r'<pre class="timeline" tabindex="0">([^<]*)\n</pre>', text), ["shown &lt;b&gt;"] * 3)
+            count.expect("timelines", re.findall(r'<pre class="timeline" tabindex="0">([^<]*)\n</pre>', text), ["shown &lt;b&gt;"] * 4)
+            alone = page.request("/picture?f=first")[2]
+            count.expect("a picture by itself", [it.replace("\n", "") for it in re.findall(r"<svg.*?</svg>", alone, re.S)], [wanted])
+            count.expect("what is escaped beside it", re.findall(r"<(?:b|i|u|script|a href=.http|foreignObject)\b", alone), [])
+            text = page.ask("first")
+            count.expect("satisfiable", sentences(text, "said"), ["It is satisfiable: it holds on <u>; cycle {}."])
+            count.expect("and valid, if a program is wrong", sentences(text, "no"), ["ltleval doesn’t agree about the word <u>; cycle {}"])
             try_times(page, count, "slow", "asleep")
             count.expect("busy", "ltl2ba was stopped: a run has 10 seconds" in seen(page.ask("busy")))
             count.expect("large", "ltl2ba: out of memory" in seen(page.ask("large")))
@@ -285,25 +207,54 @@ def try_mean(count):
             count.expect("without ltldraw", ("ltldraw, which draws automata, is not built" in text, "The first formula holds on it." in text), (True, True))
         os.remove(f"{folder}/ltleval")
         ran = subprocess.run([TOP / "page", "-p", folder], capture_output=True, text=True, timeout=SECONDS, check=False)
-        count.expect("not built", (ran.stdout, ran.stderr, ran.returncode), ("", "page: ltleval is not built; ./build proves and builds it\n", 1))
-        ran = subprocess.run([TOP / "page", "8080"], capture_output=True, text=True, timeout=SECONDS, check=False)
-        count.expect("usage", (ran.stdout, ran.stderr, ran.returncode), ("", "usage: ./page [-p FOLDER]\n", 2))
+        count.expect("not built", (ran.stdout, ran.stderr, ran.returncode), ("", f"page: {folder} has no program ltleval\n", 1))
 
 
-def try_pictures(page, count, has_drawer):
-    text = page.ask("[](p -> <>q)")
-    if not has_drawer:
-        print("skipped: pictures on the page, for want of ltldraw")
-    elif not shutil.which("dot"):
-        print("skipped: pictures on the page, for want of Graphviz' dot")
-    else:
-        svg = re.findall(r"<svg.*?</svg>", text, re.S)
-        count.expect("a picture", len(svg), 1)
-        nodes = re.findall(r'<g class="node">', svg[0]) if svg else []
-        count.expect("its states, and the arrow from nowhere", len(nodes) in (3, 4))
-        for word, wanted in ("cycle {p}; {}", (True, False)), ("{p}; cycle {}", (False, True)), ("{p}; cycle", (False, False)), ("{}; " * 40_000 + "cycle {}", (False, False)):
-            svg = re.findall(r"<svg.*?</svg>", page.ask("[]<>p", "", word), re.S)
-            count.expect(f"the run on {word[:40]}", [("var(--run)" in it, "no run on this word is accepting" in seen(it)) for it in svg], [wanted])
+def ran(*words, script=TOP / "page"):
+    """The status and the two outputs of a page that doesn't serve."""
+    it = subprocess.run([sys.executable, script, *words], capture_output=True, text=True, timeout=SECONDS, check=False)
+    return it.returncode, it.stdout, it.stderr
+
+
+def try_command_line(count):
+    """The command line: the usage, a port, and a port that is taken."""
+    usage = "usage: page [-h] [-p FOLDER] [-P PORT]\n"
+    for words in ("-h",), ("--help",), ("-P", "80", "-h"):
+        status, out, err = ran(*words)
+        count.expect(f"help by {words}", (status, out.startswith(usage), "-P PORT" in out, "http:" in out, err), (0, True, True, False, ""))
+    for words in ("8080",), ("-P",), ("-P", "0"), ("-P", "65536"), ("-P", "x"), ("-p",), ("--po", "80"):
+        status, out, err = ran(*words)
+        count.expect(f"usage of {words}", (status, out, err.startswith(usage)), (2, "", True))
+    with tempfile.TemporaryDirectory() as folder, socket.socket() as taken:
+        put_mean(folder, *PROGRAMS)
+        taken.bind(("127.0.0.1", 0))
+        taken.listen()
+        port = taken.getsockname()[1]
+        count.expect("a port that is taken", ran("-p", folder, "-P", str(port)), (1, "", f"page: port {port}: Address already in use\n"))
+        taken.close()
+        for k in range(2):
+            with Page("-p", folder, "-P", str(port)) as page:
+                count.expect(f"a port, start {k}", (page.port, page.status()), (port, 200))
+
+
+def try_installed(count):
+    """The page under another name beside its programs, with its other files in share/ltl2ba, and by a link to it."""
+    with tempfile.TemporaryDirectory() as folder:
+        there = Path(folder).resolve()
+        shutil.copytree(TOP / "web", there / "share/ltl2ba/web")
+        (there / "bin").mkdir()
+        script = Path(shutil.copy(TOP / "page", there / "bin/ltl2ba-page"))
+        count.expect("without its programs", ran(script=script), (1, "", f"ltl2ba-page: {there}/bin has no program ltl2ba\n"))
+        put_mean(there / "bin", *PROGRAMS, "ltldraw", "dot")
+        (there / "link").symlink_to(script)
+        for it in script, there / "link":
+            with Page(script=it, PYTHONDONTWRITEBYTECODE="") as page:
+                text = page.ask("first")
+                told = "It is read as <i>first." in seen(text), "kept" in text, page.status("/style.css")
+                count.expect(f"installed, as {it.name}", told, (True, True, 200))
+        count.expect("nothing is written there", [str(it) for it in there.rglob("__pycache__")], [])
+        shutil.rmtree(there / "share")
+        count.expect("without its files", ran(script=script), (1, "", "ltl2ba-page: the folder web is missing\n"))
 
 
 def try_browser(page, count):
@@ -338,24 +289,29 @@ def try_page(count, folder):
         if page.port:
             with ThreadPoolExecutor() as pool:
                 waiting = pool.submit(try_minutes, page, minutes)
-                try_formulas(page, count)
-                try_pairs(page, count)
-                try_words(page, count)
-                try_hostile(page, count)
-                try_requests(page, count)
-                try_pictures(page, count, (folder / "ltldraw" if folder else TOP / "crates/ltldraw/out/ltldraw").exists())
-                try_browser(page, count)
+                has_drawer = (folder / "ltldraw" if folder else TOP / "crates/ltldraw/out/ltldraw").exists()
+                for it in tries.try_formulas, tries.try_spellings, tries.try_truths, tries.try_pairs, tries.try_words, tries.try_words_beside:
+                    it(page, count)
+                for it in try_hostile, try_requests, try_silent, try_browser:
+                    it(page, count)
+                for it in tries.try_timelines, tries.try_pictures, try_looks:
+                    it(page, count, has_drawer)
                 waiting.result()
     count.expect("it ends", page.process.returncode, 130)
     count.add(minutes)
 
 
 def main(words):
+    if words[:1] in (["-h"], ["--help"]):
+        print(__doc__)
+        return 0
     folder = Path(words[1]).resolve() if words[:1] == ["-p"] else None
     count, mean = Count(), Count()
     with ThreadPoolExecutor() as pool:
         # Malicious programs use up their time, which others need not wait for.
         waiting = pool.submit(try_mean, mean)
+        for it in tries.try_readings, try_command_line, try_installed:
+            it(count)
         try_page(count, folder)
         waiting.result()
     count.add(mean)

@@ -1,0 +1,1 @@
+"""The page that ./page serves: its server, its answers and how they are shown."""
