@@ -1,8 +1,9 @@
+/* SPDX-License-Identifier: MIT OR Apache-2.0 */
 /* The translator, the checker and the evaluator as a library: linear temporal logic to Büchi automata.
 
    The calls do the work of the programs ltl2ba, ltlcheck and ltleval over texts in memory, and return their exit statuses: see ltl2ba(3), and for the
-   texts ltl2ba(1), ltlcheck(1) and ltleval(1). What the library does is proved for every input, on the conditions below; that this header declares it
-   correctly is only tested.
+   texts ltl2ba(1), ltlcheck(1) and ltleval(1). What the library does is proved for every input, on the conditions below. That this header declares it
+   correctly isn't proved: a test compares calls, structures and numbers with the library's sources.
 
    No call prints anything, ends the process, or keeps anything between calls: a call frees all its memory before it returns, so the caller has nothing to
    free. Any number of threads may call at the same time, each with buffers of its own.
@@ -10,9 +11,14 @@
    The caller has to keep these conditions:
    - A pointer with a length is valid for this many elements, and is not null, not even with length 0. Every other pointer points to an object.
    - A buffer, or an object that is written to, overlaps no other argument of the same call.
+   - During a call no other thread writes to any of its arguments, not even to a text or to the options, or reads what the call writes to.
+   - What a call reads is initialised: the texts, the options, in which a bool is 0 or 1, and the refusal of ltl2ba_message.
    - malloc, realloc and free belong to one allocator, which aligns a block to each power of two up to 16 that divides its size.
    - No call is made in a signal handler, or in the child of a fork of a process with several threads.
    - There is room for 64 KiB on the stack.
+
+   The proof takes all arguments as references of Rust, whose memory is initialised. No call reads what a buffer, an array or a result held before, so these may
+   be uninitialised; no statement of the proof says so.
 
    No text ends with a zero byte: each has a length. */
 #ifndef LTL2BA_H
@@ -26,6 +32,11 @@
 extern "C" {
 #endif
 
+/* The version of the library and of the programs: of this header, not of the archive that is linked. */
+#define LTL2BA_VERSION "1.1"
+#define LTL2BA_VERSION_MAJOR 1
+#define LTL2BA_VERSION_MINOR 1
+
 /* Statuses: those of the programs, and one of a buffer that is too short. */
 #define LTL2BA_DONE 0          /* done; of a check: each word satisfies the formula; of an evaluation: the formula holds */
 #define LTL2BA_VIOLATED 1      /* of a check: a word violates the formula; of an evaluation: the formula doesn't hold */
@@ -38,8 +49,8 @@ extern "C" {
 /* Why a call was refused: with each status from 2 to 5, and else all are 0. */
 struct ltl2ba_refusal {
     uint32_t kind;  /* which refusal it is */
-    uint32_t fault; /* which fault a formula or an automaton has */
-    size_t place;   /* the offset of the fault in a formula or a word, from 0; its line in an automaton, from 1 */
+    uint32_t fault; /* which fault a formula or an automaton has, by the names below; 0 for other refusals */
+    size_t place;   /* the offset of the fault in a formula or a word, from 0; its line in an automaton, from 1; 0 for other refusals */
 };
 
 #define LTL2BA_NO_REFUSAL 0
@@ -56,11 +67,30 @@ struct ltl2ba_refusal {
 #define LTL2BA_BAD_AUTOMATON 11 /* fault and place */
 #define LTL2BA_LARGE_PRODUCT 12
 
+/* The faults of LTL2BA_BAD_FORMULA: what is wrong at the place. */
+#define LTL2BA_UNEXPECTED_BYTE 0
+#define LTL2BA_EXPECTED_OPERAND 1
+#define LTL2BA_EXPECTED_OPERATOR_OR_END 2
+#define LTL2BA_EXPECTED_CLOSE_OR_OPERATOR 3 /* a closing parenthesis or an operator */
+
+/* The faults of LTL2BA_BAD_AUTOMATON: what is wrong in the line. */
+#define LTL2BA_NOT_HOA_VERSION1 0
+#define LTL2BA_BAD_TOKEN 1
+#define LTL2BA_ITEM_TWICE 2
+#define LTL2BA_ITEM_MISSING 3
+#define LTL2BA_UNKNOWN_ITEM 4
+#define LTL2BA_UNSUPPORTED 5
+#define LTL2BA_NUMBER_OUT_OF_RANGE 6
+#define LTL2BA_BAD_PROPOSITION_LIST 7
+#define LTL2BA_STATE_DEFINED_TWICE 8
+#define LTL2BA_TEXT_AFTER_END 9
+#define LTL2BA_LIMIT_PASSED 10
+
 /* The options of a translation. All zeros mean the same as the command line without options. */
 struct ltl2ba_options {
     bool no_rewrite;   /* -l: the normal form isn't rewritten */
     bool keep_implied; /* -o: transitions that another one implies are kept */
-    bool keep_equal;   /* -p: states that are equivalent to another one are kept */
+    bool keep_equal;   /* -p: states with the same edges as another one are kept */
     uint32_t layout;   /* one of the following */
 };
 

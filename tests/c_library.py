@@ -1,7 +1,7 @@
 #!/usr/bin/env python3
 """Builds the sources in tests/c and examples/c against the C library, and compares the answers of its calls with the programs: on the stored runs of
 tests/*.json, on 500 random formulas, with every length of a buffer up to the needed one, with each allocation refused, under valgrind, and with the
-compiler's sanitizers.
+compiler's sanitizers. Builds the program in the manual page ltl2ba(3), linked in several ways, and compares what it prints with the program.
 
 Usage: tests/c_library.py [FOLDER]; the programs are those of the folder, or those that the gate built. What is not installed is reported as skipped, and
 isn't counted. The last line is 'N passed, M failed'."""
@@ -11,6 +11,7 @@ import json
 import os
 import random
 import re
+import runpy
 import shlex
 import shutil
 import subprocess
@@ -79,7 +80,7 @@ def output_of(tool, found):
     if tool == "ltleval":
         return {0: b"true\n", 1: b"false\n"}.get(status, b"")
     if tool == "ltlcheck":
-        return {0: b"contained\n", 1: b"violated\n" + handed + b"\n"}.get(status, b"")
+        return {0: handed + b"contained\n", 1: b"violated\n" + handed + b"\n"}.get(status, b"")
     return handed
 
 
@@ -226,14 +227,81 @@ def dot_of(printed):
     return "\n".join([*lines, "}", ""])
 
 
+def example_in_manual(folder):
+    """Writes the program in the EXAMPLES of ltl2ba(3) to a file of the folder, and returns its name."""
+    page = (TOP / "docs/man/ltl2ba.3").read_text(encoding="utf-8")
+    shown = page.partition(".SH EXAMPLES\n")[2].partition(".nf\n")[2].partition(".fi\n")[0]
+    place = Path(folder, "manual.c")
+    place.write_text(shown.replace("\\-", "-"), encoding="utf-8")
+    return place
+
+
+def try_manual(tally, folder, programs, prefix):
+    """Builds the program of the manual page against an installed library, and compares it with `ltl2ba`."""
+    around = {**os.environ, "PKG_CONFIG_PATH": f"{prefix}/lib/pkgconfig"}
+    found = subprocess.run(["pkg-config", "--cflags", "--libs", "ltl2ba"], env=around, capture_output=True, text=True, check=False)
+    tally.expect("pkg-config", found.returncode, 0)
+    try_program(tally, "the example of ltl2ba(3)", programs, f"{folder}/manual", [str(example_in_manual(folder)), *found.stdout.split()])
+
+
+def try_program(tally, about, programs, program, words):
+    """Compiles the program of the manual page with these words, and compares it with `ltl2ba`."""
+    faults = compiled([*shlex.split(COMPILER), "-std=c99", "-Wall", "-Wextra", "-pedantic", "-Werror", f"-I{TOP}/include", "-o", program, *words])
+    tally.expect(f"{about} is compiled", faults, None)
+    for formula in () if faults else (*FORMULAS, " && ".join(f"<>p{i}" for i in range(6)), "p U", "p && 1"):
+        both = [f"{programs}/ltl2ba", "-f", formula], [program, formula]
+        wanted, seen = (subprocess.run(it, capture_output=True, timeout=SECONDS, check=False) for it in both)
+        tally.expect(f"{about} on {formula}", (seen.stdout, seen.stderr, seen.returncode), (wanted.stdout, wanted.stderr, wanted.returncode))
+
+
+def try_links(tally, folder, programs, archive):
+    """Links the program of the manual page beside another owner of the allocator's names, without shared libraries, and with the archive in one."""
+    source, other, empty = str(example_in_manual(folder)), Path(folder, "other.c"), Path(folder, "empty.c")
+    other.write_text("int rattle_alloc, rattle_dealloc, rattle_realloc;\n", encoding="ascii")
+    empty.write_text("int main(void) { return 0; }\n", encoding="ascii")
+    try_program(tally, "beside the same names", programs, f"{folder}/beside", [source, str(other), archive])
+    if compiled([*shlex.split(COMPILER), "-static", "-o", f"{folder}/empty", str(empty)]) is None:
+        try_program(tally, "linked statically", programs, f"{folder}/static", ["-static", source, archive])
+    else:
+        print("skipped: static programs, which the compiler does not link")
+    shared, flags = f"{folder}/libshared.so", ["-shared", "-Wl,-z,defs,-z,text", "-Wl,--whole-archive"]
+    tally.expect("a shared library", compiled([*shlex.split(COMPILER), *flags, archive, "-Wl,--no-whole-archive", "-o", shared]), None)
+    try_program(tally, "from a shared library", programs, f"{folder}/shared", [source, shared, f"-Wl,-rpath,{folder}"])
+
+
+def try_page(tally, top, prefix):
+    """What examples/c/README.md shows, typed at the top of a copy, and the code that it quotes."""
+    page, pages = str(TOP / "examples/c/README.md"), runpy.run_path(str(TOP / "tools/examples"))
+    shown = [(command, text) for command, text, _ in pages["examples"](page)]
+    written = pages["typed"]([command for command, _ in shown], top, {**os.environ, "PKG_CONFIG_PATH": f"{prefix}/lib/pkgconfig"})
+    for (command, text), seen in zip(shown, written):
+        tally.expect(f"examples/c/README.md: {command}", seen, text)
+    for name, piece, stands in pages["excerpts"](page):
+        tally.expect(f"examples/c/README.md: {piece} in {name}", stands, True)
+
+
+def try_exports(tally, archive):
+    """The archive defines the calls of the header for other files, and nothing else."""
+    header = (TOP / "include/ltl2ba.h").read_text(encoding="utf-8")
+    calls = sorted(re.findall(r"^uint8_t (\w+)\(", header, re.M))
+    if not shutil.which("nm"):
+        print("skipped: the names that the archive defines, for want of nm")
+        return
+    listed = subprocess.run(["nm", "-g", "--defined-only", archive], capture_output=True, text=True, check=False)
+    tally.expect("the names that the archive defines", sorted(it.split()[-1] for it in listed.stdout.split("\n") if len(it.split()) == 3), calls)
+
+
 def try_examples(tally, folder, programs, checker):
     """Builds the examples against an installed library, with one line of pkg-config, and runs them."""
     root = f"{folder}/installed"
     installed = subprocess.run([TOP / "install", root], capture_output=True, text=True, check=False)
     tally.expect("./install", (installed.stderr, installed.returncode), ("", 0))
-    shutil.copytree(TOP / "examples/c", f"{folder}/examples")
-    made = subprocess.run(["make", f"PKG_CONFIG_PATH={root}/lib/pkgconfig"], cwd=f"{folder}/examples", capture_output=True, text=True, check=False)
+    try_manual(tally, folder, programs, root)
+    examples = f"{folder}/top/examples/c"
+    shutil.copytree(TOP / "examples/c", examples)
+    made = subprocess.run(["make", f"PKG_CONFIG_PATH={root}/lib/pkgconfig"], cwd=examples, capture_output=True, text=True, check=False)
     tally.expect("make in examples/c", (made.stderr, made.returncode), ("", 0))
+    try_page(tally, f"{folder}/top", root)
 
     def ran(*words, given=None):
         it = subprocess.run([*map(str, words)], input=given, capture_output=True, text=True, check=False)
@@ -241,21 +309,24 @@ def try_examples(tally, folder, programs, checker):
 
     for formula in FORMULAS:
         printed = ran(f"{programs}/ltl2ba", "-H", "-f", formula)[0]
-        tally.expect(f"dot {formula}", ran(*checker, f"{folder}/examples/dot", formula), (dot_of(printed), "", 0))
+        tally.expect(f"dot {formula}", ran(*checker, f"{examples}/dot", formula), (dot_of(printed), "", 0))
         verdict = ran(f"{programs}/ltlcheck", "-f", FORMULAS[0], given=printed)
-        checked = ran(*checker, f"{folder}/examples/check", formula, FORMULAS[0])
+        checked = ran(*checker, f"{examples}/check", formula, FORMULAS[0])
         tally.expect(f"check {formula}", checked, (verdict[0].removeprefix("violated\n"), "", verdict[2]))
-        word, told, status = ran(*checker, f"{folder}/examples/word", formula)
+        word, told, status = ran(*checker, f"{examples}/word", formula)
         is_empty = ran(f"{programs}/ltlcheck", "-f", "false", given=printed)[2] == 0
         wanted = ("no word satisfies it\n", "", 1) if is_empty else (word, "", 0)
         tally.expect(f"word {formula}", (word, told, status), wanted)
         if not is_empty:
             tally.expect(f"{formula} on {word}", ran(f"{programs}/ltleval", "-f", formula, "-w", word[:-1]), ("true\n", "", 0))
     for name in "dot", "word":
-        tally.expect(f"the message of {name}", ran(f"{folder}/examples/{name}", "p U"), ("", "ltl2ba: formula: byte 3: expected operand\n", 3))
+        tally.expect(f"the message of {name}", ran(f"{examples}/{name}", "p U"), ("", "ltl2ba: formula: byte 3: expected operand\n", 3))
 
 
 def main(words):
+    if words[:1] in (["-h"], ["--help"]):
+        print(__doc__)
+        return 0
     tally = Tally()
     programs = words[0] if words else None
     with tempfile.TemporaryDirectory() as folder:
@@ -279,6 +350,8 @@ def main(words):
 
 
 def try_all(tally, folder, programs, driver, archive):
+    try_exports(tally, archive)
+    try_links(tally, folder, programs, archive)
     try_stored_runs(tally, driver, programs)
     try_random_formulas(tally, driver, programs)
     try_lengths(tally, driver)

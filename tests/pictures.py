@@ -1,7 +1,7 @@
 #!/usr/bin/env python3
-"""Draws the automata of 200 random formulas with the built programs, and has `dot` of Graphviz read each picture. It counts the states, the arrows and
-their lines in the image, and compares them with the text of the automaton. It draws a run of each automaton on a random word: there has to be one if and only
-if ltleval says that the formula holds, the coloured edges have to be those of an accepting run, and the other ones all others. It also draws the pictures of
+"""Draws the automata of 200 random formulas with the built programs, and has `dot` of Graphviz read each picture, which has to be ASCII. It counts the states,
+the arrows and their edges in the image, and compares them with the text of the automaton. It draws a run of each automaton on a random word: there has to be
+one if and only if ltleval says that the formula holds, the red edges have to be those of an accepting run, and dot has to draw the same ones in red. It also draws the pictures of
 docs/pictures anew, as docs/pictures.py does: each has to be there byte by byte, and a page has to show it. An image is compared if this `dot`, with its font,
 is the one that made it.
 
@@ -22,7 +22,8 @@ from pathlib import Path
 TOP = Path(__file__).resolve().parent.parent
 KEPT = TOP / "docs/pictures"
 COUNT, SEED, SECONDS = 200, 54, 60
-DISCS = {disc: k for k, disc in enumerate("⓿❶❷❸❹❺❻❼❽❾❿⓫⓬⓭⓮⓯⓰⓱⓲⓳⓴")}
+ARROW = r'^  (\d+) -> (\d+) \[label=(?:"([^"]*)"|<(.*)>, color=red, penwidth=2)\]$'
+RED = r'<font color="red">(.*?)</font>'
 
 
 def formula(dice, depth):
@@ -62,15 +63,16 @@ def drawn(picture):
     for kind, name, body in groups:
         ends = html.unescape(name).split("->")
         if kind == "edge" and ends[0] != "I":
-            edges += [(*ends, html.unescape(it).replace("\xa0", " ")) for it in re.findall(r"<text[^>]*>([^<]*)</text>", body)]
+            lines = [html.unescape(it).replace("\xa0", " ").strip() for it in re.findall(r"<text[^>]*>([^<]*)</text>", body)]
+            edges += [(*ends, it) for it in " ".join(lines).split(" || ")]
     starts = [html.unescape(name).split("->")[1] for kind, name, body in groups if kind == "edge" and name.startswith("I")]
     return states, edges, starts
 
 
-def with_sets(line):
-    """A line of an arrow as its label and its sets."""
-    words = line.split(" ")
-    return " ".join(it for it in words if it not in DISCS), " ".join(str(DISCS[it]) for it in words if it in DISCS)
+def with_sets(edge):
+    """An edge of an arrow as its label and its sets."""
+    label, sets = re.fullmatch(r"(.*?)(?: \{([0-9 ]+)\})?", edge).groups()
+    return label, sets or ""
 
 
 def fault_of(words, programs):
@@ -80,12 +82,14 @@ def fault_of(words, programs):
     image = subprocess.run(["dot", "-Tsvg"], input=picture, capture_output=True, text=True, timeout=SECONDS, check=False)
     if image.returncode or image.stderr:
         return f"dot ends with {image.returncode}: {image.stderr[:200]}"
+    if not picture.isascii():
+        return "has a character that isn't ASCII"
     (count, sets, edges), (states, lines, starts) = edges_of(text), drawn(image.stdout)
     marks = {state: {it[3] for it in edges if it[0] == state} for state, *_ in edges}
     by_states = sets == 1 and all(len(it) == 1 for it in marks.values())
     accepting = {state for state, seen in marks.items() if by_states and seen == {"0"}}
     wanted = sorted((*it[:3], "" if by_states else it[3]) for it in edges)
-    seen = sorted((source, target, *with_sets(line)) for source, target, line in lines)
+    seen = sorted((source, target, *with_sets(edge)) for source, target, edge in lines)
     arrows = len(re.findall(r"^  \d+ -> ", picture, re.M))
     double = {name for name, body in states.items() if body.count("<ellipse") == 2}
     if sorted(states, key=int) != [str(k) for k in range(count)] or starts != ["0"]:
@@ -142,7 +146,25 @@ def judged(edges, sets, stem, cycle):
     return False, taken
 
 
-def run_fault(words, programs, dice):
+def run_edges(picture):
+    """The edges of a picture's arrows, each with its source, its target, its label, its sets, and whether it is in red."""
+    for source, target, plain, parts in re.findall(ARROW, picture, re.M):
+        for edge in plain.replace("\\n", " ").split(" || ") if plain else parts.replace("<br/>", " ").split(" || "):
+            red = re.fullmatch(RED, edge)
+            yield source, target, *with_sets(html.unescape(red[1]) if red else html.unescape(edge) if parts else edge), bool(red)
+
+
+def red_fault(picture):
+    """What is wrong with the image that dot makes of a picture with a run: the texts in red have to be those of the edges in red."""
+    image = subprocess.run(["dot", "-Tsvg"], input=picture, capture_output=True, text=True, timeout=SECONDS, check=False)
+    if image.returncode or image.stderr:
+        return f"dot ends with {image.returncode}: {image.stderr[:200]}"
+    seen = sorted(html.unescape(it).replace("\xa0", " ") for it in re.findall(r'<text[^>]* fill="red"[^>]*>([^<]*)</text>', image.stdout))
+    wanted = sorted(html.unescape(it) for it in re.findall(RED, picture))
+    return None if seen == wanted else f"has {seen} in red, and not {wanted}"
+
+
+def run_fault(words, programs, dice, can_draw):
     """What is wrong with the picture of the same automaton with a run on a random word."""
     stem, cycle = letters_of(dice)
     word = word_of(stem, cycle)
@@ -152,8 +174,9 @@ def run_fault(words, programs, dice):
     _, sets, edges = edges_of(text)
     marks = {state: {it[3] for it in edges if it[0] == state} for state, *_ in edges}
     by_states = sets == 1 and all(len(it) == 1 for it in marks.values())
-    arrows = re.findall(r'^  (\d+) -> (\d+) \[label="([^"]*)"(, color=red, fontcolor=red, penwidth=2)?\]$', picture, re.M)
-    lines = [(source, target, *with_sets(line), bool(colour)) for source, target, label, colour in arrows for line in label.split("\\n")]
+    lines = list(run_edges(picture))
+    if len(re.findall(ARROW, picture, re.M)) != len({it[:2] for it in edges}):
+        return f"on {word} hasn't one arrow for each two states"
     if sorted(it[:4] for it in lines) != sorted((*it[:3], "" if by_states else it[3]) for it in edges):
         return f"on {word} has other edges with a run than without"
     own = [it for it in edges if (*it[:3], "" if by_states else it[3], True) in lines]
@@ -163,8 +186,8 @@ def run_fault(words, programs, dice):
     if own and judged(own, sets, stem, cycle) != (True, set(own)):
         return f"on {word}: {own} are not the edges of an accepting run"
     if states != {it[0] for it in own}:
-        return f"on {word}: the states {sorted(states)} are in colour"
-    return None
+        return f"on {word}: the states {sorted(states)} are in red"
+    return red_fault(picture) if can_draw else None
 
 
 def last_line(image):
@@ -196,6 +219,9 @@ def compared(programs):
 
 
 def main(words):
+    if words[:1] in (["-h"], ["--help"]):
+        print(__doc__)
+        return 0
     folder = os.path.abspath(words[1]) if words[:1] == ["-p"] else None
 
     def programs(name):
@@ -211,7 +237,7 @@ def main(words):
         print("skipped: pictures of random formulas, for want of Graphviz' dot")
     for k in range(COUNT):
         tried = ["-G" if k % 2 else "-H", "-f", formula(dice, 3)]
-        faults = ([fault_of(tried, programs)] if can_draw else []) + [run_fault(tried, programs, dice)]
+        faults = ([fault_of(tried, programs)] if can_draw else []) + [run_fault(tried, programs, dice, can_draw)]
         for fault in faults:
             passed, failed = passed + (not fault), failed + bool(fault)
             if fault:

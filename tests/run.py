@@ -137,6 +137,9 @@ def misjudged(run, lasso, program):
 
 
 def main(words):
+    if words[:1] in (["-h"], ["--help"]):
+        print(__doc__)
+        return 0
     folder = None
     if words[:1] == ["-p"]:
         folder, words = os.path.abspath(words[1]), words[2:]

@@ -1,9 +1,11 @@
 #!/usr/bin/env python3
-"""Tests ./run, ./build, ./install, ./package, tools/edits and tools/wrong_bodies on a copy of the tree that has no code but the heads of its programs, with a
-stand-in for the prover: it records what it was asked, and proves nothing. Tests tools/believe on a small tree made up for it. The last line is 'N passed, M failed'."""
+"""Tests ./run, ./build, ./install, ./package, tools/edits, tools/dead_code and tools/wrong_bodies on a copy of the tree that has no code but the heads of its
+programs, with a stand-in for the prover: it records what it was asked, and proves nothing. Tests tools/believe on a small tree made up for it. The last line
+is 'N passed, M failed'."""
 
 import hashlib
 import os
+import re
 import shutil
 import subprocess
 import sys
@@ -13,6 +15,18 @@ from pathlib import Path
 
 TOP = Path(__file__).resolve().parent.parent
 PROGRAMS = "ltl2ba", "ltlcheck", "ltleval", "ltldraw"
+# What the copy has of the tree beside its code.
+COPIED = (
+    *("test", "page", "tutorial", ".gitignore", "COPYRIGHT", "LICENSE-APACHE", "LICENSE-MIT", "docs/*.md", "docs/*.svg", "docs/tutorial/*", "docs/pictures/*"),
+    *("examples/c/*", "tests/*.py", "tools/*", "web/*"),
+)
+# The scripts that take words, and their statuses for -h.
+SCRIPTS = {
+    **{f"./{it}": 0 for it in ("run", "build", "test", "install", "package", "tutorial")},
+    **{f"tools/{it}": 0 for it in ("believe", "dead_theory", "edits_stand", "examples", "fail_each", "pages")},
+    **{f"tools/{it}": 2 for it in ("edits", "wrong_bodies")},
+    **{f"tests/{it}.py": 0 for it in ("c_library", "debian", "page", "pictures", "run")},
+}
 
 RT = r"""#!/usr/bin/env bash
 [ "$1" != version ] || { echo "a kit"; exit; }
@@ -32,7 +46,7 @@ lib)
     ;;
 run)
     echo "asked $name: $*" >>"$CALLS"
-    mkdir -p out && printf '#!/bin/sh\necho built\n' >"out/$name" && chmod +x "out/$name"
+    mkdir -p out && if [ -n "${MADE_PROGRAM:-}" ]; then cp "$MADE_PROGRAM" "out/$name"; else printf '#!/bin/sh\necho built\n' >"out/$name"; fi && chmod +x "out/$name"
     exit 2
     ;;
 ci)
@@ -60,10 +74,25 @@ esac
 echo "end $1 $name" >>"$CALLS"
 """
 
+# Stand-ins for the tools that make one archive of the library for C: what they are asked to do is in what they make.
 AR = r"""#!/usr/bin/env bash
+[ -z "${MADE_ARCHIVE:-}" ] || exec cp "$MADE_ARCHIVE" "$2"
 echo "$1" >"$2"
 cat "${@:3}" >>"$2"
 """
+
+LD = r"""#!/usr/bin/env bash
+echo "$1 $4" >"$3"
+cat "$5" "$7" >>"$3"
+"""
+
+OBJCOPY = r"""#!/usr/bin/env bash
+printf '%s\n' "${@:1:$#-1}" >>"${@:$#}"
+"""
+
+# Both libraries in one object, in which only the calls of the header are global.
+CALLS = "ltl2ba_text", "ltl2ba_names", "ltl2ba_automaton", "ltleval_holds", "ltlcheck_verdict", "ltl2ba_message"
+ARCHIVE = "".join(f"{it}\n" for it in ("qcs", "-r --whole-archive", "a library", "the allocator", *(f"--keep-global-symbol={it}" for it in CALLS)))
 
 # What ./install puts in place of the library, and how it describes the library.
 LIBRARY = "include/ltl2ba.h", "lib/libltl2ba.a", "lib/pkgconfig/ltl2ba.pc", "share/man/man3/ltl2ba.3"
@@ -71,6 +100,94 @@ DESCRIPTION = "prefix=/{}\nlibdir=${{prefix}}/lib\nincludedir=${{prefix}}/includ
 
 NOTICE = "run: {} is not built from these sources; this run is not proved (./build proves and builds), and takes about a minute\n"
 
+# What ./install puts in place beside the library: a manual page for the name of each call, and the programs with what they need.
+ALIASES = [f"share/man/man3/{it}.3" for it in re.findall(r"^[a-z]\w* (\w+)\(", (TOP / "include/ltl2ba.h").read_text(encoding="utf-8"), re.M)]
+OTHERS = [
+    *(f"{folder}{it}{end}" for folder, end in (("bin/", ""), ("share/man/man1/", ".1")) for it in (*PROGRAMS, "ltl2ba-page", "ltl2ba-tutorial")),
+    *(f"share/ltl2ba/web/{it.name}" for it in TOP.glob("web/*") if it.is_file()),
+    *(f"share/ltl2ba/models/{it.name}" for it in TOP.glob("docs/tutorial/*") if it.suffix in (".pml", ".hoa")),
+]
+
+
+# A check of the gate's wrong bodies: `f` isn't proved with its edit, `g` is, and `h` stops with no verdict.
+RATTLE = r"""#!/usr/bin/env bash
+echo "check $3 ${*: -2}" >>"$CALLS"
+if grep -q wrong src/lib.rt; then echo "note: src/lib.rt:12:5: it is not proved that it holds"; echo "only=1 proved=0"; exit 1; fi
+if grep -q right src/lib.rt; then echo "only=1 proved=1"; exit 0; fi
+echo "only=1 proved=0"
+exit 3
+"""
+
+# A crate with three functions, each with a definition.
+FUNCTIONS = """ghost use Rattle.least.specs.Sizes.{small, large};
+
+// a comment
+fn g(a: u8) -> u8
+    ensures { result ≡ small a }
+{
+    a
+}
+
+fn f(a: u8) -> u8
+    ensures { result ≡ large a }
+{
+    g(a)
+}
+
+fn h(a: u8) -> u8
+{
+    a + 1
+}
+"""
+SIZES = "abbrev pub small : ℕ → ℕ\nsmall n = n\n\nabbrev pub large : ℕ → ℕ\nlarge n = n\n\nabbrev pub other : ℕ → ℕ\nother n = n\n"
+NUMBER = "import sys; sys.path.insert(0, 'tools'); import rests; print(rests.Ground().numbers('', [('least', 'f')]))"
+
+# A crate of which some is needed by its one public call, `named`, some by tests, and the rest by nothing.
+SETS = """use crate::lonely;
+
+pub fn named() -> u8
+    ensures { LEAST }
+{
+    inner(MOST)
+}
+
+fn inner(a: u8) -> u8 {
+    a
+}
+
+const MOST: u8 = b'{';
+
+const LEAST: u8 = 0;
+
+// named and inner are called here: lonely()
+fn lonely() -> u8 {
+    LEAST + own_test_alone()
+}
+
+pub fn for_tests() -> u8 {
+    0
+}
+
+fn own_test_alone() -> u8 {
+    0
+}
+
+#[test]
+fn test() {
+    own_test_alone();
+}
+
+pub struct Held {
+    a: u8,
+}
+
+impl Held {
+    pub fn looked(&self) -> u8 {
+        self.a
+    }
+}
+"""
+UNNEEDED = (15, "LEAST"), (18, "lonely"), (26, "own_test_alone"), (35, "Held"), (40, "Held::looked")
 
 # Two crates for tools/believe. The definitions `odd`, `idle` and the law rest on nothing that the call names.
 SMALL = {
@@ -250,8 +367,9 @@ class Tree:
         (self.bin / "rt").write_text(RT, encoding="ascii")
         (self.bin / "rt").chmod(0o755)
         self.kit = Path(folder) / "kit"
-        self.put(self.kit / "toolchain/bin/llvm-ar", AR)
-        (self.kit / "toolchain/bin/llvm-ar").chmod(0o755)
+        for tool, text in (self.kit / "toolchain/bin/llvm-ar", AR), (self.kit / "toolchain/bin/ld.lld", LD), (self.bin / "objcopy", OBJCOPY):
+            self.put(tool, text)
+            tool.chmod(0o755)
         self.put(self.kit / "c/liblibc_c.a", "the allocator\n")
         self.python = Path(folder) / "python"
         self.python.mkdir()
@@ -259,19 +377,24 @@ class Tree:
         for head in TOP.glob("crates/*/src/*.rt"):
             if head.name in ("main.rt", "lib.rt"):
                 self.put(head.relative_to(TOP), "")
-        for place in ("run", "build", "install", "package", "crates.txt", "HANDLES", "README.md", "docs/CHANGES.md", "tools/wrong_bodies", "tools/edits", "tools/c_archive",
+        for place in ("run", "build", "install", "package", "crates.txt", "HANDLES", "README.md", "docs/CHANGES.md", "tools/wrong_bodies", "tools/edits", "tools/edits_gate.py",
+                      "tools/edit_checks.py", "tools/edit_files.py", "tools/rests.py", "tools/theory.py", "tools/contracts.py", "tools/dead_code", "tools/c_archive",
                       "include/ltl2ba.h"):
             (self.top / place).parent.mkdir(parents=True, exist_ok=True)
             shutil.copy(TOP / place, self.top / place)
         shutil.copytree(TOP / "docs/man", self.top / "docs/man")
         self.put("formula", "p U q")
         self.passed = self.failed = 0
+        for file in (it for pattern in COPIED for it in TOP.glob(pattern) if it.is_file()):
+            (self.top / file.relative_to(TOP)).parent.mkdir(parents=True, exist_ok=True)
+            shutil.copy(file, self.top / file.relative_to(TOP))
 
     def put(self, place, text):
         (self.top / place).parent.mkdir(parents=True, exist_ok=True)
         (self.top / place).write_text(text, encoding="utf-8")
 
-    def put_program(self, name):
+    def put_program(self, name, processors="portable"):
+        self.put(f"crates/{name}/out/built.txt", f"kit a kit\nprocessors {processors}\n")
         self.put(f"crates/{name}/out/{name}", '#!/bin/sh\necho "$#: $*"\ncat\necho told >&2\nexit 1\n')
         (self.top / f"crates/{name}/out/{name}").chmod(0o755)
 
@@ -358,8 +481,11 @@ def try_build(tree):
     tree.expect("what is proved", seen, wanted)
     tree.expect("lines on crates", sorted(it.split()[-3] for it in shown.split("\n") if it.endswith((" is proved", " is built"))), sorted(name for _, name in wanted))
     tree.expect("asked of a program", {it for it in calls if it.startswith("asked ltl2ba: ")} <= {"asked ltl2ba: run --", "asked ltl2ba: run --cpu x86-64-v3 --"}, True)
-    tree.expect("the archive", (tree.top / "crates/ltl_c/out/libltl2ba.a").read_text(encoding="ascii"), "qcsL\na library\nthe allocator\n")
+    tree.expect("the archive", (tree.top / "crates/ltl_c/out/libltl2ba.a").read_text(encoding="ascii"), ARCHIVE)
     tree.expect("built is run", tree.run("./run", "ltleval", has_rt=False), ("built\n", "", 0))
+    archive = tree.top / "crates/ltl_c/out/libltl2ba.a"
+    noted = dict(it.split(" ", 1) for it in (archive.parent / "built.txt").read_text(encoding="ascii").splitlines())
+    tree.expect("the archive's note", (noted["kit"], noted["processors"], noted["program"]), ("a kit", "portable", hashlib.sha256(archive.read_bytes()).hexdigest()))
     shown, told, status = tree.run("./build", FAILS="ltl_alt")
     tree.expect("a proof fails", (shown.split("\n")[-3:-1], status), (["src/lib.rt:1:1: error[open-goal]: not proved", "build: ltl_alt is not proved; rt check in crates/ltl_alt tells more"], 1))
     tree.expect("what is kept again", (tree.top / "crates/ltl_sets/out/rlib/stamp").read_text(encoding="ascii"), "kept\nkept\n")
@@ -410,19 +536,38 @@ def try_install(tree):
     archive = tree.top / "crates/ltl_c/out/libltl2ba.a"
     archive.unlink()
     tree.expect("no library", tree.run("./install", DESTDIR=str(root)), ("", "install: ltl_c is not built; ./build proves and builds it\n", 1))
+    tree.expect("without the library", tree.run("./install", DESTDIR=str(root), WITHOUT_LIBRARY="1")[1:], ("", 0))
+    tree.expect("what is there without it", placed(root / "usr/local"), sorted(OTHERS))
+    tree.run("./install", "--uninstall", DESTDIR=str(root))
     archive.write_text("an archive\n", encoding="ascii")
-    tree.expect("usage", tree.run("./install", "--help"), ("", "usage: ./install [--uninstall] [PREFIX]\n", 2))
+    tree.expect("usage", tree.run("./install", "--nothing"), ("", "usage: ./install [--uninstall] [PREFIX]\n", 2))
     for words, prefix in ([], "usr/local"), (["/opt/ltl"], "opt/ltl"):
-        there = [f"{prefix}/bin/{it}" for it in sorted(PROGRAMS)] + [f"{prefix}/share/man/man1/{it}.1" for it in sorted(PROGRAMS)]
-        there = sorted([*there, *(f"{prefix}/{it}" for it in LIBRARY)])
-        tree.expect("installed", tree.run("./install", *words, DESTDIR=str(root))[2], 0)
-        tree.expect("what is there", sorted(str(it.relative_to(root)) for it in root.rglob("*") if it.is_file()), there)
-        tree.expect("it runs", subprocess.run([root / there[0], "a"], input="", capture_output=True, text=True, check=False).stdout, "1: a\n")
-        described = (root / prefix / "lib/pkgconfig/ltl2ba.pc").read_text(encoding="ascii")
-        tree.expect("its description", (described.startswith(DESCRIPTION.format(prefix)), "\nVersion: \n" in described), (True, False))
-        tree.expect("its archive", (root / prefix / "lib/libltl2ba.a").read_text(encoding="ascii"), "an archive\n")
+        tree.expect("installed", tree.run("./install", *words, DESTDIR=str(root))[1:], ("", 0))
+        tree.expect("what is there", placed(root / prefix), sorted([*OTHERS, *ALIASES, *LIBRARY]))
+        try_installed(tree, root / prefix, prefix)
         tree.expect("uninstalled", tree.run("./install", "--uninstall", *words, DESTDIR=str(root)), ("", "", 0))
-        tree.expect("nothing is left", [it for it in root.rglob("*") if it.is_file()], [])
+        tree.expect("nothing is left", (placed(root), (root / prefix / "share/ltl2ba").exists()), ([], False))
+    tree.expect("for all processors", "AVX2" in tree.run("./install", DESTDIR=str(root))[0], False)
+    tree.put_program("ltleval", "x86-64-v3")
+    shown = tree.run("./install", DESTDIR=str(root))[0].split("\n")[-2]
+    tree.expect("for some processors", shown, "These programs run on processors with AVX2 alone (x86-64-v3); ./build --portable builds them for all.")
+    tree.run("./install", "--uninstall", DESTDIR=str(root))
+
+
+def placed(folder):
+    return sorted(str(it.relative_to(folder)) for it in folder.rglob("*") if it.is_file())
+
+
+def try_installed(tree, top, prefix):
+    tree.expect("it runs", subprocess.run([top / "bin/ltl2ba", "a"], input="", capture_output=True, text=True, check=False).stdout, "1: a\n")
+    described = (top / "lib/pkgconfig/ltl2ba.pc").read_text(encoding="ascii")
+    tree.expect("its description", (described.startswith(DESCRIPTION.format(prefix)), "\nVersion: \n" in described), (True, False))
+    tree.expect("its archive", (top / "lib/libltl2ba.a").read_text(encoding="ascii"), "an archive\n")
+    for page in ALIASES:
+        tree.expect(page, (top / page).read_text(encoding="ascii"), ".so man3/ltl2ba.3\n")
+    tree.expect("the tutorial's name", tree.run(str(top / "bin/ltl2ba-tutorial"), "-h")[0].split("\n")[0], "usage: ltl2ba-tutorial [check]")
+    shown = tree.run(str(top / "bin/ltl2ba-tutorial"), "check")
+    tree.expect("the tutorial's programs", (f"-A {top}/share/ltl2ba/models/anyone.hoa -f" in shown[0], shown[2]), (True, 1))
 
 
 def git(tree, *words):
@@ -431,89 +576,260 @@ def git(tree, *words):
 
 
 def packaged(tree):
-    """The files that ./package leaves, by name."""
-    shutil.rmtree(tree.top / "out", ignore_errors=True)
-    shown, told, status = tree.run("./package")
-    tree.expect("packaged", (told, status, sorted(shown.split())), ("", 0, sorted(f"out/{it.name}" for it in (tree.top / "out").iterdir())))
-    return {it.name: it.read_bytes() for it in (tree.top / "out").iterdir()}
+    """The files that ./package leaves, by name, and what it tells."""
+    for it in (tree.top / "out").glob("*ltl2ba*"):
+        it.unlink()
+    shown, told, status = tree.run("./package", has_rt=False)
+    made = {it.name: it.read_bytes() for it in (tree.top / "out").glob("*ltl2ba*")}
+    tree.expect("packaged", (status, sorted(shown.split())), (0, sorted(f"out/{it}" for it in made)))
+    return made, told
 
 
 def try_package(tree):
-    tree.put(".gitignore", "out/\n")
     for words in ["init", "-q"], ["add", "-A"], ["commit", "-qm", "a message"]:
         git(tree, *words)
-    for name in PROGRAMS:
+    for name in *PROGRAMS, "ltl_c":
         shutil.rmtree(tree.top / f"crates/{name}/out", ignore_errors=True)
-    refused = "package: ltl2ba is {}\n"
-    not_built = refused.format("not built; ./build --portable proves and builds it")
-    tree.expect("usage", tree.run("./package", "-h"), ("", "usage: ./package\n", 2))
-    tree.expect("not built", tree.run("./package"), ("", not_built, 1))
+    not_built = "package: ltl2ba is not built; ./build --portable proves and builds it\n"
+    tree.expect("usage", tree.run("./package", "now", has_rt=False), ("", "usage: ./package\n", 2))
+    tree.expect("not built", tree.run("./package", has_rt=False), ("", not_built, 1))
+    for name in "claim", "log", "model.pml", "model.pml.trail", "pan", "pan.c", "docs/tutorial/claim", "docs/tutorial/mutex.pml.trail", "docs/tutorial/pan.t":
+        tree.put(name, "what an example leaves")
+    tree.expect("what examples leave", tree.run("./package", has_rt=False), ("", not_built, 1))
     for name in PROGRAMS:
-        tree.put_program(name)
-    tree.expect("built by something else", tree.run("./package"), ("", not_built, 1))
-    tree.run("./build", "--portable")
-    first = packaged(tree)
+        (tree.top / f"crates/{name}/out").mkdir()
+        tree.put(f"crates/{name}/out/{name}", "")
+    tree.expect("built by something else", tree.run("./package", has_rt=False), ("", not_built, 1))
+    missing = [it for it in ("cc", "ar", "strip", "objcopy", "objdump") if not shutil.which(it)]
+    if missing:
+        print(f"skipped: what ./package makes, for want of {missing[0]}")
+        return
+    made = compiled(tree)
+    tree.run("./build", "--portable", **made)
+    try_archive(tree)
+    try_verdicts(tree)
+    try_refusals(tree, made)
+
+
+def compiled(tree):
+    """A program and an archive, which the stand-ins leave as what they have built."""
+    source = tree.top.parent / "program.c"
+    source.write_text('#include <stdio.h>\nint main(void) { return puts("built") < 0; }\n', encoding="ascii")
+    program, part, archive = (str(source.with_suffix(it)) for it in ("", ".o", ".a"))
+    for words in ["cc", "-g", "-o", program, source], ["cc", "-g", "-c", "-o", part, source], ["ar", "qcs", archive, part]:
+        subprocess.run(words, check=True)
+    return {"MADE_PROGRAM": program, "MADE_ARCHIVE": archive}
+
+
+def try_archive(tree):
+    first, told = packaged(tree)
+    tree.expect("a warning", told, "package: WARNING: no run of the gate is noted here; ./test runs it. PROVED.txt says so.\n")
     for place in tree.top.rglob("*"):
         os.utime(place, (1_200_000_000, 1_200_000_000))
-    tree.expect("the same bytes again", packaged(tree) == first, True)
-    name = f"ltl2ba-{(tree.top / 'docs/CHANGES.md').read_text(encoding='utf-8').partition(chr(10) + '## ')[2].partition(',')[0]}-x86_64-linux"
-    with tarfile.open(tree.top / f"out/{name}.tar.gz") as tar:
-        entries = tar.getmembers()
+    tree.expect("the same bytes again", packaged(tree)[0] == first, True)
+    name = next(it for it in first if it.endswith(".tar.gz"))
+    version = (tree.top / "docs/CHANGES.md").read_text(encoding="utf-8").partition("\n## ")[2].partition(",")[0]
+    debian = [f"libltl2ba-dev_{version}_amd64.deb", f"ltl2ba-proved_{version}_amd64.deb"] if shutil.which("dpkg-deb") else []
+    tree.expect("what is made", sorted(first), sorted([f"ltl2ba-{version}-x86_64-linux.tar.gz", *debian]))
+    with tarfile.open(tree.top / "out" / name) as tar:
+        entries, folder = tar.getmembers(), name.removesuffix(".tar.gz")
         tree.expect("sorted, with one owner and one time", [(it.name, it.uname, it.mtime) for it in entries], sorted((it.name, "root", 1_000_000_000) for it in entries))
-        programs = sorted(f"{name}/bin/{it}" for it in PROGRAMS)
-        tree.expect("what may be run", [it.name for it in entries if it.isfile() and it.mode & 0o111], programs)
-        proved = tar.extractfile(f"{name}/PROVED.txt").read().decode().splitlines()
-        tree.expect("commit and kit", proved[:2], [f"commit {git(tree, 'rev-parse', 'HEAD')}", "kit a kit"])
-        numbers = sorted(f"{hashlib.sha256(tar.extractfile(it).read()).hexdigest()}  bin/{it.rpartition('/')[2]}" for it in programs)
-        tree.expect("numbers of programs", sorted(it for it in proved if it.endswith(tuple(f"  bin/{name}" for name in PROGRAMS))), numbers)
+        may_run = sorted(f"{folder}/bin/{it}" for it in (*PROGRAMS, "ltl2ba-page", "ltl2ba-tutorial"))
+        tree.expect("what may be run", [it.name for it in entries if it.isfile() and it.mode & 0o111], may_run)
         tar.extractall(tree.top.parent / "unpacked", filter="data")
-        check = next(it for it in proved if it.startswith("To check")).partition(": ")[2].replace("FILE", "PROVED.txt")
-        checked = subprocess.run(["sh", "-c", check], cwd=tree.top.parent / "unpacked" / name, capture_output=True, text=True, check=False)
-        tree.expect("the check that it names", (sorted(checked.stdout.split("\n")[:-1]), checked.stderr), (sorted(f"bin/{it}: OK" for it in PROGRAMS), ""))
-        tree.expect("manual pages", len([it for it in entries if it.name.endswith(".1") and "share/man" in it.name]), len(PROGRAMS))
-    tree.put("out/gate.log", "commit another\n== rt ci\nmuch\n7 passed, 0 failed\n")
-    tree.run("./package")
-    with tarfile.open(tree.top / f"out/{name}.tar.gz") as tar:
-        proved = tar.extractfile(f"{name}/PROVED.txt").read().decode().splitlines()
-        quoted = ["From out/gate.log, which ./test left; it ran on another commit, another:", "  == rt ci", "  7 passed, 0 failed"]
-        tree.expect("verdicts", proved[proved.index(quoted[0]) :][:3] if quoted[0] in proved else proved, quoted)
+    there = tree.top.parent / "unpacked" / folder
+    tree.expect("what is installed", [it for it in (*OTHERS, *ALIASES, *LIBRARY, "LICENSE-MIT", "LICENSE-APACHE", "COPYRIGHT") if not (there / it).is_file()], [])
+    try_proved(tree, there)
+    try_pages(tree, there)
+    try_instructions(tree, there)
+    for it in debian:
+        try_debian(tree, tree.top / "out" / it)
+
+
+def shell(command, folder, **variables):
+    ran = subprocess.run(["sh", "-c", command], cwd=folder, env={**os.environ, **variables}, capture_output=True, text=True, check=False)
+    return ran.stdout, ran.stderr
+
+
+def try_proved(tree, there):
+    """PROVED.txt has the sums of the files beside it, and of what ./build left."""
+    proved, files = (there / "PROVED.txt").read_text(encoding="utf-8").splitlines(), [*(f"bin/{it}" for it in PROGRAMS), "lib/libltl2ba.a"]
+    tree.expect("commit and kit", proved[:2], [f"commit {git(tree, 'rev-parse', 'HEAD')}", "kit a kit"])
+    check = next(it for it in proved if it.startswith("To check")).partition(": ")[2].replace("FILE", "PROVED.txt")
+    tree.expect("the check that it names", shell(check, there), ("".join(f"{it}: OK\n" for it in sorted(files)), ""))
+    built = [tree.top / f"crates/{it}/out/{it}" for it in PROGRAMS] + [tree.top / "crates/ltl_c/out/libltl2ba.a"]
+    tree.expect("what ./build left", [it.name for it in built if f"{hashlib.sha256(it.read_bytes()).hexdigest()}  {it.name}" not in proved], [])
+    tree.expect("stripped", [it for it, whole in zip(files, built) if (there / it).stat().st_size >= whole.stat().st_size], [])
+    tree.expect("it runs", subprocess.run([there / "bin/ltl2ba"], capture_output=True, text=True, check=False).stdout, "built\n")
+
+
+def try_pages(tree, there):
+    """Pages lead nowhere else, and name no script of the repository in a command."""
+    for page in there.rglob("*.md"):
+        text = re.sub(r"^```.*?^```$|^    [^\n]*$|`[^`]*`", "", page.read_text(encoding="utf-8"), flags=re.M | re.S)
+        links = re.findall(r"\]\(([^)#:\s]+)(?:#[^)]*)?\)", text)
+        tree.expect(f"links of {page.name}", [it for it in links if not page.parent.joinpath(it).exists()], [])
+        commands = re.findall(r"^ *\$ .*$", page.read_text(encoding="utf-8"), re.M)
+        tree.expect(f"commands of {page.name}", [it for it in commands if "/run ltl" in it], [])
+    pages = [str(it.relative_to(there)) for it in there.rglob("*.md")]
+    tree.expect("pages for developers", [it for it in pages if re.search("WORKING|WRONG-BODIES|bench", it)], [])
+
+
+def try_instructions(tree, there):
+    """The commands of INSTALL.txt copy, remove and find."""
+    prefix = tree.top.parent / "copied"
+    prefix.mkdir()
+    text = (there / "INSTALL.txt").read_text(encoding="utf-8").replace("/usr/local", str(prefix))
+    copies, removes = (re.search(rf"^{about}.*?:\n\n((?:    .*\n)+)", text, re.M)[1] for about in ("To install", "To remove"))
+    tree.expect("copied", (shell(copies, there), [it for it in (*OTHERS, *ALIASES, *LIBRARY) if not (prefix / it).is_file()]), (("", ""), []))
+    if shutil.which("pkg-config"):
+        found = shell("pkg-config --cflags --libs ltl2ba", there, PKG_CONFIG_PATH=str(prefix / "lib/pkgconfig"))
+        flags = [it[2:] if it.startswith(("-I", "-L")) else it for it in found[0].split()]
+        tree.expect("pkg-config", [os.path.realpath(it) if "/" in it else it for it in flags], [str(prefix / "include"), str(prefix / "lib"), "-lltl2ba"])
+    tree.expect("removed", (shell(removes, there), placed(prefix)), (("", ""), []))
+
+
+def try_debian(tree, file):
+    fields = dict(re.findall(r"^(\S+): (.*)$", shell(f"dpkg-deb -f '{file}'", tree.top)[0], re.M))
+    room = tree.top.parent / file.stem
+    shell(f"dpkg-deb -R '{file}' '{room}'", tree.top)
+    wanted = {"share/doc/" + fields["Package"] + "/" + it for it in ("copyright", "changelog.gz", "PROVED.txt")}
+    if fields["Package"] == "libltl2ba-dev":
+        wanted |= {it.replace("lib/", "lib/x86_64-linux-gnu/") if it.startswith("lib/") else it for it in (*ALIASES, *LIBRARY)}
+        tree.expect("what the library needs", fields["Depends"], "libc6-dev")
+    else:
+        asked = re.findall(r"\(GLIBC_([\d.]+)\)", shell(f"objdump -T '{room}/usr/bin/ltl2ba'", tree.top)[0])
+        newest = max(asked, key=lambda it: [int(number) for number in it.split(".")])
+        tree.expect("what the programs need", fields["Depends"], f"libc6 (>= {newest})")
+        wanted |= set(OTHERS)
+    packed = {f"{it}.gz" if it.startswith("share/man/") else it for it in wanted}
+    tree.expect(f"files of {file.name}", [it for it in packed if not (room / "usr" / it).is_file()], [])
+    sums = shell("md5sum -c --quiet DEBIAN/md5sums", room)
+    tree.expect(f"sums of {file.name}", (sums, len((room / "DEBIAN/md5sums").read_text(encoding="utf-8").splitlines())), (("", ""), len(placed(room / "usr"))))
+
+
+def try_verdicts(tree):
+    """PROVED.txt quotes the gate's last run, and a warning tells of one that doesn't count."""
+    commit = git(tree, "rev-parse", "HEAD")
+    quoted = "From out/gate.log, which ./test left"
+    for of, last, about, warning in (
+        ("another", "7 passed, 0 failed", f"{quoted}; it ran on another commit, another:", "the gate's last run was on another commit, another; ./test runs it on this one"),
+        (commit, "7 passed, 1 failed", f"{quoted}:", "the gate's last run didn't pass; its last line is: 7 passed, 1 failed"),
+        (commit, "7 passed, 0 failed", f"{quoted}:", None),
+    ):
+        tree.put("out/gate.log", f"commit {of}\n== rt ci\nmuch\n{last}\n")
+        made, told = packaged(tree)
+        tree.expect("the warning", told, f"package: WARNING: {warning}. PROVED.txt says so.\n" if warning else "")
+        name = next(it for it in made if it.endswith(".tar.gz"))
+        with tarfile.open(tree.top / "out" / name) as tar:
+            proved = tar.extractfile(f"{name.removesuffix('.tar.gz')}/PROVED.txt").read().decode().splitlines()
+        tree.expect("verdicts", proved[proved.index(about) :][:3] if about in proved else proved, [about, "  == rt ci", f"  {last}"])
+
+
+def try_refusals(tree, made):
     tree.put("crates/ltl_sets/src/lib.rt", "other\n")
-    tree.expect("not committed", tree.run("./package"), ("", "package: no commit has 1 changed or new files, as crates/ltl_sets/src/lib.rt\n", 1))
+    tree.expect("not committed", tree.run("./package", has_rt=False), ("", "package: 1 file is changed or not in git: crates/ltl_sets/src/lib.rt; commit or remove it\n", 1))
+    tree.put("a file", "")
+    told = "package: 2 files are changed or not in git, e.g. crates/ltl_sets/src/lib.rt; commit or remove them\n"
+    tree.expect("not in git", tree.run("./package", has_rt=False), ("", told, 1))
+    (tree.top / "a file").unlink()
     git(tree, "commit", "-qam", "other")
-    tree.expect("other sources", tree.run("./package"), ("", refused.format("not built from these sources; ./build --portable proves and builds it"), 1))
-    tree.run("./build", "--portable")
-    note = tree.top / "crates/ltl2ba/out/built.txt"
-    whole = note.read_text(encoding="ascii")
-    note.write_text("kit", encoding="ascii")
-    tree.expect("half a note", tree.run("./package"), ("", refused.format("not built from these sources; ./build --portable proves and builds it"), 1))
-    note.write_text(whole.replace("portable", "x86-64-v3"), encoding="ascii")
-    tree.expect("for some processors", tree.run("./package"), ("", refused.format("built for x86-64-v3 alone; ./build --portable builds it for all processors"), 1))
+    refused = "package: {} is not built from these sources; ./build --portable proves and builds it\n"
+    tree.expect("other sources", tree.run("./package", has_rt=False), ("", refused.format("ltl2ba"), 1))
+    tree.run("./build", "--portable", **made)
+    for name in "ltl2ba", "ltl_c":
+        note = tree.top / f"crates/{name}/out/built.txt"
+        whole = note.read_text(encoding="ascii")
+        note.write_text("kit", encoding="ascii")
+        tree.expect("half a note", tree.run("./package", has_rt=False), ("", refused.format(name), 1))
+        note.write_text(whole.replace("portable", "x86-64-v3"), encoding="ascii")
+        told = f"package: {name} is built for x86-64-v3 alone; ./build --portable builds it for all processors\n"
+        tree.expect("for some processors", tree.run("./package", has_rt=False), ("", told, 1))
+        note.write_text(whole, encoding="ascii")
 
 
 def try_edits(tree):
     tree.put("docs/edits/least/one.edit", "file: a\nold: b\nnew: c\n")
-    tree.expect("usage", tree.run("tools/edits", "--help"), ("", "usage: tools/edits [--anew | --left] [CRATE | CRATE/EDIT ..]\n", 2))
+    tree.expect("usage", tree.run("tools/edits", "--help"), ("", "usage: tools/edits [--anew | --left] [CRATE | CRATE/EDIT ..], or tools/edits --gate\n", 2))
     for word in "two", "least/two", "docs/edits/least/two.edit":
         tree.expect("no such edit", tree.run("tools/edits", "least/one", word), ("", f"edits: {word} is neither a crate with edits nor an edit\n", 1))
     shutil.rmtree(tree.top / "docs/edits")
 
 
+def try_rests(tree):
+    """What the note on a wrong body of `f` rests on: `f`, what it names, and the contract of `g`, which it calls."""
+
+    def number(code=FUNCTIONS, sizes=SIZES):
+        tree.put("crates/least/src/lib.rt", code)
+        tree.put("crates/least/specs/Sizes.antt", sizes)
+        return tree.run("python3", "-c", NUMBER)
+
+    tree.put("docs/edits/least/f.edit", "file: src/lib.rt\nold:     g(a)\nnew:     a\n")
+    first = number()
+    for about, code, sizes in (
+        ("a comment", FUNCTIONS.replace("// a comment", "// another one"), SIZES),
+        ("a body that it calls", FUNCTIONS.replace("    a\n", "    a + 0\n"), SIZES),
+        ("a function that it doesn't call", FUNCTIONS.replace("fn h", "fn k"), SIZES),
+        ("a definition that nothing names", FUNCTIONS, SIZES.replace("other n = n", "other n = 0")),
+    ):
+        tree.expect(about, number(code, sizes), first)
+    for about, code, sizes in (
+        ("its body", FUNCTIONS.replace("    g(a)", "    g(a) + 0\n    g(a)"), SIZES),
+        ("its contract", FUNCTIONS.replace("≡ large", "≡ small"), SIZES),
+        ("the contract of what it calls", FUNCTIONS.replace("≡ small", "≡ large"), SIZES),
+        ("a definition that it names", FUNCTIONS, SIZES.replace("large n = n", "large n = 0")),
+        ("a definition that its callee names", FUNCTIONS, SIZES.replace("small n = n", "small n = 0")),
+    ):
+        tree.expect(about, (number(code, sizes)[2], number(code, sizes) != first), (0, True))
+    shutil.rmtree(tree.top / "docs/edits")
+
+
+def try_gate(tree):
+    """Wrong bodies in the gate: `f` is refused; `g` isn't, so that it fails; nothing is known of `h`, nor of a type."""
+    tree.put("crates/least/src/lib.rt", FUNCTIONS)
+    tree.put(tree.kit / "bin/rattle", RATTLE)
+    (tree.kit / "bin/rattle").chmod(0o755)
+    for name, old, new in ("f", "    g(a)", "wrong"), ("h", "    a + 1", "a"):
+        tree.put(f"docs/edits/least/{name}.edit", f"file: src/lib.rt\nold: {old}\nnew: {new}\n")
+    due = " wrong bodies that are due"
+    left = due + " are left untried; tools/edits tries them, and notes what is refused\n"
+    refused = "least/f: refused: note: src/lib.rt:12:5: it is not proved that it holds\nleast/h: not tried: only=1 proved=0\n"
+    tree.expect("without", tree.run("tools/edits", "--gate", WITHOUT_EDITS="1"), (f"skipped: 2{due}, as WITHOUT_EDITS=1 asks\n0 passed, 0 failed\n", "", 0))
+    tree.expect("refused and unknown", tree.run("tools/edits", "--gate"), (f"{refused}1{left}1 passed, 0 failed\n", "", 0))
+    called = [it for it in tree.calls.read_text(encoding="ascii").splitlines() if it.startswith("check ")]
+    tree.expect("together, then alone", called, ["check least --only h", "check least --only h"])
+    tree.put("docs/edits/least/h.edit", "file: src/lib.rt\nold:     a + 1\nnew: right\n")
+    tree.expect("proved", tree.run("tools/edits", "--gate")[::2], (f"{refused[: refused.index('least/h')]}least/h: NOT REFUSED: all is proved with it: only=1 proved=1\n0{left}1 passed, 1 failed\n", 1))
+    tree.expect("no libraries", tree.run("tools/edits", "--gate", KEEPS_NOT="1"), (f"skipped: 2{due}, since `rt ci` keeps no libraries of this tree here\n2{left}0 passed, 0 failed\n", "", 0))
+    shutil.rmtree(tree.top / "docs/edits")
+    tree.expect("nothing", tree.run("tools/edits", "--gate"), ("no wrong body is due\n0 passed, 0 failed\n", "", 0))
+
+
+def try_dead_code(tree):
+    tree.put("docs/LIBRARY.md", "held\n## Crate by crate\n| `named` | Held |\n")
+    tree.put("crates/ltl_sets/src/lib.rt", SETS)
+    tree.put("crates/sets_tests/src/lib.rt", "#[test]\nfn test() {\n    for_tests();\n}\n")
+    said, _, status = tree.run("tools/dead_code", "ltl_sets")
+    found = {it.split(" is needed")[0] for it in said.splitlines()[:-1]}
+    tree.expect("dead code", (found, status), ({f"crates/ltl_sets/src/lib.rt:{line} {name}" for line, name in UNNEEDED}, 1))
+    tree.put("crates/ltl_sets/src/lib.rt", SETS.replace("    inner(MOST)", "    inner(MOST) + lonely() + Held { a: 0 }.looked()"))
+    tree.expect("all is needed", tree.run("tools/dead_code", "ltl_sets"), ("9 passed, 0 failed\n", "", 0))
+
+
 def try_wrong_bodies(tree):
-    change, table = "file: a\nold: b\nnew: c\n", "| call | wrong body | what refuses it | edit |\n|---|---|---|---|\n"
-    tree.put("docs/edits/least/one.edit", change)
-    tree.put("crates/least/must-fail/two.edit", f"# call: `g`\n# what: a\n# refused by: a clause\n{change}")
+    change, head = "file: a\nold: b\nnew: c\n", "| call | wrong body | what refuses it | edit |\n|---|---|---|---|\n"
+    tree.put("docs/edits/least/one.edit", f"# call: `f`, `g`\n# what: `a | b`\n# refused by: the loop of `f`\n{change}")
+    tree.put("crates/least/must-fail/two.edit", f"# call: `g`\n# what: a\n# refused by: a clause, by what `f` requires\n{change}")
     tree.put("docs/WRONG-BODIES.md", "# By hand\n")
-    rows = ["| `f`, `g` | `a \\| b` | a clause | one |", "| `g` | a | a clause | two (gate) |", "| `h` | none | | |"]
-    tree.put("old.md", f"## `least`\n\n{table}{rows[0]}\n{rows[2]}\n")
-    moved = f"least: {rows[2]}\n1 rows are in edit files now\n"
-    tree.expect("rows go to edit files", tree.run("tools/wrong_bodies", "move", "old.md"), (moved, "", 0))
-    tree.expect("what an edit file says", (tree.top / "docs/edits/least/one.edit").read_text(encoding="utf-8"), f"# call: `f`, `g`\n# what: `a | b`\n# refused by: a clause\n{change}")
+    tree.expect("the table is written", tree.run("tools/wrong_bodies", "write"), ("", "", 0))
     page = (tree.top / "docs/WRONG-BODIES.md").read_text(encoding="utf-8")
-    tree.expect("by hand, and made", (page.startswith("# By hand\n\n<!--"), "2 wrong bodies, of which the gate tries 1." in page), (True, True))
-    tree.expect("its rows", [it for it in page.split("\n") if it.startswith("| `")], rows[:2])
-    tree.expect("nothing is moved twice", tree.run("tools/wrong_bodies", "move", "old.md")[0].endswith("0 rows are in edit files now\n"), True)
+    tree.expect("by hand, and made", (page.startswith("# By hand\n\n<!--"), "2 wrong bodies, of which `rt ci` tries 1." in page), (True, True))
+    tree.expect("its rows", [it for it in page.split("\n") if it.startswith("| `")], ["| `least` | 2 | 1 |  | 1 | 1 |  |"])
     tree.expect("the page stays", tree.run("tools/wrong_bodies")[0], page[page.index("<!--") :])
-    tree.expect("usage", tree.run("tools/wrong_bodies", "-h")[2], 2)
+    rows = ["| `f`, `g` | `a \\| b` | the loop of `f` | one |", "| `g` | a | a clause, by what `f` requires | two (`rt ci`) |"]
+    shown = "### `least`\n\n" + head + "\n".join(rows) + "\n\n"
+    tree.expect("each edit", (tree.run("tools/wrong_bodies", "show"), tree.run("tools/wrong_bodies", "show", "least")), ((shown, "", 0), (shown, "", 0)))
+    tree.expect("usage", (tree.run("tools/wrong_bodies", "-h")[2], tree.run("tools/wrong_bodies", "show", "ltl_sets")[2]), (2, 2))
 
 
 def try_believe(tree):
@@ -539,11 +855,25 @@ def try_believe(tree):
     tree.expect("a proof, and no call", shown[:2], ["docs/LIBRARY.md names empty, which is no public call there", "crates/high/src/lib.rt high::fill rests on crates/low/proofs/Laws.antt"])
 
 
+def try_usages(tree):
+    """Each script prints its usage for -h, and does nothing else."""
+    before = {it: it.stat().st_mtime_ns for it in tree.top.rglob("*")}
+    for name, wanted in SCRIPTS.items():
+        for word in "-h", "--help":
+            shown, told, status = tree.run(name, word)
+            named = re.search(r"\busage: +(\S+)", told if wanted else shown, re.I)
+            tree.expect(f"{name} {word}", (named and named[1].rstrip(".;"), shown if wanted else told, status), (name, "", wanted))
+            tree.expect(f"what {name} {word} asks the prover", tree.calls.read_text(encoding="ascii"), "")
+    tree.expect("what else was done", [str(it) for it in tree.top.rglob("*") if before.get(it) != it.stat().st_mtime_ns], [])
+    tree.expect("./test with a word", tree.run("./test", "now"), ("", "usage: ./test\n", 2))
+
+
 def main():
     with tempfile.TemporaryDirectory() as folder:
         tree = Tree(folder)
-        for part in try_run, try_build, try_kept, try_install, try_package, try_edits, try_wrong_bodies, try_believe:
+        for part in try_run, try_build, try_kept, try_install, try_package, try_edits, try_rests, try_gate, try_dead_code, try_wrong_bodies, try_believe:
             part(tree)
+        try_usages(tree)
     print(f"{tree.passed} passed, {tree.failed} failed")
     return 1 if tree.failed or not tree.passed else 0
 

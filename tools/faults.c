@@ -5,7 +5,8 @@
    GIVEN=n    all reads together give n bytes, and then each read fails
    ONCE=1     with TAKEN or GIVEN: one write or read fails, and all later ones work
    BY=signal  a write or read that fails says that a signal came
-   COUNTED=F  how many calls of malloc and realloc there were goes to the file F */
+   COUNTED=F  how many calls of malloc and realloc there were goes to the file F
+   ASKED=F    for how many bytes these calls asked together goes to the file F */
 #define _GNU_SOURCE
 #include <dlfcn.h>
 #include <errno.h>
@@ -15,7 +16,7 @@
 #include <string.h>
 #include <unistd.h>
 
-static long refused = -1, largest = -1, taken = -1, given = -1, counted;
+static long refused = -1, largest = -1, taken = -1, given = -1, counted, asked;
 static int is_ready, is_once, takes_none, is_signal;
 static void *(*real_malloc)(size_t);
 static void *(*real_realloc)(void *, size_t);
@@ -55,6 +56,7 @@ static void prepare(void)
 static int is_refused(size_t size)
 {
     counted++;
+    asked += (long)size;
     if (largest >= 0 && size > (size_t)largest)
         return 1;
     return refused > 0 && --refused == 0;
@@ -108,21 +110,27 @@ ssize_t write(int file, const void *bytes, size_t size)
     return count;
 }
 
-__attribute__((destructor)) static void tell(void)
+static void put(const char *file, long number)
 {
-    const char *unmet = getenv("UNMET"), *file = getenv("COUNTED");
     char digits[32];
     int place = sizeof digits;
-    if (unmet && refused > 0)
-        open(unmet, O_CREAT | O_WRONLY, 0600);
     if (!file)
         return;
     prepare();
     digits[--place] = '\n';
     do
-        digits[--place] = '0' + counted % 10;
-    while ((counted /= 10) > 0);
+        digits[--place] = '0' + number % 10;
+    while ((number /= 10) > 0);
     int to = open(file, O_CREAT | O_WRONLY | O_TRUNC, 0600);
     if (to >= 0)
         real_write(to, digits + place, sizeof digits - place);
+}
+
+__attribute__((destructor)) static void tell(void)
+{
+    const char *unmet = getenv("UNMET");
+    if (unmet && refused > 0)
+        open(unmet, O_CREAT | O_WRONLY, 0600);
+    put(getenv("COUNTED"), counted);
+    put(getenv("ASKED"), asked);
 }

@@ -239,8 +239,19 @@ static struct answer call_refused(const struct request *asked)
     }
 }
 
+/* Whether there is a refusal exactly with the status of one, and each number that it doesn't have is 0. */
+static int is_exact(int status, const struct ltl2ba_refusal *refusal)
+{
+    int is_refused = status != LTL2BA_DONE && status != LTL2BA_VIOLATED && status != LTL2BA_TOO_SHORT;
+    int has_fault = refusal->kind == LTL2BA_BAD_FORMULA || refusal->kind == LTL2BA_BAD_AUTOMATON;
+    int has_place = has_fault || refusal->kind == LTL2BA_BAD_WORD;
+    return (refusal->kind != LTL2BA_NO_REFUSAL) == is_refused && refusal->kind <= LTL2BA_LARGE_PRODUCT && (has_fault || !refusal->fault) && (has_place || !refusal->place);
+}
+
 static void answer(const struct request *asked, struct answer *made)
 {
+    if (made->status < 90 && !is_exact(made->status, &made->refusal))
+        made->status = 92;
     uint8_t line[128];
     size_t told, length = (made->status == LTL2BA_TOO_SHORT && asked->kind != 'a') || asked->kind == 'e' || asked->room == -2 ? 0 : made->length;
     ltl2ba_message(asked->kind == 'c' ? LTL2BA_CHECKER : asked->kind == 'e' ? LTL2BA_EVALUATOR : LTL2BA_TRANSLATOR, &made->refusal, line, sizeof line, &told);
