@@ -794,13 +794,25 @@ def try_gate(tree):
     due = " wrong bodies that are due"
     left = due + " are left untried; tools/edits tries them, and notes what is refused\n"
     refused = "least/f: refused: note: src/lib.rt:12:5: it is not proved that it holds\nleast/h: not tried: only=1 proved=0\n"
-    tree.expect("without", tree.run("tools/edits", "--gate", WITHOUT_EDITS="1"), (f"skipped: 2{due}, as WITHOUT_EDITS=1 asks\n0 passed, 0 failed\n", "", 0))
+    skipped = "0 wrong bodies that each run tries, and 2 that are due, "
+    tree.expect("without", tree.run("tools/edits", "--gate", WITHOUT_EDITS="1"), (f"skipped: {skipped}as WITHOUT_EDITS=1 asks\n0 passed, 0 failed\n", "", 0))
     tree.expect("refused and unknown", tree.run("tools/edits", "--gate"), (f"{refused}1{left}1 passed, 0 failed\n", "", 0))
     called = [it for it in tree.calls.read_text(encoding="ascii").splitlines() if it.startswith("check ")]
     tree.expect("together, then alone", called, ["check least --only h", "check least --only h"])
     tree.put("docs/edits/least/h.edit", "file: src/lib.rt\nold:     a + 1\nnew: right\n")
     tree.expect("proved", tree.run("tools/edits", "--gate")[::2], (f"{refused[: refused.index('least/h')]}least/h: NOT REFUSED: all is proved with it: only=1 proved=1\n0{left}1 passed, 1 failed\n", 1))
-    tree.expect("no libraries", tree.run("tools/edits", "--gate", KEEPS_NOT="1"), (f"skipped: 2{due}, since `rt ci` keeps no libraries of this tree here\n2{left}0 passed, 0 failed\n", "", 0))
+    none = "aren't tried, since `rt ci` keeps no libraries of this tree here\n0 passed, "
+    tree.expect("no libraries", tree.run("tools/edits", "--gate", KEEPS_NOT="1"), (f"skipped: {skipped}{none}0 failed\n", "", 0))
+    tried = "# tried: in each run of the gate\n"
+    tree.put("docs/edits/least/f.edit", f"{tried}file: src/lib.rt\nold:     g(a)\nnew: wrong\n")
+    tree.put("docs/edits/least/h.edit", "file: src/lib.rt\nold:     a + 1\nnew: a\n")
+    tree.expect("each run's and a due one", tree.run("tools/edits", "--gate"), (f"{refused}1{left}1 passed, 0 failed\n", "", 0))
+    tree.expect("no libraries for each run's", tree.run("tools/edits", "--gate", KEEPS_NOT="1"), (f"1{skipped[1:].replace('2', '1')}{none}1 failed\n", "", 1))
+    for new in "right", "a":
+        tree.put("docs/edits/least/h.edit", f"{tried}file: src/lib.rt\nold:     a + 1\nnew: {new}\n")
+        told = "least/h: each run has to see it refused, and this one doesn't\n"
+        tree.expect("each run's is proved, or unknown", told in tree.run("tools/edits", "--gate")[0], True)
+        tree.expect("then the gate fails", tree.run("tools/edits", "--gate")[2], 1)
     shutil.rmtree(tree.top / "docs/edits")
     tree.expect("nothing", tree.run("tools/edits", "--gate"), ("no wrong body is due\n0 passed, 0 failed\n", "", 0))
 
@@ -823,10 +835,10 @@ def try_wrong_bodies(tree):
     tree.put("docs/WRONG-BODIES.md", "# By hand\n")
     tree.expect("the table is written", tree.run("tools/wrong_bodies", "write"), ("", "", 0))
     page = (tree.top / "docs/WRONG-BODIES.md").read_text(encoding="utf-8")
-    tree.expect("by hand, and made", (page.startswith("# By hand\n\n<!--"), "2 wrong bodies, of which `rt ci` tries 1." in page), (True, True))
+    tree.expect("by hand, and made", (page.startswith("# By hand\n\n<!--"), "2 wrong bodies, of which each run of the gate tries 1." in page), (True, True))
     tree.expect("its rows", [it for it in page.split("\n") if it.startswith("| `")], ["| `least` | 2 | 1 |  | 1 | 1 |  |"])
     tree.expect("the page stays", tree.run("tools/wrong_bodies")[0], page[page.index("<!--") :])
-    rows = ["| `f`, `g` | `a \\| b` | the loop of `f` | one |", "| `g` | a | a clause, by what `f` requires | two (`rt ci`) |"]
+    rows = ["| `f`, `g` | `a \\| b` | the loop of `f` | one |", "| `g` | a | a clause, by what `f` requires | two (gate) |"]
     shown = "### `least`\n\n" + head + "\n".join(rows) + "\n\n"
     tree.expect("each edit", (tree.run("tools/wrong_bodies", "show"), tree.run("tools/wrong_bodies", "show", "least")), ((shown, "", 0), (shown, "", 0)))
     tree.expect("usage", (tree.run("tools/wrong_bodies", "-h")[2], tree.run("tools/wrong_bodies", "show", "ltl_sets")[2]), (2, 2))

@@ -46,12 +46,17 @@ def place_of(function):
 
 def asked_for(chosen):
     """The words by which a check is asked for the functions of these edits."""
-    return [word for place in sorted({place_of(it.function) for it in chosen}) for word in ("--only", place)]
+    return [word for place in sorted({place_of(of) for it in chosen for of in it.functions}) for word in ("--only", place)]
 
 
 def evidence(lines, change, functions):
-    """The first line of a check which says that something that the edited function owes isn't proved."""
-    of, names = change.function, names_of(change.function)
+    """The first line of a check which says that something that an edited function owes isn't proved."""
+    return next((line for of in change.functions if (line := evidence_of(lines, of, functions))), None)
+
+
+def evidence_of(lines, of, functions):
+    """The first line of a check which says that something that this function owes isn't proved."""
+    names = names_of(of)
     is_only = len([it for it in functions[of.file] if (it.owner, it.name) == (of.owner, of.name)]) == 1
     for line in lines:
         owed, proof = OWED.match(line), PROOF.match(line)

@@ -7,12 +7,14 @@ from pathlib import Path
 TOP = Path(__file__).resolve().parent.parent
 # What an edit file says of itself, in lines that the kit doesn't read.
 KINDS = "call", "what", "refused by"
+# The line of an edit of docs/edits that ./test tries each time.
+EACH_RUN = "# tried: in each run of the gate"
 
 # A function's name, the type of its impl, that type with the trait's name behind it, whether the impl is a trait's, whether it is a trait's or its type is of
 # another file, the file, the line of its first attribute or comment, the lines of its head and its end, and the line behind which its body begins.
 Function = namedtuple("Function", "name of owner is_of_trait is_elsewhere file start first body last")
-# An edit's name, what it replaces by what in which file, and the function whose body has all of it, if there is one.
-Change = namedtuple("Change", "name pairs function")
+# An edit's name, what it replaces by what in which file, the function whose body has all of it, if there is one, and all functions whose bodies have a part.
+Change = namedtuple("Change", "name pairs function functions")
 
 
 def lines_of_crates():
@@ -39,6 +41,11 @@ def crates_below():
 def edits_of(crate):
     """The edits of a crate by name: those in docs/edits, and those that `rt ci` tries."""
     return {it.stem: it for folder in (f"docs/edits/{crate}", f"crates/{crate}/must-fail") for it in sorted((TOP / folder).glob("*.edit"))}
+
+
+def is_tried_in_each_run(edit):
+    """Whether ./test tries an edit of docs/edits each time."""
+    return EACH_RUN in edit.read_text(encoding="utf-8").split("\n")
 
 
 def said_of(edit):
@@ -108,7 +115,8 @@ def change_of(edit, folder, functions):
             number = text[: text.find(old)].count("\n") + 1 if old in text else 0
             places.add(next((it for it in functions.get(file, []) if it.body < number < it.last), None))
             pairs.append((file, old, rest))
-    return Change(edit.stem, pairs, places.pop() if len(places) == 1 else None)
+    changed = tuple(sorted(places - {None}, key=lambda it: (it.file, it.first)))
+    return Change(edit.stem, pairs, changed[0] if len(changed) == len(places) == 1 else None, changed)
 
 
 def names_of(function):

@@ -1,10 +1,11 @@
-"""What `tools/edits --gate` does: it tries wrong bodies of docs/edits whose last refusal isn't noted, or whose note no longer holds, for at most ten minutes.
+"""What `tools/edits --gate` does. It tries each wrong body of docs/edits that says so in its line `# tried: in each run of the gate`, and fails if one of them
+isn't refused. Then it tries those whose last refusal isn't noted, or whose note no longer holds, for at most ten minutes.
 
 A check that runs then is given five minutes more. Nothing is noted, so that the gate leaves the tree as it is. The edits of a crate come together into one
 check of the functions that they change, and of what these call, from nothing: over the libraries that `rt ci` keeps on this machine, which it gives to a
 copy of the sources within seconds. Each check has one processor. The crates come in an order that begins elsewhere for each commit, so that what is left
 untried by one commit's gate comes first in another's. An edit that isn't refused among others is tried alone; the gate fails if all is proved with
-it. Edits that change no single body need a proof of their crate, and are left to `tools/edits`. WITHOUT_EDITS=1 leaves all of this out, and says so."""
+it. Edits that change no body need a proof of their crate, and are left to `tools/edits`. WITHOUT_EDITS=1 leaves all of this out, and says so."""
 
 import os
 import shutil
@@ -17,11 +18,12 @@ from concurrent.futures import ThreadPoolExecutor
 from pathlib import Path
 
 sys.dont_write_bytecode = True
-from edit_checks import asked_for, evidence, texts_of, together
-from edit_files import TOP, change_of, crates_below, edits_of, functions_of, lines_of_crates
+from edit_checks import asked_for, evidence, put_in, texts_of, together
+from edit_files import TOP, change_of, crates_below, edits_of, functions_of, is_tried_in_each_run, lines_of_crates
 
-# Seconds in which checks begin; those that a running check has then; and those in which `rt ci` gives what it keeps.
-BEGIN, MORE, KEPT = 600, 300, 120
+# Seconds in which checks of what is due begin; those that a running check has then; those of a check of what each run tries; and those in which `rt ci` gives
+# what it keeps.
+BEGIN, MORE, LONG, KEPT = 600, 300, 3600, 600
 REFUSED, PROVED, UNTRIED = "refused", "NOT REFUSED: all is proved with it", "not tried"
 
 
@@ -99,7 +101,7 @@ class Trial:
 
 
 def trials_of(crate, names):
-    """The checks that the edits of a crate make, and the edits that no check here can try."""
+    """The checks that the edits of a crate make. An edit of several bodies has a check of its own, and one of no body has none."""
     folder = TOP / "crates" / crate
     functions = functions_of(folder)
     changes, before = [change_of(edits_of(crate)[name], folder, functions) for name in names], texts_of(folder, functions)
@@ -109,7 +111,8 @@ def trials_of(crate, names):
         if not chosen:
             break
         found.append(Trial(crate, chosen, texts, functions))
-    return found, [it.name for it in changes if not it.function or it in left]
+    alone = ((it, put_in(it, before)) for it in changes if it.functions and not it.function)
+    return [*found, *(Trial(crate, [it], texts, functions) for it, texts in alone if texts)]
 
 
 def turned(crates):
@@ -119,45 +122,61 @@ def turned(crates):
     return crates[at:] + crates[:at]
 
 
-def tried(base, trial, start):
-    """What is known of each edit of a trial, some of them tried alone. Nothing begins after the ten minutes."""
-    until = start + BEGIN + MORE
-    if time.monotonic() - start > BEGIN:
+def tried(base, trial, begin, until):
+    """What is known of each edit of a trial, some of them tried alone. Nothing begins after the first of these times."""
+    if time.monotonic() > begin:
         return {it.name: (UNTRIED, "") for it in trial.changes}
     found = trial.checked(base, until)
     before = texts_of(TOP / "crates" / trial.crate, trial.functions)
     for it in trial.changes:
-        if found[it.name][0] == UNTRIED and len(trial.changes) > 1 and time.monotonic() - start < BEGIN:
+        if found[it.name][0] == UNTRIED and len(trial.changes) > 1 and time.monotonic() < begin:
             alone, texts, _ = together([it], before)
             found |= Trial(trial.crate, alone, texts, trial.functions).checked(base, until)
     return found
 
 
-def main(wanted):
-    """Tries those of the wanted edits that `rt ci` doesn't try. The last line is 'N passed, M failed'."""
-    names = {}
-    for crate, name in sorted(wanted):
-        if edits_of(crate)[name].parent.name != "must-fail":
-            names.setdefault(crate, []).append(name)
-    count = sum(len(it) for it in names.values())
-    if os.environ.get("WITHOUT_EDITS") == "1" or not count:
-        print(f"skipped: {count} wrong bodies that are due, as WITHOUT_EDITS=1 asks" if count else "no wrong body is due")
+def verdicts(base, names, begin, more):
+    """Tries these edits, and tells what is known of each. Checks begin for so many seconds, and the last of them have some more."""
+    begin, found, of = time.monotonic() + begin, {}, {crate: trials_of(crate, names[crate]) for crate in turned(sorted(names))}
+    trials = [it for crate in of for it in of[crate]]
+    with ThreadPoolExecutor(len(os.sched_getaffinity(0))) as pool:
+        for trial, told in zip(trials, pool.map(lambda it: tried(base, it, begin, begin + more), trials)):
+            for name, (verdict, line) in told.items():
+                found[trial.crate, name] = verdict
+                print(f"{trial.crate}/{name}: {verdict}: {line[:140]}\n" if line else "", end="", flush=True)
+    return found
+
+
+def by_crate(places):
+    """The names of these edits, by crate."""
+    found = {}
+    for crate, name in sorted(places):
+        found.setdefault(crate, []).append(name)
+    return found
+
+
+def main(due):
+    """Tries what each run tries, and those of the due edits that `rt ci` doesn't try. The last line is 'N passed, M failed'."""
+    edits = {(crate, name): it for crate in crates_below() for name, it in edits_of(crate).items()}
+    each_run = {place for place, it in edits.items() if is_tried_in_each_run(it)}
+    due = {place for place in due if edits[place].parent.name != "must-fail"} - each_run
+    counts = f"{len(each_run)} wrong bodies that each run tries, and {len(due)} that are due"
+    if os.environ.get("WITHOUT_EDITS") == "1" or not each_run | due:
+        print(f"skipped: {counts}, as WITHOUT_EDITS=1 asks" if each_run | due else "no wrong body is due")
         print("0 passed, 0 failed")
         return 0
-    start, found = time.monotonic(), {}
     with tempfile.TemporaryDirectory(prefix="edits-") as folder:
-        base, of = Base(Path(folder)), {crate: trials_of(crate, names[crate]) for crate in turned(sorted(names))}
-        below = [it for it in base.lines if any(it in base.below[crate] for crate in names)]
-        if libraries(base.room, below):
-            with ThreadPoolExecutor(len(os.sched_getaffinity(0))) as pool:
-                trials = [it for crate in of for it in of[crate][0]]
-                for trial, told in zip(trials, pool.map(lambda it: tried(base, it, start), trials)):
-                    for name, (verdict, line) in told.items():
-                        found[trial.crate, name] = verdict
-                        print(f"{trial.crate}/{name}: {verdict}: {line[:140]}\n" if line else "", end="", flush=True)
-        else:
-            print(f"skipped: {count} wrong bodies that are due, since `rt ci` keeps no libraries of this tree here")
-    refused, proved = (sum(it == verdict for it in found.values()) for verdict in (REFUSED, PROVED))
-    print(f"{count - refused - proved} wrong bodies that are due are left untried; tools/edits tries them, and notes what is refused")
-    print(f"{refused} passed, {proved} failed")
-    return 1 if proved else 0
+        base = Base(Path(folder))
+        below = [it for it in base.lines if any(it in base.below[crate] for crate, _ in each_run | due)]
+        if not libraries(base.room, below):
+            print(f"{'' if each_run else 'skipped: '}{counts}, aren't tried, since `rt ci` keeps no libraries of this tree here")
+            print(f"0 passed, {len(each_run)} failed")
+            return 1 if each_run else 0
+        must, may = verdicts(base, by_crate(each_run), LONG, LONG), verdicts(base, by_crate(due), BEGIN, MORE)
+    missed = [it for it in each_run if must.get(it) != REFUSED]
+    refused, proved = (sum(it == verdict for it in may.values()) for verdict in (REFUSED, PROVED))
+    for crate, name in sorted(missed):
+        print(f"{crate}/{name}: each run has to see it refused, and this one doesn't")
+    print(f"{len(due) - refused - proved} wrong bodies that are due are left untried; tools/edits tries them, and notes what is refused")
+    print(f"{len(each_run) - len(missed) + refused} passed, {len(missed) + proved} failed")
+    return 1 if missed or proved else 0
