@@ -1,13 +1,12 @@
 //! Tests of the DOT texts of drawings.
 
-use ltl_hoa::hoa_read;
-use ltl_pictures::{Drawing, put_escaped};
-use ltl_streams::{OutputBuffer, WriterSink};
+use ltl_hoa::{hoa_names, hoa_read};
+use ltl_pictures::Drawing;
 use std::alloc::Global;
 use std::process::Abort;
 
 /// Automata and the DOT texts of their drawings.
-const PICTURES: [(&str, &str); 7] = [
+const PICTURES: [(&str, &str); 8] = [
     // Acceptance is state-based. Two edges have the same target but different labels, and one edge occurs twice.
     (
         "HOA: v1\nStates: 3\nStart: 1\nAP: 2 \"p\" \"q_1\"\nAcceptance: 1 Inf(0)\n--BODY--\nState: 0 {0}\n[0&!1] 0\nState: 1\n[t] 2\n[0] 0\n[!0] 2\n[0] 0\n[0&1] 1\nState: 2\n--END--\n",
@@ -42,12 +41,20 @@ const PICTURES: [(&str, &str); 7] = [
         "HOA: v1\nStates: 1\nStart: 0\nAP: 1 \"p\"\nAcceptance: 1 Inf(0)\n--BODY--\n--END--\n",
         "digraph automaton {\n  rankdir=LR\n  labelloc=t\n  label=\"B&uuml;chi\"\n  node [shape=circle]\n  I [label=\"\", style=invis, width=0]\n  I -> 0\n  0\n}\n",
     ),
+    // The automaton and two of three states have names, with a quote, a backslash and `&`.
+    (
+        "HOA: v1\nname: \"say \\\"no\\\"\"\nStates: 3\nStart: 0\nAP: 1 \"p\"\nAcceptance: 1 Inf(0)\n--BODY--\nState: 0 \"idle\"\n[0] 1\nState: 1\n[t] 2\nState: 2 \"a\\\\b & c\" {0}\n[0] 2\n--END--\n",
+        "digraph automaton {\n  rankdir=LR\n  labelloc=t\n  label=\"say \\\"no\\\"\\nB&uuml;chi\"\n  node [shape=circle]\n  I [label=\"\", style=invis, width=0]\n  I -> 0\n  0 [label=\"0\\nidle\", shape=ellipse]\n  0 -> 1 [label=\"p\"]\n  1\n  1 -> 2 [label=\"1\"]\n  2 [label=\"2\\na\\\\b &amp; c\", shape=ellipse, peripheries=2]\n  2 -> 2 [label=\"p\"]\n}\n",
+    ),
 ];
 
-/// The DOT text for the automaton that this text gives.
+/// The DOT text for the automaton and its names that this text gives.
 fn picture<R: Abort>(rt: &R, alloc: &Global, text: &str) -> Vec<u8> {
     let automaton = hoa_read(alloc, &mut text.as_bytes()).expect(rt, "an automaton");
-    let drawing = Drawing::new(alloc, automaton).expect(rt, "memory");
+    let states = automaton.len();
+    assert!(rt; text.len() < 4_294_967_296 && states < 4_294_967_296);
+    let names = hoa_names(alloc, text.as_bytes(), states).expect(rt, "memory");
+    let drawing = Drawing::new(alloc, automaton, names).expect(rt, "memory");
     let mut picture = Vec::new(*alloc);
     drawing.dot_to(&mut picture).expect(rt, "a writer");
     picture
@@ -61,32 +68,6 @@ fn pictures(rt: HostRuntime) {
             picture(&rt, &alloc, text).as_slice(),
             wanted.as_bytes(),
             "{text}"
-        );
-    }
-}
-
-/// A text as it is written within quotes.
-fn escaped<R: Abort>(rt: &R, alloc: Global, text: &str) -> Vec<u8> {
-    let mut held = Vec::new(alloc);
-    let mut sink = WriterSink::new(&mut held);
-    let mut buffer = OutputBuffer::new();
-    put_escaped(text.as_bytes(), &mut buffer, &mut sink).expect(rt, "a writer");
-    buffer.send(&mut sink).expect(rt, "a writer");
-    held
-}
-
-#[test]
-fn quotes_and_backslashes(rt: HostRuntime) {
-    let texts = [
-        ("", ""),
-        ("p_1", "p_1"),
-        ("\"", "\\\""),
-        ("a\\\"\n", "a\\\\\\\"\n"),
-    ];
-    for (text, wanted) in texts {
-        assert_eq!(rt;
-            escaped(&rt, rt.alloc(), text).as_slice(),
-            wanted.as_bytes()
         );
     }
 }

@@ -14,6 +14,13 @@ const AUTOMATON: &str =
 const PICTURE: &str =
     "digraph automaton {\n  rankdir=LR\n  labelloc=t\n  label=\"B&uuml;chi\"\n  node [shape=circle]\n  I [label=\"\", style=invis, width=0]\n  I -> 0\n  0\n  0 -> 0 [label=\"1 || p\"]\n  0 -> 1 [label=\"p || !p || p || p\"]\n  1 [peripheries=2]\n  1 -> 1 [label=\"p\"]\n}\n";
 
+/// The same with names for the automaton and for the second state.
+const NAMED: &str =
+    "HOA: v1\nname: \"hold\"\nStates: 2\nStart: 0\nAP: 1 \"p\"\nAcceptance: 1 Inf(0)\n--BODY--\nState: 0\n[t] 0\n[0] 1\n[0] 0\n[!0] 1\n[0] 1\n[0] 1\nState: 1 \"held\" {0}\n[0] 1\n--END--\n";
+
+const NAMED_PICTURE: &str =
+    "digraph automaton {\n  rankdir=LR\n  labelloc=t\n  label=\"hold\\nB&uuml;chi\"\n  node [shape=circle]\n  I [label=\"\", style=invis, width=0]\n  I -> 0\n  0\n  0 -> 0 [label=\"1 || p\"]\n  0 -> 1 [label=\"p || !p || p || p\"]\n  1 [label=\"1\\nheld\", shape=ellipse, peripheries=2]\n  1 -> 1 [label=\"p\"]\n}\n";
+
 /// More allocations than a run makes.
 const MOST_GROWTHS: u64 = 1_000;
 
@@ -77,7 +84,7 @@ fn whole(text: &str) -> Given<'_> {
 }
 
 /// Command lines and inputs, and the output, message and exit status of each.
-const RUNS: [(&[&str], &str, &str, &str, u8); 18] = [
+const RUNS: [(&[&str], &str, &str, &str, u8); 21] = [
     (&["ltldraw"], AUTOMATON, PICTURE, "", 0),
     (&["x"], AUTOMATON, PICTURE, "", 0),
     (
@@ -158,7 +165,16 @@ const RUNS: [(&[&str], &str, &str, &str, u8); 18] = [
         "ltldraw: word: byte 0: bad word\n",
         3,
     ),
+    (&["ltldraw"], NAMED, NAMED_PICTURE, "", 0),
     (&RUN, AUTOMATON, RUN_PICTURE, "", 0),
+    (&RUN, NAMED, NAMED_RUN_PICTURE, "", 0),
+    (
+        &["ltldraw", "-w", "{p}; cycle {}"],
+        NAMED,
+        "digraph automaton {\n  rankdir=LR\n  labelloc=t\n  label=\"hold\\nB&uuml;chi\\nno run on this word is accepting\"\n  node [shape=circle]\n  I [label=\"\", style=invis, width=0]\n  I -> 0\n  0\n  0 -> 0 [label=\"1 || p\"]\n  0 -> 1 [label=\"p || !p || p || p\"]\n  1 [label=\"1\\nheld\", shape=ellipse, peripheries=2]\n  1 -> 1 [label=\"p\"]\n}\n",
+        "",
+        0,
+    ),
     (
         &["ltldraw", "-w", "{p}; cycle {}"],
         AUTOMATON,
@@ -188,6 +204,9 @@ const RUN: [&str; 3] = ["ltldraw", "-w", "cycle {p}"];
 const RUN_PICTURE: &str =
     "digraph automaton {\n  rankdir=LR\n  labelloc=t\n  label=\"B&uuml;chi\"\n  node [shape=circle]\n  I [label=\"\", style=invis, width=0]\n  I -> 0\n  0 [color=red, penwidth=2]\n  0 -> 0 [label=\"1 || p\"]\n  0 -> 1 [label=<<font color=\"red\">p</font> || !p || p || p>, color=red, penwidth=2]\n  1 [peripheries=2, color=red, penwidth=2]\n  1 -> 1 [label=<<font color=\"red\">p</font>>, color=red, penwidth=2]\n}\n";
 
+const NAMED_RUN_PICTURE: &str =
+    "digraph automaton {\n  rankdir=LR\n  labelloc=t\n  label=\"hold\\nB&uuml;chi\"\n  node [shape=circle]\n  I [label=\"\", style=invis, width=0]\n  I -> 0\n  0 [color=red, penwidth=2]\n  0 -> 0 [label=\"1 || p\"]\n  0 -> 1 [label=<<font color=\"red\">p</font> || !p || p || p>, color=red, penwidth=2]\n  1 [label=\"1\\nheld\", shape=ellipse, peripheries=2, color=red, penwidth=2]\n  1 -> 1 [label=<<font color=\"red\">p</font>>, color=red, penwidth=2]\n}\n";
+
 const TABLE: &str = "        0 | 1 2\np       * | . .\nq       . | * .\n(p U q) * | * .\n";
 
 const TIMELINE: [&str; 5] = ["ltldraw", "-t", "{p}; cycle {q}; {}", "-f", "p U q"];
@@ -203,8 +222,8 @@ fn runs(rt: HostRuntime) {
 /// Command lines that end with status 0, with the input, the number of bytes after which it fails, and the output, and a number of allocations that the run
 /// exceeds. A timeline reads no input.
 const WHOLE: [(&[&str], &str, usize, &str, u64); 3] = [
-    (&["ltldraw"], AUTOMATON, usize::MAX, PICTURE, 5),
-    (&RUN, AUTOMATON, usize::MAX, RUN_PICTURE, 15),
+    (&["ltldraw"], NAMED, usize::MAX, NAMED_PICTURE, 10),
+    (&RUN, NAMED, usize::MAX, NAMED_RUN_PICTURE, 20),
     (&TIMELINE, "", 0, TABLE, 5),
 ];
 
@@ -264,6 +283,17 @@ fn flush_and_message(rt: HostRuntime) {
     assert_eq!(rt; status, 5);
     assert_eq!(rt; output.held.as_slice(), PICTURE.as_bytes());
     assert_eq!(rt; message.held.as_slice(), "ltl".as_bytes());
+}
+
+/// The input fails behind a fault of its text.
+#[test]
+fn fault_before_failed_read(rt: HostRuntime) {
+    let input = Given {
+        rest: b"HOA: v2\nStates: 1\n",
+        left: 12,
+    };
+    let outcome = ended(rt.alloc(), &rt.alloc(), &["ltldraw"], input, usize::MAX);
+    expect(&rt, &outcome, 5, b"", "ltldraw: cannot read\n");
 }
 
 /// The input fails after each number of bytes.

@@ -1,4 +1,5 @@
 pub mod MessageLaws
+pub mod NamedLaws
 pub mod PictureLaws
 pub mod PlanLaws
 pub mod RunLaws

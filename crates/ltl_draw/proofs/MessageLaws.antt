@@ -1,5 +1,5 @@
 -- The length of a message.
-use Rattle.std.proofs.Common.{◌<◌, ℕ, length, arith}
+use Rattle.std.proofs.Common.{◌<◌, length, arith}
 use Rattle.ltl_spec.specs.Tools.Refusal.{Refusal}
 use Rattle.ltl_draw.specs.Messages.{draw_message}
 

@@ -4,7 +4,6 @@ use Rattle.std.proofs.lemmas.List.{append-nil}
 use Rattle.std.specs.Prelude.{Result, Ok, Err}
 use Rattle.std.specs.Io.KnownBytes.{Appends}
 use Rattle.clap.specs.Words.{Text}
-use Rattle.ltl_spec.specs.Hoa.HoaReading.{MarkedAutomaton}
 use Rattle.ltl_spec.specs.Tools.Refusal as spec
 use Rattle.ltl_spec.specs.Tools.Stage.{Open}
 use Rattle.ltl_spec.specs.Tools.Outcome.{Input, IsGiven, Seen, TellsMessage, printed, stage_behind}
@@ -12,13 +11,14 @@ use Rattle.ltl_streams.specs.Streams.{Breaks, SinkState}
 use Rattle.ltl_words.specs.declared.request.PlanFault.{PlanFault}
 use Rattle.ltl_cli.specs.declared.refusal.Refusal.{Refusal}
 use Rattle.ltl_cli.specs.declared.refusal.Refusal.TheVariants.{OutOfMemory, CannotWrite}
-use Rattle.ltl_cli.specs.Checks.{ReadsAutomaton}
+use Rattle.ltl_cli.specs.Inputs.{IsFailed, RefusesUnless}
 use Rattle.ltl_cli.specs.Refusals.{of_plan, refusal_of}
 use Rattle.ltl_cli.specs.Runs.{Finishes, IsTold, Shows}
 use Rattle.ltl_pictures.specs.DotText.{dot_text}
+use Rattle.ltl_pictures.specs.NamedAutomaton.{NamedAutomaton}
 use Rattle.ltl_draw.specs.Messages.{draw_message}
 use Rattle.ltl_draw.specs.Plans.{Picture, Request}
-use Rattle.ltl_draw.specs.Runs.{DrawAnswers, IsOutcome, MayDraw, draw_refused, message_with, status_with}
+use Rattle.ltl_draw.specs.Runs.{DrawAnswers, DrawNeverShort, IsOutcome, MayDraw, ReadsNamed, draw_refused, message_with, status_with}
 
 wrote_nothing : (o : Option (List ℕ)) → Appends o o []
 wrote_nothing None = tt
@@ -54,27 +54,27 @@ refused_right request input o e g h = record {
   ends = λ seen w b s t. inl (draw_refused (refusal_of e), h, refusal_given (refusal_of e) seen w (b ∙ g) s t);
 }
 
-refused_short : {T : Type 0} (request : Result Request PlanFault) (input : Input) (o : SinkState) → o.stage ≡ Open → IsOutcome {T = T} request input o o (Err OutOfMemory)
-refused_short request input o g = record {
+refused_short : {T : Type 0} (request : Result Request PlanFault) (input : Input) (o : SinkState) → o.stage ≡ Open → ¬ (DrawNeverShort request input) → IsOutcome {T = T} request input o o (Err OutOfMemory)
+refused_short request input o g n = record {
   output = [];
   written = wrote_nothing o.bytes;
   same = refl;
-  ends = λ seen w b s t. inr (inl (refusal_given spec.OutOfMemory seen w (b ∙ g) s t));
+  ends = λ seen w b s t. inr (inl (n, refusal_given spec.OutOfMemory seen w (b ∙ g) s t));
 }
 
-right_picture : (input : Input) (file : Option Text) (A : MarkedAutomaton) → ReadsAutomaton input (Ok A) → DrawAnswers (Ok (Picture file)) input (printed (dot_text A) 0)
-right_picture input file A reads = (Ok (dot_text A), inr (A, reads, refl), refl)
+right_picture : (input : Input) (file : Option Text) (N : NamedAutomaton) → ReadsNamed input (Ok N) → DrawAnswers (Ok (Picture file)) input (printed (dot_text N) 0)
+right_picture input file N reads = (Ok (dot_text N), inr (N, reads, refl), refl)
 
 module _ {T : Type 0} (input : Input) (o : SinkState) (open_before : o.stage ≡ Open) where
   -- memory was refused, or the definitions refuse what was asked for
-  pub nothing_printed : (request : Result Request PlanFault) (e : Refusal) → (e ≡ OutOfMemory) ⊎ DrawAnswers request input (draw_refused (refusal_of e)) → IsOutcome {T = T} request input o o (Err e)
-  nothing_printed request e (inl m) = subst (λ (x : Refusal). IsOutcome {T = T} request input o o (Err x)) (sym m) (refused_short request input o open_before)
+  pub nothing_printed : (request : Result Request PlanFault) (e : Refusal) → (e ≡ OutOfMemory) × ¬ (DrawNeverShort request input) ⊎ DrawAnswers request input (draw_refused (refusal_of e)) → IsOutcome {T = T} request input o o (Err e)
+  nothing_printed request e (inl (m, n)) = subst (λ (x : Refusal). IsOutcome {T = T} request input o o (Err x)) (sym m) (refused_short request input o open_before n)
   nothing_printed request e (inr h) = refused_right request input o e open_before h
 
   -- the automaton was refused
-  pub automaton_refused : (file : Option Text) (e : Refusal) → (e ≡ OutOfMemory) ⊎ ReadsAutomaton input (Err (refusal_of e)) → IsOutcome {T = T} (Ok (Picture file)) input o o (Err e)
-  automaton_refused file e (inl m) = nothing_printed (Ok (Picture file)) e (inl m)
-  automaton_refused file e (inr h) = nothing_printed (Ok (Picture file)) e (inr (Err (refusal_of e), inl (refusal_of e, h, refl), refl))
+  pub named_refused : (file : Option Text) (e : Refusal) → RefusesUnless (IsFailed input) (ReadsNamed input) e → IsOutcome {T = T} (Ok (Picture file)) input o o (Err e)
+  named_refused file e (inl m) = nothing_printed (Ok (Picture file)) e (inl m)
+  named_refused file e (inr h) = nothing_printed (Ok (Picture file)) e (inr (Err (refusal_of e), inl (refusal_of e, h, refl), refl))
 
   -- so were the words
   pub words_refused : (request : Result Request PlanFault) (f : PlanFault) (e : Refusal) → request ≡ Err f → e ≡ of_plan f → IsOutcome {T = T} request input o o (Err e)
@@ -101,13 +101,13 @@ module _ {T : Type 0} (input : Input) (o : SinkState) (open_before : o.stage ≡
       ends = λ seen u b s t. inr (inr (printed text 0, right, refl, s, (w.count, u), b ∙ w.stage open_before, t));
     }
 
-  module _ (file : Option Text) (n : SinkState) (A : MarkedAutomaton) (reads : ReadsAutomaton input (Ok A)) where
+  module _ (file : Option Text) (n : SinkState) (N : NamedAutomaton) (reads : ReadsNamed input (Ok N)) where
     -- it was drawn
-    pub drawn : (x : T) → Finishes o n (dot_text A) → IsOutcome {T = T} (Ok (Picture file)) input o n (Ok x)
-    drawn x w = all_printed (Ok (Picture file)) n (dot_text A) (right_picture input file A reads) x w
+    pub drawn : (x : T) → Finishes o n (dot_text N) → IsOutcome {T = T} (Ok (Picture file)) input o n (Ok x)
+    drawn x w = all_printed (Ok (Picture file)) n (dot_text N) (right_picture input file N reads) x w
 
-    pub cut_off : Breaks o n (dot_text A) → IsOutcome {T = T} (Ok (Picture file)) input o n (Err CannotWrite)
-    cut_off w = some_printed (Ok (Picture file)) n (dot_text A) (right_picture input file A reads) w
+    pub cut_off : Breaks o n (dot_text N) → IsOutcome {T = T} (Ok (Picture file)) input o n (Err CannotWrite)
+    cut_off w = some_printed (Ok (Picture file)) n (dot_text N) (right_picture input file N reads) w
 
 -- an outcome and its message
 pub outcome_shows : {T : Type 0} (request : Result Request PlanFault) (input : Input) (o n mo mn : SinkState) (status : ℕ) (r : Result T Refusal) → IsOutcome request input o n r → status ≡ status_with r

@@ -59,20 +59,20 @@ right_both input text formula f shaped reads w beside truth true_marks =
 module _ {T : Type 0} (input : Input) (o : SinkState) (open_before : o.stage ≡ Open) (text : List ℕ) where
   -- the word alone was refused
   pub word_unread : (names : List Name) → names ≡ [] → (e : Refusal) → (e ≡ OutOfMemory) ⊎ ReadsWord stated_limits names text (Err (refusal_of e)) → IsOutcome {T = T} (Ok (Timeline text None)) input o o (Err e)
-  word_unread names n e (inl m) = nothing_printed input o open_before (Ok (Timeline text None)) e (inl m)
+  word_unread names n e (inl m) = nothing_printed input o open_before (Ok (Timeline text None)) e (inl (m, λ z. z))
   word_unread names n e (inr h) =
       nothing_printed input o open_before (Ok (Timeline text None)) e
       (inr (Err (refusal_of e), inl (refusal_of e, subst (λ (ns : List Name). ReadsWord stated_limits ns text (Err (refusal_of e))) n h, refl), refl))
 
   -- the formula was refused
   pub formula_unread : (formula : List ℕ) (e : Refusal) → (e ≡ OutOfMemory) ⊎ ReadsFormula stated_limits formula (Err (refusal_of e)) → IsOutcome {T = T} (Ok (Timeline text (Some formula))) input o o (Err e)
-  formula_unread formula e (inl m) = nothing_printed input o open_before (Ok (Timeline text (Some formula))) e (inl m)
+  formula_unread formula e (inl m) = nothing_printed input o open_before (Ok (Timeline text (Some formula))) e (inl (m, λ z. z))
   formula_unread formula e (inr h) = nothing_printed input o open_before (Ok (Timeline text (Some formula))) e (inr (Err (refusal_of e), inl (refusal_of e, h, refl), refl))
 
   -- the word beside it was refused
   pub word_beside_unread : (formula : List ℕ) (f : FormulaView) → ReadsFormula stated_limits formula (Ok (reading_of f)) → (e : Refusal)
       → (e ≡ OutOfMemory) ⊎ ReadsWord stated_limits f.names text (Err (refusal_of e)) → IsOutcome {T = T} (Ok (Timeline text (Some formula))) input o o (Err e)
-  word_beside_unread formula f reads e (inl m) = nothing_printed input o open_before (Ok (Timeline text (Some formula))) e (inl m)
+  word_beside_unread formula f reads e (inl m) = nothing_printed input o open_before (Ok (Timeline text (Some formula))) e (inl (m, λ z. z))
   word_beside_unread formula f reads e (inr h) =
       nothing_printed input o open_before (Ok (Timeline text (Some formula))) e
       (inr (Err (refusal_of e), inr (reading_of f, reads, inl (refusal_of e, h, refl)), refl))
@@ -88,7 +88,7 @@ module _ {T : Type 0} (input : Input) (o : SinkState) (open_before : o.stage ≡
         (some_printed input o open_before (Ok (Timeline text None)) n (word_timeline w) (right_word input text names none w reads) h)
     word_cut_off timeline_fault.OutOfMemory e q h =
         subst (λ (s : SinkState). IsOutcome {T = T} (Ok (Timeline text None)) input o s (Err e)) (sym h)
-        (nothing_printed input o open_before (Ok (Timeline text None)) e (inl q))
+        (nothing_printed input o open_before (Ok (Timeline text None)) e (inl (q, λ z. z)))
 
     pub word_ended : (s : Result T TimelineFault) (r : Result T Refusal) → MatchResult s (λ x. r ≡ Ok x) (λ fault. r ≡ Err (of_timeline fault)) → IsSent (λ P. P (word_timeline w)) o n s → IsOutcome (Ok (Timeline text None)) input o n r
     word_ended (Ok x) r e h = subst (λ (y : Result T Refusal). IsOutcome (Ok (Timeline text None)) input o n y) (sym e) (word_printed x h)
@@ -106,7 +106,7 @@ module _ {T : Type 0} (input : Input) (o : SinkState) (open_before : o.stage ≡
         (some_printed input o open_before (Ok (Timeline text (Some formula))) n (timeline f w truth) (right_both input text formula f shaped reads w beside truth true_marks) h)
     both_cut_off timeline_fault.OutOfMemory e q h =
         subst (λ (s : SinkState). IsOutcome {T = T} (Ok (Timeline text (Some formula))) input o s (Err e)) (sym h)
-        (nothing_printed input o open_before (Ok (Timeline text (Some formula))) e (inl q))
+        (nothing_printed input o open_before (Ok (Timeline text (Some formula))) e (inl (q, λ z. z)))
 
     pub both_ended : (s : Result T TimelineFault) (r : Result T Refusal) → MatchResult s (λ x. r ≡ Ok x) (λ fault. r ≡ Err (of_timeline fault)) → IsSent (HasTrueMarks f w) o n s → IsOutcome (Ok (Timeline text (Some formula))) input o n r
     both_ended (Ok x) r e h = subst (λ (y : Result T Refusal). IsOutcome (Ok (Timeline text (Some formula))) input o n y) (sym e) (both_printed x h)

@@ -5,22 +5,25 @@ use Rattle.clap.specs.Words.{Text}
 use Rattle.ltl_spec.specs.Formulas.Formula.{Reading}
 use Rattle.ltl_spec.specs.Semantics.Word.{Lasso}
 use Rattle.ltl_spec.specs.Tools.Limits.{stated_limits}
-use Rattle.ltl_spec.specs.Tools.Programs.{ReadsFormula, ReadsWord}
+use Rattle.ltl_spec.specs.Tools.Programs.{ReadsFormula, ReadsWord, RefusesHoa}
 use Rattle.ltl_spec.specs.Tools.Refusal as spec
 use Rattle.ltl_spec.specs.Tools.Stage.{Broken}
-use Rattle.ltl_spec.specs.Tools.Outcome.{Answer, Input, IsBeginningOf, IsGiven, Seen, TellsMessage, Then, printed}
+use Rattle.ltl_spec.specs.Tools.Outcome.{Answer, Input, IsBeginningOf, IsGiven, Seen, TellsMessage, Then, printed, taken}
 use Rattle.ltl_streams.specs.Streams.{SinkState}
 use Rattle.ltl_syntax.specs.FormulaView.{FormulaView, IsFormula, reading_of}
 use Rattle.ltl_words.specs.declared.request.PlanFault.{PlanFault}
+use Rattle.ltl_words.specs.declared.request.PlanFault.TheVariants as fault
 use Rattle.ltl_cli.specs.declared.refusal.Refusal.{Refusal}
 use Rattle.ltl_cli.specs.declared.refusal.Refusal.TheVariants.{CannotWrite, LargeProduct, OutOfMemory}
-use Rattle.ltl_cli.specs.Checks.{ReadsAutomaton}
 use Rattle.ltl_cli.specs.Headline.{IsBehind}
+use Rattle.ltl_cli.specs.Inputs.{IsFailed}
 use Rattle.ltl_cli.specs.Refusals.{of_plan, refusal_of}
 use Rattle.ltl_cli.specs.Runs.{Finishes}
-use Rattle.ltl_spec.specs.Hoa.HoaReading.{MarkedAutomaton}
+use Rattle.ltl_spec.specs.Hoa.HoaNames.{hoa_names}
+use Rattle.ltl_spec.specs.Hoa.HoaReading.{HoaReadsWithin, stated_form}
 use Rattle.ltl_pictures.specs.DotText.{dot_text}
-use Rattle.ltl_pictures.specs.RunText.{RunPicture, run_text}
+use Rattle.ltl_pictures.specs.NamedAutomaton.{NamedAutomaton}
+use Rattle.ltl_pictures.specs.RunText.{RunPicture, named_of, run_text}
 use Rattle.ltl_pictures.specs.Runs.{IsRunOf, run_size}
 use Rattle.ltl_pictures.specs.declared.fault.RunFault as run
 use Rattle.ltl_pictures.specs.Timeline.{word_timeline}
@@ -42,16 +45,28 @@ draw_answer (Err r) = draw_refused r
 abbrev pub ShowsTruth : Reading → Lasso → Result (List ℕ) spec.Refusal → Type 0
 ShowsTruth R w r = (f : FormulaView) × IsFormula f.nodes f.names × (reading_of f ≡ R) × HasTrueMarks f w (λ text. r ≡ Ok text)
 
--- the automaton with an accepting run on the word, or with none if it doesn't accept the word; refused exactly if the search is too large
-abbrev pub RunsOn : MarkedAutomaton → Lasso → Result RunPicture spec.Refusal → Type 0
-RunsOn A w (Ok P) = (P.automaton ≡ A) × IsRunOf A w P.run × (run_size A w ≤ stated_limits.product)
-RunsOn A w (Err e) = (e ≡ spec.LargeProduct) × (stated_limits.product < run_size A w)
+-- the text reads as this automaton, and has these names for it and for each of its states
+abbrev pub IsNamedText : List ℕ → NamedAutomaton → Type 0
+IsNamedText text N = HoaReadsWithin stated_limits stated_form text N.automaton × (N.names ≡ hoa_names text N.automaton.states)
 
--- The output for a request, or the refusal: the drawing of the automaton in the input; the same with a run on a word, whose text is read first; the timeline
--- of a word; or that of a word and a formula, whose text is read first and whose names count together with the word's
+-- a text reads as an automaton with its names, or is refused for its fault
+abbrev pub ReadsNamedText : List ℕ → Result NamedAutomaton spec.Refusal → Type 0
+ReadsNamedText text r = MatchResult r (IsNamedText text) (RefusesHoa stated_limits stated_form text)
+
+-- the same of the whole text of an input
+abbrev pub ReadsNamed : Input → Result NamedAutomaton spec.Refusal → Type 0
+ReadsNamed input = Then (λ r. r ≡ taken stated_limits.hoa_bytes input) ReadsNamedText
+
+-- the automaton and its names with an accepting run on the word, or with none if it doesn't accept the word; refused exactly if the search is too large
+abbrev pub RunsOn : NamedAutomaton → Lasso → Result RunPicture spec.Refusal → Type 0
+RunsOn N w (Ok P) = (named_of P ≡ N) × IsRunOf N.automaton w P.run × (run_size N.automaton w ≤ stated_limits.product)
+RunsOn N w (Err e) = (e ≡ spec.LargeProduct) × (stated_limits.product < run_size N.automaton w)
+
+-- The output for a request, or the refusal: the drawing of the automaton in the input, with its names; the same with a run on a word, whose text is read
+-- first; the timeline of a word; or that of a word and a formula, whose text is read first and whose names count together with the word's
 abbrev pub Prints : Request → Input → Result (List ℕ) spec.Refusal → Type 0
-Prints (Picture file) input = Then (ReadsAutomaton input) (λ A r. r ≡ Ok (dot_text A))
-Prints (Run text file) input = Then (ReadsWord stated_limits [] text) (λ w. Then (ReadsAutomaton input) (λ A. Then (RunsOn A w) (λ P r. r ≡ Ok (run_text P))))
+Prints (Picture file) input = Then (ReadsNamed input) (λ N r. r ≡ Ok (dot_text N))
+Prints (Run text file) input = Then (ReadsWord stated_limits [] text) (λ w. Then (ReadsNamed input) (λ N. Then (RunsOn N w) (λ P r. r ≡ Ok (run_text P))))
 Prints (Timeline text None) input = Then (ReadsWord stated_limits [] text) (λ w r. r ≡ Ok (word_timeline w))
 Prints (Timeline text (Some formula)) input = Then (ReadsFormula stated_limits formula) (λ R. Then (ReadsWord stated_limits R.names text) (λ w. ShowsTruth R w))
 
@@ -66,9 +81,21 @@ IsCutOff request input seen =
     (a : Answer) × DrawAnswers request input a × (a.message ≡ []) × (seen.status ≡ spec.status_of spec.CannotWrite) × IsBeginningOf seen.output a.output
     × (seen.output_stage ≡ Broken) × TellsMessage (draw_message spec.CannotWrite) seen
 
--- what a run may show: a right answer, lack of memory before the first byte of output, or a prefix of the right output and a report of the failure
+-- where lack of memory is never reported: a command line without a meaning, and an automaton of which a read failed
+abbrev pub DrawNeverShort : Result Request PlanFault → Input → Type 0
+DrawNeverShort (Ok (Picture file)) input = IsFailed input
+DrawNeverShort (Ok (Run text file)) input = IsFailed input
+DrawNeverShort (Ok (Timeline text formula)) input = ⊥
+DrawNeverShort (Err fault.Usage) input = ⊤
+DrawNeverShort (Err fault.OutOfMemory) input = ⊥
+
+-- lack of memory is reported, before the first byte of output
+abbrev pub IsShort : Result Request PlanFault → Input → Seen → Type 0
+IsShort request input seen = ¬ (DrawNeverShort request input) × IsGiven seen (draw_refused spec.OutOfMemory)
+
+-- what a run may show: a right answer, lack of memory, or a prefix of the right output and a report of the failure
 abbrev pub MayDraw : Result Request PlanFault → Input → Seen → Type 0
-MayDraw request input seen = ((a : Answer) × DrawAnswers request input a × IsGiven seen a) ⊎ IsGiven seen (draw_refused spec.OutOfMemory) ⊎ IsCutOff request input seen
+MayDraw request input seen = ((a : Answer) × DrawAnswers request input a × IsGiven seen a) ⊎ IsShort request input seen ⊎ IsCutOff request input seen
 
 -- the same for some input that the automaton's file or the standard input may give
 abbrev pub PlanMayDraw : (Text → Input → Type 0) → (Input → Type 0) → Result Request PlanFault → Seen → Type 0

@@ -4,54 +4,36 @@ ghost use Rattle.std.specs.Prelude.{◌≡◌, ℕ, List, Option, OnOk, OnErr, O
 ghost use Rattle.ltl_spec.specs.Tools.Stage.{Open};
 ghost use Rattle.ltl_spec.specs.Tools.Outcome as spec;
 ghost use Rattle.ltl_streams.specs.Streams.{Breaks};
-ghost use Rattle.ltl_cli.specs.Checks.{ReadsAutomaton};
-ghost use Rattle.ltl_cli.specs.Inputs.{IsOpen, WasAutomaton};
-ghost use Rattle.ltl_cli.specs.Refusals.{TakesStep};
+ghost use Rattle.ltl_cli.specs.Inputs.{IsFailed, IsFoundUnless, IsOpen, WasAutomaton};
 ghost use Rattle.ltl_cli.specs.Runs.{Finishes, Shows, StaysAt};
 ghost use Rattle.ltl_pictures.specs.DotText.{dot_text};
 ghost use Rattle.ltl_draw.specs.Plans.{Picture, request_in, requested};
-ghost use Rattle.ltl_draw.specs.Runs.{IsOutcome, MayDraw, NeedsNoInput};
+ghost use Rattle.ltl_draw.specs.Runs.{IsOutcome, MayDraw, NeedsNoInput, ReadsNamed};
 
 use crate::finish::finish;
+use crate::input::named_of;
+use crate::named::Named;
 use crate::request::Plan;
 use crate::run_picture::run_shown;
 use crate::timeline::shown;
 use ltl_cli::{Refusal, Source};
-use ltl_hoa::{Marked, hoa_read_from};
 use ltl_pictures::Drawing;
 use ltl_streams::{ByteSink, ByteSource, WriteFault};
 use ltl_words::PlanFault;
 use std::alloc::Allocator;
 
-/// Reads an automaton from the source. `Source::Text` holds no automaton; it counts as a file that couldn't be opened.
-pub(crate) fn automaton_of<'a, A: Allocator, R: ByteSource>(
-    alloc: &'a A,
-    source: &mut Source<R>,
-) -> Result<Marked<'a, A>, Refusal>
-    requires { IsOpen R.state source.old }
-    ensures { (input : spec.Input) × WasAutomaton R.state source.old source.new input
-        × TakesStep (ReadsAutomaton input) (λ A. A) result }
-{
-    match source {
-        Source::Input(reader) => {
-            let automaton = hoa_read_from(alloc, reader)?;
-            Ok(automaton)
-        }
-        Source::Text | Source::NotOpened => Err(Refusal::CannotOpen),
-    }
-}
-
-/// Reads an automaton from the source, and prepares its drawing.
+/// Reads an automaton and its names from the source, and prepares their drawing.
 fn drawing_of<'a, A: Allocator, R: ByteSource>(
     alloc: &'a A,
     source: &mut Source<R>,
 ) -> Result<Drawing<'a, A>, Refusal>
     requires { IsOpen R.state source.old }
     ensures { (input : spec.Input) × WasAutomaton R.state source.old source.new input
-        × TakesStep (ReadsAutomaton input) (λ A. A) result }
+        × IsFoundUnless (IsFailed input) (ReadsNamed input) (λ N. N) result }
 {
-    let automaton = automaton_of(alloc, source)?;
-    let drawing = Drawing::new(alloc, automaton)?;
+    let named = named_of(alloc, source)?;
+    let Named { automaton, names } = named;
+    let drawing = Drawing::new(alloc, automaton, names)?;
     Ok(drawing)
 }
 
@@ -124,10 +106,10 @@ fn answered<A: Allocator, R: ByteSource, S: ByteSink>(
     }
 }
 
-/// Carries out a plan and returns the exit status. It writes the drawing of the automaton that the source gives, which is that of the plan's file or the standard
-/// input, or the timeline of a word, and flushes the
-/// output; or it writes the message of a refusal. Only a drawing reads the source. Only a refusal because of a failed write leaves something in the output. A
-/// stream isn't used again after one of its calls has failed.
+/// Carries out a plan and returns the exit status. It writes the drawing of the automaton that the source gives, which is that of the plan's file or the
+/// standard input, with the names that the text has for it and for its states; or it writes the timeline of a word. Then it flushes the output. Or it writes
+/// the message of a refusal. Only a drawing reads the source. Only a refusal because of a failed write leaves something in the output. A stream isn't used
+/// again after one of its calls has failed.
 pub fn draw_over<A: Allocator, R: ByteSource, S: ByteSink, M: ByteSink>(
     alloc: &A,
     plan: &Result<Plan<'_>, PlanFault>,

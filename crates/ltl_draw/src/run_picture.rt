@@ -11,10 +11,10 @@ ghost use Rattle.ltl_pictures.specs.RunText.{run_text};
 ghost use Rattle.ltl_draw.specs.Plans.{Run};
 ghost use Rattle.ltl_draw.specs.Runs.{IsOutcome, RunsOn, of_run};
 
-use crate::draw::automaton_of;
+use crate::input::named_of;
+use crate::named::Named;
 use crate::timeline::word_alone;
 use ltl_cli::{Refusal, Source};
-use ltl_hoa::Marked;
 use ltl_pictures::{RunDrawing, RunFault, accepting_run};
 use ltl_streams::{ByteSink, ByteSource, WriteFault};
 use ltl_word::Lasso;
@@ -33,17 +33,18 @@ fn refused(fault: RunFault) -> Refusal
 /// The drawing of the automaton with an accepting run on the word, if there is one.
 fn run_drawing<'a, A: Allocator>(
     alloc: &'a A,
-    automaton: Marked<'a, A>,
+    named: Named<'a, A>,
     word: &Lasso<'_, A>,
 ) -> Result<RunDrawing<'a, A>, Refusal>
-    ensures { TakesStep (RunsOn automaton.entry word.now) (λ d. d) result }
+    ensures { TakesStep (RunsOn named.entry word.now) (λ d. d) result }
 {
+    let Named { automaton, names } = named;
     let run = match accepting_run(alloc, &automaton, word) {
         Ok(run) => run,
         Err(fault) => return Err(refused(fault)),
     };
     automaton.invariant();
-    let drawing = RunDrawing::new(alloc, automaton, run)?;
+    let drawing = RunDrawing::new(alloc, automaton, names, run)?;
     Ok(drawing)
 }
 
@@ -59,7 +60,7 @@ fn print<A: Allocator, S: ByteSink>(
     output.flush()
 }
 
-/// Reads a word from the text, then an automaton from the source, and writes the automaton's drawing with an accepting run on the word.
+/// Reads a word from the text, then an automaton and its names from the source, and writes their drawing with an accepting run on the word.
 pub(crate) fn run_shown<A: Allocator, R: ByteSource, S: ByteSink>(
     alloc: &A,
     text: &str,
@@ -72,8 +73,8 @@ pub(crate) fn run_shown<A: Allocator, R: ByteSource, S: ByteSink>(
         × ((file : Option (List ℕ)) → IsOutcome (Ok (Run text.now file)) input (S.state output.old) (S.state output.new) result) }
 {
     let word = word_alone(alloc, text)?;
-    let automaton = automaton_of(alloc, source)?;
-    let drawing = run_drawing(alloc, automaton, &word)?;
+    let named = named_of(alloc, source)?;
+    let drawing = run_drawing(alloc, named, &word)?;
     let printed = print(&drawing, output);
     drop(drawing);
     printed?;

@@ -1,5 +1,6 @@
 pub mod AcceptLaws
 pub mod ArrowLaws
+pub mod CutLaws
 pub mod DrawnLaws
 pub mod EdgeLaws
 pub mod FlagLaws

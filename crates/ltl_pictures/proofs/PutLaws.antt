@@ -1,6 +1,6 @@
 -- The parts of the text, one after the other.
-use Rattle.std.proofs.Common.{◌≡◌, ◌∙◌, ap, ap₂, sym, refl, ℕ, zero, suc, ◌-◌, ◌<◌, Bool, true, false, List, [], ◌∷◌, ◌++◌, length, map, append_assoc, append-nil, slice_index_or, drop, arith}
-use Rattle.std.specs.Prelude.{codes, flat_map, ◌&&◌, ◌||◌, if◌then◌else◌}
+use Rattle.std.proofs.Common.{◌≡◌, ◌∙◌, ap, ap₂, sym, refl, ℕ, zero, suc, ◌<◌, Bool, true, false, List, [], ◌∷◌, ◌++◌, length, map, append_assoc, append-nil, slice_index_or, drop, arith}
+use Rattle.std.specs.Prelude.{codes, flat_map, Option, Some, None, ◌&&◌, ◌||◌, if◌then◌else◌}
 use Rattle.std.specs.Fmt.{decimal}
 use Rattle.std.specs.List.{list_all, list_any}
 use Rattle.ltl_spec.specs.Semantics.Word.{Name}
@@ -8,22 +8,18 @@ use Rattle.ltl_spec.proofs.Collections.MemberLaws.{at_map}
 use Rattle.ltl_spec.specs.Transitions.Cubes.{Literal, Cube}
 use Rattle.ltl_spec.specs.Automata.Automaton.{Edge}
 use Rattle.ltl_spec.specs.Automata.GeneralizedText.{marks_text}
-use Rattle.ltl_spec.specs.Hoa.HoaReading.{MarkedAutomaton}
-use Rattle.ltl_streams.specs.Streams.{SinkState}
-use Rattle.ltl_streams.proofs.SendLaws.{Leaves, leaves_all, leaves_step, sends_nothing}
 use Rattle.ltl_sets.specs.declared.literal.Literal as made
 use Rattle.ltl_sets.specs.Literals.{literal_of, cube_of}
 use Rattle.ltl_text.proofs.TextLaws.{joined_led, led}
-use Rattle.ltl_pictures.specs.DotText.{acceptance_name, and_text, edge_text, formula_text, head_text, literal_text, node_end, node_text, part_text}
+use Rattle.ltl_pictures.specs.DotText.{acceptance_name, and_text, edge_text, formula_text, head_text, label_text, labelled_end, literal_text, node_end, node_text, part_text, title_line}
+use Rattle.ltl_pictures.specs.NamedAutomaton.{NamedAutomaton}
+use Rattle.ltl_pictures.specs.NameText.{name_text}
 
 -- ---- element by element
 
-begun_flat : {X : Type 0} (f : X → List ℕ) (xs : List X) → flat_map f xs ≡ flat_map f (drop 0 xs)
+pub begun_flat : {X : Type 0} (f : X → List ℕ) (xs : List X) → flat_map f xs ≡ flat_map f (drop 0 xs)
 begun_flat f [] = refl
 begun_flat f (x ∷ xs) = refl
-
-pub starts : (o : SinkState) (h : List ℕ) {X : Type 0} (f : X → List ℕ) (xs : List X) → Leaves o h o h (flat_map f (drop 0 xs)) (flat_map f xs)
-starts o h f xs = leaves_step (leaves_all o h (flat_map f xs)) (flat_map f (drop 0 xs)) (begun_flat f xs) (sends_nothing o h)
 
 pub flat_mapped : {X Y : Type 0} (f : Y → List ℕ) (g : X → Y) (xs : List X) → flat_map f (map g xs) ≡ flat_map (λ x. f (g x)) xs
 flat_mapped f g [] = refl
@@ -87,8 +83,25 @@ pub other_part : (taken : Bool) (text : List ℕ) → taken ≡ false → part_t
 other_part taken text e = ap (λ (b : Bool). part_text b text) e
 
 -- ---- a state
-pub node_pieces : (accepting red : Bool) (k : ℕ) (end : List ℕ) → end ≡ node_end accepting red → node_text accepting red k ≡ codes "  " ++ (decimal k ++ end)
-node_pieces accepting red k end e = append_assoc (codes "  ") (decimal k) (node_end accepting red) ∙ ap (λ t. codes "  " ++ (decimal k ++ t)) (sym e)
+pub plain_node : (accepting red : Bool) (k : ℕ) (name : Option (List ℕ)) (end : List ℕ) → name ≡ None → end ≡ node_end accepting red
+    → node_text name accepting red k ≡ codes "  " ++ (decimal k ++ end)
+plain_node accepting red k name end f e =
+    ap (λ n. node_text n accepting red k) f ∙ append_assoc (codes "  ") (decimal k) (node_end accepting red) ∙ ap (λ t. codes "  " ++ (decimal k ++ t)) (sym e)
+
+pub named_node : (accepting red : Bool) (k : ℕ) (name : Option (List ℕ)) (is end : List ℕ) → name ≡ Some is → end ≡ labelled_end accepting red
+    → node_text name accepting red k ≡ codes "  " ++ (decimal k ++ (label_text is k ++ end))
+named_node accepting red k name is end f e =
+    ap (λ n. node_text n accepting red k) f ∙ regroup (codes "  ") (decimal k) (label_text is k) (labelled_end accepting red)
+    ∙ ap (λ t. codes "  " ++ (decimal k ++ (label_text is k ++ t))) (sym e)
+  where
+    regroup : (a b c d : List ℕ) → ((a ++ b) ++ c) ++ d ≡ a ++ (b ++ (c ++ d))
+    regroup a b c d = simp append_assoc
+
+pub label_pieces : (name : List ℕ) (k : ℕ) → label_text name k ≡ codes " [label=\"" ++ (decimal k ++ (codes "\\n" ++ (name_text name ++ codes "\", shape=ellipse")))
+label_pieces name k = regroup (codes " [label=\"") (decimal k) (codes "\\n") (name_text name) (codes "\", shape=ellipse")
+  where
+    regroup : (a b c d e : List ℕ) → (((a ++ b) ++ c) ++ d) ++ e ≡ a ++ (b ++ (c ++ (d ++ e)))
+    regroup a b c d e = simp append_assoc
 
 -- ---- the head
 pub many_sets : (n : ℕ) → 1 < n → acceptance_name n ≡ codes "generalized-B&uuml;chi " ++ decimal n
@@ -100,12 +113,15 @@ many_sets (suc (suc n)) h = refl
 abbrev pub name_end : List ℕ
 name_end = codes "\"\n  node [shape=circle]\n  I [label=\"\", style=invis, width=0]\n  I -> "
 
-pub head_pieces : (A : MarkedAutomaton) (note : List ℕ)
-    → head_text A note ≡ codes "digraph automaton {\n  rankdir=LR\n  labelloc=t\n  label=\"" ++ (acceptance_name A.sets ++ (note ++ (name_end ++ (decimal A.start ++ codes "\n"))))
-head_pieces A note = regroup (codes "digraph automaton {\n  rankdir=LR\n  labelloc=t\n  label=\"") (acceptance_name A.sets) note name_end (decimal A.start) (codes "\n")
+pub head_pieces : (N : NamedAutomaton) (note : List ℕ)
+    → head_text N note ≡ codes "digraph automaton {\n  rankdir=LR\n  labelloc=t\n  label=\""
+    ++ (title_line N.names.automaton ++ (acceptance_name N.automaton.sets ++ (note ++ (name_end ++ (decimal N.automaton.start ++ codes "\n")))))
+head_pieces N note =
+    regroup (codes "digraph automaton {\n  rankdir=LR\n  labelloc=t\n  label=\"") (title_line N.names.automaton) (acceptance_name N.automaton.sets) note name_end
+    (decimal N.automaton.start) (codes "\n")
   where
-    regroup : (a b n c d e : List ℕ) → ((((a ++ b) ++ n) ++ c) ++ d) ++ e ≡ a ++ (b ++ (n ++ (c ++ (d ++ e))))
-    regroup a b n c d e = simp append_assoc
+    regroup : (a t b n c d e : List ℕ) → (((((a ++ t) ++ b) ++ n) ++ c) ++ d) ++ e ≡ a ++ (t ++ (b ++ (n ++ (c ++ (d ++ e)))))
+    regroup a t b n c d e = simp append_assoc
 
 -- ---- all of a list pass
 module _ {X : Type 0} (p : X → Bool) (d : X) where

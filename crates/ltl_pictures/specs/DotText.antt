@@ -1,21 +1,15 @@
 -- The text of a drawing in Graphviz' DOT language.
-use Rattle.std.specs.Prelude.{ℕ, zero, suc, Bool, true, false, not, ◌&&◌, ◌||◌, ◌==◌, nat_lt, if◌then◌else◌, List, [], ◌∷◌, ◌++◌, length, map, flat_map, slice_index_or, codes, decimal}
+use Rattle.std.specs.Prelude.{ℕ, zero, suc, Bool, true, false, not, ◌&&◌, nat_lt, if◌then◌else◌, List, [], ◌∷◌, ◌++◌, length, map, flat_map, slice_index_or, codes, decimal, Option, Some, None}
 use Rattle.std.specs.List.{list_any, range_with_len}
 use Rattle.ltl_spec.specs.Collections.Lists.{joined_by}
 use Rattle.ltl_spec.specs.Semantics.Word.{Name}
 use Rattle.ltl_spec.specs.Transitions.Cubes.{Literal, Cube}
 use Rattle.ltl_spec.specs.Automata.Automaton.{Edge}
 use Rattle.ltl_spec.specs.Automata.GeneralizedText.{marks_text}
-use Rattle.ltl_spec.specs.Hoa.HoaReading.{MarkedAutomaton}
 use Rattle.ltl_text.specs.Options.{edge_at}
+use Rattle.ltl_pictures.specs.NamedAutomaton.{NamedAutomaton, state_name}
+use Rattle.ltl_pictures.specs.NameText.{name_text}
 use Rattle.ltl_pictures.specs.Picture.{Arrow, arrows, edges_at, is_accepting, is_state_based}
-
--- a byte within quotes: a quote or a backslash gets a backslash before it
-abbrev pub escaped_byte : ℕ → List ℕ
-escaped_byte b = if b == 34 || b == 92 then 92 ∷ b ∷ [] else b ∷ []
-
-abbrev pub escaped : List ℕ → List ℕ
-escaped text = flat_map escaped_byte text
 
 -- ---- the label of an arrow. It is in quotes; that of an arrow in red is HTML, since some of its edges may be in red and others not
 
@@ -71,15 +65,28 @@ node_end true false = codes " [peripheries=2]\n"
 node_end false true = codes " [color=red, penwidth=2]\n"
 node_end true true = codes " [peripheries=2, color=red, penwidth=2]\n"
 
-abbrev pub node_text : Bool → Bool → ℕ → List ℕ
-node_text accepting red k = codes "  " ++ decimal k ++ node_end accepting red
+-- that of a state with a name
+abbrev pub labelled_end : Bool → Bool → List ℕ
+labelled_end false false = codes "]\n"
+labelled_end true false = codes ", peripheries=2]\n"
+labelled_end false true = codes ", color=red, penwidth=2]\n"
+labelled_end true true = codes ", peripheries=2, color=red, penwidth=2]\n"
+
+-- the label of a state with a name, and its shape
+abbrev pub label_text : List ℕ → ℕ → List ℕ
+label_text name k = codes " [label=\"" ++ decimal k ++ codes "\\n" ++ name_text name ++ codes "\", shape=ellipse"
+
+abbrev pub node_text : Option (List ℕ) → Bool → Bool → ℕ → List ℕ
+node_text None accepting red k = codes "  " ++ decimal k ++ node_end accepting red
+node_text (Some name) accepting red k = codes "  " ++ decimal k ++ label_text name k ++ labelled_end accepting red
 
 -- a state, in red if one of its edges is taken, and the arrows from it
-abbrev pub state_text : MarkedAutomaton → (ℕ → ℕ → Bool) → ℕ → List ℕ
-state_text A taken k =
+abbrev pub state_text : NamedAutomaton → (ℕ → ℕ → Bool) → ℕ → List ℕ
+state_text N taken k =
+    let A = N.automaton in
     let es = edges_at A k in
     let by_states = is_state_based A in
-    node_text (by_states && is_accepting es) (list_any (taken k) (range_with_len 0 (length es))) k ++ flat_map (arrow_text A.names (not by_states) (taken k) es) (arrows k es)
+    node_text (state_name N.names k) (by_states && is_accepting es) (list_any (taken k) (range_with_len 0 (length es))) k ++ flat_map (arrow_text A.names (not by_states) (taken k) es) (arrows k es)
 
 -- ---- the whole
 
@@ -89,16 +96,21 @@ acceptance_name zero = codes "all"
 acceptance_name (suc zero) = codes "B&uuml;chi"
 acceptance_name n = codes "generalized-B&uuml;chi " ++ decimal n
 
--- the head: the acceptance condition and a note as title, and an arrow without source to the initial state
-abbrev pub head_text : MarkedAutomaton → List ℕ → List ℕ
-head_text A note =
-    codes "digraph automaton {\n  rankdir=LR\n  labelloc=t\n  label=\"" ++ acceptance_name A.sets ++ note
-    ++ codes "\"\n  node [shape=circle]\n  I [label=\"\", style=invis, width=0]\n  I -> " ++ decimal A.start ++ codes "\n"
+-- the line of the title with the name of the automaton
+abbrev pub title_line : Option (List ℕ) → List ℕ
+title_line None = []
+title_line (Some name) = name_text name ++ codes "\\n"
+
+-- the head: the name, the acceptance condition and a note as title, and an arrow without source to the initial state
+abbrev pub head_text : NamedAutomaton → List ℕ → List ℕ
+head_text N note =
+    codes "digraph automaton {\n  rankdir=LR\n  labelloc=t\n  label=\"" ++ title_line N.names.automaton ++ acceptance_name N.automaton.sets ++ note
+    ++ codes "\"\n  node [shape=circle]\n  I [label=\"\", style=invis, width=0]\n  I -> " ++ decimal N.automaton.start ++ codes "\n"
 
 -- the picture with these edges in red, by the numbers of their states and by their indices there
-abbrev pub picture_text : MarkedAutomaton → (ℕ → ℕ → Bool) → List ℕ → List ℕ
-picture_text A taken note = head_text A note ++ flat_map (state_text A taken) (range_with_len 0 A.states) ++ codes "}\n"
+abbrev pub picture_text : NamedAutomaton → (ℕ → ℕ → Bool) → List ℕ → List ℕ
+picture_text N taken note = head_text N note ++ flat_map (state_text N taken) (range_with_len 0 N.automaton.states) ++ codes "}\n"
 
 -- the picture without a run
-abbrev pub dot_text : MarkedAutomaton → List ℕ
-dot_text A = picture_text A (λ _ _. false) []
+abbrev pub dot_text : NamedAutomaton → List ℕ
+dot_text N = picture_text N (λ _ _. false) []

@@ -2,6 +2,8 @@ pub mod DotText
 pub mod Drawn
 pub mod Edges
 pub mod Letters
+pub mod NameText
+pub mod NamedAutomaton
 pub mod Picked
 pub mod Picture
 pub mod Pieces

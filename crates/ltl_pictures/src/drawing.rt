@@ -6,13 +6,13 @@ ghost use Rattle.ltl_streams.specs.Streams.{AppendsBeginning, Breaks, Takes};
 ghost use Rattle.ltl_pictures.specs.DotText.{dot_text};
 
 use crate::run_drawing::RunDrawing;
-use ltl_hoa::Marked;
+use ltl_hoa::{HoaNames, Marked};
 use ltl_streams::{ByteSink, WriteFault, WriterSink};
 use std::alloc::{AllocError, Allocator};
 use std::io::Write;
 use std::marker::Model;
 
-/// An automaton with the edges of each state sorted by target. It is drawn as with a run that has no edge.
+/// An automaton with its names, and with the edges of each state sorted by target. It is drawn as with a run that has no edge.
 #[derive(Drop)]
 pub struct Drawing<'a, A: Allocator> {
     drawing: RunDrawing<'a, A>,
@@ -20,24 +20,26 @@ pub struct Drawing<'a, A: Allocator> {
 
 impl<'a, A: Allocator> Model for Drawing<'a, A> {
     ghost use Rattle.std.specs.Prelude.{◌≡◌, Some, []};
-    ghost use Rattle.ltl_spec.specs.Hoa.HoaReading.{MarkedAutomaton};
-    ghost use Rattle.ltl_hoa.specs.MarkedView.{marked_code};
+    ghost use Rattle.ltl_pictures.specs.NamedAutomaton.{NamedAutomaton};
+    ghost use Rattle.ltl_pictures.specs.RunText.{named_of};
 
-    ghost Value = { MarkedAutomaton };
+    ghost Value = { NamedAutomaton };
 
-    ghost coded = { marked_code };
-
-    ghost view = { λ d. d.drawing.automaton };
+    ghost view = { λ d. named_of d.drawing };
 
     ghost invariant = { λ d. d.drawing.run ≡ Some [] };
 }
 
 impl<'a, A: Allocator> Drawing<'a, A> {
-    /// Sorts the edges of each state by target.
-    pub fn new(alloc: &'a A, automaton: Marked<'a, A>) -> Result<Drawing<'a, A>, AllocError>
-        ensures { IfOk result (λ d. d ≡ automaton.entry) }
+    /// Sorts the edges of each state by target. A state that `names` has no name for is drawn with its number alone.
+    pub fn new(
+        alloc: &'a A,
+        automaton: Marked<'a, A>,
+        names: HoaNames<'a, A>,
+    ) -> Result<Drawing<'a, A>, AllocError>
+        ensures { IfOk result (λ d. d ≡ record { automaton = automaton.entry; names = names.entry }) }
     {
-        let drawing = RunDrawing::new(alloc, automaton, Some(Vec::new(alloc)))?;
+        let drawing = RunDrawing::new(alloc, automaton, names, Some(Vec::new(alloc)))?;
         Ok(Drawing { drawing })
     }
 

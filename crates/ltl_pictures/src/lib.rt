@@ -1,8 +1,9 @@
 //! Pictures: drawings of automata in Graphviz' DOT language (graphviz.org/doc/info/lang.html), with or without a run, and timelines of words.
 //!
-//! `ltl_hoa` reads an automaton. `Drawing` sorts the edges of each state by target, and writes the graph to a sink (`put_dot`) or to a standard writer
-//! (`dot_to`) without allocation. States are circles. If acceptance is state-based, accepting states are double circles; else each edge has the numbers of its
-//! acceptance sets after its label, as ` {0 1}`. Edges with the same source and target share an arrow, with `||` between their labels.
+//! `ltl_hoa` reads an automaton, and the names that its text has. `Drawing` sorts the edges of each state by target, and writes the graph to a sink (`put_dot`)
+//! or to a standard writer (`dot_to`) without allocation. States are circles. A state with a name is an ellipse with its number and its name, and the name of
+//! the automaton is in the title. If acceptance is state-based, accepting states have a double line; else each edge has the numbers of its acceptance sets after
+//! its label, as ` {0 1}`. Edges with the same source and target share an arrow, with `||` between their labels.
 //!
 //! `accepting_run` finds an accepting run of an automaton on an ultimately periodic word (a lasso), and `RunDrawing` draws it in red. `letters` finds for
 //! each position of the word which of the automaton's propositions are true there. The product of automaton and word (`places`) is an implicit graph. `find` of
@@ -17,8 +18,9 @@
 //! All of them write in pieces of up to 16 KiB (`printer`).
 //!
 //! ```
-//! let automaton = hoa_read(&alloc, &mut text)?;
-//! let drawing = Drawing::new(&alloc, automaton)?;
+//! let automaton = hoa_read(&alloc, &mut text.as_slice())?;
+//! let names = hoa_names(&alloc, text.as_slice(), automaton.len())?;
+//! let drawing = Drawing::new(&alloc, automaton, names)?;
 //! drawing.dot_to(&mut picture)?;    // `dot -Tsvg` makes a picture of it
 //!
 //! match accepting_run(&alloc, &automaton, &word)? {
@@ -40,13 +42,13 @@ mod acceptance;
 mod arrows;
 mod columns;
 pub mod drawing;
-mod escape;
 pub mod fault;
 mod flags;
 mod label;
 pub mod laws;
 mod letters;
 mod lines;
+mod name;
 mod order;
 pub mod pick;
 mod picture;
@@ -59,7 +61,6 @@ mod subformulas;
 pub mod timeline;
 
 pub use drawing::Drawing;
-pub use escape::put_escaped;
 pub use fault::{RunFault, TimelineFault};
 pub use pick::Pick;
 pub use run::accepting_run;

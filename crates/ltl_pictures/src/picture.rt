@@ -1,6 +1,6 @@
 //! The head of a drawing, and its states.
 
-ghost use Rattle.std.specs.Prelude.{◌≡◌, ◌&&◌, map};
+ghost use Rattle.std.specs.Prelude.{◌≡◌, ◌&&◌, map, option_map};
 ghost use Rattle.ltl_hoa.specs.MarkedView.{edge_of};
 ghost use Rattle.ltl_pictures.specs.DotText as text;
 ghost use Rattle.ltl_pictures.specs.Picture as picture;
@@ -8,8 +8,9 @@ ghost use Rattle.ltl_pictures.specs.Printing.{Prints};
 
 use crate::acceptance::is_accepting;
 use crate::label::put_number;
+use crate::name::put_name;
 use crate::printer::Printer;
-use ltl_hoa::{Marked, MarkedEdge};
+use ltl_hoa::{HoaNames, Marked, MarkedEdge};
 use ltl_streams::ByteSink;
 use std::alloc::Allocator;
 
@@ -27,15 +28,29 @@ fn put_acceptance_name<S: ByteSink>(sets: usize, out: &mut Printer<'_, S>)
     }
 }
 
-/// Writes the head: the acceptance condition and a note as the title of the graph, and an arrow without source to the initial state.
+/// Writes the line of the title with the name of the automaton, or nothing if it has none.
+fn put_title_line<S: ByteSink>(name: Option<&[u8]>, out: &mut Printer<'_, S>)
+    ensures { Prints S.state out.old out.new (text.title_line (option_map (λ s. s.now) name.entry)) }
+{
+    if let Some(name) = name {
+        put_name(name, out);
+        out.put(b"\\n");
+    }
+}
+
+/// Writes the head: the name of the automaton, the acceptance condition and a note as the title of the graph, and an arrow without source to the initial
+/// state.
 pub(crate) fn put_head<A: Allocator, S: ByteSink>(
     automaton: &Marked<'_, A>,
+    names: &HoaNames<'_, A>,
     note: &[u8],
     out: &mut Printer<'_, S>,
 )
-    ensures { Prints S.state out.old out.new (text.head_text automaton.now note.now) }
+    ensures { Prints S.state out.old out.new
+        (text.head_text (record { automaton = automaton.now; names = names.now }) note.now) }
 {
     out.put(b"digraph automaton {\n  rankdir=LR\n  labelloc=t\n  label=\"");
+    put_title_line(names.automaton(), out);
     put_acceptance_name(automaton.sets(), out);
     out.put(note);
     out.put(b"\"\n  node [shape=circle]\n  I [label=\"\", style=invis, width=0]\n  I -> ");
@@ -62,11 +77,46 @@ fn node_end(accepting: bool, red: bool) -> &'static [u8]
     }
 }
 
-/// Writes a state, as a double circle if it is accepting, and in red if `red`.
-pub(crate) fn put_node<S: ByteSink>(accepting: bool, red: bool, k: usize, out: &mut Printer<'_, S>)
-    ensures { Prints S.state out.old out.new (text.node_text accepting red k) }
+/// The end of the statement of a state with a label, after the shape.
+fn labelled_end(accepting: bool, red: bool) -> &'static [u8]
+    ensures { result.now ≡ text.labelled_end accepting red }
+{
+    match (accepting, red) {
+        (false, false) => b"]\n",
+        (true, false) => b", peripheries=2]\n",
+        (false, true) => b", color=red, penwidth=2]\n",
+        (true, true) => b", peripheries=2, color=red, penwidth=2]\n",
+    }
+}
+
+/// Writes the label of a state, its number and its name, and the shape.
+fn put_label<S: ByteSink>(name: &[u8], k: usize, out: &mut Printer<'_, S>)
+    ensures { Prints S.state out.old out.new (text.label_text name.now k) }
+{
+    out.put(b" [label=\"");
+    put_number(k, out);
+    out.put(b"\\n");
+    put_name(name, out);
+    out.put(b"\", shape=ellipse");
+}
+
+/// Writes a state, as a double circle if it is accepting, and in red if `red`. A state with a name is an ellipse.
+pub(crate) fn put_node<S: ByteSink>(
+    name: Option<&[u8]>,
+    accepting: bool,
+    red: bool,
+    k: usize,
+    out: &mut Printer<'_, S>,
+)
+    ensures { Prints S.state out.old out.new (text.node_text (option_map (λ s. s.now) name.entry) accepting red k) }
 {
     out.put(b"  ");
     put_number(k, out);
-    out.put(node_end(accepting, red));
+    match name {
+        Some(name) => {
+            put_label(name, k, out);
+            out.put(labelled_end(accepting, red));
+        }
+        None => out.put(node_end(accepting, red)),
+    }
 }

@@ -7,7 +7,7 @@ ghost use Rattle.std.specs.List.{range_with_len};
 ghost use Rattle.ltl_pictures.specs.DotText.{state_text};
 ghost use Rattle.ltl_pictures.specs.Picked.{IsPick};
 ghost use Rattle.ltl_pictures.specs.Printing.{Prints};
-ghost use Rattle.ltl_pictures.specs.RunText.{is_picked, note_of, picks_in, run_text};
+ghost use Rattle.ltl_pictures.specs.RunText.{is_picked, named_of, note_of, picks_in, run_text};
 
 use crate::acceptance::is_state_based;
 use crate::arrows::{Row, put_arrows};
@@ -16,17 +16,18 @@ use crate::order::{Order, orders};
 use crate::pick::Pick;
 use crate::picture::{is_double, put_head, put_node};
 use crate::printer::Printer;
-use ltl_hoa::Marked;
+use ltl_hoa::{HoaNames, Marked};
 use ltl_streams::{ByteSink, WriteFault, WriterSink};
 use std::alloc::{AllocError, Allocator};
 use std::io::Write;
 use std::marker::Model;
 
-/// An automaton and the edges of a run, or `None` if there is no accepting run. The edges of each state are sorted by target, and a flag says which of them the
-/// run takes.
+/// An automaton with its names and the edges of a run, or `None` if there is no accepting run. The edges of each state are sorted by target, and a flag says
+/// which of them the run takes.
 #[derive(Drop)]
 pub struct RunDrawing<'a, A: Allocator> {
     automaton: Marked<'a, A>,
+    names: HoaNames<'a, A>,
     run: Option<Vec<Pick, &'a A>>,
     orders: Vec<Order<'a, A>, &'a A>,
     flags: Vec<Flags<'a, A>, &'a A>,
@@ -41,7 +42,7 @@ impl<'a, A: Allocator> Model for RunDrawing<'a, A> {
 
     ghost Value = { RunPicture };
 
-    ghost view = { λ d. record { automaton = d.automaton; run = option_map (λ v. v.items) d.run } };
+    ghost view = { λ d. record { automaton = d.automaton; names = d.names; run = option_map (λ v. v.items) d.run } };
 
     ghost invariant = { λ d. IsRunDrawing (picks_in (option_map (λ v. v.items) d.run)) d.automaton d.orders.items d.flags.items d.by_states };
 }
@@ -67,20 +68,24 @@ fn note<'a, A: Allocator>(run: &Option<Vec<Pick, &'a A>>) -> &'static [u8]
 }
 
 impl<'a, A: Allocator> RunDrawing<'a, A> {
-    /// Sorts the edges of each state by target, and finds those that the run takes. Each pick is an edge of the automaton.
+    /// Sorts the edges of each state by target, and finds those that the run takes. Each pick is an edge of the automaton. A state that `names` has no name
+    /// for is drawn with its number alone.
     pub fn new(
         alloc: &'a A,
         automaton: Marked<'a, A>,
+        names: HoaNames<'a, A>,
         run: Option<Vec<Pick, &'a A>>,
     ) -> Result<RunDrawing<'a, A>, AllocError>
         requires { All (IsPick automaton) (picks_in (option_map (λ v. v.items) run)) }
-        ensures { IfOk result (λ d. d ≡ record { automaton = automaton.entry; run = option_map (λ v. v.items) run.entry }) }
+        ensures { IfOk result (λ d. d ≡
+            record { automaton = automaton.entry; names = names.entry; run = option_map (λ v. v.items) run.entry }) }
     {
         let orders = orders(alloc, &automaton)?;
         let flags = set_flags(alloc, &automaton, picks(&run))?;
         let by_states = is_state_based(&automaton);
         Ok(RunDrawing {
             automaton,
+            names,
             run,
             orders,
             flags,
@@ -91,12 +96,13 @@ impl<'a, A: Allocator> RunDrawing<'a, A> {
     /// Writes a state and the arrows from it.
     fn put_state<S: ByteSink>(&self, k: usize, out: &mut Printer<'_, S>)
         requires { k < self.now.automaton.states }
-        ensures { Prints S.state out.old out.new (state_text self.now.automaton (is_picked (picks_in self.now.run)) k) }
+        ensures { Prints S.state out.old out.new (state_text (named_of self.now) (is_picked (picks_in self.now.run)) k) }
     {
         self.automaton.invariant();
         let edges = self.automaton.edges(k);
         let flags = &self.flags[k];
-        put_node(is_double(self.by_states, edges), flags.is_one_set(), k, out);
+        let double = is_double(self.by_states, edges);
+        put_node(self.names.state(k), double, flags.is_one_set(), k, out);
         let row = Row {
             edges,
             places: self.orders[k].as_slice(),
@@ -107,7 +113,8 @@ impl<'a, A: Allocator> RunDrawing<'a, A> {
 
     /// Writes all states.
     fn put_states<S: ByteSink>(&self, out: &mut Printer<'_, S>)
-        ensures { Prints S.state out.old out.new (flat_map (state_text self.now.automaton (is_picked (picks_in self.now.run))) (range_with_len 0 self.now.automaton.states)) }
+        ensures { Prints S.state out.old out.new
+            (flat_map (state_text (named_of self.now) (is_picked (picks_in self.now.run))) (range_with_len 0 self.now.automaton.states)) }
     {
         for k in 0..self.automaton.len() {
             self.put_state(k, out);
@@ -120,7 +127,7 @@ impl<'a, A: Allocator> RunDrawing<'a, A> {
         ensures err { OnErr result (Breaks (S.state sink.old) (S.state sink.new) (run_text self.now)) }
     {
         let mut out = Printer::new(sink);
-        put_head(&self.automaton, note(&self.run), &mut out);
+        put_head(&self.automaton, &self.names, note(&self.run), &mut out);
         self.put_states(&mut out);
         out.put(b"}\n");
         out.end()

@@ -1,23 +1,24 @@
-use Rattle.std.proofs.Common.{inl, refl, subst, sym}
+use Rattle.std.proofs.Common.{◌∙◌, inl, refl, subst, sym}
 use Rattle.std.proofs.lemmas.Result.{err_from_is_err_and}
 use Rattle.std.specs.Prelude.{Ok}
-use Rattle.ltl_spec.specs.Hoa.HoaReading.{MarkedAutomaton}
-use Rattle.ltl_cli.specs.Checks.{ReadsAutomaton}
+use Rattle.ltl_pictures.specs.NamedAutomaton.{NamedAutomaton}
+use Rattle.ltl_draw.specs.Runs.{ReadsNamed}
+use Rattle.ltl_draw.proofs.NamedLaws.{read_whole}
 use Rattle.ltl_draw.proofs.draw.drawing_of.Goals as goal
 
-pub returns-in_err-automaton : goal.returns-in_err-automaton
-returns-in_err-automaton g c =
-    let (file, s, h) = c.in_err-automaton.ensures in
+pub returns-in_err-named : goal.returns-in_err-named
+returns-in_err-named g c =
+    let (input, s, h) = c.in_err-named.ensures in
     let p = err_from_is_err_and c.from_residual.result c.from_residual.ensures.1 in
-    rw (p.1, p.2) (file, s, h)
+    rw (p.1, p.2) (input, s, h)
 
 pub returns-in_err-drawing : goal.returns-in_err-drawing
 returns-in_err-drawing g c =
-    let (file, s, h) = c.in_ok-automaton.ensures in
+    let (input, s, h) = c.in_ok-named.ensures in
     let p = err_from_is_err_and c.from_residual-in_err-drawing.result c.from_residual-in_err-drawing.ensures.1 in
-    rw (p.1, p.2) (file, s, inl refl)
+    rw (p.1, p.2) (input, s, inl (refl, read_whole input _ h))
 
 pub returns : goal.returns
 returns g c =
-    let (file, s, h) = c.in_ok-automaton.ensures in
-    (file, s, subst (λ (B : MarkedAutomaton). ReadsAutomaton file (Ok B)) (sym c.in_ok-drawing.ensures) h)
+    let (input, s, h) = c.in_ok-named.ensures in
+    (input, s, subst (λ (N : NamedAutomaton). ReadsNamed input (Ok N)) (sym (c.in_ok-drawing.ensures ∙ c.named.view_is)) h)

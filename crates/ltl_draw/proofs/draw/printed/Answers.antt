@@ -1,12 +1,12 @@
 use Rattle.std.proofs.lemmas.Result.{err_from_is_err_and}
-use Rattle.ltl_draw.proofs.RunLaws.{automaton_refused, cut_off, drawn}
+use Rattle.ltl_draw.proofs.RunLaws.{named_refused, cut_off, drawn}
 use Rattle.ltl_draw.proofs.draw.printed.Goals as goal
 
 pub returns-in_err-drawing : goal.returns-in_err-drawing
 returns-in_err-drawing g c =
     let (input, s, h) = c.in_err-drawing.ensures in
     let p = err_from_is_err_and c.from_residual.result c.from_residual.ensures.1 in
-    (input, s, rw (p.1, p.2) (λ file. automaton_refused input _ c.requires.output file _ h))
+    (input, s, rw (p.1, p.2) (λ file. named_refused input _ c.requires.output file _ h))
 
 pub returns-in_err-printed : goal.returns-in_err-printed
 returns-in_err-printed g c =

@@ -1,7 +1,3 @@
-use Rattle.std.proofs.Common.{◌∙◌, ap, subst}
-use Rattle.std.specs.Prelude.{OnErr, OnOk}
-use Rattle.ltl_streams.specs.Streams.{Breaks, Takes}
-use Rattle.ltl_pictures.specs.DotText.{dot_text}
 use Rattle.ltl_pictures.proofs.RunLaws.{plain_text}
 use Rattle.ltl_pictures.proofs.drawing.Drawing.put_dot.Goals as goal
 

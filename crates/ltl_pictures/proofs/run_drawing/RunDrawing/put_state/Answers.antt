@@ -1,13 +1,12 @@
-use Rattle.std.proofs.Common.{◌≡◌, ◌∙◌, ◌<◌, ℕ, ap, length, map, refl, string_bytes, subst, sym, []}
+use Rattle.std.proofs.Common.{◌≡◌, ◌∙◌, ◌<◌, ℕ, ap, length, map, string_bytes, subst, sym, []}
 use Rattle.std.specs.Prelude.{option_map}
 use Rattle.std.specs.List.{list_any}
 use Rattle.ltl_spec.proofs.Collections.MemberLaws.{map_length}
 use Rattle.ltl_hoa.specs.MarkedView.{edge_of}
-use Rattle.ltl_models.specs.BaView.{IsTargetOrder}
 use Rattle.ltl_pictures.proofs.PrintLaws.{lacks_all, lacks_last, lacks_step}
 use Rattle.ltl_pictures.specs.DotText.{state_text}
 use Rattle.ltl_pictures.specs.Picked.{is_set}
-use Rattle.ltl_pictures.specs.RunText.{RunPicture, is_picked, picks_in}
+use Rattle.ltl_pictures.specs.RunText.{RunPicture, is_picked, named_of, picks_in}
 use Rattle.ltl_pictures.proofs.EdgeLaws.{state_named}
 use Rattle.ltl_pictures.proofs.FlagLaws.{any_default}
 use Rattle.ltl_pictures.proofs.RunLaws.{state_pieces}
@@ -39,7 +38,7 @@ returns g c =
     let given = c.as_slice-2.ensures in
     let long = ap length (given ∙ flags) ∙ d.taken.rows c.args.k lt in
     let set : (p : ℕ) → is_set c.as_slice-2.result.now p ≡ is_picked (picks_in run) c.args.k p = λ p. ap (λ fs. is_set fs p) (given ∙ flags) ∙ d.taken.set c.args.k p lt in
-    let e = ap (λ (x : RunPicture). state_text x.automaton (is_picked (picks_in x.run)) c.args.k) (sym c.self.view_is)
-    ∙ state_pieces A (is_picked (picks_in run)) c.args.k c.self.inside.by_states c.is_double.result c.is_one_set.result (map edge_of c.edges-edges.result.now) (map string_bytes c.names.result.now)
-    c.as_slice-2.result.now d.states c.edges-edges.ensures c.names.ensures c.is_double.ensures (c.is_one_set.ensures ∙ ap (list_any (λ b. b)) (sym given)) long set in
+    let e = ap (λ (x : RunPicture). state_text (named_of x) (is_picked (picks_in x.run)) c.args.k) (sym c.self.view_is)
+    ∙ state_pieces (record { automaton = A; names = c.self.inside.names }) (is_picked (picks_in run)) c.args.k c.self.inside.by_states c.is_double-double.result c.is_one_set.result (map edge_of c.edges-edges.result.now) (map string_bytes c.names.result.now) _
+    c.as_slice-2.result.now d.states c.edges-edges.ensures c.names.ensures c.state.ensures c.is_double-double.ensures (c.is_one_set.ensures ∙ ap (list_any (λ b. b)) (sym given)) long set in
     lacks_last (lacks_step (lacks_all _ _) _ e c.put_node.ensures) c.put_arrows.ensures
