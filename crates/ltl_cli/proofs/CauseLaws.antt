@@ -1,5 +1,5 @@
 -- Where a status of 5 comes from.
-use Rattle.std.proofs.Common.{◌≡◌, ◌⊎◌, inl, inr, ℕ, List, Option, Some, None}
+use Rattle.std.proofs.Common.{◌≡◌, ◌⊎◌, inl, inr, ℕ, Option, Some, None}
 use Rattle.std.specs.Prelude.{Result, Ok, Err, option_map}
 use Rattle.std.specs.Option.{option_map_or}
 use Rattle.clap.specs.Words.{Text}
@@ -7,7 +7,6 @@ use Rattle.ltl_spec.specs.Tools.Stage.{Broken}
 use Rattle.ltl_spec.specs.Tools.Refusal as spec
 use Rattle.ltl_spec.specs.Tools.Outcome as outcome
 use Rattle.ltl_spec.specs.Tools.Outcome.{FormulaWord, Input, IsAtFault, input_of}
-use Rattle.ltl_spec.specs.Tools.Programs.{EvaluatorPlan}
 use Rattle.ltl_spec.specs.Tools.Run.{HasInputAtFault}
 use Rattle.ltl_streams.specs.Streams.{SinkState, SourceState}
 use Rattle.ltl_words.specs.declared.request.Plan.{Plan}
@@ -16,7 +15,7 @@ use Rattle.ltl_cli.specs.declared.source.Source.{Source}
 use Rattle.ltl_cli.specs.declared.source.Source.TheVariants as source
 use Rattle.ltl_words.specs.Plans.{formula_word, planned}
 use Rattle.ltl_cli.specs.Inputs.{HoldsText, IsSourceAtFault, WasFormula, WasInput, WasStream, WasAutomaton}
-use Rattle.ltl_cli.specs.Runs.{HasCause, NamesFile}
+use Rattle.ltl_cli.specs.Runs.{HasCause}
 
 -- the formula of a file
 word_fault : (word : FormulaWord) (input : Input) → IsAtFault (input_of word input) → ¬ (HoldsText word) × IsAtFault input

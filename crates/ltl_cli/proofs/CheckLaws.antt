@@ -1,5 +1,5 @@
 -- What the checker knows before it prints.
-use Rattle.std.proofs.Common.{◌≡◌, sym, subst, refl, ℕ, ◌+◌, ◌≤◌, ◌<◌, true, length, inl, inr, ◌⊎◌, List, [], Option, Some, None, arith}
+use Rattle.std.proofs.Common.{◌≡◌, sym, subst, refl, ℕ, ◌≤◌, ◌<◌, true, length, inl, inr, ◌⊎◌, List, [], arith}
 use Rattle.std.specs.Prelude.{Result, Ok, Err}
 use Rattle.ltl_spec.specs.Formulas.Formula.{Reading}
 use Rattle.ltl_spec.specs.Formulas.Names.{unified}

@@ -1,5 +1,5 @@
 -- From a run of what was planned to what the words may show.
-use Rattle.std.proofs.Common.{◌≡◌, ap, sym, subst, refl, ℕ, inl, inr, List, Option, Some, None}
+use Rattle.std.proofs.Common.{◌≡◌, sym, subst, refl, ℕ, inl, inr, List, Option, Some, None}
 use Rattle.std.specs.Prelude.{Result, Ok, Err, ⊤}
 use Rattle.clap.specs.Words.{Text}
 use Rattle.ltl_spec.specs.Hoa.HoaReading.{stated_form}
@@ -15,8 +15,9 @@ use Rattle.ltl_cli.specs.declared.source.Source.{Source}
 use Rattle.ltl_cli.specs.declared.source.Source.TheVariants as source
 use Rattle.ltl_words.specs.Words.{Request, plan_of}
 use Rattle.ltl_words.specs.Plans.{planned}
-use Rattle.ltl_cli.specs.Inputs.{IsFileOf, IsOpen, TurnsOut, WasInput}
-use Rattle.ltl_cli.specs.Headline.{AreBehind, IsBehind, IsSourceOf, PlanMayShow, PlansFor, WordsMayShow, automaton_file, formula_file, request_planned}
+use Rattle.ltl_cli.specs.Inputs.{IsFileOf, IsOpen, WasInput}
+use Rattle.ltl_cli.specs.Headline.{AreBehind, IsBehind, IsInputFor, IsSourceOf, PlanMayShow, PlansFor, WordsMayShow, automaton_file, formula_file, request_planned}
+use Rattle.ltl_cli.specs.Openings.{Opening, Opens, OpensFor, opened_for}
 use Rattle.ltl_cli.specs.Runs.{Shows, ToolRun}
 use Rattle.ltl_cli.proofs.RunLaws.{shows_more}
 
@@ -45,6 +46,10 @@ module _ {R : Type 0} (state : R → SourceState) where
     source_open None s f = subst (IsOpen state) (sym f) tt
     source_open (Some name) s f = file_open (Stands name) s f
 
+  pub given_open : (Comes : Input → Type 0) (request : Option Request) (s : Source R) → IsInputFor state Comes request s → IsOpen state s
+  given_open Comes None s f = subst (IsOpen state) (sym f) tt
+  given_open Comes (Some r) s f = file_open Comes s f
+
 module _ (Stands : Text → Input → Type 0) (Comes : Input → Type 0) where
   -- ---- the automaton
   pub named_behind : (asked : Option Text) (name : Text) (file : Input) → Some name ≡ asked → Stands name file → IsBehind Stands Comes asked file
@@ -52,6 +57,21 @@ module _ (Stands : Text → Input → Type 0) (Comes : Input → Type 0) where
 
   pub comes_behind : (asked : Option Text) (file : Input) → None ≡ asked → Comes file → IsBehind Stands Comes asked file
   comes_behind asked file e h = subst (λ (x : Option Text). IsBehind Stands Comes x file) e h
+
+  -- the same for a request, if there is one
+  abbrev pub IsBehindAutomaton : Option Request → Input → Type 0
+  IsBehindAutomaton None file = ⊤
+  IsBehindAutomaton (Some r) file = IsBehind Stands Comes r.automaton file
+
+  pub named_for : (request : Option Request) (name : Text) (file : Input) → Some name ≡ automaton_file request → Stands name file → IsBehindAutomaton request file
+  named_for None name file e h = tt
+  named_for (Some r) name file e h = named_behind r.automaton name file e h
+
+  -- the standard input, before which the formula's file was opened
+  pub given_for : {R : Type 0} (state : R → SourceState) (Later : Input → Type 0) → ((file : Input) → Later file → Comes file) → (request : Option Request) (most : ℕ) (old new : Source R) (file : Input)
+      → None ≡ automaton_file request → IsInputFor state Later request old → WasInput most state old new file → IsBehindAutomaton request file
+  given_for state Later same None most old new file e f w = tt
+  given_for state Later same (Some r) most old new file e f w = comes_behind r.automaton file e (same file (file_behind state Later most old new file f w))
 
   -- ---- a run of a plan
   translator_behind : (plan : Result Plan PlanFault) (input file : Input) → IsBehind Stands (λ _. ⊤) (formula_file (request_planned plan)) input → AreBehind Stands Comes Translator (request_planned plan) input file
@@ -62,7 +82,7 @@ module _ (Stands : Text → Input → Type 0) (Comes : Input → Type 0) where
   evaluator_behind (Ok p) input file b = b
   evaluator_behind (Err e) input file b = tt
 
-  checker_behind : (plan : Result Plan PlanFault) (input file : Input) → IsBehind Stands (λ _. ⊤) (formula_file (request_planned plan)) input → IsBehind Stands Comes (automaton_file (request_planned plan)) file
+  checker_behind : (plan : Result Plan PlanFault) (input file : Input) → IsBehind Stands (λ _. ⊤) (formula_file (request_planned plan)) input → IsBehindAutomaton (request_planned plan) file
       → AreBehind Stands Comes Checker (request_planned plan) input file
   checker_behind (Ok p) input file b c = (b, c)
   checker_behind (Err e) input file b c = tt
@@ -75,7 +95,7 @@ module _ (Stands : Text → Input → Type 0) (Comes : Input → Type 0) where
       pub evaluator_planned : ((file : Input) → Shows (ToolRun Evaluator plan input file) o n mo mn status) → Shows (PlanMayShow Stands Comes Evaluator plan) o n mo mn status
       evaluator_planned h = shows_more (λ seen k. (input, NotOpened, evaluator_behind plan input NotOpened b, k)) (h NotOpened)
 
-      pub checker_planned : (file : Input) → IsBehind Stands Comes (automaton_file (request_planned plan)) file → Shows (ToolRun Checker plan input file) o n mo mn status
+      pub checker_planned : (file : Input) → IsBehindAutomaton (request_planned plan) file → Shows (ToolRun Checker plan input file) o n mo mn status
           → Shows (PlanMayShow Stands Comes Checker plan) o n mo mn status
       checker_planned file c h = shows_more (λ seen k. (input, file, checker_behind plan input file b c, k)) h
 
@@ -101,3 +121,12 @@ module _ (Stands : Text → Input → Type 0) (Comes : Input → Type 0) where
     pub words_show : (words : Result (List Text) PlanFault) (plan : Result Plan PlanFault) {o n mo mn : SinkState} {status : ℕ} → PlansFor tool words plan → Shows (PlanMayShow Stands Comes tool plan) o n mo mn status
         → Shows (WordsMayShow Stands Comes tool words) o n mo mn status
     words_show words plan e h = shows_more (λ seen k. plan_shows words plan seen e k) h
+
+-- ---- what was opened for a plan is what the words ask for, unless memory was refused
+module _ {F : Type 0} (Opened : F → List Opening → Type 0) (Stands : F → Text → Input → Type 0) (Comes : F → Input → Type 0) (tool : Tool) (old new : F) where
+  pub words_open : (Stood : Text → Input → Type 0) (Came : Input → Type 0) (words : Result (List Text) PlanFault) (plan : Result Plan PlanFault) {o n mo mn : SinkState} {status : ℕ} → PlansFor tool words plan
+      → Shows (PlanMayShow Stood Came tool plan) o n mo mn status → Opens Opened Stands Comes (opened_for tool (request_planned plan)) old new → OpensFor Opened Stands Comes tool words old new status
+  words_open Stood Came (Ok words) (Ok p) e h k = inl (subst (λ (r : Option Request). Opens Opened Stands Comes (opened_for tool r) old new) (sym e) k)
+  words_open Stood Came (Ok words) (Err fault.Usage) e h k = inl (subst (λ (r : Option Request). Opens Opened Stands Comes (opened_for tool r) old new) (sym e) k)
+  words_open Stood Came (Ok words) (Err fault.OutOfMemory) e h k = inr (k, (h.promised.3.short refl).0)
+  words_open Stood Came (Err f) plan e h k = inl (subst (λ (x : Result Plan PlanFault). Opens Opened Stands Comes (opened_for tool (request_planned x)) old new) e k)

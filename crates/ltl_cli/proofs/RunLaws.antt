@@ -1,7 +1,6 @@
 -- What a run shows: the same laws for all three programs.
-use Rattle.std.proofs.Common.{◌≡◌, ◌∙◌, ◌⊎◌, ap, sym, subst, refl, ℕ, ◌≤◌, ◌<◌, Bool, true, false, cond, nat_lt, length, inl, inr, List, [], take, Option, Some, None, arith}
+use Rattle.std.proofs.Common.{◌≡◌, ◌∙◌, ap, sym, subst, refl, ℕ, ◌≤◌, Bool, true, false, cond, nat_lt, length, inl, inr, List, [], take, Option, Some, None, arith}
 use Rattle.std.proofs.lemmas.List.{append-nil}
-use Rattle.std.proofs.lemmas.Bool.{cases_lt}
 use Rattle.std.specs.Prelude.{Result, Ok, Err}
 use Rattle.std.specs.Io.KnownBytes.{Appends}
 use Rattle.ltl_spec.specs.Formulas.Formula.{Reading}
@@ -9,13 +8,13 @@ use Rattle.ltl_spec.specs.Hoa.HoaReading.{stated_form}
 use Rattle.ltl_spec.specs.Tools.Limits.{stated_limits}
 use Rattle.ltl_spec.specs.Tools.Refusal as spec
 use Rattle.ltl_spec.specs.Tools.Outcome as outcome
-use Rattle.ltl_spec.specs.Tools.Stage.{Stage, Open, Closed, Broken}
+use Rattle.ltl_spec.specs.Tools.Stage.{Open, Closed}
 use Rattle.ltl_spec.specs.Tools.Outcome.{Answer, FormulaWord, Input, IsGiven, IsPromised, IsShortOfMemory, Seen, TellsMessage, Then, answer_by, refused, stage_behind}
 use Rattle.ltl_spec.specs.Tools.Programs.{InputReads, ReadsFormula}
-use Rattle.ltl_spec.specs.Tools.Run.{MayShow, ToolAnswers}
+use Rattle.ltl_spec.specs.Tools.Run.{ToolAnswers}
 use Rattle.ltl_spec.proofs.Tools.RunLaws.{promised_shown}
 use Rattle.ltl_spec.proofs.Tools.StepLaws.{never}
-use Rattle.ltl_streams.specs.Streams.{Breaks, SinkState, Takes}
+use Rattle.ltl_streams.specs.Streams.{Breaks, SinkState}
 use Rattle.ltl_cli.specs.declared.refusal.Refusal.{Refusal}
 use Rattle.ltl_cli.specs.declared.refusal.Refusal.TheVariants as code
 use Rattle.ltl_cli.specs.declared.refusal.Refusal.TheVariants.{OutOfMemory, CannotWrite, Usage}

@@ -1,5 +1,5 @@
 -- What a program may show for its command line, its files and its standard input: the promise of `run`.
-use Rattle.std.specs.Prelude.{List, ℕ, ◌≡◌, ◌⊎◌, Option, Some, None, Result, Ok, Err, ⊤}
+use Rattle.std.specs.Prelude.{List, [], ◌∷◌, ◌≡◌, ◌⊎◌, Option, Some, None, Result, Ok, Err, ⊤}
 use Rattle.clap.specs.Words.{Text}
 use Rattle.ltl_spec.specs.Hoa.HoaReading.{stated_form}
 use Rattle.ltl_spec.specs.Tools.Limits.{stated_limits}
@@ -15,6 +15,7 @@ use Rattle.ltl_cli.specs.declared.source.Source.TheVariants as source
 use Rattle.ltl_words.specs.Words.{Request, plan_of, request_of}
 use Rattle.ltl_words.specs.Plans.{Plans, request_in}
 use Rattle.ltl_cli.specs.Inputs.{IsFileOf}
+use Rattle.ltl_cli.specs.Openings.{Opening, StandardInput, formula_opened}
 use Rattle.ltl_cli.specs.Runs.{ToolRun}
 
 -- the result with its value turned into another
@@ -76,7 +77,22 @@ abbrev pub automaton_file : Option Request → Option Text
 automaton_file (Some r) = r.automaton
 automaton_file None = None
 
+-- what of them is opened, by itself
+
+abbrev pub file_asked : Option Request → List Opening
+file_asked (Some r) = formula_opened r.formula
+file_asked None = []
+
+abbrev pub input_asked : Option Request → List Opening
+input_asked (Some r) = StandardInput ∷ []
+input_asked None = []
+
 -- the source is that of the file, or `Text` if there is none
 abbrev pub IsSourceOf : {R : Type 0} → (R → SourceState) → (Text → Input → Type 0) → Option Text → Source R → Type 0
 IsSourceOf state Stands None s = s ≡ source.Text
 IsSourceOf state Stands (Some name) s = IsFileOf state (Stands name) s
+
+-- the source is the standard input, or `Text` if there is no request
+abbrev pub IsInputFor : {R : Type 0} → (R → SourceState) → (Input → Type 0) → Option Request → Source R → Type 0
+IsInputFor state Comes (Some r) s = IsFileOf state Comes s
+IsInputFor state Comes None s = s ≡ source.Text

@@ -3,6 +3,7 @@ pub mod Evaluations
 pub mod Headline
 pub mod Inputs
 pub mod Messages
+pub mod Openings
 pub mod Refusals
 pub mod Runs
 pub mod Translations

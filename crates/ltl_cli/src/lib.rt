@@ -12,7 +12,7 @@
 //!
 //! ```
 //! let words = ["ltleval", "-f", "[]<>p", "-w", "cycle {p}; {}"];    // no file is named, so none is opened
-//! run(alloc, Tool::Evaluator, Ok(&words), &files, &mut output, &mut message)
+//! run(alloc, Tool::Evaluator, Ok(&words), &mut files, &mut output, &mut message)
 //! // returns 0, and `output` has "true\n"
 //! ```
 #![tactic(auto)]
@@ -41,6 +41,6 @@ pub use ltl_words::{
 pub use message::put_text;
 pub use program::run;
 pub use refusal::Refusal;
-pub use source::Source;
+pub use source::{ClosableSource, Source};
 pub use standard::{read_formula, run_check, run_eval, run_translate};
 pub use translate::translate_over;

@@ -30,16 +30,22 @@ where
     ensures same_output { StaysAt (S.state output.old) (S.state output.new) }
     ensures same_message { StaysAt (M.state message.old) (M.state message.new) }
 {
-    let files = HostFiles::new(rt, input);
+    let mut files = HostFiles::new(rt, input);
     let words = match words(rt.alloc(), env::args(rt)) {
         Ok(words) => words,
-        Err(fault) => return draw_words(rt.alloc(), Err(fault), &files, output, message),
+        Err(fault) => return draw_words(rt.alloc(), Err(fault), &mut files, output, message),
     };
     let texts = match texts(rt.alloc(), words.as_slice()) {
         Ok(texts) => texts,
-        Err(fault) => return draw_words(rt.alloc(), Err(fault), &files, output, message),
+        Err(fault) => return draw_words(rt.alloc(), Err(fault), &mut files, output, message),
     };
-    draw_words(rt.alloc(), Ok(texts.as_slice()), &files, output, message)
+    draw_words(
+        rt.alloc(),
+        Ok(texts.as_slice()),
+        &mut files,
+        output,
+        message,
+    )
 }
 
 /// Runs the program with the command line of the process and these standard streams, and returns the exit status.

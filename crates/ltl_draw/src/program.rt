@@ -4,6 +4,8 @@ ghost use Rattle.std.specs.Prelude.{◌≡◌, map, option_map};
 ghost use Rattle.ltl_spec.specs.Tools.Stage.{Open};
 ghost use Rattle.ltl_cli.specs.Headline.{map_ok};
 ghost use Rattle.ltl_cli.specs.Runs.{Shows, StaysAt};
+ghost use Rattle.ltl_cli.specs.Openings.{Opens, automaton_opened};
+ghost use Rattle.ltl_draw.specs.Openings.{OpensFor};
 ghost use Rattle.ltl_draw.specs.Plans.{PlansFor, automaton_file, requested};
 ghost use Rattle.ltl_draw.specs.Runs.{PlanMayDraw, WordsMayDraw};
 
@@ -44,25 +46,30 @@ fn automaton_name<'a>(plan: &Result<Plan<'a>, PlanFault>) -> Option<&'a str>
 fn draw_plan<F: Files, S: ByteSink, M: ByteSink>(
     alloc: Global,
     plan: &Result<Plan<'_>, PlanFault>,
-    files: &F,
+    files: &mut F,
     output: &mut S,
     message: &mut M,
 ) -> u8
     requires output { (S.state output.old).stage ≡ Open }
     requires message { (M.state message.old).stage ≡ Open }
-    ensures shown { Shows (PlanMayDraw (F.Stands files.now) (F.Comes files.now) (requested plan.now))
+    ensures shown { Shows (PlanMayDraw (F.Stands files.old) (F.Comes files.old) (requested plan.now))
         (S.state output.old) (S.state output.new) (M.state message.old) (M.state message.new) result }
     ensures same_output { StaysAt (S.state output.old) (S.state output.new) }
     ensures same_message { StaysAt (M.state message.old) (M.state message.new) }
+    ensures opened { Opens F.Opened F.Stands F.Comes (automaton_opened (automaton_file (requested plan.now))) files.old files.new }
 {
     match automaton_name(plan) {
         Some(name) => {
             let mut source = files.open(name);
-            draw_over(&alloc, plan, &mut source, output, message)
+            let status = draw_over(&alloc, plan, &mut source, output, message);
+            source.close();
+            status
         }
         None => {
             let mut source = Source::Input(files.input());
-            draw_over(&alloc, plan, &mut source, output, message)
+            let status = draw_over(&alloc, plan, &mut source, output, message);
+            source.close();
+            status
         }
     }
 }
@@ -73,16 +80,17 @@ fn draw_plan<F: Files, S: ByteSink, M: ByteSink>(
 pub fn draw_words<'a, F: Files, S: ByteSink, M: ByteSink>(
     alloc: Global,
     words: Result<&'a [&'a str], PlanFault>,
-    files: &F,
+    files: &mut F,
     output: &mut S,
     message: &mut M,
 ) -> u8
     requires output { (S.state output.old).stage ≡ Open }
     requires message { (M.state message.old).stage ≡ Open }
-    ensures shown { Shows (WordsMayDraw (F.Stands files.now) (F.Comes files.now) (map_ok (λ ws. map (λ w. w.now) ws.now) words.entry))
+    ensures shown { Shows (WordsMayDraw (F.Stands files.old) (F.Comes files.old) (map_ok (λ ws. map (λ w. w.now) ws.now) words.entry))
         (S.state output.old) (S.state output.new) (M.state message.old) (M.state message.new) result }
     ensures same_output { StaysAt (S.state output.old) (S.state output.new) }
     ensures same_message { StaysAt (M.state message.old) (M.state message.new) }
+    ensures opened { OpensFor F.Opened F.Stands F.Comes (map_ok (λ ws. map (λ w. w.now) ws.now) words.entry) files.old files.new }
 {
     let plan = planned(alloc, words);
     draw_plan(alloc, &plan, files, output, message)

@@ -10,7 +10,8 @@ use std::io;
 use std::io::Read;
 use std::rt::Files;
 
-/// The files of a runtime, with a reader as the standard input.
+/// The files of a runtime, with a reader as the standard input. A file is opened by its name, as it was passed in. No clause of the kit says which files a
+/// runtime has, so nothing is said of what was opened.
 #[derive(Drop)]
 pub struct HostFiles<'r, R, I> {
     rt: &'r R,
@@ -41,6 +42,7 @@ impl<R: Files, I: Read + Copy + Drop> ltl_cli::Files for HostFiles<'_, R, I> {
 
     type Input = ReaderSource<I>;
 
+    ghost use Rattle.std.specs.Prelude.{⊤};
     ghost use Rattle.ltl_host.specs.Sources.{AnythingBehind};
     ghost use Rattle.ltl_cli.specs.Inputs.{IsStream};
 
@@ -48,11 +50,13 @@ impl<R: Files, I: Read + Copy + Drop> ltl_cli::Files for HostFiles<'_, R, I> {
 
     ghost Comes = { λ h given. IsStream (I.remaining h.input) given };
 
-    fn open(&self, name: &str) -> Source<ReaderSource<R::File>> {
+    ghost Opened = { λ _ _. ⊤ };
+
+    fn open(&mut self, name: &str) -> Source<ReaderSource<R::File>> {
         opened(File::open(self.rt, name))
     }
 
-    fn input(&self) -> ReaderSource<I> {
+    fn input(&mut self) -> ReaderSource<I> {
         ReaderSource::new(self.input)
     }
 }

@@ -117,20 +117,34 @@ where
     ensures same_message { StaysAt (M.state message.old) (M.state message.new) }
 {
     keep_freed(rt.alloc());
-    let files = HostFiles::new(rt, input);
+    let mut files = HostFiles::new(rt, input);
     let words = match words(rt.alloc(), env::args(rt)) {
         Ok(words) => words,
-        Err(fault) => return ltl_cli::run(rt.alloc(), tool, Err(fault), &files, output, message),
+        Err(fault) => return ltl_cli::run(
+            rt.alloc(),
+            tool,
+            Err(fault),
+            &mut files,
+            output,
+            message,
+        ),
     };
     let texts = match texts(rt.alloc(), words.as_slice()) {
         Ok(texts) => texts,
-        Err(fault) => return ltl_cli::run(rt.alloc(), tool, Err(fault), &files, output, message),
+        Err(fault) => return ltl_cli::run(
+            rt.alloc(),
+            tool,
+            Err(fault),
+            &mut files,
+            output,
+            message,
+        ),
     };
     ltl_cli::run(
         rt.alloc(),
         tool,
         Ok(texts.as_slice()),
-        &files,
+        &mut files,
         output,
         message,
     )

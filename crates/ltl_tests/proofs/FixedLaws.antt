@@ -1,6 +1,6 @@
 -- What the contract of `run` says of a run of the checker over known bytes.
 use Rattle.std.proofs.Common.{◌≡◌, ◌⊎◌, subst, refl, inl, inr, true, ℕ, ◌≤◌, List, [], ◌∷◌, Option, Some, None, arith}
-use Rattle.std.specs.Prelude.{Ok, codes}
+use Rattle.std.specs.Prelude.{Ok, codes, length, min}
 use Rattle.clap.specs.Words.{Text}
 use Rattle.clap.proofs.OnLiterals.{clap_on_literals}
 use Rattle.ltl_spec.specs.Hoa.HoaReading.{stated_form}
@@ -13,6 +13,7 @@ use Rattle.ltl_spec.proofs.Examples.CheckTexts.{empty_lasso, empty_violates, emp
 use Rattle.ltl_spec.proofs.Examples.InputTexts.{automaton_e, program_reads_e, text_e}
 use Rattle.ltl_words.specs.Words.{Request, plan_of, request_of}
 use Rattle.ltl_cli.specs.Headline.{RequestMayShow, WordsMayShow}
+use Rattle.ltl_cli.specs.Openings.{Opening, Opens, OpensFor, opened_for}
 
 abbrev words : List Text
 words = codes "ltlcheck" ∷ codes "-F" ∷ codes "formula" ∷ []
@@ -73,3 +74,18 @@ pub reported : (given : List Text) → given ≡ words → (seen : Seen) → Wor
 reported given same seen h =
     shown seen (subst (λ (r : Option Request). RequestMayShow Stands Comes Checker r seen) words_ask
     (subst (λ (x : List Text). RequestMayShow Stands Comes Checker (request_of Checker x) seen) same h))
+
+-- ---- files that count what is opened
+
+abbrev pub Counts : {F : Type 0} → (F → ℕ) → F → List Opening → Type 0
+Counts count files log = count files ≡ min (length log) 18446744073709551615
+
+module _ {F : Type 0} (count : F → ℕ) (Stood : F → Text → Input → Type 0) (Came : F → Input → Type 0) (old new : F) (none : count old ≡ 0) where
+  both : Opens (Counts count) Stood Came (opened_for Checker (Some request)) old new → count new ≡ 2
+  both h = h.opened [] none
+
+  -- the file and the standard input were opened, if memory sufficed for the command line
+  pub both_opened : (given : List Text) → given ≡ words → (status : ℕ) → OpensFor (Counts count) Stood Came Checker (Ok given) old new status → (count new ≡ 2) ⊎ (status ≡ 4)
+  both_opened given same status (inl h) = inl (both (subst (λ (r : Option Request). Opens (Counts count) Stood Came (opened_for Checker r) old new) words_ask
+      (subst (λ (x : List Text). Opens (Counts count) Stood Came (opened_for Checker (request_of Checker x)) old new) same h)))
+  both_opened given same status (inr h) = inr h.1

@@ -217,18 +217,18 @@ fn each_growth_refused(rt: HostRuntime) {
 #[test]
 fn files_by_name(rt: HostRuntime) {
     let desk = Desk { words: &[] };
-    let files = HostFiles::new(&desk, b"".as_slice());
+    let mut files = HostFiles::new(&desk, b"".as_slice());
     let mut name = [0u8; 16];
     assert_eq!(rt;
-        shown(ltl_cli::Files::open(&files, "m.hoa"), &mut name),
+        shown(ltl_cli::Files::open(&mut files, "m.hoa"), &mut name),
         b"m.hoa".as_slice()
     );
     assert_eq!(rt;
-        shown(ltl_cli::Files::open(&files, ""), &mut name),
+        shown(ltl_cli::Files::open(&mut files, ""), &mut name),
         b"".as_slice()
     );
     assert_eq!(rt;
-        shown(ltl_cli::Files::open(&files, "absent"), &mut name),
+        shown(ltl_cli::Files::open(&mut files, "absent"), &mut name),
         b"(not opened)".as_slice()
     );
 }

@@ -51,7 +51,9 @@ impl<'t> Files for Desk<'t> {
 
     ghost Comes = { λ _ _. ⊤ };
 
-    fn open(&self, name: &str) -> Source<ReaderSource<Held<'t>>> {
+    ghost Opened = { λ _ _. ⊤ };
+
+    fn open(&mut self, name: &str) -> Source<ReaderSource<Held<'t>>> {
         if self.name == Some(name) {
             Source::Input(ReaderSource::new(self.file))
         } else {
@@ -59,7 +61,7 @@ impl<'t> Files for Desk<'t> {
         }
     }
 
-    fn input(&self) -> ReaderSource<Held<'t>> {
+    fn input(&mut self) -> ReaderSource<Held<'t>> {
         ReaderSource::new(self.input)
     }
 }
@@ -118,7 +120,7 @@ struct Told {
 }
 
 /// The run of a program with these words and files.
-fn ran(alloc: Global, tool: Tool, words: &[&str], desk: &Desk<'_>) -> Told {
+fn ran(alloc: Global, tool: Tool, words: &[&str], desk: &mut Desk<'_>) -> Told {
     let mut output = Vec::new(alloc);
     let mut message = Vec::new(alloc);
     let mut written = WriterSink::new(&mut output);
@@ -137,14 +139,14 @@ fn ran_row(alloc: Global, row: &Row) -> Result<Told, AllocError> {
     let input = text_of(alloc, row.input)?;
     let text = file_text(alloc, row.file)?;
     let words = words_of(alloc, row, last.as_str())?;
-    let desk = Desk {
+    let mut desk = Desk {
         name: row.file.map(|file| file.name),
         file: reader_of(row.file, text.as_str()),
         input: Held {
             rest: Some(input.as_bytes()),
         },
     };
-    Ok(ran(alloc, row.tool, words.as_slice(), &desk))
+    Ok(ran(alloc, row.tool, words.as_slice(), &mut desk))
 }
 
 /// The title of the first row whose run differs from what is wanted.
@@ -257,12 +259,12 @@ fn ran_on_loop(alloc: Global, tool: Tool, words: &[&str]) -> Told {
     let input = Held {
         rest: Some(LOOP.as_bytes()),
     };
-    let desk = Desk {
+    let mut desk = Desk {
         name: None,
         file: input,
         input,
     };
-    ran(alloc, tool, words, &desk)
+    ran(alloc, tool, words, &mut desk)
 }
 
 /// A proposition that the automaton doesn't list is free, so there is more than one right answer: any word in which `q` holds somewhere and `p`

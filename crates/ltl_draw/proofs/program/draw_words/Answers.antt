@@ -4,3 +4,6 @@ use Rattle.ltl_draw.proofs.program.draw_words.Goals as goal
 
 pub returns-clause-shown : goal.returns-clause-shown
 returns-clause-shown g c = shows_more (λ seen m. (requested c.planned-plan.result, c.planned-plan.ensures, m)) c.draw_plan.ensures.shown
+
+pub returns-clause-opened : goal.returns-clause-opened
+returns-clause-opened g c = (requested c.planned-plan.result, c.planned-plan.ensures, c.draw_plan.ensures.opened)
