@@ -25,13 +25,13 @@ def put_in(change, texts):
 
 
 def together(changes, texts):
-    """The edits that may be tried by one check, each of another function, with the texts that have them; and the edits that are left."""
+    """The edits that may be tried by one check, each of other functions, with the texts that have them; and the edits that are left."""
     chosen, left, taken = [], [], set()
     for it in changes:
-        after = put_in(it, texts) if it.function not in taken and len(chosen) < TOGETHER else None
+        after = put_in(it, texts) if taken.isdisjoint(it.functions) and len(chosen) < TOGETHER else None
         if after:
             chosen, texts = [*chosen, it], after
-            taken.add(it.function)
+            taken.update(it.functions)
         else:
             left.append(it)
     return chosen, texts, left

@@ -18,7 +18,7 @@ from concurrent.futures import ThreadPoolExecutor
 from pathlib import Path
 
 sys.dont_write_bytecode = True
-from edit_checks import asked_for, evidence, put_in, texts_of, together
+from edit_checks import asked_for, evidence, texts_of, together
 from edit_files import TOP, change_of, crates_below, edits_of, functions_of, is_tried_in_each_run, lines_of_crates
 
 # Seconds in which checks of what is due begin; those that a running check has then; those of a check of what each run tries; and those in which `rt ci` gives
@@ -101,18 +101,17 @@ class Trial:
 
 
 def trials_of(crate, names):
-    """The checks that the edits of a crate make. An edit of several bodies has a check of its own, and one of no body has none."""
+    """The checks that the edits of a crate make. An edit that changes no body is in none."""
     folder = TOP / "crates" / crate
     functions = functions_of(folder)
     changes, before = [change_of(edits_of(crate)[name], folder, functions) for name in names], texts_of(folder, functions)
-    left, found = [it for it in changes if it.function], []
+    left, found = [it for it in changes if it.functions], []
     while left:
         chosen, texts, left = together(left, before)
         if not chosen:
             break
         found.append(Trial(crate, chosen, texts, functions))
-    alone = ((it, put_in(it, before)) for it in changes if it.functions and not it.function)
-    return [*found, *(Trial(crate, [it], texts, functions) for it, texts in alone if texts)]
+    return found
 
 
 def turned(crates):
