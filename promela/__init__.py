@@ -1,0 +1,1 @@
+"""What ./ltlspin is made of."""
