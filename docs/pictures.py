@@ -1,6 +1,7 @@
 #!/usr/bin/env python3
 """Draws docs/pictures. For each automaton that a page shows, NAME.dot is what ltldraw prints, and NAME.svg is what Graphviz' `dot` makes of it. The last
-line of NAME.svg has the version of dot and the font by which it measured texts. Without dot no NAME.svg is written.
+line of NAME.svg has the version of dot and the font by which it measured texts. Without dot no NAME.svg is written. crates.dot is written by `tools/pages
+crates` and timeline.dot by hand, and only their images are drawn here.
 
 Usage: docs/pictures.py [-p FOLDER] [TO]; the programs are those of the folder, or those that ./build made, and the pictures go to TO, or to docs/pictures."""
 
@@ -12,21 +13,26 @@ import sys
 from pathlib import Path
 
 TOP = Path(__file__).resolve().parent.parent
-# Each picture: its name, its automaton, which is a formula or a file, and options of dot beside those of all pictures.
+# Each picture: its name, its automaton, which is a formula or a file, or a graph that is there already, and options of dot beside those of all pictures.
 TABLE = [
     ("response", "[](p -> <>q)", []),
     ("starvation", "!([](wants -> <>has))", []),
     ("anyone", Path("docs/tutorial/anyone.hoa"), ["-Gnodesep=1", "-Granksep=0.8"]),
     ("turns", Path("docs/tutorial/turns.hoa"), ["-Gnodesep=1", "-Granksep=0.8"]),
+    ("grant", "[](req -> <>grant)", []),
+    ("timeline", Path("docs/pictures/timeline.dot"), []),
+    ("crates", Path("docs/pictures/crates.dot"), []),
 ]
 # A white ground, so that a picture can be seen on a dark page, too.
 OPTIONS = ["-Tsvg", "-Gbgcolor=white", "-Gpad=0.15", "-Gfontname=Helvetica", "-Nfontname=Helvetica", "-Efontname=Helvetica"]
 
 
 def graph(automaton, program):
-    """What ltldraw prints for an automaton. `program` maps a name to the path of the program."""
+    """What ltldraw prints for an automaton, or the graph that is there. `program` maps a name to the path of the program."""
     if isinstance(automaton, Path):
         text = (TOP / automaton).read_bytes()
+        if automaton.suffix == ".dot":
+            return text
     else:
         text = subprocess.run([program("ltl2ba"), "-H", "-f", automaton], stdout=subprocess.PIPE, check=True).stdout
     return subprocess.run([program("ltldraw")], input=text, stdout=subprocess.PIPE, check=True).stdout

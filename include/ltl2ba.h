@@ -37,6 +37,10 @@ extern "C" {
 #define LTL2BA_VERSION_MAJOR 1
 #define LTL2BA_VERSION_MINOR 1
 
+/* The number in the name of the shared library, libltl2ba.so.1. It grows if a program that was linked with an older one couldn't run with this one; new
+   calls and numbers don't change it. */
+#define LTL2BA_ABI 1
+
 /* Statuses: those of the programs, and one of a buffer that is too short. */
 #define LTL2BA_DONE 0          /* done; of a check: each word satisfies the formula; of an evaluation: the formula holds */
 #define LTL2BA_VIOLATED 1      /* of a check: a word violates the formula; of an evaluation: the formula doesn't hold */

@@ -1,7 +1,8 @@
 #!/usr/bin/env python3
 """Builds the sources in tests/c and examples/c against the C library, and compares the answers of its calls with the programs: on the stored runs of
 tests/*.json, on 500 random formulas, with every length of a buffer up to the needed one, with each allocation refused, under valgrind, and with the
-compiler's sanitizers. Builds the program in the manual page ltl2ba(3), linked in several ways, and compares what it prints with the program.
+compiler's sanitizers. Links the shared library, and looks at its names. Builds the program in the manual page ltl2ba(3), linked in several ways, and compares
+what it prints with the program.
 
 Usage: tests/c_library.py [FOLDER]; the programs are those of the folder, or those that the gate built. What is not installed is reported as skipped, and
 isn't counted. The last line is 'N passed, M failed'."""
@@ -291,6 +292,22 @@ def try_exports(tally, archive):
     tally.expect("the names that the archive defines", sorted(it.split()[-1] for it in listed.stdout.split("\n") if len(it.split()) == 3), calls)
 
 
+def try_shared(tally):
+    """The shared library exports the calls of the header and nothing else, and has the name that the header's number says."""
+    made = subprocess.run([TOP / "tools/c_shared"], capture_output=True, text=True, check=False)
+    header = (TOP / "include/ltl2ba.h").read_text(encoding="utf-8")
+    name = f"libltl2ba.so.{re.search(r'define LTL2BA_ABI (.*)', header)[1]}"
+    tally.expect("tools/c_shared", (made.stderr, made.returncode, Path(made.stdout.strip()).name), ("", 0, name))
+    if not shutil.which("nm") or not shutil.which("objdump"):
+        print("skipped: the names that the shared library exports, for want of nm or objdump")
+        return
+    listed = subprocess.run(["nm", "-D", "--defined-only", made.stdout.strip()], capture_output=True, text=True, check=False)
+    calls = sorted(re.findall(r"^uint8_t (\w+)\(", header, re.M))
+    tally.expect("the names that it exports", sorted(it.split()[-1] for it in listed.stdout.splitlines()), calls)
+    told = subprocess.run(["objdump", "-p", made.stdout.strip()], capture_output=True, text=True, check=False).stdout
+    tally.expect("its own name and what it needs", (re.findall(r"SONAME +(\S+)", told), re.findall(r"NEEDED +(\S+)", told)), ([name], ["libc.so.6"]))
+
+
 def try_examples(tally, folder, programs, checker):
     """Builds the examples against an installed library, with one line of pkg-config, and runs them."""
     root = f"{folder}/installed"
@@ -351,6 +368,7 @@ def main(words):
 
 def try_all(tally, folder, programs, driver, archive):
     try_exports(tally, archive)
+    try_shared(tally)
     try_links(tally, folder, programs, archive)
     try_stored_runs(tally, driver, programs)
     try_random_formulas(tally, driver, programs)

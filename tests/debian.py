@@ -1,6 +1,7 @@
 #!/usr/bin/env python3
-"""Tests the Debian packages. In a new Debian 12 it installs them by dpkg, runs each program, compiles a program in C against the library, asks the local page,
-removes the packages, and sees that nothing is left. In a new Debian 11, whose C library is too old, dpkg and apt have to refuse them. lintian looks at them.
+"""Tests the Debian packages. In a new Debian 12 it installs them by dpkg, runs each program, compiles a program in C against the library, asks the module for
+Python and the local page, removes the packages, and sees that nothing is left. In a new Debian 11, whose C library is too old, dpkg and apt have to refuse
+them. lintian looks at them.
 
 Usage: tests/debian.py [FOLDER]; the packages are those of the folder, or are made of the programs that the gate built, and of the library for C if it is
 built. The systems are made by debootstrap, which needs root and a mirror of Debian, and are kept for the next run in a folder of the system's folder for
@@ -32,8 +33,14 @@ OF_SYSTEM = "var/lib/dpkg", "var/log", "var/cache", "var/lib/apt"
 ALWAYS = 'HOA: v1\nStates: 1\nStart: 0\nAP: 1 "p"\nAcceptance: 1 Inf(0)\n--BODY--\nState: 0 {0}\n[0] 0\n--END--\n'
 ANSWERS = [
     (["ltleval", "-f", "[]<>p", "-w", "{p}; cycle {}"], "", "false\n", 1),
+    (["ltlcompare", "-f", "[]p", "-g", "p && X[]p"], "", "equivalent\n", 0),
     (["ltlcheck", "-f", "p"], ALWAYS, "contained\n", 0),
     (["ltlcheck", "-f", "!p"], ALWAYS, "violated\ncycle {p}\n", 1),
+]
+MODULE = [
+    ("check(translate('<>p'), '[]<>p')", "violated\n{p}; cycle {}"),
+    ("holds('[]<>p', '{p}; cycle {}')", "False"),
+    ("G(proposition('Req') >> F('p')).canonical", "[](quoted__52_eq -> <>p)"),
 ]
 CALL = """#include <ltl2ba.h>
 #include <stdio.h>
@@ -79,8 +86,8 @@ def made(to):
     maker = script("package")
     if not (TOP / "crates/ltl_c/out/libltl2ba.a").exists():
         print("skipped: the Debian package of the library for C, which ./build ltl_c makes")
-    files, built, libc = maker.collected((TOP / "crates/ltl_c/out/libltl2ba.a").exists())
-    return list(maker.put_packages(files, lambda found: maker.proved("of a test", "unknown", built, found), libc, to, 1_000_000_000))
+    files, built = maker.collected((TOP / "crates/ltl_c/out/libltl2ba.a").exists())
+    return list(maker.put_packages(files, lambda found: maker.proved("of a test", "unknown", built, found), to, 1_000_000_000))
 
 
 def kept_systems():
@@ -150,6 +157,8 @@ def try_programs(count, system):
     count.expect("ltldraw", (drawn[0].startswith("digraph"), *drawn[1:]), (True, "", 0))
     shown = system.run("ltl2ba-tutorial", "check")
     count.expect("the tutorial", (shown[0].count("\n== "), shown[1:]), (5, ("", 0)))
+    lacking = "ltlspin: spin is missing: the model checker Spin; on Debian it is the package spin\n"
+    count.expect("ltlspin without Spin", system.run("ltlspin", "none.pml", "p"), ("", lacking, 3))
     return claim[0]
 
 
@@ -180,15 +189,31 @@ def try_library(count, system, claim):
     count.expect("the example", (shown[0].startswith("digraph"), *shown[1:]), (True, "", 0))
 
 
+def try_module(count, system, claim):
+    """The module for Python, and a program in C over the shared library."""
+    for code, shown in MODULE:
+        count.expect(code, system.run("python3", "-X", "dev", "-W", "error", "-c", f"from ltl2ba import *\nprint({code})"), (f"{shown}\n", "", 0))
+    count.expect("its claim", system.run("python3", "-c", "from ltl2ba import *\nprint(translate('[]<>p').to_claim(), end='')"), (claim, "", 0))
+    linked = system.run("sh", "-c", "ldd /root/call | grep -c libltl2ba.so.1")
+    count.expect("the shared library is linked", linked, ("1\n", "", 0))
+
+
+def try_sums(count, system, name, doc):
+    """The sums of PROVED.txt, by the command that it names."""
+    check = re.search(r"run in the folder of bin and lib: (.*)$", (doc / "PROVED.txt").read_text(encoding="utf-8"), re.M)[1]
+    checked = system.run("sh", "-c", f"cd /usr && {check.replace('FILE', f'/usr/share/doc/{name}/PROVED.txt')}")
+    count.expect(f"sums of {name}", (set(re.findall(r": (.*)$", checked[0], re.M)), checked[1:]), ({"OK"}, ("", 0)))
+
+
 def try_files(count, system, names):
     """Looks at the packages' files: sums, manual pages, links of pages."""
     for name in names:
         count.expect(f"{name} is whole", system.run("dpkg", "--verify", name), ("", "", 0))
         doc = system.top / "usr/share/doc" / name
-        count.expect(f"documents of {name}", [it for it in ("copyright", "changelog.gz", "PROVED.txt") if not (doc / it).exists()], [])
-        check = re.search(r"run in the folder of bin and lib: (.*)$", (doc / "PROVED.txt").read_text(encoding="utf-8"), re.M)[1]
-        checked = system.run("sh", "-c", f"cd /usr && {check.replace('FILE', f'/usr/share/doc/{name}/PROVED.txt')}")
-        count.expect(f"sums of {name}", (set(re.findall(r": (.*)$", checked[0], re.M)), checked[1:]), ({"OK"}, ("", 0)))
+        wanted = ["copyright", "changelog.gz", *(["PROVED.txt"] if name != "python3-ltl2ba" else [])]
+        count.expect(f"documents of {name}", [it for it in wanted if not (doc / it).exists()], [])
+        if "PROVED.txt" in wanted:
+            try_sums(count, system, name, doc)
         listed = [it.lstrip("/") for it in system.run("dpkg", "-L", name)[0].split()]
         for it in (it for it in listed if it.startswith("usr/share/man/") and it.endswith(".gz")):
             packed = (system.top / it).read_bytes()
@@ -213,6 +238,8 @@ def try_new(count, kept, packages, room):
     try_page(count, system)
     if "libltl2ba-dev" in names:
         try_library(count, system, claim)
+    if "python3-ltl2ba" in names:
+        try_module(count, system, claim)
     try_files(count, system, names)
     count.expect("dpkg -P", system.run("dpkg", "-P", *names)[1:], ("", 0))
     for it in (*there, "/root/call.c", "/root/call", "/root/dot"):

@@ -62,6 +62,9 @@ elif tool == "ltl2ba":
 elif tool == "ltlcheck":
     print("violated\n<u>; cycle {}")
     sys.exit(1)
+elif tool == "ltlcompare":
+    print("<u>alike" if open(given("-G")).read() == "third" else "incomparable\nfirst only: <u>; cycle {}\nsecond only: <u>; cycle {}")
+    sys.exit(1)
 else:
     print("true" if "first" in open(given("-F")).read() else "false")
     sys.exit(0 if "first" in open(given("-F")).read() else 1)
@@ -186,6 +189,7 @@ def try_mean(count):
             count.expect("a word that tells them apart", "On this word the first one holds, and the second one doesn’t: <u>; cycle {}" in seen(text))
             count.expect("that nobody agrees on", "ltleval doesn’t agree about the word <u>; cycle {}" in seen(text))
             count.expect("timelines", re.findall(r'<pre class="timeline" tabindex="0">([^<]*)\n</pre>', text), ["shown &lt;b&gt;"] * 4)
+            count.expect("an answer that is none", sentences(page.ask("first", "third"), "no"), ["ltlcompare: status 1"])
             alone = page.request("/picture?f=first")[2]
             count.expect("a picture by itself", [it.replace("\n", "") for it in re.findall(r"<svg.*?</svg>", alone, re.S)], [wanted])
             count.expect("what is escaped beside it", re.findall(r"<(?:b|i|u|script|a href=.http|foreignObject)\b", alone), [])

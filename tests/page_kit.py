@@ -12,7 +12,7 @@ import urllib.parse
 from pathlib import Path
 
 TOP = Path(__file__).resolve().parent.parent
-PROGRAMS = "ltl2ba", "ltlcheck", "ltleval"
+PROGRAMS = "ltl2ba", "ltlcheck", "ltlcompare", "ltleval"
 SECONDS = 120
 
 

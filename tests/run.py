@@ -8,10 +8,11 @@ A run is an object. It has an `about`, `args` (the words after the program's nam
 but not read), and `stdout`, `stderr` and `status`, which are the wanted results. If more than one output is right, `stdout_begins` is its wanted beginning.
 If a run is to be `checked`, the automaton that ltl2ba prints in it is given to ltlcheck: every word has to satisfy the run's formula. The automaton of the
 negated formula, printed with the same words, has to violate it, unless the formula is `valid` (`checked` is then that word, and else `models`). If ltlcheck
-prints a word, it is given to ltleval: the formula of the run has to fail on it, and each formula of `word_keeps` has to hold. With `output` or `message`
-the program writes its output, or its message, to that file, as /dev/full, which takes no byte; "closed" is a stream that isn't open. A text is a list of
-strings; of pairs [string, how often]; of objects {"each": string, "from": n, "to": m}, which are the string for each of these numbers, put in place of # in
-it; and of {"chain": n}, which is n states of an automaton, each with one edge to the next, and the last with one to itself."""
+prints a word, it is given to ltleval: the formula of the run has to fail on it, and each formula of `word_keeps` has to hold. The lines below the first one
+of ltlcompare have to be those that it asks for, and each word is given to ltleval: the one formula has to hold on it, and the other one to fail. With
+`output` or `message` the program writes its output, or its message, to that file, as /dev/full, which takes no byte; "closed" is a stream that isn't open. A
+text is a list of strings; of pairs [string, how often]; of objects {"each": string, "from": n, "to": m}, which are the string for each of these numbers, put
+in place of # in it; and of {"chain": n}, which is n states of an automaton, each with one edge to the next, and the last with one to itself."""
 
 import json
 import os
@@ -21,6 +22,8 @@ import tempfile
 
 TOP = os.path.dirname(os.path.dirname(os.path.abspath(__file__)))
 SECONDS = 60
+# The lines below the first one of ltlcompare.
+LABELS = {"equivalent": [], "first implies second": ["second only"], "second implies first": ["first only"], "incomparable": ["first only", "second only"]}
 
 
 def part(form):
@@ -98,6 +101,9 @@ def differences(run, program):
         found.append(f"output {wrote[:400]}, and not {text(run['stdout'])[:400]}")
     if wrote.startswith(b"violated\n"):
         found += misjudged(run, wrote.decode().split("\n")[1], program)
+    lines = wrote.decode(errors="replace").split("\n")
+    if lines[0] in LABELS and lines[-1] == "":
+        found += mistold(run, lines[0], lines[1:-1], program)
     if "checked" in run:
         found += unkept(run, wrote, program)
     return found
@@ -107,6 +113,32 @@ def beside(program, tool):
     """The path of another program, in the same place."""
     own = os.path.basename(program)
     return os.path.join(os.path.dirname(program).replace(f"{own}/out", f"{tool}/out"), tool)
+
+
+def mistold(run, relation, lines, program):
+    """Whether there is a line for each direction that fails, and its word tells the formulas apart."""
+    labels = [it.partition(": ")[0] for it in lines]
+    if labels != LABELS[relation]:
+        yield f"lines {labels} below {relation}"
+    formulas = {"first only": formula_of(run, "-f", "-F"), "second only": formula_of(run, "-g", "-G")}
+    for label, lasso in zip(labels, (it.partition(": ")[2] for it in lines)):
+        for other, formula in formulas.items():
+            told, wanted = output_of([beside(program, "ltleval"), "-f", formula, "-w", lasso]), b"true\n" if label == other else b"false\n"
+            if told != wanted:
+                yield f"word {lasso} of {label}: {formula[:200]} is {told}, and not {wanted}"
+
+
+def formula_of(run, option, file_option):
+    """The formula behind an option, or in its file."""
+    words = [word(it) for it in run["args"]]
+    for it, value in zip(words, [*words[1:], ""]):
+        if it == option:
+            return value
+        if it == file_option:
+            return text(run.get("files", {}).get(value, run.get("stdin", []))).decode()
+        if it.startswith(option):
+            return it[2:].removeprefix("=")
+    return ""
 
 
 def output_of(words, given=b""):

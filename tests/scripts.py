@@ -3,6 +3,7 @@
 programs, with a stand-in for the prover: it records what it was asked, and proves nothing. Tests tools/believe on a small tree made up for it. The last line
 is 'N passed, M failed'."""
 
+import base64
 import hashlib
 import os
 import re
@@ -11,21 +12,22 @@ import subprocess
 import sys
 import tarfile
 import tempfile
+import zipfile
 from pathlib import Path
 
 TOP = Path(__file__).resolve().parent.parent
-PROGRAMS = "ltl2ba", "ltlcheck", "ltleval", "ltldraw"
+PROGRAMS = "ltl2ba", "ltlcheck", "ltlcompare", "ltleval", "ltldraw"
 # What the copy has of the tree beside its code.
 COPIED = (
-    *("test", "page", "tutorial", ".gitignore", "COPYRIGHT", "LICENSE-APACHE", "LICENSE-MIT", "docs/*.md", "docs/*.svg", "docs/tutorial/*", "docs/pictures/*"),
-    *("examples/c/*", "tests/*.py", "tools/*", "web/*"),
+    *("test", "page", "ltlspin", "tutorial", ".gitignore", "COPYRIGHT", "LICENSE-APACHE", "LICENSE-MIT", "docs/*.md", "docs/*.svg", "docs/tutorial/*"),
+    *("docs/pictures/*", "examples/c/*", "promela/*", "tests/*.py", "tools/*", "web/*", "python/*", "python/ltl2ba/*"),
 )
 # The scripts that take words, and their statuses for -h.
 SCRIPTS = {
-    **{f"./{it}": 0 for it in ("run", "build", "test", "install", "package", "tutorial")},
+    **{f"./{it}": 0 for it in ("run", "build", "test", "install", "package", "tutorial", "ltlspin")},
     **{f"tools/{it}": 0 for it in ("believe", "dead_theory", "edits_stand", "examples", "fail_each", "pages")},
     **{f"tools/{it}": 2 for it in ("edits", "wrong_bodies")},
-    **{f"tests/{it}.py": 0 for it in ("c_library", "debian", "page", "pictures", "run")},
+    **{f"tests/{it}.py": 0 for it in ("c_library", "debian", "ltlspin", "page", "pictures", "python_module", "run")},
 }
 
 RT = r"""#!/usr/bin/env bash
@@ -90,21 +92,33 @@ OBJCOPY = r"""#!/usr/bin/env bash
 printf '%s\n' "${@:1:$#-1}" >>"${@:$#}"
 """
 
+CC = r"""#!/usr/bin/env bash
+[ -z "${MADE_ARCHIVE:-}" ] || exec /usr/bin/cc "$@"
+for it in "$@"; do
+    case $it in -Wl,--version-script=*) cat "${it#*script=}" ;; *.a) cat "$it" ;; esac
+done >"$3"
+"""
+
 # Both libraries in one object, in which only the calls of the header are global.
 CALLS = "ltl2ba_text", "ltl2ba_names", "ltl2ba_automaton", "ltleval_holds", "ltlcheck_verdict", "ltl2ba_message"
 ARCHIVE = "".join(f"{it}\n" for it in ("qcs", "-r --whole-archive", "a library", "the allocator", *(f"--keep-global-symbol={it}" for it in CALLS)))
 
-# What ./install puts in place of the library, and how it describes the library.
+# The shared library, in which these calls alone are seen.
+SHARED = "".join(f"{it}\n" for it in ("{ global:", *(f"{it};" for it in CALLS), "local: *; };")) + ARCHIVE
+
+# What ./install puts in place of the library and of the module for Python, and how it describes the library.
+SHARED_FILES = "lib/libltl2ba.so.1", "lib/libltl2ba.so"
+MODULE = [f"share/ltl2ba/python/ltl2ba/{it.name}" for it in TOP.glob("python/ltl2ba/*") if it.suffix in (".py", ".typed")]
 LIBRARY = "include/ltl2ba.h", "lib/libltl2ba.a", "lib/pkgconfig/ltl2ba.pc", "share/man/man3/ltl2ba.3"
-DESCRIPTION = "prefix=/{}\nlibdir=${{prefix}}/lib\nincludedir=${{prefix}}/include\n\nName: ltl2ba\n"
+DESCRIPTION = "prefix=/{}\nlibdir=${{prefix}}/lib\nincludedir=${{prefix}}/include\nlibrary=-l:libltl2ba.a\n\nName: ltl2ba\n"
 
 NOTICE = "run: {} is not built from these sources; this run is not proved (./build proves and builds), and takes about a minute\n"
 
 # What ./install puts in place beside the library: a manual page for the name of each call, and the programs with what they need.
 ALIASES = [f"share/man/man3/{it}.3" for it in re.findall(r"^[a-z]\w* (\w+)\(", (TOP / "include/ltl2ba.h").read_text(encoding="utf-8"), re.M)]
 OTHERS = [
-    *(f"{folder}{it}{end}" for folder, end in (("bin/", ""), ("share/man/man1/", ".1")) for it in (*PROGRAMS, "ltl2ba-page", "ltl2ba-tutorial")),
-    *(f"share/ltl2ba/web/{it.name}" for it in TOP.glob("web/*") if it.is_file()),
+    *(f"{folder}{it}{end}" for folder, end in (("bin/", ""), ("share/man/man1/", ".1")) for it in (*PROGRAMS, "ltlspin", "ltl2ba-page", "ltl2ba-tutorial")),
+    *(f"share/ltl2ba/{folder}/{it.name}" for folder in ("web", "promela") for it in TOP.glob(f"{folder}/*") if it.is_file()),
     *(f"share/ltl2ba/models/{it.name}" for it in TOP.glob("docs/tutorial/*") if it.suffix in (".pml", ".hoa")),
 ]
 
@@ -367,7 +381,7 @@ class Tree:
         (self.bin / "rt").write_text(RT, encoding="ascii")
         (self.bin / "rt").chmod(0o755)
         self.kit = Path(folder) / "kit"
-        for tool, text in (self.kit / "toolchain/bin/llvm-ar", AR), (self.kit / "toolchain/bin/ld.lld", LD), (self.bin / "objcopy", OBJCOPY):
+        for tool, text in (self.kit / "toolchain/bin/llvm-ar", AR), (self.kit / "toolchain/bin/ld.lld", LD), (self.bin / "objcopy", OBJCOPY), (self.bin / "cc", CC):
             self.put(tool, text)
             tool.chmod(0o755)
         self.put(self.kit / "c/liblibc_c.a", "the allocator\n")
@@ -413,7 +427,7 @@ class Tree:
 
 def try_run(tree):
     usage = tree.run("./run", "nothing")
-    tree.expect("no such program", (usage[0], usage[2], "ltl2ba ltlcheck ltldraw ltleval" in usage[1]), ("", 2, True))
+    tree.expect("no such program", (usage[0], usage[2], "ltl2ba ltlcheck ltlcompare ltldraw ltleval" in usage[1]), ("", 2, True))
 
     def tried(tool, words, input_text="", handed=""):
         return f"{handed}words:{''.join(f' <{it}>' for it in words)}\ninput: {input_text}\n", NOTICE.format(tool) + f"{tool}: a message\n", 3
@@ -421,6 +435,8 @@ def try_run(tree):
     tree.expect("not built", tree.run("./run", "ltl2ba", "-f", "[]<>p"), tried("ltl2ba", ["-f", "[]<>p"]))
     for words, shown in (["-F", "formula"], ["-F", "file0"]), (["-Fformula"], ["-Ffile0"]), (["-lF=formula", "-o"], ["-lFfile0", "-o"]), (["-loF", "formula"], ["-loF", "file0"]):
         tree.expect(f"a file: {words}", tree.run("./run", "ltl2ba", *words), tried("ltl2ba", shown, "", "file file0: p U q\n"))
+    for words, shown in (["-F", "formula", "-g", "p"], ["-F", "file0", "-g", "p"]), (["-gF", "-Gformula"], ["-gF", "-Gfile0"]), (["-f", "G", "-G", "formula"], ["-f", "G", "-G", "file0"]):
+        tree.expect(f"a file of one of two formulas: {words}", tree.run("./run", "ltlcompare", *words), tried("ltlcompare", shown, "", "file file0: p U q\n"))
     tree.expect("a file that isn't there", tree.run("./run", "ltl2ba", "-F", "main.rt"), tried("ltl2ba", ["-F", "no/file"]))
     tree.expect("a formula that looks so", tree.run("./run", "ltl2ba", "-fF", "formula"), tried("ltl2ba", ["-fF", "formula"]))
     tree.expect("the input as a file", tree.run("./run", "ltl2ba", "-F", "/dev/stdin", text="p"), tried("ltl2ba", ["-F", "file0"], "", "file file0: p\n"))
@@ -464,7 +480,7 @@ def try_build(tree):
     tree.expect("no such program", tree.run("./build", "ltl_spec"), ("", "build: ltl_spec is no program of this repository\n", 2))
     tree.expect("no kit", tree.run("./build", has_rt=False)[1:], ("build: the Rattle kit, whose command rt proves and builds, is missing\n", 70))
     shown, told, status = tree.run("./build")
-    tree.expect("the last line", (shown.split("\n")[-2].split(" in ")[0], told, status), ("built ltl2ba, ltlcheck, ltleval, ltldraw, ltl_c", "", 0))
+    tree.expect("the last line", (shown.split("\n")[-2].split(" in ")[0], told, status), ("built ltl2ba, ltlcheck, ltlcompare, ltleval, ltldraw, ltl_c", "", 0))
     stands, seen, calls = below(tree), set(), tree.calls.read_text(encoding="ascii").split("\n")[:-1]
     for kind, verb, name in (it.split()[:3] for it in calls):
         if kind == "begin":
@@ -482,13 +498,18 @@ def try_build(tree):
     tree.expect("lines on crates", sorted(it.split()[-3] for it in shown.split("\n") if it.endswith((" is proved", " is built"))), sorted(name for _, name in wanted))
     tree.expect("asked of a program", {it for it in calls if it.startswith("asked ltl2ba: ")} <= {"asked ltl2ba: run --", "asked ltl2ba: run --cpu x86-64-v3 --"}, True)
     tree.expect("the archive", (tree.top / "crates/ltl_c/out/libltl2ba.a").read_text(encoding="ascii"), ARCHIVE)
+    shared = tree.top / "crates/ltl_c/out/libltl2ba.so.1"
+    tree.expect("the shared library", shared.read_text(encoding="ascii"), SHARED)
     tree.expect("built is run", tree.run("./run", "ltleval", has_rt=False), ("built\n", "", 0))
     archive = tree.top / "crates/ltl_c/out/libltl2ba.a"
     noted = dict(it.split(" ", 1) for it in (archive.parent / "built.txt").read_text(encoding="ascii").splitlines())
     tree.expect("the archive's note", (noted["kit"], noted["processors"], noted["program"]), ("a kit", "portable", hashlib.sha256(archive.read_bytes()).hexdigest()))
+    tree.expect("its note on the shared library", noted["shared"], hashlib.sha256(shared.read_bytes()).hexdigest())
+    tree.expect("no compiler", (tree.run("./build", "ltl_c", CC="no-compiler")[1:], shared.exists(), archive.exists()), (("", 0), False, True))
+    tree.run("./build", "ltl_c")
     shown, told, status = tree.run("./build", FAILS="ltl_alt")
     tree.expect("a proof fails", (shown.split("\n")[-3:-1], status), (["src/lib.rt:1:1: error[open-goal]: not proved", "build: ltl_alt is not proved; rt check in crates/ltl_alt tells more"], 1))
-    tree.expect("what is kept again", (tree.top / "crates/ltl_sets/out/rlib/stamp").read_text(encoding="ascii"), "kept\nkept\n")
+    tree.expect("what is kept again", (tree.top / "crates/ltl_sets/out/rlib/stamp").read_text(encoding="ascii"), "kept\n" * 4)
     tree.expect("nothing above it", "ltl_buchi" in tree.calls.read_text(encoding="ascii"), False)
     tree.run("./build", "--portable", "ltleval")
     tree.expect("asked of a portable one", "asked ltleval: run --\n" in tree.calls.read_text(encoding="ascii"), True)
@@ -543,10 +564,16 @@ def try_install(tree):
     tree.expect("usage", tree.run("./install", "--nothing"), ("", "usage: ./install [--uninstall] [PREFIX]\n", 2))
     for words, prefix in ([], "usr/local"), (["/opt/ltl"], "opt/ltl"):
         tree.expect("installed", tree.run("./install", *words, DESTDIR=str(root))[1:], ("", 0))
-        tree.expect("what is there", placed(root / prefix), sorted([*OTHERS, *ALIASES, *LIBRARY]))
+        tree.expect("what is there", placed(root / prefix), sorted([*OTHERS, *ALIASES, *LIBRARY, *SHARED_FILES, *MODULE]))
         try_installed(tree, root / prefix, prefix)
         tree.expect("uninstalled", tree.run("./install", "--uninstall", *words, DESTDIR=str(root)), ("", "", 0))
         tree.expect("nothing is left", (placed(root), (root / prefix / "share/ltl2ba").exists()), ([], False))
+    shared = tree.top / "crates/ltl_c/out/libltl2ba.so.1"
+    content = shared.read_bytes()
+    shared.unlink()
+    tree.expect("without a shared library", tree.run("./install", DESTDIR=str(root))[1:], ("", 0))
+    tree.expect("what is there without it", placed(root / "usr/local"), sorted([*OTHERS, *ALIASES, *LIBRARY]))
+    shared.write_bytes(content)
     tree.expect("for all processors", "AVX2" in tree.run("./install", DESTDIR=str(root))[0], False)
     tree.put_program("ltleval", "x86-64-v3")
     shown = tree.run("./install", DESTDIR=str(root))[0].split("\n")[-2]
@@ -563,9 +590,12 @@ def try_installed(tree, top, prefix):
     described = (top / "lib/pkgconfig/ltl2ba.pc").read_text(encoding="ascii")
     tree.expect("its description", (described.startswith(DESCRIPTION.format(prefix)), "\nVersion: \n" in described), (True, False))
     tree.expect("its archive", (top / "lib/libltl2ba.a").read_text(encoding="ascii"), "an archive\n")
+    tree.expect("its shared library", (os.readlink(top / "lib/libltl2ba.so"), (top / "lib/libltl2ba.so").read_text(encoding="ascii")), ("libltl2ba.so.1", SHARED))
     for page in ALIASES:
         tree.expect(page, (top / page).read_text(encoding="ascii"), ".so man3/ltl2ba.3\n")
     tree.expect("the tutorial's name", tree.run(str(top / "bin/ltl2ba-tutorial"), "-h")[0].split("\n")[0], "usage: ltl2ba-tutorial [check]")
+    tree.expect("the name of ltlspin", tree.run(str(top / "bin/ltlspin"), "-h")[0].split(" ")[:2], ["usage:", "ltlspin"])
+    tree.expect("without a model", tree.run(str(top / "bin/ltlspin"))[1].split(" ")[:2], ["usage:", "ltlspin"])
     shown = tree.run(str(top / "bin/ltl2ba-tutorial"), "check")
     tree.expect("the tutorial's programs", (f"-A {top}/share/ltl2ba/models/anyone.hoa -f" in shown[0], shown[2]), (True, 1))
 
@@ -616,7 +646,7 @@ def compiled(tree):
     source = tree.top.parent / "program.c"
     source.write_text('#include <stdio.h>\nint main(void) { return puts("built") < 0; }\n', encoding="ascii")
     program, part, archive = (str(source.with_suffix(it)) for it in ("", ".o", ".a"))
-    for words in ["cc", "-g", "-o", program, source], ["cc", "-g", "-c", "-o", part, source], ["ar", "qcs", archive, part]:
+    for words in ["cc", "-g", "-o", program, source], ["cc", "-g", "-fPIC", "-c", "-o", part, source], ["ar", "qcs", archive, part]:
         subprocess.run(words, check=True)
     return {"MADE_PROGRAM": program, "MADE_ARCHIVE": archive}
 
@@ -629,21 +659,38 @@ def try_archive(tree):
     tree.expect("the same bytes again", packaged(tree)[0] == first, True)
     name = next(it for it in first if it.endswith(".tar.gz"))
     version = (tree.top / "docs/CHANGES.md").read_text(encoding="utf-8").partition("\n## ")[2].partition(",")[0]
-    debian = [f"libltl2ba-dev_{version}_amd64.deb", f"ltl2ba-proved_{version}_amd64.deb"] if shutil.which("dpkg-deb") else []
-    tree.expect("what is made", sorted(first), sorted([f"ltl2ba-{version}-x86_64-linux.tar.gz", *debian]))
+    names = [f"{it}_{version}_amd64.deb" for it in ("libltl2ba1", "libltl2ba-dev", "ltl2ba-proved")]
+    debian = [*names, f"python3-ltl2ba_{version}_all.deb"] if shutil.which("dpkg-deb") else []
+    wheel = f"ltl2ba-{version}-py3-none-linux_x86_64.whl"
+    tree.expect("what is made", sorted(first), sorted([f"ltl2ba-{version}-x86_64-linux.tar.gz", wheel, *debian]))
+    try_wheel(tree, tree.top / "out" / wheel)
     with tarfile.open(tree.top / "out" / name) as tar:
         entries, folder = tar.getmembers(), name.removesuffix(".tar.gz")
         tree.expect("sorted, with one owner and one time", [(it.name, it.uname, it.mtime) for it in entries], sorted((it.name, "root", 1_000_000_000) for it in entries))
-        may_run = sorted(f"{folder}/bin/{it}" for it in (*PROGRAMS, "ltl2ba-page", "ltl2ba-tutorial"))
+        may_run = sorted(f"{folder}/bin/{it}" for it in (*PROGRAMS, "ltlspin", "ltl2ba-page", "ltl2ba-tutorial"))
         tree.expect("what may be run", [it.name for it in entries if it.isfile() and it.mode & 0o111], may_run)
         tar.extractall(tree.top.parent / "unpacked", filter="data")
     there = tree.top.parent / "unpacked" / folder
-    tree.expect("what is installed", [it for it in (*OTHERS, *ALIASES, *LIBRARY, "LICENSE-MIT", "LICENSE-APACHE", "COPYRIGHT") if not (there / it).is_file()], [])
+    tree.expect("what is installed", [it for it in (*OTHERS, *ALIASES, *LIBRARY, *SHARED_FILES, *MODULE, "LICENSE-MIT", "LICENSE-APACHE", "COPYRIGHT") if not (there / it).is_file()], [])
     try_proved(tree, there)
     try_pages(tree, there)
     try_instructions(tree, there)
     for it in debian:
         try_debian(tree, tree.top / "out" / it)
+
+
+def try_wheel(tree, file):
+    """The wheel has the module, the shared library and PROVED.txt, with the right sums."""
+    with zipfile.ZipFile(file) as packed:
+        contents = {it: packed.read(it) for it in packed.namelist()}
+    info = next(it.partition("/")[0] for it in contents if it.endswith("/RECORD"))
+    lines = [it.split(",") for it in contents[f"{info}/RECORD"].decode().splitlines()]
+    tree.expect("what its record names", sorted(it[0] for it in lines), sorted(contents))
+    made = {it[0]: "sha256=" + base64.urlsafe_b64encode(hashlib.sha256(contents[it[0]]).digest()).decode().rstrip("=") for it in lines if it[1]}
+    tree.expect("the sums of its record", made, {it[0]: it[1] for it in lines if it[1]})
+    wanted = {f"ltl2ba/{Path(it).name}" for it in (*MODULE, "libltl2ba.so.1")} | {f"{info}/{it}" for it in ("METADATA", "WHEEL", "PROVED.txt", "licenses/COPYRIGHT")}
+    tree.expect("what it has", sorted(wanted - set(contents)), [])
+    tree.expect("its proof", hashlib.sha256(contents["ltl2ba/libltl2ba.so.1"]).hexdigest() in contents[f"{info}/PROVED.txt"].decode(), True)
 
 
 def shell(command, folder, **variables):
@@ -653,11 +700,11 @@ def shell(command, folder, **variables):
 
 def try_proved(tree, there):
     """PROVED.txt has the sums of the files beside it, and of what ./build left."""
-    proved, files = (there / "PROVED.txt").read_text(encoding="utf-8").splitlines(), [*(f"bin/{it}" for it in PROGRAMS), "lib/libltl2ba.a"]
+    proved, files = (there / "PROVED.txt").read_text(encoding="utf-8").splitlines(), [*(f"bin/{it}" for it in PROGRAMS), "lib/libltl2ba.a", "lib/libltl2ba.so.1"]
     tree.expect("commit and kit", proved[:2], [f"commit {git(tree, 'rev-parse', 'HEAD')}", "kit a kit"])
     check = next(it for it in proved if it.startswith("To check")).partition(": ")[2].replace("FILE", "PROVED.txt")
     tree.expect("the check that it names", shell(check, there), ("".join(f"{it}: OK\n" for it in sorted(files)), ""))
-    built = [tree.top / f"crates/{it}/out/{it}" for it in PROGRAMS] + [tree.top / "crates/ltl_c/out/libltl2ba.a"]
+    built = [tree.top / f"crates/{it}/out/{it}" for it in PROGRAMS] + [tree.top / f"crates/ltl_c/out/libltl2ba.{it}" for it in ("a", "so.1")]
     tree.expect("what ./build left", [it.name for it in built if f"{hashlib.sha256(it.read_bytes()).hexdigest()}  {it.name}" not in proved], [])
     tree.expect("stripped", [it for it, whole in zip(files, built) if (there / it).stat().st_size >= whole.stat().st_size], [])
     tree.expect("it runs", subprocess.run([there / "bin/ltl2ba"], capture_output=True, text=True, check=False).stdout, "built\n")
@@ -672,7 +719,7 @@ def try_pages(tree, there):
         commands = re.findall(r"^ *\$ .*$", page.read_text(encoding="utf-8"), re.M)
         tree.expect(f"commands of {page.name}", [it for it in commands if "/run ltl" in it], [])
     pages = [str(it.relative_to(there)) for it in there.rglob("*.md")]
-    tree.expect("pages for developers", [it for it in pages if re.search("WORKING|WRONG-BODIES|bench", it)], [])
+    tree.expect("pages for developers", [it for it in pages if re.search("PROVING|WORKING|WRONG-BODIES|bench", it)], [])
 
 
 def try_instructions(tree, there):
@@ -681,11 +728,11 @@ def try_instructions(tree, there):
     prefix.mkdir()
     text = (there / "INSTALL.txt").read_text(encoding="utf-8").replace("/usr/local", str(prefix))
     copies, removes = (re.search(rf"^{about}.*?:\n\n((?:    .*\n)+)", text, re.M)[1] for about in ("To install", "To remove"))
-    tree.expect("copied", (shell(copies, there), [it for it in (*OTHERS, *ALIASES, *LIBRARY) if not (prefix / it).is_file()]), (("", ""), []))
+    tree.expect("copied", (shell(copies, there), [it for it in (*OTHERS, *ALIASES, *LIBRARY, *SHARED_FILES, *MODULE) if not (prefix / it).is_file()]), (("", ""), []))
     if shutil.which("pkg-config"):
         found = shell("pkg-config --cflags --libs ltl2ba", there, PKG_CONFIG_PATH=str(prefix / "lib/pkgconfig"))
         flags = [it[2:] if it.startswith(("-I", "-L")) else it for it in found[0].split()]
-        tree.expect("pkg-config", [os.path.realpath(it) if "/" in it else it for it in flags], [str(prefix / "include"), str(prefix / "lib"), "-lltl2ba"])
+        tree.expect("pkg-config", [os.path.realpath(it) if "/" in it else it for it in flags], [str(prefix / "include"), str(prefix / "lib"), "-l:libltl2ba.a"])
     tree.expect("removed", (shell(removes, there), placed(prefix)), (("", ""), []))
 
 
@@ -693,15 +740,22 @@ def try_debian(tree, file):
     fields = dict(re.findall(r"^(\S+): (.*)$", shell(f"dpkg-deb -f '{file}'", tree.top)[0], re.M))
     room = tree.top.parent / file.stem
     shell(f"dpkg-deb -R '{file}' '{room}'", tree.top)
-    wanted = {"share/doc/" + fields["Package"] + "/" + it for it in ("copyright", "changelog.gz", "PROVED.txt")}
-    if fields["Package"] == "libltl2ba-dev":
-        wanted |= {it.replace("lib/", "lib/x86_64-linux-gnu/") if it.startswith("lib/") else it for it in (*ALIASES, *LIBRARY)}
-        tree.expect("what the library needs", fields["Depends"], "libc6-dev")
+    name, version = fields["Package"], fields["Version"]
+    wanted = {f"share/doc/{name}/{it}" for it in ("copyright", "changelog.gz", *(["PROVED.txt"] if name != "python3-ltl2ba" else []))}
+    libraries = [it.replace("lib/", "lib/x86_64-linux-gnu/") if it.startswith("lib/") else it for it in (*ALIASES, *LIBRARY, *SHARED_FILES)]
+    if name == "libltl2ba-dev":
+        wanted |= {it for it in libraries if not it.endswith((".so", ".so.1"))}
+        tree.expect("what the library needs", fields["Depends"], f"libc6-dev, libltl2ba1 (= {version})")
+        tree.expect("its link", os.readlink(room / "usr/lib/x86_64-linux-gnu/libltl2ba.so"), "libltl2ba.so.1")
+    elif name == "python3-ltl2ba":
+        wanted |= {it.replace("share/ltl2ba/python/", "lib/python3/dist-packages/") for it in MODULE}
+        tree.expect("what the module needs", (fields["Depends"], fields["Architecture"]), (f"python3 (>= 3.9), libltl2ba1 (>= {version})", "all"))
     else:
-        asked = re.findall(r"\(GLIBC_([\d.]+)\)", shell(f"objdump -T '{room}/usr/bin/ltl2ba'", tree.top)[0])
+        program = "bin/ltl2ba" if name == "ltl2ba-proved" else "lib/x86_64-linux-gnu/libltl2ba.so.1"
+        asked = re.findall(r"\(GLIBC_([\d.]+)\)", shell(f"objdump -T '{room}/usr/{program}'", tree.top)[0])
         newest = max(asked, key=lambda it: [int(number) for number in it.split(".")])
-        tree.expect("what the programs need", fields["Depends"], f"libc6 (>= {newest})")
-        wanted |= set(OTHERS)
+        tree.expect(f"what {name} needs", fields["Depends"], f"libc6 (>= {newest})")
+        wanted |= set(OTHERS) if name == "ltl2ba-proved" else {program}
     packed = {f"{it}.gz" if it.startswith("share/man/") else it for it in wanted}
     tree.expect(f"files of {file.name}", [it for it in packed if not (room / "usr" / it).is_file()], [])
     sums = shell("md5sum -c --quiet DEBIAN/md5sums", room)

@@ -3,8 +3,9 @@
 import gzip
 import hashlib
 import os
+import stat
 import tempfile
-from dataclasses import dataclass
+from dataclasses import dataclass, field
 from datetime import datetime, timezone
 from email.utils import format_datetime
 from pathlib import Path
@@ -19,15 +20,17 @@ MAINTAINER = "The ltl2ba authors <authors@ltl2ba.invalid>"
 
 @dataclass(frozen=True)
 class Package:
-    """What is said of a package: its name, the fields of its control file but for those that are the same in all packages, and its description."""
+    """What is said of a package: its name, the fields of its control file but for those that are the same in all packages, and its description; and the
+    files beside its control file."""
 
     name: str
     fields: dict
     summary: str
     description: str
+    scripts: dict = field(default_factory=dict)
 
     def file_name(self, version):
-        return f"{self.name}_{version}_{ARCHITECTURE}.deb"
+        return f"{self.name}_{version}_{self.fields.get('Architecture', ARCHITECTURE)}.deb"
 
     def control(self, version, kilobytes):
         fields = {"Package": self.name, "Version": version, "Architecture": ARCHITECTURE, "Maintainer": MAINTAINER}
@@ -61,20 +64,25 @@ def put(package, files, versions, copyright_text, to, seconds):
     """Has dpkg-deb put a package of files below /usr into a folder, and returns its file. All times are the given one."""
     found = placed(package, files, versions, copyright_text)
     kilobytes = sum((len(content) + 1023) // 1024 for content, _ in found.values())
-    sums = "".join(f"{hashlib.md5(content, usedforsecurity=False).hexdigest()}  {place}\n" for place, (content, _) in found.items())
+    whole = {place: content for place, (content, mode) in found.items() if not stat.S_ISLNK(mode)}
+    sums = "".join(f"{hashlib.md5(content, usedforsecurity=False).hexdigest()}  {place}\n" for place, content in whole.items())
     version = versions[0][0]
     with tempfile.TemporaryDirectory() as room:
         found["DEBIAN/control"] = package.control(version, kilobytes).encode(), 0o644
         found["DEBIAN/md5sums"] = sums.encode(), 0o644
+        found |= {f"DEBIAN/{name}": (content.encode(), 0o755 if content.startswith("#!") else 0o644) for name, content in package.scripts.items()}
         for place, (content, mode) in found.items():
             file = Path(room, place)
             file.parent.mkdir(parents=True, exist_ok=True)
+            if stat.S_ISLNK(mode):
+                file.symlink_to(content.decode())
+                continue
             file.write_bytes(content)
             file.chmod(mode)
         for it in (Path(room), *Path(room).rglob("*")):
             if it.is_dir():
                 it.chmod(0o755)
-            os.utime(it, (seconds, seconds))
+            os.utime(it, (seconds, seconds), follow_symlinks=False)
         file = Path(to, package.file_name(version))
         run(["dpkg-deb", "--root-owner-group", "-Zgzip", "--build", room, file], env={**os.environ, "SOURCE_DATE_EPOCH": str(seconds)})
     return file

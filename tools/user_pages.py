@@ -12,7 +12,7 @@ LICENCES = "COPYRIGHT", "LICENSE-APACHE", "LICENSE-MIT"
 LINK = rf"(?<!!)\[([^\]\[]+)\]\(([\w-]*[./][\w./-]*(?:#[\w-]+)?|{'|'.join(LICENCES)})\)"
 # Pages that only developers of the repository need, and parts of README.md that only they need, with what users get in their place. A part is a section, or
 # a paragraph, with this beginning.
-DEVELOPERS_PAGES = "docs/WORKING.md", "docs/WRONG-BODIES.md"
+DEVELOPERS_PAGES = "docs/PROVING.md", "docs/WORKING.md", "docs/WRONG-BODIES.md", "docs/pictures/crates.svg"
 DEVELOPERS_PARTS = {
     "`./run` needs": """These are the pages of the sources. If one begins at the top of the repository, begin in a copy of the folder of this page, since
 examples write files. Scripts such as `./build` and `./test`, and the folders `crates` and `tools`, are in the repository alone.
@@ -58,6 +58,7 @@ def page_shown(place, places):
     page = re.sub(r"^ *\$ .*$", lambda it: re.sub(r"(?:\.\.?/)+run (?=ltl)", "", it[0]), page, flags=re.M)
     page = re.sub(r"(`\./(?:page|tutorial)[^`\n]*`), at the top of the repository,", r"\1", page)
     page = re.sub(r"(?<![\w./])\./(page|tutorial)\b(?![/.])", r"ltl2ba-\1", page)
+    page = re.sub(r"(?<![\w./])(?:\.\.?/)+ltlspin\b(?![/.])", "ltlspin", page)
     return re.sub(LINK, link, page)
 
 

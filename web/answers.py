@@ -124,31 +124,31 @@ def shown_by(room, formula, told, word, wanted):
     return f'<p class="said">{shown(told)}{link(address(formula.text, word=word), code(word))}.</p>'
 
 
+RELATIONS = {
+    "equivalent": "They are equivalent: the same words satisfy both.",
+    "first implies second": "The first implies the second, and not the other way round.",
+    "second implies first": "The second implies the first, and not the other way round.",
+    "incomparable": "Neither implies the other.",
+}
+
+
 def pair(room, first, second):
     """Whether the first formula implies the second, whether they are equivalent, and words on which they differ."""
-    title, checks = "The two formulas", []
-    if not (first.has_automaton and second.has_automaton):
-        return section(title, sentence("They can’t be compared, since one has no automaton here.", "no"))
-    for one, other in (first, second), (second, first):
-        checks.append(room.run("ltlcheck", "-A", str(one.ran.output), "-F", other.file))
-        if checks[-1].status not in (0, 1):
-            return section(title, sentence(checks[-1].fault(), "no"))
-    there, back = (it.status == 0 for it in checks)
-    said = {
-        (True, True): "They are equivalent: the same words satisfy both.",
-        (True, False): "The first implies the second, and not the other way round.",
-        (False, True): "The second implies the first, and not the other way round.",
-        (False, False): "Neither implies the other.",
-    }[there, back]
-    parts = [apart(room, first, second, it, it is checks[0]) for it in checks if it.status == 1]
-    return section(title, sentence(said, "yes" if there and back else "said"), *parts)
+    title = "The two formulas"
+    ran = room.run("ltlcompare", "-F", first.file, "-G", second.file)
+    text, left_out = ran.text()
+    relation, *lines = text.split("\n")
+    if ran.status not in (0, 1) or relation not in RELATIONS:
+        return section(title, sentence(ran.fault(), "no"))
+    parts = [apart(room, first, second, *it.partition(": ")[::2]) for it in lines[:-1]]
+    if left_out:
+        parts.append(sentence("A word that tells them apart is too long to be shown."))
+    return section(title, sentence(RELATIONS[relation], "yes" if ran.status == 0 else "said"), *parts)
 
 
-def apart(room, first, second, ran, is_first):
-    """The word of a check on which one formula holds and the other doesn't."""
-    word = word_of(ran)
-    if word is None:
-        return sentence("A word that tells them apart is too long to be shown.")
+def apart(room, first, second, label, word):
+    """The word of a comparison on which one formula holds and the other doesn't."""
+    is_first = label == "first only"
     judged = [holds(room, it, word)[0] for it in (first, second)]
     if None not in judged and judged != [is_first, not is_first]:
         return disagrees(word)

@@ -19,7 +19,7 @@ use ltl_streams::WriterSink;
 use ltl_syntax::{Formula, ReadFault, read};
 use ltl_word::{Lasso, WordFault, holds};
 use refusing::Refusing;
-use std::alloc::{Allocator, Global};
+use std::alloc::Global;
 
 /// More allocations than any case makes.
 const MOST_GROWTHS: u64 = 100_000;
@@ -52,192 +52,129 @@ macro_rules! made {
     }};
 }
 
-type Memory<B> = Refusing<B>;
+/// The digest of the value of a call.
+macro_rules! digest {
+    ($of:ident, $alloc:ident, $input:expr, $memory:pat, $call:expr) => {{
+        let found = made!($alloc, $input, $memory, $call);
+        Some($of(&found))
+    }};
+}
+
+type Memory = Refusing<Global>;
 
 const OPTIONS: Options = Options {
     keep_implied: false,
     keep_equal: false,
 };
 
-type Read<'a, B> = Formula<'a, Memory<B>>;
+// A function holds at most one value of a call, since proofs of what is dropped on which path are expensive.
 
-type BuiltTable<'a, B> = Table<'a, Memory<B>>;
-
-fn formula<'a, B: Allocator>(alloc: &'a Memory<B>, text: &str) -> Option<Read<'a, B>> {
-    Some(made!(
+fn numbered<'a>(alloc: &'a Memory, ba: &Ba<'a, Memory>) -> Option<Digest> {
+    digest!(
+        of_ba,
         alloc,
-        Digest::new(),
-        ReadFault::OutOfMemory,
-        read(alloc, text.as_bytes())
-    ))
-}
-
-fn table<'a, B: Allocator>(
-    alloc: &'a Memory<B>,
-    formula: &Read<'a, B>,
-    negate: bool,
-) -> Option<BuiltTable<'a, B>> {
-    Some(made!(
-        alloc,
-        of_formula(formula),
-        BuildFault::OutOfMemory,
-        Table::build(alloc, formula, negate, true)
-    ))
-}
-
-fn pairs_of<B: Allocator>(
-    alloc: &Memory<B>,
-    table: &BuiltTable<'_, B>,
-    row: usize,
-) -> Option<Digest>
-    requires { row < length table.now.rows }
-{
-    let found = made!(alloc, of_table(table), _, pairs(alloc, table, row));
-    Some(of_pairs(&found))
-}
-
-fn reached<'a, B: Allocator>(
-    alloc: &'a Memory<B>,
-    table: &BuiltTable<'a, B>,
-) -> Option<Gba<'a, Memory<B>>> {
-    Some(made!(
-        alloc,
-        of_table(table),
-        AltFault::OutOfMemory,
-        Gba::reach(alloc, table, false)
-    ))
-}
-
-fn merged<'a, B: Allocator>(
-    alloc: &'a Memory<B>,
-    gba: &Gba<'a, Memory<B>>,
-) -> Option<Gba<'a, Memory<B>>> {
-    Some(made!(
-        alloc,
-        of_gba(gba),
+        of_ba(ba),
         BaFault::OutOfMemory,
-        merge(alloc, gba, &OPTIONS)
-    ))
+        renumber(alloc, ba)
+    )
 }
 
-fn copied<'a, B: Allocator>(
-    alloc: &'a Memory<B>,
-    gba: &Gba<'a, Memory<B>>,
-) -> Option<Ba<'a, Memory<B>>> {
-    Some(made!(alloc, of_gba(gba), BaFault::OutOfMemory, levels(alloc, gba)))
-}
-
-fn merged_again<'a, B: Allocator>(
-    alloc: &'a Memory<B>,
-    ba: &Ba<'a, Memory<B>>,
-) -> Option<Ba<'a, Memory<B>>> {
-    Some(made!(
+/// The digest of the quotient of a degeneralized automaton, and of what is made of it.
+fn merged_again<'a>(alloc: &'a Memory, ba: &Ba<'a, Memory>) -> Option<Digest> {
+    let merged = made!(
         alloc,
         of_ba(ba),
         BaFault::OutOfMemory,
         merge_ba(alloc, ba, &OPTIONS)
-    ))
+    );
+    Some(of_ba(&merged).with(numbered(alloc, &merged)?))
 }
 
-fn numbered<'a, B: Allocator>(
-    alloc: &'a Memory<B>,
-    ba: &Ba<'a, Memory<B>>,
-) -> Option<Ba<'a, Memory<B>>> {
-    Some(made!(alloc, of_ba(ba), BaFault::OutOfMemory, renumber(alloc, ba)))
+/// The digest of the degeneralized automaton, and of what is made of it.
+fn copied<'a>(alloc: &'a Memory, gba: &Gba<'a, Memory>) -> Option<Digest> {
+    let ba = made!(alloc, of_gba(gba), BaFault::OutOfMemory, levels(alloc, gba));
+    Some(of_ba(&ba).with(merged_again(alloc, &ba)?))
 }
 
-fn translated<B: Allocator>(alloc: &Memory<B>, table: &BuiltTable<'_, B>) -> Option<Digest> {
-    let found = made!(
+/// The digest of the quotient of a generalized automaton, and of what is made of it.
+fn merged<'a>(alloc: &'a Memory, gba: &Gba<'a, Memory>) -> Option<Digest> {
+    let merged = made!(
+        alloc,
+        of_gba(gba),
+        BaFault::OutOfMemory,
+        merge(alloc, gba, &OPTIONS)
+    );
+    Some(of_gba(&merged).with(copied(alloc, &merged)?))
+}
+
+/// The digest of the generalized automaton of a table, and of what is made of it.
+fn reached<'a>(alloc: &'a Memory, table: &Table<'a, Memory>) -> Option<Digest> {
+    let gba = made!(
+        alloc,
+        of_table(table),
+        AltFault::OutOfMemory,
+        Gba::reach(alloc, table, false)
+    );
+    Some(of_gba(&gba).with(merged(alloc, &gba)?))
+}
+
+fn translated(alloc: &Memory, table: &Table<'_, Memory>) -> Option<Digest> {
+    digest!(
+        of_ba,
         alloc,
         of_table(table),
         BaFault::OutOfMemory,
         translate(alloc, table, &OPTIONS)
-    );
-    Some(of_ba(&found))
+    )
 }
 
-fn generalized_of<B: Allocator>(alloc: &Memory<B>, table: &BuiltTable<'_, B>) -> Option<Digest> {
-    let found = made!(
+fn generalized_of(alloc: &Memory, table: &Table<'_, Memory>) -> Option<Digest> {
+    digest!(
+        of_gen,
         alloc,
         of_table(table),
         BaFault::OutOfMemory,
         generalized(alloc, table, &OPTIONS)
-    );
-    Some(of_gen(&found))
+    )
 }
 
-/// The digest of an automaton after it is numbered.
-fn numbered_of<'a, B: Allocator>(alloc: &'a Memory<B>, ba: &Ba<'a, Memory<B>>) -> Option<Digest> {
-    let numbered = numbered(alloc, ba)?;
-    Some(of_ba(&numbered))
+fn pairs_of(alloc: &Memory, table: &Table<'_, Memory>, row: usize) -> Option<Digest>
+    requires { row < length table.now.rows }
+{
+    digest!(
+        of_pairs,
+        alloc,
+        of_table(table),
+        _,
+        pairs(alloc, table, row)
+    )
 }
 
-/// The digest of what is made of a degeneralized automaton.
-fn made_of_levels<'a, B: Allocator>(
-    alloc: &'a Memory<B>,
-    ba: &Ba<'a, Memory<B>>,
-) -> Option<Digest> {
-    let merged = merged_again(alloc, ba)?;
-    Some(of_ba(&merged).with(numbered_of(alloc, &merged)?))
-}
-
-/// The digest of what is made of a quotient.
-fn made_of_merged<'a, B: Allocator>(
-    alloc: &'a Memory<B>,
-    gba: &Gba<'a, Memory<B>>,
-) -> Option<Digest> {
-    let ba = copied(alloc, gba)?;
-    Some(of_ba(&ba).with(made_of_levels(alloc, &ba)?))
-}
-
-/// The digest of what is made of a generalized automaton.
-fn made_of_gba<'a, B: Allocator>(alloc: &'a Memory<B>, gba: &Gba<'a, Memory<B>>) -> Option<Digest> {
-    let merged = merged(alloc, gba)?;
-    Some(of_gba(&merged).with(made_of_merged(alloc, &merged)?))
-}
-
-/// The digest of the automata of a table. A function of its own holds each automaton, since proofs of what is dropped on which path are expensive.
-fn automata<'a, B: Allocator>(alloc: &'a Memory<B>, table: &BuiltTable<'a, B>) -> Option<Digest> {
-    let gba = reached(alloc, table)?;
-    Some(of_gba(&gba).with(made_of_gba(alloc, &gba)?))
-}
-
-/// The digest of what is made of a table.
-fn made_of_table<'a, B: Allocator>(
-    alloc: &'a Memory<B>,
-    table: &BuiltTable<'a, B>,
-) -> Option<Digest> {
-    let mut digest = of_table(table);
-    for row in 0..table.len() {
-        digest = digest.with(pairs_of(alloc, table, row)?);
-    }
-    digest = digest.with(automata(alloc, table)?);
-    digest = digest.with(translated(alloc, table)?);
-    Some(digest.with(generalized_of(alloc, table)?))
-}
-
-fn word<'a, B: Allocator>(
-    alloc: &'a Memory<B>,
-    formula: &Read<'a, B>,
-    text: &str,
-) -> Option<Lasso<'a, Memory<B>>> {
-    Some(made!(
+/// The digest of a formula's table, or of that of its negation, and of what is made of it.
+fn tabled<'a>(alloc: &'a Memory, formula: &Formula<'a, Memory>, negate: bool) -> Option<Digest> {
+    let table = made!(
         alloc,
         of_formula(formula),
-        WordFault::OutOfMemory,
-        Lasso::read(alloc, text.as_bytes(), formula)
-    ))
+        BuildFault::OutOfMemory,
+        Table::build(alloc, formula, negate, true)
+    );
+    let mut digest = of_table(&table);
+    for row in 0..table.len() {
+        digest = digest.with(pairs_of(alloc, &table, row)?);
+    }
+    digest = digest.with(reached(alloc, &table)?);
+    digest = digest.with(translated(alloc, &table)?);
+    Some(digest.with(generalized_of(alloc, &table)?))
 }
 
-fn least<'a, B: Allocator>(alloc: &'a Memory<B>, word: &Lasso<'a, Memory<B>>) -> Option<Digest> {
-    let found = made!(alloc, of_word(word), _, word.least(alloc));
-    Some(of_word(&found))
+fn least<'a>(alloc: &'a Memory, word: &Lasso<'a, Memory>) -> Option<Digest> {
+    digest!(of_word, alloc, of_word(word), _, word.least(alloc))
 }
 
-fn truth<'a, B: Allocator>(
-    alloc: &'a Memory<B>,
-    formula: &Read<'a, B>,
-    word: &Lasso<'a, Memory<B>>,
+fn truth<'a>(
+    alloc: &'a Memory,
+    formula: &Formula<'a, Memory>,
+    word: &Lasso<'a, Memory>,
 ) -> Option<bool> {
     Some(made!(
         alloc,
@@ -247,11 +184,10 @@ fn truth<'a, B: Allocator>(
     ))
 }
 
-/// The digest of the timeline of the word and the formula.
-fn table_of_truth<'a, B: Allocator>(
-    alloc: &'a Memory<B>,
-    formula: &Read<'a, B>,
-    word: &Lasso<'a, Memory<B>>,
+fn timeline<'a>(
+    alloc: &'a Memory,
+    formula: &Formula<'a, Memory>,
+    word: &Lasso<'a, Memory>,
 ) -> Option<Digest> {
     let mut digest = Digest::new();
     made!(
@@ -263,44 +199,33 @@ fn table_of_truth<'a, B: Allocator>(
     Some(digest)
 }
 
-fn word_of_numbers<B: Allocator>(alloc: &Memory<B>) -> Option<Digest> {
+fn word_of_numbers(alloc: &Memory) -> Option<Digest> {
     let cycle = [RowSet::single(1), RowSet::empty()];
-    let found = made!(
+    digest!(
+        of_word,
         alloc,
         Digest::new(),
         _,
         Lasso::new(alloc, &["q", "p"], &[], &cycle)
-    );
-    Some(of_word(&found))
+    )
 }
 
 /// The digest of the words, of the formula's truth on one of them, and of the truth of its subformulas at each position.
-fn words<'a, B: Allocator>(
-    alloc: &'a Memory<B>,
-    formula: &Read<'a, B>,
-    text: &str,
-) -> Option<Digest> {
-    let word = word(alloc, formula, text)?;
+fn words<'a>(alloc: &'a Memory, formula: &Formula<'a, Memory>, text: &str) -> Option<Digest> {
+    let word = made!(
+        alloc,
+        of_formula(formula),
+        WordFault::OutOfMemory,
+        Lasso::read(alloc, text.as_bytes(), formula)
+    );
     let mut digest = of_word(&word).with(least(alloc, &word)?);
     digest.take(truth(alloc, formula, &word)? as usize);
-    digest = digest.with(table_of_truth(alloc, formula, &word)?);
+    digest = digest.with(timeline(alloc, formula, &word)?);
     Some(digest.with(word_of_numbers(alloc)?))
 }
 
-fn automaton<'a, B: Allocator>(alloc: &'a Memory<B>, text: &str) -> Option<Marked<'a, Memory<B>>> {
-    Some(made!(
-        alloc,
-        Digest::new(),
-        HoaFault::OutOfMemory,
-        hoa_read(alloc, &mut text.as_bytes())
-    ))
-}
-
 /// A formula, and the automaton of the words that violate it.
-fn violations<'a, B: Allocator>(
-    alloc: &'a Memory<B>,
-    text: &str,
-) -> Option<(Read<'a, B>, Ba<'a, Memory<B>>)>
+fn violations<'a>(alloc: &'a Memory, text: &str) -> Option<(Formula<'a, Memory>, Ba<'a, Memory>)>
     ensures { IfSome result (λ r. HasNamesBelow (length r.0.names) r.1) }
 {
     let Ok(formula) = read(alloc, text.as_bytes()) else {
@@ -315,31 +240,31 @@ fn violations<'a, B: Allocator>(
     Some((formula, automaton))
 }
 
-fn checked<'a, B: Allocator>(
-    alloc: &'a Memory<B>,
-    automaton: &Marked<'a, Memory<B>>,
-    ba: &Ba<'a, Memory<B>>,
-    formula: &Read<'a, B>,
+fn checked<'a>(
+    alloc: &'a Memory,
+    automaton: &Marked<'a, Memory>,
+    ba: &Ba<'a, Memory>,
+    formula: &Formula<'a, Memory>,
 ) -> Option<Digest>
     requires { HasNamesBelow (length formula.now.names) ba.now }
 {
-    let found = made!(
+    digest!(
+        of_verdict,
         alloc,
         of_marked(automaton)
             .with(of_ba(ba))
             .with(of_formula(formula)),
         CheckFault::OutOfMemory,
         check(alloc, automaton, ba, formula)
-    );
-    Some(of_verdict(&found))
+    )
 }
 
 /// The digest of a search of the product, in which each proposition of the formula has a number of its own.
-fn walked<'a, B: Allocator>(
-    alloc: &'a Memory<B>,
-    automaton: &Marked<'a, Memory<B>>,
-    ba: &Ba<'a, Memory<B>>,
-    formula: &Read<'a, B>,
+fn walked<'a>(
+    alloc: &'a Memory,
+    automaton: &Marked<'a, Memory>,
+    ba: &Ba<'a, Memory>,
+    formula: &Formula<'a, Memory>,
 ) -> Option<Digest>
     requires { HasNamesBelow (length formula.now.names) ba.now }
 {
@@ -353,21 +278,17 @@ fn walked<'a, B: Allocator>(
         return None;
     }
     let mut steps = Steps::new();
-    let found = made!(
+    digest!(
+        of_walk,
         alloc,
         of_marked(automaton).with(of_ba(ba)),
         CheckFault::OutOfMemory,
         find(alloc, &product, &mut steps)
-    );
-    Some(of_walk(&found))
+    )
 }
 
 /// The digest of a check, whose inputs use an allocator that refuses nothing.
-fn checks<'a, B: Allocator>(
-    alloc: &'a Memory<B>,
-    calm: &'a Memory<B>,
-    case: &Case<'_>,
-) -> Option<Digest> {
+fn checks<'a>(alloc: &'a Memory, calm: &'a Memory, case: &Case<'_>) -> Option<Digest> {
     let (formula, ba) = violations(calm, case.formula)?;
     let Ok(automaton) = hoa_read(calm, &mut case.automaton.as_bytes()) else {
         return None;
@@ -376,48 +297,44 @@ fn checks<'a, B: Allocator>(
     Some(digest.with(walked(alloc, &automaton, &ba, &formula)?))
 }
 
-/// The digest of a table and of all that is made of it.
-fn made_of_formula<'a, B: Allocator>(
-    alloc: &'a Memory<B>,
-    formula: &Read<'a, B>,
-    negate: bool,
-) -> Option<Digest> {
-    let table = table(alloc, formula, negate)?;
-    made_of_table(alloc, &table)
-}
-
 /// The digest of the names in the text of an automaton.
-fn names<B: Allocator>(alloc: &Memory<B>, text: &str) -> Option<Digest> {
+fn names(alloc: &Memory, text: &str) -> Option<Digest> {
     if text.len() > 65_536 {
         return None;
     }
-    let found = made!(
+    digest!(
+        of_names,
         alloc,
         Digest::new(),
         _,
         hoa_names(alloc, text.as_bytes(), 3)
-    );
-    Some(of_names(&found))
+    )
 }
 
-/// The digest of an automaton that is read, and of its names.
-fn automaton_of<B: Allocator>(alloc: &Memory<B>, text: &str) -> Option<Digest> {
-    let read = automaton(alloc, text)?;
-    Some(of_marked(&read).with(names(alloc, text)?))
+fn automaton(alloc: &Memory, text: &str) -> Option<Digest> {
+    digest!(
+        of_marked,
+        alloc,
+        Digest::new(),
+        HoaFault::OutOfMemory,
+        hoa_read(alloc, &mut text.as_bytes())
+    )
 }
 
 /// The digest of all that is made of a case, or `None` if a call answers wrongly. `calm` refuses no allocation.
-fn all_of<'a, B: Allocator>(
-    alloc: &'a Memory<B>,
-    calm: &'a Memory<B>,
-    case: &Case<'_>,
-) -> Option<Digest> {
-    let formula = formula(alloc, case.formula)?;
+fn all_of<'a>(alloc: &'a Memory, calm: &'a Memory, case: &Case<'_>) -> Option<Digest> {
+    let formula = made!(
+        alloc,
+        Digest::new(),
+        ReadFault::OutOfMemory,
+        read(alloc, case.formula.as_bytes())
+    );
     let mut digest = of_formula(&formula).with(words(alloc, &formula, case.word)?);
     for negate in [false, true] {
-        digest = digest.with(made_of_formula(alloc, &formula, negate)?);
+        digest = digest.with(tabled(alloc, &formula, negate)?);
     }
-    digest = digest.with(automaton_of(alloc, case.automaton)?);
+    digest = digest.with(automaton(alloc, case.automaton)?);
+    digest = digest.with(names(alloc, case.automaton)?);
     Some(digest.with(checks(alloc, calm, case)?))
 }
 

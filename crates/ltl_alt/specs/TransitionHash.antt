@@ -1,10 +1,9 @@
 -- Transitions are equal when their conjuncts are, and what one feeds a hasher.
-use Rattle.std.specs.Prelude.{◌≡◌, ◌&&◌, ◌++◌, Bool, true, nat_eq, List, ℕ, IsTrue, refl}
-use Rattle.std.proofs.Common.{ap, sym, ◌∙◌}
+use Rattle.std.specs.Prelude.{◌≡◌, ◌&&◌, ◌++◌, Bool, true, nat_eq, List, ℕ}
+use Rattle.std.proofs.Common.{ap, ◌∙◌}
 use Rattle.std.specs.Bool.{Decides}
-use Rattle.std.specs.Cmp.{IsEquivalence, first_so, second_so}
+use Rattle.std.specs.Cmp.{first_so, second_so}
 use Rattle.std.specs.Cmp.Lexicographic.{pointwise, bytes_decides}
-use Rattle.std.proofs.lemmas.Bool.Decides.{same_from_decides}
 use Rattle.ltl_spec.specs.Transitions.RowTransitions.{Transition}
 use Rattle.ltl_sets.specs.CubeEq.{same_cube, cube_Decides, hash_of_cube}
 use Rattle.ltl_sets.specs.Words.{hash_of, words_with}
@@ -27,15 +26,5 @@ transition_Decides t u = (
       (both _ _ ((bytes_decides t.targets u.targets).1 (ap (λ (v : Transition). v.targets) h)) ((bytes_decides t.marks u.marks).1 (ap (λ (v : Transition). v.marks) h)))),
 )
 
-pub same_transition_equiv : IsEquivalence same_transition
-same_transition_equiv = record {
-  refl = λ s. (transition_Decides s s).1 refl;
-  symm = λ s t. same_from_decides (same_transition s t) (same_transition t s) (transition_Decides s t) ((λ e. sym ((transition_Decides t s).0 e)), λ e. (transition_Decides t s).1 (sym e));
-  congr = λ s t u e. ap (λ x. same_transition x u) ((transition_Decides s t).0 e);
-}
-
 abbrev pub hash_of_transition : Transition → List (List ℕ)
 hash_of_transition t = hash_of_cube t.cube ++ (hash_of (words_with t.targets) ++ hash_of (words_with t.marks))
-
-pub hash_of_same_transition : (t u : Transition) → IsTrue (same_transition t u) → hash_of_transition t ≡ hash_of_transition u
-hash_of_same_transition t u e = ap hash_of_transition ((transition_Decides t u).0 e)

@@ -5,7 +5,7 @@ ghost use Rattle.ltl_spec.specs.Automata.Generalized.{IsGeneralized, IsTooLarge}
 ghost use Rattle.ltl_spec.specs.Tools.Limits.{stated_limits};
 ghost use Rattle.ltl_formula.specs.TableView.{core_of};
 
-use crate::reach::reach;
+use crate::reach::explored;
 use ltl_formula::Table;
 use ltl_models::{AltFault, Gba};
 use std::alloc::Allocator;
@@ -35,6 +35,7 @@ impl<'b, A: Allocator> Reach<A> for Gba<'b, A> {
         ensures fits { IfOk result (λ _. ¬ (IsTooLarge (core_of table.now) keep_implied stated_limits.states stated_limits.edges)) }
         ensures large { IsErrOf result AltFault.TooLarge → IsTooLarge (core_of table.now) keep_implied stated_limits.states stated_limits.edges }
     {
-        reach(alloc, table, keep_implied)
+        let built = explored(alloc, table, keep_implied)?;
+        Ok(Gba::new(built.finish()?))
     }
 }

@@ -7,13 +7,12 @@ ghost use Rattle.ltl_spec.specs.Transitions.Pruning.{is_within};
 
 use ltl_automaton::ListOrder;
 use ltl_sets::{Cube, Literal, RowSet};
-use std::alloc::AllocError;
 use std::cmp::Ordering;
 use std::hash::{Hash, Hasher};
 use std::marker::Model;
 
 /// The literals that have to be true now, and the rows that have to hold next. Rows are given by their places among the elementary rows.
-#[derive(Debug)]
+#[derive(Clone, Copy, Debug)]
 pub struct Pair {
     /// The literals, which don't contradict each other.
     pub cube: Cube,
@@ -116,20 +115,6 @@ impl ListOrder for Pair {
 
     ghost decides = { pair_Decides };
 }
-
-impl Clone for Pair {
-    ghost use Rattle.std.specs.Prelude.{◌≡◌, ⊤};
-
-    ghost is_clone = { λ s r. r ≡ s };
-
-    ghost is_infallible = { λ _. ⊤ };
-
-    fn clone(&self) -> Result<Pair, AllocError> {
-        Ok(*self)
-    }
-}
-
-impl Copy for Pair {}
 
 impl PartialEq for Pair {
     ghost use Rattle.std.specs.Cmp.{partial_equiv_from_equiv, eq_by_cmp_equiv};

@@ -27,7 +27,7 @@ use ltl_automaton::{
     AutomatonFault as AltFault, CodedBuilder, Limits, Step, Successors, explore_from,
 };
 use ltl_formula::Table;
-use ltl_models::{Gba, GbaEdge, MOST_EDGES, MOST_STATES};
+use ltl_models::{GbaEdge, MOST_EDGES, MOST_STATES};
 use ltl_sets::RowSet;
 use std::alloc::{AllocError, Allocator};
 
@@ -116,7 +116,7 @@ impl<'b, 't, 's, 'a, A: Allocator> Successors<RowSet, GbaEdge, Transition>
 }
 
 /// The builder with the automaton of a table's formula, or `TooLarge` if the automaton exceeds the limits of `Gba`.
-fn explored<'a, A: Allocator>(
+pub(crate) fn explored<'a, A: Allocator>(
     alloc: &'a A,
     table: &Table<'_, A>,
     keep_implied: bool,
@@ -163,18 +163,4 @@ fn explored<'a, A: Allocator>(
     let builder = CodedBuilder::new(alloc, until_count(table))?;
     let built = explore_from(alloc, root, builder, &mut row_sets, limits)?;
     Ok(built)
-}
-
-/// The automaton of a table's formula, or `TooLarge` if it exceeds the limits of `Gba`.
-pub(crate) fn reach<'a, A: Allocator>(
-    alloc: &'a A,
-    table: &Table<'_, A>,
-    keep_implied: bool,
-) -> Result<Gba<'a, A>, AltFault>
-    ensures generalized { IfOk result (IsGeneralized (core_of table.now) keep_implied) }
-    ensures fits { IfOk result (λ _. ¬ (IsTooLarge (core_of table.now) keep_implied stated_limits.states stated_limits.edges)) }
-    ensures large { IsErrOf result AltFault.TooLarge → IsTooLarge (core_of table.now) keep_implied stated_limits.states stated_limits.edges }
-{
-    let built = explored(alloc, table, keep_implied)?;
-    Ok(Gba::new(built.finish()?))
 }

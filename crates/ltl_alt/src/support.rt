@@ -12,10 +12,11 @@ use crate::fulfilment::Fulfilment;
 use crate::pair::Pair;
 use ltl_formula::Table;
 use ltl_sets::{Cube, RowSet};
-use std::alloc::{AllocError, Allocator};
+use std::alloc::Allocator;
 use std::marker::Model;
 
 /// The literals and rows that pairs need: the propositions of the positive literals, those of the negative ones, and the places of the targets.
+#[derive(Clone, Copy)]
 pub(crate) struct Support {
     positive: RowSet,
     negative: RowSet,
@@ -115,20 +116,6 @@ impl Support {
             || self.negative.meets(&other.positive)
     }
 }
-
-impl Clone for Support {
-    ghost use Rattle.std.specs.Prelude.{◌≡◌, ⊤};
-
-    ghost is_clone = { λ s r. r ≡ s };
-
-    ghost is_infallible = { λ _. ⊤ };
-
-    fn clone(&self) -> Result<Support, AllocError> {
-        Ok(*self)
-    }
-}
-
-impl Copy for Support {}
 
 /// The members of a set modulo 64, as the bits of a word.
 fn folded(set: &RowSet) -> u64 {

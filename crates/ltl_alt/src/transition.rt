@@ -8,12 +8,12 @@ ghost use Rattle.ltl_alt.specs.ProductView.{join_transitions};
 use crate::support::needs;
 use least::{Below, Counting, Elements};
 use ltl_sets::{Cube, RowSet};
-use std::alloc::AllocError;
 use std::cmp::Ordering;
-use std::hash::{Hash, Hasher};
+use std::hash::Hash;
 use std::marker::Model;
 
 /// A transition: its literals, its target, which is a set of rows, and its marks: the numbers, among the until rows, of those that it doesn't postpone.
+#[derive(Clone, Copy, PartialEq, Eq, Hash)]
 pub(crate) struct Transition {
     pub(crate) cube: Cube,
     pub(crate) targets: RowSet,
@@ -144,54 +144,5 @@ impl Counting<Transition> for Differing {
 
     fn counts(&self, other: &Transition, item: &Transition) -> bool {
         other.differs(item)
-    }
-}
-
-impl Clone for Transition {
-    ghost use Rattle.std.specs.Prelude.{◌≡◌, ⊤};
-
-    ghost is_clone = { λ s r. r ≡ s };
-
-    ghost is_infallible = { λ _. ⊤ };
-
-    fn clone(&self) -> Result<Transition, AllocError> {
-        Ok(*self)
-    }
-}
-
-impl Copy for Transition {}
-
-impl PartialEq for Transition {
-    ghost use Rattle.std.specs.Cmp.{partial_equiv_from_equiv};
-    ghost use Rattle.ltl_alt.specs.TransitionHash.{same_transition, same_transition_equiv};
-
-    ghost eq = { same_transition };
-
-    ghost laws = { partial_equiv_from_equiv same_transition_equiv };
-
-    #[inline(always)]
-    fn eq(&self, other: &Transition) -> bool {
-        self.cube == other.cube && self.targets == other.targets && self.marks == other.marks
-    }
-}
-
-impl Eq for Transition {
-    ghost use Rattle.ltl_alt.specs.TransitionHash.{same_transition_equiv};
-
-    ghost laws = { same_transition_equiv };
-}
-
-impl Hash for Transition {
-    ghost use Rattle.ltl_alt.specs.TransitionHash.{hash_of_transition, hash_of_same_transition};
-
-    ghost hash_input = { hash_of_transition };
-
-    ghost respects_eq = { hash_of_same_transition };
-
-    #[inline(always)]
-    fn hash<H: Hasher>(&self, state: &mut H) {
-        self.cube.hash(state);
-        self.targets.hash(state);
-        self.marks.hash(state);
     }
 }

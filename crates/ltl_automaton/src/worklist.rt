@@ -1,6 +1,7 @@
 //! The worklist of a breadth-first construction.
 
-ghost use Rattle.std.specs.Prelude.{◌≡◌, ◌<◌, ◌+◌, ◌∷◌, [], length, slice_get, Some, true, if◌then◌else◌, is_some, IfOk, IfSome, OnOk};
+ghost use Rattle.std.specs.Prelude.{◌≡◌, ◌<◌, ◌+◌, ◌∷◌, [], length, slice_get, Some, true, if◌then◌else◌, is_some, IfOk, OnOk};
+ghost use Rattle.std.specs.List.{position};
 ghost use Rattle.ltl_spec.specs.Collections.Lists.{with_new, place_of};
 
 use crate::interner::Interner;
@@ -88,7 +89,7 @@ impl<'a, K: Key, A: Allocator> Worklist<'a, K, A> {
 
     /// The number of a key, if it is listed.
     pub fn place(&self, key: K) -> Option<usize>
-        ensures { IfSome result (λ i. slice_get self.now.keys i ≡ Some key) }
+        ensures { result ≡ position (K.eq key) self.now.keys }
     {
         self.keys.place(&key)
     }

@@ -1,18 +1,11 @@
--- Arrays of the caller that grow row by row, and the bits of words.
-use Rattle.std.proofs.Common.{◌≡◌, ◌≢◌, ◌∙◌, ◌⊎◌, ap, sym, subst, refl, inl, inr, ℕ, zero, suc, ◌+◌, ◌/◌, ◌%◌, ◌^◌, ◌*◌, ◌<◌, ◌≤◌, arith, Bool, true, false, ◌||◌, nat_eq, List, [], ◌∷◌, ◌++◌, length, map, take, drop, get_or, set, bit_or, w64, append_assoc, append-nil, length-append, length-set, length-take-le, take_all, nat_cmp, is_eq, sum_by, flat_map}
-use Rattle.std.specs.Int.{bit_at}
-use Rattle.std.proofs.lemmas.Bool.Decides.{nat_tests}
-use Rattle.std.proofs.lemmas.Nat.{or_lt}
-use Rattle.std.proofs.lemmas.Nat.Bits.{bit_at_set_other, bit_at_set_same}
-use Rattle.std.proofs.lemmas.List.{drop_all, flat_map_more, get_or-set_other, get_or-set_same, length-map, map_more, take_more}
+-- Arrays of the caller that grow row by row.
+use Rattle.std.proofs.Common.{◌≡◌, ◌∙◌, ap, sym, refl, ℕ, zero, suc, ◌+◌, ◌<◌, ◌≤◌, arith, List, [], ◌∷◌, ◌++◌, length, map, take, drop, get_or, set, append_assoc, length-append, length-take-le, sum_by}
+use Rattle.std.proofs.lemmas.List.{drop_all, flat_map_more, length-map, map_more, take_more}
 use Rattle.std.proofs.lemmas.List.Concat.{length-flat_map}
 use Rattle.std.proofs.lemmas.List.Folds.{length-flat_map-take}
 use Rattle.ltl_spec.specs.Automata.Automaton.{Edge, State}
 use Rattle.ltl_automaton.specs.CodedEdges.{edges_in, labelled_edge_of}
 use Rattle.ltl_automaton.specs.declared.labels.Edges as lent
-use Rattle.ltl_spec.specs.Collections.Sets.{has}
-use Rattle.ltl_sets.specs.WordLaws.{IsWords-words_of, bit_in-words_of, place_below, same_words}
-use Rattle.ltl_sets.specs.Words.{IsWords, bit_in, words_with}
 use Rattle.ltl_c.specs.declared.rows.EdgeRow.{EdgeRow}
 use Rattle.ltl_c.specs.declared.rows.StateRow.{StateRow}
 use Rattle.ltl_c.specs.Arrays.{edge_row, edge_rows, put_at, put_over, state_row, state_rows_from}
@@ -140,88 +133,3 @@ end_next ss k d h at end list ea ee el =
 pub room_next : (ss : List State) (k : ℕ) (d : State) → k < length ss → (at : ℕ) (list : lent.Edges) → at ≡ length (edge_rows (take k ss)) → edges_in list ≡ (get_or ss k d).edges
     → at + length list.coded.now ≤ length (edge_rows ss)
 room_next ss k d h at list ea el = omega (arith, ea, edges_listed list (get_or ss k d).edges el, edges_within ss k d h)
-
--- ---- bits
-
--- a bit is set
-pub sets_bit : (ws : List ℕ) (i n : ℕ) → length ws ≡ 4 → i < 256 → n ≡ bit_or (get_or ws (i / 64) 0) (1 * 2 ^ (i % 64) % 2 ^ 64)
-    → (j : ℕ) → j < 256 → bit_in (set ws (i / 64) n) j ≡ (bit_in ws j || nat_eq j i)
-sets_bit ws i n long h is j l =
-    elim (where_is j i) [
-      | inl d ↦ ap (λ m. nat_eq (bit_at m (j % 64)) 1) (get_or-set_other ws (i / 64) (j / 64) n 0 d) ∙ kept _ (nat_eq j i) (other_lane j i d)
-      | inr (inl (e, d)) ↦
-          ap (λ m. nat_eq (bit_at m (j % 64)) 1) (new e ∙ is)
-          ∙ ap (λ m. nat_eq m 1) (ap (bit_at (bit_or (get_or ws (i / 64) 0) (1 * 2 ^ (i % 64) % 2 ^ 64))) d ∙ bit_at_set_same w64 (get_or ws (i / 64) 0) (i % 64) (place_below i))
-          ∙ come _ (nat_eq j i) (same_place j i e d)
-      | inr (inr (e, d)) ↦
-          ap (λ m. nat_eq (bit_at m (j % 64)) 1) (new e ∙ is)
-          ∙ ap (λ m. nat_eq m 1) (bit_at_set_other w64 (get_or ws (i / 64) 0) (i % 64) (place_below i) (j % 64) d)
-          ∙ ap (λ m. nat_eq (bit_at (get_or ws m 0) (j % 64)) 1) (sym e)
-          ∙ kept _ (nat_eq j i) (other_place j i e d)
-    ]
-  where
-    where_is : (j i : ℕ) → (j / 64 ≢ i / 64) ⊎ (((j / 64 ≡ i / 64) × (j % 64 ≡ i % 64)) ⊎ ((j / 64 ≡ i / 64) × (j % 64 ≢ i % 64)))
-    where_is j i = elim (same_or_not (j / 64) (i / 64)) [ inr d ↦ inl d | inl e ↦ elim (same_or_not (j % 64) (i % 64)) [ inl d ↦ inr (inl (e, d)) | inr d ↦ inr (inr (e, d)) ] ]
-      where
-        same_or_not : (a b : ℕ) → (a ≡ b) ⊎ (a ≢ b)
-        same_or_not a b = grind arith
-
-    kept : (x b : Bool) → b ≡ false → x ≡ (x || b)
-    kept true b e = refl
-    kept false b e = sym e
-
-    come : (x b : Bool) → b ≡ true → true ≡ (x || b)
-    come true b e = refl
-    come false b e = sym e
-
-    other_lane : (j i : ℕ) → j / 64 ≢ i / 64 → nat_eq j i ≡ false
-    other_lane j i d = grind (arith, nat_tests)
-
-    same_place : (j i : ℕ) → j / 64 ≡ i / 64 → j % 64 ≡ i % 64 → nat_eq j i ≡ true
-    same_place j i e d = grind (arith, nat_tests)
-
-    other_place : (j i : ℕ) → j / 64 ≡ i / 64 → j % 64 ≢ i % 64 → nat_eq j i ≡ false
-    other_place j i e d = grind (arith, nat_tests)
-
-    new : j / 64 ≡ i / 64 → get_or (set ws (i / 64) n) (j / 64) 0 ≡ n
-    new e = ap (λ k. get_or (set ws (i / 64) n) k 0) e ∙ get_or-set_same ws (i / 64) n 0 (omega arith)
-
-pub or_fits : (x y : ℕ) → x < 2 ^ 64 → bit_or x (y % 2 ^ 64) < 2 ^ 64
-or_fits x y h = or_lt 64 x (y % 2 ^ 64) h (omega arith)
-
--- and words stay words
-pub set_words : (ws : List ℕ) (a n : ℕ) → IsWords ws → a < 4 → n < 2 ^ 64 → IsWords (set ws a n)
-set_words ws a n one h l = record {
-  long = length-set ws a n ∙ one.long;
-  fit = λ k. elim (same_or_not k a) [
-    | inl e ↦ subst (λ m. m < 2 ^ 64) (sym (ap (λ j. get_or (set ws a n) j 0) e ∙ get_or-set_same ws a n 0 (omega (arith, one.long)))) l
-    | inr d ↦ subst (λ m. m < 2 ^ 64) (sym (get_or-set_other ws a k n 0 d)) (one.fit k)
-  ];
-}
-  where
-    same_or_not : (a b : ℕ) → (a ≡ b) ⊎ (a ≢ b)
-    same_or_not a b = grind arith
-
--- the bits and the members that are still to come are those of the set
-abbrev pub IsPartOf : List ℕ → List ℕ → List ℕ → Type 0
-IsPartOf words rest all = (j : ℕ) → j < 256 → (bit_in words j || has nat_cmp j rest) ≡ has nat_cmp j all
-
-pub part_next : (ws us : List ℕ) (i : ℕ) (rest all : List ℕ) → ((j : ℕ) → j < 256 → bit_in us j ≡ (bit_in ws j || nat_eq j i)) → IsPartOf ws (i ∷ rest) all → IsPartOf us rest all
-part_next ws us i rest all f h j l =
-    ap (λ b. b || has nat_cmp j rest) (f j l) ∙ grouped (bit_in ws j) (nat_eq j i) (is_eq (nat_cmp j i)) (has nat_cmp j rest) (tests j i) ∙ h j l
-  where
-    tests : (j i : ℕ) → nat_eq j i ≡ is_eq (nat_cmp j i)
-    tests j i = grind (arith, nat_tests)
-
-    grouped : (a b c d : Bool) → b ≡ c → ((a || b) || d) ≡ (a || (c || d))
-    grouped true b c d e = refl
-    grouped false b c d e = ap (λ x. x || d) e
-
-pub part_all : (ws all : List ℕ) → IsWords ws → IsPartOf ws [] all → ws ≡ words_with all
-part_all ws all one h =
-    same_words ws (words_with all) one (IsWords-words_of (λ i. has nat_cmp i all))
-    (λ j l. none (bit_in ws j) ∙ h j l ∙ sym (bit_in-words_of (λ i. has nat_cmp i all) j l))
-  where
-    none : (b : Bool) → b ≡ (b || false)
-    none true = refl
-    none false = refl

@@ -1,12 +1,12 @@
 -- What a call hands over is what a run of the program shows.
-use Rattle.std.proofs.Common.{◌≡◌, ◌∙◌, ◌⊎◌, ◌↔◌, ap, sym, subst, refl, inl, inr, Bool, true, false, ℕ, ◌≤◌, ◌<◌, List, [], ◌∷◌, length, Option, Some, None, arith, drop}
+use Rattle.std.proofs.Common.{◌≡◌, ◌∙◌, ◌⊎◌, ◌↔◌, ap, sym, subst, refl, inl, inr, Bool, true, false, ℕ, List, [], Option, Some, None, arith}
 use Rattle.std.specs.Prelude.{Result, Ok, Err, IsTrue}
 use Rattle.ltl_spec.specs.Checking.Check.{Verdict, Contained, Violated}
 use Rattle.ltl_spec.specs.Hoa.HoaReading.{stated_form}
 use Rattle.ltl_spec.specs.Tools.Limits.{stated_limits}
 use Rattle.ltl_spec.specs.Tools.Refusal as spec
 use Rattle.ltl_spec.specs.Tools.Refusal.{Tool, Translator, Checker, Evaluator, message, status_of}
-use Rattle.ltl_spec.specs.Tools.Outcome.{Answer, Ended, Input, NotOpened, Then, answer_by, printed, refused}
+use Rattle.ltl_spec.specs.Tools.Outcome.{Answer, Ended, Input, NotOpened, answer_by, printed, refused}
 use Rattle.ltl_spec.specs.Tools.Programs.{EvaluatorFinds, EvaluatorPlan, TranslatorAnswers, TranslatorPlan, truth_answer, verdict_answer}
 use Rattle.ltl_spec.specs.Tools.Run.{PlanOf, ToolAnswers}
 use Rattle.ltl_spec.proofs.Tools.RunLaws.{promised_shown}
@@ -27,15 +27,15 @@ module _ (tool : Tool) (plan : Option (PlanOf tool)) (file : Input) where
   -- a right answer with no message
   pub answer_ends : (a : Answer) → Right a → a.message ≡ [] → MayEnd tool plan file a.status a.output []
   answer_ends a right silent =
-      promised_shown stated_limits stated_form tool plan NotOpened file (run_with a.status a.output []) (inl (a, right, (refl, refl, refl, inl (sym silent, refl))))
+      promised_shown stated_limits stated_form (omega arith) tool plan NotOpened file (run_with a.status a.output []) (inl (a, right, (refl, refl, refl, inl (sym silent, refl))))
 
   -- a refusal
   pub refusal_ends : (e : Refusal) → (e ≡ OutOfMemory) ⊎ Right (refused stated_limits tool (refusal_of e)) → MayEnd tool plan file (status_of (refusal_of e)) [] (message stated_limits tool (refusal_of e))
   refusal_ends e (inl m) =
-      promised_shown stated_limits stated_form tool plan NotOpened file (run_with (status_of (refusal_of e)) [] (message stated_limits tool (refusal_of e)))
+      promised_shown stated_limits stated_form (omega arith) tool plan NotOpened file (run_with (status_of (refusal_of e)) [] (message stated_limits tool (refusal_of e)))
       (inr (inl (ap (λ x. status_of (refusal_of x)) m, refl, ap (λ x. (run_with (status_of (refusal_of x)) [] []).output_stage) m, inl (ap (λ x. message stated_limits tool (refusal_of x)) m, refl))))
   refusal_ends e (inr right) =
-      promised_shown stated_limits stated_form tool plan NotOpened file (run_with (status_of (refusal_of e)) [] (message stated_limits tool (refusal_of e)))
+      promised_shown stated_limits stated_form (omega arith) tool plan NotOpened file (run_with (status_of (refusal_of e)) [] (message stated_limits tool (refusal_of e)))
       (inl (refused stated_limits tool (refusal_of e), right, (refl, refl, refl, inl (refl, refl))))
 
   -- a refusal that is handed over with an empty text

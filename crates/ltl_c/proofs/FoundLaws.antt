@@ -1,36 +1,29 @@
 -- The automaton that is asked for, and what the program says of it.
-use Rattle.std.proofs.Common.{◌≡◌, ◌∙◌, ◌⊎◌, ap, sym, subst, refl, inl, inr, Bool, false, not, ℕ, List, [], Option, Some, None}
-use Rattle.std.specs.Prelude.{Result, Ok, Err, option_map}
+use Rattle.std.proofs.Common.{◌≡◌, ◌∙◌, ◌⊎◌, ap, sym, subst, refl, inl, inr, not, ℕ, List, [], Option, Some, None}
+use Rattle.std.specs.Prelude.{Result, Ok, Err, MatchResult, option_map}
 use Rattle.ltl_spec.specs.Automata.Automaton.{Automaton}
-use Rattle.ltl_spec.specs.Automata.ClaimText.{never_text}
-use Rattle.ltl_spec.specs.Automata.GeneralizedText.{IsGeneralizedTranslation, generalized_text}
-use Rattle.ltl_spec.specs.Automata.HoaText.{hoa_text}
-use Rattle.ltl_spec.specs.Construction.Translation.{IsTranslation, Options}
 use Rattle.ltl_spec.specs.Formulas.Formula.{Reading}
 use Rattle.ltl_spec.specs.Formulas.Grammar.{IsTextOf}
-use Rattle.ltl_spec.specs.NormalForms.Normal.{Normal}
-use Rattle.ltl_spec.specs.NormalForms.NormalForm.{core}
 use Rattle.ltl_spec.specs.Semantics.Language.{AcceptsModels}
 use Rattle.ltl_spec.specs.Tools.Limits.{stated_limits}
 use Rattle.ltl_spec.specs.Tools.Outcome.{NotOpened, Text, Then, printed, refused, taken}
-use Rattle.ltl_spec.specs.Tools.Programs.{Claim, Generalized, Hoa, InputReads, KeepsRows, Layout, ReadsFormula, Translates, TranslatesGeneralized, TranslatorAnswers, TranslatorPlan}
+use Rattle.ltl_spec.specs.Tools.Programs.{InputReads, Layout, ReadsFormula, TranslatorAnswers, TranslatorPlan}
 use Rattle.ltl_spec.specs.Tools.Refusal as spec
 use Rattle.ltl_spec.specs.Tools.Refusal.{Translator, message, status_of}
 use Rattle.ltl_spec.specs.Tools.Run.{laid_out}
-use Rattle.ltl_spec.proofs.Semantics.LanguageLaws.{generalized_models, translation_models}
-use Rattle.ltl_spec.proofs.Tools.StepLaws.{never, same_ok, then_ok}
+use Rattle.ltl_spec.proofs.Tools.StepLaws.{never, same_ok, same_some, then_ok}
 use Rattle.ltl_words.specs.declared.layout.Layout as code
 use Rattle.ltl_words.specs.Plans.{layout_in}
 use Rattle.ltl_cli.specs.declared.refusal.Refusal.{Refusal}
 use Rattle.ltl_cli.specs.declared.refusal.Refusal.TheVariants.{OutOfMemory, Usage}
 use Rattle.ltl_cli.specs.Refusals.{TakesStep, refusal_of}
-use Rattle.ltl_cli.specs.Translations.{MakesAutomaton, MakesGeneralized, MakesText}
-use Rattle.ltl_cli.proofs.AutomatonLaws.{claim_made, hoa_made, sets_made}
+use Rattle.ltl_cli.specs.Translations.{MakesShown, MakesText}
+use Rattle.ltl_cli.proofs.AutomatonLaws.{shown_made, shown_models, shown_refused}
 use Rattle.ltl_c.specs.declared.text_options.TextOptions.{TextOptions}
-use Rattle.ltl_c.specs.Arrays.{FindsPlanned, Found, MakesAsked, MakesShown, found}
+use Rattle.ltl_c.specs.Arrays.{FindsPlanned, Found, MakesAsked, found}
 use Rattle.ltl_c.specs.Calls.{MayEnd, PrintsAsked, layout_numbered, plan_with, translator_asked}
 use Rattle.ltl_c.proofs.CallLaws.{answer_ends, asked_answers, refusal_ends}
-use Rattle.ltl_c.proofs.StepLaws.{Refuses, first_refused, second_refused, then_refused}
+use Rattle.ltl_c.proofs.StepLaws.{Refuses, first_refused, second_refused}
 
 -- ---- the options
 
@@ -73,36 +66,9 @@ module _ (text : List ℕ) (o : TextOptions) (at : Option code.Layout) (same : o
       pub both_found : (B : Automaton) → Makes R (Ok B) → MakesAsked text o (Ok (found R B))
       both_found B h = asked (Ok (found R B)) (inr (R, reads, inr (B, h, refl)))
 
--- ---- what it means
-
-module _ (R : Reading) (rewrite : Bool) (o : Options) where
-  abbrev rows : Result Normal spec.Refusal → Type 0
-  rows = KeepsRows stated_limits (core R.formula false rewrite)
-
-  plain_models : (B : Automaton) → MakesAutomaton R false rewrite o (Ok B) → AcceptsModels B R.formula
-  plain_models B h =
-      let (N, kept, t) = then_ok rows (λ N. Translates stated_limits N o) B h in
-      translation_models R.formula rewrite o B (subst (λ (M : Normal). IsTranslation M o B) kept.0 t.0)
-
-  -- the automaton accepts exactly the models
-  shown_models : (layout : Layout) (B : Automaton) → MakesShown layout R rewrite o (Ok B) → AcceptsModels B R.formula
-  shown_models Claim B h = plain_models B h
-  shown_models Hoa B h = plain_models B h
-  shown_models Generalized B h =
-      let (N, kept, t) = then_ok rows (λ N. TranslatesGeneralized stated_limits N o) B h in
-      generalized_models R.formula rewrite o B (subst (λ (M : Normal). IsGeneralizedTranslation M o B) kept.0 t.0)
-
-  -- its text is the one that is made
-  shown_text : (layout : Layout) (B : Automaton) → MakesShown layout R rewrite o (Ok B) → MakesText layout R rewrite o (Ok (laid_out layout B R))
-  shown_text Claim B h = claim_made R rewrite o B h
-  shown_text Hoa B h = hoa_made R rewrite o B h
-  shown_text Generalized B h = sets_made R rewrite o B h
-
-  -- and where it is refused, its text is
-  shown_refused : (layout : Layout) (x : spec.Refusal) → MakesShown layout R rewrite o (Err x) → MakesText layout R rewrite o (Err x)
-  shown_refused Claim x h = then_refused rows (λ N. Translates stated_limits N o) (λ B r. r ≡ Ok (never_text B R)) x h
-  shown_refused Hoa x h = then_refused rows (λ N. Translates stated_limits N o) (λ B r. r ≡ Ok (hoa_text B R)) x h
-  shown_refused Generalized x h = then_refused rows (λ N. TranslatesGeneralized stated_limits N o) (λ B r. r ≡ Ok (generalized_text B R)) x h
+    -- a text in this layout is one in the layout that is asked for
+    pub asked_text : (R : Reading) (B : Automaton) (t : List ℕ) → t ≡ laid_out (layout_in layout) B R → (l : Layout) → layout_numbered o.layout ≡ Some l → t ≡ laid_out l B R
+    asked_text R B t q l n = subst (λ (x : Layout). t ≡ laid_out x B R) (same_some (layout_in layout) l (path (Some layout) e ∙ n)) q
 
 -- ---- what the program says
 
@@ -130,10 +96,10 @@ module _ (text : List ℕ) (o : TextOptions) where
         read = read_text S reads;
         layout = layout;
         asked = e;
-        models = shown_models S p.rewrite p.options layout C makes;
+        models = shown_models layout S p.rewrite p.options C makes;
         shown = answer_ends Translator (translator_asked text o) NotOpened (printed (laid_out layout C S) 0)
             (subst (λ (x : Option Layout). TranslatorAnswers stated_limits (option_map (plan_with text o) x) NotOpened (printed (laid_out layout C S) 0)) (sym e)
-            (asked_answers (Some p) (Ok (laid_out layout C S)) (inr (S, reads, shown_text S p.rewrite p.options layout C makes)))) refl;
+            (asked_answers (Some p) (Ok (laid_out layout C S)) (inr (S, reads, shown_made S p.rewrite p.options layout C makes)))) refl;
       })
 
   pub is_shown : (R : Reading) (B : Automaton) → MakesAsked text o (Ok (found R B)) → IsShown R B
@@ -151,6 +117,25 @@ module _ (text : List ℕ) (o : TextOptions) where
   not_printed x None h = moved x spec.Usage h
   not_printed x (Some layout) (inl (y, h, e)) = inl (y, h, moved x y e)
   not_printed x (Some layout) (inr (R, h, k)) = inr (R, h, text_not_made (plan_with text o layout) R x k)
+
+  pub made_not_printed : (e : Refusal) → Refuses (MakesAsked text o) e → Refuses (PrintsAsked (translator_asked text o)) e
+  made_not_printed e (inl m) = inl m
+  made_not_printed e (inr h) = inr (not_printed (refusal_of e) (layout_numbered o.layout) h)
+
+  -- of what is printed
+  printed_by : (R : Reading) (B : Automaton) (t : List ℕ) (x : Option Layout) → ((l : Layout) → x ≡ Some l → t ≡ laid_out l B R) → FindsPlanned text (option_map (plan_with text o) x) (Ok (found R B)) → PrintsAsked (option_map (plan_with text o) x) (Ok t)
+  printed_by R B t None q h = absurd (never (found R B) spec.Usage (sym h))
+  printed_by R B t (Some layout) q h =
+      let p = plan_with text o layout in
+      let (S, reads, h1) = then_ok (InputReads stated_limits (Text text)) (λ R. Then (MakesShown layout R p.rewrite p.options) (λ B r. r ≡ Ok (found R B))) (found R B) h in
+      let (C, makes, h2) = then_ok (MakesShown layout S p.rewrite p.options) (λ B r. r ≡ Ok (found S B)) (found R B) h1 in
+      let same = same_ok (found R B) (found S C) h2 in
+      inr (S, reads, subst (λ (u : List ℕ). MakesText layout S p.rewrite p.options (Ok u)) (sym (q layout refl ∙ ap (λ (f : Found). laid_out layout f.automaton f.reading) same)) (shown_made S p.rewrite p.options layout C makes))
+
+  pub made_printed : (R : Reading) (B : Automaton) → MakesAsked text o (Ok (found R B)) → {F : Type 0} (view : F → List ℕ) (u : List ℕ) → ((l : Layout) → layout_numbered o.layout ≡ Some l → u ≡ laid_out l B R)
+      → (r : Result F Refusal) → MatchResult r (λ v. view v ≡ u) (λ e. e ≡ OutOfMemory) → TakesStep (PrintsAsked (translator_asked text o)) view r
+  made_printed R B h view u q (Ok v) e = printed_by R B (view v) (layout_numbered o.layout) (λ l n. e ∙ q l n) h
+  made_printed R B h view u q (Err x) e = inl e
 
   pub is_refused : (e : Refusal) → Refuses (MakesAsked text o) e → (n : ℕ) → n ≡ status_of (refusal_of e)
       → MayEnd Translator (translator_asked text o) NotOpened n [] (message stated_limits Translator (refusal_of e))

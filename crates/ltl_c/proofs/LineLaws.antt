@@ -1,7 +1,7 @@
 -- The parts of a line make the line.
 use Rattle.std.proofs.Common.{◌≡◌, ◌∙◌, ap, ℕ, List, [], ◌∷◌, ◌++◌, Option, codes, append_assoc}
 use Rattle.ltl_spec.specs.Tools.Limits.{stated_limits}
-use Rattle.ltl_spec.specs.Tools.Refusal.{Tool, Refusal, message, refusal_text, tool_name}
+use Rattle.ltl_spec.specs.Tools.Refusal.{Tool, Refusal, message, tool_name}
 use Rattle.ltl_cli.specs.Messages.{back_text, front_text, number_in, number_text}
 use Rattle.ltl_cli.proofs.MessageLaws.{line_same, put_same}
 

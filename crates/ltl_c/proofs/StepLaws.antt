@@ -1,14 +1,10 @@
 -- Steps taken by code, one after the other.
-use Rattle.std.proofs.Common.{◌≡◌, ◌∙◌, ◌⊎◌, ◌+◌, ◌<◌, ap, ap₂, sym, subst, refl, inl, inr, Bool, true, false, ℕ, suc, arith, List, [], ◌∷◌, ◌++◌, length, take, Option, Some, None, append_assoc, append-nil}
+use Rattle.std.proofs.Common.{◌≡◌, ◌∙◌, ◌⊎◌, ◌+◌, ◌<◌, ap, ap₂, sym, refl, inl, inr, Bool, true, false, ℕ, suc, arith, List, [], ◌∷◌, ◌++◌, length, take, append_assoc, append-nil}
 use Rattle.std.proofs.lemmas.Grind.{flat_map-append}
-use Rattle.std.specs.Prelude.{Result, Ok, Err, MatchResult, option_map, slice_index_or}
+use Rattle.std.specs.Prelude.{Result, Ok, Err, slice_index_or}
 use Rattle.std.specs.Bool.{Decides}
 use Rattle.ltl_spec.specs.Automata.Automaton.{Automaton}
-use Rattle.ltl_spec.specs.Automata.ClaimText.{never_text}
-use Rattle.ltl_spec.specs.Automata.HoaText.{hoa_text}
-use Rattle.ltl_spec.specs.Automata.GeneralizedText.{generalized_text}
 use Rattle.ltl_spec.specs.Checking.Check.{Verdict, IsViolation}
-use Rattle.ltl_spec.specs.Construction.Translation.{Options}
 use Rattle.ltl_spec.specs.Formulas.Formula.{Reading}
 use Rattle.ltl_spec.specs.Hoa.HoaReading.{MarkedAutomaton, stated_form}
 use Rattle.ltl_spec.specs.NormalForms.Normal.{Normal}
@@ -18,33 +14,18 @@ use Rattle.ltl_spec.specs.Semantics.Word.{Lasso}
 use Rattle.ltl_spec.specs.Tools.Limits.{stated_limits}
 use Rattle.ltl_spec.specs.Tools.Refusal as spec
 use Rattle.ltl_spec.specs.Tools.Outcome.{Text, Ended, NotOpened, Then, taken}
-use Rattle.ltl_spec.specs.Tools.Programs.{EvaluatorFinds, Evaluates, InputReads, Judges, KeepsRows, Layout, Claim, Hoa, Generalized, Prints, ReadsHoa, ReadsWord, Translates, TranslatesGeneralized, TranslatorPrints, plain_options}
+use Rattle.ltl_spec.specs.Tools.Programs.{EvaluatorFinds, Evaluates, InputReads, Judges, KeepsRows, ReadsHoa, ReadsWord, Translates, plain_options}
 use Rattle.ltl_spec.proofs.Tools.StepLaws.{never}
 use Rattle.ltl_syntax.specs.FormulaView.{FormulaView, reading_of}
-use Rattle.ltl_syntax.specs.ReadText as read_text
-use Rattle.ltl_syntax.specs.declared.fault.ReadFault.{ReadFault}
-use Rattle.ltl_syntax.specs.declared.fault.ReadFault.TheVariants as read
 use Rattle.ltl_word.specs.ReadText as word_text
 use Rattle.std.proofs.Math.Seq.{take-suc}
 use Rattle.ltl_word.specs.declared.fault.WordFault.{WordFault}
 use Rattle.ltl_word.specs.declared.fault.WordFault.TheVariants as word
-use Rattle.ltl_hoa.specs.declared.fault.HoaFault.{HoaFault}
-use Rattle.ltl_hoa.specs.declared.fault.HoaFault.TheVariants as hoa
-use Rattle.ltl_hoa.specs.Reading.{AnswersHeld, LeavesStage}
-use Rattle.ltl_spec.specs.Tools.Stage as stages
-use Rattle.ltl_streams.specs.StageView.{stage_of}
-use Rattle.ltl_streams.specs.declared.stage.Stage.{Stage}
-use Rattle.ltl_streams.specs.declared.stage.Stage.TheVariants as stage
-use Rattle.ltl_words.specs.declared.layout.Layout as code
-use Rattle.ltl_words.specs.Plans.{layout_in}
 use Rattle.ltl_cli.specs.declared.refusal.Refusal.{Refusal}
-use Rattle.ltl_cli.specs.declared.refusal.Refusal.TheVariants.{OutOfMemory, Usage}
+use Rattle.ltl_cli.specs.declared.refusal.Refusal.TheVariants.{OutOfMemory}
 use Rattle.ltl_cli.specs.Checks.{Negates, ReadsAutomaton}
-use Rattle.ltl_cli.specs.Refusals.{TakesStep, of_hoa, of_read, of_word, refusal_of}
-use Rattle.ltl_cli.specs.Translations.{MakesAutomaton, MakesGeneralized, MakesText}
-use Rattle.ltl_cli.proofs.AutomatonLaws.{claim_made, hoa_made, sets_made}
-use Rattle.ltl_c.specs.declared.text_options.TextOptions.{TextOptions}
-use Rattle.ltl_c.specs.Calls.{PrintsAsked, evaluator_asked, layout_numbered, plan_with, translator_asked}
+use Rattle.ltl_cli.specs.Refusals.{TakesStep, of_word, refusal_of}
+use Rattle.ltl_c.specs.Calls.{evaluator_asked}
 use Rattle.ltl_c.specs.Names.{names_text}
 use Rattle.ltl_c.specs.Verdicts.{FindsAsked}
 
@@ -94,65 +75,6 @@ module _ {A B C : Type 0} (First : Result A spec.Refusal → Type 0) (Second : A
   third_step view b h (Ok f) k = then_goes b (Ok (view f)) h k
   third_step view b h (Err e) k = third_refused b h e k
 
--- ---- texts in memory
-
-pub formula_refused : (text : List ℕ) (e : ReadFault) → read_text.IsRefusedFor text e → Refuses (InputReads stated_limits (Text text)) (of_read e)
-formula_refused text read.TooLong h = inr (inr (text, refl, h))
-formula_refused text (read.AtByte place kind) h = inr (inr (text, refl, h))
-formula_refused text read.TooManyPropositions h = inr (inr (text, refl, h))
-formula_refused text read.OutOfMemory h = inl refl
-
-pub formula_reads : (text : List ℕ) (f : FormulaView) → read_text.IsReadAs text f → InputReads stated_limits (Text text) (Ok (reading_of f))
-formula_reads text f h = inr (text, refl, h)
-
--- ---- texts of automata
-
-module _ (R : Reading) (rewrite : Bool) (o : Options) where
-  abbrev buchi : Normal → Result Automaton spec.Refusal → Type 0
-  buchi N = Translates stated_limits N o
-
-  abbrev general : Normal → Result Automaton spec.Refusal → Type 0
-  general N = TranslatesGeneralized stated_limits N o
-
-  abbrev keeps : Result Normal spec.Refusal → Type 0
-  keeps = KeepsRows stated_limits (core R.formula false rewrite)
-
-  pub claim_refused : (e : Refusal) → Refuses (MakesAutomaton R false rewrite o) e → Refuses (MakesText Claim R rewrite o) e
-  claim_refused = both_refused keeps buchi (λ B r. r ≡ Ok (never_text B R))
-
-  pub hoa_refused : (e : Refusal) → Refuses (MakesAutomaton R false rewrite o) e → Refuses (MakesText Hoa R rewrite o) e
-  hoa_refused = both_refused keeps buchi (λ B r. r ≡ Ok (hoa_text B R))
-
-  pub sets_refused : (e : Refusal) → Refuses (MakesGeneralized R rewrite o) e → Refuses (MakesText Generalized R rewrite o) e
-  sets_refused = both_refused keeps general (λ B r. r ≡ Ok (generalized_text B R))
-
-  module _ {F : Type 0} (items : F → List ℕ) (B : Automaton) (r : Result F Refusal) where
-    text_went : (layout : Layout) (text : List ℕ) → MakesText layout R rewrite o (Ok text) → (r : Result F Refusal) → MatchResult r (λ v. items v ≡ text) (λ e. e ≡ OutOfMemory) → TakesStep (MakesText layout R rewrite o) items r
-    text_went layout text h (Ok v) q = subst (λ (t : List ℕ). MakesText layout R rewrite o (Ok t)) (sym q) h
-    text_went layout text h (Err e) q = inl q
-
-    pub claim_went : MakesAutomaton R false rewrite o (Ok B) → MatchResult r (λ v. items v ≡ never_text B R) (λ e. e ≡ OutOfMemory) → TakesStep (MakesText Claim R rewrite o) items r
-    claim_went h = text_went Claim (never_text B R) (claim_made R rewrite o B h) r
-
-    pub hoa_went : MakesAutomaton R false rewrite o (Ok B) → MatchResult r (λ v. items v ≡ hoa_text B R) (λ e. e ≡ OutOfMemory) → TakesStep (MakesText Hoa R rewrite o) items r
-    hoa_went h = text_went Hoa (hoa_text B R) (hoa_made R rewrite o B h) r
-
-    pub sets_went : MakesGeneralized R rewrite o (Ok B) → MatchResult r (λ v. items v ≡ generalized_text B R) (λ e. e ≡ OutOfMemory) → TakesStep (MakesText Generalized R rewrite o) items r
-    sets_went h = text_went Generalized (generalized_text B R) (sets_made R rewrite o B h) r
-
--- ---- what options ask for
-
-module _ (text : List ℕ) (o : TextOptions) (found : Option code.Layout) (same : option_map layout_in found ≡ layout_numbered o.layout) where
-  path : (x : Option code.Layout) → found ≡ x → option_map layout_in x ≡ layout_numbered o.layout
-  path x e = subst (λ (y : Option code.Layout). option_map layout_in y ≡ layout_numbered o.layout) e same
-
-  pub nothing_printed : found ≡ None → Refuses (PrintsAsked (translator_asked text o)) Usage
-  nothing_printed e = inr (subst (λ (x : Option Layout). PrintsAsked (option_map (plan_with text o) x) (Err spec.Usage)) (path None e) refl)
-
-  module _ (layout : code.Layout) (e : found ≡ Some layout) where
-    pub prints : {F : Type 0} (view : F → List ℕ) (r : Result F Refusal) → TakesStep (TranslatorPrints stated_limits (plan_with text o (layout_in layout)) NotOpened) view r → TakesStep (PrintsAsked (translator_asked text o)) view r
-    prints view r h = subst (λ (x : Option Layout). TakesStep (PrintsAsked (option_map (plan_with text o) x)) view r) (path (Some layout) e) h
-
 -- ---- words
 
 pub word_refused : (names : List (List ℕ)) (text : List ℕ) (e : WordFault) → word_text.IsRefusedFor names text e → Refuses (ReadsWord stated_limits names text) (of_word e)
@@ -179,23 +101,11 @@ module _ (text word : List ℕ) (f : FormulaView) (reads : InputReads stated_lim
 
 -- ---- automata in memory
 
-pub automaton_reads : (text : List ℕ) (A : MarkedAutomaton) → AnswersHeld (Some text) (Ok A) → ReadsAutomaton (Ended text) (Ok A)
-automaton_reads text A (t, s, h) = inr (t, ap Ok s, h)
-
-pub automaton_refused : (text : List ℕ) (f : HoaFault) → AnswersHeld (Some text) (Err f) → (f ≡ hoa.CannotRead → ⊥) → Refuses (ReadsAutomaton (Ended text)) (of_hoa f)
-automaton_refused text (hoa.AtLine line kind) (t, s, h) n = inr (inr (t, ap Ok s, h))
-automaton_refused text hoa.CannotRead a n = absurd (n refl)
-automaton_refused text hoa.OutOfMemory a n = inl refl
-
-pub broken_only : (s : Stage) → stage_of s ≡ stages.Broken → s ≡ stage.Broken
-broken_only stage.Open e = cc
-broken_only stage.Closed e = cc
-broken_only stage.Broken e = refl
-broken_only stage.Misused e = cc
-
--- of a source that no read breaks
-pub never_broken : (f : HoaFault) (s : Stage) → LeavesStage (Err f) (stage_of s) → (s ≡ stage.Broken → ⊥) → f ≡ hoa.CannotRead → ⊥
-never_broken f s l n e = n (broken_only s (subst (λ (x : HoaFault). LeavesStage (Err x) (stage_of s)) e l))
+-- a text reads as an automaton, and so does an input that is this text
+pub automaton_step : (text : List ℕ) (r : Result MarkedAutomaton Refusal) → TakesStep (ReadsHoa stated_limits stated_form text) (λ A. A) r → TakesStep (ReadsAutomaton (Ended text)) (λ A. A) r
+automaton_step text (Ok A) h = inr (text, refl, h)
+automaton_step text (Err e) (inl m) = inl m
+automaton_step text (Err e) (inr h) = inr (inr (text, refl, h))
 
 -- ---- verdicts
 

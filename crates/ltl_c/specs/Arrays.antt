@@ -3,27 +3,24 @@ use Rattle.std.specs.Prelude.{◌≡◌, ◌⊎◌, ℕ, ◌+◌, ◌≤◌, Boo
 use Rattle.std.specs.List.{flat_map}
 use Rattle.std.specs.Option.{option_map_or}
 use Rattle.ltl_spec.specs.Automata.Automaton.{Automaton, Edge, State}
-use Rattle.ltl_spec.specs.Construction.Translation.{Options}
 use Rattle.ltl_spec.specs.Formulas.Formula.{Reading}
 use Rattle.ltl_spec.specs.Formulas.Tokens.{Item, Token, NameWord, items, same_name}
 use Rattle.ltl_spec.specs.Semantics.Language.{AcceptsModels}
 use Rattle.ltl_spec.specs.Semantics.Word.{Name}
 use Rattle.ltl_spec.specs.Tools.Limits.{stated_limits}
 use Rattle.ltl_spec.specs.Tools.Outcome.{NotOpened, Text, Then}
-use Rattle.ltl_spec.specs.Tools.Programs.{InputReads, Layout, Claim, Hoa, Generalized, TranslatorPlan}
+use Rattle.ltl_spec.specs.Tools.Programs.{InputReads, Layout, TranslatorPlan}
 use Rattle.ltl_spec.specs.Tools.Refusal.{Refusal, Translator, Usage, message, status_of}
 use Rattle.ltl_spec.specs.Tools.Run.{laid_out}
 use Rattle.ltl_sets.specs.Words.{forbidden_of, letter_of, words_with}
-use Rattle.ltl_cli.specs.Translations.{MakesAutomaton, MakesGeneralized}
+use Rattle.ltl_cli.specs.Translations.{MakesShown}
 use Rattle.ltl_c.specs.declared.refusal_code.RefusalCode.{RefusalCode}
 use Rattle.ltl_c.specs.declared.rows.Counts.{Counts}
 use Rattle.ltl_c.specs.declared.rows.EdgeRow.{EdgeRow}
 use Rattle.ltl_c.specs.declared.rows.NameRow.{NameRow}
 use Rattle.ltl_c.specs.declared.rows.StateRow.{StateRow}
-use Rattle.ltl_c.specs.declared.shown.Shown.{Shown}
-use Rattle.ltl_c.specs.declared.shown.Shown.TheVariants as shown
 use Rattle.ltl_c.specs.declared.text_options.TextOptions.{TextOptions}
-use Rattle.ltl_c.specs.Calls.{MayEnd, layout_numbered, plan_with, too_short, translator_asked}
+use Rattle.ltl_c.specs.Calls.{MayEnd, layout_numbered, too_short, translator_asked}
 use Rattle.ltl_c.specs.Codes.{code_for}
 
 -- ---- rows
@@ -105,17 +102,6 @@ abbrev pub no_rows : RefusalCode → Counts
 no_rows code = counted (arrays [] [] []) 0 code
 
 -- ---- the automaton of the options
-
--- the automaton that the code has
-abbrev pub automaton_in : {A : Type 0} → Shown A → Automaton
-automaton_in (shown.Buchi B) = B
-automaton_in (shown.Generalized G) = G
-
--- the automaton that this layout prints
-abbrev pub MakesShown : Layout → Reading → Bool → Options → Result Automaton Refusal → Type 0
-MakesShown Claim R rewrite o = MakesAutomaton R false rewrite o
-MakesShown Hoa R rewrite o = MakesAutomaton R false rewrite o
-MakesShown Generalized R rewrite o = MakesGeneralized R rewrite o
 
 -- a formula and its automaton
 pub record Found : Type 0 where

@@ -1,9 +1,11 @@
 -- The encoding of refusals as numbers for C.
-use Rattle.std.specs.Prelude.{ℕ, List, [], ◌∷◌, Option, Some, None, option_map, slice_get, slice_index_or}
+use Rattle.std.specs.Prelude.{ℕ, List, [], ◌∷◌, Option, Some, None, option_map, position, slice_get, slice_index_or}
+use Rattle.std.specs.Option.{unwrap_or}
+use Rattle.std.specs.Str.{bytes_eq}
 use Rattle.ltl_spec.specs.Formulas.Fault.{FaultKind, UnexpectedByte, ExpectedOperand, ExpectedOperatorOrEnd, ExpectedCloseOrOperator}
-use Rattle.ltl_spec.specs.Hoa.HoaFaultKind.{HoaFaultKind, NotHoaVersion1, BadToken, ItemTwice, ItemMissing, UnknownItem, Unsupported, NumberOutOfRange, BadPropositionList, StateDefinedTwice, TextAfterEnd, LimitPassed}
+use Rattle.ltl_spec.specs.Hoa.HoaFaultKind.{HoaFaultKind, NotHoaVersion1, BadToken, ItemTwice, ItemMissing, UnknownItem, Unsupported, NumberOutOfRange, BadPropositionList, StateDefinedTwice, TextAfterEnd, LimitPassed, hoa_fault_text}
 use Rattle.ltl_spec.specs.Tools.Limits.{stated_limits}
-use Rattle.ltl_spec.specs.Tools.Refusal.{Tool, Translator, Checker, Evaluator, message, Refusal, Usage, CannotOpen, CannotRead, CannotWrite, OutOfMemory, LongFormula, TooManyPropositions, TooManyRows, TooManyElementaryRows, LargeAutomaton, LongWord, LargeProduct, BadFormula, BadWord, BadAutomaton}
+use Rattle.ltl_spec.specs.Tools.Refusal.{Tool, Translator, Checker, Evaluator, message, Refusal, Usage, CannotOpen, CannotRead, CannotWrite, OutOfMemory, LongFormula, TooManyPropositions, TooManyRows, TooManyElementaryRows, LargeAutomaton, LongWord, LargeProduct, BadFormula, BadWord, BadAutomaton, fault_text}
 use Rattle.ltl_c.specs.declared.refusal_code.RefusalCode.{RefusalCode}
 
 -- the faults of a formula and of an automaton, by number
@@ -25,26 +27,13 @@ refusals fault place = None ∷ Some Usage ∷ Some OutOfMemory ∷ Some LongFor
 abbrev pub refusal_in : RefusalCode → Option Refusal
 refusal_in c = slice_index_or (refusals c.fault c.place) c.kind None
 
--- the number of a fault in its list
+-- the number of a fault: its place in the list, by its text
 
 abbrev pub formula_fault_number : FaultKind → ℕ
-formula_fault_number UnexpectedByte = 0
-formula_fault_number ExpectedOperand = 1
-formula_fault_number ExpectedOperatorOrEnd = 2
-formula_fault_number ExpectedCloseOrOperator = 3
+formula_fault_number kind = unwrap_or (position (λ k. bytes_eq (fault_text k) (fault_text kind)) formula_faults) 0
 
 abbrev pub automaton_fault_number : HoaFaultKind → ℕ
-automaton_fault_number NotHoaVersion1 = 0
-automaton_fault_number BadToken = 1
-automaton_fault_number ItemTwice = 2
-automaton_fault_number ItemMissing = 3
-automaton_fault_number UnknownItem = 4
-automaton_fault_number Unsupported = 5
-automaton_fault_number NumberOutOfRange = 6
-automaton_fault_number BadPropositionList = 7
-automaton_fault_number StateDefinedTwice = 8
-automaton_fault_number TextAfterEnd = 9
-automaton_fault_number LimitPassed = 10
+automaton_fault_number kind = unwrap_or (position (λ k. bytes_eq (hoa_fault_text k) (hoa_fault_text kind)) automaton_faults) 0
 
 abbrev pub code_with : ℕ → ℕ → ℕ → RefusalCode
 code_with kind fault place = record { kind = kind; fault = fault; place = place }

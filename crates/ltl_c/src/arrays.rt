@@ -3,17 +3,17 @@
 ghost use Rattle.std.specs.Prelude.{◌≡◌, ◌+◌, ◌≤◌, length, map};
 ghost use Rattle.ltl_automaton.specs.CodedEdges.{edges_in};
 ghost use Rattle.ltl_automaton.specs.EdgeView.{edge_of};
-ghost use Rattle.ltl_c.specs.Arrays.{automaton_in, edge_row, edge_rows, put_at, put_over, state_rows};
+ghost use Rattle.ltl_cli.specs.Translations.{shown_in};
+ghost use Rattle.ltl_c.specs.Arrays.{edge_row, edge_rows, put_at, put_over, state_rows};
 
 use crate::rows::{EdgeRow, StateRow};
-use crate::set_words::words_of;
-use crate::shown::Shown;
 use ltl_automaton::{Edge, Edges};
+use ltl_cli::Shown;
 use std::alloc::Allocator;
 
 /// The number of edges of an automaton.
 pub(crate) fn edge_count<A: Allocator>(automaton: &Shown<'_, A>) -> usize
-    ensures { result ≡ length (edge_rows (automaton_in automaton.now).states) }
+    ensures { result ≡ length (edge_rows (shown_in automaton.now).states) }
 {
     automaton.invariant();
     let mut count = 0;
@@ -28,9 +28,9 @@ fn edge_row(edge: &Edge) -> EdgeRow
     ensures { result ≡ edge_row (edge_of edge.now) }
 {
     EdgeRow {
-        asked_true: words_of(&edge.cube.letter()),
-        asked_false: words_of(&edge.cube.forbidden()),
-        sets: words_of(&edge.marks),
+        asked_true: edge.cube.letter().words(),
+        asked_false: edge.cube.forbidden().words(),
+        sets: edge.marks.words(),
         target: edge.target,
     }
 }
@@ -54,10 +54,10 @@ pub(crate) fn put_states<A: Allocator>(
     states: &mut [StateRow],
     edges: &mut [EdgeRow],
 )
-    requires states_fit { length (automaton_in automaton.now).states ≤ length states.old }
-    requires edges_fit { length (edge_rows (automaton_in automaton.now).states) ≤ length edges.old }
-    ensures states { states.new ≡ put_over (state_rows (automaton_in automaton.now).states) states.old }
-    ensures edges { edges.new ≡ put_over (edge_rows (automaton_in automaton.now).states) edges.old }
+    requires states_fit { length (shown_in automaton.now).states ≤ length states.old }
+    requires edges_fit { length (edge_rows (shown_in automaton.now).states) ≤ length edges.old }
+    ensures states { states.new ≡ put_over (state_rows (shown_in automaton.now).states) states.old }
+    ensures edges { edges.new ≡ put_over (edge_rows (shown_in automaton.now).states) edges.old }
 {
     let mut at = 0;
     for k in 0..automaton.len() {

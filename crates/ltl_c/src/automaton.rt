@@ -3,61 +3,31 @@
 ghost use Rattle.std.specs.Prelude.{◌≡◌, ℕ, List, None, Some};
 ghost use Rattle.std.specs.Bool.{Decides};
 ghost use Rattle.ltl_syntax.specs.FormulaView.{reading_of};
-ghost use Rattle.ltl_cli.specs.Refusals.{TakesStep, refusal_of};
-ghost use Rattle.ltl_c.specs.Arrays.{Fit, HandsAutomaton, MakesAsked, arrays, automaton_in, counted, found, no_rows, rows_of};
+ghost use Rattle.ltl_cli.specs.Refusals.{refusal_of};
+ghost use Rattle.ltl_cli.specs.Translations.{automaton_in};
+ghost use Rattle.ltl_c.specs.Arrays.{Fit, HandsAutomaton, arrays, counted, no_rows, rows_of};
 ghost use Rattle.ltl_c.specs.Codes.{code_for};
 
 use crate::arrays::{edge_count, put_states};
 use crate::buffer::TOO_SHORT;
+use crate::made::{Made, made_of};
 use crate::places::put_names;
 use crate::refusal_code::{code_of, no_refusal};
 use crate::rows::{Counts, EdgeRow, NameRow, StateRow};
-use crate::shown::{Shown, shown_of};
-use crate::steps::formula_of;
-use crate::text_options::{TextOptions, layout_at};
-use ltl_buchi::Options;
+use crate::text_options::TextOptions;
 use ltl_cli::Refusal;
-use ltl_syntax::Formula;
 use std::alloc::{Allocator, Global};
-
-/// A formula and its automaton.
-#[derive(Drop)]
-struct Made<'a, A: Allocator> {
-    formula: Formula<'a, A>,
-    automaton: Shown<'a, A>,
-}
-
-/// Reads the formula and makes the automaton that the options name.
-#[tactic(auto, using(crate::proofs::FoundLaws::nothing_asked, crate::proofs::FoundLaws::formula_not_found, crate::proofs::FoundLaws::automaton_not_found))]
-fn made_of<'a, A: Allocator>(
-    alloc: &'a A,
-    text: &[u8],
-    options: &TextOptions,
-) -> Result<Made<'a, A>, Refusal>
-    ensures { TakesStep (MakesAsked text.now options.now) (λ m. found (reading_of m.formula) (automaton_in m.automaton)) result }
-{
-    let Some(layout) = layout_at(options.layout) else {
-        return Err(Refusal::Usage);
-    };
-    let formula = formula_of(alloc, text)?;
-    let kept = Options {
-        keep_implied: options.keep_implied,
-        keep_equal: options.keep_equal,
-    };
-    let automaton = shown_of(alloc, &formula, layout, !options.no_rewrite, &kept)?;
-    Ok(Made { formula, automaton })
-}
 
 /// The number of rows of each kind.
 fn counts_of<A: Allocator>(made: &Made<'_, A>) -> Counts
-    ensures { (text : List ℕ) → let B = automaton_in made.now.automaton in
+    ensures { (text : List ℕ) → let B = automaton_in made.now.printable in
         result ≡ counted (rows_of text (reading_of made.now.formula) B) B.sets (code_for None) }
 {
     Counts {
-        states: made.automaton.len(),
-        edges: edge_count(&made.automaton),
+        states: made.printable.automaton.len(),
+        edges: edge_count(&made.printable.automaton),
         names: made.formula.name_count(),
-        sets: made.automaton.sets(),
+        sets: made.printable.automaton.sets(),
         refusal: no_refusal(),
     }
 }
@@ -104,7 +74,7 @@ pub extern "C" fn ltl2ba_automaton(
             if !fits(counts, states, edges, names) {
                 return TOO_SHORT;
             }
-            put_states(&made.automaton, states, edges);
+            put_states(&made.printable.automaton, states, edges);
             put_names(formula, &made.formula, names);
             0
         }

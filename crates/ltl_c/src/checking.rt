@@ -7,19 +7,17 @@ ghost use Rattle.ltl_spec.specs.Tools.Outcome as spec;
 ghost use Rattle.ltl_spec.specs.Tools.Refusal.{Checker};
 ghost use Rattle.ltl_syntax.specs.FormulaView.{reading_of};
 ghost use Rattle.ltl_check.specs.VerdictView.{verdict_of};
-ghost use Rattle.ltl_cli.specs.Checks.{JudgesFormula, ReadsAutomaton};
+ghost use Rattle.ltl_cli.specs.Checks.{JudgesFormula};
 ghost use Rattle.ltl_cli.specs.Refusals.{TakesStep};
 ghost use Rattle.ltl_c.specs.Calls.{HandsOver, checker_asked, verdict_lines};
 ghost use Rattle.ltl_c.specs.Verdicts.{FindsAsked, SaysVerdict, is_contained, said, verdict_status, word_text};
 
 use crate::buffer::deliver;
 use crate::refusal_code::{RefusalCode, code_of, no_refusal};
-use crate::steps::{automaton_of, formula_of};
-use crate::text_source::TextSource;
 use ltl_buchi::{Ba, Options};
 use ltl_check::{Outcome, Verdict, check};
-use ltl_cli::Refusal;
-use ltl_hoa::{Marked, hoa_read_from};
+use ltl_cli::{Refusal, automaton_of, formula_of, marked_of};
+use ltl_hoa::Marked;
 use ltl_syntax::Formula;
 use std::alloc::{Allocator, Global};
 
@@ -38,16 +36,6 @@ pub struct Found {
 struct Saying<'a, A: Allocator> {
     contained: bool,
     text: Vec<u8, &'a A>,
-}
-
-/// Reads an automaton.
-#[tactic(auto, using(crate::proofs::StepLaws::automaton_reads))]
-fn read_automaton<'a, A: Allocator>(alloc: &'a A, text: &[u8]) -> Result<Marked<'a, A>, Refusal>
-    ensures { TakesStep (ReadsAutomaton (spec.Ended text.now)) (λ A. A) result }
-{
-    let mut source = TextSource::new(text);
-    let automaton = hoa_read_from(alloc, &mut source)?;
-    Ok(automaton)
 }
 
 /// Searches for a word that the automaton and that of the formula's violations both accept.
@@ -79,7 +67,7 @@ fn verdict_on<'a, A: Allocator>(
         keep_equal: false,
     };
     let violations = automaton_of(alloc, &formula, true, true, &options)?;
-    let automaton = read_automaton(alloc, automaton)?;
+    let automaton = marked_of(alloc, automaton)?;
     judged(alloc, &automaton, &violations, &formula)
 }
 

@@ -9,8 +9,7 @@ ghost use Rattle.ltl_cli.specs.Refusals.{TakesStep};
 ghost use Rattle.ltl_c.specs.Calls.{Ends, evaluator_asked, truth_line};
 
 use crate::refusal_code::{RefusalCode, code_of, no_refusal};
-use crate::steps::formula_of;
-use ltl_cli::Refusal;
+use ltl_cli::{Refusal, formula_of};
 use ltl_word::{Lasso, holds};
 use std::alloc::{Allocator, Global};
 

@@ -4,7 +4,7 @@
 //! show for these texts. `ltl2ba_automaton` gives the automaton that `ltl2ba_text` prints, in arrays. `ltl2ba_names` gives the names of its propositions, and
 //! `ltl2ba_message` the line that a program prints for a refusal. No call keeps anything, prints anything, or holds memory after it returns.
 //!
-//! The calls are in `text`, `checking`, `evaluation`, `automaton`, `names` and `message`. They share the reading and translation of formulas (`steps`). A
+//! The calls are in `text`, `checking`, `evaluation`, `automaton`, `names` and `message`. A
 //! text is copied to the caller's buffer (`buffer`), an automaton to the caller's arrays (`arrays`, `places`). A `Refusal` is returned as numbers
 //! (`refusal_code`).
 #![tactic(auto)]
@@ -14,17 +14,13 @@ pub mod automaton;
 mod buffer;
 pub mod checking;
 pub mod evaluation;
-mod line;
+mod made;
 pub mod message;
 pub mod names;
 mod places;
 pub mod refusal_code;
 pub mod rows;
-mod set_words;
-mod shown;
-mod steps;
 #[cfg(test)]
 mod tests;
 pub mod text;
 pub mod text_options;
-mod text_source;

@@ -6,8 +6,7 @@ ghost use Rattle.ltl_c.specs.Names.{HandsNames, NamesOf, names_text};
 
 use crate::buffer::deliver;
 use crate::refusal_code::{RefusalCode, code_of, no_refusal};
-use crate::steps::formula_of;
-use ltl_cli::Refusal;
+use ltl_cli::{Refusal, formula_of};
 use ltl_syntax::Formula;
 use std::alloc::{AllocError, Allocator, Global};
 

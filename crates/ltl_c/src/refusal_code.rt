@@ -22,35 +22,41 @@ pub struct RefusalCode {
     pub place: usize,
 }
 
-/// The number of a syntax error in a formula.
+/// The errors of a formula by number.
+const FORMULA_FAULTS: [FaultKind; 4] = [
+    FaultKind::UnexpectedByte,
+    FaultKind::ExpectedOperand,
+    FaultKind::ExpectedOperatorOrEnd,
+    FaultKind::ExpectedCloseOrOperator,
+];
+
+/// The errors of an automaton by number.
+const AUTOMATON_FAULTS: [HoaFaultKind; 11] = [
+    HoaFaultKind::NotHoaVersion1,
+    HoaFaultKind::BadToken,
+    HoaFaultKind::ItemTwice,
+    HoaFaultKind::ItemMissing,
+    HoaFaultKind::UnknownItem,
+    HoaFaultKind::Unsupported,
+    HoaFaultKind::NumberOutOfRange,
+    HoaFaultKind::BadPropositionList,
+    HoaFaultKind::StateDefinedTwice,
+    HoaFaultKind::TextAfterEnd,
+    HoaFaultKind::LimitPassed,
+];
+
+/// The number of a syntax error in a formula: its index in `FORMULA_FAULTS`.
 fn formula_fault(kind: FaultKind) -> u32
     ensures { result ≡ formula_fault_number (kind_of kind) }
 {
-    match kind {
-        FaultKind::UnexpectedByte => 0,
-        FaultKind::ExpectedOperand => 1,
-        FaultKind::ExpectedOperatorOrEnd => 2,
-        FaultKind::ExpectedCloseOrOperator => 3,
-    }
+    kind as u32
 }
 
-/// The number of an error in an automaton.
+/// The number of an error in an automaton: its index in `AUTOMATON_FAULTS`.
 fn automaton_fault(kind: HoaFaultKind) -> u32
     ensures { result ≡ automaton_fault_number (hoa.kind_of kind) }
 {
-    match kind {
-        HoaFaultKind::NotHoaVersion1 => 0,
-        HoaFaultKind::BadToken => 1,
-        HoaFaultKind::ItemTwice => 2,
-        HoaFaultKind::ItemMissing => 3,
-        HoaFaultKind::UnknownItem => 4,
-        HoaFaultKind::Unsupported => 5,
-        HoaFaultKind::NumberOutOfRange => 6,
-        HoaFaultKind::BadPropositionList => 7,
-        HoaFaultKind::StateDefinedTwice => 8,
-        HoaFaultKind::TextAfterEnd => 9,
-        HoaFaultKind::LimitPassed => 10,
-    }
+    kind as u32
 }
 
 /// The code with this number, without an error and a place.
@@ -110,33 +116,14 @@ pub(crate) fn code_of(refusal: Refusal) -> RefusalCode
 fn formula_fault_at(number: u32) -> Option<FaultKind>
     ensures { option_map kind_of result ≡ slice_get formula_faults number }
 {
-    match number {
-        0 => Some(FaultKind::UnexpectedByte),
-        1 => Some(FaultKind::ExpectedOperand),
-        2 => Some(FaultKind::ExpectedOperatorOrEnd),
-        3 => Some(FaultKind::ExpectedCloseOrOperator),
-        _ => None,
-    }
+    FORMULA_FAULTS.get(number as usize).copied()
 }
 
 /// The error of an automaton with this number.
 fn automaton_fault_at(number: u32) -> Option<HoaFaultKind>
     ensures { option_map hoa.kind_of result ≡ slice_get automaton_faults number }
 {
-    match number {
-        0 => Some(HoaFaultKind::NotHoaVersion1),
-        1 => Some(HoaFaultKind::BadToken),
-        2 => Some(HoaFaultKind::ItemTwice),
-        3 => Some(HoaFaultKind::ItemMissing),
-        4 => Some(HoaFaultKind::UnknownItem),
-        5 => Some(HoaFaultKind::Unsupported),
-        6 => Some(HoaFaultKind::NumberOutOfRange),
-        7 => Some(HoaFaultKind::BadPropositionList),
-        8 => Some(HoaFaultKind::StateDefinedTwice),
-        9 => Some(HoaFaultKind::TextAfterEnd),
-        10 => Some(HoaFaultKind::LimitPassed),
-        _ => None,
-    }
+    AUTOMATON_FAULTS.get(number as usize).copied()
 }
 
 /// The refusal with this code, if there is one.

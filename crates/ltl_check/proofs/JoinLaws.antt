@@ -76,12 +76,6 @@ rest_below n ls rest x e h l k = h l (subst (λ (m : List made.Literal). Has (cu
 pub edge_named : (n : ℕ) (B : Automaton) (t : ℕ) (es : List Edge) (m : ℕ) (e : Edge) → HasNamesBelow n B → es ≡ (state_at B t).edges → slice_get es m ≡ Some e → (l : Literal) → Has e.cube l → l.proposition < n
 edge_named n B t es m e h q i l k = let w = index_there es m e e i in h t e (subst (λ (xs : List Edge). Has xs e) q (subst (Has es) w.1 (Has-at es m e w.0))) l k
 
--- the edges at which a look is taken
-pub first_seen : {X : Type 0} (view : X → Edge) (es : List X) (all : List Edge) (i j : ℕ) (e : X) → map view es ≡ all → i ≡ j → j < length all → e ≡ slice_index_or es i e → slice_index_or all j no_edge ≡ view e
-first_seen view es all i j e q s l h =
-    let within : i < length es = subst (λ n. n < length es) (sym s) (subst (λ n. j < n) (sym (ap length q) ∙ map_length view es) l) in
-    (λ x. slice_index_or (sym q x) (sym s x) no_edge) ∙ at_map view es i e no_edge within ∙ ap view (sym h)
-
 pub second_seen : (es all : List Edge) (i j : ℕ) (f : Edge) → es ≡ all → i ≡ j → slice_get es i ≡ Some f → slice_index_or all j no_edge ≡ f
 second_seen es all i j f q s h = (λ x. slice_index_or (sym q x) (sym s x) no_edge) ∙ (index_there es i f no_edge h).1
 
@@ -93,3 +87,15 @@ step_found sets accepting number e f r marks letter c j s m l =
 
 pub step_missed : (sets : ℕ) (accepting : Bool) (number : ℕ → ℕ) (e f : Edge) (r : Option Cube) → r ≡ join_cubes e.cube (renamed_cube number f.cube) → r ≡ None → None ≡ joined_step sets accepting number e f
 step_missed sets accepting number e f r j s = ap (option_map (step_with sets accepting e f)) (sym s ∙ j)
+
+-- the same, where the first automaton's edge was asked for part by part
+module _ (sets : ℕ) (accepting : Bool) (number : ℕ → ℕ) (e f : Edge) where
+  pub look_found : (cube : Cube) (target : ℕ) (own : List ℕ) (r : Option Cube) (marks letter : List ℕ) (c : Cube) → cube ≡ e.cube → target ≡ e.target → own ≡ e.marks → r ≡ join_cubes cube (renamed_cube number f.cube) → r ≡ Some c
+      → marks ≡ pair_marks sets accepting own → letter ≡ letter_of c
+      → Some (let x : Step ProductState = record { target = record { first = target; second = f.target }; marks = marks; letter = letter } in x) ≡ joined_step sets accepting number e f
+  look_found cube target own r marks letter c a t o j s m l =
+      (λ i. Some (let x : Step ProductState = record { target = record { first = t i; second = f.target }; marks = marks; letter = letter } in x))
+      ∙ step_found sets accepting number e f r marks letter c (j ∙ ap (λ d. join_cubes d (renamed_cube number f.cube)) a) s (m ∙ ap (pair_marks sets accepting) o) l
+
+  pub look_missed : (cube : Cube) (r : Option Cube) → cube ≡ e.cube → r ≡ join_cubes cube (renamed_cube number f.cube) → r ≡ None → None ≡ joined_step sets accepting number e f
+  look_missed cube r a j s = step_missed sets accepting number e f r (j ∙ ap (λ d. join_cubes d (renamed_cube number f.cube)) a) s

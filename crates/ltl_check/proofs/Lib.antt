@@ -9,3 +9,7 @@ pub mod ProductWalks
 pub mod VerdictLaws
 pub mod NameLaws
 pub mod PairSums
+pub mod OperandLaws
+pub mod PlaceLaws
+pub mod BreadthLaws
+pub mod ShortestLaws

@@ -38,12 +38,6 @@ put_new xs x l =
       | false ↦ λ d. refl
     ] (any_Decides same_name same_name_Decides x xs)
 
--- one name after the other
-pub fold_next : (xs all now then : List Name) (i : ℕ) (x : Name) → i < length xs → slice_index_or xs i [] ≡ x → fold (with_new same_name) now (drop i xs) ≡ all → then ≡ with_new same_name now x → fold (with_new same_name) then (drop (i + 1) xs) ≡ all
-fold_next xs all now then i x l e f g =
-    let d : drop i xs ≡ x ∷ drop (i + 1) xs = drop_more xs i [] l ∙ ap (λ y. y ∷ drop (i + 1) xs) e in
-    ap (λ ys. fold (with_new same_name) ys (drop (i + 1) xs)) g ∙ sym (ap (fold (with_new same_name) now) d) ∙ f
-
 pub unified_is : (own other first both : List Name) → first ≡ fold (with_new same_name) [] own → both ≡ fold (with_new same_name) first other → both ≡ unified own other
 unified_is own other first both e f = f ∙ ap (λ a. fold (with_new same_name) a other) e ∙ sym (fold-append (with_new same_name) [] own other)
 
@@ -82,12 +76,6 @@ put_pushed ns ms o place e l p = let n = map_length bytes ns in ap (map bytes) p
     behind : (ns : List (Bor Name)) → map bytes (ns ++ o ∷ []) ≡ map bytes ns ++ o.now ∷ []
     behind [] = refl
     behind (n ∷ ns) = ap (λ ks. n.now ∷ ks) (behind ns)
-
-pub put_next : {S : Type 0} (f : S → Name) (ss : List S) (all now then : List Name) (i : ℕ) (s : S) (x : Name) → i < length ss → s ≡ slice_index_or ss i s → x ≡ f s → fold (with_new same_name) now (drop i (map f ss)) ≡ all → then ≡ with_new same_name now x
-    → fold (with_new same_name) then (drop (i + 1) (map f ss)) ≡ all
-put_next f ss all now then i s x l e g h p =
-    let n = map_length f ss in
-    fold_next (map f ss) all now then i x (omega (arith, n, l)) (get_or-map f ss i s [] l ∙ ap f (sym e) ∙ sym g) h p
 
 -- the numbers of the other names are below each limit that all names together keep
 pub numbers_within : (own other : List Name) (all : List (Bor Name)) (numbers : List ℕ) (most : ℕ) → map bytes all ≡ unified own other → length all ≤ most → length numbers ≡ length other

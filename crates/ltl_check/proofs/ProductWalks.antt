@@ -249,9 +249,10 @@ module _ (A : MarkedAutomaton) (names : List Name) (B : Automaton) (numbers : Li
     stem : IsStepPath net s steps e
     takes : (j : ℕ) (x : Edge) → Has es x → Has x.marks j → Takes net steps j
     moves : steps ≡ [] → es ≡ []
+    long : length steps ≡ length es
 
   walked : (s : ℕ) (es : List Edge) (e : ℕ) → IsPath graph s es e → Walked s es e
-  walked s [] e p = record { steps = []; stem = p; takes = λ j x h. absurd h; moves = λ z. refl }
+  walked s [] e p = record { steps = []; stem = p; takes = λ j x h. absurd h; moves = λ z. refl; long = refl }
   walked s (x ∷ es) e p = more (looked s x p.0) (walked x.target es e p.1)
     where
       more : Looked s x → Walked x.target es e → Walked s (x ∷ es) e
@@ -263,6 +264,7 @@ module _ (A : MarkedAutomaton) (names : List Name) (B : Automaton) (numbers : Li
           | inr k ↦ inr (r.takes j y k m)
         ];
         moves = λ z. absurd (cc);
+        long = let l = r.long in omega arith;
       }
 
   starts : net.start ≡ searched_start A names B
@@ -293,11 +295,11 @@ module _ (A : MarkedAutomaton) (names : List Name) (B : Automaton) (numbers : Li
         λ i. record { stem = f.letters i; cycle = t.letters i },
       )
 
-  -- and where there is a common walk, one is found
-  pub walk_found : HasCommonWalk A names B → (stem : List Taken) × (cycle : List Taken) × IsFullWalk net (A.sets + 1) stem cycle
+  -- and where there is a common walk, one of as many edges is found
+  pub walk_found : (h : HasCommonWalk A names B) → (stem : List Taken) × (cycle : List Taken) × IsFullWalk net (A.sets + 1) stem cycle × (length stem + length cycle ≡ length h.stem + length h.cycle)
   walk_found h = both (walked (searched_start A names B) h.stem h.state h.arrives) (walked h.state h.cycle h.state h.cycles.closes)
     where
-      both : Walked (searched_start A names B) h.stem h.state → Walked h.state h.cycle h.state → (stem : List Taken) × (cycle : List Taken) × IsFullWalk net (A.sets + 1) stem cycle
+      both : Walked (searched_start A names B) h.stem h.state → Walked h.state h.cycle h.state → (stem : List Taken) × (cycle : List Taken) × IsFullWalk net (A.sets + 1) stem cycle × (length stem + length cycle ≡ length h.stem + length h.cycle)
       both f t = (
         f.steps,
         t.steps,
@@ -308,6 +310,7 @@ module _ (A : MarkedAutomaton) (names : List Name) (B : Automaton) (numbers : Li
           moves = λ z. h.cycles.moves (t.moves z);
           takes = λ k l. let x = h.cycles.marks k l in t.takes k x.0 x.1 x.2;
         },
+        let l = f.long in let m = t.long in omega arith,
       )
 
   -- paths on levels

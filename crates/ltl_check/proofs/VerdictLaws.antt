@@ -1,5 +1,5 @@
 -- The verdict of the check, from what the search finds.
-use Rattle.std.proofs.Common.{◌≡◌, ℕ, ◌+◌, ◌*◌, ◌/◌, ◌<◌, ◌≤◌, Bool, true, cond, List, ◌++◌, map, length, inl, inr, sym, ◌∙◌, subst, arith}
+use Rattle.std.proofs.Common.{◌≡◌, ℕ, ◌+◌, ◌*◌, ◌/◌, ◌<◌, ◌≤◌, Bool, true, cond, List, ◌++◌, map, length, inl, inr, ap, sym, ◌∙◌, ◌^◌, subst, arith}
 use Rattle.std.specs.Prelude.{All, filter}
 use Rattle.ltl_spec.specs.Collections.Sets.{Has}
 use Rattle.ltl_spec.specs.Transitions.Cubes.{Literal}
@@ -15,10 +15,11 @@ use Rattle.ltl_spec.specs.Checking.Check.{Contained, Violated, IsVerdict, IsComm
 use Rattle.ltl_spec.specs.Checking.Bounds.{HasNamesBelow, IsBuchi, IsProper}
 use Rattle.ltl_spec.proofs.Collections.SetLaws.{append_cases, append_left, append_right, filter_cases}
 use Rattle.ltl_spec.proofs.Collections.ListLaws.{All-at_has, All-from_has, Has-at}
-use Rattle.ltl_spec.proofs.Collections.MemberLaws.{map_cases}
+use Rattle.ltl_spec.proofs.Collections.MemberLaws.{map_cases, map_length}
 use Rattle.ltl_spec.proofs.Automata.ListedStates.{no_state, has_edge_below}
 use Rattle.ltl_spec.proofs.Words.LeastLaws.{least_form_is}
 use Rattle.ltl_spec.proofs.Words.UniqueLaws.{least_unique}
+use Rattle.ltl_spec.proofs.Words.LeastLength.{least_most}
 use Rattle.ltl_spec.proofs.Checking.CheckLaws.{common_lasso, both_below}
 use Rattle.ltl_spec.proofs.Checking.VerdictLaws.{contained_verdict, violated_verdict, graph_is_graph}
 use Rattle.ltl_hoa.specs.MarkedView.{IsMarked, IsEdgeWithin}
@@ -26,9 +27,12 @@ use Rattle.ltl_models.specs.BaView.{IsBa}
 use Rattle.ltl_check.specs.declared.walk.Taken.{Taken}
 use Rattle.ltl_check.specs.Levels.{IsFullWalk, levels_net}
 use Rattle.ltl_check.specs.ProductView.{number_in, product_net, edge_pairs, pair_at, pair_count}
-use Rattle.ltl_check.specs.VerdictView.{letters_of, IsReachedLevelState, chosen_pairs}
+use Rattle.ltl_check.specs.VerdictView.{letters_of, IsReachedLevelState, IsBriefOn, chosen_pairs}
+use Rattle.ltl_check.specs.Shortest.{IsShortestLasso}
+use Rattle.ltl_check.specs.Looks.{LooksAtMost}
 use Rattle.ltl_word.specs.LassoView.{letter_with, word_with}
-use Rattle.ltl_check.specs.Explored.{sum_below, Reached}
+use Rattle.ltl_check.specs.Explored.{sum_below, Reached, IsGrown}
+use Rattle.ltl_check.proofs.ShortestLaws.{counted_most, counted_below}
 use Rattle.ltl_check.proofs.ProductWalks.{found_walk, found_cubes, walk_found, reached_by_looks}
 use Rattle.ltl_spec.proofs.Collections.FoundLaws.{map_same}
 
@@ -88,19 +92,49 @@ module _ (A : MarkedAutomaton) (names : List Name) (B : Automaton) (numbers : Li
           | inr k ↦ letters_at cycle (λ t m. append_right stem cycle t m) is k
         ]))
 
+    -- the letters along the walk of the definitions
+    along_both : (h : HasCommonWalk A names B) → lasso_along all_names h.stem h.cycle ≡ record { stem = map (λ (t : Taken). letter_with all_names t.letter) stem; cycle = map (λ (t : Taken). letter_with all_names t.letter) cycle }
+        → (all : List Name) → all ≡ all_names → (v : Lasso) → IsLeastForm (word_with all (letters_of stem) (letters_of cycle)) v → v ≡ printed_word A names h.stem h.cycle
+    along_both h along all e v least =
+        let letters : word_with all_names (letters_of stem) (letters_of cycle) ≡ lasso_along all_names h.stem h.cycle =
+        (λ i. record { stem = map_same (λ (t : Taken). t.letter) (letter_with all_names) stem i; cycle = map_same (λ (t : Taken). t.letter) (letter_with all_names) cycle i }) ∙ sym along in
+        let here : IsLeastForm (lasso_along all_names h.stem h.cycle) v = subst (λ u. IsLeastForm u v) letters (subst (λ ns. IsLeastForm (word_with ns (letters_of stem) (letters_of cycle)) v) e least) in
+        let lasso = common_lasso (graph_of A) B A.names names marked.differ (graph_is_graph A proper) buchi A.start h in
+        let p = least_form_is (lasso_along all_names h.stem h.cycle) lasso in
+        least_unique v (printed_word A names h.stem h.cycle) here.lasso.cycles p.lasso.cycles (λ k. sym (here.same k) ∙ p.same k) here.least p.least
+
     -- the word along a walk, in least form
     pub walk_verdict : (all : List Name) → all ≡ all_names → (v : Lasso) → IsLeastForm (word_with all (letters_of stem) (letters_of cycle)) v → IsVerdict A names B (IsCommon A names B) (Violated v)
-    walk_verdict all e v least = of_walk (found_walk A names B numbers ba.some marked.counted named maps stem cycle w)
-      where
-        of_walk : (h : HasCommonWalk A names B) × (lasso_along all_names h.stem h.cycle ≡ record { stem = map (λ (t : Taken). letter_with all_names t.letter) stem; cycle = map (λ (t : Taken). letter_with all_names t.letter) cycle }) → IsVerdict A names B (IsCommon A names B) (Violated v)
-        of_walk (h, along) =
-            let letters : word_with all_names (letters_of stem) (letters_of cycle) ≡ lasso_along all_names h.stem h.cycle =
-            (λ i. record { stem = map_same (λ (t : Taken). t.letter) (letter_with all_names) stem i; cycle = map_same (λ (t : Taken). t.letter) (letter_with all_names) cycle i }) ∙ sym along in
-            let here : IsLeastForm (lasso_along all_names h.stem h.cycle) v = subst (λ u. IsLeastForm u v) letters (subst (λ ns. IsLeastForm (word_with ns (letters_of stem) (letters_of cycle)) v) e least) in
-            let lasso = common_lasso (graph_of A) B A.names names marked.differ (graph_is_graph A proper) buchi A.start h in
-            let p = least_form_is (lasso_along all_names h.stem h.cycle) lasso in
-            let same : v ≡ printed_word A names h.stem h.cycle = least_unique v (printed_word A names h.stem h.cycle) here.lasso.cycles p.lasso.cycles (λ k. sym (here.same k) ∙ p.same k) here.least p.least in
-            subst (λ u. IsVerdict A names B (IsCommon A names B) (Violated u)) (sym same) (violated_verdict A proper names B buchi h)
+    walk_verdict all e v least =
+        let (h, along) = found_walk A names B numbers ba.some marked.counted named maps stem cycle w in
+        subst (λ u. IsVerdict A names B (IsCommon A names B) (Violated u)) (sym (along_both h along all e v least)) (violated_verdict A proper names B buchi h)
+
+    -- it has no more letters than the walk has edges
+    word_most : (all : List Name) → all ≡ all_names → (v : Lasso) → IsLeastForm (word_with all (letters_of stem) (letters_of cycle)) v → length v.stem + length v.cycle ≤ length stem + length cycle
+    word_most all e v least =
+        let (h, along) = found_walk A names B numbers ba.some marked.counted named maps stem cycle w in
+        let same = along_both h along all e v least in
+        let most = least_most (lasso_along all_names h.stem h.cycle) in
+        let sv = ap (λ (u : Lasso). length u.stem + length u.cycle) same in
+        let sa = ap (λ (u : Lasso). length u.stem + length u.cycle) along in
+        let sl = map_length (λ (t : Taken). letter_with all_names t.letter) stem in
+        let sc = map_length (λ (t : Taken). letter_with all_names t.letter) cycle in
+        omega arith
+
+    -- no common walk has fewer edges than the word of a shortest walk has letters
+    shortest_word : IsShortestLasso (product_net A B numbers) (A.sets + 1) stem cycle
+        → (all : List Name) → all ≡ all_names → (v : Lasso) → IsLeastForm (word_with all (letters_of stem) (letters_of cycle)) v → (h : HasCommonWalk A names B) → length v.stem + length v.cycle ≤ length h.stem + length h.cycle
+    shortest_word shortest all e v least h =
+        let l = word_most all e v least in
+        let f = walk_found A names B numbers ba.some marked.counted named maps h in
+        let m = shortest.1 f.0 f.1 f.2 in
+        let n = f.3 in
+        omega arith
+
+    -- after so many looks for a shorter walk
+    pub brief_word : (before looks most : ℕ) → before ≡ 0 → most ≤ 2 ^ 64 → (c : ℕ) × IsGrown before looks c × (c < most → IsShortestLasso (product_net A B numbers) (A.sets + 1) stem cycle) → LooksAtMost before looks (2 * most)
+        → (all : List Name) → all ≡ all_names → (v : Lasso) → IsLeastForm (word_with all (letters_of stem) (letters_of cycle)) v → IsBriefOn A names B most looks (Violated v)
+    brief_word before looks most z small s m all e v least = (counted_most before looks (2 * most) z m, λ less. shortest_word (s.2 (counted_below before looks s.0 most small s.1 less)) all e v least)
 
   -- what is reached costs no more than what the search paid for
   pub paid_copies : (c : ℕ) → ((p : ℕ → Bool) → ((n : ℕ) → p n ≡ true → Reached (levels_net (A.sets + 1) (product_net A B numbers)) n)

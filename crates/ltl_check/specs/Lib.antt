@@ -7,3 +7,7 @@ pub mod ProductView
 pub mod PairLaws
 pub mod VerdictView
 pub mod Looks
+pub mod Places
+pub mod Shortest
+pub mod Breadth
+pub mod Shortened

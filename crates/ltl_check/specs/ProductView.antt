@@ -22,6 +22,13 @@ use Rattle.ltl_check.specs.Levels.{net_of}
 abbrev pub no_edge : Edge
 no_edge = record { cube = []; target = 0; marks = [] }
 
+-- the edges of a state of the first automaton, and one of them
+abbrev pub edges_from : MarkedAutomaton → ℕ → List Edge
+edges_from A s = slice_index_or A.edges s []
+
+abbrev pub edge_from : MarkedAutomaton → ℕ → ℕ → Edge
+edge_from A s k = slice_index_or (edges_from A s) k no_edge
+
 -- the number of a proposition, by a list of numbers
 abbrev pub number_in : List ℕ → ℕ → ℕ
 number_in numbers p = slice_index_or numbers p 0

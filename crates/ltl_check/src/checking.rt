@@ -1,4 +1,4 @@
-//! The check: does an automaton that was read accept a word that a Büchi automaton accepts too?
+//! The check: does an automaton accept a word that a Büchi automaton accepts too?
 
 ghost use Rattle.std.specs.Prelude.{◌≡◌, ℕ, ◌+◌, ◌*◌, ◌<◌, ◌≤◌, ◌++◌, length, map, All, IsTrue, IfOk, IfErr, OnOk, IfSome, Ok, IsErrOf, []};
 ghost use Rattle.std.specs.List.{list_all};
@@ -13,7 +13,7 @@ ghost use Rattle.ltl_spec.specs.Tools.Refusal.{TooManyPropositions, LargeProduct
 ghost use Rattle.ltl_check.specs.Explored.{sum_below};
 ghost use Rattle.ltl_check.specs.Looks.{CoversReached, LooksAtCopies, LooksAtMost};
 ghost use Rattle.ltl_check.specs.ProductView.{AreAllNames, AreUnified, pair_count, pair_at, edge_pairs};
-ghost use Rattle.ltl_check.specs.VerdictView.{IsVerdictOn, verdict_of, letters_of, level_pairs};
+ghost use Rattle.ltl_check.specs.VerdictView.{IsVerdictOn, IsBriefOn, verdict_of, letters_of, level_pairs};
 ghost use Rattle.ltl_word.specs.LassoView.{word_with};
 ghost use Rattle.ltl_check.specs.declared.verdict.Outcome.TheVariants.{Contained};
 
@@ -21,12 +21,14 @@ use crate::fault::CheckFault;
 use crate::finding::find;
 use crate::graph::Graph;
 use crate::names::{all_names, numbers};
+use crate::operand::Operand;
 use crate::product::{Product, Steps};
+use crate::shortest::{SHORTENING_LIMIT, shorten};
 use crate::verdict::{Outcome, Verdict};
 use crate::walk::{Taken, Walk};
 use ltl_hoa::Marked;
 use ltl_models::Ba;
-use ltl_sets::RowSet;
+use ltl_sets::PropositionSet;
 use ltl_syntax::{Formula, PROPOSITION_LIMIT};
 use ltl_word::Lasso;
 use std::alloc::{AllocError, Allocator};
@@ -39,7 +41,7 @@ pub const PRODUCT_LIMIT: usize = 16_777_216;
 fn letters<'a, A: Allocator>(
     alloc: &'a A,
     steps: Vec<Taken, &'a A>,
-) -> Result<Vec<RowSet, &'a A>, AllocError>
+) -> Result<Vec<PropositionSet, &'a A>, AllocError>
     ensures { IfOk result (λ ls. ls.items ≡ letters_of steps.entry.items) }
 {
     let mut letters = Vec::with_capacity(alloc, steps.len())?;
@@ -52,8 +54,9 @@ fn letters<'a, A: Allocator>(
     Ok(letters)
 }
 
-/// The word along the walk, in least form. The walk is given up before the word is made.
-fn word<'a, A: Allocator>(
+/// The word along the walk, in least form: in each letter the propositions are true that a step's letter has, by their numbers among `names`. The
+/// walk is given up before the word is made.
+pub fn word_of<'a, A: Allocator>(
     alloc: &'a A,
     names: &[&str],
     walk: Walk<'a, A>,
@@ -71,38 +74,46 @@ fn word<'a, A: Allocator>(
     word.least(alloc)
 }
 
-/// Searches the product. `names` are the propositions of both automata.
-fn search_product<'a, A: Allocator>(
+/// Searches the product, and shortens the word that it finds. The result has the number of looks that this took. `names` are the propositions of both
+/// automata.
+fn search_product<'a, F: Operand, A: Allocator>(
     alloc: &'a A,
-    product: &Product<'_, 'a, A>,
+    product: &Product<'_, 'a, F, A>,
     formula: &Formula<'a, A>,
     names: &[&str],
     steps: &mut Steps,
-) -> Result<Outcome<'a, A>, CheckFault>
+) -> Result<(Outcome<'a, A>, u128), CheckFault>
     requires named { HasNamesBelow (length formula.now.names) product.now.second.now }
-    requires names { AreAllNames product.now.first.now.names formula.now.names (map (λ n. n.now) names.now) }
-    requires numbers { AreUnified product.now.numbers.now product.now.first.now.names formula.now.names }
-    requires fits { pair_count product.now.first.now product.now.second.now * (product.now.first.now.sets + 1 + 1) ≤ stated_limits.product }
-    ensures verdict { IfOk result (λ o. IsVerdictOn product.now.first.now formula.now.names product.now.second.now (verdict_of o)) }
-    ensures most { LooksAtMost steps.old.count steps.new.count (2 * ((product.now.first.now.sets + 1 + 1)
-        * sum_below (λ n. edge_pairs product.now.first.now product.now.second.now (pair_at product.now.first.now product.now.second.now n))
-        (pair_count product.now.first.now product.now.second.now))) }
-    ensures least { IfOk result (λ o. o ≡ Contained
-        → LooksAtCopies product.now.first.now formula.now.names product.now.second.now steps.old.count steps.new.count) }
+    requires names { AreAllNames (F.automaton_of product.now.first.now).names formula.now.names (map (λ n. n.now) names.now) }
+    requires numbers { AreUnified product.now.numbers.now (F.automaton_of product.now.first.now).names formula.now.names }
+    requires fits { pair_count (F.automaton_of product.now.first.now) product.now.second.now * ((F.automaton_of product.now.first.now).sets + 1 + 1)
+        ≤ stated_limits.product }
+    ensures verdict { IfOk result (λ o. IsVerdictOn (F.automaton_of product.now.first.now) formula.now.names product.now.second.now (verdict_of o.0)
+        × IsBriefOn (F.automaton_of product.now.first.now) formula.now.names product.now.second.now SHORTENING_LIMIT o.1 (verdict_of o.0)) }
+    ensures most { LooksAtMost steps.old.count steps.new.count (2 * (((F.automaton_of product.now.first.now).sets + 1 + 1)
+        * sum_below (λ n. edge_pairs (F.automaton_of product.now.first.now) product.now.second.now
+        (pair_at (F.automaton_of product.now.first.now) product.now.second.now n))
+        (pair_count (F.automaton_of product.now.first.now) product.now.second.now))) }
+    ensures least { IfOk result (λ o. o.0 ≡ Contained
+        → LooksAtCopies (F.automaton_of product.now.first.now) formula.now.names product.now.second.now steps.old.count steps.new.count) }
     ensures memory { IfErr result (λ fault. fault ≡ CheckFault.OutOfMemory) }
 {
     product.first.invariant();
     product.second.invariant();
     formula.invariant();
     match find(alloc, product, steps)? {
-        Some(walk) => Ok(Outcome::Violated(word(alloc, names, walk)?)),
-        None => Ok(Outcome::Contained),
+        Some(found) => {
+            let mut looks = Steps::new();
+            let walk = shorten(alloc, product, found, &mut looks)?;
+            Ok((Outcome::Violated(word_of(alloc, names, walk)?), looks.count))
+        }
+        None => Ok((Outcome::Contained, 0)),
     }
 }
 
 /// The number of states in a search of the product.
-fn product_states<'a, A: Allocator>(automaton: &Marked<'a, A>, ba: &Ba<'a, A>) -> usize
-    ensures { result ≡ product_size automaton.now [] ba.now }
+fn product_states<'a, F: Operand, A: Allocator>(automaton: &F, ba: &Ba<'a, A>) -> usize
+    ensures { result ≡ product_size (F.automaton_of automaton.now) [] ba.now }
 {
     automaton.invariant();
     ba.invariant();
@@ -115,24 +126,28 @@ fn product_states<'a, A: Allocator>(automaton: &Marked<'a, A>, ba: &Ba<'a, A>) -
 /// # Errors
 ///
 /// There are more than [`PROPOSITION_LIMIT`] propositions together, the search has more than [`PRODUCT_LIMIT`] states, or memory is refused.
-pub fn check<'a, A: Allocator>(
+pub fn common_word<'a, F: Operand, A: Allocator>(
     alloc: &'a A,
-    automaton: &Marked<'a, A>,
+    automaton: &F,
     ba: &Ba<'a, A>,
     formula: &Formula<'a, A>,
 ) -> Result<Verdict<'a, A>, CheckFault>
     requires { HasNamesBelow (length formula.now.names) ba.now }
-    ensures verdict { IfOk result (λ v. IsVerdictOn automaton.now formula.now.names ba.now (verdict_of v.outcome)) }
+    ensures verdict { IfOk result (λ v. IsVerdictOn (F.automaton_of automaton.now) formula.now.names ba.now (verdict_of v.outcome)) }
 
-    // Each pair of edges is tried at most twice on each level. If there is no common word, each reachable pair is tried at least once.
-    ensures most { IfOk result (λ v. v.steps ≤ 2 * level_pairs automaton.now ba.now) }
-    ensures least { IfOk result (λ v. v.outcome ≡ Contained → CoversReached automaton.now formula.now.names ba.now v.steps) }
+    // Each pair of edges is tried at most twice on each level. If there is no common word, each reachable pair is tried at least once. If fewer looks for a
+    // shorter word were made than one search may make, the word is a shortest one.
+    ensures most { IfOk result (λ v. v.steps ≤ 2 * level_pairs (F.automaton_of automaton.now) ba.now
+        × IsBriefOn (F.automaton_of automaton.now) formula.now.names ba.now SHORTENING_LIMIT v.shortening (verdict_of v.outcome)) }
+    ensures least { IfOk result (λ v. v.outcome ≡ Contained → CoversReached (F.automaton_of automaton.now) formula.now.names ba.now v.steps) }
 
     // An error of a limit comes if and only if the limit is passed, in this order. Memory may be refused at any time.
-    ensures few { OnOk result (length (unified automaton.now.names formula.now.names) ≤ stated_limits.propositions) }
-    ensures fits { OnOk result (product_size automaton.now formula.now.names ba.now ≤ stated_limits.product) }
-    ensures many { IsErrOf result CheckFault.TooManyPropositions → RefusesCheck stated_limits automaton.now formula.now.names ba.now TooManyPropositions }
-    ensures large { IsErrOf result CheckFault.ProductTooLarge → RefusesCheck stated_limits automaton.now formula.now.names ba.now LargeProduct }
+    ensures few { OnOk result (length (unified (F.automaton_of automaton.now).names formula.now.names) ≤ stated_limits.propositions) }
+    ensures fits { OnOk result (product_size (F.automaton_of automaton.now) formula.now.names ba.now ≤ stated_limits.product) }
+    ensures many { IsErrOf result CheckFault.TooManyPropositions
+        → RefusesCheck stated_limits (F.automaton_of automaton.now) formula.now.names ba.now TooManyPropositions }
+    ensures large { IsErrOf result CheckFault.ProductTooLarge
+        → RefusesCheck stated_limits (F.automaton_of automaton.now) formula.now.names ba.now LargeProduct }
 {
     let names = all_names(alloc, automaton, formula)?;
     if names.len() > PROPOSITION_LIMIT {
@@ -144,9 +159,45 @@ pub fn check<'a, A: Allocator>(
     let numbers = numbers(alloc, names.as_slice(), formula)?;
     let product = Product::new(automaton, ba, numbers.as_slice());
     let mut steps = Steps::new();
-    let outcome = search_product(alloc, &product, formula, names.as_slice(), &mut steps)?;
+    let (outcome, shortening) = search_product(
+        alloc,
+        &product,
+        formula,
+        names.as_slice(),
+        &mut steps,
+    )?;
     Ok(Verdict {
         outcome,
-        steps: Product::<A>::looked(&steps),
+        steps: Product::<F, A>::looked(&steps),
+        shortening,
     })
+}
+
+/// `common_word` for an automaton that was read.
+///
+/// # Errors
+///
+/// Those of `common_word`.
+pub fn check<'a, A: Allocator>(
+    alloc: &'a A,
+    automaton: &Marked<'a, A>,
+    ba: &Ba<'a, A>,
+    formula: &Formula<'a, A>,
+) -> Result<Verdict<'a, A>, CheckFault>
+    requires { HasNamesBelow (length formula.now.names) ba.now }
+    ensures verdict { IfOk result (λ v. IsVerdictOn automaton.now formula.now.names ba.now (verdict_of v.outcome)) }
+
+    // Each pair of edges is tried at most twice on each level. If there is no common word, each reachable pair is tried at least once. If fewer looks for a
+    // shorter word were made than one search may make, the word is a shortest one.
+    ensures most { IfOk result (λ v. v.steps ≤ 2 * level_pairs automaton.now ba.now
+        × IsBriefOn automaton.now formula.now.names ba.now SHORTENING_LIMIT v.shortening (verdict_of v.outcome)) }
+    ensures least { IfOk result (λ v. v.outcome ≡ Contained → CoversReached automaton.now formula.now.names ba.now v.steps) }
+
+    // An error of a limit comes if and only if the limit is passed, in this order. Memory may be refused at any time.
+    ensures few { OnOk result (length (unified automaton.now.names formula.now.names) ≤ stated_limits.propositions) }
+    ensures fits { OnOk result (product_size automaton.now formula.now.names ba.now ≤ stated_limits.product) }
+    ensures many { IsErrOf result CheckFault.TooManyPropositions → RefusesCheck stated_limits automaton.now formula.now.names ba.now TooManyPropositions }
+    ensures large { IsErrOf result CheckFault.ProductTooLarge → RefusesCheck stated_limits automaton.now formula.now.names ba.now LargeProduct }
+{
+    common_word(alloc, automaton, ba, formula)
 }

@@ -4,14 +4,14 @@ ghost use Rattle.std.specs.Prelude.{◌≡◌, ℕ, ◌+◌, ◌-◌, ◌<◌, �
 ghost use Rattle.ltl_check.specs.declared.graph.Step.{Step};
 ghost use Rattle.ltl_check.specs.Marks.{MarksBelow};
 
-use ltl_sets::RowSet;
+use ltl_sets::{PropositionSet, RowSet};
 
 /// The edge that a look finds: its target, the numbers of the sets that it is in, and the propositions that are true in its letter.
 #[derive(Clone, Copy, Debug)]
 pub struct Step<S> {
     pub target: S,
     pub marks: RowSet,
-    pub letter: RowSet,
+    pub letter: PropositionSet,
 }
 
 /// A finite graph with sets of edges. The edges are computed one at a time. The states of the graph are the start, the targets of edges, and the states

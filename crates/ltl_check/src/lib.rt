@@ -21,6 +21,7 @@
 //! ```
 #![tactic(auto)]
 
+mod breadth;
 pub mod checking;
 pub mod fault;
 pub mod finding;
@@ -28,16 +29,22 @@ pub mod graph;
 pub mod levels;
 mod names;
 mod net;
+pub mod operand;
+mod place;
+mod plain;
 pub mod product;
 mod search;
+pub mod shortest;
 pub mod verdict;
 pub mod walk;
 
-pub use checking::{PRODUCT_LIMIT, check};
+pub use checking::{PRODUCT_LIMIT, check, common_word, word_of};
 pub use fault::CheckFault;
 pub use finding::find;
 pub use graph::{Graph, Step};
 pub use levels::Levels;
+pub use operand::{NamedBa, Operand};
 pub use product::{Product, Steps};
+pub use shortest::{SHORTENING_LIMIT, shorten};
 pub use verdict::{Outcome, Verdict};
 pub use walk::{Taken, Walk};

@@ -1,12 +1,12 @@
 //! The propositions of an automaton and of a formula, unified by name.
 
-ghost use Rattle.std.specs.Prelude.{◌≡◌, ◌<◌, ◌≤◌, ℕ, [], length, map, fold, slice_index_or, string_bytes, IfOk, OnOk};
+ghost use Rattle.std.specs.Prelude.{◌≡◌, ◌<◌, ◌≤◌, ℕ, [], length, map, fold, slice_index_or, IfOk, OnOk};
 ghost use Rattle.ltl_spec.specs.Collections.Lists as lists;
 ghost use Rattle.ltl_spec.specs.Formulas.Tokens.{same_name};
 ghost use Rattle.ltl_spec.specs.Formulas.Names.{unified};
 ghost use Rattle.ltl_check.specs.ProductView.{ArePlaces};
 
-use ltl_hoa::Marked;
+use crate::operand::Operand;
 use ltl_syntax::Formula;
 use std::alloc::{AllocError, Allocator};
 
@@ -44,16 +44,16 @@ fn put<'p, 'a, A: Allocator>(
     Ok(())
 }
 
-/// Appends each of the names that isn't in the list.
-fn put_all<'p, 'a, A: Allocator>(
+/// Appends each name of the automaton that isn't in the list.
+fn put_all<'p, 'a, F: Operand, A: Allocator>(
     names: &mut Vec<&'p str, &'a A>,
-    more: &'p [String<&'a A>],
+    automaton: &'p F,
 ) -> Result<(), AllocError>
     ensures { OnOk result (map (λ n. n.now) names.new.items
-        ≡ fold (lists.with_new same_name) (map (λ n. n.now) names.old.items) (map string_bytes more.entry.now)) }
+        ≡ fold (lists.with_new same_name) (map (λ n. n.now) names.old.items) (F.automaton_of automaton.entry.now).names) }
 {
-    for i in 0..more.len() {
-        put(names, more[i].as_str())?;
+    for i in 0..automaton.name_count() {
+        put(names, automaton.name(i))?;
     }
     Ok(())
 }
@@ -73,15 +73,15 @@ fn put_formula<'p, 'a, A: Allocator>(
 
 /// The names of the automaton, followed by those names of the formula that the automaton lacks.
 #[tactic(auto, using(crate::proofs::NameLaws::unified_is))]
-pub(crate) fn all_names<'p, 'a, A: Allocator>(
+pub(crate) fn all_names<'p, 'a, F: Operand, A: Allocator>(
     alloc: &'a A,
-    automaton: &'p Marked<'a, A>,
+    automaton: &'p F,
     formula: &'p Formula<'a, A>,
 ) -> Result<Vec<&'p str, &'a A>, AllocError>
-    ensures { IfOk result (λ names. map (λ n. n.now) names.items ≡ unified automaton.entry.now.names formula.entry.now.names) }
+    ensures { IfOk result (λ names. map (λ n. n.now) names.items ≡ unified (F.automaton_of automaton.entry.now).names formula.entry.now.names) }
 {
     let mut names = Vec::new(alloc);
-    put_all(&mut names, automaton.names())?;
+    put_all(&mut names, automaton)?;
     put_formula(&mut names, formula)?;
     Ok(names)
 }

@@ -1,4 +1,4 @@
-//! The product of an automaton that was read and a Büchi automaton, on the fly.
+//! The product of two automata, on the fly.
 
 ghost use Rattle.std.specs.Prelude.{◌≡◌, ℕ, ◌<◌, [], ◌∷◌, length, All};
 ghost use Rattle.ltl_spec.specs.Collections.Sets.{Has};
@@ -10,7 +10,7 @@ ghost use Rattle.ltl_sets.specs.declared.row_set.TheConstants.RowSet.{LIMIT};
 ghost use Rattle.ltl_check.specs.ProductView.{IsSearchable, number_in, pair_marks, first_edges, second_edges, pair_count, edge_pairs, IsPair, pair_place, pair_at, pair_step, start_pair};
 
 use crate::graph::{Graph, Step};
-use ltl_hoa::Marked;
+use crate::operand::Operand;
 use ltl_models::Ba;
 use ltl_sets::{Cube, Literal, RowSet};
 use std::alloc::Allocator;
@@ -66,23 +66,19 @@ fn joined(mine: &Cube, other: &Cube, numbers: &[usize]) -> Option<Cube>
 /// The product, over the names of both. It borrows both automata and the numbers that the second one's propositions have among all
 /// names, and builds neither states nor edges.
 #[derive(Drop)]
-pub struct Product<'p, 'a, A: Allocator> {
-    pub(crate) first: &'p Marked<'a, A>,
+pub struct Product<'p, 'a, F: Operand, A: Allocator> {
+    pub(crate) first: &'p F,
     pub(crate) second: &'p Ba<'a, A>,
     pub(crate) numbers: &'p [usize],
-    ghost inside: { IsSearchable first.now second.now },
+    ghost inside: { IsSearchable (F.automaton_of first.now) second.now },
     ghost named: { HasNamesBelow (length numbers.now) second.now },
     ghost within: { All (λ n. n < LIMIT) numbers.now },
 }
 
-impl<'p, 'a, A: Allocator> Product<'p, 'a, A> {
+impl<'p, 'a, F: Operand, A: Allocator> Product<'p, 'a, F, A> {
     /// The product of two automata. `numbers` has, for each proposition of the second one, its number in the product. The propositions of the first
     /// one keep their numbers.
-    pub fn new(
-        first: &'p Marked<'a, A>,
-        second: &'p Ba<'a, A>,
-        numbers: &'p [usize],
-    ) -> Product<'p, 'a, A>
+    pub fn new(first: &'p F, second: &'p Ba<'a, A>, numbers: &'p [usize]) -> Product<'p, 'a, F, A>
         requires named { HasNamesBelow (length numbers.now) second.now }
         requires within { All (λ n. n < RowSet.LIMIT) numbers.now }
         ensures first { result.first.now ≡ first.now }
@@ -102,7 +98,7 @@ impl<'p, 'a, A: Allocator> Product<'p, 'a, A> {
     /// automaton.
     fn marks(&self, marks: RowSet, second: usize) -> RowSet
         requires { second < length self.now.second.now.states }
-        ensures { result ≡ pair_marks self.now.first.now.sets (state_at self.now.second.now second).accepting marks }
+        ensures { result ≡ pair_marks (F.automaton_of self.now.first.now).sets (state_at self.now.second.now second).accepting marks }
     {
         let mut all = marks;
         if self.second.accepting(second) {
@@ -112,7 +108,7 @@ impl<'p, 'a, A: Allocator> Product<'p, 'a, A> {
     }
 }
 
-impl<'p, 'a, A: Allocator> Graph for Product<'p, 'a, A> {
+impl<'p, 'a, F: Operand, A: Allocator> Graph for Product<'p, 'a, F, A> {
     type State = ProductState;
 
     type Looks = Steps;
@@ -120,21 +116,21 @@ impl<'p, 'a, A: Allocator> Graph for Product<'p, 'a, A> {
     ghost use Rattle.std.specs.Prelude.{◌+◌};
     ghost use Rattle.ltl_check.specs.PairLaws.{place_in_rows, pair_of_number, place_of_pair, pair_back, pair_target, pair_marks_below};
 
-    ghost count_of = { λ p. pair_count p.first.now p.second.now };
+    ghost count_of = { λ p. pair_count (F.automaton_of p.first.now) p.second.now };
 
-    ghost sets_of = { λ p. p.first.now.sets + 1 };
+    ghost sets_of = { λ p. (F.automaton_of p.first.now).sets + 1 };
 
-    ghost start_of = { λ p. start_pair p.first.now p.second.now };
+    ghost start_of = { λ p. start_pair (F.automaton_of p.first.now) p.second.now };
 
-    ghost number_of = { λ p. pair_place p.first.now p.second.now };
+    ghost number_of = { λ p. pair_place (F.automaton_of p.first.now) p.second.now };
 
-    ghost state_of = { λ p. pair_at p.first.now p.second.now };
+    ghost state_of = { λ p. pair_at (F.automaton_of p.first.now) p.second.now };
 
-    ghost IsState = { λ p. IsPair p.first.now p.second.now };
+    ghost IsState = { λ p. IsPair (F.automaton_of p.first.now) p.second.now };
 
-    ghost pairs_of = { λ p. edge_pairs p.first.now p.second.now };
+    ghost pairs_of = { λ p. edge_pairs (F.automaton_of p.first.now) p.second.now };
 
-    ghost step_of = { λ p. pair_step p.first.now p.second.now p.numbers.now };
+    ghost step_of = { λ p. pair_step (F.automaton_of p.first.now) p.second.now p.numbers.now };
 
     ghost looked_of = { λ c. c.count };
 
@@ -166,21 +162,21 @@ impl<'p, 'a, A: Allocator> Graph for Product<'p, 'a, A> {
     }
 
     fn pairs(&self, s: ProductState) -> usize {
-        self.first.edges(s.first).len() * self.second.edges(s.second).len()
+        self.first.edge_count(s.first) * self.second.edges(s.second).len()
     }
 
     fn at(&self, s: ProductState, k: usize, looks: &mut Steps) -> Option<Step<ProductState>> {
         looks.count = looks.count.saturating_add(1);
         let others = self.second.edges(s.second);
-        let edge = self.first.edges(s.first)[k / others.len()];
+        let place = k / others.len();
         let other = others.get(k % others.len());
-        match joined(&edge.cube, &other.cube, self.numbers) {
+        match joined(&self.first.cube(s.first, place), &other.cube, self.numbers) {
             Some(cube) => Some(Step {
                 target: ProductState {
-                    first: edge.target,
+                    first: self.first.target(s.first, place),
                     second: other.target,
                 },
-                marks: self.marks(edge.sets.to_row_set(), s.second),
+                marks: self.marks(self.first.marks(s.first, place), s.second),
                 letter: cube.letter(),
             }),
             None => None,
@@ -193,13 +189,13 @@ impl<'p, 'a, A: Allocator> Graph for Product<'p, 'a, A> {
 
     ghost start_is = { λ p. (p.inside.begins, p.inside.some) };
 
-    ghost state_is = { λ p n l. pair_of_number p.first.now p.second.now n l };
+    ghost state_is = { λ p n l. pair_of_number (F.automaton_of p.first.now) p.second.now n l };
 
-    ghost target_is = { λ p s k t own inside e. pair_target p.first.now p.second.now p.numbers.now p.inside s k t own inside e };
+    ghost target_is = { λ p s k t own inside e. pair_target (F.automaton_of p.first.now) p.second.now p.numbers.now p.inside s k t own inside e };
 
-    ghost marks_below = { λ p s k t own inside e. pair_marks_below p.first.now p.second.now p.numbers.now p.inside s k t own inside e };
+    ghost marks_below = { λ p s k t own inside e. pair_marks_below (F.automaton_of p.first.now) p.second.now p.numbers.now p.inside s k t own inside e };
 
-    ghost below = { λ p s own. place_of_pair p.first.now p.second.now s own };
+    ghost below = { λ p s own. place_of_pair (F.automaton_of p.first.now) p.second.now s own };
 
-    ghost back = { λ p s own. pair_back p.first.now p.second.now s own };
+    ghost back = { λ p s own. pair_back (F.automaton_of p.first.now) p.second.now s own };
 }

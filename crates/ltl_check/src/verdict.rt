@@ -19,6 +19,7 @@ pub enum Outcome<'a, A: Allocator> {
 pub struct Verdict<'a, A: Allocator> {
     pub(crate) outcome: Outcome<'a, A>,
     pub(crate) steps: u128,
+    pub(crate) shortening: u128,
 }
 
 impl<'a, A: Allocator> Verdict<'a, A> {
@@ -29,10 +30,25 @@ impl<'a, A: Allocator> Verdict<'a, A> {
         &self.outcome
     }
 
+    /// The same by value.
+    pub fn into_outcome(self) -> Outcome<'a, A>
+        ensures { result ≡ self.entry.outcome }
+    {
+        self.outcome
+    }
+
     /// The number of looks at pairs of edges; a pair is counted on each level again. It stays at its greatest value.
     pub fn steps(&self) -> u128
         ensures { result ≡ self.now.steps }
     {
         self.steps
+    }
+
+    /// The number of looks at pairs of edges in the search for a shorter word; 0 without a word. If it is less than
+    /// [`SHORTENING_LIMIT`](crate::SHORTENING_LIMIT), no common word has fewer letters along a path and a cycle of the product.
+    pub fn shortening(&self) -> u128
+        ensures { result ≡ self.now.shortening }
+    {
+        self.shortening
     }
 }

@@ -1,6 +1,6 @@
 //! The result of a search.
 
-use ltl_sets::RowSet;
+use ltl_sets::PropositionSet;
 use std::alloc::Allocator;
 
 /// One step of a path: the number of the state that it leaves, the number of the candidate edge, and the edge's letter.
@@ -8,7 +8,7 @@ use std::alloc::Allocator;
 pub struct Taken {
     pub state: usize,
     pub pick: usize,
-    pub letter: RowSet,
+    pub letter: PropositionSet,
 }
 
 /// A lasso in a graph: a path from the start, and a cycle from its end.

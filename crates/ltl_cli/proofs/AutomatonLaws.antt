@@ -19,6 +19,7 @@ use Rattle.ltl_spec.specs.Tools.Limits.{stated_limits}
 use Rattle.ltl_spec.specs.Tools.Refusal as spec
 use Rattle.ltl_spec.specs.Tools.Outcome.{Then}
 use Rattle.ltl_spec.specs.Tools.Programs.{Layout, Claim, Hoa, Generalized, KeepsRows, Translates, TranslatesGeneralized}
+use Rattle.ltl_spec.specs.Tools.Run.{laid_out}
 use Rattle.ltl_spec.proofs.Collections.MemberLaws.{map_length}
 use Rattle.ltl_spec.proofs.NormalForms.SharedNodes.{trees_length}
 use Rattle.ltl_formula.specs.SharedNodesView.{node_of}
@@ -30,7 +31,7 @@ use Rattle.ltl_automaton.specs.declared.fault.AutomatonFault.{AutomatonFault}
 use Rattle.ltl_automaton.specs.declared.fault.AutomatonFault.TheVariants as fault
 use Rattle.ltl_cli.specs.declared.refusal.Refusal.TheVariants.{OutOfMemory}
 use Rattle.ltl_cli.specs.Refusals.{of_translation, refusal_of}
-use Rattle.ltl_cli.specs.Translations.{MakesAutomaton, MakesGeneralized, MakesText}
+use Rattle.ltl_cli.specs.Translations.{MakesAutomaton, MakesGeneralized, MakesShown, MakesText}
 use Rattle.ltl_spec.proofs.Tools.StepLaws.{never}
 
 trees_long : (t : TableView) → length (row_trees t.rows) ≡ length t.rows
@@ -106,29 +107,33 @@ module _ (N : Normal) (Makes : Normal → Result Automaton spec.Refusal → Type
   text_made B (inl h) = absurd (never B h.0 (sym h.2))
   text_made B (inr (M, k, h)) = inr (M, k, inr (B, h, refl))
 
+  moved : (x y : spec.Refusal) → ◌≡◌ {A = Result Automaton spec.Refusal} (Err x) (Err y) → ◌≡◌ {A = Result (List ℕ) spec.Refusal} (Err x) (Err y)
+  moved x y p = cc
+
+  pub text_refused : (x : spec.Refusal) → Making (Err x) → Texting (Err x)
+  text_refused x (inl (y, h, q)) = inl (y, h, moved x y q)
+  text_refused x (inr (M, k, h)) = inr (M, k, inl (x, h, refl))
+
   -- where the step doesn't say that memory was refused, the text doesn't
   pub text_takes : ((M : Normal) → Makes M (Err spec.OutOfMemory) → ⊥) → Texting (Err spec.OutOfMemory) → ⊥
   text_takes takes (inl h) = subst (λ (y : spec.Refusal). KeepsRows stated_limits N (Err y)) (inside h.0 spec.OutOfMemory h.2) h.1
   text_takes takes (inr (M, k, inl h)) = takes M (subst (λ (y : spec.Refusal). Makes M (Err y)) (inside h.0 spec.OutOfMemory h.2) h.1)
   text_takes takes (inr (M, k, inr h)) = never (text h.0) spec.OutOfMemory h.2
 
--- The layouts. There is no automaton, or one
+-- The layouts. There is an automaton, or none
 module _ (R : Reading) (rewrite : Bool) (o : Options) where
-  pub claim_made : (B : Automaton) → MakesAutomaton R false rewrite o (Ok B) → MakesText Claim R rewrite o (Ok (never_text B R))
-  claim_made = text_made (core R.formula false rewrite) (λ M. Translates stated_limits M o) (λ B. never_text B R)
+  abbrev normal : Normal
+  normal = core R.formula false rewrite
 
-  pub hoa_made : (B : Automaton) → MakesAutomaton R false rewrite o (Ok B) → MakesText Hoa R rewrite o (Ok (hoa_text B R))
-  hoa_made = text_made (core R.formula false rewrite) (λ M. Translates stated_limits M o) (λ B. hoa_text B R)
+  pub shown_made : (layout : Layout) (B : Automaton) → MakesShown layout R rewrite o (Ok B) → MakesText layout R rewrite o (Ok (laid_out layout B R))
+  shown_made Claim = text_made normal (λ M. Translates stated_limits M o) (λ B. never_text B R)
+  shown_made Hoa = text_made normal (λ M. Translates stated_limits M o) (λ B. hoa_text B R)
+  shown_made Generalized = text_made normal (λ M. TranslatesGeneralized stated_limits M o) (λ G. generalized_text G R)
 
-  pub sets_made : (G : Automaton) → MakesGeneralized R rewrite o (Ok G) → MakesText Generalized R rewrite o (Ok (generalized_text G R))
-  sets_made = text_made (core R.formula false rewrite) (λ M. TranslatesGeneralized stated_limits M o) (λ G. generalized_text G R)
-
--- the same options make the same automaton
-pub translated_same : (R : Reading) (a b : Bool) → a ≡ b → (o u : Options) → o ≡ u → (B : Automaton) → MakesAutomaton R false a o (Ok B) → MakesAutomaton R false b u (Ok B)
-translated_same R a b p o u q B h = subst (λ (x : Options). MakesAutomaton R false b x (Ok B)) q (subst (λ (x : Bool). MakesAutomaton R false x o (Ok B)) p h)
-
-pub generalized_same : (R : Reading) (a b : Bool) → a ≡ b → (o u : Options) → o ≡ u → (G : Automaton) → MakesGeneralized R a o (Ok G) → MakesGeneralized R b u (Ok G)
-generalized_same R a b p o u q G h = subst (λ (x : Options). MakesGeneralized R b x (Ok G)) q (subst (λ (x : Bool). MakesGeneralized R x o (Ok G)) p h)
+  pub shown_refused : (layout : Layout) (x : spec.Refusal) → MakesShown layout R rewrite o (Err x) → MakesText layout R rewrite o (Err x)
+  shown_refused Claim = text_refused normal (λ M. Translates stated_limits M o) (λ B. never_text B R)
+  shown_refused Hoa = text_refused normal (λ M. Translates stated_limits M o) (λ B. hoa_text B R)
+  shown_refused Generalized = text_refused normal (λ M. TranslatesGeneralized stated_limits M o) (λ G. generalized_text G R)
 
 -- no step says that memory was refused
 pub making_takes : (layout : Layout) (R : Reading) (rewrite : Bool) (o : Options) → MakesText layout R rewrite o (Err spec.OutOfMemory) → ⊥
@@ -138,13 +143,18 @@ making_takes Generalized R rewrite o = text_takes (core R.formula false rewrite)
 
 -- the automaton accepts exactly the words that satisfy the formula
 
-pub translating_models : (R : Reading) (rewrite : Bool) (o : Options) (B : Automaton) → MakesAutomaton R false rewrite o (Ok B) → AcceptsModels B R.formula
+translating_models : (R : Reading) (rewrite : Bool) (o : Options) (B : Automaton) → MakesAutomaton R false rewrite o (Ok B) → AcceptsModels B R.formula
 translating_models R rewrite o B (inl h) = absurd (never B h.0 (sym h.2))
 translating_models R rewrite o B (inr (M, k, h)) = translation_models R.formula rewrite o B (subst (λ (N : Normal). IsTranslation N o B) k.0 h.0)
 
-pub generalizing_models : (R : Reading) (rewrite : Bool) (o : Options) (G : Automaton) → MakesGeneralized R rewrite o (Ok G) → AcceptsModels G R.formula
+generalizing_models : (R : Reading) (rewrite : Bool) (o : Options) (G : Automaton) → MakesGeneralized R rewrite o (Ok G) → AcceptsModels G R.formula
 generalizing_models R rewrite o G (inl h) = absurd (never G h.0 (sym h.2))
 generalizing_models R rewrite o G (inr (M, k, h)) = generalized_models R.formula rewrite o G (subst (λ (N : Normal). IsGeneralizedTranslation N o G) k.0 h.0)
+
+pub shown_models : (layout : Layout) (R : Reading) (rewrite : Bool) (o : Options) (B : Automaton) → MakesShown layout R rewrite o (Ok B) → AcceptsModels B R.formula
+shown_models Claim = translating_models
+shown_models Hoa = translating_models
+shown_models Generalized = generalizing_models
 
 -- and the literals are of the formula's propositions
 pub read_named : (text : List ℕ) (R : Reading) → IsTextOf text R → (negate rewrite : Bool) (N : Normal) → N ≡ core R.formula negate rewrite → (A : Automaton) → HasNamesOf N A → HasNamesBelow (length R.names) A

@@ -7,4 +7,5 @@ pub mod InputLaws
 pub mod MessageLaws
 pub mod RunLaws
 pub mod StreamLaws
+pub mod TextLaws
 pub mod TranslationLaws

@@ -1,23 +1,30 @@
 -- Messages in parts.
-use Rattle.std.proofs.Common.{◌≡◌, ◌∙◌, ◌<◌, ap, sym, subst, refl, inl, inr, ℕ, List, [], ◌∷◌, ◌++◌, length, Option, Some, None, codes, append_assoc, arith}
+use Rattle.std.proofs.Common.{◌≡◌, ◌∙◌, ◌<◌, ap, false, sym, refl, inl, inr, ℕ, List, [], ◌∷◌, ◌++◌, length, Option, Some, None, codes, append_assoc, arith}
 use Rattle.std.proofs.Math.Seq.{take-length}
 use Rattle.std.specs.Io.KnownBytes.{Appends, Keeps}
 use Rattle.std.proofs.lemmas.List.{append-nil}
+use Rattle.std.proofs.lemmas.Result.{on_err_weaker, on_ok_weaker}
 use Rattle.std.specs.Prelude.{MatchResult, OnOk, OnErr, Result, Ok, Err}
 use Rattle.std.specs.Fmt.{decimal, digits}
 use Rattle.ltl_spec.specs.Hoa.HoaFaultKind.{hoa_fault_text}
 use Rattle.ltl_spec.specs.Tools.Limits.{stated_limits}
 use Rattle.ltl_spec.specs.Tools.Refusal.{Tool, Translator, Checker, Evaluator, Refusal, Usage, CannotOpen, CannotRead, CannotWrite, OutOfMemory, LongFormula, TooManyPropositions, TooManyRows, TooManyElementaryRows, LargeAutomaton, LongWord, LargeProduct, BadFormula, BadWord, BadAutomaton, fault_text, message, refusal_text, tool_name}
 use Rattle.ltl_streams.specs.Streams.{Breaks, Fails, Flushes, SinkState, Takes}
-use Rattle.ltl_streams.proofs.StreamLemmas.{breaks_after, breaks_first, breaks_there, on_err, takes_trans}
+use Rattle.ltl_streams.specs.declared.printer.Printer.{Printer}
+use Rattle.ltl_streams.specs.Printing.{EndsShort, EndsWhole, Prints}
+use Rattle.ltl_streams.proofs.PrintLaws.{all_printed, some_printed}
+use Rattle.ltl_streams.proofs.StreamLemmas.{breaks_there}
 use Rattle.ltl_cli.specs.Runs.{Finishes, IsTold}
 use Rattle.ltl_cli.specs.Messages.{back_text, front_text, number_in, number_text}
 
+regrouped : (front : List ℕ) (n : ℕ) (back : List ℕ) → front ++ number_text (Some n) ++ back ≡ front ++ decimal n ++ codes ": " ++ back
+regrouped front n back = ap (λ x. x ++ back) (sym (append_assoc front (decimal n) (codes ": ")))
+
 -- the parts make the text
 pub parts_are : (tool : Tool) (r : Refusal) → front_text tool r ++ number_text (number_in r) ++ back_text r ≡ refusal_text stated_limits tool r
-parts_are tool (BadFormula place kind) = sym (append_assoc (codes "formula: byte " ++ decimal place) (codes ": ") (fault_text kind))
-parts_are tool (BadWord place) = refl
-parts_are tool (BadAutomaton number kind) = sym (append_assoc (codes "automaton: line " ++ decimal number) (codes ": ") (hoa_fault_text kind))
+parts_are tool (BadFormula place kind) = regrouped (codes "formula: byte ") place (fault_text kind)
+parts_are tool (BadWord place) = regrouped (codes "word: byte ") place (codes "bad word") ∙ append_assoc (codes "word: byte " ++ decimal place) (codes ": ") (codes "bad word")
+parts_are tool (BadAutomaton number kind) = regrouped (codes "automaton: line ") number (hoa_fault_text kind)
 parts_are tool Usage = append-nil _ ∙ append-nil _
 parts_are tool CannotOpen = append-nil _ ∙ append-nil _
 parts_are tool CannotRead = append-nil _ ∙ append-nil _
@@ -37,54 +44,43 @@ kept_behind (Some x) (Some y) (Some z) a p q = q ∙ p
 kept_behind (Some x) (Some y) None a p q = q
 kept_behind (Some x) None n a p q = absurd p
 
-pub ok_weaker : {T E P Q : Type 0} (r : Result T E) → (P → Q) → OnOk r P → OnOk r Q
-ok_weaker (Ok x) f p = f p
-ok_weaker (Err e) f p = tt
-
-pub err_weaker : {T E P Q : Type 0} (r : Result T E) → (P → Q) → OnErr r P → OnErr r Q
-err_weaker (Ok x) f p = tt
-err_weaker (Err e) f p = f p
-
 -- a flush behind the last byte
 
 finishes : (o m n : SinkState) (a : List ℕ) → Takes o m a → Flushes m n → Finishes o n a
 finishes o m n a p q = record { same = q.same ∙ p.same; stage = λ e. q.stage; grown = kept_behind o.bytes m.bytes n.bytes a p.grown q.kept }
 
-pub flushed : {T E : Type 0} (r : Result T E) {o m : SinkState} (n : SinkState) (a : List ℕ) → Takes o m a → MatchResult r (λ _. Flushes m n) (λ _. Fails m n) → OnOk r (Finishes o n a)
-flushed (Ok x) n a p q = finishes _ _ n a p q
-flushed (Err e) n a p q = tt
+pub flushes_all : {T E : Type 0} (r : Result T E) (m n : SinkState) → MatchResult r (λ _. Flushes m n) (λ _. Fails m n) → OnOk r ((o : SinkState) (a : List ℕ) → Takes o m a → Finishes o n a)
+flushes_all (Ok x) m n q = λ o a p. finishes o m n a p q
+flushes_all (Err e) m n q = tt
 
-pub flush_failed : {T E : Type 0} (r : Result T E) {o m : SinkState} (n : SinkState) (a : List ℕ) → Takes o m a → MatchResult r (λ _. Flushes m n) (λ _. Fails m n) → OnErr r (Breaks o n a)
-flush_failed (Ok x) n a p q = tt
-flush_failed (Err e) n a p q = breaks_there a (length a) (rw (take-length a) p) q
+pub flush_fails : {T E : Type 0} (r : Result T E) (m n : SinkState) → MatchResult r (λ _. Flushes m n) (λ _. Fails m n)
+    → OnErr r ((o : SinkState) (a : List ℕ) → Takes o m a → Unit {0} → Breaks o n a)
+flush_fails (Ok x) m n q = tt
+flush_fails (Err e) m n q = λ o a p t. breaks_there a (length a) (rw (take-length a) p) q
 
--- all of it went out, or a beginning
-pub either_told : {T E : Type 0} (r : Result T E) (o n : SinkState) (a : List ℕ) → 0 < length a → OnOk r (Takes o n a) → OnErr r (Breaks o n a) → IsTold o n a
-either_told (Ok x) o n a l p q = inl p
-either_told (Err e) o n a l p q = inr (l, q)
+-- what `flushed` ensures, for one text
+module _ {T E : Type 0} (r s : Result T E) (o m n : SinkState) (a : List ℕ) where
+  pub ended_whole : OnOk r ((o : SinkState) (a : List ℕ) → OnOk s (Takes o m a) → Finishes o n a) → OnOk s (Takes o m a) → OnOk r (Finishes o n a)
+  ended_whole p whole = on_ok_weaker r (λ f. f o a whole) p
 
--- three writes of the parts of a text
+  pub ended_short : OnErr r ((o : SinkState) (a : List ℕ) → OnOk s (Takes o m a) → OnErr s (Breaks o m a) → Breaks o n a) → OnOk s (Takes o m a) → OnErr s (Breaks o m a) → OnErr r (Breaks o n a)
+  ended_short p whole short = on_err_weaker r (λ f. f o a whole short) p
 
-module _ {T E : Type 0} (r : Result T E) {o m : SinkState} (a b c : List ℕ) {t : List ℕ} (same : a ++ b ++ c ≡ t) where
-  pub first_failed : Breaks o m a → OnErr r (Breaks o m t)
-  first_failed p = on_err r (subst (λ (w : List ℕ). Breaks o m w) same (breaks_first c (breaks_first b p)))
-
-  module _ {n : SinkState} (p : Takes o m a) where
-    pub second_failed : Breaks m n b → OnErr r (Breaks o n t)
-    second_failed q = on_err r (subst (λ (w : List ℕ). Breaks o n w) same (breaks_first c (breaks_after p q)))
-
-    module _ (k : SinkState) (q : Takes m n b) where
-      pub third_failed : OnErr r (Breaks n k c) → OnErr r (Breaks o k t)
-      third_failed h = err_weaker r (λ x. subst (λ (w : List ℕ). Breaks o k w) same (breaks_after (takes_trans p q) x)) h
-
-      pub all_went : OnOk r (Takes n k c) → OnOk r (Takes o k t)
-      all_went h = ok_weaker r (λ x. subst (λ (w : List ℕ). Takes o k w) same (takes_trans (takes_trans p q) x)) h
+-- a printer's text as a message: all of it went out, or a beginning
+module _ {S : Type 0} {state : S → SinkState} {w : List ℕ} {u v s : S} {o m : Printer S} (long : 0 < length w) (whole : o.failed ≡ false) (empty : o.buffer ≡ []) (now : o.sink.now ≡ s) (p : Prints state o m w) where
+  pub printed_told : {T E : Type 0} (r : Result T E) → MatchResult r (λ _. EndsWhole m.failed (state m.sink.now) m.buffer (state u)) (λ _. EndsShort m.failed (state m.sink.now) m.buffer (state u)) → u ≡ v → IsTold (state s) (state v) w
+  printed_told (Ok x) q e = inl (all_printed whole empty now p q e)
+  printed_told (Err x) q e = inr (long, some_printed whole empty now p q e)
 
 -- a line has a byte
 pub line_long : (tool : Tool) (r : Refusal) → 0 < length (message stated_limits tool r)
 line_long Translator r = omega arith
 line_long Checker r = omega arith
 line_long Evaluator r = omega arith
+
+-- a number and a colon
+pub number_same : (o : Option ℕ) (n : ℕ) (d : List ℕ) → o ≡ Some n → d ≡ decimal n → d ++ codes ": " ≡ number_text o
+number_same o n d e f = ap (λ x. x ++ codes ": ") f ∙ ap number_text (sym e)
 
 -- the parts that were put make the text
 pub put_same : (tool : Tool) (r : Refusal) (a : List ℕ) (n : Option ℕ) (b : List ℕ) → a ≡ front_text tool r → n ≡ number_in r → b ≡ back_text r

@@ -59,7 +59,7 @@ input_refused word input Rest e (inr h) = inr (inl (refusal_of e, h, refl))
 
 -- ---- outcomes
 
-wrote_nothing : (o : Option (List ℕ)) → Appends o o []
+pub wrote_nothing : (o : Option (List ℕ)) → Appends o o []
 wrote_nothing None = tt
 wrote_nothing (Some x) = sym (append-nil x)
 
@@ -83,7 +83,7 @@ only_memory (code.BadAutomaton line kind) h = absurd (omega (arith, h))
 
 -- how the calls on the output went, by the status
 
-refusal_open : (e : spec.Refusal) → stage_behind (spec.status_of e) ≡ Open
+pub refusal_open : (e : spec.Refusal) → stage_behind (spec.status_of e) ≡ Open
 refusal_open spec.Usage = refl
 refusal_open spec.CannotOpen = refl
 refusal_open spec.CannotRead = refl
@@ -103,13 +103,13 @@ refusal_open (spec.BadAutomaton number kind) = refl
 below_two : (n : ℕ) → n ≤ 1 → nat_lt n 2 ≡ true
 below_two n h = grind (arith, h)
 
-answer_closed : (n : ℕ) → n ≤ 1 → stage_behind n ≡ Closed
+pub answer_closed : (n : ℕ) → n ≤ 1 → stage_behind n ≡ Closed
 answer_closed n h = ap (λ (b : Bool). cond b Closed Open) (below_two n h)
 
 -- a promise that was kept, as a run
 promised_run : (tool : spec.Tool) (plan : Result Plan PlanFault) (input file : Input) (seen : Seen) → IsPromised stated_limits tool (ToolAnswers stated_limits stated_form tool (planned tool plan) input file) seen
     → (RunNeverShort tool plan input file → ¬ (seen.status ≡ 4)) → (plan ≡ Err fault.OutOfMemory → IsShortOfMemory stated_limits tool seen) → ToolRun tool plan input file seen
-promised_run tool plan input file seen promised memory short = record { shown = promised_shown stated_limits stated_form tool (planned tool plan) input file seen promised; memory = memory; short = short }
+promised_run tool plan input file seen promised memory short = record { shown = promised_shown stated_limits stated_form (omega arith) tool (planned tool plan) input file seen promised; memory = memory; short = short }
 
 -- nothing went out before a refusal
 refusal_given : (tool : spec.Tool) (e : spec.Refusal) (seen : Seen) → seen.output ≡ [] → seen.output_stage ≡ Open → seen.status ≡ spec.status_of e → TellsMessage (spec.message stated_limits tool e) seen

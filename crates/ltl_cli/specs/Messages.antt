@@ -1,4 +1,4 @@
--- The text of a refusal in three parts: up to its number, the number, and the rest. If there is no number, the first part is all of it.
+-- The text of a refusal in three parts: up to its number, the number with a colon, and the rest. If there is no number, the first part is all of it.
 use Rattle.std.specs.Prelude.{ℕ, List, [], ◌++◌, Option, Some, None, codes, decimal}
 use Rattle.ltl_spec.specs.Hoa.HoaFaultKind.{hoa_fault_text}
 use Rattle.ltl_spec.specs.Tools.Limits.{stated_limits}
@@ -21,13 +21,13 @@ number_in (BadAutomaton number kind) = Some number
 number_in _ = None
 
 abbrev pub number_text : Option ℕ → List ℕ
-number_text (Some n) = decimal n
+number_text (Some n) = decimal n ++ codes ": "
 number_text None = []
 
 abbrev pub back_text : Refusal → List ℕ
-back_text (BadFormula place kind) = codes ": " ++ fault_text kind
-back_text (BadWord place) = codes ": bad word"
-back_text (BadAutomaton number kind) = codes ": " ++ hoa_fault_text kind
+back_text (BadFormula place kind) = fault_text kind
+back_text (BadWord place) = codes "bad word"
+back_text (BadAutomaton number kind) = hoa_fault_text kind
 back_text _ = []
 
 -- the text of a refusal of the code, and its line

@@ -12,10 +12,11 @@ use Rattle.ltl_spec.specs.Tools.Programs.{Layout, Claim, Hoa, Generalized, Keeps
 use Rattle.ltl_spec.specs.Tools.Run.{laid_out}
 use Rattle.ltl_cli.specs.declared.refusal.Refusal.{Refusal}
 use Rattle.ltl_cli.specs.declared.printable.Printable.{Printable}
-use Rattle.ltl_cli.specs.declared.printable.Printable.TheVariants as shown
+use Rattle.ltl_cli.specs.declared.shown.Shown.{Shown}
+use Rattle.ltl_cli.specs.declared.shown.Shown.TheVariants as shown
 use Rattle.ltl_words.specs.declared.request.Plan.{Plan}
 use Rattle.ltl_words.specs.Words.{translator_plan}
-use Rattle.ltl_words.specs.Plans.{formula_word, request_in}
+use Rattle.ltl_words.specs.Plans.{formula_word, layout_in, request_in}
 use Rattle.ltl_cli.specs.Inputs.{IsFound}
 
 -- from a formula to the automaton of its normal form
@@ -30,16 +31,29 @@ MakesGeneralized R rewrite o = Then (KeepsRows stated_limits (core R.formula fal
 abbrev pub MakesText : Layout → Reading → Bool → Options → Result (List ℕ) spec.Refusal → Type 0
 MakesText layout R rewrite o = Then (KeepsRows stated_limits (core R.formula false rewrite)) (λ N. Prints stated_limits layout N o R)
 
--- an automaton in its layout: the automaton, and its text
+-- from a formula to the automaton that a layout prints
+abbrev pub MakesShown : Layout → Reading → Bool → Options → Result Automaton spec.Refusal → Type 0
+MakesShown Claim R rewrite o = MakesAutomaton R false rewrite o
+MakesShown Hoa R rewrite o = MakesAutomaton R false rewrite o
+MakesShown Generalized R rewrite o = MakesGeneralized R rewrite o
+
+-- the automaton of the code
+abbrev pub shown_in : {A : Type 0} → Shown A → Automaton
+shown_in (shown.Buchi B) = B
+shown_in (shown.Generalized G) = G
+
 abbrev pub automaton_in : {A : Type 0} → Printable A → Automaton
-automaton_in (shown.Claim B) = B
-automaton_in (shown.Hoa B) = B
-automaton_in (shown.Generalized G) = G
+automaton_in p = shown_in p.automaton
+
+-- its text in a layout; a layout of the other kind of automaton is none of this automaton's
+abbrev pub shown_text : {A : Type 0} → Layout → Shown A → Reading → List ℕ
+shown_text Claim (shown.Buchi B) R = laid_out Claim B R
+shown_text Hoa (shown.Buchi B) R = laid_out Hoa B R
+shown_text Generalized (shown.Buchi B) R = laid_out Hoa B R
+shown_text layout (shown.Generalized G) R = laid_out Generalized G R
 
 abbrev pub text_of : {A : Type 0} → Printable A → FormulaView → List ℕ
-text_of (shown.Claim B) f = laid_out Claim B (reading_of f)
-text_of (shown.Hoa B) f = laid_out Hoa B (reading_of f)
-text_of (shown.Generalized G) f = laid_out Generalized G (reading_of f)
+text_of p f = shown_text (layout_in p.layout) p.automaton (reading_of f)
 
 -- what the definitions say of the plan and the input
 abbrev pub PlanPrints : Plan → Input → Result (List ℕ) spec.Refusal → Type 0

@@ -1,14 +1,13 @@
 //! The checker: language containment of an automaton in a formula, by the product with the automaton of the formula's negation.
 
-ghost use Rattle.std.specs.Prelude.{◌≡◌, ◌⊎◌, ◌<◌, ◌++◌, length, codes, OnOk, OnErr, IfOk, Ok, Some};
-ghost use Rattle.ltl_spec.specs.Automata.ClaimText.{line};
-ghost use Rattle.ltl_spec.specs.Words.LassoText.{lasso_text};
+ghost use Rattle.std.specs.Prelude.{◌≡◌, ◌⊎◌, length, OnOk, OnErr, IfOk, Ok};
 ghost use Rattle.ltl_spec.specs.Checking.Bounds.{HasNamesBelow};
 ghost use Rattle.ltl_spec.specs.Semantics.Language.{AcceptsViolations};
 ghost use Rattle.ltl_spec.specs.Tools.Stage.{Open};
 ghost use Rattle.ltl_spec.specs.Tools.Refusal.{Checker};
 ghost use Rattle.ltl_spec.specs.Tools.Outcome as spec;
-ghost use Rattle.ltl_streams.specs.Streams.{Breaks, Takes};
+ghost use Rattle.ltl_streams.specs.Printing.{Prints};
+ghost use Rattle.ltl_streams.specs.Streams.{Breaks};
 ghost use Rattle.ltl_syntax.specs.FormulaView.{reading_of};
 ghost use Rattle.ltl_check.specs.VerdictView.{verdict_of};
 ghost use Rattle.ltl_words.specs.declared.request.Plan as asked;
@@ -19,16 +18,15 @@ ghost use Rattle.ltl_cli.specs.Runs.{Finishes, HasCause, IsOutcome, Shows, Stays
 ghost use Rattle.ltl_cli.specs.Checks.{IsChecked, IsNegated, JudgesFormula, ReadsAutomaton, answer_for};
 
 use crate::automaton::automaton_of;
-use crate::finish::finish;
+use crate::finish::{finish, flushed};
 use crate::input::formula_from;
 use crate::refusal::Refusal;
 use crate::source::Source;
 use ltl_buchi::{Ba, Options};
 use ltl_check::{Outcome, Verdict, check};
 use ltl_hoa::{Marked, hoa_read_from};
-use ltl_streams::{ByteSink, ByteSource, OutputBuffer, WriteFault, write_whole};
+use ltl_streams::{ByteSink, ByteSource, Printer, WriteFault};
 use ltl_syntax::Formula;
-use ltl_word::Lasso;
 use ltl_words::{Plan, PlanFault, Status, Tool};
 use std::alloc::Allocator;
 
@@ -131,32 +129,17 @@ fn found<'a, A: Allocator, R: ByteSource, T: ByteSource>(
     verdict
 }
 
-/// Writes `violated` and a violating word, each in a line.
-fn put_word<A: Allocator, S: ByteSink>(
-    word: &Lasso<'_, A>,
-    output: &mut S,
-) -> Result<(), WriteFault>
-    ensures ok { OnOk result (Takes (S.state output.old) (S.state output.new) (line (codes "violated") ++ line (lasso_text word.now))) }
-    ensures err { OnErr result (Breaks (S.state output.old) (S.state output.new) (line (codes "violated") ++ line (lasso_text word.now))) }
-{
-    let mut buffer = OutputBuffer::new();
-    buffer.put(b"violated\n", output)?;
-    word.put(&mut buffer, output)?;
-    buffer.put(b"\n", output)?;
-    buffer.send(output)
-}
-
-/// Writes the verdict.
-fn put<A: Allocator, S: ByteSink>(
-    outcome: &Outcome<'_, A>,
-    output: &mut S,
-) -> Result<(), WriteFault>
-    ensures ok { OnOk result (Takes (S.state output.old) (S.state output.new) (answer_for outcome.now).output) }
-    ensures err { OnErr result (Breaks (S.state output.old) (S.state output.new) (answer_for outcome.now).output) }
+/// Writes the verdict, and the violating word if there is one, each in a line.
+fn put<A: Allocator, S: ByteSink>(outcome: &Outcome<'_, A>, out: &mut Printer<'_, S>)
+    ensures { Prints S.state out.old out.new (answer_for outcome.now).output }
 {
     match outcome {
-        Outcome::Contained => write_whole(output, b"contained\n"),
-        Outcome::Violated(word) => put_word(word, output),
+        Outcome::Contained => out.put(b"contained\n"),
+        Outcome::Violated(word) => {
+            out.put(b"violated\n");
+            word.put(out);
+            out.put(b"\n");
+        }
     }
 }
 
@@ -168,8 +151,9 @@ fn print<A: Allocator, S: ByteSink>(
     ensures ok { OnOk result (Finishes (S.state output.old) (S.state output.new) (answer_for outcome.now).output) }
     ensures err { OnErr result (Breaks (S.state output.old) (S.state output.new) (answer_for outcome.now).output) }
 {
-    put(outcome, output)?;
-    output.flush()
+    let mut out = Printer::new(output);
+    put(outcome, &mut out);
+    flushed(out.end(), output)
 }
 
 /// The exit status for this verdict.
@@ -180,29 +164,6 @@ fn status_of<A: Allocator>(outcome: &Outcome<'_, A>) -> Status
         Outcome::Contained => Status::Done,
         Outcome::Violated(_) => Status::Violated,
     }
-}
-
-/// Carries out a plan.
-fn printed<A: Allocator, R: ByteSource, T: ByteSource, S: ByteSink>(
-    alloc: &A,
-    plan: &Plan<'_>,
-    source: &mut Source<R>,
-    automaton: &mut Source<T>,
-    output: &mut S,
-) -> Result<Status, Refusal>
-    requires source { IsOpen R.state source.old }
-    requires automaton { IsOpen T.state automaton.old }
-    requires output { (S.state output.old).stage ≡ Open }
-    ensures { (input : spec.Input) × WasFormula R.state source.old source.new input
-        × (file : spec.Input) × WasAutomaton T.state automaton.old automaton.new file
-        × IsOutcome Checker (Ok plan.now) input file (S.state output.old) (S.state output.new) result }
-{
-    let verdict = found(alloc, plan, source, automaton)?;
-    let printed = print(verdict.outcome(), output);
-    let status = status_of(verdict.outcome());
-    drop(verdict);
-    printed?;
-    Ok(status)
 }
 
 /// Carries out a plan, or refuses a command line that has none.
@@ -220,10 +181,16 @@ fn answered<A: Allocator, R: ByteSource, T: ByteSource, S: ByteSink>(
         × (file : spec.Input) × WasAutomaton T.state automaton.old automaton.new file
         × IsOutcome Checker plan.now input file (S.state output.old) (S.state output.new) result }
 {
-    match plan {
-        Ok(plan) => printed(alloc, plan, source, automaton, output),
-        Err(fault) => Err(Refusal::of_words(*fault)),
-    }
+    let plan = match plan {
+        Ok(plan) => plan,
+        Err(fault) => return Err(Refusal::of_words(*fault)),
+    };
+    let verdict = found(alloc, plan, source, automaton)?;
+    let printed = print(verdict.outcome(), output);
+    let status = status_of(verdict.outcome());
+    drop(verdict);
+    printed?;
+    Ok(status)
 }
 
 /// Carries out a plan of `ltlcheck` and returns the exit status. It writes `contained`, or `violated` and a word that the automaton accepts and that violates

@@ -1,21 +1,20 @@
 //! The evaluator: whether a formula holds at the first position of a word.
 
-ghost use Rattle.std.specs.Prelude.{◌≡◌, OnOk, OnErr, Ok, Some, option_map};
+ghost use Rattle.std.specs.Prelude.{◌≡◌};
 ghost use Rattle.ltl_spec.specs.Tools.Limits.{stated_limits};
 ghost use Rattle.ltl_spec.specs.Tools.Stage.{Open};
 ghost use Rattle.ltl_spec.specs.Tools.Refusal.{Evaluator};
 ghost use Rattle.ltl_spec.specs.Tools.Outcome as spec;
 ghost use Rattle.ltl_spec.specs.Tools.Programs.{truth_answer};
-ghost use Rattle.ltl_streams.specs.Streams.{Breaks};
 ghost use Rattle.ltl_cli.specs.Inputs.{IsOpen, WasFormula};
-ghost use Rattle.ltl_cli.specs.Runs.{Finishes, HasCause, IsOutcome, Shows, StaysAt, ToolRun};
+ghost use Rattle.ltl_cli.specs.Runs.{HasCause, IsOutcome, Shows, StaysAt, ToolRun};
 ghost use Rattle.ltl_cli.specs.Evaluations.{IsEvaluated};
 
-use crate::finish::finish;
+use crate::finish::{finish, flushed};
 use crate::input::formula_from;
 use crate::refusal::Refusal;
 use crate::source::Source;
-use ltl_streams::{ByteSink, ByteSource, WriteFault, write_whole};
+use ltl_streams::{ByteSink, ByteSource, write_whole};
 use ltl_word::{Lasso, holds};
 use ltl_words::{Plan, PlanFault, Status, Tool};
 use std::alloc::Allocator;
@@ -43,37 +42,6 @@ fn line(truth: bool) -> &'static [u8]
     if truth { b"true\n" } else { b"false\n" }
 }
 
-/// Writes the line and flushes the output.
-fn print<S: ByteSink>(truth: bool, output: &mut S) -> Result<(), WriteFault>
-    ensures ok { OnOk result (Finishes (S.state output.old) (S.state output.new) (truth_answer stated_limits truth).output) }
-    ensures err { OnErr result (Breaks (S.state output.old) (S.state output.new) (truth_answer stated_limits truth).output) }
-{
-    write_whole(output, line(truth))?;
-    output.flush()
-}
-
-/// Carries out a plan. Its word has this text.
-fn printed<A: Allocator, R: ByteSource, S: ByteSink>(
-    alloc: &A,
-    plan: &Plan<'_>,
-    text: &str,
-    source: &mut Source<R>,
-    output: &mut S,
-) -> Result<Status, Refusal>
-    requires word { option_map (λ s. s.now) plan.now.word ≡ Some text.now }
-    requires source { IsOpen R.state source.old }
-    requires output { (S.state output.old).stage ≡ Open }
-    ensures { (input : spec.Input) × WasFormula R.state source.old source.new input × ((file : spec.Input)
-        → IsOutcome Evaluator (Ok plan.now) input file (S.state output.old) (S.state output.new) result) }
-{
-    let truth = evaluated(alloc, plan, text, source)?;
-    print(truth, output)?;
-    if truth {
-        return Ok(Status::Done);
-    }
-    Ok(Status::Violated)
-}
-
 /// Carries out a plan, or refuses a command line that has none or no word.
 fn answered<A: Allocator, R: ByteSource, S: ByteSink>(
     alloc: &A,
@@ -86,13 +54,20 @@ fn answered<A: Allocator, R: ByteSource, S: ByteSink>(
     ensures { (input : spec.Input) × WasFormula R.state source.old source.new input × ((file : spec.Input)
         → IsOutcome Evaluator plan.now input file (S.state output.old) (S.state output.new) result) }
 {
-    match plan {
-        Ok(plan) => match plan.word() {
-            Some(text) => printed(alloc, plan, text, source, output),
-            None => Err(Refusal::Usage),
-        },
-        Err(fault) => Err(Refusal::of_words(*fault)),
+    let plan = match plan {
+        Ok(plan) => plan,
+        Err(fault) => return Err(Refusal::of_words(*fault)),
+    };
+    let text = match plan.word() {
+        Some(text) => text,
+        None => return Err(Refusal::Usage),
+    };
+    let truth = evaluated(alloc, plan, text, source)?;
+    flushed(write_whole(output, line(truth)), output)?;
+    if truth {
+        return Ok(Status::Done);
     }
+    Ok(Status::Violated)
 }
 
 /// Carries out a plan of `ltleval` and returns the exit status: 0 for true, 1 for false. It writes `true` or `false` in a line and flushes the output; or it

@@ -23,24 +23,31 @@ pub mod evaluate;
 pub mod files;
 mod finish;
 mod input;
-mod message;
-mod printable;
+pub mod message;
+pub mod printable;
 pub mod program;
 pub mod refusal;
+pub mod shown;
 pub mod source;
 pub mod standard;
+pub mod text_source;
 pub mod translate;
 
+pub use automaton::{automaton_of, generalized_of};
 pub use check::check_over;
 pub use evaluate::evaluate_over;
 pub use files::Files;
-pub use input::formula_from;
+pub use finish::flushed;
+pub use input::{formula_from, formula_of, marked_of, read_text};
 pub use ltl_words::{
     FormulaWord, Layout, Plan, PlanFault, Status, Tool, layout, plan, request, status, tool,
 };
-pub use message::put_text;
+pub use message::{print_text, put_text};
+pub use printable::{Printable, printable_of};
 pub use program::run;
 pub use refusal::Refusal;
+pub use shown::Shown;
 pub use source::{ClosableSource, Source};
 pub use standard::{read_formula, run_check, run_eval, run_translate};
+pub use text_source::TextSource;
 pub use translate::translate_over;

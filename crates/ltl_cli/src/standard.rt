@@ -9,7 +9,7 @@ ghost use Rattle.ltl_cli.specs.Runs.{RunNeverShort, ShowsBytes, ToolRun};
 
 use crate::check::check_over;
 use crate::evaluate::evaluate_over;
-use crate::input::{read_file, read_given};
+use crate::input::{formula_of, read_file};
 use crate::refusal::Refusal;
 use crate::source::Source;
 use crate::translate::translate_over;
@@ -43,7 +43,7 @@ pub fn read_formula<'a, A: Allocator, R: Read>(
     ensures given { HoldsText (formula_word word.entry) → source.new ≡ source.old }
 {
     match word {
-        FormulaWord::Given(text) => read_given(alloc, text.as_bytes()),
+        FormulaWord::Given(text) => formula_of(alloc, text.as_bytes()),
         FormulaWord::File(_) => match source {
             Source::Input(reader) => read_file(alloc, &mut LentReader::new(reader)),
             Source::Text | Source::NotOpened => Err(Refusal::CannotOpen),

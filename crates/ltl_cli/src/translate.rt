@@ -1,25 +1,23 @@
 //! The translator: from a formula's text to the text of its Büchi automaton.
 
-ghost use Rattle.std.specs.Prelude.{◌≡◌, ◌<◌, length, OnOk, OnErr, IfOk, Ok};
+ghost use Rattle.std.specs.Prelude.{◌≡◌, length, IfOk};
 ghost use Rattle.ltl_spec.specs.Checking.Bounds.{HasNamesBelow};
 ghost use Rattle.ltl_spec.specs.Semantics.Language.{AcceptsModels};
 ghost use Rattle.ltl_spec.specs.Tools.Stage.{Open};
 ghost use Rattle.ltl_spec.specs.Tools.Refusal.{Translator};
 ghost use Rattle.ltl_spec.specs.Tools.Outcome as spec;
-ghost use Rattle.ltl_streams.specs.Streams.{Breaks, Takes};
 ghost use Rattle.ltl_syntax.specs.FormulaView.{reading_of};
 ghost use Rattle.ltl_cli.specs.Inputs.{IsOpen, WasFormula};
-ghost use Rattle.ltl_cli.specs.Runs.{Finishes, HasCause, IsOutcome, RunNeverShort, Shows, StaysAt, ToolRun};
+ghost use Rattle.ltl_cli.specs.Runs.{HasCause, IsOutcome, RunNeverShort, Shows, StaysAt, ToolRun};
 ghost use Rattle.ltl_cli.specs.Translations.{IsTranslated, automaton_in, text_of};
 
-use crate::finish::finish;
+use crate::finish::{finish, flushed};
 use crate::input::formula_from;
 use crate::printable::{Printable, printable_of};
 use crate::refusal::Refusal;
 use crate::source::Source;
-use ltl_streams::{ByteSink, ByteSource, WriteFault};
+use ltl_streams::{ByteSink, ByteSource};
 use ltl_syntax::Formula;
-use ltl_text::{put_claim, put_generalized, put_hoa};
 use ltl_words::{Plan, PlanFault, Status, Tool};
 use std::alloc::Allocator;
 
@@ -28,36 +26,6 @@ use std::alloc::Allocator;
 struct Translation<'a, A: Allocator> {
     formula: Formula<'a, A>,
     automaton: Printable<'a, A>,
-}
-
-/// Writes the automaton.
-fn put<A: Allocator, S: ByteSink>(
-    translated: &Translation<'_, A>,
-    output: &mut S,
-) -> Result<(), WriteFault>
-    requires { HasNamesBelow (length translated.now.formula.names) (automaton_in translated.now.automaton) }
-    ensures ok { OnOk result (Takes (S.state output.old) (S.state output.new) (text_of translated.now.automaton translated.now.formula)) }
-    ensures err { OnErr result (Breaks (S.state output.old) (S.state output.new) (text_of translated.now.automaton translated.now.formula)) }
-{
-    let formula = &translated.formula;
-    match &translated.automaton {
-        Printable::Claim(automaton) => put_claim(automaton, formula, output),
-        Printable::Hoa(automaton) => put_hoa(automaton, formula, output),
-        Printable::Generalized(automaton) => put_generalized(automaton, formula, output),
-    }
-}
-
-/// Writes the automaton and flushes the output.
-fn print<A: Allocator, S: ByteSink>(
-    translated: &Translation<'_, A>,
-    output: &mut S,
-) -> Result<(), WriteFault>
-    requires { HasNamesBelow (length translated.now.formula.names) (automaton_in translated.now.automaton) }
-    ensures ok { OnOk result (Finishes (S.state output.old) (S.state output.new) (text_of translated.now.automaton translated.now.formula)) }
-    ensures err { OnErr result (Breaks (S.state output.old) (S.state output.new) (text_of translated.now.automaton translated.now.formula)) }
-{
-    put(translated, output)?;
-    output.flush()
 }
 
 /// The formula of the plan, and its automaton. The automaton accepts exactly the ultimately periodic words that satisfy the formula.
@@ -73,27 +41,14 @@ fn translated<'a, A: Allocator, R: ByteSource>(
     ensures named { IfOk result (λ t. HasNamesBelow (length t.formula.names) (automaton_in t.automaton)) }
 {
     let formula = formula_from(alloc, plan.formula(), source)?;
-    let automaton = printable_of(alloc, &formula, plan)?;
+    let automaton = printable_of(
+        alloc,
+        &formula,
+        plan.layout(),
+        plan.rewrite(),
+        &plan.options(),
+    )?;
     Ok(Translation { formula, automaton })
-}
-
-/// Carries out a plan.
-fn printed<A: Allocator, R: ByteSource, S: ByteSink>(
-    alloc: &A,
-    plan: &Plan<'_>,
-    source: &mut Source<R>,
-    output: &mut S,
-) -> Result<Status, Refusal>
-    requires source { IsOpen R.state source.old }
-    requires output { (S.state output.old).stage ≡ Open }
-    ensures { (input : spec.Input) × WasFormula R.state source.old source.new input × ((file : spec.Input)
-        → IsOutcome Translator (Ok plan.now) input file (S.state output.old) (S.state output.new) result) }
-{
-    let translated = translated(alloc, plan, source)?;
-    let printed = print(&translated, output);
-    drop(translated);
-    printed?;
-    Ok(Status::Done)
 }
 
 /// Carries out a plan, or refuses a command line that has none.
@@ -108,10 +63,18 @@ fn answered<A: Allocator, R: ByteSource, S: ByteSink>(
     ensures { (input : spec.Input) × WasFormula R.state source.old source.new input × ((file : spec.Input)
         → IsOutcome Translator plan.now input file (S.state output.old) (S.state output.new) result) }
 {
-    match plan {
-        Ok(plan) => printed(alloc, plan, source, output),
-        Err(fault) => Err(Refusal::of_words(*fault)),
-    }
+    let plan = match plan {
+        Ok(plan) => plan,
+        Err(fault) => return Err(Refusal::of_words(*fault)),
+    };
+    let translated = translated(alloc, plan, source)?;
+    let printed = flushed(
+        translated.automaton.put(&translated.formula, output),
+        output,
+    );
+    drop(translated);
+    printed?;
+    Ok(Status::Done)
 }
 
 /// Carries out a plan of `ltl2ba` and returns the exit status. It writes the text of the automaton and flushes the output; or it writes the message of a

@@ -10,43 +10,16 @@ use Rattle.ltl_spec.specs.Hoa.HoaReading.{stated_form}
 use Rattle.ltl_spec.specs.Hoa.HoaToken.{hoa_items, last_line}
 use Rattle.ltl_spec.specs.Tools.Limits.{stated_limits}
 use Rattle.ltl_spec.specs.Tools.Outcome as outcome
-use Rattle.ltl_spec.specs.Tools.Programs.{ReadsHoa, RefusesHoa}
+use Rattle.ltl_spec.specs.Tools.Programs.{RefusesHoa}
 use Rattle.ltl_spec.specs.Tools.Refusal as spec
-use Rattle.ltl_spec.specs.Tools.Stage as stages
 use Rattle.ltl_spec.proofs.Tools.StepLaws.{then_ok}
-use Rattle.ltl_streams.specs.StageView.{stage_of}
 use Rattle.ltl_streams.specs.Streams.{SourceState}
-use Rattle.ltl_streams.specs.declared.stage.Stage.{Stage}
-use Rattle.ltl_streams.specs.declared.stage.Stage.TheVariants as stage
-use Rattle.ltl_hoa.specs.Reading.{AnswersHeld, LeavesStage}
-use Rattle.ltl_hoa.specs.declared.fault.HoaFault.{HoaFault}
-use Rattle.ltl_hoa.specs.declared.fault.HoaFault.TheVariants as hoa
 use Rattle.ltl_pictures.specs.NamedAutomaton.{NamedAutomaton}
 use Rattle.ltl_cli.specs.declared.refusal.Refusal.{Refusal}
-use Rattle.ltl_cli.specs.declared.refusal.Refusal.TheVariants.{OutOfMemory}
 use Rattle.ltl_cli.specs.Inputs.{IsFailed, IsFoundUnless, IsUnread, RefusesUnless, WasStream, WentWell, most_of_automaton}
-use Rattle.ltl_cli.specs.Refusals.{TakesStep, of_hoa, refusal_of}
+use Rattle.ltl_cli.specs.Refusals.{TakesStep, refusal_of}
 use Rattle.ltl_cli.proofs.InputLaws.{not_at_fault, not_long}
 use Rattle.ltl_draw.specs.Runs.{ReadsNamed, ReadsNamedText}
-
--- ---- texts in memory
-
--- a text of which no read fails is refused as its definition says
-pub text_refused : (text : List ℕ) (f : HoaFault) → AnswersHeld (Some text) (Err f) → (f ≡ hoa.CannotRead → ⊥)
-    → (of_hoa f ≡ OutOfMemory) ⊎ ReadsHoa stated_limits stated_form text (Err (refusal_of (of_hoa f)))
-text_refused text (hoa.AtLine line kind) (t, s, h) n = inr (subst (λ (x : List ℕ). ReadsHoa stated_limits stated_form x (Err (refusal_of (of_hoa (hoa.AtLine line kind))))) s h)
-text_refused text hoa.CannotRead a n = absurd (n refl)
-text_refused text hoa.OutOfMemory a n = inl refl
-
-broken_only : (s : Stage) → stage_of s ≡ stages.Broken → s ≡ stage.Broken
-broken_only stage.Open e = cc
-broken_only stage.Closed e = cc
-broken_only stage.Broken e = refl
-broken_only stage.Misused e = cc
-
--- of a source that no read breaks
-pub never_broken : (f : HoaFault) (s : Stage) → LeavesStage (Err f) (stage_of s) → (s ≡ stage.Broken → ⊥) → f ≡ hoa.CannotRead → ⊥
-never_broken f s l n e = n (broken_only s (subst (λ (x : HoaFault). LeavesStage (Err x) (stage_of s)) e l))
 
 -- ---- a text of which no more is read than one byte past the limit
 

@@ -1,24 +1,22 @@
 -- What a timeline's run shows.
-use Rattle.std.proofs.Common.{◌≡◌, ◌⊎◌, sym, subst, refl, ℕ, inl, inr, List, [], Bool, Some, None}
+use Rattle.std.proofs.Common.{◌≡◌, ◌∙◌, ◌⊎◌, sym, subst, refl, ℕ, inl, inr, List, [], Bool, Some, None}
 use Rattle.std.specs.Prelude.{Result, Ok, Err, MatchResult}
 use Rattle.ltl_spec.specs.Semantics.Word.{Lasso, Name}
 use Rattle.ltl_spec.specs.Tools.Limits.{stated_limits}
-use Rattle.ltl_spec.specs.Tools.Programs.{ReadsFormula, ReadsWord}
+use Rattle.ltl_spec.specs.Tools.Programs.{InputReads, ReadsFormula, ReadsWord}
 use Rattle.ltl_spec.specs.Tools.Stage.{Open}
-use Rattle.ltl_spec.specs.Tools.Outcome.{Input, printed}
+use Rattle.ltl_spec.specs.Tools.Outcome.{Input, Text, printed, taken}
+use Rattle.ltl_spec.proofs.Tools.StepLaws.{never, same_ok, then_ok}
 use Rattle.ltl_streams.specs.Streams.{Breaks, Fails, SinkState, Takes}
 use Rattle.ltl_syntax.specs.FormulaView.{FormulaView, IsFormula, reading_of}
-use Rattle.ltl_syntax.specs.ReadText as formula
-use Rattle.ltl_syntax.specs.declared.fault.ReadFault.{ReadFault}
-use Rattle.ltl_syntax.specs.declared.fault.ReadFault.TheVariants as read
 use Rattle.ltl_word.specs.ReadText as word
 use Rattle.ltl_word.specs.declared.fault.WordFault.{WordFault}
 use Rattle.ltl_word.specs.declared.fault.WordFault.TheVariants as fault
 use Rattle.ltl_cli.specs.declared.refusal.Refusal.{Refusal}
 use Rattle.ltl_cli.specs.declared.refusal.Refusal.TheVariants.{OutOfMemory}
-use Rattle.ltl_cli.specs.Refusals.{of_read, of_word, refusal_of}
+use Rattle.ltl_cli.specs.Refusals.{TakesStep, of_word, refusal_of}
 use Rattle.ltl_cli.specs.Runs.{Finishes}
-use Rattle.ltl_cli.proofs.MessageLaws.{flush_failed}
+use Rattle.ltl_cli.proofs.MessageLaws.{flush_fails}
 use Rattle.ltl_pictures.specs.Timeline.{IsTruth, timeline, word_timeline}
 use Rattle.ltl_pictures.specs.TimelineView.{FailsToShow, HasTrueMarks}
 use Rattle.ltl_pictures.specs.declared.fault.TimelineFault.{TimelineFault}
@@ -29,11 +27,14 @@ use Rattle.ltl_draw.proofs.RunLaws.{all_printed, nothing_printed, some_printed}
 
 -- ---- texts that are refused
 
-pub formula_refused : (text : List ℕ) (f : ReadFault) → formula.IsRefusedFor text f → (of_read f ≡ OutOfMemory) ⊎ ReadsFormula stated_limits text (Err (refusal_of (of_read f)))
-formula_refused text read.TooLong h = inr h
-formula_refused text (read.AtByte place kind) h = inr h
-formula_refused text read.TooManyPropositions h = inr h
-formula_refused text read.OutOfMemory h = inl refl
+-- an input that is this text reads as the text does
+pub formula_step : (bytes text : List ℕ) → bytes ≡ text → (r : Result FormulaView Refusal) → TakesStep (InputReads stated_limits (Text bytes)) reading_of r → TakesStep (ReadsFormula stated_limits text) reading_of r
+formula_step bytes text e (Ok f) h =
+    let (t, s, k) = then_ok (λ r. r ≡ taken stated_limits.formula_bytes (Text bytes)) (ReadsFormula stated_limits) (reading_of f) h in
+    subst (λ (x : List ℕ). ReadsFormula stated_limits x (Ok (reading_of f))) (same_ok t bytes s ∙ e) k
+formula_step bytes text e (Err f) (inl m) = inl m
+formula_step bytes text e (Err f) (inr (inl (x, s, q))) = absurd (never bytes x s)
+formula_step bytes text e (Err f) (inr (inr (t, s, k))) = inr (subst (λ (x : List ℕ). ReadsFormula stated_limits x (Err (refusal_of f))) (same_ok t bytes s ∙ e) k)
 
 pub word_refused : (names : List Name) (text : List ℕ) (f : WordFault) → word.IsRefusedFor names text f → (of_word f ≡ OutOfMemory) ⊎ ReadsWord stated_limits names text (Err (refusal_of (of_word f)))
 word_refused names text fault.TooLong h = inr h
@@ -44,7 +45,7 @@ word_refused names text fault.OutOfMemory h = inl refl
 -- ---- the flush behind a text
 
 pub flush_broke : {o m n : SinkState} (text : List ℕ) → Takes o m text → Fails m n → Breaks o n text
-flush_broke {n = n} text p q = flush_failed {T = Unit {0}} {E = Unit {0}} (Err tt) n text p q
+flush_broke text p q = flush_fails {T = Unit {0}} {E = Unit {0}} (Err tt) _ _ q _ text p tt
 
 -- ---- outcomes
 

@@ -1,12 +1,10 @@
 //! The program over byte streams: from an automaton's text to its drawing, or a timeline.
 
-ghost use Rattle.std.specs.Prelude.{◌≡◌, ℕ, List, Option, OnOk, OnErr, Ok};
+ghost use Rattle.std.specs.Prelude.{◌≡◌, ℕ, List, Option, Ok};
 ghost use Rattle.ltl_spec.specs.Tools.Stage.{Open};
 ghost use Rattle.ltl_spec.specs.Tools.Outcome as spec;
-ghost use Rattle.ltl_streams.specs.Streams.{Breaks};
 ghost use Rattle.ltl_cli.specs.Inputs.{IsFailed, IsFoundUnless, IsOpen, WasAutomaton};
-ghost use Rattle.ltl_cli.specs.Runs.{Finishes, Shows, StaysAt};
-ghost use Rattle.ltl_pictures.specs.DotText.{dot_text};
+ghost use Rattle.ltl_cli.specs.Runs.{Shows, StaysAt};
 ghost use Rattle.ltl_draw.specs.Plans.{Picture, request_in, requested};
 ghost use Rattle.ltl_draw.specs.Runs.{IsOutcome, MayDraw, NeedsNoInput, ReadsNamed};
 
@@ -16,9 +14,9 @@ use crate::named::Named;
 use crate::request::Plan;
 use crate::run_picture::run_shown;
 use crate::timeline::shown;
-use ltl_cli::{Refusal, Source};
+use ltl_cli::{Refusal, Source, flushed};
 use ltl_pictures::Drawing;
-use ltl_streams::{ByteSink, ByteSource, WriteFault};
+use ltl_streams::{ByteSink, ByteSource};
 use ltl_words::PlanFault;
 use std::alloc::Allocator;
 
@@ -37,18 +35,6 @@ fn drawing_of<'a, A: Allocator, R: ByteSource>(
     Ok(drawing)
 }
 
-/// Writes the drawing and flushes the output.
-fn print<A: Allocator, S: ByteSink>(
-    drawing: &Drawing<'_, A>,
-    output: &mut S,
-) -> Result<(), WriteFault>
-    ensures ok { OnOk result (Finishes (S.state output.old) (S.state output.new) (dot_text drawing.now)) }
-    ensures err { OnErr result (Breaks (S.state output.old) (S.state output.new) (dot_text drawing.now)) }
-{
-    drawing.put_dot(output)?;
-    output.flush()
-}
-
 /// Reads an automaton from the source, and writes its drawing.
 fn printed<A: Allocator, R: ByteSource, S: ByteSink>(
     alloc: &A,
@@ -61,7 +47,7 @@ fn printed<A: Allocator, R: ByteSource, S: ByteSink>(
         × ((file : Option (List ℕ)) → IsOutcome (Ok (Picture file)) input (S.state output.old) (S.state output.new) result) }
 {
     let drawing = drawing_of(alloc, source)?;
-    let printed = print(&drawing, output);
+    let printed = flushed(drawing.put_dot(output), output);
     drop(drawing);
     printed?;
     Ok(())

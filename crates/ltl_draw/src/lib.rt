@@ -23,7 +23,6 @@ pub mod process;
 pub mod program;
 pub mod request;
 mod run_picture;
-mod text_source;
 mod timeline;
 
 pub use command::plan;

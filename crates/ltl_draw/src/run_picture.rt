@@ -1,22 +1,19 @@
 //! The drawing of an automaton with an accepting run on a word.
 
-ghost use Rattle.std.specs.Prelude.{◌≡◌, ℕ, List, Option, OnOk, OnErr, Ok};
+ghost use Rattle.std.specs.Prelude.{◌≡◌, ℕ, List, Option, Ok};
 ghost use Rattle.ltl_spec.specs.Tools.Stage.{Open};
 ghost use Rattle.ltl_spec.specs.Tools.Outcome as spec;
-ghost use Rattle.ltl_streams.specs.Streams.{Breaks};
 ghost use Rattle.ltl_cli.specs.Inputs.{IsOpen, WasAutomaton};
 ghost use Rattle.ltl_cli.specs.Refusals.{TakesStep};
-ghost use Rattle.ltl_cli.specs.Runs.{Finishes};
-ghost use Rattle.ltl_pictures.specs.RunText.{run_text};
 ghost use Rattle.ltl_draw.specs.Plans.{Run};
 ghost use Rattle.ltl_draw.specs.Runs.{IsOutcome, RunsOn, of_run};
 
 use crate::input::named_of;
 use crate::named::Named;
 use crate::timeline::word_alone;
-use ltl_cli::{Refusal, Source};
+use ltl_cli::{Refusal, Source, flushed};
 use ltl_pictures::{RunDrawing, RunFault, accepting_run};
-use ltl_streams::{ByteSink, ByteSource, WriteFault};
+use ltl_streams::{ByteSink, ByteSource};
 use ltl_word::Lasso;
 use std::alloc::Allocator;
 
@@ -48,18 +45,6 @@ fn run_drawing<'a, A: Allocator>(
     Ok(drawing)
 }
 
-/// Writes the drawing and flushes the output.
-fn print<A: Allocator, S: ByteSink>(
-    drawing: &RunDrawing<'_, A>,
-    output: &mut S,
-) -> Result<(), WriteFault>
-    ensures ok { OnOk result (Finishes (S.state output.old) (S.state output.new) (run_text drawing.now)) }
-    ensures err { OnErr result (Breaks (S.state output.old) (S.state output.new) (run_text drawing.now)) }
-{
-    drawing.put_dot(output)?;
-    output.flush()
-}
-
 /// Reads a word from the text, then an automaton and its names from the source, and writes their drawing with an accepting run on the word.
 pub(crate) fn run_shown<A: Allocator, R: ByteSource, S: ByteSink>(
     alloc: &A,
@@ -75,7 +60,7 @@ pub(crate) fn run_shown<A: Allocator, R: ByteSource, S: ByteSink>(
     let word = word_alone(alloc, text)?;
     let named = named_of(alloc, source)?;
     let drawing = run_drawing(alloc, named, &word)?;
-    let printed = print(&drawing, output);
+    let printed = flushed(drawing.put_dot(output), output);
     drop(drawing);
     printed?;
     Ok(())

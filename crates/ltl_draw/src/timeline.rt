@@ -3,31 +3,20 @@
 ghost use Rattle.std.specs.Prelude.{◌≡◌, [], option_map, Ok, Err, Some, None, IfOk, IfErr, MatchResult};
 ghost use Rattle.ltl_spec.specs.Tools.Limits.{stated_limits};
 ghost use Rattle.ltl_spec.specs.Tools.Outcome as spec;
-ghost use Rattle.ltl_spec.specs.Tools.Programs.{ReadsFormula, ReadsWord};
+ghost use Rattle.ltl_spec.specs.Tools.Programs.{ReadsWord};
 ghost use Rattle.ltl_spec.specs.Tools.Stage.{Open};
-ghost use Rattle.ltl_syntax.specs.FormulaView.{IsFormula, reading_of};
 ghost use Rattle.ltl_cli.specs.Refusals.{TakesStep};
 ghost use Rattle.ltl_pictures.specs.Timeline.{word_timeline};
 ghost use Rattle.ltl_pictures.specs.TimelineView.{HasTrueMarks};
 ghost use Rattle.ltl_draw.specs.Plans.{Timeline};
 ghost use Rattle.ltl_draw.specs.Runs.{IsOutcome, IsSent, of_timeline};
 
-use ltl_cli::Refusal;
+use ltl_cli::{Refusal, formula_of};
 use ltl_pictures::{TimelineFault, timeline_to, word_timeline_to};
 use ltl_streams::ByteSink;
 use ltl_syntax::{Formula, read};
 use ltl_word::Lasso;
 use std::alloc::Allocator;
-
-/// Reads a formula.
-fn formula_of<'a, A: Allocator>(alloc: &'a A, text: &str) -> Result<Formula<'a, A>, Refusal>
-    ensures step { TakesStep (ReadsFormula stated_limits text.now) reading_of result }
-    ensures formula { IfOk result (λ f. IsFormula f.nodes f.names) }
-{
-    let formula = read(alloc, text.as_bytes())?;
-    formula.invariant();
-    Ok(formula)
-}
 
 /// The formula `true`, which has no propositions. The only error is `OutOfMemory`.
 fn no_propositions<'a, A: Allocator>(alloc: &'a A) -> Result<Formula<'a, A>, Refusal>
@@ -124,7 +113,8 @@ fn both_shown<A: Allocator, S: ByteSink>(
     requires { (S.state output.old).stage ≡ Open }
     ensures { (input : spec.Input) → IsOutcome (Ok (Timeline text.now (Some formula.now))) input (S.state output.old) (S.state output.new) result }
 {
-    let read = formula_of(alloc, formula)?;
+    let read = formula_of(alloc, formula.as_bytes())?;
+    read.invariant();
     let word = word_of(alloc, text, &read)?;
     outcome(send_both(alloc, &read, &word, output))
 }

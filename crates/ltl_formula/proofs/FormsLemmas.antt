@@ -32,26 +32,14 @@ module _ (r : Bool) (f g : ℕ → Both) where
   form_alike : (v : Node) (negate : Bool) → HasOperandForms IsAlike v negate → form_of negate (both_of r f (flat_of v)) ≡ form_of negate (both_of r g (flat_of v))
   form_alike (code.Constant b) negate h = refl
   form_alike (code.Proposition p) negate h = refl
-  form_alike (code.Unary unary.Not i) true h = h
-  form_alike (code.Unary unary.Not i) false h = h
-  form_alike (code.Unary unary.Next i) true h = ap (made_next r) h
-  form_alike (code.Unary unary.Next i) false h = ap (made_next r) h
-  form_alike (code.Unary unary.Always i) true h = ap (made_until r (constant true)) h
-  form_alike (code.Unary unary.Always i) false h = ap (made_release r (constant false)) h
-  form_alike (code.Unary unary.Eventually i) true h = ap (made_release r (constant false)) h
-  form_alike (code.Unary unary.Eventually i) false h = ap (made_until r (constant true)) h
-  form_alike (code.Binary binary.And i j) true h = λ t. made_or r (h.0 t) (h.1 t)
-  form_alike (code.Binary binary.And i j) false h = λ t. made_and r (h.0 t) (h.1 t)
-  form_alike (code.Binary binary.Or i j) true h = λ t. made_and r (h.0 t) (h.1 t)
-  form_alike (code.Binary binary.Or i j) false h = λ t. made_or r (h.0 t) (h.1 t)
-  form_alike (code.Binary binary.Implies i j) true h = λ t. made_and r (h.0 t) (h.1 t)
-  form_alike (code.Binary binary.Implies i j) false h = λ t. made_or r (h.0 t) (h.1 t)
+  form_alike (code.Unary unary.Not i) true h = cc
+  form_alike (code.Unary unary.Not i) false h = cc
+  form_alike (code.Unary _ i) true h = cc
+  form_alike (code.Unary _ i) false h = cc
   form_alike (code.Binary binary.Iff i j) true h = λ t. made_and r (made_or r (h.0.0 t) (h.1.0 t)) (made_or r (h.0.1 t) (h.1.1 t))
   form_alike (code.Binary binary.Iff i j) false h = λ t. made_or r (made_and r (h.0.1 t) (h.1.1 t)) (made_and r (h.0.0 t) (h.1.0 t))
-  form_alike (code.Binary binary.Until i j) true h = λ t. made_release r (h.0 t) (h.1 t)
-  form_alike (code.Binary binary.Until i j) false h = λ t. made_until r (h.0 t) (h.1 t)
-  form_alike (code.Binary binary.Release i j) true h = λ t. made_until r (h.0 t) (h.1 t)
-  form_alike (code.Binary binary.Release i j) false h = λ t. made_release r (h.0 t) (h.1 t)
+  form_alike (code.Binary _ i j) true h = let p = h.0 in let q = h.1 in cc
+  form_alike (code.Binary _ i j) false h = let p = h.0 in let q = h.1 in cc
 
 -- ---- a node's forms
 

@@ -1,44 +1,68 @@
 //! The errors of reading an automaton.
 
-ghost use Rattle.std.specs.Prelude.{◌≡◌};
+ghost use Rattle.std.specs.Prelude.{◌≡◌, ◌≤◌, Some, length};
+ghost use Rattle.ltl_spec.specs.Hoa.HoaFaultKind.{hoa_fault_text};
+ghost use Rattle.ltl_hoa.specs.TokenView.{kind_of};
 ghost use Rattle.ltl_hoa.specs.declared.fault.HoaFault.TheVariants as hoa;
 ghost use Rattle.ltl_hoa.specs.declared.fault.Stop.TheVariants as stop;
 
 use std::alloc::AllocError;
+use std::fmt;
 use thiserror::Error;
 
 /// What is wrong with a text.
-#[derive(Clone, Copy, Debug, PartialEq, Eq, Error)]
+#[derive(Clone, Copy, Debug, PartialEq, Eq)]
 pub enum HoaFaultKind {
     /// The text doesn't begin with `HOA: v1`.
-    #[error("not HOA v1")]
     NotHoaVersion1,
     /// A token is in a wrong place, a byte begins no token, the text ends too early, or a string or a comment isn't closed.
-    #[error("bad token")]
     BadToken,
-    #[error("item twice")]
     ItemTwice,
-    #[error("item missing")]
     ItemMissing,
-    #[error("unknown item")]
     UnknownItem,
     /// The text uses a part of the format that this reader doesn't support.
-    #[error("unsupported")]
     Unsupported,
     /// A number of a state, a set or a proposition isn't below the count in the header.
-    #[error("number out of range")]
     NumberOutOfRange,
     /// A name is no proposition, or the list has a name twice, or it has too few or too many names.
-    #[error("bad AP list")]
     BadPropositionList,
-    #[error("state defined twice")]
     StateDefinedTwice,
-    #[error("text after the end")]
     TextAfterEnd,
     /// The text, the automaton or a label is above a limit.
-    #[error("limit passed")]
     LimitPassed,
 }
+
+impl HoaFaultKind {
+    /// The end of the message, behind the number of the line.
+    pub fn text(self) -> &'static str
+        ensures text { result.now ≡ hoa_fault_text (kind_of self) }
+        ensures short { length result.now ≤ 30 }
+    {
+        match self {
+            HoaFaultKind::NotHoaVersion1 => "not HOA v1",
+            HoaFaultKind::BadToken => "bad token",
+            HoaFaultKind::ItemTwice => "item twice",
+            HoaFaultKind::ItemMissing => "item missing",
+            HoaFaultKind::UnknownItem => "unknown item",
+            HoaFaultKind::Unsupported => "unsupported",
+            HoaFaultKind::NumberOutOfRange => "number out of range",
+            HoaFaultKind::BadPropositionList => "bad AP list",
+            HoaFaultKind::StateDefinedTwice => "state defined twice",
+            HoaFaultKind::TextAfterEnd => "text after the end",
+            HoaFaultKind::LimitPassed => "limit passed",
+        }
+    }
+}
+
+impl fmt::Display for HoaFaultKind {
+    ghost output = { λ kind. Some (hoa_fault_text (kind_of kind)) };
+
+    fn fmt<W: fmt::Write>(&self, f: &mut fmt::Formatter<W>) -> fmt::Result {
+        f.write_str(self.text())
+    }
+}
+
+impl std::error::Error for HoaFaultKind {}
 
 /// Why no automaton was read.
 #[derive(Clone, Copy, Debug, PartialEq, Eq, Error)]

@@ -46,3 +46,4 @@ pub use marks::Marks;
 pub use names_reader::hoa_names;
 pub use naming::HoaNames;
 pub use read::{hoa_read, hoa_read_from};
+pub use stream_reader::MOST_BYTES;

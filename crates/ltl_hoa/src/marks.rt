@@ -6,12 +6,12 @@ ghost use Rattle.ltl_spec.specs.Collections.Sets as sets;
 
 use crate::marked::MOST_SETS;
 use ltl_sets::RowSet;
-use std::alloc::AllocError;
 use std::fmt;
 use std::marker::Model;
 
 /// The acceptance sets that an edge belongs to. Their numbers are below [`MOST_SETS`]. Contracts see the sorted list of these numbers. A value takes
 /// 4 bytes, an eighth of a `RowSet`, since every edge of an automaton has one.
+#[derive(Clone, Copy)]
 pub struct Marks {
     bits: u32,
 }
@@ -67,20 +67,6 @@ impl Marks {
         numbers
     }
 }
-
-impl Clone for Marks {
-    ghost use Rattle.std.specs.Prelude.{◌≡◌, ⊤};
-
-    ghost is_clone = { λ s r. r ≡ s };
-
-    ghost is_infallible = { λ _. ⊤ };
-
-    fn clone(&self) -> Result<Marks, AllocError> {
-        Ok(*self)
-    }
-}
-
-impl Copy for Marks {}
 
 impl PartialEq for Marks {
     ghost use Rattle.std.specs.Prelude.{nat_eq};

@@ -15,7 +15,7 @@ use std::alloc::{AllocError, Allocator};
 use std::marker::Model;
 
 /// The largest number of bytes in a text.
-pub(crate) const MOST_BYTES: usize = 16_777_216;
+pub const MOST_BYTES: usize = 16_777_216;
 
 /// A fault and its line.
 #[derive(Clone, Copy)]

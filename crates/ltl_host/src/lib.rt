@@ -41,7 +41,7 @@ const ROOM: usize = 33_488_896;
 /// Allocates a large block and frees it unused, so that the allocator keeps freed memory later. The C library of Linux returns memory to the system
 /// as soon as 128 KiB at the end of its heap are free, and each page that is used again costs a page fault. When a block of this size is freed, it
 /// raises that threshold to twice the block's size. If the block is refused, nothing is lost.
-fn keep_freed<A: Allocator>(alloc: A) {
+pub fn keep_freed<A: Allocator>(alloc: A) {
     let room: Result<Vec<u8, A>, AllocError> = Vec::with_capacity(alloc, ROOM);
     let _ = room.is_ok();
 }

@@ -1,33 +1,17 @@
 //! State-based Büchi automata.
 
-ghost use Rattle.std.specs.Prelude.{◌≡◌, ◌+◌, ◌*◌, ◌%◌, ◌<◌, ◌≤◌, [], length, map, All, IfOk, OnOk};
+ghost use Rattle.std.specs.Prelude.{◌≡◌, ◌<◌, ◌≤◌, [], length, map, All, IfOk};
 ghost use Rattle.ltl_spec.specs.Automata.Automaton.{state_at};
 ghost use Rattle.ltl_spec.specs.Tools.Limits.{stated_limits};
 ghost use Rattle.ltl_automaton.specs.CodedEdges.{coded_edge_of, edges_in};
 ghost use Rattle.ltl_automaton.specs.LabelTables.{HasLabels, labelled_of};
 ghost use Rattle.ltl_models.specs.BaView.{IsBa, IsTargetOrder, HaveOrders};
 
+use crate::order::{Places, key, places};
 use ltl_automaton::{CodedEdge, CodedStates, Edges, SharedStates};
 use smallvec::SmallVec;
 use std::alloc::{AllocError, Allocator};
 use std::marker::Model;
-
-/// Positions in an edge list. Up to 4 are stored without an allocation, since most states have few edges.
-type Places<'a, A> = SmallVec<usize, 4, &'a A>;
-
-/// 2^32, so above every state and every position in an edge list.
-const PLACES: usize = 4_294_967_296;
-
-/// A target and a position as one number. If one of them needs more than 32 bits, this is reported as lack of memory.
-fn key(target: usize, place: usize) -> Result<u64, AllocError>
-    ensures key { IfOk result (λ k. k ≡ target * PLACES + place) }
-    ensures small { OnOk result (place < PLACES) }
-{
-    if target >= PLACES || place >= PLACES {
-        return Err(AllocError);
-    }
-    Ok((target * PLACES + place) as u64)
-}
 
 /// The positions of the edges, sorted by target and then by position. Target and position are sorted as one number.
 fn places_by_target<'a, A: Allocator>(
@@ -42,17 +26,6 @@ fn places_by_target<'a, A: Allocator>(
     }
     keys.as_mut_slice().sort_unstable();
     let places = places(alloc, keys.as_slice())?;
-    Ok(places)
-}
-
-/// The positions, which are the keys without the targets.
-fn places<'a, A: Allocator>(alloc: &'a A, keys: &[u64]) -> Result<Places<'a, A>, AllocError>
-    ensures { IfOk result (λ ps. ps.items ≡ map (λ k. k % PLACES) keys.now) }
-{
-    let mut places: Places<'a, A> = SmallVec::with_capacity(alloc, keys.len())?;
-    for key in keys {
-        places.push(*key as usize % PLACES)?;
-    }
     Ok(places)
 }
 

@@ -24,6 +24,7 @@ pub mod fault;
 pub mod gba;
 pub mod numbered;
 pub mod options;
+pub mod order;
 
 pub use automaton::Ba;
 pub use fault::BaFault;

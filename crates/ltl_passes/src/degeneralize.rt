@@ -23,6 +23,7 @@ use std::hash::{Hash, Hasher};
 use std::marker::Model;
 
 /// A copy of a state: the state and its level.
+#[derive(Clone, Copy, PartialEq, Eq)]
 pub struct LevelState {
     /// The number of the state.
     pub state: usize,
@@ -41,40 +42,6 @@ impl Model for LevelState {
     ghost view = { λ p. record { state = p.state; level = p.level } };
 
     ghost inverse = { λ p. record { state = p.state; level = p.level } };
-}
-
-impl Clone for LevelState {
-    ghost use Rattle.std.specs.Prelude.{◌≡◌, ⊤};
-
-    ghost is_clone = { λ s r. r ≡ s };
-
-    ghost is_infallible = { λ _. ⊤ };
-
-    fn clone(&self) -> Result<LevelState, AllocError> {
-        Ok(*self)
-    }
-}
-
-impl Copy for LevelState {}
-
-impl PartialEq for LevelState {
-    ghost use Rattle.std.specs.Cmp.{partial_equiv_from_equiv};
-    ghost use Rattle.ltl_spec.specs.Construction.Levels.{same_level_state};
-    ghost use Rattle.ltl_passes.specs.LevelCodes.{same_equiv};
-
-    ghost eq = { same_level_state };
-
-    ghost laws = { partial_equiv_from_equiv same_equiv };
-
-    fn eq(&self, other: &LevelState) -> bool {
-        self.state == other.state && self.level == other.level
-    }
-}
-
-impl Eq for LevelState {
-    ghost use Rattle.ltl_passes.specs.LevelCodes.{same_equiv};
-
-    ghost laws = { same_equiv };
 }
 
 impl Hash for LevelState {

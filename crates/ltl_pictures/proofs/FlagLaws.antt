@@ -17,7 +17,6 @@ use Rattle.ltl_pictures.specs.Picked.{AreFlags, IsPick, is_set}
 use Rattle.ltl_pictures.specs.Picture.{edges_at}
 use Rattle.ltl_pictures.specs.RunText.{AreShown, is_picked}
 use Rattle.ltl_pictures.proofs.DrawnLaws.{are_drawn}
-use Rattle.ltl_pictures.proofs.OrderLaws.{Rows}
 
 -- what is read at a place is there, whatever stands for nothing
 pub any_default : {X : Type 0} (xs : List X) (i : ℕ) (d e : X) → i < length xs → slice_index_or xs i d ≡ slice_index_or xs i e

@@ -1,10 +1,10 @@
 -- Letters by numbers of names.
-use Rattle.std.proofs.Common.{◌≡◌, ◌≢◌, ◌∙◌, ap, sym, refl, subst, ℕ, zero, suc, replicate, ◌+◌, ◌<◌, ◌≤◌, Bool, true, false, inl, inr, List, [], length, map, arith}
-use Rattle.std.specs.Prelude.{IsTrue, slice_index_or}
+use Rattle.std.proofs.Common.{◌≡◌, ◌∙◌, ap, sym, refl, subst, ℕ, zero, suc, replicate, ◌+◌, ◌<◌, Bool, true, false, inl, inr, List, [], length, arith}
+use Rattle.std.specs.Prelude.{IsTrue}
 use Rattle.std.specs.Bool.{Decides}
 use Rattle.std.specs.Ordering.{nat_cmp}
-use Rattle.ltl_spec.specs.Collections.Sets.{Has, has, put}
-use Rattle.ltl_spec.specs.Semantics.Word.{Lasso, Name, is_true_at, letter_at, name_cmp}
+use Rattle.ltl_spec.specs.Collections.Sets.{has, put}
+use Rattle.ltl_spec.specs.Semantics.Word.{Lasso, Name, is_true_at}
 use Rattle.ltl_spec.proofs.Collections.SetLaws.{has_Decides, put_cases, put_old, put_new}
 use Rattle.ltl_spec.proofs.Collections.CaseLaws.{below_or_last, false_is_true}
 use Rattle.ltl_spec.proofs.Collections.Orders.{nat_linear}

@@ -9,7 +9,6 @@ pub mod LineLaws
 pub mod NameLaws
 pub mod OrderLaws
 pub mod PickLaws
-pub mod PrintLaws
 pub mod PutLaws
 pub mod RunLaws
 pub mod StepLaws

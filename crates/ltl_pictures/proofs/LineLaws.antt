@@ -4,9 +4,9 @@ use Rattle.std.specs.Fmt.{decimal}
 use Rattle.std.proofs.lemmas.List.{get_or-reverse, length-reverse}
 use Rattle.std.specs.Prelude.{◌≢◌, ◌==◌, if◌then◌else◌, codes, replicate}
 use Rattle.ltl_streams.specs.Streams.{SinkState}
-use Rattle.ltl_pictures.specs.declared.printer.Printer.{Printer}
-use Rattle.ltl_pictures.specs.Printing.{Prints}
-use Rattle.ltl_pictures.proofs.PrintLaws.{Lacks, lacks_end, lacks_step}
+use Rattle.ltl_streams.specs.declared.printer.Printer.{Printer}
+use Rattle.ltl_streams.specs.Printing.{Prints}
+use Rattle.ltl_streams.proofs.PrintLaws.{Lacks, lacks_end, lacks_step}
 use Rattle.std.proofs.lemmas.Bool.Decides.{nat_tests}
 use Rattle.ltl_spec.specs.Semantics.Word.{Lasso}
 use Rattle.ltl_word.specs.LassoView.{size}

@@ -1,10 +1,9 @@
 -- The text of a picture, in parts.
-use Rattle.std.proofs.Common.{◌≡◌, ◌∙◌, ap, sym, refl, ℕ, ◌-◌, Bool, List, [], ◌++◌, ◌+◌, length, append_assoc, arith}
+use Rattle.std.proofs.Common.{◌≡◌, ◌∙◌, ap, sym, refl, ℕ, Bool, List, [], ◌++◌, ◌+◌, length, append_assoc, arith}
 use Rattle.std.specs.Prelude.{Option, Some, codes, flat_map, not, ◌&&◌}
 use Rattle.std.specs.List.{list_any, range_with_len}
 use Rattle.ltl_spec.specs.Automata.Automaton.{Edge}
 use Rattle.ltl_spec.specs.Semantics.Word.{Name}
-use Rattle.ltl_text.proofs.HoaLaws.{states_from}
 use Rattle.ltl_pictures.specs.DotText.{arrow_text, dot_text, head_text, node_text, picture_text, state_text}
 use Rattle.ltl_pictures.specs.NamedAutomaton.{NamedAutomaton, state_name}
 use Rattle.ltl_pictures.specs.Picked.{is_set}
@@ -26,9 +25,6 @@ module _ (N : NamedAutomaton) (taken : ℕ → ℕ → Bool) where
 
       with : (f : ℕ → Bool) → f ≡ taken k → state_text N taken k ≡ node_text name double red k ++ flat_map (arrow_text names (not by) f es) (arrows k es)
       with f same = rw (d, ← one_taken, same, e, n, m, b) refl
-
-  pub states_begin : flat_map (state_text N taken) (range_with_len 0 N.automaton.states) ≡ states_from (state_text N taken) N.automaton.states 0
-  states_begin = let e : N.automaton.states ≡ N.automaton.states - 0 = omega arith in ap (λ n. flat_map (state_text N taken) (range_with_len 0 n)) e
 
   pub picture_pieces : (note : List ℕ) → picture_text N taken note ≡ head_text N note ++ (flat_map (state_text N taken) (range_with_len 0 N.automaton.states) ++ codes "}\n")
   picture_pieces note = append_assoc (head_text N note) (flat_map (state_text N taken) (range_with_len 0 N.automaton.states)) (codes "}\n")

@@ -1,26 +1,23 @@
 -- Walks of an automaton at the positions of a word are its runs on the word, and the word is accepted where there is one.
-use Rattle.std.proofs.Common.{◌≡◌, ◌≢◌, ◌∙◌, ap, ap₂, sym, refl, subst, ℕ, zero, suc, ◌+◌, ◌*◌, ◌/◌, ◌%◌, ◌<◌, ◌≤◌, Bool, true, false, inl, inr, List, [], ◌∷◌, ◌++◌, length, map, Some, None, arith}
-use Rattle.std.specs.Prelude.{IsTrue, ◌&&◌, cond, nat_lt, option_map, slice_index_or, Option, Result, Ok, Err, IfOk, IfSome}
+use Rattle.std.proofs.Common.{◌≡◌, ◌≢◌, ◌∙◌, ap, ap₂, sym, refl, subst, ℕ, zero, suc, ◌+◌, ◌*◌, ◌/◌, ◌%◌, ◌<◌, Bool, true, inl, inr, List, [], ◌∷◌, length, map, Some, None, arith}
+use Rattle.std.specs.Prelude.{◌&&◌, cond, nat_lt, option_map, slice_index_or, Option, Result, Ok, Err, IfOk, IfSome}
 use Rattle.std.specs.Bool.{beq}
 use Rattle.std.specs.Ordering.{nat_cmp}
 use Rattle.std.proofs.lemmas.Nat.{div-mul-add, mod-mul-add}
 use Rattle.ltl_spec.specs.Collections.Sets.{Has, has}
-use Rattle.ltl_spec.specs.Semantics.Word.{Lasso, Name, is_true_at, next}
+use Rattle.ltl_spec.specs.Semantics.Word.{Lasso, is_true_at, next}
 use Rattle.ltl_spec.specs.Transitions.Cubes.{Cube, Literal, allows}
-use Rattle.ltl_spec.specs.Automata.Automaton.{AcceptedFrom, Automaton, Edge, IsWalk, state_at}
+use Rattle.ltl_spec.specs.Automata.Automaton.{Edge, IsWalk}
 use Rattle.ltl_spec.specs.Hoa.HoaReading.{MarkedAutomaton}
 use Rattle.ltl_spec.specs.Checking.Check.{MarkedAccepts, graph_of}
 use Rattle.ltl_spec.proofs.Automata.ListedStates.{no_state}
 use Rattle.ltl_spec.proofs.Collections.SetLaws.{has_Decides}
 use Rattle.ltl_spec.proofs.Collections.ListLaws.{All-at_has}
-use Rattle.ltl_spec.proofs.Collections.MemberLaws.{Has-map}
 use Rattle.ltl_spec.proofs.Collections.Orders.{nat_linear}
-use Rattle.ltl_word.specs.LassoView.{size}
 use Rattle.ltl_check.specs.declared.graph.Step.{Step}
 use Rattle.ltl_check.specs.declared.walk.Taken.{Taken}
 use Rattle.ltl_check.specs.LevelLaws.{mapped}
-use Rattle.ltl_check.specs.Levels.{IsFullWalk, Takes, numbered}
-use Rattle.ltl_check.specs.Marks.{in_set}
+use Rattle.ltl_check.specs.Levels.{Takes, numbered}
 use Rattle.ltl_check.specs.Nets.{IsSuccessor, IsStepPath, Net}
 use Rattle.ltl_check.specs.ProductView.{no_edge}
 use Rattle.ltl_pictures.specs.declared.pick.Pick.{Pick}
@@ -28,7 +25,7 @@ use Rattle.ltl_pictures.specs.Edges.{edges_at}
 use Rattle.ltl_pictures.specs.declared.places.Place.{Place}
 use Rattle.ltl_pictures.specs.Letters.{AreLetters, letter_in}
 use Rattle.ltl_pictures.specs.PlaceLaws.{edge_within, next_below, number_below, place_back, place_of_number, some_position, step_is}
-use Rattle.ltl_pictures.specs.PlaceView.{IsFoundRun, IsInside, IsFullRun, IsPlace, next_position, pick_of, picks_of, place_at, place_net, place_number, place_step, start_place, step_along}
+use Rattle.ltl_pictures.specs.PlaceView.{IsFoundRun, IsInside, IsFullRun, next_position, pick_of, picks_of, place_at, place_net, place_number, place_step, start_place, step_along}
 use Rattle.ltl_pictures.specs.Runs.{IsAcceptingRun, IsRun, IsRunOf, edge_of_pick}
 
 -- letters that agree on the literals' propositions

@@ -9,7 +9,6 @@ pub mod Picture
 pub mod Pieces
 pub mod PlaceLaws
 pub mod PlaceView
-pub mod Printing
 pub mod RunText
 pub mod Runs
 pub mod Timeline

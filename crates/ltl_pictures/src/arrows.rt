@@ -11,12 +11,12 @@ ghost use Rattle.ltl_pictures.specs.Drawn.{AreNamed};
 ghost use Rattle.ltl_pictures.specs.Picked as picked;
 ghost use Rattle.ltl_pictures.specs.Picture.{Arrow, arrows};
 ghost use Rattle.ltl_pictures.specs.Pieces.{front_text, parts_text};
-ghost use Rattle.ltl_pictures.specs.Printing.{Prints};
+ghost use Rattle.ltl_streams.specs.Printing.{Prints};
 
-use crate::label::{Style, put_edge, put_number};
-use crate::printer::Printer;
+use crate::label::{Style, put_edge};
 use ltl_hoa::MarkedEdge;
-use ltl_streams::ByteSink;
+use ltl_streams::{ByteSink, Printer};
+use ltl_text::put_number;
 use std::alloc::Allocator;
 
 /// Edges of a state, some of their indices, and for each edge whether a run takes it.

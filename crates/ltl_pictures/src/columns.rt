@@ -1,13 +1,12 @@
 //! The columns of a timeline's lines, one for each position.
 
 ghost use Rattle.std.specs.Prelude.{◌≡◌, ◌+◌, ◌/◌, ◌==◌, [], codes, if◌then◌else◌, length};
-ghost use Rattle.ltl_pictures.specs.Printing.{Prints};
+ghost use Rattle.ltl_streams.specs.Printing.{Prints};
 ghost use Rattle.ltl_pictures.specs.Timeline as spec;
 ghost use Rattle.ltl_word.specs.LassoView.{size};
 ghost use Rattle.ltl_word.specs.Rows.{bit_of};
 
-use crate::printer::Printer;
-use ltl_streams::ByteSink;
+use ltl_streams::{ByteSink, Printer};
 use ltl_text::Digits;
 use ltl_word::{Bits, Lasso};
 use std::alloc::Allocator;

@@ -1,27 +1,17 @@
 //! Labels of edges, as formulas of propositions.
 
 ghost use Rattle.std.specs.Prelude.{◌≡◌, ◌<◌, ◌++◌, ◌∷◌, codes, length, map, string_bytes, All};
-ghost use Rattle.std.specs.Fmt.{decimal};
-ghost use Rattle.ltl_spec.specs.Automata.GeneralizedText.{marks_text};
 ghost use Rattle.ltl_sets.specs.Literals.{literal_of};
 ghost use Rattle.ltl_hoa.specs.MarkedView.{HasPropositionsBelow, edge_of};
-ghost use Rattle.ltl_pictures.specs.Printing.{Prints};
+ghost use Rattle.ltl_streams.specs.Printing.{Prints};
 ghost use Rattle.ltl_pictures.specs.DotText as text;
 ghost use Rattle.ltl_pictures.specs.DotText.{edge_text, formula_text, literal_text};
 
-use crate::printer::Printer;
 use ltl_hoa::MarkedEdge;
-use ltl_sets::{Cube, Literal, RowSet};
-use ltl_streams::ByteSink;
-use ltl_text::Digits;
+use ltl_sets::{Cube, Literal};
+use ltl_streams::{ByteSink, Printer};
+use ltl_text::put_marks;
 use std::alloc::Allocator;
-
-/// Writes a number in decimal.
-pub(crate) fn put_number<S: ByteSink>(number: usize, out: &mut Printer<'_, S>)
-    ensures { Prints S.state out.old out.new (decimal number) }
-{
-    out.put(Digits::of(number as u64).as_slice());
-}
 
 /// Writes the name of a literal's proposition, with `!` before it if the literal is negative.
 fn put_literal<A: Allocator, S: ByteSink>(
@@ -71,23 +61,6 @@ fn put_formula<A: Allocator, S: ByteSink>(
     }
 }
 
-/// Writes a blank and the numbers of the acceptance sets in braces, or nothing if there are none.
-fn put_sets<S: ByteSink>(sets: &RowSet, out: &mut Printer<'_, S>)
-    ensures { Prints S.state out.old out.new (marks_text sets.now) }
-{
-    let mut numbers = sets.iter();
-    let Some(first) = numbers.next() else {
-        return;
-    };
-    out.put(b" {");
-    put_number(first, out);
-    for number in numbers {
-        out.put(b" ");
-        put_number(number, out);
-    }
-    out.put(b"}");
-}
-
 /// How a label is written: whether it shows acceptance sets, and whether it is HTML with parts in red.
 #[derive(Clone, Copy)]
 pub(crate) struct Style {
@@ -107,6 +80,6 @@ pub(crate) fn put_edge<A: Allocator, S: ByteSink>(
 {
     put_formula(names, style.red, &edge.cube, out);
     if style.shown {
-        put_sets(&edge.sets.to_row_set(), out);
+        put_marks(&edge.sets.to_row_set(), out);
     }
 }

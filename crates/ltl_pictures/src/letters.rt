@@ -5,7 +5,7 @@ ghost use Rattle.ltl_spec.specs.Tools.Limits.{stated_limits};
 ghost use Rattle.ltl_sets.specs.declared.row_set.TheConstants.RowSet.{LIMIT};
 ghost use Rattle.ltl_pictures.specs.Letters.{AreLetters, IsPut, letter_in};
 
-use ltl_sets::RowSet;
+use ltl_sets::PropositionSet;
 use ltl_word::{Bits, Lasso};
 use std::alloc::{AllocError, Allocator};
 
@@ -13,16 +13,20 @@ use std::alloc::{AllocError, Allocator};
 fn empty_letters<'a, A: Allocator>(
     alloc: &'a A,
     count: usize,
-) -> Result<Vec<RowSet, &'a A>, AllocError>
+) -> Result<Vec<PropositionSet, &'a A>, AllocError>
     ensures long { IfOk result (λ v. length v.items ≡ count) }
     ensures none { IfOk result (λ v. (i : ℕ) → letter_in v.items i ≡ []) }
 {
-    let letters = vec![in alloc; RowSet::empty(); count]?;
+    let letters = vec![in alloc; PropositionSet::empty(); count]?;
     Ok(letters)
 }
 
 /// Adds a proposition to the letters of the positions where it is true.
-fn put_row<A: Allocator, B: Allocator>(letters: &mut Vec<RowSet, &A>, row: &Bits<'_, B>, p: usize)
+fn put_row<A: Allocator, B: Allocator>(
+    letters: &mut Vec<PropositionSet, &A>,
+    row: &Bits<'_, B>,
+    p: usize,
+)
     requires few { p < LIMIT }
     requires long { length row.now ≡ length letters.old.items / 64 + 1 }
     ensures { IsPut row.now p letters.old.items letters.new.items }
@@ -39,7 +43,7 @@ pub(crate) fn letters<'a, A: Allocator, B: Allocator>(
     alloc: &'a A,
     word: &Lasso<'_, B>,
     names: &[String<&A>],
-) -> Result<Vec<RowSet, &'a A>, AllocError>
+) -> Result<Vec<PropositionSet, &'a A>, AllocError>
     requires { length names.now ≤ stated_limits.propositions }
     ensures { IfOk result (λ v. AreLetters (map string_bytes names.now) word.now v.items) }
 {

@@ -15,7 +15,7 @@
 //! and a formula evaluated by `ltl_word`, which returns a bit vector for each of them; `lines` and `columns` write these. Everything is allocated before the
 //! first byte is written.
 //!
-//! All of them write in pieces of up to 16 KiB (`printer`).
+//! All of them write in pieces of up to 16 KiB (`Printer` of `ltl_streams`).
 //!
 //! ```
 //! let automaton = hoa_read(&alloc, &mut text.as_slice())?;
@@ -53,7 +53,6 @@ mod order;
 pub mod pick;
 mod picture;
 pub mod places;
-mod printer;
 mod propositions;
 pub mod run;
 pub mod run_drawing;

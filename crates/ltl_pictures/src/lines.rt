@@ -1,14 +1,13 @@
 //! The lines of a timeline.
 
 ghost use Rattle.std.specs.Prelude.{◌≡◌, ◌+◌, ◌-◌, ◌/◌, [], length, replicate};
-ghost use Rattle.ltl_pictures.specs.Printing.{Prints};
+ghost use Rattle.ltl_streams.specs.Printing.{Prints};
 ghost use Rattle.ltl_pictures.specs.Timeline as spec;
 ghost use Rattle.ltl_word.specs.LassoView.{size};
 ghost use Rattle.ltl_word.specs.Rows.{bit_of};
 
 use crate::columns::{put_digits, put_marks};
-use crate::printer::Printer;
-use ltl_streams::ByteSink;
+use ltl_streams::{ByteSink, Printer};
 use ltl_text::Digits;
 use ltl_word::{Bits, Lasso};
 use std::alloc::Allocator;

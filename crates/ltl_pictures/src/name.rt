@@ -2,10 +2,9 @@
 
 ghost use Rattle.std.specs.Prelude.{◌≡◌, ◌<◌, flat_map, length};
 ghost use Rattle.ltl_pictures.specs.NameText as text;
-ghost use Rattle.ltl_pictures.specs.Printing.{Prints};
+ghost use Rattle.ltl_streams.specs.Printing.{Prints};
 
-use crate::printer::Printer;
-use ltl_streams::ByteSink;
+use ltl_streams::{ByteSink, Printer};
 
 /// The greatest length of a name that is written as a whole.
 const LONGEST: usize = 80;

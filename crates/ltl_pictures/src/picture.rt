@@ -4,14 +4,13 @@ ghost use Rattle.std.specs.Prelude.{◌≡◌, ◌&&◌, map, option_map};
 ghost use Rattle.ltl_hoa.specs.MarkedView.{edge_of};
 ghost use Rattle.ltl_pictures.specs.DotText as text;
 ghost use Rattle.ltl_pictures.specs.Picture as picture;
-ghost use Rattle.ltl_pictures.specs.Printing.{Prints};
+ghost use Rattle.ltl_streams.specs.Printing.{Prints};
 
 use crate::acceptance::is_accepting;
-use crate::label::put_number;
 use crate::name::put_name;
-use crate::printer::Printer;
 use ltl_hoa::{HoaNames, Marked, MarkedEdge};
-use ltl_streams::ByteSink;
+use ltl_streams::{ByteSink, Printer};
+use ltl_text::put_number;
 use std::alloc::Allocator;
 
 /// Writes the name of the acceptance condition with this number of sets. DOT reads `&uuml;` as `ü`.

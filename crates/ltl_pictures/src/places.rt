@@ -6,7 +6,7 @@ ghost use Rattle.ltl_pictures.specs.PlaceView.{IsInside, IsPlace, edge_count, ne
 
 use ltl_check::{Graph, Step};
 use ltl_hoa::Marked;
-use ltl_sets::RowSet;
+use ltl_sets::PropositionSet;
 use std::alloc::Allocator;
 
 /// A state of the product: a state of the automaton and a position of the word.
@@ -36,7 +36,7 @@ impl Looks {
 #[derive(Drop)]
 pub struct Places<'p, 'a, A: Allocator> {
     pub(crate) automaton: &'p Marked<'a, A>,
-    pub(crate) letters: &'p [RowSet],
+    pub(crate) letters: &'p [PropositionSet],
     pub(crate) stem: usize,
     ghost inside: { IsInside automaton.now },
     ghost few: { length letters.now ≤ stated_limits.product },
@@ -47,7 +47,7 @@ impl<'p, 'a, A: Allocator> Places<'p, 'a, A> {
     /// The product with a word of these letters, of which the first `stem` are the stem.
     pub(crate) fn new(
         automaton: &'p Marked<'a, A>,
-        letters: &'p [RowSet],
+        letters: &'p [PropositionSet],
         stem: usize,
     ) -> Places<'p, 'a, A>
         requires few { length letters.now ≤ stated_limits.product }

@@ -4,13 +4,12 @@ ghost use Rattle.std.specs.Prelude.{◌≡◌, [], length, map, fold, IfOk, OnOk
 ghost use Rattle.std.specs.List.{list_any};
 ghost use Rattle.ltl_spec.specs.Collections.Lists.{with_new};
 ghost use Rattle.ltl_spec.specs.Formulas.Tokens.{same_name};
-ghost use Rattle.ltl_pictures.specs.Printing.{Prints};
+ghost use Rattle.ltl_streams.specs.Printing.{Prints};
 ghost use Rattle.ltl_pictures.specs.Timeline.{name_width, proposition_lines, with_names_of};
 ghost use Rattle.ltl_pictures.specs.TimelineView.{AreNameRows};
 
 use crate::lines::{put_head, put_line};
-use crate::printer::Printer;
-use ltl_streams::ByteSink;
+use ltl_streams::{ByteSink, Printer};
 use ltl_syntax::Formula;
 use ltl_word::{Bits, Lasso};
 use std::alloc::{AllocError, Allocator};

@@ -6,18 +6,18 @@ ghost use Rattle.ltl_streams.specs.Streams.{AppendsBeginning, Breaks, Takes};
 ghost use Rattle.std.specs.List.{range_with_len};
 ghost use Rattle.ltl_pictures.specs.DotText.{state_text};
 ghost use Rattle.ltl_pictures.specs.Picked.{IsPick};
-ghost use Rattle.ltl_pictures.specs.Printing.{Prints};
+ghost use Rattle.ltl_streams.specs.Printing.{Prints};
 ghost use Rattle.ltl_pictures.specs.RunText.{is_picked, named_of, note_of, picks_in, run_text};
 
 use crate::acceptance::is_state_based;
 use crate::arrows::{Row, put_arrows};
 use crate::flags::{Flags, set_flags};
-use crate::order::{Order, orders};
+use crate::order::orders;
 use crate::pick::Pick;
 use crate::picture::{is_double, put_head, put_node};
-use crate::printer::Printer;
 use ltl_hoa::{HoaNames, Marked};
-use ltl_streams::{ByteSink, WriteFault, WriterSink};
+use ltl_models::order::Places;
+use ltl_streams::{ByteSink, Printer, WriteFault, WriterSink};
 use std::alloc::{AllocError, Allocator};
 use std::io::Write;
 use std::marker::Model;
@@ -29,14 +29,14 @@ pub struct RunDrawing<'a, A: Allocator> {
     automaton: Marked<'a, A>,
     names: HoaNames<'a, A>,
     run: Option<Vec<Pick, &'a A>>,
-    orders: Vec<Order<'a, A>, &'a A>,
+    orders: Vec<Places<'a, A>, &'a A>,
     flags: Vec<Flags<'a, A>, &'a A>,
     by_states: bool,
 }
 
 impl<'a, A: Allocator> Model for RunDrawing<'a, A> {
-    ghost use Rattle.std.specs.Prelude.{option_map};
-    ghost use Rattle.ltl_pictures.specs.Printing.{Prints};
+    ghost use Rattle.std.specs.Prelude.{map, option_map};
+    ghost use Rattle.ltl_streams.specs.Printing.{Prints};
     ghost use Rattle.ltl_pictures.specs.RunText.{RunPicture, picks_in};
     ghost use Rattle.ltl_pictures.specs.Picked.{IsRunDrawing};
 
@@ -44,7 +44,7 @@ impl<'a, A: Allocator> Model for RunDrawing<'a, A> {
 
     ghost view = { λ d. record { automaton = d.automaton; names = d.names; run = option_map (λ v. v.items) d.run } };
 
-    ghost invariant = { λ d. IsRunDrawing (picks_in (option_map (λ v. v.items) d.run)) d.automaton d.orders.items d.flags.items d.by_states };
+    ghost invariant = { λ d. IsRunDrawing (picks_in (option_map (λ v. v.items) d.run)) d.automaton (map (λ p. p.items) d.orders.items) d.flags.items d.by_states };
 }
 
 /// The edges of the run; none if there is no run.

@@ -5,7 +5,7 @@ ghost use Rattle.std.specs.List.{list_any};
 ghost use Rattle.ltl_spec.specs.Formulas.Canonical as canonical;
 ghost use Rattle.ltl_spec.specs.Formulas.Tokens.{same_name};
 ghost use Rattle.ltl_syntax.specs.FormulaView.{StandsAt, binary_of, tree_of, trees, unary_of};
-ghost use Rattle.ltl_pictures.specs.Printing.{Prints};
+ghost use Rattle.ltl_streams.specs.Printing.{Prints};
 ghost use Rattle.ltl_pictures.specs.Timeline as spec;
 ghost use Rattle.ltl_pictures.specs.Timeline.{greatest, subformula_line, texts_from};
 ghost use Rattle.ltl_pictures.specs.TimelineView.{AreTexts, is_repeated};
@@ -13,10 +13,11 @@ ghost use Rattle.ltl_word.specs.Rows.{bit_of};
 ghost use Rattle.ltl_word.specs.SubformulaRows.{AreSubformulaRows};
 
 use crate::lines::put_line;
-use crate::printer::Printer;
 use crate::propositions::is_same;
-use ltl_streams::ByteSink;
-use ltl_syntax::{BinaryOperator, Formula, Node, UnaryOperator};
+use ltl_streams::{ByteSink, Printer};
+use ltl_syntax::{
+    BinaryOperator, Formula, Node, UnaryOperator, binary_text, constant_text, unary_text,
+};
 use ltl_word::{Bits, Lasso, subformula_rows};
 use std::alloc::{AllocError, Allocator};
 
@@ -25,36 +26,6 @@ use std::alloc::{AllocError, Allocator};
 pub(crate) struct Subformulas<'a, A: Allocator> {
     texts: Vec<Vec<u8, &'a A>, &'a A>,
     rows: Vec<Bits<'a, A>, &'a A>,
-}
-
-fn constant_text(value: bool) -> &'static [u8]
-    ensures { result.now ≡ canonical.constant_text value }
-{
-    if value { b"true" } else { b"false" }
-}
-
-fn unary_text(operator: UnaryOperator) -> &'static [u8]
-    ensures { result.now ≡ canonical.unary_text (unary_of operator) }
-{
-    match operator {
-        UnaryOperator::Not => b"!",
-        UnaryOperator::Next => b"X ",
-        UnaryOperator::Always => b"[]",
-        UnaryOperator::Eventually => b"<>",
-    }
-}
-
-fn binary_text(operator: BinaryOperator) -> &'static [u8]
-    ensures { result.now ≡ canonical.binary_text (binary_of operator) }
-{
-    match operator {
-        BinaryOperator::And => b" && ",
-        BinaryOperator::Or => b" || ",
-        BinaryOperator::Implies => b" -> ",
-        BinaryOperator::Iff => b" <-> ",
-        BinaryOperator::Until => b" U ",
-        BinaryOperator::Release => b" V ",
-    }
 }
 
 /// The text of a prefix operator with its operand.

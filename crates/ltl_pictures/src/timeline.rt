@@ -6,10 +6,9 @@ ghost use Rattle.ltl_pictures.specs.Timeline.{word_timeline};
 ghost use Rattle.ltl_pictures.specs.TimelineView.{FailsToShow, HasTrueMarks};
 
 use crate::fault::TimelineFault;
-use crate::printer::Printer;
 use crate::propositions::Propositions;
 use crate::subformulas::Subformulas;
-use ltl_streams::{ByteSink, WriteFault};
+use ltl_streams::{ByteSink, Printer, WriteFault};
 use ltl_syntax::Formula;
 use ltl_word::Lasso;
 use std::alloc::Allocator;

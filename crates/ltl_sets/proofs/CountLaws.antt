@@ -17,6 +17,7 @@ use Rattle.ltl_sets.specs.Words.{IsWords, bit_in, forbidden_of, letter_of, membe
 use Rattle.ltl_sets.specs.WordLaws.{bit_in-place, place_below, word_below}
 use Rattle.ltl_sets.specs.PlaceLaws.{has_members, members_below}
 use Rattle.ltl_sets.proofs.RowSetLaws.{none_high}
+use Rattle.ltl_sets.specs.declared.row_set.TheConstants.RowSet.{LIMIT, WORDS}
 
 -- ---- the ones of a number
 
@@ -115,23 +116,23 @@ count_members ws one =
 
 -- ---- all numbers
 
-split_limit : (i : ℕ) → (i < 256) ⊎ (256 ≤ i)
+split_limit : (i : ℕ) → (i < LIMIT) ⊎ (LIMIT ≤ i)
 split_limit i = grind arith
 
-inside : (i : ℕ) → i < 256 → nat_lt i 256 ≡ true
+inside : (i : ℕ) → i < LIMIT → nat_lt i LIMIT ≡ true
 inside i h = grind (arith, nat_tests)
 
-outside : (i : ℕ) → 256 ≤ i → nat_lt i 256 ≡ false
+outside : (i : ℕ) → LIMIT ≤ i → nat_lt i LIMIT ≡ false
 outside i h = grind (arith, nat_tests)
 
-pub has_all : (i : ℕ) → has nat_cmp i (members (replicate 4 (2 ^ 64 - 1))) ≡ nat_lt i 256
+pub has_all : (i : ℕ) → has nat_cmp i (members (replicate WORDS (2 ^ 64 - 1))) ≡ nat_lt i LIMIT
 has_all i = elim (split_limit i) [
   | inl h ↦
-      has_members (replicate 4 (2 ^ 64 - 1)) i h
-      ∙ ap (λ n. nat_eq (bit_at n (i % 64)) 1) (get_or-replicate 4 (i / 64) (2 ^ 64 - 1) 0 (word_below i h))
+      has_members (replicate WORDS (2 ^ 64 - 1)) i h
+      ∙ ap (λ n. nat_eq (bit_at n (i % 64)) 1) (get_or-replicate WORDS (i / 64) (2 ^ 64 - 1) 0 (word_below i h))
       ∙ ap (λ n. nat_eq n 1) (bit_at_ones 64 (i % 64) (place_below i))
       ∙ sym (inside i h)
-  | inr h ↦ none_high (members (replicate 4 (2 ^ 64 - 1))) i (members_below (replicate 4 (2 ^ 64 - 1))) h ∙ sym (outside i h)
+  | inr h ↦ none_high (members (replicate WORDS (2 ^ 64 - 1))) i (members_below (replicate WORDS (2 ^ 64 - 1))) h ∙ sym (outside i h)
 ]
 
 -- ---- literals

@@ -19,10 +19,11 @@ use Rattle.ltl_sets.specs.SubsetLaws.{filter_none, union_tests, common_tests, pu
 use Rattle.ltl_sets.specs.WordLaws.{IsWords-or, IsWords-and, IsWords-xor, IsWords-without, bit_in-or, bit_in-and, bit_in-xor, bit_in-without, bit_in-empty, same_words}
 use Rattle.ltl_sets.specs.PlaceLaws.{literal, signed_rise, Has-signed, signed_below, has_members, has_literals}
 use Rattle.ltl_sets.proofs.RowSetLaws.{never, false_if}
+use Rattle.ltl_sets.specs.declared.row_set.TheConstants.RowSet.{LIMIT, WORDS}
 
 -- ---- tests of literals
 
-pub literals_none : (ps ns : List ℕ) → ((l : Literal) → l.proposition < 256 → literal_in ps ns l ≡ false) → literals ps ns ≡ []
+pub literals_none : (ps ns : List ℕ) → ((l : Literal) → l.proposition < LIMIT → literal_in ps ns l ≡ false) → literals ps ns ≡ []
 unfolding literals
 literals_none ps ns f = filter_none (literal_in ps ns) signed_places (λ l h. f l (signed_below l h))
 
@@ -30,11 +31,11 @@ sign_cases : (s a b : Bool) → a ≡ false → b ≡ false → cond s a b ≡ f
 sign_cases true a b e f = e
 sign_cases false a b e f = f
 
-pub literals_empty : literals (replicate 4 0) (replicate 4 0) ≡ []
-literals_empty = literals_none (replicate 4 0) (replicate 4 0) (λ l h. sign_cases l.positive _ _ (bit_in-empty l.proposition h) (bit_in-empty l.proposition h))
+pub literals_empty : literals (replicate WORDS 0) (replicate WORDS 0) ≡ []
+literals_empty = literals_none (replicate WORDS 0) (replicate WORDS 0) (λ l h. sign_cases l.positive _ _ (bit_in-empty l.proposition h) (bit_in-empty l.proposition h))
 
-pub literals_single : (ps ns : List ℕ) (l : Literal) → l.proposition < 256 → literal_in ps ns l ≡ true
-    → ((m : Literal) → m.proposition < 256 → literal_in ps ns m ≡ true → m ≡ l) → literals ps ns ≡ l ∷ []
+pub literals_single : (ps ns : List ℕ) (l : Literal) → l.proposition < LIMIT → literal_in ps ns l ≡ true
+    → ((m : Literal) → m.proposition < LIMIT → literal_in ps ns m ≡ true → m ≡ l) → literals ps ns ≡ l ∷ []
 unfolding literals
 literals_single ps ns l h there alone =
     put_test literal_linear signed_places signed_rise l (λ _. false) (literal_in ps ns) (Has-signed l h) there
@@ -42,18 +43,18 @@ literals_single ps ns l h there alone =
     ∙ ap (put literal_cmp l) (filter_none (λ _. false) signed_places (λ z m. refl))
 
 -- the literal of a proposition by its sign
-pub literal_alone : (us : List ℕ) (p : ℕ) (s : Bool) → p < 256 → ((j : ℕ) → j < 256 → bit_in us j ≡ nat_eq j p)
-    → literals (cond s us (replicate 4 0)) (cond s (replicate 4 0) us) ≡ literal p s ∷ []
+pub literal_alone : (us : List ℕ) (p : ℕ) (s : Bool) → p < LIMIT → ((j : ℕ) → j < LIMIT → bit_in us j ≡ nat_eq j p)
+    → literals (cond s us (replicate WORDS 0)) (cond s (replicate WORDS 0) us) ≡ literal p s ∷ []
 literal_alone us p true h f =
-    literals_single us (replicate 4 0) (literal p true) h (f p h ∙ nat_eq_same p p refl) (λ m l e. only m.proposition m.positive l e)
+    literals_single us (replicate WORDS 0) (literal p true) h (f p h ∙ nat_eq_same p p refl) (λ m l e. only m.proposition m.positive l e)
   where
-    only : (q : ℕ) (s : Bool) → q < 256 → cond s (bit_in us q) (bit_in (replicate 4 0) q) ≡ true → literal q s ≡ literal p true
+    only : (q : ℕ) (s : Bool) → q < LIMIT → cond s (bit_in us q) (bit_in (replicate WORDS 0) q) ≡ true → literal q s ≡ literal p true
     only q true l e = ap (λ n. literal n true) (nat_eq_is q p (sym (f q l) ∙ e))
     only q false l e = never (sym e ∙ bit_in-empty q l)
 literal_alone us p false h f =
-    literals_single (replicate 4 0) us (literal p false) h (f p h ∙ nat_eq_same p p refl) (λ m l e. only m.proposition m.positive l e)
+    literals_single (replicate WORDS 0) us (literal p false) h (f p h ∙ nat_eq_same p p refl) (λ m l e. only m.proposition m.positive l e)
   where
-    only : (q : ℕ) (s : Bool) → q < 256 → cond s (bit_in (replicate 4 0) q) (bit_in us q) ≡ true → literal q s ≡ literal p false
+    only : (q : ℕ) (s : Bool) → q < LIMIT → cond s (bit_in (replicate WORDS 0) q) (bit_in us q) ≡ true → literal q s ≡ literal p false
     only q true l e = never (sym e ∙ bit_in-empty q l)
     only q false l e = ap (λ n. literal n false) (nat_eq_is q p (sym (f q l) ∙ e))
 
@@ -96,7 +97,7 @@ module _ (ps ns qs ms : List ℕ) (p1 : IsWords ps) (n1 : IsWords ns) (p2 : IsWo
   pub IsWords-lacking : IsWords (zip2 bit_or (zip2 bit_and ps (map (bit_not w64) qs)) (zip2 bit_and ns (map (bit_not w64) ms)))
   IsWords-lacking = IsWords-or _ _ (IsWords-without ps qs p1 p2) (IsWords-without ns ms n1 n2)
 
-  bit_in-lacking : (i : ℕ) → i < 256 → bit_in (zip2 bit_or (zip2 bit_and ps (map (bit_not w64) qs)) (zip2 bit_and ns (map (bit_not w64) ms))) i ≡ ((bit_in ps i && not (bit_in qs i)) || (bit_in ns i && not (bit_in ms i)))
+  bit_in-lacking : (i : ℕ) → i < LIMIT → bit_in (zip2 bit_or (zip2 bit_and ps (map (bit_not w64) qs)) (zip2 bit_and ns (map (bit_not w64) ms))) i ≡ ((bit_in ps i && not (bit_in qs i)) || (bit_in ns i && not (bit_in ms i)))
   bit_in-lacking i h =
       bit_in-or _ _ (IsWords-without ps qs p1 p2) (IsWords-without ns ms n1 n2) i h
       ∙ ap₂ (λ (a b : Bool). a || b) (bit_in-without ps qs p1 p2 i h) (bit_in-without ns ms n1 n2 i h)
@@ -134,7 +135,7 @@ module _ (ps ns qs ms : List ℕ) (p1 : IsWords ps) (n1 : IsWords ns) (p2 : IsWo
   pub IsWords-differing : IsWords (zip2 bit_or (zip2 bit_xor ps qs) (zip2 bit_xor ns ms))
   IsWords-differing = IsWords-or _ _ (IsWords-xor ps qs p1 p2) (IsWords-xor ns ms n1 n2)
 
-  bit_in-differing : (i : ℕ) → i < 256 → bit_in (zip2 bit_or (zip2 bit_xor ps qs) (zip2 bit_xor ns ms)) i ≡ (not (beq (bit_in ps i) (bit_in qs i)) || not (beq (bit_in ns i) (bit_in ms i)))
+  bit_in-differing : (i : ℕ) → i < LIMIT → bit_in (zip2 bit_or (zip2 bit_xor ps qs) (zip2 bit_xor ns ms)) i ≡ (not (beq (bit_in ps i) (bit_in qs i)) || not (beq (bit_in ns i) (bit_in ms i)))
   bit_in-differing i h =
       bit_in-or _ _ (IsWords-xor ps qs p1 p2) (IsWords-xor ns ms n1 n2) i h
       ∙ ap₂ (λ (a b : Bool). a || b) (bit_in-xor ps qs p1 p2 i h) (bit_in-xor ns ms n1 n2 i h)
@@ -160,13 +161,13 @@ module _ (ps ns qs ms : List ℕ) (p1 : IsWords ps) (n1 : IsWords ns) (p2 : IsWo
       itself false true = refl
       itself false false = refl
 
-  same_at : HasNone (zip2 bit_or (zip2 bit_xor ps qs) (zip2 bit_xor ns ms)) → (i : ℕ) → i < 256 → (bit_in ps i ≡ bit_in qs i) × (bit_in ns i ≡ bit_in ms i)
+  same_at : HasNone (zip2 bit_or (zip2 bit_xor ps qs) (zip2 bit_xor ns ms)) → (i : ℕ) → i < LIMIT → (bit_in ps i ≡ bit_in qs i) × (bit_in ns i ≡ bit_in ms i)
   same_at f i h = both_same (bit_in ps i) (bit_in ns i) (bit_in qs i) (bit_in ms i) (sym (bit_in-differing i h) ∙ f i h)
 
   pub same_literals : HasNone (zip2 bit_or (zip2 bit_xor ps qs) (zip2 bit_xor ns ms)) → literals ps ns ≡ literals qs ms
   same_literals f = ap₂ literals (same_words ps qs p1 p2 (λ i h. (same_at f i h).0)) (same_words ns ms n1 n2 (λ i h. (same_at f i h).1))
 
-  sign_same : (s : Bool) (i : ℕ) → i < 256 → literals ps ns ≡ literals qs ms → literal_in ps ns (literal i s) ≡ literal_in qs ms (literal i s)
+  sign_same : (s : Bool) (i : ℕ) → i < LIMIT → literals ps ns ≡ literals qs ms → literal_in ps ns (literal i s) ≡ literal_in qs ms (literal i s)
   sign_same s i h e = sym (has_literals ps ns (literal i s) h) ∙ ap (has literal_cmp (literal i s)) e ∙ has_literals qs ms (literal i s) h
 
   pub literals_same : literals ps ns ≡ literals qs ms → HasNone (zip2 bit_or (zip2 bit_xor ps qs) (zip2 bit_xor ns ms))
@@ -187,14 +188,14 @@ module _ (ps ns : List ℕ) (p1 : IsWords ps) (n1 : IsWords ns) where
   second_so true b e = e
   second_so false b e = never (sym e)
 
-  clash : is_contradictory (literals ps ns) ≡ true → (i : ℕ) × (i < 256) × ((bit_in ps i && bit_in ns i) ≡ true)
+  clash : is_contradictory (literals ps ns) ≡ true → (i : ℕ) × (i < LIMIT) × ((bit_in ps i && bit_in ns i) ≡ true)
   unfolding literals
   clash e =
       let (l, m, t) = any_cases (λ l. has literal_cmp (opposite l) (literals ps ns)) (literals ps ns) e in
       let (n, f) = filter_cases (literal_in ps ns) signed_places l m in
       (l.proposition, signed_below l n, both_signs l.positive (bit_in ps l.proposition) (bit_in ns l.proposition) f (sym (has_literals ps ns (opposite l) (signed_below l n)) ∙ t))
 
-  clashes : (i : ℕ) → i < 256 → (bit_in ps i && bit_in ns i) ≡ true → is_contradictory (literals ps ns) ≡ true
+  clashes : (i : ℕ) → i < LIMIT → (bit_in ps i && bit_in ns i) ≡ true → is_contradictory (literals ps ns) ≡ true
   unfolding literals
   clashes i h e =
       any_true (λ l. has literal_cmp (opposite l) (literals ps ns)) (literals ps ns) (literal i true)
@@ -238,7 +239,7 @@ letter_from ps ns a (suc n) =
 
 pub letter_literals : (ps ns : List ℕ) → members ps ≡ letter_of (literals ps ns)
 unfolding members literals places signed_places
-letter_literals ps ns = sym (letter_from ps ns 0 256)
+letter_literals ps ns = sym (letter_from ps ns 0 LIMIT)
 
 forbidden_step : (b c : Bool) (a : ℕ) (ls : List Literal)
     → forbidden_of (cond b (literal a true ∷ cond c (literal a false ∷ ls) ls) (cond c (literal a false ∷ ls) ls)) ≡ cond c (a ∷ forbidden_of ls) (forbidden_of ls)
@@ -255,13 +256,13 @@ forbidden_from ps ns a (suc n) =
 
 pub forbidden_literals : (ps ns : List ℕ) → members ns ≡ forbidden_of (literals ps ns)
 unfolding members literals places signed_places
-forbidden_literals ps ns = sym (forbidden_from ps ns 0 256)
+forbidden_literals ps ns = sym (forbidden_from ps ns 0 LIMIT)
 
 module _ (ps ns ts : List ℕ) (p1 : IsWords ps) (n1 : IsWords ns) (t1 : IsWords ts) where
   pub IsWords-failing : IsWords (zip2 bit_or (zip2 bit_and ps (map (bit_not w64) ts)) (zip2 bit_and ns ts))
   IsWords-failing = IsWords-or _ _ (IsWords-without ps ts p1 t1) (IsWords-and ns ts n1 t1)
 
-  bit_in-failing : (i : ℕ) → i < 256 → bit_in (zip2 bit_or (zip2 bit_and ps (map (bit_not w64) ts)) (zip2 bit_and ns ts)) i ≡ ((bit_in ps i && not (bit_in ts i)) || (bit_in ns i && bit_in ts i))
+  bit_in-failing : (i : ℕ) → i < LIMIT → bit_in (zip2 bit_or (zip2 bit_and ps (map (bit_not w64) ts)) (zip2 bit_and ns ts)) i ≡ ((bit_in ps i && not (bit_in ts i)) || (bit_in ns i && bit_in ts i))
   bit_in-failing i h =
       bit_in-or _ _ (IsWords-without ps ts p1 t1) (IsWords-and ns ts n1 t1) i h
       ∙ ap₂ (λ (a b : Bool). a || b) (bit_in-without ps ts p1 t1 i h) (bit_in-and ns ts n1 t1 i h)
@@ -299,7 +300,7 @@ module _ (ps ns ts : List ℕ) (p1 : IsWords ps) (n1 : IsWords ns) (t1 : IsWords
       (all_Decides (λ l. beq (has nat_cmp l.proposition (members ts)) l.positive) (literals ps ns))
     where
       member : ((l : Literal) → Has (literals ps ns) l → beq (has nat_cmp l.proposition (members ts)) l.positive ≡ true)
-          → (i : ℕ) → i < 256 → (s : Bool) → cond s (bit_in ps i) (bit_in ns i) ≡ true → beq (bit_in ts i) s ≡ true
+          → (i : ℕ) → i < LIMIT → (s : Bool) → cond s (bit_in ps i) (bit_in ns i) ≡ true → beq (bit_in ts i) s ≡ true
       member f i h s e =
           ap (λ b. beq b s) (sym (has_members ts i h))
           ∙ f (literal i s) (Has-filter (literal_in ps ns) signed_places (literal i s) (Has-signed (literal i s) h) e)

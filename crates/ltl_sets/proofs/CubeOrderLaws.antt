@@ -17,6 +17,7 @@ use Rattle.ltl_sets.specs.WordLaws.{IsWords-xor, bit_in-or, bit_in-xor}
 use Rattle.ltl_sets.specs.PlaceLaws.{literal, signed_rise, Has-signed, signed_below, signed_less, positive_first}
 use Rattle.ltl_sets.proofs.RowSetLaws.{never, false_if}
 use Rattle.ltl_sets.proofs.CubeLaws.{same_literals}
+use Rattle.ltl_sets.specs.declared.row_set.TheConstants.RowSet.{LIMIT}
 
 -- ---- which literal is below which
 
@@ -88,7 +89,7 @@ other_sign false false a b e f = never (sym e ∙ f)
 same_or_above : (p j : ℕ) → p ≤ j → (j ≡ p) ⊎ (p < j)
 same_or_above p j h = grind arith
 
-module _ (ps ns qs ms : List ℕ) (disjoint : AreDisjoint ps ns) (q1 : IsWords qs) (m1 : IsWords ms) (p : ℕ) (h : p < 256) (s : Bool)
+module _ (ps ns qs ms : List ℕ) (disjoint : AreDisjoint ps ns) (q1 : IsWords qs) (m1 : IsWords ms) (p : ℕ) (h : p < LIMIT) (s : Bool)
     (mine : literal_in ps ns (literal p s) ≡ true) (lacks : literal_in qs ms (literal p s) ≡ false) (below : AgreeBelow ps ns qs ms p s) where
   -- at p the other cube has at most the negative literal, where the first one has the positive one
   above_here : (t : Bool) → t ≡ not s → literal_in qs ms (literal p t) ≡ true → literal_cmp (literal p s) (literal p t) ≡ Less
@@ -143,13 +144,13 @@ module _ (ps ns qs ms : List ℕ) (one : IsCubeWords ps ns) (two : IsCubeWords q
       ap (λ ls. cube_cmp ls (literals qs ms)) (same_literals ps ns qs ms one.positive_words one.negative_words two.positive_words two.negative_words f)
       ∙ tied_itself cube_linear.total (literals qs ms)
 
-  positive_at : (i : ℕ) → i < 256 → bit_in (zip2 bit_xor ps qs) i ≡ not (beq (bit_in ps i) (bit_in qs i))
+  positive_at : (i : ℕ) → i < LIMIT → bit_in (zip2 bit_xor ps qs) i ≡ not (beq (bit_in ps i) (bit_in qs i))
   positive_at = bit_in-xor ps qs one.positive_words two.positive_words
 
-  negative_at : (i : ℕ) → i < 256 → bit_in (zip2 bit_xor ns ms) i ≡ not (beq (bit_in ns i) (bit_in ms i))
+  negative_at : (i : ℕ) → i < LIMIT → bit_in (zip2 bit_xor ns ms) i ≡ not (beq (bit_in ns i) (bit_in ms i))
   negative_at = bit_in-xor ns ms one.negative_words two.negative_words
 
-  either_at : (i : ℕ) → i < 256 → bit_in (zip2 bit_or (zip2 bit_xor ps qs) (zip2 bit_xor ns ms)) i ≡ (bit_in (zip2 bit_xor ps qs) i || bit_in (zip2 bit_xor ns ms) i)
+  either_at : (i : ℕ) → i < LIMIT → bit_in (zip2 bit_or (zip2 bit_xor ps qs) (zip2 bit_xor ns ms)) i ≡ (bit_in (zip2 bit_xor ps qs) i || bit_in (zip2 bit_xor ns ms) i)
   either_at = bit_in-or _ _ (IsWords-xor ps qs one.positive_words two.positive_words) (IsWords-xor ns ms one.negative_words two.negative_words)
 
   left_false : (a b : Bool) → (a || b) ≡ false → a ≡ false
@@ -173,7 +174,7 @@ module _ (ps ns qs ms : List ℕ) (one : IsCubeWords ps ns) (two : IsCubeWords q
   differ_if false false e = never (sym e)
 
   module _ (p : ℕ) (low : IsLowest (zip2 bit_or (zip2 bit_xor ps qs) (zip2 bit_xor ns ms)) p) where
-    lower : (j : ℕ) → j < p → j < 256
+    lower : (j : ℕ) → j < p → j < LIMIT
     lower j h = omega (arith, low.below)
 
     agreeing : (s : Bool) → bit_in (zip2 bit_xor ps qs) p ≡ s → AgreeBelow ps ns qs ms p s

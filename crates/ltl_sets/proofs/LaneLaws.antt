@@ -13,6 +13,7 @@ use Rattle.std.proofs.lemmas.List.{get_or_past, get_or-set_same, get_or-set_othe
 use Rattle.std.proofs.lemmas.List.FromFn.{get_or-map-range_with_len}
 use Rattle.ltl_sets.specs.Words.{IsWords, bit_in, HasNone, Reaches, HasLater, FindsLowest, word_alone, IsLowest, LosesBit}
 use Rattle.ltl_sets.specs.WordLaws.{word_below, place_below, bit_in-place}
+use Rattle.ltl_sets.specs.declared.row_set.TheConstants.RowSet.{LIMIT, WORDS}
 
 -- ---- one bit alone
 
@@ -44,10 +45,10 @@ in_word i j false e = ap (λ n. nat_eq n 1) (bit_at-zero (j % 64)) ∙ other_pla
     other_place : (i j : ℕ) → nat_eq (i / 64) (j / 64) ≡ false → false ≡ nat_eq j i
     other_place i j e = grind (arith, nat_tests)
 
-pub bit_in-alone : (i : ℕ) (ws : List ℕ) → ws ≡ map (word_alone i) (range_with_len 0 4) → (j : ℕ) → j < 256 → bit_in ws j ≡ nat_eq j i
+pub bit_in-alone : (i : ℕ) (ws : List ℕ) → ws ≡ map (word_alone i) (range_with_len 0 WORDS) → (j : ℕ) → j < LIMIT → bit_in ws j ≡ nat_eq j i
 bit_in-alone i ws e j h =
     ap (λ us. bit_in us j) e
-    ∙ ap (λ n. nat_eq (bit_at n (j % 64)) 1) (get_or-map-range_with_len (word_alone i) 0 4 (j / 64) (j / 64) 0 (word_below j h) (omega arith))
+    ∙ ap (λ n. nat_eq (bit_at n (j % 64)) 1) (get_or-map-range_with_len (word_alone i) 0 WORDS (j / 64) (j / 64) 0 (word_below j h) (omega arith))
     ∙ in_word i j (nat_eq (i / 64) (j / 64)) refl
 
 -- ---- no bit at all
@@ -80,7 +81,7 @@ zero_word n h f = same_from_bits_below 64 n 0 h (omega arith) (λ j g. none (bit
     none : (x : ℕ) → x < 2 → nat_eq x 1 ≡ false → x ≡ 0
     none x h e = grind (arith, nat_tests)
 
-pub HasNone-words : (ws : List ℕ) → ((k : ℕ) → k < 4 → get_or ws k 0 ≡ 0) → HasNone ws
+pub HasNone-words : (ws : List ℕ) → ((k : ℕ) → k < WORDS → get_or ws k 0 ≡ 0) → HasNone ws
 HasNone-words ws f i h = zero_bit (get_or ws (i / 64) 0) (i % 64) (f (i / 64) (word_below i h))
 
 words-HasNone : (ws : List ℕ) → IsWords ws → HasNone ws → (k : ℕ) → get_or ws k 0 ≡ 0
@@ -90,7 +91,7 @@ words-HasNone ws one f k =
       | inr h ↦ get_or_past ws k 0 (omega (arith, one.long))
     ]
   where
-    split_four : (k : ℕ) → (k < 4) ⊎ (4 ≤ k)
+    split_four : (k : ℕ) → (k < WORDS) ⊎ (WORDS ≤ k)
     split_four k = grind arith
 
 test_zero : (n : ℕ) → Decides (nat_eq n 0) (n ≡ 0)
@@ -105,7 +106,7 @@ fold_Decides ws one =
 
 -- ---- the lowest one
 
-module _ (ws : List ℕ) (at : ℕ) (inside : at < 4) (fit : get_or ws at 0 < 2 ^ 64) (some : 0 < get_or ws at 0) where
+module _ (ws : List ℕ) (at : ℕ) (inside : at < WORDS) (fit : get_or ws at 0 < 2 ^ 64) (some : 0 < get_or ws at 0) where
   pub IsLowest-words : ((k : ℕ) → k < at → get_or ws k 0 ≡ 0) → IsLowest ws (64 * at + trailing_zeros w64 (get_or ws at 0))
   IsLowest-words zeros =
       let low = bit_at-trailing_zeros w64 (get_or ws at 0) some fit in
@@ -125,7 +126,7 @@ module _ (ws : List ℕ) (at : ℕ) (inside : at < 4) (fit : get_or ws at 0 < 2 
           split : (a b : ℕ) → (a < b) ⊎ (b ≤ a)
           split a b = grind arith
 
-  pub LosesBit-words : length ws ≡ 4 → (n : ℕ) → n ≡ bit_and (get_or ws at 0) (bit_not w64 (1 * 2 ^ trailing_zeros w64 (get_or ws at 0) % 2 ^ 64))
+  pub LosesBit-words : length ws ≡ WORDS → (n : ℕ) → n ≡ bit_and (get_or ws at 0) (bit_not w64 (1 * 2 ^ trailing_zeros w64 (get_or ws at 0) % 2 ^ 64))
       → LosesBit ws (64 * at + trailing_zeros w64 (get_or ws at 0)) (set ws at n)
   LosesBit-words long n is j h =
       let low = bit_at-trailing_zeros w64 (get_or ws at 0) some fit in
@@ -179,7 +180,7 @@ some_bit n h d = let low = bit_at-trailing_zeros w64 n (omega arith) h in (trail
 shifted_bit : (n s j : ℕ) → bit_at (n / 2 ^ s) j ≡ bit_at n (s + j)
 shifted_bit n s j = ap (λ m. m % 2) (shr-shr n s j)
 
-module _ (ws : List ℕ) (one : IsWords ws) (i : ℕ) (h : i < 256) where
+module _ (ws : List ℕ) (one : IsWords ws) (i : ℕ) (h : i < LIMIT) where
   from_word : get_or ws (i / 64) 0 / 2 ^ (i % 64) ≢ 0 → Reaches ws i
   from_word d =
       let n = get_or ws (i / 64) 0 in

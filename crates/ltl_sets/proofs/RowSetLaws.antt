@@ -23,6 +23,7 @@ use Rattle.ltl_sets.specs.Words.{IsWords, bit_in, HasNone, Reaches, IsLowest, Fi
 use Rattle.ltl_sets.specs.SubsetLaws.{filter_none, same_filter, union_tests, common_tests, put_test, subset_tests, first_taken, cmp_goes_on, cmp_ends, either_true, left_or, right_or}
 use Rattle.ltl_sets.specs.WordLaws.{bit_in-or, bit_in-and, bit_in-xor, bit_in-without, bit_in-empty, same_words}
 use Rattle.ltl_sets.specs.PlaceLaws.{less, below, places_rise, Has-places, places_below, has_members}
+use Rattle.ltl_sets.specs.declared.row_set.TheConstants.RowSet.{LIMIT, WORDS}
 
 -- ---- numbers and tests
 
@@ -42,11 +43,11 @@ pub members_none : (ws : List ℕ) → HasNone ws → members ws ≡ []
 unfolding members
 members_none ws f = filter_none (bit_in ws) places (λ z h. f z (places_below z h))
 
-pub members_empty : members (replicate 4 0) ≡ []
-members_empty = members_none (replicate 4 0) bit_in-empty
+pub members_empty : members (replicate WORDS 0) ≡ []
+members_empty = members_none (replicate WORDS 0) bit_in-empty
 
 -- one more bit is one more member
-pub members_put : (ws us : List ℕ) (i : ℕ) → i < 256 → ((z : ℕ) → z < 256 → bit_in us z ≡ (bit_in ws z || nat_eq z i)) → members us ≡ put nat_cmp i (members ws)
+pub members_put : (ws us : List ℕ) (i : ℕ) → i < LIMIT → ((z : ℕ) → z < LIMIT → bit_in us z ≡ (bit_in ws z || nat_eq z i)) → members us ≡ put nat_cmp i (members ws)
 unfolding members
 members_put ws us i h f =
     put_test nat_linear places places_rise i (bit_in ws) (bit_in us) (Has-places i h)
@@ -54,12 +55,12 @@ members_put ws us i h f =
     (λ z m e. f z (places_below z m) ∙ left_or (bit_in ws z) (nat_eq z i) e)
     (λ z m e. elim (either_true (bit_in ws z) (nat_eq z i) (sym (f z (places_below z m)) ∙ e)) [ inl t ↦ inr t | inr t ↦ inl (nat_eq_is z i t) ])
 
-pub members_single : (us : List ℕ) (i : ℕ) → i < 256 → ((z : ℕ) → z < 256 → bit_in us z ≡ nat_eq z i) → members us ≡ i ∷ []
+pub members_single : (us : List ℕ) (i : ℕ) → i < LIMIT → ((z : ℕ) → z < LIMIT → bit_in us z ≡ nat_eq z i) → members us ≡ i ∷ []
 members_single us i h f =
-    members_put (replicate 4 0) us i h (λ z l. f z l ∙ ap (λ b. b || nat_eq z i) (sym (bit_in-empty z l)))
+    members_put (replicate WORDS 0) us i h (λ z l. f z l ∙ ap (λ b. b || nat_eq z i) (sym (bit_in-empty z l)))
     ∙ ap (put nat_cmp i) members_empty
 
-pub members_insert : (ws us : List ℕ) (i : ℕ) → i < 256 → IsWords ws → IsWords us → ((z : ℕ) → z < 256 → bit_in us z ≡ nat_eq z i) → members (zip2 bit_or ws us) ≡ put nat_cmp i (members ws)
+pub members_insert : (ws us : List ℕ) (i : ℕ) → i < LIMIT → IsWords ws → IsWords us → ((z : ℕ) → z < LIMIT → bit_in us z ≡ nat_eq z i) → members (zip2 bit_or ws us) ≡ put nat_cmp i (members ws)
 members_insert ws us i h one two f =
     members_put ws (zip2 bit_or ws us) i h (λ z l. bit_in-or ws us one two z l ∙ ap (λ b. bit_in ws z || b) (f z l))
 
@@ -69,7 +70,7 @@ members_union ws us one two =
     union_tests nat_linear places places_rise (bit_in ws) (bit_in us) (bit_in (zip2 bit_or ws us)) (λ z h. bit_in-or ws us one two z (places_below z h))
 
 -- the members of a set that pass a test
-tested : (ws us : List ℕ) (p : ℕ → Bool) → ((z : ℕ) → z < 256 → bit_in us z ≡ (bit_in ws z && p z)) → members us ≡ filter p (members ws)
+tested : (ws us : List ℕ) (p : ℕ → Bool) → ((z : ℕ) → z < LIMIT → bit_in us z ≡ (bit_in ws z && p z)) → members us ≡ filter p (members ws)
 unfolding members
 tested ws us p f =
     same_filter (bit_in us) (λ z. bit_in ws z && p z) places (λ z h. f z (places_below z h))
@@ -179,7 +180,7 @@ differ false false e = never (sym e)
 -- ---- the order of two sets
 
 -- what is said of the first list of two, at the first member that only one of them has
-cmp_first : (ws us : List ℕ) (i : ℕ) → i < 256 → bit_in ws i ≡ true → bit_in us i ≡ false → ((j : ℕ) → j < i → bit_in ws j ≡ bit_in us j)
+cmp_first : (ws us : List ℕ) (i : ℕ) → i < LIMIT → bit_in ws i ≡ true → bit_in us i ≡ false → ((j : ℕ) → j < i → bit_in ws j ≡ bit_in us j)
     → (g : Bool) → Decides g (Reaches us i) → slice_cmp nat_cmp (members ws) (members us) ≡ cond g Less Greater
 unfolding members
 cmp_first ws us i h mine lacks agree true d =
@@ -207,7 +208,7 @@ cmp_differing ws us one two i low true g mine d =
     (λ j h. same_tests (bit_in ws j) (bit_in us j) (sym (bit_in-xor ws us one two j (lower j h)) ∙ low.zeros j h)) g d
     ∙ whole g
   where
-    lower : (j : ℕ) → j < i → j < 256
+    lower : (j : ℕ) → j < i → j < LIMIT
     lower j h = omega (arith, low.below)
 
     whole : (g : Bool) → cond g Less Greater ≡ cond (beq true g) Less Greater
@@ -218,7 +219,7 @@ cmp_differing ws us one two i low false g mine d =
     (cmp_first us ws i low.below (differ (bit_in ws i) (bit_in us i) (sym (bit_in-xor ws us one two i low.below) ∙ low.one) ∙ ap not (sym mine)) (sym mine)
     (λ j h. sym (same_tests (bit_in ws j) (bit_in us j) (sym (bit_in-xor ws us one two j (lower j h)) ∙ low.zeros j h))) g d)
   where
-    lower : (j : ℕ) → j < i → j < 256
+    lower : (j : ℕ) → j < i → j < LIMIT
     lower j h = omega (arith, low.below)
 
 pub cmp_same : (ws us : List ℕ) → IsWords ws → IsWords us → HasNone (zip2 bit_xor ws us) → slice_cmp nat_cmp (members ws) (members us) ≡ Equal
@@ -260,10 +261,10 @@ first_progress can f s (Some x) t y = record { on = λ _. (f t, tt, shorter (len
 pub first_runs : {A : Type 0} → YieldsInOrder (YieldsFirst {A = A} (λ rest. rest)) (λ rest. rest)
 first_runs {A} p s = as_is p p.from (from_front (YieldsFirst {A = A} (λ rest. rest)) (λ y. y) (λ rest. rest) (λ s t h. ap length h.0) (λ s x t h. h) p s)
 
-pub members_few : (ws : List ℕ) → length (members ws) ≤ 256
+pub members_few : (ws : List ℕ) → length (members ws) ≤ LIMIT
 unfolding members places
-members_few ws = omega (arith, filter_length (bit_in ws) (range_with_len 0 256), length-range_with_len 0 256)
+members_few ws = omega (arith, filter_length (bit_in ws) (range_with_len 0 LIMIT), length-range_with_len 0 LIMIT)
 
 -- a number past those that a set can hold is not in it
-pub none_high : (all : List ℕ) (i : ℕ) → AllByRecursion (λ j. j < 256) all → 256 ≤ i → has nat_cmp i all ≡ false
-none_high all i below l = false_if (has nat_cmp i all) (λ e. let h : i < 256 = all_at (λ j. j < 256) all i below ((has_Decides nat_linear i all).0 e) in omega (arith, h, l))
+pub none_high : (all : List ℕ) (i : ℕ) → AllByRecursion (λ j. j < LIMIT) all → LIMIT ≤ i → has nat_cmp i all ≡ false
+none_high all i below l = false_if (has nat_cmp i all) (λ e. let h : i < LIMIT = all_at (λ j. j < LIMIT) all i below ((has_Decides nat_linear i all).0 e) in omega (arith, h, l))

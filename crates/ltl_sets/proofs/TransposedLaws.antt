@@ -18,6 +18,7 @@ use Rattle.ltl_sets.specs.PlaceLaws.{has_members, members_below}
 use Rattle.ltl_sets.proofs.RowSetLaws.{false_if, none_high}
 use Rattle.ltl_spec.proofs.Collections.Orders.{nat_linear}
 use Rattle.ltl_spec.proofs.Collections.SetLaws.{has_Decides}
+use Rattle.ltl_sets.specs.declared.row_set.TheConstants.RowSet.{LIMIT, WORDS}
 
 -- 64 bytes of the list
 pub part_is : (bs : List ℕ) (at n j : ℕ) → 64 ≤ n → j < 64 → get_or (chunk 0 64 (take n (drop at bs))) j 0 ≡ get_or bs (at + j) 0
@@ -61,8 +62,8 @@ test_bit n i = ap (λ m. not (nat_eq m 0)) (and_pow n i) ∙ of_bit (bit_at n i)
 zero_bit : (i : ℕ) → nat_eq (bit_at 0 i) 1 ≡ false
 zero_bit i = ap (λ n. nat_eq n 1) (bit_at-zero i)
 
-pub bytes_begin : (sets : List (List ℕ)) (k : ℕ) → AreBytes (take 0 sets) k (replicate 256 0)
-bytes_begin sets k i j h = ap (λ n. nat_eq (bit_at n i) 1) (zeros j 256) ∙ zero_bit i
+pub bytes_begin : (sets : List (List ℕ)) (k : ℕ) → AreBytes (take 0 sets) k (replicate LIMIT 0)
+bytes_begin sets k i j h = ap (λ n. nat_eq (bit_at n i) 1) (zeros j LIMIT) ∙ zero_bit i
   where
     zeros : (j n : ℕ) → get_or (replicate n zero) j zero ≡ zero
     zeros j zero = refl
@@ -97,13 +98,13 @@ bytes_end sets k n bytes h f i j p = f i j p ∙ ap (λ l. has nat_cmp (8 * k + 
 
 -- ---- the words of a column
 
-pub indices_are : (bytes : List ℕ) (i a b c d : ℕ) → length bytes ≡ 256
+pub indices_are : (bytes : List ℕ) (i a b c d : ℕ) → length bytes ≡ LIMIT
     → ((j : ℕ) → j < 64 → nat_eq (bit_at a j) 1 ≡ nat_eq (bit_at (get_or bytes (64 * 0 + j) 0) i) 1)
     → ((j : ℕ) → j < 64 → nat_eq (bit_at b j) 1 ≡ nat_eq (bit_at (get_or bytes (64 * 1 + j) 0) i) 1)
     → ((j : ℕ) → j < 64 → nat_eq (bit_at c j) 1 ≡ nat_eq (bit_at (get_or bytes (64 * 2 + j) 0) i) 1)
     → ((j : ℕ) → j < 64 → nat_eq (bit_at d j) 1 ≡ nat_eq (bit_at (get_or bytes (64 * 3 + j) 0) i) 1)
     → AreIndices bytes i (members (a ∷ b ∷ c ∷ d ∷ []))
-indices_are bytes i a b c d long p q r s j = elim (inside_or_past j 256) [
+indices_are bytes i a b c d long p q r s j = elim (inside_or_past j LIMIT) [
   | inl h ↦
       has_members ws j h
       ∙ word (j / 64) (j % 64) (word_below j h) (place_below j)
@@ -117,7 +118,7 @@ indices_are bytes i a b c d long p q r s j = elim (inside_or_past j 256) [
     inside_or_past : (a b : ℕ) → (a < b) ⊎ (b ≤ a)
     inside_or_past a b = grind arith
 
-    word : (k j : ℕ) → k < 4 → j < 64 → nat_eq (bit_at (get_or ws k 0) j) 1 ≡ nat_eq (bit_at (get_or bytes (64 * k + j) 0) i) 1
+    word : (k j : ℕ) → k < WORDS → j < 64 → nat_eq (bit_at (get_or ws k 0) j) 1 ≡ nat_eq (bit_at (get_or bytes (64 * k + j) 0) i) 1
     word zero j h l = p j l
     word (suc zero) j h l = q j l
     word (suc (suc zero)) j h l = r j l

@@ -11,6 +11,7 @@ use Rattle.ltl_spec.proofs.Collections.Orders.{nat_linear, literal_linear}
 use Rattle.ltl_sets.specs.Words.{IsWords, bit_in, places, members, literals_from, signed_places, literal_in, literals, words_with, words_with_literals}
 use Rattle.ltl_sets.specs.SubsetLaws.{has_test, IsRising-subset}
 use Rattle.ltl_sets.specs.WordLaws.{same_words, IsWords-words_of, bit_in-words_of}
+use Rattle.ltl_sets.specs.declared.row_set.TheConstants.RowSet.{LIMIT}
 
 -- ---- numbers
 
@@ -39,15 +40,15 @@ IsRising-range a (suc n) =
 
 pub places_rise : IsRising nat_cmp places
 unfolding places
-places_rise = IsRising-range 0 256
+places_rise = IsRising-range 0 LIMIT
 
-pub Has-places : (i : ℕ) → i < 256 → Has places i
+pub Has-places : (i : ℕ) → i < LIMIT → Has places i
 unfolding places
-Has-places i h = Has-range 0 256 i (omega arith) h
+Has-places i h = Has-range 0 LIMIT i (omega arith) h
 
-pub places_below : (i : ℕ) → Has places i → i < 256
+pub places_below : (i : ℕ) → Has places i → i < LIMIT
 unfolding places
-places_below i h = (range_cases 0 256 i h).1
+places_below i h = (range_cases 0 LIMIT i h).1
 
 -- ---- members
 
@@ -55,11 +56,11 @@ pub members_rise : (ws : List ℕ) → IsRising nat_cmp (members ws)
 unfolding members
 members_rise ws = IsRising-subset nat_linear places places_rise (bit_in ws)
 
-pub members_below : (ws : List ℕ) → AllByRecursion (λ i. i < 256) (members ws)
+pub members_below : (ws : List ℕ) → AllByRecursion (λ i. i < LIMIT) (members ws)
 unfolding members
-members_below ws = all_from (λ i. i < 256) (filter (bit_in ws) places) (λ z h. places_below z (filter_cases (bit_in ws) places z h).0)
+members_below ws = all_from (λ i. i < LIMIT) (filter (bit_in ws) places) (λ z h. places_below z (filter_cases (bit_in ws) places z h).0)
 
-pub has_members : (ws : List ℕ) (i : ℕ) → i < 256 → has nat_cmp i (members ws) ≡ bit_in ws i
+pub has_members : (ws : List ℕ) (i : ℕ) → i < LIMIT → has nat_cmp i (members ws) ≡ bit_in ws i
 unfolding members
 has_members ws i h = has_test nat_linear places places_rise i (bit_in ws) (Has-places i h)
 
@@ -107,25 +108,25 @@ literals_rise a (suc n) =
 
 pub signed_rise : IsRising literal_cmp signed_places
 unfolding signed_places
-signed_rise = literals_rise 0 256
+signed_rise = literals_rise 0 LIMIT
 
-pub Has-signed : (l : Literal) → l.proposition < 256 → Has signed_places l
+pub Has-signed : (l : Literal) → l.proposition < LIMIT → Has signed_places l
 unfolding signed_places
-Has-signed l h = Has-literals 0 256 l.proposition l.positive (omega arith) h
+Has-signed l h = Has-literals 0 LIMIT l.proposition l.positive (omega arith) h
 
-pub signed_below : (l : Literal) → Has signed_places l → l.proposition < 256
+pub signed_below : (l : Literal) → Has signed_places l → l.proposition < LIMIT
 unfolding signed_places
-signed_below l h = (literals_cases 0 256 l h).1
+signed_below l h = (literals_cases 0 LIMIT l h).1
 
 pub literals_of_rise : (ps ns : List ℕ) → IsRising literal_cmp (literals ps ns)
 unfolding literals
 literals_of_rise ps ns = IsRising-subset literal_linear signed_places signed_rise (literal_in ps ns)
 
-pub literals_below : (ps ns : List ℕ) → AllByRecursion (λ l. l.proposition < 256) (literals ps ns)
+pub literals_below : (ps ns : List ℕ) → AllByRecursion (λ l. l.proposition < LIMIT) (literals ps ns)
 unfolding literals
-literals_below ps ns = all_from (λ l. l.proposition < 256) (filter (literal_in ps ns) signed_places) (λ z h. signed_below z (filter_cases (literal_in ps ns) signed_places z h).0)
+literals_below ps ns = all_from (λ l. l.proposition < LIMIT) (filter (literal_in ps ns) signed_places) (λ z h. signed_below z (filter_cases (literal_in ps ns) signed_places z h).0)
 
-pub has_literals : (ps ns : List ℕ) (l : Literal) → l.proposition < 256 → has literal_cmp l (literals ps ns) ≡ literal_in ps ns l
+pub has_literals : (ps ns : List ℕ) (l : Literal) → l.proposition < LIMIT → has literal_cmp l (literals ps ns) ≡ literal_in ps ns l
 unfolding literals
 has_literals ps ns l h = has_test literal_linear signed_places signed_rise l (literal_in ps ns) (Has-signed l h)
 

@@ -12,6 +12,7 @@ use Rattle.std.proofs.lemmas.List.{length-map, get_or_past, ext_get_or, get_or-m
 use Rattle.std.proofs.lemmas.List.FromFn.{length-map-range_with_len, get_or-map-range_with_len}
 use Rattle.std.proofs.lemmas.Simd.{length-zip2, get_or-zip2}
 use Rattle.ltl_sets.specs.Words.{IsWords, bit_in, number, words_of}
+use Rattle.ltl_sets.specs.declared.row_set.TheConstants.RowSet.{LIMIT, WORDS}
 
 -- ---- a number by its bits
 
@@ -73,7 +74,7 @@ one_of false = refl
 
 -- ---- the place of a bit
 
-pub word_below : (i : ℕ) → i < 256 → i / 64 < 4
+pub word_below : (i : ℕ) → i < LIMIT → i / 64 < WORDS
 word_below i h = omega arith
 
 pub place_below : (i : ℕ) → i % 64 < 64
@@ -96,14 +97,14 @@ bit_in-place ws k j h = rw (place_word k j h, place_bit k j h) refl
 fits_in : (n : ℕ) → n ≡ 0 → n < 2 ^ 64
 fits_in n e = omega arith
 
-split_four : (k : ℕ) → (k < 4) ⊎ (4 ≤ k)
+split_four : (k : ℕ) → (k < WORDS) ⊎ (WORDS ≤ k)
 split_four k = grind arith
 
 module _ (xs ys : List ℕ) (one : IsWords xs) (two : IsWords ys) where
   as_long : length xs ≡ length ys
   as_long = one.long ∙ sym two.long
 
-  zip2_at : (f : ℕ → ℕ → ℕ) (k : ℕ) → k < 4 → get_or (zip2 f xs ys) k 0 ≡ f (get_or xs k 0) (get_or ys k 0)
+  zip2_at : (f : ℕ → ℕ → ℕ) (k : ℕ) → k < WORDS → get_or (zip2 f xs ys) k 0 ≡ f (get_or xs k 0) (get_or ys k 0)
   zip2_at f k h = get_or-zip2 f xs ys k 0 0 0 (omega (arith, one.long)) (omega (arith, two.long))
 
   pub IsWords-zip2 : (f : ℕ → ℕ → ℕ) → ((x y : ℕ) → x < 2 ^ 64 → y < 2 ^ 64 → f x y < 2 ^ 64) → IsWords (zip2 f xs ys)
@@ -127,25 +128,25 @@ module _ (xs ys : List ℕ) (one : IsWords xs) (two : IsWords ys) where
       lower : (a b : ℕ) → a ≤ b → b < 2 ^ 64 → a < 2 ^ 64
       lower a b l h = omega arith
 
-  pub bit_in-or : (i : ℕ) → i < 256 → bit_in (zip2 bit_or xs ys) i ≡ (bit_in xs i || bit_in ys i)
+  pub bit_in-or : (i : ℕ) → i < LIMIT → bit_in (zip2 bit_or xs ys) i ≡ (bit_in xs i || bit_in ys i)
   bit_in-or i h =
       ap (λ n. nat_eq (bit_at n (i % 64)) 1) (zip2_at bit_or (i / 64) (word_below i h))
       ∙ either_one _ _ _ (bit_at-lt (get_or xs (i / 64) 0) (i % 64)) (bit_at-lt (get_or ys (i / 64) 0) (i % 64)) (bit_at_or (get_or xs (i / 64) 0) (get_or ys (i / 64) 0) (i % 64))
 
-  pub bit_in-and : (i : ℕ) → i < 256 → bit_in (zip2 bit_and xs ys) i ≡ (bit_in xs i && bit_in ys i)
+  pub bit_in-and : (i : ℕ) → i < LIMIT → bit_in (zip2 bit_and xs ys) i ≡ (bit_in xs i && bit_in ys i)
   bit_in-and i h =
       ap (λ n. nat_eq (bit_at n (i % 64)) 1) (zip2_at bit_and (i / 64) (word_below i h))
       ∙ both_one _ _ _ (bit_at-lt (get_or xs (i / 64) 0) (i % 64)) (bit_at-lt (get_or ys (i / 64) 0) (i % 64)) (bit_at_and (get_or xs (i / 64) 0) (get_or ys (i / 64) 0) (i % 64))
 
-  pub bit_in-xor : (i : ℕ) → i < 256 → bit_in (zip2 bit_xor xs ys) i ≡ not (beq (bit_in xs i) (bit_in ys i))
+  pub bit_in-xor : (i : ℕ) → i < LIMIT → bit_in (zip2 bit_xor xs ys) i ≡ not (beq (bit_in xs i) (bit_in ys i))
   bit_in-xor i h =
       ap (λ n. nat_eq (bit_at n (i % 64)) 1) (zip2_at bit_xor (i / 64) (word_below i h))
       ∙ one_alone _ _ _ (bit_at-lt (get_or xs (i / 64) 0) (i % 64)) (bit_at-lt (get_or ys (i / 64) 0) (i % 64)) (bit_at_xor (get_or xs (i / 64) 0) (get_or ys (i / 64) 0) (i % 64))
 
   -- words with the same bits are the same words
-  pub same_words : ((i : ℕ) → i < 256 → bit_in xs i ≡ bit_in ys i) → xs ≡ ys
+  pub same_words : ((i : ℕ) → i < LIMIT → bit_in xs i ≡ bit_in ys i) → xs ≡ ys
   same_words f =
-      ext_get_or 0 xs ys as_long (λ k h. let four : k < 4 = omega (arith, one.long) in
+      ext_get_or 0 xs ys as_long (λ k h. let four : k < WORDS = omega (arith, one.long) in
       same_from_bits_below 64 (get_or xs k 0) (get_or ys k 0) (one.fit k) (two.fit k) (λ j g.
       same_one _ _ (bit_at-lt (get_or xs k 0) j) (bit_at-lt (get_or ys k 0) j)
       (sym (bit_in-place xs k j g) ∙ f (64 * k + j) (omega arith) ∙ bit_in-place ys k j g)))
@@ -163,7 +164,7 @@ IsWords-not xs one = record {
 pub IsWords-without : (xs ys : List ℕ) → IsWords xs → IsWords ys → IsWords (zip2 bit_and xs (map (bit_not w64) ys))
 IsWords-without xs ys one two = IsWords-and xs (map (bit_not w64) ys) one (IsWords-not ys two)
 
-pub bit_in-without : (xs ys : List ℕ) → IsWords xs → IsWords ys → (i : ℕ) → i < 256 → bit_in (zip2 bit_and xs (map (bit_not w64) ys)) i ≡ (bit_in xs i && not (bit_in ys i))
+pub bit_in-without : (xs ys : List ℕ) → IsWords xs → IsWords ys → (i : ℕ) → i < LIMIT → bit_in (zip2 bit_and xs (map (bit_not w64) ys)) i ≡ (bit_in xs i && not (bit_in ys i))
 bit_in-without xs ys one two i h =
     ap (λ n. nat_eq (bit_at n (i % 64)) 1)
     (zip2_at xs (map (bit_not w64) ys) one (IsWords-not ys two) bit_and (i / 64) (word_below i h)
@@ -172,17 +173,17 @@ bit_in-without xs ys one two i h =
     (bit_at_and (get_or xs (i / 64) 0) (bit_not w64 (get_or ys (i / 64) 0)) (i % 64)
     ∙ ap (min (bit_at (get_or xs (i / 64) 0) (i % 64))) (bit_at_not w64 (get_or ys (i / 64) 0) (i % 64) (two.fit (i / 64)) (place_below i)))
 
-pub bit_in-empty : (i : ℕ) → i < 256 → bit_in (replicate 4 0) i ≡ false
-bit_in-empty i h = ap (λ n. nat_eq (bit_at n (i % 64)) 1) (get_or-replicate 4 (i / 64) 0 0 (word_below i h)) ∙ ap (λ n. nat_eq n 1) (bit_at-zero (i % 64))
+pub bit_in-empty : (i : ℕ) → i < LIMIT → bit_in (replicate WORDS 0) i ≡ false
+bit_in-empty i h = ap (λ n. nat_eq (bit_at n (i % 64)) 1) (get_or-replicate WORDS (i / 64) 0 0 (word_below i h)) ∙ ap (λ n. nat_eq n 1) (bit_at-zero (i % 64))
 
 -- the words of a test
-words_at : (p : ℕ → Bool) (k : ℕ) → k < 4 → get_or (words_of p) k 0 ≡ number 64 (λ j. p (64 * k + j))
+words_at : (p : ℕ → Bool) (k : ℕ) → k < WORDS → get_or (words_of p) k 0 ≡ number 64 (λ j. p (64 * k + j))
 unfolding words_of
-words_at p k h = get_or-map-range_with_len (λ k. number 64 (λ j. p (64 * k + j))) 0 4 k k 0 h (omega arith)
+words_at p k h = get_or-map-range_with_len (λ k. number 64 (λ j. p (64 * k + j))) 0 WORDS k k 0 h (omega arith)
 
-words_long : (p : ℕ → Bool) → length (words_of p) ≡ 4
+words_long : (p : ℕ → Bool) → length (words_of p) ≡ WORDS
 unfolding words_of
-words_long p = length-map-range_with_len (λ k. number 64 (λ j. p (64 * k + j))) 0 4
+words_long p = length-map-range_with_len (λ k. number 64 (λ j. p (64 * k + j))) 0 WORDS
 
 pub IsWords-words_of : (p : ℕ → Bool) → IsWords (words_of p)
 IsWords-words_of p = record {
@@ -193,7 +194,7 @@ IsWords-words_of p = record {
   ];
 }
 
-pub bit_in-words_of : (p : ℕ → Bool) (i : ℕ) → i < 256 → bit_in (words_of p) i ≡ p i
+pub bit_in-words_of : (p : ℕ → Bool) (i : ℕ) → i < LIMIT → bit_in (words_of p) i ≡ p i
 bit_in-words_of p i h =
     ap (λ n. nat_eq (bit_at n (i % 64)) 1) (words_at p (i / 64) (word_below i h))
     ∙ ap (λ n. nat_eq n 1) (bit_at-number 64 (λ j. p (64 * (i / 64) + j)) (i % 64) (place_below i))

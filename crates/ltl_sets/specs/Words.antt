@@ -1,4 +1,4 @@
--- Bit sets of 256 bits in four words of 64, and the sets and cubes that they stand for.
+-- Bit sets of LIMIT bits in four words of 64, and the sets and cubes that they stand for.
 use Rattle.std.specs.Prelude.{◌≡◌, ℕ, ◌≤◌, ◌≢◌, ◌&&◌, not, Option, MatchOption, zero, suc, ◌+◌, ◌*◌, ◌/◌, ◌%◌, ◌^◌, ◌<◌, Bool, true, false, cond, nat_eq, List, [], ◌∷◌, length, map, slice_index}
 use Rattle.std.specs.Int.{bit_at}
 use Rattle.std.specs.Hash.{le_bytes}
@@ -6,10 +6,11 @@ use Rattle.std.specs.List.{filter, range_with_len}
 use Rattle.std.specs.Ordering.{nat_cmp}
 use Rattle.ltl_spec.specs.Collections.Sets.{has}
 use Rattle.ltl_spec.specs.Transitions.Cubes.{Literal, literal_cmp, Cube}
+use Rattle.ltl_sets.specs.declared.row_set.TheConstants.RowSet.{LIMIT, WORDS}
 
 -- four words
 pub record IsWords (words : List ℕ) : Type 0 where
-  pub long : length words ≡ 4
+  pub long : length words ≡ WORDS
   pub fit : (k : ℕ) → slice_index words k < 2 ^ 64
 
 -- whether bit i is a one
@@ -18,15 +19,15 @@ bit_in words i = nat_eq (bit_at (slice_index words (i / 64)) (i % 64)) 1
 
 -- no bit is a one
 abbrev pub HasNone : List ℕ → Type 0
-HasNone words = (i : ℕ) → i < 256 → bit_in words i ≡ false
+HasNone words = (i : ℕ) → i < LIMIT → bit_in words i ≡ false
 
 -- some bit at i or above it is a one
 abbrev pub Reaches : List ℕ → ℕ → Type 0
-Reaches words i = (j : ℕ) × (i ≤ j) × (j < 256) × (bit_in words j ≡ true)
+Reaches words i = (j : ℕ) × (i ≤ j) × (j < LIMIT) × (bit_in words j ≡ true)
 
 -- some word after the given one is not zero
 abbrev pub HasLater : List ℕ → ℕ → Type 0
-HasLater words a = (k : ℕ) × (a < k) × (k < 4) × (slice_index words k ≢ 0)
+HasLater words a = (k : ℕ) × (a < k) × (k < WORDS) × (slice_index words k ≢ 0)
 
 -- word k of the words whose only one is bit i
 abbrev pub word_alone : ℕ → ℕ → ℕ
@@ -38,7 +39,7 @@ AreZerosBelow words at = (k : ℕ) → k < at → slice_index words k ≡ 0
 
 -- bit i is the lowest one
 pub record IsLowest (words : List ℕ) (i : ℕ) : Type 0 where
-  pub below : i < 256
+  pub below : i < LIMIT
   pub one : bit_in words i ≡ true
   pub zeros : (j : ℕ) → j < i → bit_in words j ≡ false
 
@@ -48,7 +49,7 @@ FindsLowest words r = MatchOption r (HasNone words) (λ i. IsLowest words i)
 
 -- the same bits but for bit i, which is a zero
 abbrev pub LosesBit : List ℕ → ℕ → List ℕ → Type 0
-LosesBit words i rest = (j : ℕ) → j < 256 → bit_in rest j ≡ (bit_in words j && not (nat_eq j i))
+LosesBit words i rest = (j : ℕ) → j < LIMIT → bit_in rest j ≡ (bit_in words j && not (nat_eq j i))
 
 -- the number of k bits whose ones are those that pass
 unfoldable pub number : ℕ → (ℕ → Bool) → ℕ
@@ -57,11 +58,11 @@ number (suc k) p = cond (p 0) 1 0 + 2 * number k (λ i. p (suc i))
 
 -- the words whose ones are those that pass
 unfoldable pub words_of : (ℕ → Bool) → List ℕ
-words_of p = map (λ k. number 64 (λ j. p (64 * k + j))) (range_with_len 0 4)
+words_of p = map (λ k. number 64 (λ j. p (64 * k + j))) (range_with_len 0 WORDS)
 
 -- the numbers of bits
 unfoldable pub places : List ℕ
-places = range_with_len 0 256
+places = range_with_len 0 LIMIT
 
 -- the numbers of the ones
 unfoldable pub members : List ℕ → List ℕ
@@ -77,7 +78,7 @@ literals_from a zero = []
 literals_from a (suc n) = record { proposition = a; positive = true } ∷ record { proposition = a; positive = false } ∷ literals_from (a + 1) n
 
 unfoldable pub signed_places : List Literal
-signed_places = literals_from 0 256
+signed_places = literals_from 0 LIMIT
 
 -- whether the literal is among those whose positive and negative ones are these bits
 abbrev pub literal_in : List ℕ → List ℕ → Literal → Bool
@@ -92,7 +93,7 @@ words_with_literals s ls = words_of (λ i. has literal_cmp (record { proposition
 
 -- no place is a one in both
 abbrev pub AreDisjoint : List ℕ → List ℕ → Type 0
-AreDisjoint positive negative = (i : ℕ) → i < 256 → (bit_in positive i && bit_in negative i) ≡ false
+AreDisjoint positive negative = (i : ℕ) → i < LIMIT → (bit_in positive i && bit_in negative i) ≡ false
 
 -- the positive and the negative words of a cube
 pub record IsCubeWords (positive negative : List ℕ) : Type 0 where

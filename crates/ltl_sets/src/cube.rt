@@ -14,7 +14,7 @@ ghost use Rattle.ltl_sets.specs.Words.{IsCubeWords, IsLowest, letter_of, forbidd
 
 use crate::lanes;
 use crate::literal::Literal;
-use crate::row_set::{Members, RowSet};
+use crate::row_set::{Members, PropositionSet, RowSet};
 use std::alloc::AllocError;
 use std::cmp::Ordering;
 use std::fmt;
@@ -152,7 +152,7 @@ impl Cube {
     }
 
     /// Whether the cube is true at a letter, in which exactly these propositions are true.
-    pub fn allows(&self, letter: &RowSet) -> bool
+    pub fn allows(&self, letter: &PropositionSet) -> bool
         ensures { result ≡ cubes.allows (λ i. sets.has nat_cmp i letter.now) self.now }
     {
         let failing = (self.positive & !letter.lanes) | (self.negative & letter.lanes);
@@ -160,7 +160,7 @@ impl Cube {
     }
 
     /// The least letter at which the cube is true: the propositions of its positive literals.
-    pub fn letter(&self) -> RowSet
+    pub fn letter(&self) -> PropositionSet
         ensures { result ≡ letter_of self.now }
     {
         RowSet {
@@ -307,13 +307,14 @@ impl Model for Literals {
     ghost use Rattle.std.specs.Prelude.{◌<◌, List, map};
     ghost use Rattle.std.specs.List.{AllByRecursion};
     ghost use Rattle.ltl_sets.specs.declared.literal.Literal as made;
+    ghost use Rattle.ltl_sets.specs.declared.row_set.TheConstants.RowSet.{LIMIT};
     ghost use Rattle.ltl_sets.specs.Literals.{signed_by};
 
     ghost Value = { List made.Literal };
 
     ghost view = { λ a. map (signed_by a.positive) a.places };
 
-    ghost invariant = { λ a. AllByRecursion (λ p. p < 256) a.places };
+    ghost invariant = { λ a. AllByRecursion (λ p. p < LIMIT) a.places };
 }
 
 impl Iterator for Literals {

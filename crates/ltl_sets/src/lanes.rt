@@ -1,4 +1,4 @@
-// Bit sets of 256 bits in four words: bit i is bit i % 64 of word i / 64.
+// Bit sets of `RowSet::LIMIT` bits in words of 64: bit i is bit i % 64 of word i / 64.
 
 ghost use Rattle.std.specs.Prelude.{◌≡◌, ℕ, ◌<◌, cond, nat_eq, ◌+◌, ◌*◌, IfSome, MatchOption, fold, slice_index};
 ghost use Rattle.std.specs.Int.{bit_at};
@@ -6,6 +6,7 @@ ghost use Rattle.std.specs.Bool.{Decides, beq};
 ghost use Rattle.std.specs.declared.cmp.Ordering.TheVariants.{Less, Greater};
 ghost use Rattle.ltl_sets.specs.Words.{AreZerosBelow, IsWords, bit_in, HasNone, Reaches, HasLater, FindsLowest, IsLowest, LosesBit, word_alone, hash_of, mixed};
 
+use crate::row_set::RowSet;
 use std::cmp::Ordering;
 use std::hash::{Hash, Hasher};
 use std::simd::prelude::*;
@@ -14,7 +15,7 @@ use std::simd::u64x4;
 // Whether bit i is set.
 #[inline(always)]
 pub(crate) fn has(lanes: &u64x4, i: usize) -> bool
-    requires { i < 256 }
+    requires { i < RowSet.LIMIT }
     ensures { result ≡ bit_in lanes.now i }
 {
     (lanes.to_array()[i / 64] >> (i % 64)) & 1 == 1
@@ -23,7 +24,7 @@ pub(crate) fn has(lanes: &u64x4, i: usize) -> bool
 // Byte k: its bit i is bit 8 * k + i.
 #[inline(always)]
 pub(crate) fn byte(lanes: &u64x4, k: usize) -> u8
-    requires { k < 32 }
+    requires { k < RowSet.BYTES }
     ensures { (i : ℕ) → i < 8 → nat_eq (bit_at result i) 1 ≡ bit_in lanes.now (8 * k + i) }
 {
     ((lanes.as_array()[k / 8] >> (8 * (k % 8))) & 255) as u8
@@ -31,7 +32,7 @@ pub(crate) fn byte(lanes: &u64x4, k: usize) -> u8
 
 // Word k of the set that has bit i alone.
 fn word_alone(i: usize, k: usize) -> u64
-    requires { i < 256 }
+    requires { i < RowSet.LIMIT }
     ensures { result ≡ word_alone i k }
 {
     if i / 64 == k { 1 << (i % 64) } else { 0 }
@@ -39,9 +40,9 @@ fn word_alone(i: usize, k: usize) -> u64
 
 // The set that has bit i alone.
 pub(crate) fn single(i: usize) -> u64x4
-    requires { i < 256 }
+    requires { i < RowSet.LIMIT }
     ensures words { IsWords result }
-    ensures alone { (j : ℕ) → j < 256 → bit_in result j ≡ nat_eq j i }
+    ensures alone { (j : ℕ) → j < RowSet.LIMIT → bit_in result j ≡ nat_eq j i }
 {
     u64x4::from_array([
         word_alone(i, 0),
@@ -64,7 +65,7 @@ pub(crate) fn is_zero(lanes: u64x4) -> bool
 #[inline(always)]
 pub(crate) fn reaches(lanes: u64x4, i: usize) -> bool
     requires words { IsWords lanes }
-    requires below { i < 256 }
+    requires below { i < RowSet.LIMIT }
     ensures { Decides result (Reaches lanes i) }
 {
     let words = lanes.to_array();
@@ -74,7 +75,7 @@ pub(crate) fn reaches(lanes: u64x4, i: usize) -> bool
 
 // Whether a word after this one isn't zero.
 #[inline(always)]
-fn has_later(words: &[u64; 4], at: usize) -> bool
+fn has_later(words: &[u64; RowSet::WORDS], at: usize) -> bool
     ensures { Decides result (HasLater words.now at) }
 {
     ((at < 1) & (words[1] != 0)) | ((at < 2) & (words[2] != 0)) | ((at < 3) & (words[3] != 0))
@@ -82,8 +83,8 @@ fn has_later(words: &[u64; 4], at: usize) -> bool
 
 // Clears the lowest bit that is set, and returns its number. The word at this index is the first one that isn't zero.
 #[inline(always)]
-fn take_from(words: &mut [u64; 4], at: usize) -> usize
-    requires inside { at < 4 }
+fn take_from(words: &mut [u64; RowSet::WORDS], at: usize) -> usize
+    requires inside { at < RowSet.WORDS }
     requires some { 0 < slice_index words.old at }
     requires zeros { AreZerosBelow words.old at }
     ensures words { IsWords words.new }
@@ -98,7 +99,7 @@ fn take_from(words: &mut [u64; 4], at: usize) -> usize
 
 // Clears the lowest bit that is set, and returns its number. All indices are constants, so that the words can stay in registers.
 #[inline(always)]
-pub(crate) fn take_lowest(words: &mut [u64; 4]) -> Option<usize>
+pub(crate) fn take_lowest(words: &mut [u64; RowSet::WORDS]) -> Option<usize>
     ensures words { IsWords words.new }
     ensures found { FindsLowest words.old result }
     ensures rest { MatchOption result (words.new ≡ words.old) (λ i. LosesBit words.old i words.new) }
@@ -155,7 +156,7 @@ pub(crate) fn list_order(is_first: bool, goes_on: bool) -> Ordering
 
 // The four words mixed into one, as the input of a hash. Different sets rarely give the same number.
 #[inline(always)]
-fn mixed(words: &[u64; 4]) -> u64
+fn mixed(words: &[u64; RowSet::WORDS]) -> u64
     ensures { result ≡ mixed words.now }
 {
     let low = words[0]

@@ -8,6 +8,7 @@ ghost use Rattle.std.specs.Cmp.Lexicographic.{slice_cmp};
 ghost use Rattle.std.specs.Iterator.{YieldsFirst, item_count};
 ghost use Rattle.std.specs.Iterator.Runs.{YieldsInOrder};
 ghost use Rattle.ltl_spec.specs.Collections.Sets as sets;
+ghost use Rattle.ltl_sets.specs.Words.{words_with};
 
 use crate::lanes;
 use std::alloc::AllocError;
@@ -22,6 +23,10 @@ use std::simd::u64x4;
 pub struct RowSet {
     pub(crate) lanes: u64x4,
 }
+
+/// A letter of a word, or the propositions of a cube: a set of numbers of propositions. Its limit is the limit of propositions; the other sets have the limit
+/// of rows.
+pub type PropositionSet = RowSet;
 
 impl Model for RowSet {
     ghost use Rattle.std.specs.Prelude.{ℕ, List};
@@ -47,6 +52,11 @@ impl Model for RowSet {
 impl RowSet {
     /// The bound below which every member is.
     pub const LIMIT: usize = 256;
+
+    /// The number of words of 64 bits, and of bytes.
+    pub(crate) const WORDS: usize = RowSet::LIMIT / 64;
+
+    pub(crate) const BYTES: usize = RowSet::LIMIT / 8;
 
     /// The empty set.
     pub fn empty() -> RowSet
@@ -185,10 +195,19 @@ impl RowSet {
         }
     }
 
+    /// The set as a bit vector: bit j of word k says whether 64 * k + j is a member.
+    #[inline(always)]
+    #[tactic(auto, using(crate::specs::PlaceLaws::words_again))]
+    pub fn words(&self) -> [u64; 4]
+        ensures { result ≡ words_with self.now }
+    {
+        self.lanes.to_array()
+    }
+
     // Byte k: its bit i says whether number 8 * k + i is a member.
     #[inline(always)]
     pub(crate) fn byte(&self, k: usize) -> u8
-        requires { k < 32 }
+        requires { k < RowSet.BYTES }
         ensures { (i : ℕ) → i < 8 → nat_eq (bit_at result i) 1 ≡ sets.has nat_cmp (8 * k + i) self.now }
     {
         lanes::byte(&self.lanes, k)
@@ -263,7 +282,7 @@ impl fmt::Debug for RowSet {
 /// An iterator over the members of a set. Contracts see it as the list of those still to come.
 #[derive(Clone, Debug, Drop)]
 pub struct Members {
-    words: [u64; 4],
+    words: [u64; RowSet::WORDS],
 }
 
 impl Model for Members {

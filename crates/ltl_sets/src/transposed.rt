@@ -14,12 +14,12 @@ pub const OCTET: usize = 8;
 // Byte k of each set. There are zeros after the last set.
 #[tactic(auto, using(crate::proofs::TransposedLaws::bytes_end))]
 #[inline(always)]
-fn bytes_of(sets: &[RowSet], k: usize) -> [u8; 256]
+fn bytes_of(sets: &[RowSet], k: usize) -> [u8; RowSet::LIMIT]
     requires few { length sets.now ≤ RowSet.LIMIT }
-    requires below { k < 32 }
+    requires below { k < RowSet.BYTES }
     ensures { AreBytes sets.now k result }
 {
-    let mut bytes = [0; 256];
+    let mut bytes = [0; RowSet::LIMIT];
     'sets: for j in 0..sets.len() {
         bytes[j] = sets[j].byte(k);
     }
@@ -28,8 +28,8 @@ fn bytes_of(sets: &[RowSet], k: usize) -> [u8; 256]
 
 // The bytes from 64 * part on.
 #[inline(always)]
-fn part_of(bytes: &[u8; 256], part: usize) -> u8x64
-    requires { part < 4 }
+fn part_of(bytes: &[u8; RowSet::LIMIT], part: usize) -> u8x64
+    requires { part < RowSet.WORDS }
     ensures { IsPart bytes.now part result }
 {
     u8x64::from_slice(&bytes[64 * part..])
@@ -47,9 +47,9 @@ fn meeting(bytes: u8x64, mask: u8) -> u64
 
 // Bit j is bit i of byte 64 * part + j.
 #[inline(always)]
-fn word_of(bytes: &[u8; 256], i: usize, part: usize) -> u64
+fn word_of(bytes: &[u8; RowSet::LIMIT], i: usize, part: usize) -> u64
     requires place { i < 8 }
-    requires inside { part < 4 }
+    requires inside { part < RowSet.WORDS }
     ensures { (j : ℕ) → j < 64 → nat_eq (bit_at result j) 1 ≡ nat_eq (bit_at (slice_index bytes.now (64 * part + j)) i) 1 }
 {
     meeting(part_of(bytes, part), 1 << i)
@@ -57,7 +57,7 @@ fn word_of(bytes: &[u8; 256], i: usize, part: usize) -> u64
 
 // The indices of the bytes that have bit i.
 #[inline(always)]
-fn indices_of(bytes: &[u8; 256], i: usize) -> RowSet
+fn indices_of(bytes: &[u8; RowSet::LIMIT], i: usize) -> RowSet
     requires { i < 8 }
     ensures { AreIndices bytes.now i result }
 {
@@ -73,7 +73,7 @@ fn indices_of(bytes: &[u8; 256], i: usize) -> RowSet
 
 // The indices of the bytes that have bit i, which none of them has if it isn't met.
 #[inline(always)]
-fn indices_if(is_met: bool, bytes: &[u8; 256], i: usize) -> RowSet
+fn indices_if(is_met: bool, bytes: &[u8; RowSet::LIMIT], i: usize) -> RowSet
     requires place { i < 8 }
     requires unmet { is_met ≡ false → HaveNone bytes.now i }
     ensures { AreIndices bytes.now i result }
@@ -90,7 +90,7 @@ fn indices_if(is_met: bool, bytes: &[u8; 256], i: usize) -> RowSet
 pub fn octet(sets: &[RowSet], met: &RowSet, k: usize) -> [RowSet; 8]
     requires few { length sets.now ≤ RowSet.LIMIT }
     requires met { AreMet sets.now met.now }
-    requires below { k < 32 }
+    requires below { k < RowSet.BYTES }
     ensures { IsOctet sets.now k result }
 {
     let mut columns = [RowSet::empty(); 8];

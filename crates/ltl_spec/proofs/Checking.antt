@@ -9,4 +9,5 @@ pub mod VerdictLaws
 pub mod BelowLaws
 pub mod DocumentLaws
 pub mod ContainedLaws
+pub mod EntailmentLaws
 pub mod GeneralizedRead

@@ -1,5 +1,6 @@
 -- Worked examples: whole texts and answers by computation.
 pub mod Claims
+pub mod ClaimTables
 pub mod Texts
 pub mod MarkExamples
 pub mod ReaderTexts

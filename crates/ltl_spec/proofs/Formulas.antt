@@ -1,5 +1,6 @@
 -- Formulas, their texts and the faults of texts.
 pub mod NameLaws
+pub mod ByteLaws
 pub mod GrammarMachine
 pub mod BeginningLaws
 pub mod FaultLaws

@@ -7,6 +7,7 @@ pub mod Semantics
 pub mod Construction
 pub mod Words
 pub mod Hoa
+pub mod Claims
 pub mod Checking
 pub mod Tools
 pub mod Examples

@@ -4,3 +4,4 @@ pub mod WordReadingLaws
 pub mod LeastLaws
 pub mod UniqueLaws
 pub mod SameWordLaws
+pub mod LeastLength

@@ -4,3 +4,4 @@ pub mod Search
 pub mod Searched
 pub mod Bounds
 pub mod Check
+pub mod Comparison

@@ -7,5 +7,6 @@ pub mod Semantics
 pub mod Construction
 pub mod Words
 pub mod Hoa
+pub mod Claims
 pub mod Checking
 pub mod Tools

@@ -5,3 +5,5 @@ pub mod Stage
 pub mod Outcome
 pub mod Programs
 pub mod Run
+pub mod Comparison
+pub mod Comparer

@@ -1,2 +1,3 @@
+pub mod PrintLaws
 pub mod SendLaws
 pub mod StreamLemmas

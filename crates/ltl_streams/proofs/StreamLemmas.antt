@@ -2,7 +2,6 @@
 use Rattle.std.proofs.Common.{zero, suc, ◌<◌, ◌∷◌, ◌≡◌, ◌∙◌, ap, refl, sym, ℕ, min, ◌+◌, List, [], ◌++◌, length, take, drop, Option, Some, None, append_assoc, append-nil, arith}
 use Rattle.std.proofs.Math.Seq.{take-add, take-append-add}
 use Rattle.std.proofs.lemmas.List.{take-append-le, take_min}
-use Rattle.std.specs.Prelude.{OnErr, Result, Ok, Err}
 use Rattle.std.specs.Io.KnownBytes.{Appends, Keeps}
 use Rattle.ltl_spec.specs.Tools.Stage.{Stage, Open, Closed, Broken, behind}
 use Rattle.ltl_streams.specs.Streams.{stage_given, SinkState, Takes, TakesSome, Breaks, Fails}
@@ -23,10 +22,6 @@ kept_after None m n a p q = tt
 kept_after (Some x) (Some y) (Some z) a p q = q ∙ p
 kept_after (Some x) (Some y) None a p q = q
 kept_after (Some x) None n a p q = absurd p
-
-pub on_err : {T E P : Type 0} (r : Result T E) → P → OnErr r P
-on_err (Ok x) p = tt
-on_err (Err e) p = p
 
 -- ---- what a sink took
 pub takes_nothing : (o : SinkState) → Takes o o []

@@ -1,3 +1,4 @@
+pub mod Printing
 pub mod Sending
 pub mod StageView
 pub mod Streams

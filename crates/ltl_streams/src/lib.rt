@@ -2,10 +2,11 @@
 //!
 //! The standard traits for reading and writing don't say in a contract how a call failed. A `ByteSink` and a `ByteSource` have a `Stage` for this. So
 //! a contract can say that an error has a cause, that no call is repeated after an error, and that an output is flushed once, after its last byte.
-//! `OutputBuffer` is the buffer of an output.
+//! `OutputBuffer` is the buffer of an output, and `Printer` a sink with such a buffer that remembers a failed write.
 #![tactic(auto)]
 
 pub mod output_buffer;
+pub mod printer;
 pub mod reader_source;
 pub mod sink;
 pub mod source;
@@ -14,6 +15,7 @@ pub mod writer_sink;
 pub mod writing;
 
 pub use output_buffer::OutputBuffer;
+pub use printer::Printer;
 pub use reader_source::{LentReader, ReaderSource};
 pub use sink::{ByteSink, WriteFault};
 pub use source::{ByteSource, SourceFault};

@@ -21,13 +21,15 @@ enum Task {
 /// The stack of what is still to be written. Up to 32 entries are stored without an allocation.
 type Tasks<'a, A> = SmallVec<Task, 32, &'a A>;
 
-fn constant_text(value: bool) -> &'static [u8]
+/// The canonical text of a constant.
+pub fn constant_text(value: bool) -> &'static [u8]
     ensures { result.now ≡ spec.constant_text value }
 {
     if value { b"true" } else { b"false" }
 }
 
-fn unary_text(operator: UnaryOperator) -> &'static [u8]
+/// The canonical text of a prefix operator, which precedes that of its operand.
+pub fn unary_text(operator: UnaryOperator) -> &'static [u8]
     ensures { result.now ≡ spec.unary_text (unary_of operator) }
 {
     match operator {
@@ -38,7 +40,8 @@ fn unary_text(operator: UnaryOperator) -> &'static [u8]
     }
 }
 
-fn binary_text(operator: BinaryOperator) -> &'static [u8]
+/// The canonical text of an infix operator, with a blank on each side. It stands between those of its operands.
+pub fn binary_text(operator: BinaryOperator) -> &'static [u8]
     ensures { result.now ≡ spec.binary_text (binary_of operator) }
 {
     match operator {

@@ -1,23 +1,49 @@
 //! The errors of reading a formula.
 
+ghost use Rattle.std.specs.Prelude.{◌≡◌, ◌≤◌, Some, length};
+ghost use Rattle.ltl_spec.specs.Tools.Refusal.{fault_text};
+ghost use Rattle.ltl_syntax.specs.ParserView.{kind_of};
+
 use crate::limits::{PROPOSITION_LIMIT, TEXT_LIMIT};
 use std::alloc::AllocError;
+use std::fmt;
 use thiserror::Error;
 
 /// What is wrong at a byte of a formula's text.
-#[derive(Clone, Copy, Debug, PartialEq, Eq, Error)]
+#[derive(Clone, Copy, Debug, PartialEq, Eq)]
 pub enum FaultKind {
     /// The byte begins no token.
-    #[error("unexpected byte")]
     UnexpectedByte,
-    #[error("expected operand")]
     ExpectedOperand,
-    #[error("expected operator or end")]
     ExpectedOperatorOrEnd,
     /// An operator or the end is expected, but a bracket is open, so that `)` is possible here too.
-    #[error("expected ) or operator")]
     ExpectedCloseOrOperator,
 }
+
+impl FaultKind {
+    /// The end of the message, behind the offset of the byte.
+    pub fn text(self) -> &'static str
+        ensures text { result.now ≡ fault_text (kind_of self) }
+        ensures short { length result.now ≤ 30 }
+    {
+        match self {
+            FaultKind::UnexpectedByte => "unexpected byte",
+            FaultKind::ExpectedOperand => "expected operand",
+            FaultKind::ExpectedOperatorOrEnd => "expected operator or end",
+            FaultKind::ExpectedCloseOrOperator => "expected ) or operator",
+        }
+    }
+}
+
+impl fmt::Display for FaultKind {
+    ghost output = { λ kind. Some (fault_text (kind_of kind)) };
+
+    fn fmt<W: fmt::Write>(&self, f: &mut fmt::Formatter<W>) -> fmt::Result {
+        f.write_str(self.text())
+    }
+}
+
+impl std::error::Error for FaultKind {}
 
 /// Why a text is not read. If several reasons apply, the first one in this order is answered. `OutOfMemory` may come in place of any.
 #[derive(Clone, Copy, Debug, PartialEq, Eq, Error)]

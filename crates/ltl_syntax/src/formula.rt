@@ -48,7 +48,7 @@ impl<'a, A: Allocator> Formula<'a, A> {
     }
 
     /// The canonical text.
-    pub(crate) fn text(&self) -> &[u8]
+    pub fn text(&self) -> &[u8]
         ensures { result.now ≡ canonical_text (reading_of self.now) }
     {
         self.text.as_slice()

@@ -27,6 +27,7 @@ mod sign;
 pub mod token;
 mod word;
 
+pub use canonical::{binary_text, constant_text, unary_text};
 pub use fault::{FaultKind, ReadFault};
 pub use formula::Formula;
 pub use lexer::{Tokens, lex};

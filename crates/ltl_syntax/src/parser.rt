@@ -60,7 +60,7 @@ fn left_rank(operator: BinaryOperator) -> u8
     ensures { result ≡ machine.left_rank (binary_of operator) }
 {
     match operator {
-        BinaryOperator::Implies => 3,
+        BinaryOperator::Implies => rank(operator) - 1,
         _ => rank(operator),
     }
 }

@@ -2,6 +2,7 @@
 
 ghost use Rattle.std.specs.Prelude.{◌≤◌};
 
+use crate::memory::LOOP;
 use ltl_cli::Source;
 use ltl_host::{HostFiles, run, texts, words};
 use ltl_streams::ByteSource;
@@ -14,10 +15,6 @@ use std::io::{Read, Seek, SeekFrom, Write};
 use std::rt::{Env, Files};
 use std::test::Fail;
 use std::{env, io};
-
-/// An automaton whose only word never has `p`.
-const LOOP: &[u8] =
-    b"HOA: v1\nStates: 1\nStart: 0\nAP: 1 \"p\"\nAcceptance: 1 Inf(0)\n--BODY--\nState: 0 {0}\n[!0] 0\n--END--\n";
 
 /// A runtime with these words. Each name but `absent` is that of a file whose content is its name.
 #[derive(Clone, Copy)]

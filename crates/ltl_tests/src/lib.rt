@@ -1,5 +1,5 @@
-//! Tests of the upper libraries by their public calls: runs of the three programs over memory, from a table; the number of looks of a search;
-//! messages of errors; and `ltl_host`.
+//! Tests of the upper libraries by their public calls: some runs of the three programs over memory; the number of looks of a search; the `Display`
+//! texts of faults; and `ltl_host`.
 //!
 //! A contract that fixes a result leaves nothing to test, so there are few tests. The wanted values come from the definitions: by hand, or by a
 //! reference implementation in another language. Tests are crates of their own, divided by what they call, so that none waits for the proof of more.
@@ -14,14 +14,14 @@
 #[cfg(test)]
 mod checks;
 #[cfg(test)]
+mod comparisons;
+#[cfg(test)]
 mod faults;
 #[cfg(test)]
 mod fixed;
 #[cfg(test)]
 mod host;
 #[cfg(test)]
-mod parts;
-#[cfg(test)]
-mod row_table;
+mod memory;
 #[cfg(test)]
 mod rows;

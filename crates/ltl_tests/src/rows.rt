@@ -1,298 +1,281 @@
-//! The runs of the table, each made over memory by the call that a `main` makes. Output, message and status are compared byte by byte.
+//! Runs that show what the programs are for, over memory. Output, message and status are compared byte by byte, and it is counted what is opened.
+//! `tests/*.json` has more, and `tests/run.py` makes them with the programs as they are built.
 
-ghost use Rattle.std.specs.Prelude.{⊤};
-
-use crate::parts::text_of;
-use crate::row_table::{
-    AUTOMATON_LIMITS, CLAIMS, FORMULA_LIMITS, File, LAYOUTS, LONG_TEXTS, LOOP, MANY_STATES,
-    NESTED_TEXTS, REFUSED_BODIES, REFUSED_COMMANDS, REFUSED_FORMULAS, REFUSED_HEADERS,
-    REFUSED_LASSOS, Row, SIMPLIFICATIONS, TRUTHS, VERDICTS,
-};
-use ltl_cli::{Files, Source, run};
-use ltl_streams::{ReaderSource, WriterSink};
+use crate::memory::{LOOP, Memory};
+use ltl_cli::run;
+use ltl_streams::WriterSink;
 use ltl_words::Tool;
-use std::alloc::{AllocError, Global};
-use std::io;
-use std::io::Read;
-use std::test::Fail;
+use std::alloc::Global;
+use std::process::Abort;
 
-/// A reader of a text, or of a folder, which fails.
-#[derive(Clone, Copy, Drop)]
-struct Held<'t> {
-    rest: Option<&'t [u8]>,
-}
+/// The words of a run; its input, which is also the text of the file `x`, the only one; the output, or with a status above 1 the message; the status;
+/// and how many files and inputs are asked for.
+type Row = (
+    &'static [&'static str],
+    &'static [u8],
+    &'static str,
+    u8,
+    u64,
+);
 
-impl Read for Held<'_> {
-    fn read(&mut self, buf: &mut [u8]) -> io::Result<usize> {
-        let Some(rest) = self.rest else {
-            return Err(io::Error::from(io::ErrorKind::IsADirectory));
+/// An automaton whose only word has `p` at each second position, from the first on.
+const TURNS: &[u8] =
+    b"HOA: v1\nStates: 2\nStart: 0\nAP: 1 \"p\"\nAcceptance: 1 Inf(0)\n--BODY--\nState: 0 {0}\n[0] 1\nState: 1\n[!0] 0\n--END--\n";
+
+/// Automata in each layout and with each option, and what is refused.
+const TRANSLATIONS: [Row; 8] = [
+    (
+        &["ltl2ba", "-f", "[]<>p"],
+        b"",
+        "never { /* []<>p */\n\
+        T0_init:\n\
+        \tif\n\
+        \t:: (1) -> goto T0_init\n\
+        \t:: (p) -> goto accept_S1\n\
+        \tfi;\n\
+        accept_S1:\n\
+        \tif\n\
+        \t:: (1) -> goto T0_init\n\
+        \t:: (p) -> goto accept_S1\n\
+        \tfi;\n\
+        }\n",
+        0,
+        0,
+    ),
+    (
+        &["ltl2ba", "-H", "-f", "!(p U q)"],
+        b"",
+        "HOA: v1\n\
+        name: \"!(p U q)\"\n\
+        States: 2\n\
+        Start: 0\n\
+        AP: 2 \"p\" \"q\"\n\
+        acc-name: Buchi\n\
+        Acceptance: 1 Inf(0)\n\
+        properties: trans-labels explicit-labels state-acc\n\
+        --BODY--\n\
+        State: 0 {0}\n\
+        [!0&!1] 1\n\
+        [!1] 0\n\
+        State: 1 {0}\n\
+        [t] 1\n\
+        --END--\n",
+        0,
+        0,
+    ),
+    (
+        &["ltl2ba", "-G", "-f", "<>p && <>q"],
+        b"",
+        "HOA: v1\n\
+        name: \"(<>p && <>q)\"\n\
+        States: 4\n\
+        Start: 0\n\
+        AP: 2 \"p\" \"q\"\n\
+        acc-name: generalized-Buchi 2\n\
+        Acceptance: 2 Inf(0)&Inf(1)\n\
+        properties: trans-labels explicit-labels trans-acc\n\
+        --BODY--\n\
+        State: 0\n\
+        [t] 0\n\
+        [0] 1 {0}\n\
+        [0&1] 2 {0 1}\n\
+        [1] 3 {1}\n\
+        State: 1\n\
+        [t] 1 {0}\n\
+        [1] 2 {0 1}\n\
+        State: 2\n\
+        [t] 2 {0 1}\n\
+        State: 3\n\
+        [t] 3 {1}\n\
+        [0] 2 {0 1}\n\
+        --END--\n",
+        0,
+        0,
+    ),
+    (
+        &["ltl2ba", "-l", "-o", "-p", "-f", "[]<>p"],
+        b"",
+        "never { /* []<>p */\n\
+        T0_init:\n\
+        \tif\n\
+        \t:: (1) -> goto T0_S1\n\
+        \t:: (p) -> goto accept_S2\n\
+        \tfi;\n\
+        T0_S1:\n\
+        \tif\n\
+        \t:: (1) -> goto T0_S1\n\
+        \t:: (p) -> goto accept_S2\n\
+        \t:: (p) -> goto accept_S3\n\
+        \tfi;\n\
+        accept_S2:\n\
+        \tif\n\
+        \t:: (1) -> goto T0_S1\n\
+        \t:: (p) -> goto accept_S2\n\
+        \tfi;\n\
+        accept_S3:\n\
+        \tif\n\
+        \t:: (1) -> goto T0_S1\n\
+        \t:: (p) -> goto accept_S2\n\
+        \t:: (p) -> goto accept_S3\n\
+        \tfi;\n\
+        }\n",
+        0,
+        0,
+    ),
+    (
+        &["ltl2ba", "-F", "x"],
+        b"true\n",
+        "never { /* true */\n\
+        accept_init:\n\
+        \tif\n\
+        \t:: (1) -> goto accept_init\n\
+        \tfi;\n\
+        }\n",
+        0,
+        1,
+    ),
+    (
+        &["ltl2ba", "-F", "x"],
+        b"p U",
+        "ltl2ba: formula: byte 3: expected operand\n",
+        3,
+        1,
+    ),
+    (&["ltl2ba", "-F", "y"], b"p", "ltl2ba: cannot open\n", 5, 1),
+    (
+        &["ltl2ba", "-f", "p", "-F", "x"],
+        b"p",
+        "ltl2ba: usage: ltl2ba [-l] [-o] [-p] [-H | -G] (-f formula | -F file)\n",
+        2,
+        0,
+    ),
+];
+
+/// Automata that satisfy a formula or violate it, and what is refused.
+const CHECKS: [Row; 7] = [
+    (&["ltlcheck", "-f", "[]!p"], LOOP, "contained\n", 0, 1),
+    (
+        &["ltlcheck", "-f", "[]p"],
+        TURNS,
+        "violated\ncycle {p}; {}\n",
+        1,
+        1,
+    ),
+    (
+        &["ltlcheck", "-f", "<>p", "-A", "x"],
+        LOOP,
+        "violated\ncycle {}\n",
+        1,
+        1,
+    ),
+    (
+        &["ltlcheck", "-f", "<>p"],
+        b"HOA: v2",
+        "ltlcheck: automaton: line 1: not HOA v1\n",
+        3,
+        1,
+    ),
+    (
+        &["ltlcheck", "-f", "p U", "-A", "y"],
+        LOOP,
+        "ltlcheck: formula: byte 3: expected operand\n",
+        3,
+        1,
+    ),
+    (
+        &["ltlcheck", "-F", "x", "-A", "y"],
+        b"p && !p",
+        "ltlcheck: cannot open\n",
+        5,
+        2,
+    ),
+    (
+        &["ltlcheck"],
+        LOOP,
+        "ltlcheck: usage: ltlcheck (-f formula | -F file) [-A file]\n",
+        2,
+        0,
+    ),
+];
+
+/// Formulas on words, and what is refused.
+const TRUTHS: [Row; 5] = [
+    (
+        &["ltleval", "-f", "p && X[]!p", "-w", "{p}; cycle {}"],
+        b"",
+        "true\n",
+        0,
+        0,
+    ),
+    (
+        &["ltleval", "-f", "p && X[]!p", "-w", "cycle {p}; {}"],
+        b"",
+        "false\n",
+        1,
+        0,
+    ),
+    (
+        &["ltleval", "-F", "x", "-w", "cycle {p}; {}"],
+        b"[]<>p",
+        "true\n",
+        0,
+        1,
+    ),
+    (
+        &["ltleval", "-f", "p", "-w", "{p}"],
+        b"",
+        "ltleval: word: byte 3: bad word\n",
+        3,
+        0,
+    ),
+    (
+        &["ltleval", "-f", "p"],
+        b"",
+        "ltleval: usage: ltleval (-f formula | -F file) -w lasso\n",
+        2,
+        0,
+    ),
+];
+
+/// Makes the runs of a program.
+fn make<R: Abort>(rt: &R, alloc: Global, tool: Tool, rows: &[Row]) {
+    for i in 0..rows.len() {
+        let (words, input, text, status, opened) = rows[i];
+        let mut memory = Memory {
+            name: "x",
+            file: input,
+            input,
+            count: 0,
         };
-        let count = rest.len().min(buf.len());
-        buf[..count].copy_from_slice(&rest[..count]);
-        self.rest = Some(&rest[count..]);
-        Ok(count)
+        let mut output = Vec::new(alloc);
+        let mut message = Vec::new(alloc);
+        let found = run(
+            alloc,
+            tool,
+            Ok(words),
+            &mut memory,
+            &mut WriterSink::new(&mut output),
+            &mut WriterSink::new(&mut message),
+        );
+        let (printed, told) = if status <= 1 { (text, "") } else { ("", text) };
+        assert_eq!(rt; found, status, "{text}");
+        assert_eq!(rt; output.as_slice(), printed.as_bytes());
+        assert_eq!(rt; message.as_slice(), told.as_bytes());
+        assert_eq!(rt; memory.count, opened, "{text}");
     }
 }
 
-/// The files of a run: at most one, and the standard input.
-#[derive(Clone, Copy)]
-struct Desk<'t> {
-    name: Option<&'t str>,
-    file: Held<'t>,
-    input: Held<'t>,
-}
-
-impl<'t> Files for Desk<'t> {
-    type File = ReaderSource<Held<'t>>;
-
-    type Input = ReaderSource<Held<'t>>;
-
-    ghost Stands = { λ _ _ _. ⊤ };
-
-    ghost Comes = { λ _ _. ⊤ };
-
-    ghost Opened = { λ _ _. ⊤ };
-
-    fn open(&mut self, name: &str) -> Source<ReaderSource<Held<'t>>> {
-        if self.name == Some(name) {
-            Source::Input(ReaderSource::new(self.file))
-        } else {
-            Source::NotOpened
-        }
-    }
-
-    fn input(&mut self) -> ReaderSource<Held<'t>> {
-        ReaderSource::new(self.input)
-    }
-}
-
-/// The name of a program.
-fn name_of(tool: Tool) -> &'static str {
-    match tool {
-        Tool::Translator => "ltl2ba",
-        Tool::Checker => "ltlcheck",
-        Tool::Evaluator => "ltleval",
-    }
-}
-
-/// The words of a row, with the program's name as the first one.
-fn words_of<'a>(alloc: Global, row: &Row, last: &'a str) -> Result<Vec<&'a str>, AllocError> {
-    let mut words = Vec::new(alloc);
-    words.push(name_of(row.tool))?;
-    for word in row.words {
-        words.push(*word)?;
-    }
-    if !last.is_empty() {
-        words.push(last)?;
-    }
-    Ok(words)
-}
-
-/// The text of the row's file, which is empty if there is none.
-fn file_text(alloc: Global, file: Option<File>) -> Result<String, AllocError> {
-    match file {
-        Some(
-            File {
-                text: Some(text),
-                ..
-            },
-        ) => text_of(alloc, text),
-        _ => Ok(String::new(alloc)),
-    }
-}
-
-/// A reader of the text, or of a folder if the file has no text.
-fn reader_of<'t>(file: Option<File>, text: &'t str) -> Held<'t> {
-    match file {
-        Some(File { text: None, .. }) => Held { rest: None },
-        _ => Held {
-            rest: Some(text.as_bytes()),
-        },
-    }
-}
-
-/// The output, the message and the status of a run.
-#[derive(Drop)]
-struct Told {
-    output: Vec<u8>,
-    message: Vec<u8>,
-    status: u8,
-}
-
-/// The run of a program with these words and files.
-fn ran(alloc: Global, tool: Tool, words: &[&str], desk: &mut Desk<'_>) -> Told {
-    let mut output = Vec::new(alloc);
-    let mut message = Vec::new(alloc);
-    let mut written = WriterSink::new(&mut output);
-    let mut said = WriterSink::new(&mut message);
-    let status = run(alloc, tool, Ok(words), desk, &mut written, &mut said);
-    Told {
-        output,
-        message,
-        status,
-    }
-}
-
-/// The run of a row.
-fn ran_row(alloc: Global, row: &Row) -> Result<Told, AllocError> {
-    let last = text_of(alloc, row.last)?;
-    let input = text_of(alloc, row.input)?;
-    let text = file_text(alloc, row.file)?;
-    let words = words_of(alloc, row, last.as_str())?;
-    let mut desk = Desk {
-        name: row.file.map(|file| file.name),
-        file: reader_of(row.file, text.as_str()),
-        input: Held {
-            rest: Some(input.as_bytes()),
-        },
-    };
-    Ok(ran(alloc, row.tool, words.as_slice(), &mut desk))
-}
-
-/// The title of the first row whose run differs from what is wanted.
-fn first_wrong(alloc: Global, rows: &[Row]) -> Result<Option<&'static str>, AllocError> {
-    for row in rows {
-        let told = ran_row(alloc, row)?;
-        let output = text_of(alloc, row.output)?;
-        let is_right = told.status == row.status
-            && told.output.as_slice() == output.as_bytes()
-            && told.message.as_slice() == row.message.as_bytes();
-        if !is_right {
-            return Ok(Some(row.about));
-        }
-    }
-    Ok(None)
+#[test]
+fn translations(rt: HostRuntime) {
+    make(&rt, rt.alloc(), Tool::Translator, &TRANSLATIONS);
 }
 
 #[test]
-fn claims(rt: HostRuntime) -> Result<(), Fail> {
-    assert_eq!(rt; first_wrong(rt.alloc(), &CLAIMS)?, None);
-    Ok(())
+fn checks(rt: HostRuntime) {
+    make(&rt, rt.alloc(), Tool::Checker, &CHECKS);
 }
 
 #[test]
-fn simplifications(rt: HostRuntime) -> Result<(), Fail> {
-    assert_eq!(rt; first_wrong(rt.alloc(), &SIMPLIFICATIONS)?, None);
-    Ok(())
-}
-
-#[test]
-fn layouts(rt: HostRuntime) -> Result<(), Fail> {
-    assert_eq!(rt; first_wrong(rt.alloc(), &LAYOUTS)?, None);
-    Ok(())
-}
-
-#[test]
-fn refused_formulas(rt: HostRuntime) -> Result<(), Fail> {
-    assert_eq!(rt; first_wrong(rt.alloc(), &REFUSED_FORMULAS)?, None);
-    Ok(())
-}
-
-#[test]
-fn refused_commands(rt: HostRuntime) -> Result<(), Fail> {
-    assert_eq!(rt; first_wrong(rt.alloc(), &REFUSED_COMMANDS)?, None);
-    Ok(())
-}
-
-#[test]
-fn formula_limits(rt: HostRuntime) -> Result<(), Fail> {
-    assert_eq!(rt; first_wrong(rt.alloc(), &FORMULA_LIMITS)?, None);
-    Ok(())
-}
-
-#[test]
-fn verdicts(rt: HostRuntime) -> Result<(), Fail> {
-    assert_eq!(rt; first_wrong(rt.alloc(), &VERDICTS)?, None);
-    Ok(())
-}
-
-#[test]
-fn refused_headers(rt: HostRuntime) -> Result<(), Fail> {
-    assert_eq!(rt; first_wrong(rt.alloc(), &REFUSED_HEADERS)?, None);
-    Ok(())
-}
-
-#[test]
-fn refused_bodies(rt: HostRuntime) -> Result<(), Fail> {
-    assert_eq!(rt; first_wrong(rt.alloc(), &REFUSED_BODIES)?, None);
-    Ok(())
-}
-
-#[test]
-fn automaton_limits(rt: HostRuntime) -> Result<(), Fail> {
-    assert_eq!(rt; first_wrong(rt.alloc(), &AUTOMATON_LIMITS)?, None);
-    Ok(())
-}
-
-#[test]
-fn nested_texts(rt: HostRuntime) -> Result<(), Fail> {
-    assert_eq!(rt; first_wrong(rt.alloc(), &NESTED_TEXTS)?, None);
-    Ok(())
-}
-
-#[test]
-fn long_texts(rt: HostRuntime) -> Result<(), Fail> {
-    assert_eq!(rt; first_wrong(rt.alloc(), &LONG_TEXTS)?, None);
-    Ok(())
-}
-
-#[test]
-fn many_states(rt: HostRuntime) -> Result<(), Fail> {
-    assert_eq!(rt; first_wrong(rt.alloc(), &MANY_STATES)?, None);
-    Ok(())
-}
-
-#[test]
-fn truths(rt: HostRuntime) -> Result<(), Fail> {
-    assert_eq!(rt; first_wrong(rt.alloc(), &TRUTHS)?, None);
-    Ok(())
-}
-
-#[test]
-fn refused_lassos(rt: HostRuntime) -> Result<(), Fail> {
-    assert_eq!(rt; first_wrong(rt.alloc(), &REFUSED_LASSOS)?, None);
-    Ok(())
-}
-
-/// The run with these words, whose standard input is `LOOP`.
-fn ran_on_loop(alloc: Global, tool: Tool, words: &[&str]) -> Told {
-    let input = Held {
-        rest: Some(LOOP.as_bytes()),
-    };
-    let mut desk = Desk {
-        name: None,
-        file: input,
-        input,
-    };
-    ran(alloc, tool, words, &mut desk)
-}
-
-/// A proposition that the automaton doesn't list is free, so there is more than one right answer: any word in which `q` holds somewhere and `p`
-/// nowhere.
-#[test]
-fn a_word_with_a_free_proposition(rt: HostRuntime) -> Result<(), Fail> {
-    let alloc = rt.alloc();
-    let told = ran_on_loop(alloc, Tool::Checker, &["ltlcheck", "-f", "[]!q"]);
-    assert_eq!(rt; told.status, 1);
-    assert!(rt; told.message.is_empty());
-    let word = word_in(&told).expect(&rt, "a word");
-    let violates = ran_on_loop(
-        alloc,
-        Tool::Evaluator,
-        &["ltleval", "-f", "<>q", "-w", word],
-    );
-    assert_eq!(rt; violates.status, 0);
-    let is_accepted = ran_on_loop(
-        alloc,
-        Tool::Evaluator,
-        &["ltleval", "-f", "[]!p", "-w", word],
-    );
-    assert_eq!(rt; is_accepted.status, 0);
-    Ok(())
-}
-
-/// The word in the output of a violation.
-fn word_in(told: &Told) -> Option<&str> {
-    let rest = told.output.as_slice().strip_prefix(b"violated\n")?;
-    str::from_utf8(rest.strip_suffix(b"\n")?).ok()
+fn truths(rt: HostRuntime) {
+    make(&rt, rt.alloc(), Tool::Evaluator, &TRUTHS);
 }

@@ -1,5 +1,5 @@
 -- The blocks of a never claim, one after the other.
-use Rattle.std.proofs.Common.{◌≡◌, ◌∙◌, ap, sym, refl, ℕ, suc, ◌+◌, ◌-◌, ◌<◌, ◌≤◌, inl, inr, Bool, false, cond, List, [], ◌∷◌, ◌++◌, length, append_assoc, append-nil, arith}
+use Rattle.std.proofs.Common.{◌≡◌, ◌∙◌, ap, sym, ℕ, suc, ◌+◌, ◌-◌, ◌<◌, ◌≤◌, inl, inr, Bool, false, cond, List, [], ◌∷◌, ◌++◌, length, append_assoc, append-nil, arith}
 use Rattle.std.specs.Prelude.{◌==◌, not, codes, if◌then◌else◌}
 use Rattle.std.specs.List.{filter, flat_map, range_with_len}
 use Rattle.std.specs.Ordering.{nat_cmp}
@@ -103,6 +103,3 @@ claim_pieces B R =
   where
     regroup : (a b c d e f g : List ℕ) → (((((a ++ b) ++ c) ++ d) ++ e) ++ f) ++ g ≡ a ++ (b ++ ((c ++ d) ++ ((e ++ f) ++ g)))
     regroup a b c d e f g = simp append_assoc
-
-pub blocks_are : (B : Automaton) (names : List Name) → blocks_text B names ≡ others_text B names ++ flat_map (block B names) (filter (λ k. k == skip_state B) (numbers B))
-blocks_are B names = refl

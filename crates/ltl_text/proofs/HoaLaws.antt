@@ -1,5 +1,5 @@
 -- A text in the Hanoi Omega-Automata format as what is put one after the other.
-use Rattle.std.proofs.Common.{◌≡◌, ◌∙◌, ap, sym, refl, ℕ, zero, suc, ◌+◌, ◌-◌, ◌<◌, Bool, false, List, [], ◌∷◌, ◌++◌, length, map, slice_index_or, append_assoc, drop, arith}
+use Rattle.std.proofs.Common.{◌≡◌, ◌∙◌, ap, ap₂, sym, refl, ℕ, zero, suc, ◌+◌, ◌-◌, ◌<◌, Bool, false, List, [], ◌∷◌, ◌++◌, length, map, slice_index_or, All, append_assoc, append-nil, drop, arith}
 use Rattle.std.specs.Prelude.{codes, if◌then◌else◌}
 use Rattle.std.specs.Fmt.{decimal}
 use Rattle.std.specs.List.{flat_map, range_with_len}
@@ -16,7 +16,7 @@ use Rattle.ltl_spec.specs.Automata.GeneralizedText.{acceptance_name, generalized
 use Rattle.ltl_spec.specs.Automata.ClaimText.{line}
 use Rattle.ltl_sets.specs.declared.literal.Literal as made
 use Rattle.ltl_sets.specs.Literals.{literal_of, cube_of}
-use Rattle.ltl_text.specs.HoaPieces.{acceptance_text, condition_text, counts_text, lines_text, marked_states_text, quoted_names, set_text, state_number, states_text, step_text, title_text}
+use Rattle.ltl_text.specs.HoaPieces.{condition_text, head_text, lines_text, marked_states_text, quoted_names, set_text, state_end, state_text, states_text}
 use Rattle.ltl_text.proofs.BlockLaws.{range_step}
 use Rattle.ltl_text.proofs.TextLaws.{amid, joined_led, led, onward}
 
@@ -43,32 +43,49 @@ label_goes_on rest l ls e =
     ap (λ t. led (codes "&") (labels_of t)) e ∙ append_assoc (codes "&") (label_literal (literal_of l)) (led (codes "&") (labels_of ls))
 
 -- ---- edges and states
-step_onward : (a b c d e : List ℕ) → (((a ++ b) ++ c) ++ d) ++ e ≡ (a ++ (b ++ (c ++ d))) ++ e
-step_onward a b c d e = simp append_assoc
-
-pub edge_pieces : (e : Edge) → edge_line e ≡ step_text e.cube e.target ++ 10 ∷ []
-edge_pieces e = step_onward (codes "[") (label_text e.cube) (codes "] ") (decimal e.target) (10 ∷ [])
-
-pub marked_edge_pieces : (e : Edge) → marked_edge_line e ≡ step_text e.cube e.target ++ (marks_text e.marks ++ 10 ∷ [])
-marked_edge_pieces e = regroup (codes "[") (label_text e.cube) (codes "] ") (decimal e.target) (marks_text e.marks) (10 ∷ [])
+pub edge_pieces : (e : Edge) → marked_edge_line e ≡ codes "[" ++ (label_text e.cube ++ (codes "] " ++ (decimal e.target ++ (marks_text e.marks ++ 10 ∷ []))))
+edge_pieces e = regroup (codes "[") (label_text e.cube) (codes "] ") (decimal e.target) (marks_text e.marks) (10 ∷ [])
   where
-    regroup : (a b c d m f : List ℕ) → ((((a ++ b) ++ c) ++ d) ++ m) ++ f ≡ (a ++ (b ++ (c ++ d))) ++ (m ++ f)
+    regroup : (a b c d m f : List ℕ) → ((((a ++ b) ++ c) ++ d) ++ m) ++ f ≡ a ++ (b ++ (c ++ (d ++ (m ++ f))))
     regroup a b c d m f = simp append_assoc
 
-pub state_pieces : (B : Automaton) (k : ℕ)
-    → state_lines B k ≡ state_number k ++ (acceptance_text (state_at B k).accepting ++ flat_map edge_line (state_at B k).edges)
-state_pieces B k = regroup (state_number k) (if (state_at B k).accepting then codes " {0}" else []) (10 ∷ []) (flat_map edge_line (state_at B k).edges)
+-- edges in no set
+plain_edges : (es : List Edge) → All (λ e. e.marks ≡ []) es → flat_map marked_edge_line es ≡ flat_map edge_line es
+plain_edges [] h = refl
+plain_edges (e ∷ es) h = ap₂ (λ t u. t ++ u) (plain (h 0 e (omega arith))) (plain_edges es (λ k d lt. h (suc k) d (omega arith)))
   where
-    regroup : (a c d f : List ℕ) → ((a ++ c) ++ d) ++ f ≡ a ++ ((c ++ d) ++ f)
-    regroup a c d f = simp append_assoc
+    start : List ℕ
+    start = codes "[" ++ label_text e.cube ++ codes "] " ++ decimal e.target
 
-pub marked_state_pieces : (A : Automaton) (k : ℕ) → marked_state_lines A k ≡ state_number k ++ (10 ∷ [] ++ flat_map marked_edge_line (state_at A k).edges)
-marked_state_pieces A k = append_assoc (state_number k) (10 ∷ []) (flat_map marked_edge_line (state_at A k).edges)
+    plain : e.marks ≡ [] → marked_edge_line e ≡ edge_line e
+    plain none = ap (λ ms. (start ++ marks_text ms) ++ 10 ∷ []) none ∙ ap (λ t. t ++ 10 ∷ []) (append-nil start)
+
+module _ (A : Automaton) (k : ℕ) (es : List Edge) (are : es ≡ (state_at A k).edges) where
+  -- a state in a set where it is accepting, and its edges in none
+  pub state_is : (in_set : Bool) → in_set ≡ (state_at A k).accepting → All (λ e. e.marks ≡ []) es → state_text k in_set es ≡ state_lines A k
+  state_is in_set e plain =
+      ap₂ (λ b t. codes "State: " ++ (decimal k ++ (state_end b ++ t))) e (plain_edges es plain ∙ ap (flat_map edge_line) are)
+      ∙ sym (regroup (codes "State: ") (decimal k) (if (state_at A k).accepting then codes " {0}" else []) (10 ∷ []) (flat_map edge_line (state_at A k).edges))
+    where
+      regroup : (a b c d f : List ℕ) → (((a ++ b) ++ c) ++ d) ++ f ≡ a ++ (b ++ ((c ++ d) ++ f))
+      regroup a b c d f = simp append_assoc
+
+  -- a state in no set
+  pub marked_state_is : state_text k false es ≡ marked_state_lines A k
+  marked_state_is =
+      ap (λ l. codes "State: " ++ (decimal k ++ (10 ∷ flat_map marked_edge_line l))) are
+      ∙ sym (regroup (codes "State: ") (decimal k) (10 ∷ []) (flat_map marked_edge_line (state_at A k).edges))
+    where
+      regroup : (a b c d : List ℕ) → ((a ++ b) ++ c) ++ d ≡ a ++ (b ++ (c ++ d))
+      regroup a b c d = simp append_assoc
 
 -- the states from k on, of so many
 module _ (lines : ℕ → List ℕ) (count : ℕ) where
   abbrev pub states_from : ℕ → List ℕ
   states_from k = flat_map lines (range_with_len k (count - k))
+
+  pub states_begin : flat_map lines (range_with_len 0 count) ≡ states_from 0
+  states_begin = let e : count ≡ count - 0 = omega arith in ap (λ n. flat_map lines (range_with_len 0 n)) e
 
   pub states_go_on : (k : ℕ) → k < count → states_from k ≡ lines k ++ states_from (k + 1)
   states_go_on k lt = ap (flat_map lines) (range_step k count lt)
@@ -132,23 +149,23 @@ names_go_on names k lt =
 -- ---- the whole text
 text_pieces : (R : Reading) (count : ℕ) (name condition kind : List ℕ) (lines : ℕ → List ℕ)
     → text_with R count name condition kind lines
-    ≡ title_text R ++ (counts_text count R.names ++ (lines_text name condition kind ++ (flat_map lines (range_with_len 0 count) ++ line (codes "--END--"))))
+    ≡ head_text count R ++ (lines_text name condition kind ++ (flat_map lines (range_with_len 0 count) ++ line (codes "--END--")))
 text_pieces R count name condition kind lines =
     regroup (line (codes "HOA: v1")) (codes "name: ") (34 ∷ []) (canonical_text R) (10 ∷ []) (codes "States: ") (decimal count) (line (codes "Start: 0")) (codes "AP: ") (decimal (length R.names))
     (quoted_names R.names) (codes "acc-name: ") name (codes "Acceptance: ") condition (codes "properties: trans-labels explicit-labels ") kind (line (codes "--BODY--")) (flat_map lines (range_with_len 0 count)) (line (codes "--END--"))
   where
     regroup : (h m q c n s d t a e f x u y v p k b r z : List ℕ)
         → (((((((((h ++ ((m ++ ((q ++ c) ++ q)) ++ n)) ++ ((s ++ d) ++ n)) ++ t) ++ (((a ++ e) ++ f) ++ n)) ++ ((x ++ u) ++ n)) ++ ((y ++ v) ++ n)) ++ ((p ++ k) ++ n)) ++ b) ++ r) ++ z
-        ≡ ((h ++ (m ++ q)) ++ c) ++ (((q ++ (n ++ s)) ++ (d ++ ((n ++ (t ++ a)) ++ (e ++ f)))) ++ (((n ++ x) ++ (u ++ ((n ++ y) ++ (v ++ ((n ++ p) ++ (k ++ (n ++ b))))))) ++ (r ++ z)))
+        ≡ ((h ++ (m ++ q)) ++ (c ++ ((q ++ (n ++ s)) ++ (d ++ ((n ++ (t ++ a)) ++ (e ++ f)))))) ++ (((n ++ x) ++ (u ++ ((n ++ y) ++ (v ++ ((n ++ p) ++ (k ++ (n ++ b))))))) ++ (r ++ z))
     regroup h m q c n s d t a e f x u y v p k b r z = simp append_assoc
 
 module _ (A : Automaton) (R : Reading) (n : ℕ) (same : n ≡ length A.states) where
-  pub hoa_pieces : hoa_text A R ≡ title_text R ++ (counts_text n R.names ++ (lines_text (codes "Buchi") (codes "1 Inf(0)") (codes "state-acc") ++ (states_text A ++ line (codes "--END--"))))
+  pub hoa_pieces : hoa_text A R ≡ head_text n R ++ (lines_text (codes "Buchi") (codes "1 Inf(0)") (codes "state-acc") ++ (states_text A ++ line (codes "--END--")))
   hoa_pieces =
       text_pieces R (length A.states) (codes "Buchi") (codes "1 Inf(0)") (codes "state-acc") (state_lines A)
-      ∙ ap (λ k. title_text R ++ (counts_text k R.names ++ (lines_text (codes "Buchi") (codes "1 Inf(0)") (codes "state-acc") ++ (states_text A ++ line (codes "--END--"))))) (sym same)
+      ∙ ap (λ k. head_text k R ++ (lines_text (codes "Buchi") (codes "1 Inf(0)") (codes "state-acc") ++ (states_text A ++ line (codes "--END--")))) (sym same)
 
-  pub generalized_pieces : (sets : ℕ) → sets ≡ A.sets → generalized_text A R ≡ title_text R ++ (counts_text n R.names ++ (condition_text sets ++ (marked_states_text A ++ line (codes "--END--"))))
+  pub generalized_pieces : (sets : ℕ) → sets ≡ A.sets → generalized_text A R ≡ head_text n R ++ (condition_text sets ++ (marked_states_text A ++ line (codes "--END--")))
   generalized_pieces sets e =
       text_pieces R (length A.states) (acceptance_name A.sets) (acceptance.acceptance_text A.sets) (codes "trans-acc") (marked_state_lines A)
-      ∙ (λ i. title_text R ++ (counts_text (sym same i) R.names ++ (condition_text (sym e i) ++ (marked_states_text A ++ line (codes "--END--")))))
+      ∙ (λ i. head_text (sym same i) R ++ (condition_text (sym e i) ++ (marked_states_text A ++ line (codes "--END--"))))

@@ -5,6 +5,5 @@ pub mod HoaLaws
 pub mod LabelLaws
 pub mod NameLaws
 pub mod OptionLaws
-pub mod OutputLaws
 pub mod PreparedLaws
 pub mod TextLaws

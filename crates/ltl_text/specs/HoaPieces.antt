@@ -5,34 +5,26 @@ use Rattle.std.specs.List.{flat_map, range_with_len}
 use Rattle.ltl_spec.specs.Semantics.Word.{Name}
 use Rattle.ltl_spec.specs.Formulas.Formula.{Reading}
 use Rattle.ltl_spec.specs.Formulas.Canonical.{canonical_text}
-use Rattle.ltl_spec.specs.Transitions.Cubes.{Cube}
-use Rattle.ltl_spec.specs.Automata.Automaton.{Automaton}
+use Rattle.ltl_spec.specs.Automata.Automaton.{Automaton, Edge}
 use Rattle.ltl_spec.specs.Automata.ClaimText.{line}
-use Rattle.ltl_spec.specs.Automata.HoaText.{quoted, label_text, state_lines}
+use Rattle.ltl_spec.specs.Automata.HoaText.{quoted, state_lines}
 use Rattle.ltl_spec.specs.Automata.GeneralizedText as marked
 
--- an edge to its target
-abbrev pub step_text : Cube → ℕ → List ℕ
-step_text c target = codes "[" ++ (label_text c ++ (codes "] " ++ decimal target))
+-- the end of a state's line, which has the set where the state is in one
+abbrev pub state_end : Bool → List ℕ
+state_end in_set = line (if in_set then codes " {0}" else [])
 
-abbrev pub state_number : ℕ → List ℕ
-state_number k = codes "State: " ++ decimal k
-
--- the end of a state's line
-abbrev pub acceptance_text : Bool → List ℕ
-acceptance_text accepting = line (if accepting then codes " {0}" else [])
+-- a state, and below it its edges with their sets
+abbrev pub state_text : ℕ → Bool → List Edge → List ℕ
+state_text k in_set es = codes "State: " ++ (decimal k ++ (state_end in_set ++ flat_map marked.marked_edge_line es))
 
 -- the names in quotes, each behind a blank
 abbrev pub quoted_names : List Name → List ℕ
 quoted_names names = flat_map (λ n. 32 ∷ quoted n) names
 
--- from the beginning to the last quote of the formula's text
-abbrev pub title_text : Reading → List ℕ
-title_text R = codes "HOA: v1\nname: \"" ++ canonical_text R
-
--- and from there to the end of the names
-abbrev pub counts_text : ℕ → List Name → List ℕ
-counts_text count names = codes "\"\nStates: " ++ (decimal count ++ (codes "\nStart: 0\nAP: " ++ (decimal (length names) ++ quoted_names names)))
+-- from the beginning to the end of the names
+abbrev pub head_text : ℕ → Reading → List ℕ
+head_text count R = codes "HOA: v1\nname: \"" ++ (canonical_text R ++ (codes "\"\nStates: " ++ (decimal count ++ (codes "\nStart: 0\nAP: " ++ (decimal (length R.names) ++ quoted_names R.names)))))
 
 -- from there to the states, with this acceptance and this word for where the sets stand
 abbrev pub lines_text : List ℕ → List ℕ → List ℕ → List ℕ

@@ -4,7 +4,6 @@ pub mod Names
 pub mod Options
 pub mod Prepared
 pub mod ReadBack
-pub mod Writing
 pub use Rattle.ltl_hoa.specs.MarkedView
 pub use Rattle.ltl_hoa.specs.Printed
 pub use Rattle.ltl_hoa.specs.Reading

@@ -2,34 +2,34 @@
 
 ghost use Rattle.std.specs.Prelude.{length};
 ghost use Rattle.ltl_spec.specs.Automata.ClaimText.{cube_text};
+ghost use Rattle.ltl_streams.specs.Printing.{Prints};
 ghost use Rattle.ltl_text.specs.Names.{HasNames};
-ghost use Rattle.ltl_text.specs.Writing.{Writes};
 
 use crate::literal_texts::LiteralTexts;
-use crate::output::Output;
 use ltl_sets::Cube;
-use ltl_streams::{ByteSink, WriteFault};
+use ltl_streams::{ByteSink, Printer};
 use std::alloc::Allocator;
 
 /// Writes the literals in brackets with `&&` between them, or `(1)` if there is none.
 pub fn put_guard<A: Allocator, S: ByteSink>(
     cube: &Cube,
     texts: &LiteralTexts<'_, '_, A>,
-    output: &mut Output<'_, S>,
-) -> Result<(), WriteFault>
+    output: &mut Printer<'_, S>,
+)
     requires { HasNames (length texts.now) cube.now }
-    ensures { Writes S.state result output.old output.new (cube_text texts.now cube.now) }
+    ensures { Prints S.state output.old output.new (cube_text texts.now cube.now) }
 {
     cube.invariant();
     let mut literals = cube.iter();
     let Some(first) = literals.next() else {
-        return output.put(b"(1)");
+        output.put(b"(1)");
+        return;
     };
-    output.put(b"(")?;
-    texts.put(first, output)?;
+    output.put(b"(");
+    texts.put(first, output);
     for literal in literals {
-        output.put(b" && ")?;
-        texts.put(literal, output)?;
+        output.put(b" && ");
+        texts.put(literal, output);
     }
-    output.put(b")")
+    output.put(b")");
 }

@@ -5,15 +5,14 @@ ghost use Rattle.std.specs.Fmt.{decimal};
 ghost use Rattle.std.specs.Cmp.Lexicographic.{pointwise};
 ghost use Rattle.ltl_spec.specs.Automata.ClaimText as claim;
 ghost use Rattle.ltl_spec.specs.Construction.Merging.{same_edge};
+ghost use Rattle.ltl_streams.specs.Printing.{Prints};
 ghost use Rattle.ltl_automaton.specs.CodedEdges.{edges_in};
 ghost use Rattle.ltl_text.specs.Options.{is_empty};
-ghost use Rattle.ltl_text.specs.Writing.{Writes};
 
 use crate::digits::Digits;
-use crate::output::Output;
 use ltl_models::{Ba, Edges};
 use ltl_sets::Cube;
-use ltl_streams::{ByteSink, WriteFault};
+use ltl_streams::{ByteSink, Printer};
 use std::alloc::Allocator;
 
 fn has_no_literals(cube: &Cube) -> bool
@@ -55,15 +54,11 @@ pub fn skip_state<A: Allocator>(automaton: &Ba<'_, A>) -> usize
 }
 
 #[inline(always)]
-fn put_numbered<S: ByteSink>(
-    beginning: &[u8],
-    k: usize,
-    output: &mut Output<'_, S>,
-) -> Result<(), WriteFault>
-    ensures { Writes S.state result output.old output.new (beginning.now ++ decimal k) }
+fn put_numbered<S: ByteSink>(beginning: &[u8], k: usize, output: &mut Printer<'_, S>)
+    ensures { Prints S.state output.old output.new (beginning.now ++ decimal k) }
 {
-    output.put(beginning)?;
-    output.put(Digits::of(k as u64).as_slice())
+    output.put(beginning);
+    output.put(Digits::of(k as u64).as_slice());
 }
 
 /// Writes the name of a state. `skip` is the state that is named `accept_all`.
@@ -71,24 +66,24 @@ pub fn put_label<A: Allocator, S: ByteSink>(
     automaton: &Ba<'_, A>,
     skip: usize,
     k: usize,
-    output: &mut Output<'_, S>,
-) -> Result<(), WriteFault>
+    output: &mut Printer<'_, S>,
+)
     requires within { k < length automaton.now.states }
     requires least { skip ≡ claim.skip_state automaton.now }
-    ensures { Writes S.state result output.old output.new (claim.label_of automaton.now k) }
+    ensures { Prints S.state output.old output.new (claim.label_of automaton.now k) }
 {
     let accepting = automaton.accepting(k);
     if k == 0 {
         if accepting {
-            return output.put(b"accept_init");
+            output.put(b"accept_init");
+        } else {
+            output.put(b"T0_init");
         }
-        return output.put(b"T0_init");
+    } else if k == skip {
+        output.put(b"accept_all");
+    } else if accepting {
+        put_numbered(b"accept_S", k, output);
+    } else {
+        put_numbered(b"T0_S", k, output);
     }
-    if k == skip {
-        return output.put(b"accept_all");
-    }
-    if accepting {
-        return put_numbered(b"accept_S", k, output);
-    }
-    put_numbered(b"T0_S", k, output)
 }

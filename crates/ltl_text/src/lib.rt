@@ -6,8 +6,8 @@
 //!
 //! What flows: a printer takes an automaton and its formula, whose text and names go into the output. It looks up the labels of each edge as it prints
 //! the edge (`Edges` of `ltl_models`). The printer of claims prepares the texts of all literals once, and copies them (`LiteralTexts`). Each printer
-//! writes to a buffer of 16 KiB, and from there to a sink (`put_claim`, `put_hoa`, `put_generalized`) or to a standard writer. It allocates nothing. The
-//! first error of the sink ends it; a prefix of the text was written then.
+//! writes to a buffer of 16 KiB, and from there to a sink (`put_claim`, `put_hoa`, `put_generalized`) or to a standard writer. It allocates nothing. After
+//! the first error of the sink it writes nothing more; a prefix of the text was written then.
 //!
 //! ```
 //! let mut text = Vec::new(alloc);
@@ -25,10 +25,11 @@ mod label;
 pub mod laws;
 mod literal_texts;
 mod options;
-mod output;
+mod states;
 
 pub use claim::{never_to, put_claim};
 pub use digits::Digits;
 pub use generalized::{gen_to, put_generalized};
 pub use hoa::{hoa_to, put_hoa};
 pub use ltl_hoa::{HoaFault, HoaFaultKind, Marked, MarkedEdge, hoa_read};
+pub use states::{put_marks, put_number};

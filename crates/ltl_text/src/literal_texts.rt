@@ -6,13 +6,12 @@
 ghost use Rattle.std.specs.Prelude.{◌≡◌, ◌<◌, if◌then◌else◌, [], ◌++◌, length};
 ghost use Rattle.ltl_spec.specs.Automata.ClaimText.{literal_text};
 ghost use Rattle.ltl_sets.specs.Literals.{literal_of};
+ghost use Rattle.ltl_streams.specs.Printing.{Prints};
 ghost use Rattle.ltl_text.specs.Prepared.{IsPrepared, AreLiterals};
-ghost use Rattle.ltl_text.specs.Writing.{Writes};
 
-use crate::output::Output;
 use arrayvec::ArrayVec;
 use ltl_sets::{Literal, RowSet};
-use ltl_streams::{ByteSink, WriteFault};
+use ltl_streams::{ByteSink, Printer};
 use ltl_syntax::Formula;
 use std::alloc::Allocator;
 use std::marker::Model;
@@ -123,37 +122,31 @@ impl<'f, 'a, A: Allocator> LiteralTexts<'f, 'a, A> {
 
     /// Writes the text of a literal.
     #[inline(always)]
-    pub fn put<S: ByteSink>(
-        &self,
-        literal: Literal,
-        output: &mut Output<'_, S>,
-    ) -> Result<(), WriteFault>
+    pub fn put<S: ByteSink>(&self, literal: Literal, output: &mut Printer<'_, S>)
         requires within { literal.proposition < length self.now }
         requires below { literal.proposition < RowSet.LIMIT }
-        ensures { Writes S.state result output.old output.new (literal_text self.now (literal_of literal)) }
+        ensures { Prints S.state output.old output.new (literal_text self.now (literal_of literal)) }
     {
         let text = self.texts[literal.proposition].text(literal.positive);
         if text.len <= WIDTH {
-            return output.put_first(&text.bytes, text.len);
+            output.put_first(&text.bytes, text.len);
+        } else {
+            self.put_long(literal, output);
         }
-        self.put_long(literal, output)
     }
 
     /// Writes the text of a literal from its parts.
     #[inline(never)]
-    fn put_long<S: ByteSink>(
-        &self,
-        literal: Literal,
-        output: &mut Output<'_, S>,
-    ) -> Result<(), WriteFault>
+    fn put_long<S: ByteSink>(&self, literal: Literal, output: &mut Printer<'_, S>)
         requires { literal.proposition < length self.now }
-        ensures { Writes S.state result output.old output.new (literal_text self.now (literal_of literal)) }
+        ensures { Prints S.state output.old output.new (literal_text self.now (literal_of literal)) }
     {
         let name = self.formula.name(literal.proposition).as_bytes();
         if literal.positive {
-            return output.put(name);
+            output.put(name);
+        } else {
+            output.put(b"!");
+            output.put(name);
         }
-        output.put(b"!")?;
-        output.put(name)
     }
 }

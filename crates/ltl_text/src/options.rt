@@ -5,18 +5,17 @@ ghost use Rattle.std.specs.List.{prefix_len};
 ghost use Rattle.ltl_spec.specs.Automata.Automaton.{state_at};
 ghost use Rattle.ltl_spec.specs.Automata.ClaimText.{skip_state};
 ghost use Rattle.ltl_spec.specs.Checking.Bounds.{HasNamesBelow};
+ghost use Rattle.ltl_streams.specs.Printing.{Prints};
 ghost use Rattle.ltl_automaton.specs.CodedEdges.{edges_in};
 ghost use Rattle.ltl_models.specs.BaView.{target_at};
 ghost use Rattle.ltl_text.specs.Names.{AllHaveNames};
 ghost use Rattle.ltl_text.specs.Options.{guards_text, options_text};
-ghost use Rattle.ltl_text.specs.Writing.{Writes};
 
 use crate::guard::put_guard;
 use crate::label::put_label;
 use crate::literal_texts::LiteralTexts;
-use crate::output::Output;
 use ltl_models::{Ba, Edges};
-use ltl_streams::{ByteSink, WriteFault};
+use ltl_streams::{ByteSink, Printer};
 use std::alloc::Allocator;
 
 /// The number of positions at the beginning of the list whose edges lead to this target.
@@ -37,21 +36,20 @@ fn put_guards<A: Allocator, S: ByteSink>(
     edges: &Edges<'_>,
     places: &[usize],
     texts: &LiteralTexts<'_, '_, A>,
-    output: &mut Output<'_, S>,
-) -> Result<(), WriteFault>
+    output: &mut Printer<'_, S>,
+)
     requires within { All (λ p. p < length edges.now.coded.now) places.now }
     requires named { AllHaveNames (length texts.now) (edges_in edges.now) }
-    ensures { Writes S.state result output.old output.new (guards_text texts.now (edges_in edges.now) places.now) }
+    ensures { Prints S.state output.old output.new (guards_text texts.now (edges_in edges.now) places.now) }
 {
     let Some((first, others)) = places.split_first() else {
-        return Ok(());
+        return;
     };
-    put_guard(&edges.get(*first).cube, texts, output)?;
+    put_guard(&edges.get(*first).cube, texts, output);
     for place in others {
-        output.put(b" || ")?;
-        put_guard(&edges.get(*place).cube, texts, output)?;
+        output.put(b" || ");
+        put_guard(&edges.get(*place).cube, texts, output);
     }
-    Ok(())
 }
 
 /// Writes the options of a state, ordered by target. `skip` is the state that is named `accept_all`.
@@ -60,24 +58,23 @@ pub fn put_options<A: Allocator, B: Allocator, S: ByteSink>(
     texts: &LiteralTexts<'_, '_, B>,
     skip: usize,
     k: usize,
-    output: &mut Output<'_, S>,
-) -> Result<(), WriteFault>
+    output: &mut Printer<'_, S>,
+)
     requires within { k < length automaton.now.states }
     requires named { HasNamesBelow (length texts.now) automaton.now }
     requires least { skip ≡ skip_state automaton.now }
-    ensures { Writes S.state result output.old output.new (options_text automaton.now texts.now (state_at automaton.now k)) }
+    ensures { Prints S.state output.old output.new (options_text automaton.now texts.now (state_at automaton.now k)) }
 {
     let edges = automaton.edges(k);
     let mut rest = automaton.by_target(k);
     'options: while let Some((place, _)) = rest.split_first() {
         let target = edges.coded[*place].target;
         let (group, others) = rest.split_at(group_len(&edges, rest, target));
-        output.put(b"\t:: ")?;
-        put_guards(&edges, group, texts, output)?;
-        output.put(b" -> goto ")?;
-        put_label(automaton, skip, target, output)?;
-        output.put(b"\n")?;
+        output.put(b"\t:: ");
+        put_guards(&edges, group, texts, output);
+        output.put(b" -> goto ");
+        put_label(automaton, skip, target, output);
+        output.put(b"\n");
         rest = others;
     }
-    Ok(())
 }

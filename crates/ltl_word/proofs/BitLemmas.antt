@@ -1,5 +1,5 @@
 -- Bits of words.
-use Rattle.std.proofs.Common.{◌≡◌, ◌∙◌, ap, sym, refl, subst, ℕ, zero, suc, ◌+◌, ◌-◌, ◌*◌, ◌/◌, ◌%◌, ◌^◌, ◌<◌, ◌≤◌, w64, bit_and, bit_or, arith, Bool, true, false, not, ◌||◌, ◌&&◌, ◌⊎◌, inl, inr, nat_eq, List, [], ◌∷◌, ◌++◌, length}
+use Rattle.std.proofs.Common.{◌≡◌, ◌∙◌, ap, sym, refl, subst, ℕ, ◌+◌, ◌-◌, ◌*◌, ◌/◌, ◌%◌, ◌^◌, ◌<◌, ◌≤◌, w64, bit_and, bit_or, arith, Bool, true, false, not, ◌||◌, ◌&&◌, ◌⊎◌, inl, inr, nat_eq, List, [], ◌∷◌, ◌++◌, length}
 use Rattle.std.specs.Prelude.{bit_xor, slice_index, ◌≢◌, replicate}
 use Rattle.std.proofs.Common.{length-append, get_or}
 use Rattle.std.proofs.lemmas.Bool.{cases_eq}
@@ -9,6 +9,7 @@ use Rattle.std.specs.Bool.{beq}
 use Rattle.std.proofs.lemmas.Nat.{and_mask, one_shl, shr-shr}
 use Rattle.std.proofs.lemmas.Bool.Decides.{nat_tests}
 use Rattle.std.proofs.lemmas.Nat.Bits.{bit_at-lt, bit_at_lowest, bit_at_or, bit_at_and, bit_at_xor, bit_at_not, bit_at-zero, bit_at_ones, bit_at-pow_same, bit_at-pow_other, bit_at_above}
+use Rattle.std.proofs.Math.Bool.{or-true, or-false, and-false, and-true}
 use Rattle.ltl_word.specs.Rows.{bit_of, IsRowFrom}
 use Rattle.ltl_syntax.proofs.TreeLemmas.{push_at, push_before, push_length}
 use Rattle.ltl_spec.proofs.Collections.CaseLaws.{last_or_below}
@@ -52,28 +53,12 @@ one_bit k j l = elim (cases_eq j k) [
   | inr d ↦ ap (λ m. one m j) (one_shl k 64 l) ∙ ap (λ b. nat_eq b 1) (bit_at-pow_other k j d) ∙ sym (nat_eq_other j k d)
 ]
 
-or_true : (s : Bool) → (s || true) ≡ true
-or_true true = refl
-or_true false = refl
-
-pub or_false : (s : Bool) → (s || false) ≡ s
-or_false true = refl
-or_false false = refl
-
-pub and_false : (s : Bool) → (s && false) ≡ false
-and_false true = refl
-and_false false = refl
-
-pub and_true : (s : Bool) → (s && true) ≡ s
-and_true true = refl
-and_true false = refl
-
 -- a bit that is put into a word
 pub bit_more : (n k : ℕ) → k < 64 → one (bit_or n (1 * 2 ^ k % 18446744073709551616)) k ≡ true
-bit_more n k l = one_or n (1 * 2 ^ k % 18446744073709551616) k ∙ ap (λ t. one n k || t) (one_bit k k l ∙ nat_eq_same k k refl) ∙ or_true (one n k)
+bit_more n k l = one_or n (1 * 2 ^ k % 18446744073709551616) k ∙ ap (λ t. one n k || t) (one_bit k k l ∙ nat_eq_same k k refl) ∙ or-true (one n k)
 
 pub others_more : (n k j : ℕ) → k < 64 → j ≢ k → one (bit_or n (1 * 2 ^ k % 18446744073709551616)) j ≡ one n j
-others_more n k j l d = one_or n (1 * 2 ^ k % 18446744073709551616) j ∙ ap (λ t. one n j || t) (one_bit k j l ∙ nat_eq_other j k d) ∙ or_false (one n j)
+others_more n k j l d = one_or n (1 * 2 ^ k % 18446744073709551616) j ∙ ap (λ t. one n j || t) (one_bit k j l ∙ nat_eq_other j k d) ∙ or-false (one n j)
 
 bit_fits : (k : ℕ) → k < 64 → 1 * 2 ^ k % 18446744073709551616 < 2 ^ 64
 bit_fits k l = omega arith
@@ -81,12 +66,12 @@ bit_fits k l = omega arith
 pub bit_less : (n k : ℕ) → k < 64 → one (bit_and n (bit_not w64 (1 * 2 ^ k % 18446744073709551616))) k ≡ false
 bit_less n k l =
     one_and n (bit_not w64 (1 * 2 ^ k % 18446744073709551616)) k
-    ∙ ap (λ t. one n k && t) (one_not (1 * 2 ^ k % 18446744073709551616) k (bit_fits k l) l ∙ ap not (one_bit k k l ∙ nat_eq_same k k refl)) ∙ and_false (one n k)
+    ∙ ap (λ t. one n k && t) (one_not (1 * 2 ^ k % 18446744073709551616) k (bit_fits k l) l ∙ ap not (one_bit k k l ∙ nat_eq_same k k refl)) ∙ and-false (one n k)
 
 pub others_less : (n k j : ℕ) → k < 64 → j < 64 → j ≢ k → one (bit_and n (bit_not w64 (1 * 2 ^ k % 18446744073709551616))) j ≡ one n j
 others_less n k j l m d =
     one_and n (bit_not w64 (1 * 2 ^ k % 18446744073709551616)) j
-    ∙ ap (λ t. one n j && t) (one_not (1 * 2 ^ k % 18446744073709551616) j (bit_fits k l) m ∙ ap not (one_bit k j l ∙ nat_eq_other j k d)) ∙ and_true (one n j)
+    ∙ ap (λ t. one n j && t) (one_not (1 * 2 ^ k % 18446744073709551616) j (bit_fits k l) m ∙ ap not (one_bit k j l ∙ nat_eq_other j k d)) ∙ and-true (one n j)
 
 -- the bits of a word that is shifted
 pub one_shr : (n s k : ℕ) → one (n / 2 ^ s) k ≡ one n (k + s)

@@ -4,7 +4,7 @@ use Rattle.std.specs.Prelude.{slice_index_or, ◌≢◌}
 use Rattle.std.specs.List.{AllByRecursion, list_all}
 use Rattle.std.specs.Ordering.{nat_cmp}
 use Rattle.std.proofs.lemmas.Bool.{cases_lt, and_from}
-use Rattle.std.proofs.lemmas.List.{get_or-map, take-map, drop-map, take-take, drop-take, ext_get_or, length-take-le, take_more, take_all as taken_whole}
+use Rattle.std.proofs.lemmas.List.{get_or-map, take-map, drop-map, take-take, drop-take, ext_get_or, length-take-le, take_more, take_all as taken_whole, get_or-take, get_or-drop, drop_more, get_or-append-add}
 use Rattle.std.proofs.lemmas.Nat.{div-add-mod', mod-mul-add, mod_below}
 use Rattle.ltl_spec.specs.Collections.Sets.{Has, IsRising, put, set_of}
 use Rattle.ltl_spec.specs.Semantics.Word.{Name, name_cmp, Letter, Lasso, IsLasso}
@@ -25,37 +25,6 @@ use Rattle.ltl_word.proofs.NameLaws.{places_put}
 -- repetitions by places
 
 module _ {X : Type 0} where
-  index_past : (xs ys : List X) (j : ℕ) (d : X) → slice_index_or (xs ++ ys) (length xs + j) d ≡ slice_index_or ys j d
-  index_past [] ys j d = let e : 0 + j ≡ j = omega arith in ap (λ k. slice_index_or ys k d) e
-  index_past (x ∷ xs) ys j d = let e : suc (length xs) + j ≡ suc (length xs + j) = omega arith in ap (λ k. slice_index_or (x ∷ (xs ++ ys)) k d) e ∙ index_past xs ys j d
-
-  index_drop : (xs : List X) (n i : ℕ) (d : X) → slice_index_or (drop n xs) i d ≡ slice_index_or xs (n + i) d
-  index_drop xs zero i d = let e : i ≡ 0 + i = omega arith in ap (λ ys. slice_index_or ys i d) (whole xs) ∙ ap (λ k. slice_index_or xs k d) e
-    where
-      whole : (ys : List X) → drop 0 ys ≡ ys
-      whole [] = refl
-      whole (y ∷ ys) = refl
-  index_drop [] (suc n) i d = refl
-  index_drop (x ∷ xs) (suc n) i d = let e : suc (n + i) ≡ suc n + i = omega arith in index_drop xs n i d ∙ ap (λ k. slice_index_or (x ∷ xs) k d) e
-
-  index_take : (xs : List X) (n i : ℕ) (d : X) → i < n → slice_index_or (take n xs) i d ≡ slice_index_or xs i d
-  index_take xs zero i d l = absurd (omega arith)
-  index_take [] (suc n) i d l = refl
-  index_take (x ∷ xs) (suc n) zero d l = refl
-  index_take (x ∷ xs) (suc n) (suc i) d l = index_take xs n i d (omega arith)
-
-  drop_one : (xs : List X) (i : ℕ) (d : X) → i < length xs → drop i xs ≡ slice_index_or xs i d ∷ drop (i + 1) xs
-  drop_one [] i d l = absurd (omega arith)
-  drop_one (x ∷ xs) zero d l = ap (λ ys. x ∷ ys) (whole xs)
-    where
-      whole : (ys : List X) → ys ≡ drop 0 ys
-      whole [] = refl
-      whole (y ∷ ys) = refl
-  drop_one (x ∷ xs) (suc i) d l =
-      let e : suc (i + 1) ≡ suc i + 1 = omega arith in
-      let m : i < length xs = omega arith in
-      drop_one xs i d m ∙ ap (λ k. slice_index_or xs i d ∷ drop k (x ∷ xs)) e
-
   drop_size : (xs : List X) (n : ℕ) → n ≤ length xs → length (drop n xs) + n ≡ length xs
   drop_size [] zero l = refl
   drop_size [] (suc n) l = absurd (omega arith)
@@ -93,7 +62,7 @@ repeated_at (suc n) ys i some l = elim (cases_lt i (length ys)) [
       let here : i ≡ length ys + (i - length ys) = omega (arith, b) in
       let within : i - length ys < n * length ys = omega (arith, l, s, b) in
       ap (λ k. slice_index_or (repeated (suc n) ys) k []) here
-      ∙ index_past ys (repeated n ys) (i - length ys) []
+      ∙ get_or-append-add ys (repeated n ys) (i - length ys) []
       ∙ repeated_at n ys (i - length ys) some within
       ∙ ap (λ k. slice_index_or ys k []) (sym (mod_more (i - length ys) (length ys) some) ∙ ap (λ k. k % length ys) (sym here))
 ]
@@ -113,7 +82,7 @@ repeats_if xs d some most h =
     let below = mod_below i d some in
     let within : i < length xs / d * length (take d xs) = subst (λ k. i < length xs / d * k) (sym size) (subst (λ k. i < k) times l) in
     h.1 i l
-    ∙ sym (index_take xs d (i % d) [] below)
+    ∙ sym (get_or-take d xs (i % d) [] below)
     ∙ ap (λ k. slice_index_or (take d xs) (i % k) []) (sym size)
     ∙ sym (repeated_at (length xs / d) (take d xs) i (subst (λ k. 0 < k) (sym size) some) within)))
 
@@ -129,7 +98,7 @@ repeats_only xs d some most h =
           ap (λ ys. slice_index_or ys i []) same
           ∙ repeated_at (length xs / d) (take d xs) i (subst (λ k. 0 < k) (sym size) some) within
           ∙ ap (λ k. slice_index_or (take d xs) (i % k) []) size
-          ∙ index_take xs d (i % d) [] below,
+          ∙ get_or-take d xs (i % d) [] below,
     )
 
 -- the first that passes
@@ -253,13 +222,13 @@ module _ (all : List Letter) (e : ℕ) where
       let place : m + 1 + e ≡ m + suc e = omega arith in
       ap (λ k. take k (drop (m + 1) all)) one
       ∙ take_more (drop (m + 1) all) e [] (omega (arith, size, l))
-      ∙ ap (λ x. take e (drop (m + 1) all) ++ x ∷ []) (index_drop all (m + 1) e [] ∙ ap at place)
+      ∙ ap (λ x. take e (drop (m + 1) all) ++ x ∷ []) (get_or-drop (m + 1) all e [] ∙ ap at place)
 
   one_back : (m : ℕ) → m + 1 + suc e ≤ length all → at m ≡ at (m + suc e) → put_all (take (m + 1) all) (take (suc e) (drop (m + 1) all)) ≡ put_all (take m all) (take (suc e) (drop m all))
   one_back m l same =
       ap₂ put_all (take_more all m [] (omega (arith, l))) (cycle_from m l)
       ∙ put_turned (take m all) (take e (drop (m + 1) all)) (at m) (at (m + suc e)) same
-      ∙ ap (λ xs. put_all (take m all) (take (suc e) xs)) (sym (drop_one all m [] (omega (arith, l))))
+      ∙ ap (λ xs. put_all (take m all) (take (suc e) xs)) (sym (drop_more all m [] (omega (arith, l))))
 
   all_back : (n keep : ℕ) → keep + n + suc e ≤ length all → ((k : ℕ) → keep ≤ k → k < keep + n → at k ≡ at (k + suc e)) → put_all (take (keep + n) all) (take (suc e) (drop (keep + n) all)) ≡ put_all (take keep all) (take (suc e) (drop keep all))
   all_back zero keep l same = let z : keep + 0 ≡ keep = omega arith in ap (λ k. put_all (take k all) (take (suc e) (drop k all))) z

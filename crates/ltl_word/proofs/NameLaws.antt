@@ -1,197 +1,124 @@
 -- Sets of names, and the places of names in them.
-use Rattle.std.proofs.Common.{◌≡◌, ◌∙◌, ap, ap₂, sym, refl, subst, ℕ, zero, suc, ◌+◌, ◌<◌, ◌≤◌, arith, ◌⊎◌, inl, inr, List, [], ◌∷◌, ◌++◌, length, map, take, drop, append_assoc}
-use Rattle.std.specs.Prelude.{◌≢◌, slice_index_or, flat_map}
-use Rattle.std.specs.List.{AllByRecursion, insert}
-use Rattle.std.specs.Ordering.{nat_cmp, ordering_reverse}
+use Rattle.std.proofs.Common.{◌≡◌, ◌∙◌, ap, ap₂, sym, refl, subst, ℕ, zero, suc, ◌+◌, ◌<◌, ◌≤◌, arith, inl, inr, List, [], ◌∷◌, ◌++◌, length, map, take, drop, append_assoc, append-nil, length-append, Bor, Bool, true, false, IsPermutation, Result, Ok, Err}
+use Rattle.std.specs.Prelude.{IsTrue, ◌&&◌, slice_index_or, flat_map}
+use Rattle.std.specs.List.{AllByRecursion, items_where_true, list_all}
+use Rattle.std.specs.List.Retain.{DiffersFromLast, IsFiltered, ReturnsInTurn}
+use Rattle.std.specs.List.Sorted.{IsBinarySearchResult, IsSearchInRange, IsSorted, IsSortedBy}
+use Rattle.std.specs.Result.{result_unwrap_or}
+use Rattle.std.specs.Ordering.{is_lt, nat_cmp, ordering_reverse}
 use Rattle.std.specs.declared.cmp.Ordering.TheVariants.{Less, Equal, Greater}
-use Rattle.std.proofs.lemmas.Bool.{cases_lt}
-use Rattle.std.proofs.lemmas.List.Sums.{fold-append}
-use Rattle.std.proofs.lemmas.List.{get_or-map, map-append, take-map, drop-map, append-nil, take_more, take_all, take-append-drop}
+use Rattle.std.proofs.lemmas.Bool.{and_from, cases_lt}
 use Rattle.std.proofs.lemmas.Cmp.{tied_itself}
+use Rattle.std.proofs.lemmas.Grind.{flat_map-append}
+use Rattle.std.proofs.lemmas.List.{drop_more, get_or-map, map-append, take_more, take_all}
+use Rattle.std.proofs.lemmas.List.Sorted.{IsPermutation-map, searchable_from_sorted}
+use Rattle.ltl_spec.specs.Collections.Lists.{HasNoRepeats, place_of}
 use Rattle.ltl_spec.specs.Collections.Sets.{by_order, Has, IsRising, put, set_of}
-use Rattle.ltl_spec.specs.Semantics.Word.{Name, name_cmp}
-use Rattle.ltl_spec.proofs.Collections.CaseLaws.{last_or_below, below_equal_above}
-use Rattle.ltl_spec.proofs.Collections.SetLaws.{all_at, all_from, put_cases, IsRising-put}
+use Rattle.ltl_spec.specs.Formulas.Names.{is_proposition, unified}
+use Rattle.ltl_spec.specs.Formulas.Tokens.{same_name}
+use Rattle.ltl_spec.specs.Semantics.Word.{Lasso, Name, name_cmp}
+use Rattle.ltl_spec.specs.Tools.Limits.{stated_limits}
+use Rattle.ltl_spec.specs.Words.LassoText.{names_in, with_sets}
+use Rattle.ltl_spec.proofs.Checking.UnifiedLaws.{HasNoRepeats-unified}
+use Rattle.ltl_spec.proofs.Collections.CaseLaws.{below_equal_above, left_true, right_true}
+use Rattle.ltl_spec.proofs.Collections.ListLaws.{numbered_short, place_below, at_place, Has-first_occurrences, first_occurrences_cases}
+use Rattle.ltl_spec.proofs.Collections.MemberLaws.{all_Decides, map_cases, map_length}
 use Rattle.ltl_spec.proofs.Collections.Orders.{nat_linear, name_linear}
-use Rattle.ltl_word.specs.LassoView.{letter_of}
-use Rattle.ltl_word.specs.NameView.{FindsName, AddsNames, RefusesNames, with_names, all_names, ArePlaces}
+use Rattle.ltl_spec.proofs.Collections.SetLaws.{all_at, all_from, append_cases, append_left, append_right, put_cases, set_of_cases, Has-set_of, IsRising-put, IsRising-set_of, irreflexive}
+use Rattle.ltl_spec.proofs.Collections.SortedSets.{sorted_set_itself}
+use Rattle.ltl_spec.proofs.Formulas.NameLaws.{same_name_Decides}
+use Rattle.ltl_sets.specs.PlaceLaws.{less}
+use Rattle.ltl_syntax.proofs.TreeLemmas.{push_length, push_before, push_at}
+use Rattle.ltl_word.specs.LassoView.{letter_of, lasso_of, IsMade}
+use Rattle.ltl_word.specs.NameView.{AreAllPlaces, ArePlaces, IsKnown, IsNameSet, RefusesNames, all_names}
+use Rattle.ltl_word.specs.ReadText.{IsReadAs, IsRefusedFor, IsWritten, IsSpelled}
+use Rattle.ltl_word.specs.WrittenView.{WrittenView, letters_of}
 use Rattle.ltl_word.specs.declared.fault.WordFault.{WordFault}
 use Rattle.ltl_word.specs.declared.fault.WordFault.TheVariants.{TooLong, BadWord, TooManyPropositions, OutOfMemory}
 use Rattle.ltl_word.proofs.LetterLaws.{rising_at}
-use Rattle.std.specs.Prelude.{IsTrue, ◌&&◌}
-use Rattle.std.specs.List.{list_all}
-use Rattle.std.proofs.Common.{length-append}
-use Rattle.std.proofs.lemmas.Bool.{and_from}
-use Rattle.ltl_spec.specs.Collections.Lists.{HasNoRepeats, place_of}
-use Rattle.ltl_spec.specs.Formulas.Names.{is_proposition, unified}
-use Rattle.ltl_spec.specs.Formulas.Tokens.{same_name}
-use Rattle.ltl_spec.specs.Semantics.Word.{Lasso}
-use Rattle.ltl_spec.specs.Words.LassoText.{names_in, with_sets}
-use Rattle.ltl_spec.proofs.Collections.CaseLaws.{left_true, right_true}
-use Rattle.ltl_spec.proofs.Collections.MemberLaws.{all_Decides, map_length}
-use Rattle.ltl_spec.proofs.Collections.ListLaws.{Has-at, numbered_short, place_below, at_place, Has-first_occurrences, first_occurrences_cases}
-use Rattle.ltl_spec.proofs.Collections.SetLaws.{append_cases, append_left, append_right, set_of_cases, Has-set_of, Has-put, irreflexive}
-use Rattle.ltl_spec.proofs.Checking.UnifiedLaws.{HasNoRepeats-unified}
-use Rattle.ltl_spec.proofs.Formulas.NameLaws.{same_name_Decides}
-use Rattle.ltl_syntax.proofs.TreeLemmas.{push_length, push_before, push_at}
-use Rattle.ltl_word.specs.LassoView.{lasso_of, IsMade}
-use Rattle.ltl_word.specs.NameView.{AreAllPlaces, IsKnown}
-use Rattle.ltl_word.specs.ReadText.{IsReadAs, IsRefusedFor, IsWritten, IsSpelled}
-use Rattle.ltl_word.specs.WrittenView.{WrittenView, letters_of}
-use Rattle.ltl_sets.specs.PlaceLaws.{less}
-use Rattle.ltl_sets.specs.declared.row_set.TheConstants.RowSet.{LIMIT}
-use Rattle.ltl_spec.specs.Tools.Limits.{stated_limits}
-
--- one place more
-pub one_more : (P : ℕ → Type 0) (at : ℕ) → ((k : ℕ) → k < at → P k) → P at → (k : ℕ) → k < at + 1 → P k
-one_more P at f h k l =
-    let s : at + 1 ≡ suc at = omega arith in
-    elim (last_or_below k at (subst (λ b. k < b) s l)) [ inl b ↦ f k b | inr e ↦ subst P (sym e) h ]
 
 pub mapped_at : {X : Type 0} (f : X → Name) (xs : List X) (x : X) (at : ℕ) → at < length xs → x ≡ slice_index_or xs at x → slice_index_or (map f xs) at [] ≡ f x
 mapped_at f xs x at l e = get_or-map f xs at x [] l ∙ ap f (sym e)
 
--- the same at a slice of the list
-pub mapped_in : {X : Type 0} (f : X → Name) (xs ys : List X) (d : X) (at : ℕ) → ys ≡ xs → at < length xs → slice_index_or (map f xs) at [] ≡ f (slice_index_or ys at d)
-mapped_in f xs ys d at e l = get_or-map f xs at d [] l ∙ ap (λ zs. f (slice_index_or zs at d)) (sym e)
-
 ties : (n : Name) → name_cmp n n ≡ Equal
 ties n = tied_itself name_linear.total n
 
-no_tie : Equal ≡ Greater → ⊥
-no_tie e = cc
+-- names that are sorted without duplicates are the set of them
+module _ {X Y : Type 0} (f : X → Y) (E : Y → Y → Bool) where
+  filtered : (xs zs : List X) → IsFiltered (DiffersFromLast (λ x y. E (f x) (f y))) [] xs zs → IsFiltered (DiffersFromLast E) [] (map f xs) (map f zs)
+  filtered xs zs (bs, q, l, r, e) = (bs, map f q, l ∙ sym (map_length f xs), turns [] q bs xs r, ap (map f) e ∙ left bs xs)
+    where
+      step : (p : List X) (x : X) (b : Bool) (q : List X) → DiffersFromLast (λ x y. E (f x) (f y)) p x b q → DiffersFromLast E (map f p) (f x) b (map f q)
+      step [] x b q h = (h.0, ap (map f) h.1)
+      step (y ∷ p) x true q h = (h.0, ap (map f) h.1)
+      step (y ∷ p) x false q h = (h.0, ap (map f) h.1)
 
--- the name is there
-pub put_there : (name : Name) (names : List Name) (at : ℕ) → FindsName name names at → at < length names → slice_index_or names at [] ≡ name → names ≡ put name_cmp name names
-put_there name [] at h l e = absurd (omega arith)
-put_there name (y ∷ ys) zero h l e = sym (ap (λ o. by_order o (name ∷ y ∷ ys) (y ∷ ys) (y ∷ put name_cmp name ys)) (ap (name_cmp name) e ∙ ties name))
-put_there name (y ∷ ys) (suc at) h l e =
-    ap (λ ns. y ∷ ns) (put_there name ys at (record { within = (let w = h.within in omega arith); before = λ k b. h.before (suc k) (omega arith); here = λ b. h.here (omega arith) }) (omega arith) e)
-    ∙ sym (ap (λ o. by_order o (name ∷ y ∷ ys) (y ∷ ys) (y ∷ put name_cmp name ys)) (h.before 0 (omega arith)))
+      turns : (p q : List X) (bs : List Bool) (xs : List X) → ReturnsInTurn (DiffersFromLast (λ x y. E (f x) (f y))) p bs xs q → ReturnsInTurn (DiffersFromLast E) (map f p) bs (map f xs) (map f q)
+      turns p q [] xs h = ap (map f) h
+      turns p q (b ∷ bs) [] h = absurd h
+      turns p q (b ∷ bs) (x ∷ xs) (j, r, h) = (map f j, step p x b j r, turns j q bs xs h)
 
--- the name is new
-pub put_new_at : (name : Name) (names : List Name) (at : ℕ) → FindsName name names at → (at < length names → slice_index_or names at [] ≢ name) → insert names at name ≡ put name_cmp name names
-put_new_at name [] zero h n = refl
-put_new_at name [] (suc at) h n = let w = h.within in absurd (omega arith)
-put_new_at name (y ∷ ys) zero h n =
-    elim (name_cmp name y) as (λ o. name_cmp name y ≡ o → name ∷ y ∷ ys ≡ by_order o (name ∷ y ∷ ys) (y ∷ ys) (y ∷ put name_cmp name ys)) [
-      | Less ↦ λ e. refl
-      | Equal ↦ λ e. absurd (n (omega arith) (sym (name_linear.exact name y e)))
-      | Greater ↦ λ e. absurd (h.here (omega arith) e)
-    ] refl
-put_new_at name (y ∷ ys) (suc at) h n =
-    ap (λ ns. y ∷ ns) (put_new_at name ys at (record { within = (let w = h.within in omega arith); before = λ k b. h.before (suc k) (omega arith); here = λ b. h.here (omega arith) }) (λ l. n (omega arith)))
-    ∙ sym (ap (λ o. by_order o (name ∷ y ∷ ys) (y ∷ ys) (y ∷ put name_cmp name ys)) (h.before 0 (omega arith)))
+      left : (bs : List Bool) (xs : List X) → map f (items_where_true bs xs) ≡ items_where_true bs (map f xs)
+      left [] xs = refl
+      left (b ∷ bs) [] = refl
+      left (true ∷ bs) (x ∷ xs) = ap (λ ys. f x ∷ ys) (left bs xs)
+      left (false ∷ bs) (x ∷ xs) = left bs xs
 
-pub insert_mapped : {X : Type 0} (f : X → Name) (xs : List X) (at : ℕ) (x : X) → map f (insert xs at x) ≡ insert (map f xs) at (f x)
-insert_mapped f xs at x = map-append f (take at xs) (x ∷ drop at xs) ∙ ap₂ (λ a b. a ++ f x ∷ b) (sym (take-map f at xs)) (sym (drop-map f at xs))
+pub sorted_names : (xs ys zs : List (Bor Name)) → IsPermutation xs ys → IsSorted (λ x y. name_cmp x.now y.now) ys → IsFiltered (DiffersFromLast (λ x y. same_name x.now y.now)) [] ys zs
+    → map (λ n. n.now) zs ≡ set_of name_cmp (map (λ n. n.now) xs)
+sorted_names xs ys zs p s f =
+    sorted_set_itself name_linear same_name same_name_Decides (map (λ n. n.now) xs) (map (λ n. n.now) ys) (map (λ n. n.now) zs) (IsPermutation-map (λ n. n.now) xs ys p)
+    (λ k d z l. let size = map_length (λ (n : Bor Name). n.now) ys in
+    ap is_lt (ap₂ name_cmp (get_or-map (λ (n : Bor Name). n.now) ys (k + 1) nothing d (omega (arith, l, size))) (get_or-map (λ (n : Bor Name). n.now) ys k nothing d (omega (arith, l, size)))) ∙ s k nothing z (omega (arith, l, size)))
+    (filtered (λ n. n.now) same_name ys zs f)
+  where
+    nothing : Bor Name
+    nothing = record { ref_ptr = (0, 0); now = [] }
 
--- many names
+-- one name more of a list
+pub one_name_more : (list new : List (Bor Name)) (o : Bor Name) (names : List Name) (i : ℕ) (name : Name) → i < length names → new ≡ list ++ o ∷ [] → map (λ n. n.now) list ≡ take i names → name ≡ slice_index_or names i [] → o.now ≡ name
+    → map (λ n. n.now) new ≡ take (i + 1) names
+one_name_more list new o names i name l e h f g = ap (map (λ n. n.now)) e ∙ map-append (λ n. n.now) list (o ∷ []) ∙ ap₂ (λ ns n. ns ++ n ∷ []) h (g ∙ f) ∙ sym (take_more names i [] l)
 
-put_longer : (n : Name) (ns : List Name) → length ns ≤ length (put name_cmp n ns)
-put_longer n [] = omega arith
-put_longer n (y ∷ ys) =
-    elim (name_cmp n y) as (λ o. length (y ∷ ys) ≤ length (by_order o (n ∷ y ∷ ys) (y ∷ ys) (y ∷ put name_cmp n ys))) [
-      | Less ↦ omega arith
-      | Equal ↦ omega arith
-      | Greater ↦ let l = put_longer n ys in omega arith
-    ]
+-- the names of one letter more
+pub names_more : (old now new letter : List Name) (ls : List (List Name)) (i : ℕ) → i < length ls → slice_index_or ls i [] ≡ letter → now ≡ old ++ all_names (take i ls) → new ≡ now ++ letter → new ≡ old ++ all_names (take (i + 1) ls)
+names_more old now new letter ls i l e h f =
+    f ∙ ap₂ (λ a b. a ++ b) h (sym e ∙ sym (append-nil (slice_index_or ls i []))) ∙ append_assoc old (all_names (take i ls)) (all_names (slice_index_or ls i [] ∷ []))
+    ∙ ap (λ ns. old ++ ns) (sym (ap all_names (take_more ls i [] l) ∙ flat_map-append (λ a. a) (take i ls) (slice_index_or ls i [] ∷ [])))
 
-pub put_shorter : (n : Name) (ns : List Name) → length (put name_cmp n ns) ≤ suc (length ns)
-put_shorter n [] = omega arith
-put_shorter n (y ∷ ys) =
-    elim (name_cmp n y) as (λ o. length (by_order o (n ∷ y ∷ ys) (y ∷ ys) (y ∷ put name_cmp n ys)) ≤ suc (length (y ∷ ys))) [
-      | Less ↦ omega arith
-      | Equal ↦ omega arith
-      | Greater ↦ let l = put_shorter n ys in omega arith
-    ]
-
-names_longer : (ns set : List Name) → length set ≤ length (with_names set ns)
-names_longer [] set = omega arith
-names_longer (n ∷ ns) set = let l = names_longer ns (put name_cmp n set) in let m = put_longer n set in omega arith
-
-pub names_append : (set xs ys : List Name) → with_names set (xs ++ ys) ≡ with_names (with_names set xs) ys
-names_append set xs ys = fold-append (λ s n. put name_cmp n s) set xs ys
-
-pub refuses_more : (m n : ℕ) (fault : WordFault) → m ≤ n → RefusesNames m fault → RefusesNames n fault
-refuses_more m n TooLong l h = absurd h
-refuses_more m n (BadWord p) l h = absurd h
-refuses_more m n TooManyPropositions l h = omega arith
-refuses_more m n OutOfMemory l h = tt
-
--- one name more
-pub added_name : (set ns now new : List Name) (name : Name) (i : ℕ) → i < length ns → slice_index_or ns i [] ≡ name → now ≡ with_names set (take i ns) → new ≡ put name_cmp name now → new ≡ with_names set (take (i + 1) ns)
-added_name set ns now new name i l e h f =
-    f ∙ ap₂ (put name_cmp) (sym e) h ∙ sym (ap (with_names set) (take_more ns i [] l) ∙ names_append set (take i ns) (slice_index_or ns i [] ∷ []))
-
-pub refused_name : (set ns now : List Name) (name : Name) (i : ℕ) (fault : WordFault) → i < length ns → slice_index_or ns i [] ≡ name → now ≡ with_names set (take i ns) → RefusesNames (length (put name_cmp name now)) fault → RefusesNames (length (with_names set ns)) fault
-refused_name set ns now name i fault l e h r =
-    let more : put name_cmp name now ≡ with_names set (take (i + 1) ns) = added_name set ns now (put name_cmp name now) name i l e h refl in
-    let whole : with_names set ns ≡ with_names (with_names set (take (i + 1) ns)) (drop (i + 1) ns) = ap (with_names set) (sym (take-append-drop (i + 1) ns)) ∙ names_append set (take (i + 1) ns) (drop (i + 1) ns) in
-    let long = names_longer (drop (i + 1) ns) (with_names set (take (i + 1) ns)) in
-    refuses_more (length (put name_cmp name now)) (length (with_names set ns)) fault
-    (subst (λ ms. length ms ≤ length (with_names set ns)) (sym more) (subst (λ ms. length (with_names set (take (i + 1) ns)) ≤ length ms) (sym whole) long)) r
-
--- one letter more
-all_append : (xs ys : List (List Name)) → all_names (xs ++ ys) ≡ all_names xs ++ all_names ys
-all_append [] ys = refl
-all_append (x ∷ xs) ys = ap (λ ns. x ++ ns) (all_append xs ys) ∙ sym (append_assoc x (all_names xs) (all_names ys))
-
-all_one : (ls : List (List Name)) (i : ℕ) → i < length ls → all_names (take (i + 1) ls) ≡ all_names (take i ls) ++ slice_index_or ls i []
-all_one ls i l = ap all_names (take_more ls i [] l) ∙ all_append (take i ls) (slice_index_or ls i [] ∷ []) ∙ ap (λ ns. all_names (take i ls) ++ ns) (append-nil (slice_index_or ls i []))
-
-pub added_letter : (set : List Name) (ls : List (List Name)) (now new letter : List Name) (i : ℕ) → i < length ls → slice_index_or ls i [] ≡ letter → now ≡ with_names set (all_names (take i ls)) → new ≡ with_names now letter
-    → new ≡ with_names set (all_names (take (i + 1) ls))
-added_letter set ls now new letter i l e h f =
-    f ∙ ap₂ with_names h (sym e) ∙ sym (ap (with_names set) (all_one ls i l) ∙ names_append set (all_names (take i ls)) (slice_index_or ls i []))
-
-pub refused_letter : (set : List Name) (ls : List (List Name)) (now letter : List Name) (i : ℕ) (fault : WordFault) → i < length ls → slice_index_or ls i [] ≡ letter → now ≡ with_names set (all_names (take i ls))
-    → RefusesNames (length (with_names now letter)) fault → RefusesNames (length (with_names set (all_names ls))) fault
-refused_letter set ls now letter i fault l e h r =
-    let more : with_names now letter ≡ with_names set (all_names (take (i + 1) ls)) = added_letter set ls now (with_names now letter) letter i l e h refl in
-    let whole : with_names set (all_names ls) ≡ with_names (with_names set (all_names (take (i + 1) ls))) (all_names (drop (i + 1) ls)) =
-    ap (λ ms. with_names set (all_names ms)) (sym (take-append-drop (i + 1) ls)) ∙ ap (with_names set) (all_append (take (i + 1) ls) (drop (i + 1) ls)) ∙ names_append set (all_names (take (i + 1) ls)) (all_names (drop (i + 1) ls)) in
-    let long = names_longer (all_names (drop (i + 1) ls)) (with_names set (all_names (take (i + 1) ls))) in
-    refuses_more (length (with_names now letter)) (length (with_names set (all_names ls))) fault
-    (subst (λ ms. length ms ≤ length (with_names set (all_names ls))) (sym more) (subst (λ ms. length (with_names set (all_names (take (i + 1) ls))) ≤ length ms) (sym whole) long)) r
-
--- the names of both parts of a word
-pub both_parts : (set stem_names cycle_names : List Name) (stem cycle : List (List Name)) (names : List Name) → stem_names ≡ with_names set (all_names stem) → cycle_names ≡ with_names stem_names (all_names cycle)
-    → set ≡ with_names [] names → cycle_names ≡ with_names [] (names ++ flat_map (λ a. a) (stem ++ cycle))
-both_parts set sn cn stem cycle names e f h =
-    f ∙ ap (λ s. with_names s (all_names cycle)) (e ∙ ap (λ s. with_names s (all_names stem)) h)
-    ∙ sym (ap (λ ns. with_names [] (names ++ ns)) (all_append stem cycle) ∙ names_append [] names (all_names stem ++ all_names cycle) ∙ names_append (with_names [] names) (all_names stem) (all_names cycle))
-
-pub refused_stem : (set : List Name) (stem cycle : List (List Name)) (names : List Name) (fault : WordFault) → set ≡ with_names [] names → RefusesNames (length (with_names set (all_names stem))) fault
-    → RefusesNames (length (with_names [] (names ++ flat_map (λ a. a) (stem ++ cycle)))) fault
-refused_stem set stem cycle names fault h r =
-    let whole = both_parts set (with_names set (all_names stem)) (with_names (with_names set (all_names stem)) (all_names cycle)) stem cycle names refl refl h in
-    refuses_more (length (with_names set (all_names stem))) _ fault (subst (λ ms. length (with_names set (all_names stem)) ≤ length ms) whole (names_longer (all_names cycle) (with_names set (all_names stem)))) r
-
-pub refused_first : (ns now : List Name) (name : Name) (i : ℕ) (more : List Name) (fault : WordFault) → i < length ns → slice_index_or ns i [] ≡ name → now ≡ with_names [] (take i ns) → RefusesNames (length (put name_cmp name now)) fault
-    → RefusesNames (length (with_names [] (ns ++ more))) fault
-refused_first ns now name i more fault l e h r =
-    refuses_more (length (with_names [] ns)) _ fault (subst (λ ms. length (with_names [] ns) ≤ length ms) (sym (names_append [] ns more)) (names_longer more (with_names [] ns))) (refused_name [] ns now name i fault l e h r)
+-- those of a formula, and those of both parts of a word
+pub names_whole : (names formula after_stem whole : List Name) (stem cycle : List (List Name)) → names ≡ formula → after_stem ≡ names ++ all_names stem → whole ≡ after_stem ++ all_names cycle → whole ≡ formula ++ flat_map (λ a. a) (stem ++ cycle)
+names_whole names formula after_stem whole stem cycle h e f =
+    f ∙ ap (λ ns. ns ++ all_names cycle) (e ∙ ap (λ ns. ns ++ all_names stem) h) ∙ append_assoc formula (all_names stem) (all_names cycle) ∙ ap (λ ns. formula ++ ns) (sym (flat_map-append (λ a. a) stem cycle))
 
 -- places
-
-place_of_has : (names : List Name) (name : Name) → Has names name → (k : ℕ) × (k < length names) × (slice_index_or names k [] ≡ name)
-place_of_has [] name h = absurd h
-place_of_has (y ∷ ys) name (inl e) = (0, omega arith, sym e)
-place_of_has (y ∷ ys) name (inr h) = let w = place_of_has ys name h in (suc w.0, (let l = w.1 in omega arith), w.2)
 
 greater : (m n : Name) → name_cmp m n ≡ Less → name_cmp n m ≡ Greater
 greater m n e = name_linear.total.antisymm n m ∙ ap ordering_reverse e
 
--- a name that is there is found
-pub found_place : (names : List Name) → IsRising name_cmp names → (name : Name) (at : ℕ) → FindsName name names at → Has names name → (at < length names) × (slice_index_or names at [] ≡ name)
-found_place names r name at h m =
-    let w = place_of_has names name m in
-    elim (below_equal_above w.0 at) [
-      | inl b ↦ absurd (no_tie (sym (ties name) ∙ ap (name_cmp name) (sym w.2) ∙ h.before w.0 b))
-      | inr (inl e) ↦ (subst (λ k. k < length names) e w.1, ap (λ k. slice_index_or names k []) (sym e) ∙ w.2)
-      | inr (inr b) ↦ absurd (h.here (let l = w.1 in omega arith) (ap (λ n. name_cmp n (slice_index_or names at [])) (sym w.2) ∙ greater (slice_index_or names at []) (slice_index_or names w.0 []) (rising_at names r at w.0 b w.1)))
-    ]
+-- what a binary search finds: a name that is there
+module _ {X : Type 0} (f : X → Name) (xs : List X) (r : IsRising name_cmp (map f xs)) (name : Name) (h : Has (map f xs) name) where
+  pub found : (r : Result ℕ ℕ) → IsSearchInRange r (length xs) → IsBinarySearchResult (λ x. name_cmp (f x) name) xs r → (result_unwrap_or r 0 < length xs) × (slice_index_or (map f xs) (result_unwrap_or r 0) [] ≡ name)
+  found (Ok i) l p = let w = map_cases f xs name h in (l, get_or-map f xs i w.0 [] l ∙ name_linear.exact (f (slice_index_or xs i w.0)) name (p w.0))
+  found (Err i) l p =
+      let w = map_cases f xs name h in
+      let k = place_of same_name name (map f xs) in
+      let below = place_below same_name same_name_Decides name (map f xs) h in
+      let size = map_length f xs in
+      let within : k < length xs = omega (arith, below, size) in
+      let tie : name_cmp (f (slice_index_or xs k w.0)) name ≡ Equal = ap (λ n. name_cmp n name) (sym (get_or-map f xs k w.0 [] within) ∙ at_place same_name same_name_Decides name (map f xs) [] h) ∙ ties name in
+      let parted = p (searchable_from_sorted name_linear.total f xs name sorted) in
+      absurd (elim (cases_lt k i) [
+        | inl b ↦ (let e : Less ≡ Equal = sym (parted.0 k w.0 (omega arith) b) ∙ tie in cc)
+        | inr b ↦ (let e : Greater ≡ Equal = sym (parted.1 k w.0 (omega (arith, b)) within) ∙ tie in cc)
+      ])
+    where
+      sorted : IsSortedBy (λ x y. is_lt (name_cmp (f x) (f y))) xs
+      sorted k d z l =
+          let size = map_length f xs in
+          let a = get_or-map f xs k d [] (omega (arith, l)) in
+          let b = get_or-map f xs (k + 1) d [] l in
+          ap is_lt (ap₂ name_cmp (sym b) (sym a) ∙ greater (slice_index_or (map f xs) k []) (slice_index_or (map f xs) (k + 1) []) (rising_at (map f xs) r k (k + 1) (omega arith) (omega (arith, l, size))))
 
 -- a place more is a name more
 pub places_put : (names : List Name) → IsRising name_cmp names → (p : ℕ) (places : List ℕ) → p < length names → AllByRecursion (λ i. i < length names) places → letter_of names (put nat_cmp p places) ≡ put name_cmp (slice_index_or names p []) (letter_of names places)
@@ -216,42 +143,15 @@ places_put names r p (y ∷ ys) l w =
     rest : List Name
     rest = letter_of names ys
 
-drop_one : (ns : List Name) (i : ℕ) → i < length ns → drop i ns ≡ slice_index_or ns i [] ∷ drop (i + 1) ns
-drop_one [] i l = absurd (omega arith)
-drop_one (x ∷ xs) zero l = ap (λ ys. x ∷ ys) (all xs)
-  where
-    all : (ys : List Name) → ys ≡ drop 0 ys
-    all [] = refl
-    all (y ∷ ys) = refl
-drop_one (x ∷ xs) (suc i) l =
-    let e : suc (i + 1) ≡ suc i + 1 = omega arith in
-    let m : i < length xs = omega arith in
-    drop_one xs i m ∙ ap (λ k. slice_index_or xs i [] ∷ drop k (x ∷ xs)) e
-
 -- one name more of a letter, from its end
-pub places_more : (names letter : List Name) → IsRising name_cmp names → AllByRecursion (Has names) letter → (i : ℕ) (name : Name) (at : ℕ) (places new : List ℕ) → i + 1 ≤ length letter → slice_index_or letter i [] ≡ name → FindsName name names at
+pub places_more : (names letter : List Name) → IsRising name_cmp names → (i : ℕ) (name : Name) (at : ℕ) (places new : List ℕ) → i < length letter → slice_index_or letter i [] ≡ name → at < length names → slice_index_or names at [] ≡ name
     → ArePlaces names (set_of name_cmp (drop (i + 1) letter)) places → new ≡ put nat_cmp at places → ArePlaces names (set_of name_cmp (drop i letter)) new
-places_more names letter r known i name at places new l e h a f =
-    let within : i < length letter = omega arith in
-    let there : Has names name = subst (Has names) e (all_at (Has names) letter (slice_index_or letter i []) known (has_at letter i within)) in
-    let found = found_place names r name at h there in
+places_more names letter r i name at places new l e within there a f =
     subst (ArePlaces names (set_of name_cmp (drop i letter))) (sym f) record {
-      spelled = places_put names r at places found.0 a.within ∙ ap₂ (put name_cmp) (found.1 ∙ sym e) a.spelled ∙ sym (ap (set_of name_cmp) (drop_one letter i within));
+      spelled = places_put names r at places within a.within ∙ ap₂ (put name_cmp) (there ∙ sym e) a.spelled ∙ sym (ap (set_of name_cmp) (drop_more letter i [] l));
       set = IsRising-put nat_linear at places a.set;
-      within = all_from (λ k. k < length names) (put nat_cmp at places) (λ z m. elim (put_cases nat_cmp at places z m) [ inl q ↦ subst (λ k. k < length names) (sym q) found.0 | inr k ↦ all_at (λ j. j < length names) places z a.within k ]);
+      within = all_from (λ k. k < length names) (put nat_cmp at places) (λ z m. elim (put_cases nat_cmp at places z m) [ inl q ↦ subst (λ k. k < length names) (sym q) within | inr k ↦ all_at (λ j. j < length names) places z a.within k ]);
     }
-  where
-    has_at : (ns : List Name) (k : ℕ) → k < length ns → Has ns (slice_index_or ns k [])
-    has_at [] k m = absurd (omega arith)
-    has_at (n ∷ ns) zero m = inl refl
-    has_at (n ∷ ns) (suc k) m = inr (has_at ns k (omega arith))
-
--- a listed name of a letter has a place in a list of few names
-pub few_places : (names letter : List Name) → IsRising name_cmp names → AllByRecursion (Has names) letter → (i : ℕ) (name : Name) (at : ℕ) → i < length letter → slice_index_or letter i [] ≡ name → FindsName name names at → length names ≤ stated_limits.propositions → at < LIMIT
-few_places names letter r known i name at b e h l =
-    let m = all_at (Has names) letter (slice_index_or letter i []) known (Has-at letter i [] b) in
-    let w = (found_place names r name at h (subst (Has names) e m)).0 in
-    omega (arith, w, l)
 
 -- all letters
 
@@ -345,38 +245,18 @@ known_letter names (a ∷ ls) letter (suc i) h l e = known_letter names ls lette
 
 pub known_parts : (names : List Name) (stem cycle : List (List Name)) → AllByRecursion (Has names) (flat_map (λ a. a) (stem ++ cycle)) → AllByRecursion (Has names) (all_names stem) × AllByRecursion (Has names) (all_names cycle)
 known_parts names stem cycle h =
-    let g = subst (AllByRecursion (Has names)) (all_append stem cycle) h in (
+    let g = subst (AllByRecursion (Has names)) (flat_map-append (λ a. a) stem cycle) h in (
       all_from (Has names) (all_names stem) (λ z m. all_at (Has names) (all_names stem ++ all_names cycle) z g (append_left (all_names stem) (all_names cycle) z m)),
       all_from (Has names) (all_names cycle) (λ z m. all_at (Has names) (all_names stem ++ all_names cycle) z g (append_right (all_names stem) (all_names cycle) z m)),
     )
 
 -- the set of names
 
-pub names_rise : (ns set : List Name) → IsRising name_cmp set → IsRising name_cmp (with_names set ns)
-names_rise [] set r = r
-names_rise (n ∷ ns) set r = names_rise ns (put name_cmp n set) (IsRising-put name_linear n set r)
-
-has_old : (ns set : List Name) (z : Name) → Has set z → Has (with_names set ns) z
-has_old [] set z h = h
-has_old (n ∷ ns) set z h = has_old ns (put name_cmp n set) z (Has-put name_linear n set z (inr h))
-
-pub has_new : (ns set : List Name) (z : Name) → Has ns z → Has (with_names set ns) z
-has_new [] set z h = absurd h
-has_new (n ∷ ns) set z (inl e) = has_old ns (put name_cmp n set) z (Has-put name_linear n set z (inl e))
-has_new (n ∷ ns) set z (inr h) = has_new ns (put name_cmp n set) z h
-
-pub has_cases : (ns set : List Name) (z : Name) → Has (with_names set ns) z → Has set z ⊎ Has ns z
-has_cases [] set z h = inl h
-has_cases (n ∷ ns) set z h = elim (has_cases ns (put name_cmp n set) z h) [
-  | inl k ↦ elim (put_cases name_cmp n set z k) [ inl e ↦ inr (inl e) | inr m ↦ inl m ]
-  | inr k ↦ inr (inr k)
-]
-
-pub known_names : (names more : List Name) (v : Lasso) → AddsNames [] (more ++ names_in v) names → IsSpelled v → IsKnown names v
+pub known_names : (names more : List Name) (v : Lasso) → IsNameSet (more ++ names_in v) names → IsSpelled v → IsKnown names v
 known_names names more v a s = record {
-  sorted = subst (IsRising name_cmp) (sym a.0) (names_rise (more ++ names_in v) [] tt);
+  sorted = subst (IsRising name_cmp) (sym a.0) (IsRising-set_of name_linear (more ++ names_in v));
   few = a.1;
-  known = all_from (Has names) (names_in v) (λ z h. subst (λ ns. Has ns z) (sym a.0) (has_new (more ++ names_in v) [] z (append_right more (names_in v) z h)));
+  known = all_from (Has names) (names_in v) (λ z h. subst (λ ns. Has ns z) (sym a.0) (Has-set_of name_linear (more ++ names_in v) z (append_right more (names_in v) z h)));
   spelled = s;
 }
 
@@ -389,6 +269,9 @@ pub shorter : (xs ys : List Name) → HasNoRepeats xs → ((z : Name) → Has xs
 shorter xs ys d f =
     numbered_short xs (λ n. place_of same_name n ys) (length ys) d (λ x h. place_below same_name same_name_Decides x ys (f x h))
     (λ x y h k e. sym (at_place same_name same_name_Decides x ys [] (f x h)) ∙ ap (λ p. slice_index_or ys p []) e ∙ at_place same_name same_name_Decides y ys [] (f y k))
+
+pub set_shorter : (ns : List Name) → length (set_of name_cmp ns) ≤ length ns
+set_shorter ns = shorter (set_of name_cmp ns) ns (no_repeats (set_of name_cmp ns) (IsRising-set_of name_linear ns)) (set_of_cases name_linear ns)
 
 same_names : (v : Lasso) (z : Name) → (Has (names_in v) z → Has (names_in (with_sets v)) z) × (Has (names_in (with_sets v)) z → Has (names_in v) z)
 same_names v z =
@@ -412,12 +295,12 @@ same_names v z =
     ]
 
 -- the names of the formula and the word are as many as those that were put together
-unified_count : (names : List Name) (v : Lasso) → (length (unified names (names_in (with_sets v))) ≤ length (with_names [] (names ++ names_in v))) × (length (with_names [] (names ++ names_in v)) ≤ length (unified names (names_in (with_sets v))))
+unified_count : (names : List Name) (v : Lasso) → (length (unified names (names_in (with_sets v))) ≤ length (set_of name_cmp (names ++ names_in v))) × (length (set_of name_cmp (names ++ names_in v)) ≤ length (unified names (names_in (with_sets v))))
 unified_count names v = (
-  shorter (unified names (names_in (with_sets v))) (with_names [] (names ++ names_in v)) (HasNoRepeats-unified names (names_in (with_sets v)))
-      (λ z h. has_new (names ++ names_in v) [] z (down z (first_occurrences_has z h))),
-  shorter (with_names [] (names ++ names_in v)) (unified names (names_in (with_sets v))) (no_repeats (with_names [] (names ++ names_in v)) (names_rise (names ++ names_in v) [] tt))
-      (λ z h. Has-first_occurrences same_name same_name_Decides (names ++ names_in (with_sets v)) z (up z (elim (has_cases (names ++ names_in v) [] z h) [ inl k ↦ absurd k | inr k ↦ k ]))),
+  shorter (unified names (names_in (with_sets v))) (set_of name_cmp (names ++ names_in v)) (HasNoRepeats-unified names (names_in (with_sets v)))
+      (λ z h. Has-set_of name_linear (names ++ names_in v) z (down z (first_occurrences_has z h))),
+  shorter (set_of name_cmp (names ++ names_in v)) (unified names (names_in (with_sets v))) (no_repeats (set_of name_cmp (names ++ names_in v)) (IsRising-set_of name_linear (names ++ names_in v)))
+      (λ z h. Has-first_occurrences same_name same_name_Decides (names ++ names_in (with_sets v)) z (up z (set_of_cases name_linear (names ++ names_in v) z h))),
 )
   where
     first_occurrences_has : (z : Name) → Has (unified names (names_in (with_sets v))) z → Has (names ++ names_in (with_sets v)) z
@@ -429,11 +312,11 @@ unified_count names v = (
     up : (z : Name) → Has (names ++ names_in v) z → Has (names ++ names_in (with_sets v)) z
     up z h = elim (append_cases names (names_in v) z h) [ inl k ↦ append_left names (names_in (with_sets v)) z k | inr k ↦ append_right names (names_in (with_sets v)) z ((same_names v z).0 k) ]
 
-pub read_word : (names list : List Name) (text : List ℕ) (v : WrittenView) (w : Lasso) → length text ≤ stated_limits.word_bytes → IsWritten text v → AddsNames [] (names ++ names_in (letters_of v)) list → w ≡ with_sets (letters_of v) → IsReadAs names text w
+pub read_word : (names list : List Name) (text : List ℕ) (v : WrittenView) (w : Lasso) → length text ≤ stated_limits.word_bytes → IsWritten text v → IsNameSet (names ++ names_in (letters_of v)) list → w ≡ with_sets (letters_of v) → IsReadAs names text w
 read_word names list text v w l written a e =
     subst (IsReadAs names text) (sym e) (l, written.0, λ more. let c = (unified_count names (letters_of v)).0 in let f = a.1 in let g = ap length a.0 in omega (arith, c, f, g, more))
 
-pub refused_word : (names : List Name) (text : List ℕ) (v : WrittenView) (fault : WordFault) → length text ≤ stated_limits.word_bytes → IsWritten text v → RefusesNames (length (with_names [] (names ++ names_in (letters_of v)))) fault → IsRefusedFor names text fault
+pub refused_word : (names : List Name) (text : List ℕ) (v : WrittenView) (fault : WordFault) → length text ≤ stated_limits.word_bytes → IsWritten text v → RefusesNames (length (set_of name_cmp (names ++ names_in (letters_of v)))) fault → IsRefusedFor names text fault
 refused_word names text v TooLong l written h = absurd h
 refused_word names text v (BadWord p) l written h = absurd h
 refused_word names text v TooManyPropositions l written h = (l, (with_sets (letters_of v), written.0, let c = (unified_count names (letters_of v)).1 in omega (arith, c, h)))

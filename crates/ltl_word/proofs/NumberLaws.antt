@@ -2,18 +2,19 @@
 use Rattle.std.proofs.Common.{take, ◌≡◌, ◌∙◌, ap, ap₂, sym, refl, subst, ℕ, ◌+◌, ◌<◌, ◌≤◌, arith, List, [], ◌∷◌, ◌++◌, length, map}
 use Rattle.std.specs.Prelude.{slice_index_or, IsTrue, All}
 use Rattle.std.specs.List.{AllByRecursion, list_all}
-use Rattle.ltl_spec.specs.Collections.Sets.{Has, put, set_of}
+use Rattle.ltl_spec.specs.Collections.Sets.{Has, set_of}
 use Rattle.ltl_spec.specs.Semantics.Word.{Name, name_cmp, Lasso}
 use Rattle.ltl_spec.specs.Formulas.Names.{is_proposition}
 use Rattle.ltl_spec.specs.Words.LassoText.{with_sets, names_in}
 use Rattle.ltl_spec.specs.Tools.Limits.{stated_limits}
-use Rattle.ltl_spec.proofs.Collections.SetLaws.{all_at, all_from, append_left, append_right}
+use Rattle.ltl_spec.proofs.Collections.SetLaws.{all_at, all_from, append_left, append_right, Has-set_of, IsRising-set_of}
+use Rattle.ltl_spec.proofs.Collections.Orders.{name_linear}
 use Rattle.ltl_spec.proofs.Collections.ListLaws.{All-at_has, Has-at}
 use Rattle.ltl_spec.proofs.Collections.MemberLaws.{all_Decides, map_cases, map_length, flat_map_cases}
 use Rattle.std.proofs.lemmas.List.{map-append, get_or-map, take_more}
 use Rattle.ltl_word.specs.LassoView.{letter_of, word_with}
-use Rattle.ltl_word.specs.NameView.{with_names, IsKnown}
-use Rattle.ltl_word.proofs.NameLaws.{names_rise, has_new, put_shorter}
+use Rattle.ltl_word.specs.NameView.{IsKnown}
+use Rattle.ltl_word.proofs.NameLaws.{set_shorter}
 use Rattle.ltl_word.specs.WrittenView.{WrittenView, letters_of}
 
 -- one more of a list
@@ -47,17 +48,13 @@ listed_names names rows h a m z k =
     let v = map_cases (λ i. slice_index_or names i []) w.0 z (subst (λ b. Has b z) w.2 k) in
     subst (Has names) (sym v.2) (Has-at names v.0 [] (all_at (λ i. i < length names) w.0 v.0 (all_at (AllByRecursion (λ i. i < length names)) rows w.0 h w.1) v.1))
 
-names_few : (ns set : List Name) → length (with_names set ns) ≤ length set + length ns
-names_few [] set = omega arith
-names_few (n ∷ ns) set = let l = names_few ns (put name_cmp n set) in let m = put_shorter n set in omega (arith, l, m)
-
-pub listed_known : (names : List Name) (stem cycle : List (List ℕ)) → IsTrue (list_all is_proposition names) → length names ≤ stated_limits.propositions → All (All (λ i. i < length names)) (stem ++ cycle) → 0 < length cycle → IsKnown (with_names [] names) (listed names stem cycle)
+pub listed_known : (names : List Name) (stem cycle : List (List ℕ)) → IsTrue (list_all is_proposition names) → length names ≤ stated_limits.propositions → All (All (λ i. i < length names)) (stem ++ cycle) → 0 < length cycle → IsKnown (set_of name_cmp names) (listed names stem cycle)
 listed_known names stem cycle p few within cycles = record {
-  sorted = names_rise names [] tt;
-  few = let l = names_few names [] in omega (arith, l, few);
-  known = all_from (Has (with_names [] names)) (names_in (listed names stem cycle)) (λ z h.
+  sorted = IsRising-set_of name_linear names;
+  few = let l = set_shorter names in omega (arith, l, few);
+  known = all_from (Has (set_of name_cmp names)) (names_in (listed names stem cycle)) (λ z h.
       let w = flat_map_cases (λ (a : List Name). a) ((listed names stem cycle).stem ++ (listed names stem cycle).cycle) z h in
-      has_new names [] z (inside w.0 w.1 z w.2));
+      Has-set_of name_linear names z (inside w.0 w.1 z w.2));
   spelled = record {
     propositions = (all_Decides (λ a. list_all is_proposition a) ((listed names stem cycle).stem ++ (listed names stem cycle).cycle)).1
         (λ a m. (all_Decides is_proposition a).1 (λ z k. (all_Decides is_proposition names).0 p z (inside a m z k)));
@@ -88,10 +85,10 @@ pub written_listed : (names : List Name) (stem cycle : List (List ℕ)) (v : Wri
 written_listed names stem cycle v e f = λ i. record { stem = e i; cycle = f i }
 
 pub written_known : {X : Type 0} (given : List X) (names : List Name) (set : List Name) (stem cycle : List (List ℕ)) (v : WrittenView) → length names ≡ length given → IsTrue (list_all is_proposition names) → length given ≤ stated_limits.propositions
-    → All (All (λ i. i < length given)) (stem ++ cycle) → 0 < length cycle → set ≡ with_names [] names → letters_of v ≡ listed names stem cycle → IsKnown set (letters_of v)
+    → All (All (λ i. i < length given)) (stem ++ cycle) → 0 < length cycle → set ≡ set_of name_cmp names → letters_of v ≡ listed names stem cycle → IsKnown set (letters_of v)
 written_known given names set stem cycle v size p few within cycles e f =
     subst (λ s. IsKnown s (letters_of v)) (sym e)
-    (subst (IsKnown (with_names [] names)) (sym f) (listed_known names stem cycle p (omega (arith, few, size)) (subst (λ n. All (All (λ i. i < n)) (stem ++ cycle)) (sym size) within) cycles))
+    (subst (IsKnown (set_of name_cmp names)) (sym f) (listed_known names stem cycle p (omega (arith, few, size)) (subst (λ n. All (All (λ i. i < n)) (stem ++ cycle)) (sym size) within) cycles))
 
 pub written_word : (names : List Name) (stem cycle : List (List ℕ)) (v : WrittenView) → letters_of v ≡ listed names stem cycle → with_sets (letters_of v) ≡ word_with names stem cycle
 written_word names stem cycle v f = ap with_sets f ∙ listed_word names stem cycle

@@ -1,6 +1,6 @@
 -- The rows of formulas by those of their operands.
-use Rattle.std.proofs.Common.{◌≡◌, ◌∙◌, ap, sym, refl, subst, ℕ, zero, suc, ◌+◌, ◌/◌, ◌<◌, ◌≤◌, arith, Bool, true, false, inl, inr, List, [], length}
-use Rattle.std.specs.Prelude.{IsTrue, Some, None, slice_index_or}
+use Rattle.std.proofs.Common.{◌≡◌, ◌∙◌, ap, sym, refl, subst, ℕ, suc, ◌+◌, ◌/◌, ◌<◌, ◌≤◌, arith, Bool, true, false, inl, inr, List, [], length}
+use Rattle.std.specs.Prelude.{IsTrue, Option, Some, None, slice_index_or}
 use Rattle.std.specs.Bool.{Decides}
 use Rattle.std.proofs.lemmas.Bool.{false≢true}
 use Rattle.ltl_spec.specs.Semantics.Word.{Name, Lasso, after_steps, is_true_at}
@@ -15,7 +15,6 @@ use Rattle.ltl_word.specs.declared.machine_word.Junction.{Junction}
 use Rattle.ltl_word.specs.declared.machine_word.Junction.TheVariants.{And, Or, Implies, Iff}
 use Rattle.std.proofs.Common.{◌∷◌, ◌++◌}
 use Rattle.std.specs.Prelude.{slice_get}
-use Rattle.std.proofs.lemmas.Option.{same_Some}
 use Rattle.ltl_spec.proofs.Collections.CaseLaws.{last_or_below}
 use Rattle.ltl_syntax.specs.declared.operators.Node.{Node}
 use Rattle.ltl_syntax.specs.declared.operators.Node.TheVariants.{Constant, Proposition, Unary, Binary}
@@ -23,7 +22,7 @@ use Rattle.ltl_syntax.specs.declared.operators.UnaryOperator.{UnaryOperator}
 use Rattle.ltl_syntax.specs.declared.operators.BinaryOperator.{BinaryOperator}
 use Rattle.ltl_syntax.specs.FormulaView.{FormulaView, IsFormula, StandsAt, binary_of, unary_of, tree_in, tree_of, trees}
 use Rattle.ltl_syntax.proofs.TreeLemmas.{tree_at, push_length, push_before, push_at}
-use Rattle.ltl_word.specs.Evaluation.{AreOperandRows, AreRows, IsRowAt, IsRowOf, IsUntilRow, going_of}
+use Rattle.ltl_word.specs.Evaluation.{AreOperandRows, AreRows, IsRowAt, IsRowIf, IsRowOf, IsUntilRow, going_of}
 use Rattle.ltl_word.specs.Uses.{AreLastUses, IsUsedAt, KeepsLater, row_by}
 use Rattle.ltl_word.specs.LassoView.{size}
 use Rattle.ltl_word.proofs.BackLaws.{after_within}
@@ -136,29 +135,23 @@ module _ (names : List Name) (w : Lasso) where
     at : (F : spec.Formula) (bits : List ℕ) → IsRowOf names w F bits → (i : ℕ) → i < size w → Decides (bit_of bits i) (Satisfied (is_true_at names w) step F i)
     at F bits r i m = subst (λ k. Decides (bit_of bits i) (Satisfied (is_true_at names w) (step_of k (size w)) F i)) begins (r.decides i m)
 
-    pub until_row_of : (F G : spec.Formula) (a b bits : List ℕ) → IsRowOf names w F a → IsRowOf names w G b → IsUntilRow stem (size w) false (Some a) b bits → IsRowOf names w (spec.Binary spec.Until F G) bits
-    until_row_of F G a b bits r q u =
+    -- with a left operand or without one
+    pub going_row_of : (negated : Bool) (F : Option spec.Formula) (G : spec.Formula) (a : Option (List ℕ)) (b bits : List ℕ) → IsRowIf names w F a → IsRowOf names w G b → IsUntilRow stem (size w) negated a b bits
+        → IsRowOf names w (going_of negated F G) bits
+    going_row_of false None G None b bits r q u =
+        turn (spec.Unary spec.Eventually G) bits (until_from (left_at false None) (right_at false b) (λ j. Unit {0}) (Satisfied (is_true_at names w) step G) bits
+        (λ j m. ((λ e. tt), λ h. refl)) (λ j m. same_bit _ (bit_of b j) (plain (bit_of b j)) (at G b q j m)) u.1) u.0
+    going_row_of true None G None b bits r q u =
+        turn (spec.Unary spec.Always G) bits (release_from (left_at true None) (right_at true b) (λ j. ⊥) (Satisfied (is_true_at names w) step G) bits
+        (λ j m. ((λ n. n refl), λ h. absurd h)) (λ j m. opposite (bit_of b j) (at G b q j m)) u.1) u.0
+    going_row_of false (Some F) G (Some a) b bits r q u =
         turn (spec.Binary spec.Until F G) bits (until_from (left_at false (Some a)) (right_at false b) (Satisfied (is_true_at names w) step F) (Satisfied (is_true_at names w) step G) bits
         (λ j m. same_bit _ (bit_of a j) (plain (bit_of a j)) (at F a r j m)) (λ j m. same_bit _ (bit_of b j) (plain (bit_of b j)) (at G b q j m)) u.1) u.0
-
-    pub release_row_of : (F G : spec.Formula) (a b bits : List ℕ) → IsRowOf names w F a → IsRowOf names w G b → IsUntilRow stem (size w) true (Some a) b bits → IsRowOf names w (spec.Binary spec.Release F G) bits
-    release_row_of F G a b bits r q u =
+    going_row_of true (Some F) G (Some a) b bits r q u =
         turn (spec.Binary spec.Release F G) bits (release_from (left_at true (Some a)) (right_at true b) (Satisfied (is_true_at names w) step F) (Satisfied (is_true_at names w) step G) bits
         (λ j m. opposite (bit_of a j) (at F a r j m)) (λ j m. opposite (bit_of b j) (at G b q j m)) u.1) u.0
-
-    pub eventually_row_of : (F : spec.Formula) (b bits : List ℕ) → IsRowOf names w F b → IsUntilRow stem (size w) false None b bits → IsRowOf names w (spec.Unary spec.Eventually F) bits
-    eventually_row_of F b bits q u =
-        turn (spec.Unary spec.Eventually F) bits (until_from (left_at false None) (right_at false b) (λ j. Unit {0}) (Satisfied (is_true_at names w) step F) bits
-        (λ j m. ((λ e. tt), λ h. refl)) (λ j m. same_bit _ (bit_of b j) (plain (bit_of b j)) (at F b q j m)) u.1) u.0
-
-    pub always_row_of : (F : spec.Formula) (b bits : List ℕ) → IsRowOf names w F b → IsUntilRow stem (size w) true None b bits → IsRowOf names w (spec.Unary spec.Always F) bits
-    always_row_of F b bits q u =
-        turn (spec.Unary spec.Always F) bits (release_from (left_at true None) (right_at true b) (λ j. ⊥) (Satisfied (is_true_at names w) step F) bits
-        (λ j m. ((λ n. n refl), λ h. absurd h)) (λ j m. opposite (bit_of b j) (at F b q j m)) u.1) u.0
-
-    pub going_row_of : (release : Bool) (F G : spec.Formula) (a b bits : List ℕ) → IsRowOf names w F a → IsRowOf names w G b → IsUntilRow stem (size w) release (Some a) b bits → IsRowOf names w (spec.Binary (going_of release) F G) bits
-    going_row_of true = release_row_of
-    going_row_of false = until_row_of
+    going_row_of negated None G (Some a) b bits r q u = absurd r
+    going_row_of negated (Some F) G None b bits r q u = absurd r
 
 -- what is made of two rows by a junction, unless it fails
 pub junction_rows : (op : Junction) (w : Lasso) (a b : List ℕ) {E : Type 0} (made : Result (List ℕ) E) → IfOk made (λ bits. length bits ≡ length a)

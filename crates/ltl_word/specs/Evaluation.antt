@@ -3,7 +3,7 @@ use Rattle.std.specs.Prelude.{◌≡◌, ◌+◌, ℕ, ◌<◌, ◌≤◌, ◌/�
 use Rattle.std.specs.Bool.{Decides}
 use Rattle.ltl_spec.specs.Semantics.Word.{Name, Lasso}
 use Rattle.ltl_spec.specs.Semantics.Satisfaction.{HoldsUntil, Satisfies}
-use Rattle.ltl_spec.specs.Formulas.Formula.{Formula, Proposition, BinaryOperator, Until, Release}
+use Rattle.ltl_spec.specs.Formulas.Formula.{Formula, Proposition, Unary, Binary, Always, Eventually, Until, Release}
 use Rattle.ltl_syntax.specs.declared.operators.Node.{Node}
 use Rattle.ltl_syntax.specs.declared.operators.Node.TheVariants as node
 use Rattle.ltl_syntax.specs.FormulaView.{FormulaView, tree_in, trees}
@@ -45,6 +45,15 @@ abbrev pub IsLong : ℕ → Option (List ℕ) → Type 0
 IsLong count None = Unit {0}
 IsLong count (Some bits) = count / 64 < length bits
 
-abbrev pub going_of : Bool → BinaryOperator
-going_of true = Release
-going_of false = Until
+-- `left U right` of formulas, or the dual `left V right`; without a left one `<>right`, or the dual `[]right`
+abbrev pub going_of : Bool → Option Formula → Formula → Formula
+going_of false None G = Unary Eventually G
+going_of true None G = Unary Always G
+going_of false (Some F) G = Binary Until F G
+going_of true (Some F) G = Binary Release F G
+
+-- there is a row exactly where there is a formula, and says where it holds
+abbrev pub IsRowIf : List Name → Lasso → Option Formula → Option (List ℕ) → Type 0
+IsRowIf names w None None = Unit {0}
+IsRowIf names w (Some F) (Some bits) = IsRowOf names w F bits
+IsRowIf names w _ _ = ⊥

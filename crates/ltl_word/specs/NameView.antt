@@ -1,11 +1,10 @@
 -- Sorted lists of names.
-use Rattle.std.specs.Prelude.{◌≡◌, ◌<◌, ◌≤◌, ◌≢◌, ℕ, List, [], fold, length, slice_index_or}
-use Rattle.std.specs.declared.cmp.Ordering.TheVariants.{Greater}
+use Rattle.std.specs.Prelude.{◌≡◌, ◌<◌, ◌≤◌, ℕ, List, [], length, slice_index_or}
 use Rattle.std.specs.Prelude.{flat_map}
 use Rattle.std.specs.List.{AllByRecursion}
 use Rattle.std.specs.Ordering.{nat_cmp}
 use Rattle.ltl_word.specs.LassoView.{letter_of}
-use Rattle.ltl_spec.specs.Collections.Sets.{put, Has, IsRising, set_of}
+use Rattle.ltl_spec.specs.Collections.Sets.{Has, IsRising, set_of}
 use Rattle.ltl_spec.specs.Words.LassoText.{names_in}
 use Rattle.ltl_word.specs.ReadText.{IsSpelled}
 use Rattle.ltl_spec.specs.Semantics.Word.{Name, Lasso, name_cmp}
@@ -13,25 +12,15 @@ use Rattle.ltl_spec.specs.Tools.Limits.{stated_limits}
 use Rattle.ltl_word.specs.declared.fault.WordFault.{WordFault}
 use Rattle.ltl_word.specs.declared.fault.WordFault.TheVariants.{TooManyPropositions, OutOfMemory}
 
--- all names before the place are less than the name, and the one that stands there isn't
-pub record FindsName (name : Name) (names : List Name) (at : ℕ) : Type 0 where
-  pub within : at ≤ length names
-  pub before : (k : ℕ) → k < at → name_cmp name (slice_index_or names k []) ≡ Greater
-  pub here : at < length names → name_cmp name (slice_index_or names at []) ≢ Greater
-
--- the set with names
-abbrev pub with_names : List Name → List Name → List Name
-with_names set names = fold (λ s n. put name_cmp n s) set names
-
 -- there are too many names, or memory runs out
 abbrev pub RefusesNames : ℕ → WordFault → Type 0
 RefusesNames count TooManyPropositions = stated_limits.propositions < count
 RefusesNames count OutOfMemory = Unit {0}
 RefusesNames count _ = ⊥
 
--- the names are put to the set, and there aren't too many
-abbrev pub AddsNames : List Name → List Name → List Name → Type 0
-AddsNames old names new = (new ≡ with_names old names) × (length new ≤ stated_limits.propositions)
+-- the set of the names, which aren't too many
+abbrev pub IsNameSet : List Name → List Name → Type 0
+IsNameSet names set = (set ≡ set_of name_cmp names) × (length set ≤ stated_limits.propositions)
 
 -- the names of letters
 abbrev pub all_names : List (List Name) → List Name

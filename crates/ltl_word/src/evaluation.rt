@@ -1,12 +1,13 @@
 //! Evaluation of a formula on an ultimately periodic word.
 
-ghost use Rattle.std.specs.Prelude.{◌≡◌, ℕ, ◌<◌, ◌/◌, ◌+◌, List, false, length, IfOk, [], slice_index_or, map};
+ghost use Rattle.std.specs.Prelude.{◌≡◌, ℕ, ◌<◌, ◌/◌, ◌+◌, List, false, length, IfOk, [], slice_index_or, map, Option};
+ghost use Rattle.std.specs.Option.{option_map};
 ghost use Rattle.std.specs.Bool.{Decides};
 ghost use Rattle.ltl_spec.specs.Semantics.Word.{Name};
 ghost use Rattle.ltl_spec.specs.Semantics.Satisfaction.{Satisfies};
 ghost use Rattle.ltl_spec.specs.Formulas.Formula as spec;
 ghost use Rattle.ltl_syntax.specs.FormulaView.{StandsAt, binary_of, reading_of, tree_of, trees, unary_of};
-ghost use Rattle.ltl_word.specs.Evaluation.{AreNameRows, AreOperandRows, IsRowOf, going_of};
+ghost use Rattle.ltl_word.specs.Evaluation.{AreNameRows, AreOperandRows, IsLong, IsRowIf, IsRowOf, going_of};
 ghost use Rattle.ltl_word.specs.LassoView.{size};
 ghost use Rattle.ltl_word.specs.Rows.{bit_of, step_of};
 ghost use Rattle.ltl_word.specs.Uses.{KeepsLater, row_by};
@@ -175,43 +176,9 @@ pub(crate) fn unary_row<'a, A: Allocator, C: Allocator>(
     match operator {
         UnaryOperator::Not => row.inverted(alloc),
         UnaryOperator::Next => next_row(alloc, word.stem_len(), word.len(), row),
-        UnaryOperator::Always => always_row(alloc, word, row),
-        UnaryOperator::Eventually => eventually_row(alloc, word, row),
+        UnaryOperator::Always => going_row(alloc, word, None, row, true),
+        UnaryOperator::Eventually => going_row(alloc, word, None, row, false),
     }
-}
-
-fn always_row<'a, A: Allocator, C: Allocator>(
-    alloc: &'a A,
-    word: &Lasso<'_, C>,
-    row: &Bits<'a, A>,
-) -> Result<Bits<'a, A>, AllocError>
-    requires { length row.now ≡ size word.now / 64 + 1 }
-    ensures { IfOk result (λ bits. (names : List Name) (F : spec.Formula) → IsRowOf names word.now F row.now
-        → IsRowOf names word.now (spec.Unary spec.Always F) bits) }
-{
-    let going = Going {
-        left: None,
-        right: row,
-        negated: true,
-    };
-    going.row(alloc, word.stem_len(), word.len())
-}
-
-fn eventually_row<'a, A: Allocator, C: Allocator>(
-    alloc: &'a A,
-    word: &Lasso<'_, C>,
-    row: &Bits<'a, A>,
-) -> Result<Bits<'a, A>, AllocError>
-    requires { length row.now ≡ size word.now / 64 + 1 }
-    ensures { IfOk result (λ bits. (names : List Name) (F : spec.Formula) → IsRowOf names word.now F row.now
-        → IsRowOf names word.now (spec.Unary spec.Eventually F) bits) }
-{
-    let going = Going {
-        left: None,
-        right: row,
-        negated: false,
-    };
-    going.row(alloc, word.stem_len(), word.len())
 }
 
 /// The row of `X`: the value at the next position. After the last position comes the first one of the cycle.
@@ -249,27 +216,28 @@ pub(crate) fn binary_row<'a, A: Allocator, C: Allocator>(
         BinaryOperator::Or => left.with(alloc, Junction::Or, right),
         BinaryOperator::Implies => left.with(alloc, Junction::Implies, right),
         BinaryOperator::Iff => left.with(alloc, Junction::Iff, right),
-        BinaryOperator::Until => going_row(alloc, word, left, right, false),
-        BinaryOperator::Release => going_row(alloc, word, left, right, true),
+        BinaryOperator::Until => going_row(alloc, word, Some(left), right, false),
+        BinaryOperator::Release => going_row(alloc, word, Some(left), right, true),
     }
 }
 
+/// The row of `left U right`, or with `negated` that of `left V right`. Without a left operand it is that of `<>right`, or with `negated` `[]right`.
 fn going_row<'a, A: Allocator, C: Allocator>(
     alloc: &'a A,
     word: &Lasso<'_, C>,
-    left: &Bits<'a, A>,
+    left: Option<&Bits<'a, A>>,
     right: &Bits<'a, A>,
-    is_release: bool,
+    negated: bool,
 ) -> Result<Bits<'a, A>, AllocError>
-    requires left { length left.now ≡ size word.now / 64 + 1 }
+    requires left { IsLong (size word.now) (option_map (λ b. b.now) left) }
     requires right { length right.now ≡ size word.now / 64 + 1 }
-    ensures { IfOk result (λ bits. (names : List Name) (F G : spec.Formula) → IsRowOf names word.now F left.now → IsRowOf names word.now G right.now
-        → IsRowOf names word.now (spec.Binary (going_of is_release) F G) bits) }
+    ensures { IfOk result (λ bits. (names : List Name) (F : Option spec.Formula) (G : spec.Formula) → IsRowIf names word.now F (option_map (λ b. b.now) left.entry)
+        → IsRowOf names word.now G right.now → IsRowOf names word.now (going_of negated F G) bits) }
 {
     let going = Going {
-        left: Some(left),
+        left,
         right,
-        negated: is_release,
+        negated,
     };
     going.row(alloc, word.stem_len(), word.len())
 }

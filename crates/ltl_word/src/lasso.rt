@@ -12,7 +12,7 @@ ghost use Rattle.ltl_word.specs.Rows.{IsRow};
 
 use crate::bits::Bits;
 use crate::name::{OwnedName, is_same};
-use ltl_sets::RowSet;
+use ltl_sets::PropositionSet;
 use std::alloc::{AllocError, Allocator};
 use std::marker::Model;
 
@@ -21,7 +21,7 @@ use std::marker::Model;
 #[derive(Drop)]
 pub struct Lasso<'a, A: Allocator> {
     pub(crate) names: Vec<OwnedName<'a, A>, &'a A>,
-    pub(crate) letters: Vec<RowSet, &'a A>,
+    pub(crate) letters: Vec<PropositionSet, &'a A>,
     pub(crate) stem: usize,
 }
 

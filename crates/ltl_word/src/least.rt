@@ -7,12 +7,12 @@ ghost use Rattle.ltl_word.specs.LeastView.{Repeats, IsShortest, IsKept};
 
 use crate::lasso::Lasso;
 use crate::name::OwnedName;
-use ltl_sets::RowSet;
+use ltl_sets::PropositionSet;
 use smallvec::SmallVec;
 use std::alloc::{AllocError, Allocator};
 
 /// Whether the cycle is its first `d` letters, repeated.
-fn repeats(cycle: &[RowSet], d: usize) -> bool
+fn repeats(cycle: &[PropositionSet], d: usize) -> bool
     requires { 0 < d }
     ensures { Decides result (Repeats cycle.now d) }
 {
@@ -28,7 +28,7 @@ fn repeats(cycle: &[RowSet], d: usize) -> bool
 }
 
 /// The smallest `d` for which the cycle is its first `d` letters, repeated.
-fn shortest(cycle: &[RowSet]) -> usize
+fn shortest(cycle: &[PropositionSet]) -> usize
     requires { 0 < length cycle.now }
     ensures { IsShortest cycle.now result }
 {
@@ -40,7 +40,7 @@ fn shortest(cycle: &[RowSet]) -> usize
 }
 
 /// The length of the stem that is left when its last letters are moved into a cycle of `d` letters, as far as they equal those of the cycle.
-fn kept(letters: &[RowSet], stem: usize, d: usize) -> usize
+fn kept(letters: &[PropositionSet], stem: usize, d: usize) -> usize
     requires { stem + d ≤ length letters.now }
     ensures { IsKept letters.now stem d result }
 {

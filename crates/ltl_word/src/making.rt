@@ -11,9 +11,9 @@ ghost use Rattle.ltl_word.specs.WrittenView.{letters_of};
 use crate::lasso::Lasso;
 use crate::limits::NAME_LIMIT;
 use crate::name::OwnedName;
-use crate::name_list::NameList;
+use crate::name_list::places;
 use crate::written::{Letter, Written};
-use ltl_sets::RowSet;
+use ltl_sets::PropositionSet;
 use smallvec::SmallVec;
 use std::alloc::{AllocError, Allocator};
 
@@ -34,17 +34,17 @@ fn owned<'a, A: Allocator>(
 /// The letters as sets of numbers of names.
 fn all_places<'a, A: Allocator>(
     alloc: &'a A,
-    names: &NameList<'_, 'a, A>,
+    names: &[&[u8]],
     letters: &[Letter<'_, 'a, A>],
-) -> Result<Vec<RowSet, &'a A>, AllocError>
+) -> Result<Vec<PropositionSet, &'a A>, AllocError>
     requires few { length names.now ≤ NAME_LIMIT }
-    requires sorted { IsRising name_cmp names.now }
-    requires known { AllByRecursion (Has names.now) (all_names (map (λ a. map (λ n. n.now) a.items) letters.now)) }
-    ensures { IfOk result (λ rows. AreAllPlaces names.now (map (λ a. map (λ n. n.now) a.items) letters.now) rows.items) }
+    requires sorted { IsRising name_cmp (map (λ n. n.now) names.now) }
+    requires known { AllByRecursion (Has (map (λ n. n.now) names.now)) (all_names (map (λ a. map (λ n. n.now) a.items) letters.now)) }
+    ensures { IfOk result (λ rows. AreAllPlaces (map (λ n. n.now) names.now) (map (λ a. map (λ n. n.now) a.items) letters.now) rows.items) }
 {
     let mut rows = Vec::with_capacity(alloc, letters.len())?;
     for i in 0..letters.len() {
-        rows.push(names.places(letters[i].as_slice()))?;
+        rows.push(places(names, letters[i].as_slice()))?;
     }
     Ok(rows)
 }
@@ -53,17 +53,17 @@ impl<'a, A: Allocator> Lasso<'a, A> {
     /// The word with these letters. `names` has all their names.
     pub(crate) fn from_written(
         alloc: &'a A,
-        names: &NameList<'_, 'a, A>,
+        names: &[&[u8]],
         word: &Written<'_, 'a, A>,
     ) -> Result<Lasso<'a, A>, AllocError>
-        requires { IsKnown names.now (letters_of word.now) }
+        requires { IsKnown (map (λ n. n.now) names.now) (letters_of word.now) }
         ensures { IfOk result (λ w. w ≡ with_sets (letters_of word.now)) }
     {
         let mut letters = all_places(alloc, names, word.stem.as_slice())?;
         let stem = letters.len();
         let cycle = all_places(alloc, names, word.cycle.as_slice())?;
         letters.extend_from_slice(cycle.as_slice())?;
-        let names = owned(alloc, names.names())?;
+        let names = owned(alloc, names)?;
         Ok(Lasso {
             names,
             letters,

@@ -7,13 +7,13 @@ ghost use Rattle.ltl_word.specs.LassoView.{letter_of};
 
 use crate::lasso::Lasso;
 use crate::name::OwnedName;
-use ltl_sets::RowSet;
+use ltl_sets::PropositionSet;
 use std::alloc::{AllocError, Allocator};
 
 /// Appends the names of a letter.
 fn push_names<'w, A: Allocator, B: Allocator>(
     names: &'w [OwnedName<'_, A>],
-    letter: &RowSet,
+    letter: &PropositionSet,
     list: &mut Vec<&'w [u8], &B>,
 ) -> Result<(), AllocError>
     requires { AllByRecursion (λ i. i < length names.now) letter.now }

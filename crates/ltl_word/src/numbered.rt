@@ -3,14 +3,15 @@
 ghost use Rattle.std.specs.Prelude.{◌≡◌, ◌<◌, ◌≤◌, ◌++◌, [], length, map, true, All, IfOk, IsTrue};
 ghost use Rattle.std.specs.List.{AllByRecursion, list_all};
 ghost use Rattle.ltl_spec.specs.Formulas.Names.{is_proposition};
+ghost use Rattle.ltl_spec.specs.Collections.Sets.{set_of};
+ghost use Rattle.ltl_spec.specs.Semantics.Word.{name_cmp};
 ghost use Rattle.ltl_word.specs.LassoView.{letter_of, word_with};
-ghost use Rattle.ltl_word.specs.NameView.{with_names};
 
 use crate::lasso::Lasso;
 use crate::limits::NAME_LIMIT;
-use crate::name_list::NameList;
+use crate::name_list::{Names, sort_dedup};
 use crate::written::{Letter, Letters, Written};
-use ltl_sets::RowSet;
+use ltl_sets::PropositionSet;
 use smallvec::SmallVec;
 use std::alloc::{AllocError, Allocator};
 
@@ -18,7 +19,7 @@ use std::alloc::{AllocError, Allocator};
 fn names_at<'t, 'a, A: Allocator>(
     alloc: &'a A,
     names: &[&'t str],
-    numbers: &RowSet,
+    numbers: &PropositionSet,
 ) -> Result<Letter<'t, 'a, A>, AllocError>
     requires { AllByRecursion (λ i. i < length names.now) numbers.now }
     ensures { IfOk result (λ letter. map (λ n. n.now) letter.items ≡ letter_of (map (λ n. n.now) names.now) numbers.now) }
@@ -34,7 +35,7 @@ fn names_at<'t, 'a, A: Allocator>(
 fn letters_at<'t, 'a, A: Allocator>(
     alloc: &'a A,
     names: &[&'t str],
-    rows: &[RowSet],
+    rows: &[PropositionSet],
 ) -> Result<Letters<'t, 'a, A>, AllocError>
     requires { AllByRecursion (AllByRecursion (λ i. i < length names.now)) rows.now }
     ensures { IfOk result (λ letters. map (λ a. map (λ n. n.now) a.items) letters.items ≡ map (letter_of (map (λ n. n.now) names.now)) rows.now) }
@@ -50,13 +51,14 @@ fn letters_at<'t, 'a, A: Allocator>(
 fn name_set<'t, 'a, A: Allocator>(
     alloc: &'a A,
     names: &[&'t str],
-) -> Result<NameList<'t, 'a, A>, AllocError>
-    ensures { IfOk result (λ set. set ≡ with_names [] (map (λ n. n.now) names.now)) }
+) -> Result<Names<'t, 'a, A>, AllocError>
+    ensures { IfOk result (λ set. map (λ n. n.now) set.items ≡ set_of name_cmp (map (λ n. n.now) names.now)) }
 {
-    let mut set = NameList::new(alloc);
+    let mut set = Vec::with_capacity(alloc, names.len())?;
     for i in 0..names.len() {
-        set.put(names[i].as_bytes())?;
+        set.push(names[i].as_bytes())?;
     }
+    sort_dedup(&mut set);
     Ok(set)
 }
 
@@ -64,8 +66,8 @@ fn name_set<'t, 'a, A: Allocator>(
 fn written_of<'t, 'a, A: Allocator>(
     alloc: &'a A,
     names: &[&'t str],
-    stem: &[RowSet],
-    cycle: &[RowSet],
+    stem: &[PropositionSet],
+    cycle: &[PropositionSet],
 ) -> Result<Written<'t, 'a, A>, AllocError>
     requires stem { AllByRecursion (AllByRecursion (λ i. i < length names.now)) stem.now }
     requires cycle { AllByRecursion (AllByRecursion (λ i. i < length names.now)) cycle.now }
@@ -86,8 +88,8 @@ impl<'a, A: Allocator> Lasso<'a, A> {
     pub fn new(
         alloc: &'a A,
         names: &[&str],
-        stem: &[RowSet],
-        cycle: &[RowSet],
+        stem: &[PropositionSet],
+        cycle: &[PropositionSet],
     ) -> Result<Lasso<'a, A>, AllocError>
         requires propositions { IsTrue (list_all is_proposition (map (λ n. n.now) names.now)) }
         requires few { length names.now ≤ NAME_LIMIT }
@@ -97,6 +99,6 @@ impl<'a, A: Allocator> Lasso<'a, A> {
     {
         let set = name_set(alloc, names)?;
         let word = written_of(alloc, names, stem, cycle)?;
-        Lasso::from_written(alloc, &set, &word)
+        Lasso::from_written(alloc, set.as_slice(), &word)
     }
 }

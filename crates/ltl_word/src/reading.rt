@@ -26,6 +26,6 @@ impl<'a, A: Allocator> Lasso<'a, A> {
         }
         let word = read_letters(alloc, text)?;
         let names = gather(alloc, formula, &word)?;
-        Ok(Lasso::from_written(alloc, &names, &word)?)
+        Ok(Lasso::from_written(alloc, names.as_slice(), &word)?)
     }
 }

@@ -1,1 +1,2 @@
+pub mod ComparerLaws
 pub mod WordLaws

@@ -1,3 +1,4 @@
+pub mod Comparer
 pub mod Plans
 pub mod Tools
 pub mod Words

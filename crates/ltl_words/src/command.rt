@@ -21,7 +21,7 @@ fn flag<'a>(alloc: Global, id: &'a str, short: char) -> Arg<'a>
 }
 
 /// An option with a value.
-fn value<'a>(alloc: Global, id: &'a str, short: char) -> Arg<'a>
+pub(crate) fn value<'a>(alloc: Global, id: &'a str, short: char) -> Arg<'a>
     ensures rule { rule_of result ≡ value_rule id.entry.now short }
     ensures local { result.global ≡ false }
 {

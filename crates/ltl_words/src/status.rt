@@ -6,9 +6,9 @@ ghost use Rattle.ltl_words.specs.Tools.{status_number};
 /// The exit status of a program.
 #[derive(Clone, Copy, Debug, PartialEq, Eq)]
 pub enum Status {
-    /// The automaton was printed, every word satisfies the formula, or the formula holds on the word.
+    /// The automaton was printed, every word satisfies the formula, the formula holds on the word, or the formulas are equivalent.
     Done,
-    /// A word violates the formula, or the formula doesn't hold on the word.
+    /// A word violates the formula, the formula doesn't hold on the word, or the formulas aren't equivalent.
     Violated,
     /// The command line is wrong.
     Usage,

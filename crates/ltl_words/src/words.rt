@@ -16,7 +16,10 @@ use ltl_models::Options;
 use std::alloc::Global;
 
 /// The formula, if exactly one of `-f` and `-F` was given.
-fn one_formula<'a>(text: Option<&'a str>, path: Option<&'a str>) -> Option<FormulaWord<'a>>
+pub(crate) fn one_formula<'a>(
+    text: Option<&'a str>,
+    path: Option<&'a str>,
+) -> Option<FormulaWord<'a>>
     ensures { option_map formula_word result
         ≡ formula_among (option_map (λ s. s.now) text.entry) (option_map (λ s. s.now) path.entry) }
 {

@@ -7,7 +7,7 @@ use Rattle.std.proofs.lemmas.Option.{slice_get_past, none-some}
 use Rattle.ltl_spec.specs.Collections.Sets.{Has}
 use Rattle.ltl_spec.specs.Semantics.Word.{Name}
 use Rattle.ltl_spec.specs.Transitions.Cubes.{Literal, Cube}
-use Rattle.ltl_spec.specs.Formulas.Formula.{Formula, Reading, Constant, Proposition, Unary, Binary, Not, Next, Always, Eventually, And, Or, Implies, Iff, Until, Release}
+use Rattle.ltl_spec.specs.Formulas.Formula.{Formula, Reading, Constant, Proposition, Unary, Binary, Not, Next, And, Or, Until, Release}
 use Rattle.ltl_spec.proofs.Formulas.CanonicalLaws.{HasNames, IsNamed, named_within}
 use Rattle.ltl_spec.specs.NormalForms.Normal.{Normal, Top, Bottom, Leaf, Next, And, Or, Until, Release, same}
 use Rattle.ltl_spec.specs.NormalForms.NormalForm.{normal_form, is_eventually, is_always, simple_and, simple_or, simple_until, simple_release, simple_form, core, postorder, rows, is_elementary, elementary_rows}
@@ -42,16 +42,10 @@ module _ (n : ℕ) where
   normal_below (Constant true) h = (tt, tt)
   normal_below (Constant false) h = (tt, tt)
   normal_below (Proposition p) h = (h, h)
-  normal_below (Unary Not a) h = let w = normal_below a h in (w.1, w.0)
-  normal_below (Unary Next a) h = normal_below a h
-  normal_below (Unary Always a) h = let w = normal_below a h in ((tt, w.0), (tt, w.1))
-  normal_below (Unary Eventually a) h = let w = normal_below a h in ((tt, w.0), (tt, w.1))
-  normal_below (Binary And a b) h = let v = normal_below a h.0 in let w = normal_below b h.1 in ((v.0, w.0), (v.1, w.1))
-  normal_below (Binary Or a b) h = let v = normal_below a h.0 in let w = normal_below b h.1 in ((v.0, w.0), (v.1, w.1))
-  normal_below (Binary Implies a b) h = let v = normal_below a h.0 in let w = normal_below b h.1 in ((v.1, w.0), (v.0, w.1))
-  normal_below (Binary Iff a b) h = let v = normal_below a h.0 in let w = normal_below b h.1 in (((v.0, w.0), (v.1, w.1)), ((v.1, w.1), (v.0, w.0)))
-  normal_below (Binary Until a b) h = let v = normal_below a h.0 in let w = normal_below b h.1 in ((v.0, w.0), (v.1, w.1))
-  normal_below (Binary Release a b) h = let v = normal_below a h.0 in let w = normal_below b h.1 in ((v.0, w.0), (v.1, w.1))
+  normal_below (Unary Not a) h = let w = normal_below a h in search
+  normal_below (Unary _ a) h = let w = normal_below a h in search
+  normal_below (Binary And a b) h = let v = normal_below a h.0 in let w = normal_below b h.1 in search
+  normal_below (Binary _ a b) h = let v = normal_below a h.0 in let w = normal_below b h.1 in search
 
   -- what holds of two outcomes holds of the choice
   chosen_below : (t : Bool) (a b : Normal) → HasLeavesBelow n a → HasLeavesBelow n b → HasLeavesBelow n (cond t a b)

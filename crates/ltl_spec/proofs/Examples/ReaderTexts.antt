@@ -4,7 +4,7 @@ use Rattle.ltl_spec.specs.Formulas.Formula.{Constant, Proposition, Unary, Binary
 use Rattle.ltl_spec.specs.Formulas.Tokens.{items}
 use Rattle.ltl_spec.specs.Formulas.Canonical.{canonical_text}
 use Rattle.ltl_spec.specs.Formulas.Fault.{UnexpectedByte, ExpectedOperand, ExpectedOperatorOrEnd, ExpectedCloseOrOperator}
-use Rattle.ltl_spec.proofs.Formulas.GrammarMachine.{Wanting}
+use Rattle.ltl_spec.proofs.Formulas.GrammarMachine.{Wanting, left_rank, right_rank}
 use Rattle.ltl_spec.proofs.Formulas.ReaderLaws.{Verdict, verdict}
 
 -- the verdict on a text
@@ -48,6 +48,10 @@ verdicts =
 
 verdicts_hold : map (λ e. e.0) verdicts ≡ map (λ e. e.1) verdicts
 verdicts_hold = refl
+
+-- the greatest ranks of both operands of each operator
+operand_ranks : map {B = ℕ × ℕ} (λ op. (left_rank op, right_rank op)) (Until ∷ Release ∷ And ∷ Or ∷ Implies ∷ Iff ∷ []) ≡ (1, 0) ∷ (1, 0) ∷ (2, 1) ∷ (3, 2) ∷ (3, 4) ∷ (5, 4) ∷ []
+operand_ranks = refl
 
 -- the canonical text has the signs
 letters_printed : canonical_text (record { formula = Unary Always (Unary Eventually (Proposition 0)); names = codes "p" ∷ [] }) ≡ codes "[]<>p"

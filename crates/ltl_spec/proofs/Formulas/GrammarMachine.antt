@@ -1,15 +1,16 @@
 -- A reader with one explicit stack: it goes over the tokens once, from the left, and answers the formula.
 -- The stack's top is the head of its list.
-use Rattle.std.proofs.Common.{◌≡◌, ℕ, zero, suc, ◌<◌, ◌≤◌, true, false, cond, nat_le, List, [], ◌∷◌, ◌++◌, fold, Option, Some, None, slice_get, refl, sym, ◌∙◌, ap, subst, arith, le-leb, leb-true, leb-false, append_assoc, append-nil}
-use Rattle.std.proofs.lemmas.Bool.{lt-leb, false≢true, true≢false}
-use Rattle.std.specs.Prelude.{⊤}
+use Rattle.std.proofs.Common.{◌≡◌, ℕ, zero, suc, ◌-◌, ◌<◌, ◌≤◌, true, false, cond, nat_eq, nat_le, List, [], ◌∷◌, ◌++◌, fold, Option, Some, None, slice_get, refl, sym, ◌∙◌, ap, subst, arith, le-leb, leb-true, leb-false, append_assoc, append-nil}
+use Rattle.std.proofs.lemmas.Bool.{lt-leb}
+use Rattle.std.proofs.lemmas.Bool.Decides.{nat_tests}
+use Rattle.std.specs.Prelude.{⊤, if◌then◌else◌}
 use Rattle.std.specs.List.{AllByRecursion}
 use Rattle.std.proofs.lemmas.Option.{slice_get-get_or, same_Some}
 use Rattle.std.proofs.lemmas.Slice.Eq.{bytes_eq-Decides}
 use Rattle.ltl_spec.specs.Collections.Sets.{Has}
 use Rattle.ltl_spec.specs.Collections.Lists.{HasNoRepeats, place_of}
 use Rattle.ltl_spec.specs.Semantics.Word.{Name}
-use Rattle.ltl_spec.specs.Formulas.Formula.{Formula, Constant, Proposition, Unary, Binary, BinaryOperator, And, Or, Implies, Iff, Until, Release}
+use Rattle.ltl_spec.specs.Formulas.Formula.{Formula, Constant, Proposition, Unary, Binary, BinaryOperator, Implies, Until}
 use Rattle.ltl_spec.specs.Formulas.Tokens.{Token, ConstantWord, NameWord, UnarySign, BinarySign, Open, Close, same_name}
 use Rattle.ltl_spec.proofs.Collections.ListLaws.{place_below, at_place}
 use Rattle.ltl_spec.specs.Formulas.Grammar.{Parses, of_constant, of_name, of_brackets, of_unary, of_tighter, of_left, of_right, rank_of, groups_right}
@@ -18,12 +19,7 @@ pub use Rattle.ltl_spec.specs.Formulas.GrammarMachine.{Frame, Bracket, Prefix, P
 
 -- and of a right one
 abbrev pub right_rank : BinaryOperator → ℕ
-right_rank Until = 0
-right_rank Release = 0
-right_rank And = 1
-right_rank Or = 2
-right_rank Implies = 4
-right_rank Iff = 4
+right_rank op = if groups_right op then rank_of op else rank_of op - 1
 
 -- the same from a reader that may be stuck
 abbrev pub read_on : List Name → Option Reader → Token → Option Reader
@@ -45,40 +41,23 @@ read names ts = finished_if (run names (Some (Wanting [])) ts)
 
 -- ranks
 
--- an operator stays open before another exactly where the other may stand in its right operand
-pub stays_open : (op op' : BinaryOperator) → left_rank op < rank_of op' → rank_of op ≤ right_rank op'
-stays_open Until Until l = omega arith
-stays_open Until _ l = omega arith
-stays_open Release Until l = omega arith
-stays_open Release _ l = omega arith
-stays_open And Until l = omega arith
-stays_open And _ l = omega arith
-stays_open Or Until l = omega arith
-stays_open Or _ l = omega arith
-stays_open Implies Until l = omega arith
-stays_open Implies _ l = omega arith
-stays_open Iff Until l = omega arith
-stays_open Iff _ l = omega arith
-
--- and the other way round
-pub opens_again : (op op' : BinaryOperator) → rank_of op ≤ right_rank op' → left_rank op < rank_of op'
-opens_again Until Until l = omega arith
-opens_again Until _ l = omega arith
-opens_again Release Until l = omega arith
-opens_again Release _ l = omega arith
-opens_again And Until l = omega arith
-opens_again And _ l = omega arith
-opens_again Or Until l = omega arith
-opens_again Or _ l = omega arith
-opens_again Implies Until l = omega arith
-opens_again Implies _ l = omega arith
-opens_again Iff Until l = omega arith
-opens_again Iff _ l = omega arith
-
 -- the bounds of the ranks
 pub rank_bounds : (op : BinaryOperator) → (1 ≤ rank_of op) × (rank_of op ≤ 5) × (left_rank op ≤ rank_of op) × (right_rank op ≤ rank_of op)
 rank_bounds Until = omega arith
 rank_bounds _ = omega arith
+
+-- operators of one rank group to one side
+grouping : (op : BinaryOperator) → groups_right op ≡ nat_eq (rank_of op) 4
+grouping Until = refl
+grouping _ = refl
+
+-- an operator stays open before another exactly where the other may stand in its right operand
+stays_open : (op op' : BinaryOperator) → left_rank op < rank_of op' → rank_of op ≤ right_rank op'
+stays_open op op' l = let b = rank_bounds op in let e = grouping op in let f = grouping op' in grind (arith, nat_tests)
+
+-- and the other way round
+opens_again : (op op' : BinaryOperator) → rank_of op ≤ right_rank op' → left_rank op < rank_of op'
+opens_again op op' l = let b = rank_bounds op in let e = grouping op in let f = grouping op' in grind (arith, nat_tests)
 
 -- the steps of closing
 
@@ -102,23 +81,16 @@ of_higher {names} (suc n) m ts F l d =
 -- a binary operator with its operands, however it groups
 pub of_binary : {names : List Name} (op : BinaryOperator) (xs ys us : List Token) (a b : Formula)
     → us ≡ xs ++ BinarySign op ∷ ys → Parses names (left_rank op) xs a → Parses names (right_rank op) ys b → Parses names (rank_of op) us (Binary op a b)
-of_binary Until xs ys us a b e d f = of_left Until 0 xs ys us a b refl refl e d f
-of_binary Release xs ys us a b e d f = of_left Release 0 xs ys us a b refl refl e d f
-of_binary And xs ys us a b e d f = of_left And 1 xs ys us a b refl refl e d f
-of_binary Or xs ys us a b e d f = of_left Or 2 xs ys us a b refl refl e d f
 of_binary Implies xs ys us a b e d f = of_right Implies 3 xs ys us a b refl refl e d f
-of_binary Iff xs ys us a b e d f = of_left Iff 4 xs ys us a b refl refl e d f
+of_binary op xs ys us a b e d f = of_left op (rank_of op - 1) xs ys us a b refl refl e d f
 
 -- the ranks of the operands of an operator that groups to the left
 left_ranks : (op : BinaryOperator) (r : ℕ) → rank_of op ≡ suc r → groups_right op ≡ false → (left_rank op ≡ suc r) × (right_rank op ≡ r)
-left_ranks Implies r e g = absurd (true≢false g)
-left_ranks Until r e g = omega arith
-left_ranks _ r e g = omega arith
+left_ranks op r e g = grind (arith, nat_tests)
 
 -- and of one that groups to the right
 right_ranks : (op : BinaryOperator) (r : ℕ) → rank_of op ≡ suc r → groups_right op ≡ true → (left_rank op ≡ r) × (right_rank op ≡ suc r)
-right_ranks Implies r e g = omega arith
-right_ranks _ r e g = absurd (false≢true g)
+right_ranks op r e g = grind (arith, nat_tests)
 
 -- what the reader has read
 

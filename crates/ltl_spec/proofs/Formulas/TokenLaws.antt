@@ -175,7 +175,7 @@ sign_proper p (s ∷ ss) a = elim (p s) as (λ b. IsProper (sign_token (cond b (
 
 -- no sign is a name
 signs_proper : AllByRecursion (λ s. IsProper s.1) signs
-signs_proper = (tt, (tt, (tt, (tt, (tt, (tt, (tt, (tt, (tt, (tt, (tt, (tt, (tt, (tt, (tt, (tt, (tt, tt)))))))))))))))))
+signs_proper = search
 
 -- a first token is proper
 first_proper : (b : ℕ) (bs : List ℕ) → IsProper (first_token b bs).0
@@ -225,7 +225,7 @@ first_length b bs =
     elim (is_lower b) as (λ l. is_lower b ≡ l
     → 1 ≤ (cond l (word_token (take_while is_name_byte (b ∷ bs)), length (take_while is_name_byte (b ∷ bs))) (sign_token (find (λ s. starts_with nat_eq (b ∷ bs) s.0) signs))).1) [
       | true ↦ λ l. subst (λ w. 1 ≤ length w) (sym (word_is l)) (omega arith)
-      | false ↦ λ l. sign_length (λ s. starts_with nat_eq (b ∷ bs) s.0) signs (omega arith, (omega arith, (omega arith, (omega arith, (omega arith, (omega arith, (omega arith, (omega arith, (omega arith, (omega arith, (omega arith, (omega arith, (omega arith, (omega arith, (omega arith, (omega arith, (omega arith, tt)))))))))))))))))
+      | false ↦ λ l. sign_length (λ s. starts_with nat_eq (b ∷ bs) s.0) signs (search arith)
     ] refl
   where
     word_is : is_lower b ≡ true → take_while is_name_byte (b ∷ bs) ≡ b ∷ take_while is_name_byte bs

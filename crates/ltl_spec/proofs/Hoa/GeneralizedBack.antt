@@ -9,10 +9,10 @@ use Rattle.std.proofs.lemmas.List.{append-nil, map-id}
 use Rattle.ltl_spec.specs.Collections.Sets.{Has, IsRising, set_of}
 use Rattle.ltl_spec.specs.Collections.Lists.{HasNoRepeats}
 use Rattle.ltl_spec.specs.Semantics.Word.{Name}
-use Rattle.ltl_spec.specs.Formulas.Formula.{Formula, Constant, Proposition, Unary, Binary, UnaryOperator, Not, BinaryOperator, And, Reading}
-use Rattle.ltl_spec.specs.Formulas.Canonical.{formula_text, canonical_text, unary_text, binary_text}
-use Rattle.ltl_spec.specs.Formulas.Tokens.{is_lower, is_name_byte}
-use Rattle.ltl_spec.specs.Formulas.Names.{is_proposition, is_constant}
+use Rattle.ltl_spec.specs.Formulas.Formula.{UnaryOperator, Not, BinaryOperator, And, Reading}
+use Rattle.ltl_spec.specs.Formulas.Canonical.{canonical_text, unary_text, binary_text}
+use Rattle.ltl_spec.specs.Formulas.Tokens.{is_name_byte}
+use Rattle.ltl_spec.specs.Formulas.Names.{is_proposition}
 use Rattle.ltl_spec.specs.Transitions.Cubes.{literal_cmp, is_contradictory}
 use Rattle.ltl_spec.specs.Automata.Automaton.{Automaton, Edge, State, state_at}
 use Rattle.ltl_spec.specs.Automata.ClaimText.{line}
@@ -23,11 +23,11 @@ use Rattle.ltl_spec.specs.Hoa.HoaToken.{HoaToken, StringToken, Identifier, Heade
 use Rattle.ltl_spec.specs.Hoa.HoaLabel.{is_wide}
 use Rattle.ltl_spec.specs.Hoa.HoaReading.{AcceptanceForm, StatesItem, StartItem, SetsItem, NamesItem, OtherItem, WrittenEdge, WrittenState, HoaDocument, document_tokens, state_tokens, header_item_tokens, MarkedAutomaton, cube_edges, state_edges, edges_at, is_plain, is_edge_inside, is_state_inside, are_sets, HoaReadsWithin}
 use Rattle.ltl_spec.specs.Hoa.HoaPrinted.{IsPrintedEdge, IsPrinted, marked_of}
-use Rattle.ltl_spec.proofs.Collections.CaseLaws.{left_true, right_true}
 use Rattle.ltl_spec.proofs.Collections.SetLaws.{set_of_same}
 use Rattle.ltl_spec.proofs.Collections.Orders.{nat_linear}
 use Rattle.ltl_spec.proofs.Collections.ListLaws.{Has-at, All-at_has}
-use Rattle.ltl_spec.proofs.Collections.MemberLaws.{all_Decides, all_append, all_weaker, map_cases, map_length}
+use Rattle.ltl_spec.proofs.Collections.MemberLaws.{all_Decides, map_cases, map_length}
+use Rattle.ltl_spec.proofs.Formulas.ByteLaws.{proposition_bytes, formula_bytes}
 use Rattle.ltl_spec.proofs.Hoa.HoaLaws.{one_automaton}
 use Rattle.ltl_spec.proofs.Hoa.SpelledLaws.{Spells, spells_all, is_clean}
 use Rattle.ltl_spec.proofs.Hoa.SpelledStates.{format_line, name_line, states_line, start_line, names_spelled, name_of_acceptance, acceptance_name_line, acceptance_line, properties_line, body_line, end_line, cube_label, written_marks, IsSmallEdge, state_spelled}
@@ -36,46 +36,22 @@ use Rattle.ltl_spec.proofs.Collections.FoundLaws.{map_same, map_equal}
 
 -- ---- no `"` and no `\` stands in a formula's text
 
-pub name_byte_clean : (b : ℕ) → is_name_byte b ≡ true → is_clean b ≡ true
+name_byte_clean : (b : ℕ) → is_name_byte b ≡ true → is_clean b ≡ true
 name_byte_clean b e = grind (arith, nat_tests, e)
 
-pub proposition_clean : (n : Name) → is_proposition n ≡ true → list_all is_clean n ≡ true
-proposition_clean [] e = refl
-proposition_clean (b ∷ bs) e =
-    let bytes = parts (is_lower b) (list_all is_name_byte bs) (not (is_constant (b ∷ bs))) e in
-    let low : is_clean b ≡ true = grind (arith, nat_tests, bytes.0) in
-    ap (λ c. c && list_all is_clean bs) low ∙ all_weaker is_name_byte is_clean name_byte_clean bs bytes.1
-  where
-    parts : (r s t : Bool) → (r && s && t) ≡ true → (r ≡ true) × (s ≡ true)
-    parts true true t e = (refl, refl)
-    parts true false t e = cc
-    parts false s t e = cc
+name_clean : (names : List Name) → list_all is_proposition names ≡ true → (n : Name) → Has names n → list_all is_clean n ≡ true
+name_clean names e n h = proposition_bytes is_clean name_byte_clean n ((all_Decides is_proposition names).0 e n h)
 
-pub name_clean : (names : List Name) → list_all is_proposition names ≡ true → (n : Name) → Has names n → list_all is_clean n ≡ true
-name_clean names e n h = proposition_clean n ((all_Decides is_proposition names).0 e n h)
-
-pub name_at_clean : (names : List Name) → list_all is_proposition names ≡ true → (p : ℕ) → list_all is_clean (slice_index_or names p []) ≡ true
-name_at_clean [] e p = refl
-name_at_clean (n ∷ names) e zero = proposition_clean n (left_true (is_proposition n) _ e)
-name_at_clean (n ∷ names) e (suc p) = name_at_clean names (right_true (is_proposition n) _ e) p
-
-pub unary_clean : (op : UnaryOperator) → list_all is_clean (unary_text op) ≡ true
+unary_clean : (op : UnaryOperator) → list_all is_clean (unary_text op) ≡ true
 unary_clean Not = refl
 unary_clean _ = refl
 
-pub binary_clean : (op : BinaryOperator) → list_all is_clean (binary_text op) ≡ true
+binary_clean : (op : BinaryOperator) → list_all is_clean (binary_text op) ≡ true
 binary_clean And = refl
 binary_clean _ = refl
 
-pub formula_clean : (names : List Name) → list_all is_proposition names ≡ true → (f : Formula) → list_all is_clean (formula_text names f) ≡ true
-formula_clean names e (Constant true) = refl
-formula_clean names e (Constant false) = refl
-formula_clean names e (Proposition p) = name_at_clean names e p
-formula_clean names e (Unary op a) = all_append is_clean (unary_text op) (formula_text names a) (unary_clean op) (formula_clean names e a)
-formula_clean names e (Binary op a b) =
-    all_append is_clean (codes "(" ++ formula_text names a ++ binary_text op ++ formula_text names b) (codes ")")
-    (all_append is_clean (codes "(" ++ formula_text names a ++ binary_text op) (formula_text names b)
-    (all_append is_clean (codes "(" ++ formula_text names a) (binary_text op) (formula_clean names e a) (binary_clean op)) (formula_clean names e b)) refl
+formula_clean : (R : Reading) → list_all is_proposition R.names ≡ true → list_all is_clean (canonical_text R) ≡ true
+formula_clean R e = formula_bytes is_clean name_byte_clean unary_clean binary_clean refl refl R.names e R.formula
 
 -- ---- numbers in a row
 
@@ -232,7 +208,7 @@ module _ (l : Limits) (A : Automaton) (R : Reading) (f : Form) where
         let states = spells_all f.lines state_in state_tokens numbers (λ k h. p.lines k (numbered k h)) in (
           format_line,
           (
-            name_line (canonical_text R) (formula_clean R.names p.propositions R.formula),
+            name_line (canonical_text R) (formula_clean R p.propositions),
             (
               states_line (length A.states) (small_length (length A.states) l.hoa_states p.few_states p.small.0),
               (

@@ -137,13 +137,13 @@ spells_all f h g (x ∷ xs) e = spells_both (f x) (flat_map f xs) (g (h x)) (fla
 
 -- how a number is written
 pub record IsWritten (n : ℕ) (ds : List ℕ) : Type 0 where
-  first : ℕ
-  rest : List ℕ
-  spelled : ds ≡ first ∷ rest
-  digit : is_digit first ≡ true
-  digits : list_all is_digit rest ≡ true
-  value : number_of ds ≡ n
-  leads : 0 < n → (first == 48) ≡ false
+  pub first : ℕ
+  pub rest : List ℕ
+  pub spelled : ds ≡ first ∷ rest
+  pub digit : is_digit first ≡ true
+  pub digits : list_all is_digit rest ≡ true
+  pub value : number_of ds ≡ n
+  pub leads : 0 < n → (first == 48) ≡ false
 
 pub decimal_written : (n : ℕ) → n < 2 ^ 64 → IsWritten n (decimal n)
 decimal_written = decimal_by_steps IsWritten one more

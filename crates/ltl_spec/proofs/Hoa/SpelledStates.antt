@@ -80,7 +80,7 @@ mapped_pieces : {K : Type 0} (between : List ℕ) (f : K → List ℕ) (xs : Lis
 mapped_pieces between f [] = refl
 mapped_pieces between f (x ∷ xs) = ap (λ t. (between ++ f x) ++ t) (mapped_pieces between f xs)
 
-joined_text : {K : Type 0} (between : List ℕ) (f : K → List ℕ) (x : K) (xs : List K) → joined_by between (map f (x ∷ xs)) ≡ f x ++ flat_map (λ y. between ++ f y) xs
+pub joined_text : {K : Type 0} (between : List ℕ) (f : K → List ℕ) (x : K) (xs : List K) → joined_by between (map f (x ∷ xs)) ≡ f x ++ flat_map (λ y. between ++ f y) xs
 joined_text between f x xs = joined_pieces between (f x) (map f xs) ∙ ap (λ t. f x ++ t) (mapped_pieces between f xs)
 
 more_sets : (a n : ℕ) → a + n < 2 ^ 64 → Spells (flat_map (λ k. codes "&" ++ set_text k) (range_with_len a n)) (flat_map (λ k. AndSign ∷ set_tokens k) (range_with_len a n))

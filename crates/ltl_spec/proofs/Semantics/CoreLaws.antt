@@ -7,7 +7,7 @@ use Rattle.ltl_spec.specs.NormalForms.Normal.{Normal}
 use Rattle.ltl_spec.specs.NormalForms.NormalForm.{normal_form, core}
 use Rattle.ltl_spec.specs.Semantics.NormalSatisfaction.{Holds}
 use Rattle.ltl_spec.proofs.Semantics.LassoLaws.{decide_until}
-use Rattle.ltl_spec.proofs.Semantics.NormalFormLaws.{decided, to_yes, to_no, from_yes, from_no}
+use Rattle.ltl_spec.proofs.Semantics.NormalFormLaws.{decided, no_form, yes_form}
 use Rattle.ltl_spec.proofs.Semantics.SimplifiedLaws.{alike_simple_form}
 
 module _ (names : List Name) (w : Lasso) (cycles : 0 < length w.cycle) where
@@ -20,11 +20,15 @@ module _ (names : List Name) (w : Lasso) (cycles : 0 < length w.cycle) where
   satisfies_decided = decided (is_true_at names w) (next w) (decide_until w cycles)
 
   pub core_holds : (F : Formula) (rewrite : Bool) (i : ℕ) → Satisfies names w i F ↔ NormalHolds (core F false rewrite) i
-  core_holds F true i = let a = alike_simple_form (is_true_at names w) (next w) (normal_form true F) in
-      (λ h. a.from i (to_yes (is_true_at names w) (next w) (decide_until w cycles) F i h), λ h. from_yes (is_true_at names w) (next w) (decide_until w cycles) F i (a.to i h))
-  core_holds F false i = (to_yes (is_true_at names w) (next w) (decide_until w cycles) F i, from_yes (is_true_at names w) (next w) (decide_until w cycles) F i)
+  core_holds F true i =
+      let a = alike_simple_form (is_true_at names w) (next w) (normal_form true F) in
+      let h = yes_form (is_true_at names w) (next w) (decide_until w cycles) F i in
+      ((λ s. a.from i (h.0 s)), λ n. h.1 (a.to i n))
+  core_holds F false i = yes_form (is_true_at names w) (next w) (decide_until w cycles) F i
 
   pub negated_core_holds : (F : Formula) (rewrite : Bool) (i : ℕ) → (¬ (Satisfies names w i F)) ↔ NormalHolds (core F true rewrite) i
-  negated_core_holds F true i = let a = alike_simple_form (is_true_at names w) (next w) (normal_form false F) in
-      (λ h. a.from i (to_no (is_true_at names w) (next w) (decide_until w cycles) F i h), λ h. from_no (is_true_at names w) (next w) (decide_until w cycles) F i (a.to i h))
-  negated_core_holds F false i = (to_no (is_true_at names w) (next w) (decide_until w cycles) F i, from_no (is_true_at names w) (next w) (decide_until w cycles) F i)
+  negated_core_holds F true i =
+      let a = alike_simple_form (is_true_at names w) (next w) (normal_form false F) in
+      let h = no_form (is_true_at names w) (next w) (decide_until w cycles) F i in
+      ((λ s. a.from i (h.0 s)), λ n. h.1 (a.to i n))
+  negated_core_holds F false i = no_form (is_true_at names w) (next w) (decide_until w cycles) F i

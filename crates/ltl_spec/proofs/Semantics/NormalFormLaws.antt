@@ -1,145 +1,113 @@
 -- The normal form of a formula holds where the formula holds, and that of its negation where it doesn't.
-use Rattle.std.proofs.Common.{◌≡◌, ℕ, Bool, true, false, inl, inr, refl, sym, ◌∙◌}
-use Rattle.std.proofs.lemmas.Bool.{true≢false, false_from_ne_true}
+use Rattle.std.proofs.Common.{ℕ, Bool, true, false, inl, inr, refl, sym, ◌∙◌}
+use Rattle.std.specs.Prelude.{◌⊎◌, ◌↔◌}
+use Rattle.std.proofs.lemmas.Bool.{cases_Bool, true≢false}
 use Rattle.ltl_spec.specs.Formulas.Formula.{Formula, Constant, Proposition, Unary, Binary, Not, Next, Always, Eventually, And, Or, Implies, Iff, Until, Release}
 use Rattle.ltl_spec.specs.Semantics.Satisfaction.{HoldsUntil, HoldsRelease, Satisfied}
 use Rattle.ltl_spec.specs.NormalForms.NormalForm.{normal_form}
 use Rattle.ltl_spec.specs.Semantics.NormalSatisfaction.{Holds}
-use Rattle.ltl_spec.proofs.Semantics.UntilLaws.{stable, not_decided, and_decided, or_decided, until_map, release_map, release_from_not_until, until_from_not_release, not_until_from_release, not_release_from_until, release_decided}
+use Rattle.ltl_spec.proofs.Semantics.UntilLaws.{until_map, release_map, release_from_not_until, not_until_from_release, not_release_from_until}
 
-bool_is : (b : Bool) → Dec (b ≡ true)
-bool_is true = yes refl
-bool_is false = no (λ e. true≢false (sym e))
+-- Y holds only where P does, N only where P doesn't, and one of them everywhere
+record Agrees (P Y N : ℕ → Type 0) : Type 0 where
+  holds : (i : ℕ) → Y i → P i
+  fails : (i : ℕ) → N i → ¬ (P i)
+  one : (i : ℕ) → Y i ⊎ N i
 
-implies_decided : {P Q : Type 0} → Dec P → Dec Q → Dec (P → Q)
-implies_decided (no n) q = yes (λ p. absurd (n p))
-implies_decided (yes p) (yes q) = yes (λ _. q)
-implies_decided (yes p) (no m) = no (λ f. m (f p))
+swapped : {P Q : Type 0} → P ⊎ Q → Q ⊎ P
+swapped (inl p) = inr p
+swapped (inr q) = inl q
 
-never : ℕ → Dec ⊥
-never i = no (λ x. x)
+module _ {P Y N : ℕ → Type 0} (g : Agrees P Y N) where
+  form_decided : (i : ℕ) → Dec (Y i)
+  form_decided i = elim (g.one i) [ inl y ↦ yes y | inr n ↦ no (λ y. g.fails i n (g.holds i y)) ]
 
-always : ℕ → Dec (Unit {0})
-always i = yes tt
+  other_form : (i : ℕ) → ¬ (Y i) → N i
+  other_form i m = elim (g.one i) [ inl y ↦ absurd (m y) | inr n ↦ n ]
 
-same_never : (i : ℕ) → ⊥ → ⊥
-same_never i x = x
+  not_agrees : Agrees (λ i. ¬ (P i)) N Y
+  not_agrees = record { holds = g.fails; fails = λ i y n. n (g.holds i y); one = λ i. swapped (g.one i) }
 
-same_always : (i : ℕ) → Unit {0} → Unit {0}
-same_always i x = x
+  -- so it does for what holds at the same positions
+  also_agrees : (Q : ℕ → Type 0) → ((i : ℕ) → P i → Q i) → ((i : ℕ) → Q i → ¬ (¬ (P i))) → Agrees Q Y N
+  also_agrees Q to from = record { holds = λ i y. to i (g.holds i y); fails = λ i n q. from i q (g.fails i n); one = g.one }
 
-from_never : (i : ℕ) → ⊥ → ¬ (Unit {0})
-from_never i x = absurd x
+-- the operators
 
-to_never : (i : ℕ) → ¬ (Unit {0}) → ⊥
-to_never i n = n tt
+module _ {P Y N Q Z M : ℕ → Type 0} (g : Agrees P Y N) (h : Agrees Q Z M) where
+  and_agrees : Agrees (λ i. P i × Q i) (λ i. Y i × Z i) (λ i. N i ⊎ M i)
+  and_agrees = record {
+    holds = λ i w. (g.holds i w.0, h.holds i w.1);
+    fails = λ i w p. elim w [ inl n ↦ g.fails i n p.0 | inr m ↦ h.fails i m p.1 ];
+    one = λ i. elim (g.one i) [ inl y ↦ elim (h.one i) [ inl z ↦ inl (y, z) | inr m ↦ inr (inr m) ] | inr n ↦ inr (inl n) ];
+  }
 
-from_always : (i : ℕ) → Unit {0} → ¬ ⊥
-from_always i t = λ x. x
+  or_agrees : Agrees (λ i. P i ⊎ Q i) (λ i. Y i ⊎ Z i) (λ i. N i × M i)
+  or_agrees = record {
+    holds = λ i w. elim w [ inl y ↦ inl (g.holds i y) | inr z ↦ inr (h.holds i z) ];
+    fails = λ i w p. elim p [ inl x ↦ g.fails i w.0 x | inr x ↦ h.fails i w.1 x ];
+    one = λ i. elim (g.one i) [ inl y ↦ inl (inl y) | inr n ↦ elim (h.one i) [ inl z ↦ inl (inr z) | inr m ↦ inr (n, m) ] ];
+  }
 
-to_always : (i : ℕ) → ¬ ⊥ → Unit {0}
-to_always i n = tt
+implies_agrees : {P Y N Q Z M : ℕ → Type 0} → Agrees P Y N → Agrees Q Z M → Agrees (λ i. P i → Q i) (λ i. N i ⊎ Z i) (λ i. Y i × M i)
+implies_agrees g h =
+    also_agrees (or_agrees (not_agrees g) h) _ (λ i w p. elim w [ inl n ↦ absurd (n p) | inr q ↦ q ]) (λ i f k. k (inl (λ p. k (inr (f p)))))
+
+iff_agrees : {P Y N Q Z M : ℕ → Type 0} → Agrees P Y N → Agrees Q Z M → Agrees (λ i. P i ↔ Q i) (λ i. (Y i × Z i) ⊎ (N i × M i)) (λ i. (N i ⊎ M i) × (Y i ⊎ Z i))
+iff_agrees g h =
+    also_agrees (or_agrees (and_agrees g h) (and_agrees (not_agrees g) (not_agrees h))) _
+    (λ i w. elim w [ inl b ↦ ((λ _. b.1), λ _. b.0) | inr n ↦ ((λ p. absurd (n.0 p)), λ q. absurd (n.1 q)) ])
+    (λ i f k. k (inr ((λ p. k (inl (p, f.0 p))), λ q. k (inl (f.1 q, q)))))
+
+always_agrees : Agrees (λ _. Unit {0}) (λ _. Unit {0}) (λ _. ⊥)
+always_agrees = record { holds = λ i h. h; fails = λ i h. absurd h; one = λ i. inl tt }
+
+never_agrees : Agrees (λ _. ⊥) (λ _. ⊥) (λ _. Unit {0})
+never_agrees = record { holds = λ i h. h; fails = λ i t h. h; one = λ i. inr tt }
 
 module _ (truth : ℕ → ℕ → Bool) (step : ℕ → ℕ) (decide_until : (a b : ℕ → Type 0) → ((i : ℕ) → Dec (a i)) → ((i : ℕ) → Dec (b i)) → (i : ℕ) → Dec (HoldsUntil step a b i)) where
-  decide_release : (a b : ℕ → Type 0) → ((i : ℕ) → Dec (a i)) → ((i : ℕ) → Dec (b i)) → (i : ℕ) → Dec (HoldsRelease step a b i)
-  decide_release a b da db i = release_decided step da db i (decide_until (λ j. ¬ (a j)) (λ j. ¬ (b j)) (λ j. not_decided (da j)) (λ j. not_decided (db j)) i)
+  next_agrees : {P Y N : ℕ → Type 0} → Agrees P Y N → Agrees (λ i. P (step i)) (λ i. Y (step i)) (λ i. N (step i))
+  next_agrees g = record { holds = λ i. g.holds (step i); fails = λ i. g.fails (step i); one = λ i. g.one (step i) }
+
+  until_agrees : {P Y N Q Z M : ℕ → Type 0} → Agrees P Y N → Agrees Q Z M → Agrees (HoldsUntil step P Q) (HoldsUntil step Y Z) (HoldsRelease step N M)
+  until_agrees {P} {Y} {N} {Q} {Z} {M} g h = record {
+    holds = until_map step g.holds h.holds;
+    fails = λ i r. not_until_from_release step P Q i (release_map step g.fails h.fails i r);
+    one = λ i. elim (decide_until Y Z (form_decided g) (form_decided h) i) [
+      | yes u ↦ inl u
+      | no n ↦ inr (release_map step (other_form g) (other_form h) i (release_from_not_until step (form_decided g) (form_decided h) i n))
+    ];
+  }
+
+  release_agrees : {P Y N Q Z M : ℕ → Type 0} → Agrees P Y N → Agrees Q Z M → Agrees (HoldsRelease step P Q) (HoldsRelease step Y Z) (HoldsUntil step N M)
+  release_agrees {P} {Y} {N} {Q} {Z} {M} g h = record {
+    holds = release_map step g.holds h.holds;
+    fails = λ i u. not_release_from_until step P Q i (until_map step g.fails h.fails i u);
+    one = λ i. swapped ((until_agrees (not_agrees g) (not_agrees h)).one i);
+  }
+
+  -- the normal forms of a formula and of its negation
+  agrees : (F : Formula) → Agrees (Satisfied truth step F) (Holds truth step (normal_form true F)) (Holds truth step (normal_form false F))
+  agrees (Constant true) = record { holds = λ i h. refl; fails = λ i h. absurd h; one = λ i. inl tt }
+  agrees (Constant false) = record { holds = λ i h. absurd h; fails = λ i t e. true≢false (sym e); one = λ i. inr tt }
+  agrees (Proposition p) = record { holds = λ i h. h; fails = λ i n h. true≢false (sym h ∙ n); one = λ i. cases_Bool (truth i p) }
+  agrees (Unary Not a) = not_agrees (agrees a)
+  agrees (Unary Next a) = next_agrees (agrees a)
+  agrees (Unary Always a) = release_agrees never_agrees (agrees a)
+  agrees (Unary Eventually a) = until_agrees always_agrees (agrees a)
+  agrees (Binary And a b) = and_agrees (agrees a) (agrees b)
+  agrees (Binary Or a b) = or_agrees (agrees a) (agrees b)
+  agrees (Binary Implies a b) = implies_agrees (agrees a) (agrees b)
+  agrees (Binary Iff a b) = iff_agrees (agrees a) (agrees b)
+  agrees (Binary Until a b) = until_agrees (agrees a) (agrees b)
+  agrees (Binary Release a b) = release_agrees (agrees a) (agrees b)
 
   -- satisfaction is decided where `U` is
   pub decided : (F : Formula) (i : ℕ) → Dec (Satisfied truth step F i)
-  decided (Constant b) i = bool_is b
-  decided (Proposition p) i = bool_is (truth i p)
-  decided (Unary Not a) i = not_decided (decided a i)
-  decided (Unary Next a) i = decided a (step i)
-  decided (Unary Always a) i = decide_release (λ _. ⊥) (Satisfied truth step a) never (decided a) i
-  decided (Unary Eventually a) i = decide_until (λ _. Unit {0}) (Satisfied truth step a) always (decided a) i
-  decided (Binary And a b) i = and_decided (decided a i) (decided b i)
-  decided (Binary Or a b) i = or_decided (decided a i) (decided b i)
-  decided (Binary Implies a b) i = implies_decided (decided a i) (decided b i)
-  decided (Binary Iff a b) i = and_decided (implies_decided (decided a i) (decided b i)) (implies_decided (decided b i) (decided a i))
-  decided (Binary Until a b) i = decide_until (Satisfied truth step a) (Satisfied truth step b) (decided a) (decided b) i
-  decided (Binary Release a b) i = decide_release (Satisfied truth step a) (Satisfied truth step b) (decided a) (decided b) i
+  decided F i = elim ((agrees F).one i) [ inl y ↦ yes ((agrees F).holds i y) | inr n ↦ no ((agrees F).fails i n) ]
 
-  abbrev Sat : Formula → ℕ → Type 0
-  Sat = Satisfied truth step
+  pub yes_form : (F : Formula) (i : ℕ) → Satisfied truth step F i ↔ Holds truth step (normal_form true F) i
+  yes_form F i = ((λ h. elim ((agrees F).one i) [ inl y ↦ y | inr n ↦ absurd ((agrees F).fails i n h) ]), (agrees F).holds i)
 
-  abbrev Yes : Formula → ℕ → Type 0
-  Yes F = Holds truth step (normal_form true F)
-
-  abbrev No : Formula → ℕ → Type 0
-  No F = Holds truth step (normal_form false F)
-
-  until_decided_not : (a b : Formula) (i : ℕ) → Dec (HoldsUntil step (λ j. ¬ (Sat a j)) (λ j. ¬ (Sat b j)) i)
-  until_decided_not a b i = decide_until (λ j. ¬ (Sat a j)) (λ j. ¬ (Sat b j)) (λ j. not_decided (decided a j)) (λ j. not_decided (decided b j)) i
-
-  mutual
-    pub to_yes : (F : Formula) (i : ℕ) → Sat F i → Yes F i
-    to_yes (Constant true) i h = tt
-    to_yes (Constant false) i h = true≢false (sym h)
-    to_yes (Proposition p) i h = h
-    to_yes (Unary Not a) i h = to_no a i h
-    to_yes (Unary Next a) i h = to_yes a (step i) h
-    to_yes (Unary Always a) i h = release_map step same_never (to_yes a) i h
-    to_yes (Unary Eventually a) i h = until_map step same_always (to_yes a) i h
-    to_yes (Binary And a b) i h = (to_yes a i h.0, to_yes b i h.1)
-    to_yes (Binary Or a b) i h = elim h [ inl x ↦ inl (to_yes a i x) | inr y ↦ inr (to_yes b i y) ]
-    to_yes (Binary Implies a b) i h = elim (decided a i) [ yes x ↦ inr (to_yes b i (h x)) | no n ↦ inl (to_no a i n) ]
-    to_yes (Binary Iff a b) i h = elim (decided a i) [ yes x ↦ inl (to_yes a i x, to_yes b i (h.0 x)) | no n ↦ inr (to_no a i n, to_no b i (λ y. n (h.1 y))) ]
-    to_yes (Binary Until a b) i h = until_map step (to_yes a) (to_yes b) i h
-    to_yes (Binary Release a b) i h = release_map step (to_yes a) (to_yes b) i h
-
-    pub to_no : (F : Formula) (i : ℕ) → ¬ (Sat F i) → No F i
-    to_no (Constant true) i h = h refl
-    to_no (Constant false) i h = tt
-    to_no (Proposition p) i h = false_from_ne_true (truth i p) h
-    to_no (Unary Not a) i h = to_yes a i (stable (decided a i) h)
-    to_no (Unary Next a) i h = to_no a (step i) h
-    to_no (Unary Always a) i h = until_map step to_always (to_no a) i (until_from_not_release step never (decided a) i (decide_until (λ _. ¬ ⊥) (λ j. ¬ (Sat a j)) (λ j. not_decided (never j)) (λ j. not_decided (decided a j)) i) h)
-    to_no (Unary Eventually a) i h = release_map step to_never (to_no a) i (release_from_not_until step always (decided a) i h)
-    to_no (Binary And a b) i h = elim (decided a i) [ yes x ↦ inr (to_no b i (λ y. h (x, y))) | no n ↦ inl (to_no a i n) ]
-    to_no (Binary Or a b) i h = (to_no a i (λ x. h (inl x)), to_no b i (λ y. h (inr y)))
-    to_no (Binary Implies a b) i h = (to_yes a i (stable (decided a i) (λ n. h (λ x. absurd (n x)))), to_no b i (λ y. h (λ _. y)))
-    to_no (Binary Iff a b) i h =
-        elim (decided a i) [
-          | yes x ↦ (inr (to_no b i (λ y. h ((λ _. y), (λ _. x)))), inl (to_yes a i x))
-          | no n ↦ (inl (to_no a i n), inr (to_yes b i (stable (decided b i) (λ m. h ((λ x. absurd (n x)), (λ y. absurd (m y)))))))
-        ]
-    to_no (Binary Until a b) i h = release_map step (to_no a) (to_no b) i (release_from_not_until step (decided a) (decided b) i h)
-    to_no (Binary Release a b) i h = until_map step (to_no a) (to_no b) i (until_from_not_release step (decided a) (decided b) i (until_decided_not a b i) h)
-
-  mutual
-    pub from_yes : (F : Formula) (i : ℕ) → Yes F i → Sat F i
-    from_yes (Constant true) i h = refl
-    from_yes (Constant false) i h = absurd h
-    from_yes (Proposition p) i h = h
-    from_yes (Unary Not a) i h = from_no a i h
-    from_yes (Unary Next a) i h = from_yes a (step i) h
-    from_yes (Unary Always a) i h = release_map step same_never (from_yes a) i h
-    from_yes (Unary Eventually a) i h = until_map step same_always (from_yes a) i h
-    from_yes (Binary And a b) i h = (from_yes a i h.0, from_yes b i h.1)
-    from_yes (Binary Or a b) i h = elim h [ inl x ↦ inl (from_yes a i x) | inr y ↦ inr (from_yes b i y) ]
-    from_yes (Binary Implies a b) i h = λ x. elim h [ inl n ↦ absurd (from_no a i n x) | inr y ↦ from_yes b i y ]
-    from_yes (Binary Iff a b) i h = elim h [
-      | inl w ↦ ((λ _. from_yes b i w.1), (λ _. from_yes a i w.0))
-      | inr w ↦ ((λ x. absurd (from_no a i w.0 x)), (λ y. absurd (from_no b i w.1 y)))
-    ]
-    from_yes (Binary Until a b) i h = until_map step (from_yes a) (from_yes b) i h
-    from_yes (Binary Release a b) i h = release_map step (from_yes a) (from_yes b) i h
-
-    pub from_no : (F : Formula) (i : ℕ) → No F i → ¬ (Sat F i)
-    from_no (Constant true) i h = absurd h
-    from_no (Constant false) i h = λ e. true≢false (sym e)
-    from_no (Proposition p) i h = λ e. true≢false (sym e ∙ h)
-    from_no (Unary Not a) i h = λ n. n (from_yes a i h)
-    from_no (Unary Next a) i h = from_no a (step i) h
-    from_no (Unary Always a) i h = not_release_from_until step (λ _. ⊥) (Sat a) i (until_map step from_always (from_no a) i h)
-    from_no (Unary Eventually a) i h = not_until_from_release step (λ _. Unit {0}) (Sat a) i (release_map step from_never (from_no a) i h)
-    from_no (Binary And a b) i h = λ w. elim h [ inl n ↦ from_no a i n w.0 | inr m ↦ from_no b i m w.1 ]
-    from_no (Binary Or a b) i h = elim [ inl x ↦ from_no a i h.0 x | inr y ↦ from_no b i h.1 y ]
-    from_no (Binary Implies a b) i h = λ f. from_no b i h.1 (f (from_yes a i h.0))
-    from_no (Binary Iff a b) i h = λ w.
-        elim h.0 [
-          | inl n ↦ elim h.1 [ inl x ↦ from_no a i n (from_yes a i x) | inr y ↦ from_no a i n (w.1 (from_yes b i y)) ]
-          | inr m ↦ elim h.1 [ inl x ↦ from_no b i m (w.0 (from_yes a i x)) | inr y ↦ from_no b i m (from_yes b i y) ]
-        ]
-    from_no (Binary Until a b) i h = not_until_from_release step (Sat a) (Sat b) i (release_map step (from_no a) (from_no b) i h)
-    from_no (Binary Release a b) i h = not_release_from_until step (Sat a) (Sat b) i (until_map step (from_no a) (from_no b) i h)
+  pub no_form : (F : Formula) (i : ℕ) → (¬ (Satisfied truth step F i)) ↔ Holds truth step (normal_form false F) i
+  no_form F i = ((λ m. other_form (agrees F) i (λ y. m ((agrees F).holds i y))), (agrees F).fails i)

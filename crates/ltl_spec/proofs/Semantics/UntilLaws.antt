@@ -55,18 +55,6 @@ module _ (step : ℕ → ℕ) where
         go (yes q) (yes w) = inr w
         go (yes q) (no m) = absurd (n (k, q, λ j l. stable (decide_a (after_steps step j i)) (λ na. m (j, l, na))))
 
-    -- `!(a V b)` is `!a U !b`, where that is decided
-    pub until_from_not_release : (i : ℕ) → Dec (HoldsUntil step (λ j. ¬ (a j)) (λ j. ¬ (b j)) i) → ¬ (HoldsRelease step a b i) → HoldsUntil step (λ j. ¬ (a j)) (λ j. ¬ (b j)) i
-    until_from_not_release i d n = stable d (λ m. n (holds m))
-      where
-        at : ¬ (HoldsUntil step (λ j. ¬ (a j)) (λ j. ¬ (b j)) i) → (k : ℕ) → Dec (b (after_steps step k i)) → Dec ((j : ℕ) × (j < k) × a (after_steps step j i)) → b (after_steps step k i) ⊎ ((j : ℕ) × (j < k) × a (after_steps step j i))
-        at m k (yes q) w = inl q
-        at m k (no nq) (yes w) = inr w
-        at m k (no nq) (no nw) = absurd (m (k, nq, λ j l p. nw (j, l, p)))
-
-        holds : ¬ (HoldsUntil step (λ j. ¬ (a j)) (λ j. ¬ (b j)) i) → HoldsRelease step a b i
-        holds m k = at m k (decide_b (after_steps step k i)) (some_below (λ j. a (after_steps step j i)) (λ j. decide_a (after_steps step j i)) k)
-
   -- the other ways need no decision
   pub not_until_from_release : (a b : ℕ → Type 0) (i : ℕ) → HoldsRelease step (λ j. ¬ (a j)) (λ j. ¬ (b j)) i → ¬ (HoldsUntil step a b i)
   not_until_from_release a b i r u = elim (r u.0) [ inl m ↦ m u.1 | inr w ↦ w.2 (u.2 w.0 w.1) ]

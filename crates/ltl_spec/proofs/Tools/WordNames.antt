@@ -47,7 +47,7 @@ proper_reads w l proper = record {
 }
 
 -- a name that is positive in a cube is one of the list
-positive_listed : (names : List Name) (cubes : List Cube) (n : Name) → IsPositive names cubes n → Has names n
+pub positive_listed : (names : List Name) (cubes : List Cube) (n : Name) → IsPositive names cubes n → Has names n
 positive_listed names cubes n (c, k, in_cubes, in_cube, positive, at) = slice_get_has names k.proposition n at
 
 pub needed_proposition : (A : MarkedAutomaton) (names : List Name) (B : Automaton) (n : Name) → IsTrue (list_all is_proposition A.names) → IsTrue (list_all is_proposition names)

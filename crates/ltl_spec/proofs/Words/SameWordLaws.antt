@@ -37,54 +37,42 @@ module _ (step other : ℕ → ℕ) where
   next_passes : (a b : ℕ → Type 0) → Passes a b → Passes (λ i. a (step i)) (λ i. b (other i))
   next_passes a b f k h = subst b (after_last other k 0) (f (suc k) (subst a (sym (after_last step k 0)) h))
 
-module _ (truth : ℕ → ℕ → Bool) (step : ℕ → ℕ) (told : ℕ → ℕ → Bool) (other : ℕ → ℕ) (same : (k : ℕ) → truth (after_steps step k 0) ≡ told (after_steps other k 0)) where
-  -- the same letters satisfy the same formulas
-  pub satisfied_same : (F : Formula) (k : ℕ) → Satisfied truth step F (after_steps step k 0) ↔ Satisfied told other F (after_steps other k 0)
-  satisfied_same (Constant b) k = ((λ h. h), λ h. h)
-  satisfied_same (Proposition p) k = (subst (λ f. IsTrue (f p)) (same k), subst (λ f. IsTrue (f p)) (sym (same k)))
-  satisfied_same (Unary Not a) k = let w = satisfied_same a k in ((λ n h. n (w.1 h)), λ n h. n (w.0 h))
-  satisfied_same (Unary Next a) k = (
-    next_passes step other (Satisfied truth step a) (Satisfied told other a) (λ j. (satisfied_same a j).0) k,
-    next_passes other step (Satisfied told other a) (Satisfied truth step a) (λ j. (satisfied_same a j).1) k,
-  )
-  satisfied_same (Unary Always a) k = (
-    release_passes step other (λ i. ⊥) (Satisfied truth step a) (λ i. ⊥) (Satisfied told other a) (λ j h. h) (λ j. (satisfied_same a j).0) k,
-    release_passes other step (λ i. ⊥) (Satisfied told other a) (λ i. ⊥) (Satisfied truth step a) (λ j h. h) (λ j. (satisfied_same a j).1) k,
-  )
-  satisfied_same (Unary Eventually a) k = (
-    until_passes step other (λ i. Unit {0}) (Satisfied truth step a) (λ i. Unit {0}) (Satisfied told other a) (λ j h. h) (λ j. (satisfied_same a j).0) k,
-    until_passes other step (λ i. Unit {0}) (Satisfied told other a) (λ i. Unit {0}) (Satisfied truth step a) (λ j h. h) (λ j. (satisfied_same a j).1) k,
-  )
-  satisfied_same (Binary And a b) k = let v = satisfied_same a k in let w = satisfied_same b k in ((λ h. (v.0 h.0, w.0 h.1)), λ h. (v.1 h.0, w.1 h.1))
-  satisfied_same (Binary Or a b) k =
-      let v = satisfied_same a k in
-      let w = satisfied_same b k in
-      (elim [ inl h ↦ inl (v.0 h) | inr h ↦ inr (w.0 h) ], elim [ inl h ↦ inl (v.1 h) | inr h ↦ inr (w.1 h) ])
-  satisfied_same (Binary Implies a b) k = let v = satisfied_same a k in let w = satisfied_same b k in ((λ f h. w.0 (f (v.1 h))), λ f h. w.1 (f (v.0 h)))
-  satisfied_same (Binary Iff a b) k =
-      let v = satisfied_same a k in
-      let w = satisfied_same b k in
-      ((λ f. ((λ h. w.0 (f.0 (v.1 h))), λ h. v.0 (f.1 (w.1 h)))), λ f. ((λ h. w.1 (f.0 (v.0 h))), λ h. v.1 (f.1 (w.0 h))))
-  satisfied_same (Binary Until a b) k = (
-    until_passes step other (Satisfied truth step a) (Satisfied truth step b) (Satisfied told other a) (Satisfied told other b) (λ j. (satisfied_same a j).0) (λ j. (satisfied_same b j).0) k,
-    until_passes other step (Satisfied told other a) (Satisfied told other b) (Satisfied truth step a) (Satisfied truth step b) (λ j. (satisfied_same a j).1) (λ j. (satisfied_same b j).1) k,
-  )
-  satisfied_same (Binary Release a b) k = (
-    release_passes step other (Satisfied truth step a) (Satisfied truth step b) (Satisfied told other a) (Satisfied told other b) (λ j. (satisfied_same a j).0) (λ j. (satisfied_same b j).0) k,
-    release_passes other step (Satisfied told other a) (Satisfied told other b) (Satisfied truth step a) (Satisfied truth step b) (λ j. (satisfied_same a j).1) (λ j. (satisfied_same b j).1) k,
-  )
+-- the same letters after each number of steps
+abbrev SameLetters : (ℕ → ℕ → Bool) → (ℕ → ℕ) → (ℕ → ℕ → Bool) → (ℕ → ℕ) → Type 0
+SameLetters truth step told other = (k : ℕ) → truth (after_steps step k 0) ≡ told (after_steps other k 0)
 
-  -- and have the same runs
-  pub run_same : (s : ℕ) (A : Automaton) → RunFrom s A truth step → RunFrom s A told other
-  run_same s A r = retold s A truth told step other r (λ k. subst (λ f. IsTrue (allows f (r.edge k).cube)) (same k) (r.allowed k))
+-- satisfy the same formulas
+satisfied_passes : (t : ℕ → ℕ → Bool) (s : ℕ → ℕ) (u : ℕ → ℕ → Bool) (o : ℕ → ℕ) → SameLetters t s u o → (F : Formula) → Passes s o (Satisfied t s F) (Satisfied u o F)
+satisfied_passes t s u o e (Constant b) k h = h
+satisfied_passes t s u o e (Proposition p) k h = subst (λ f. IsTrue (f p)) (e k) h
+satisfied_passes t s u o e (Unary Not a) k h = λ g. h (satisfied_passes u o t s (λ j. sym (e j)) a k g)
+satisfied_passes t s u o e (Unary Next a) k h = next_passes s o (Satisfied t s a) (Satisfied u o a) (satisfied_passes t s u o e a) k h
+satisfied_passes t s u o e (Unary Always a) k h = release_passes s o (λ i. ⊥) (Satisfied t s a) (λ i. ⊥) (Satisfied u o a) (λ j g. g) (satisfied_passes t s u o e a) k h
+satisfied_passes t s u o e (Unary Eventually a) k h = until_passes s o (λ i. Unit {0}) (Satisfied t s a) (λ i. Unit {0}) (Satisfied u o a) (λ j g. g) (satisfied_passes t s u o e a) k h
+satisfied_passes t s u o e (Binary And a b) k h = (satisfied_passes t s u o e a k h.0, satisfied_passes t s u o e b k h.1)
+satisfied_passes t s u o e (Binary Or a b) k h = elim h [ inl g ↦ inl (satisfied_passes t s u o e a k g) | inr g ↦ inr (satisfied_passes t s u o e b k g) ]
+satisfied_passes t s u o e (Binary Implies a b) k h = λ g. satisfied_passes t s u o e b k (h (satisfied_passes u o t s (λ j. sym (e j)) a k g))
+satisfied_passes t s u o e (Binary Iff a b) k h =
+    let d : SameLetters u o t s = λ j. sym (e j) in
+    ((λ g. satisfied_passes t s u o e b k (h.0 (satisfied_passes u o t s d a k g))), λ g. satisfied_passes t s u o e a k (h.1 (satisfied_passes u o t s d b k g)))
+satisfied_passes t s u o e (Binary Until a b) k h = until_passes s o (Satisfied t s a) (Satisfied t s b) (Satisfied u o a) (Satisfied u o b) (satisfied_passes t s u o e a) (satisfied_passes t s u o e b) k h
+satisfied_passes t s u o e (Binary Release a b) k h = release_passes s o (Satisfied t s a) (Satisfied t s b) (Satisfied u o a) (Satisfied u o b) (satisfied_passes t s u o e a) (satisfied_passes t s u o e b) k h
+
+-- and have the same runs
+run_same : (truth : ℕ → ℕ → Bool) (step : ℕ → ℕ) (told : ℕ → ℕ → Bool) (other : ℕ → ℕ) → SameLetters truth step told other → (s : ℕ) (A : Automaton) → RunFrom s A truth step → RunFrom s A told other
+run_same truth step told other same s A r = retold s A truth told step other r (λ k. subst (λ f. IsTrue (allows f (r.edge k).cube)) (same k) (r.allowed k))
 
 -- the same propositions are true after each number of steps
-same_truth : (names : List Name) (v w : Lasso) → IsSameWord v w → (k : ℕ) → is_true_at names v (after_steps (next v) k 0) ≡ is_true_at names w (after_steps (next w) k 0)
+same_truth : (names : List Name) (v w : Lasso) → IsSameWord v w → SameLetters (is_true_at names v) (next v) (is_true_at names w) (next w)
 same_truth names v w e k = ap (λ letter p. has name_cmp (slice_index_or names p []) letter) (e k)
 
 -- the same word satisfies the same formulas
 pub satisfies_same : (names : List Name) (v w : Lasso) → IsSameWord v w → (F : Formula) → Satisfies names v 0 F ↔ Satisfies names w 0 F
-satisfies_same names v w e F = satisfied_same (is_true_at names v) (next v) (is_true_at names w) (next w) (same_truth names v w e) F 0
+satisfies_same names v w e F =
+    let same = same_truth names v w e in (
+      satisfied_passes (is_true_at names v) (next v) (is_true_at names w) (next w) same F 0,
+      satisfied_passes (is_true_at names w) (next w) (is_true_at names v) (next v) (λ k. sym (same k)) F 0,
+    )
 
 -- and is accepted by the same automata
 accepts_from_on : (s : ℕ) (names : List Name) (A : Automaton) (v w : Lasso) → 0 < length v.cycle → 0 < length w.cycle → IsSameWord v w → AcceptsFrom s names A v → AcceptsFrom s names A w

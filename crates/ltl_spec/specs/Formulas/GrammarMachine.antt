@@ -1,11 +1,11 @@
 -- A reader with one explicit stack: it goes over the tokens once, from the left, and answers the formula.
 -- The stack's top is the head of its list.
-use Rattle.std.specs.Prelude.{ℕ, if◌then◌else◌, nat_le, List, [], ◌∷◌, Option, Some, None}
+use Rattle.std.specs.Prelude.{ℕ, ◌-◌, if◌then◌else◌, nat_le, List, [], ◌∷◌, Option, Some, None}
 use Rattle.ltl_spec.specs.Collections.Lists.{place_of}
 use Rattle.ltl_spec.specs.Semantics.Word.{Name}
-use Rattle.ltl_spec.specs.Formulas.Formula.{Formula, Constant, Proposition, Unary, Binary, UnaryOperator, BinaryOperator, And, Or, Implies, Iff, Until, Release}
+use Rattle.ltl_spec.specs.Formulas.Formula.{Formula, Constant, Proposition, Unary, Binary, UnaryOperator, BinaryOperator}
 use Rattle.ltl_spec.specs.Formulas.Tokens.{Token, ConstantWord, NameWord, UnarySign, BinarySign, Open, Close, same_name}
-use Rattle.ltl_spec.specs.Formulas.Grammar.{rank_of}
+use Rattle.ltl_spec.specs.Formulas.Grammar.{rank_of, groups_right}
 
 -- what is open: a bracket, a unary operator that waits for its operand, or a left operand with its binary operator
 pub data Frame : Type 0 where
@@ -20,12 +20,7 @@ pub data Reader : Type 0 where
 
 -- the highest rank of a left operand
 abbrev pub left_rank : BinaryOperator → ℕ
-left_rank Until = 1
-left_rank Release = 1
-left_rank And = 2
-left_rank Or = 3
-left_rank Implies = 3
-left_rank Iff = 5
+left_rank op = if groups_right op then rank_of op - 1 else rank_of op
 
 -- what waits on top closes over the operand: unary operators, and binary ones of at most this rank
 abbrev pub close : ℕ → Formula → List Frame → Formula × List Frame

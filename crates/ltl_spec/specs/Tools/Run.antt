@@ -12,6 +12,8 @@ use Rattle.ltl_spec.specs.Automata.GeneralizedText.{generalized_text}
 use Rattle.ltl_spec.specs.Hoa.HoaReading.{AcceptanceForm, MarkedAutomaton}
 use Rattle.ltl_spec.specs.Checking.Bounds.{AcceptsEverywhere}
 use Rattle.ltl_spec.specs.Checking.Check.{IsViolation, IsContained}
+use Rattle.ltl_spec.specs.Claims.ClaimTokens.{HasNoPromelaWord}
+use Rattle.ltl_spec.specs.Claims.ClaimMeaning.{IsClaimOfModels}
 use Rattle.ltl_spec.specs.Tools.Limits.{Limits}
 use Rattle.ltl_spec.specs.Tools.Refusal.{Refusal, Tool, Translator, Checker, Evaluator, CannotWrite, status_of}
 use Rattle.ltl_spec.specs.Tools.Stage.{Broken}
@@ -40,7 +42,8 @@ pub record PrintsViolation (A : MarkedAutomaton) (R : Reading) (output : List �
   pub reads : IsLassoText (lasso_text word) word
 
 module _ (l : Limits) where
-  -- The output is the text of an automaton that accepts exactly the ultimately periodic words that satisfy the formula that was asked for
+  -- The output is the text of an automaton that accepts exactly the ultimately periodic words that satisfy the formula that was asked for. As a
+  -- never claim it is also read as a program that accepts exactly these words, unless a proposition of the formula is a word of Promela
   pub record IsTextOfModels (plan : Option TranslatorPlan) (input : Input) (output : List ℕ) : Type 0 where
     pub asked : TranslatorPlan
     pub words : plan ≡ Some asked
@@ -50,6 +53,7 @@ module _ (l : Limits) where
     pub printed : output ≡ laid_out asked.layout automaton formula
     pub told : IsTold asked.layout automaton
     pub models : AcceptsModels automaton formula.formula
+    pub claim : asked.layout ≡ Claim → HasNoPromelaWord formula.names → IsClaimOfModels formula output
 
   -- a run of the translator that ends with status 0 has printed such a text
   abbrev pub TellsModels : Option TranslatorPlan → Input → Seen → Type 0

@@ -1,10 +1,9 @@
-use Rattle.std.proofs.Common.{◌∙◌, ap, arith, subst, sym, ◌+◌, ◌≤◌, ◌<◌, length, map, slice_set}
+use Rattle.std.proofs.Common.{ap, subst, sym, ◌+◌, ◌≤◌, length, slice_set}
 use Rattle.std.proofs.lemmas.List.{length-map}
 use Rattle.ltl_spec.proofs.Collections.FoundLaws.{index_there}
-use Rattle.ltl_automaton.proofs.WayLaws.{take_whole}
 use Rattle.ltl_automaton.specs.CodedEdges.{edges_in, labelled_edge_of}
 use Rattle.ltl_automaton.specs.EdgeView.{edge_of}
-use Rattle.ltl_c.specs.Arrays.{edge_row, put_at}
+use Rattle.ltl_c.specs.Arrays.{edge_row}
 use Rattle.ltl_c.proofs.ArrayLaws.{next_row}
 use Rattle.ltl_c.proofs.arrays.put_edges.Goals as goal
 

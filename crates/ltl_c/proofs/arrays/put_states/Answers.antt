@@ -1,19 +1,19 @@
 use Rattle.std.proofs.Common.{◌<◌, arith, length, true, []}
 use Rattle.ltl_spec.specs.Automata.Automaton.{State}
 use Rattle.ltl_c.specs.declared.rows.StateRow.{StateRow}
-use Rattle.ltl_c.specs.Arrays.{automaton_in}
+use Rattle.ltl_cli.specs.Translations.{shown_in}
 use Rattle.ltl_c.proofs.ArrayLaws.{edges_put, end_next, room_next, state_put}
 use Rattle.ltl_c.proofs.arrays.put_states.Goals as goal
 
 pub put_edges-at-requires : goal.put_edges-at-requires
 put_edges-at-requires g c =
-    let ss = (automaton_in c.args.automaton.now).states in
+    let ss = (shown_in c.args.automaton.now).states in
     let below : c.loop-k.k < length ss = omega (arith, c.len-k-end.ensures, c.loop-k-test.true) in
     omega (arith, room_next ss c.loop-k.k (record { accepting = true; edges = [] }) below c.loop-k.at c.edges.result c.loop-k.invariant.at c.edges.ensures, c.requires.edges_fit, c.loop-k.auto.edges)
 
 pub loop-k-preserved : goal.loop-k-preserved
 loop-k-preserved g c =
-    let ss = (automaton_in c.args.automaton.now).states in
+    let ss = (shown_in c.args.automaton.now).states in
     let none : State = record { accepting = true; edges = [] } in
     let below : c.loop-k.k < length ss = omega (arith, c.len-k-end.ensures, c.loop-k-test.true) in
     let row : StateRow = record { first_edge = c.loop-k.at; accepting = c.accepting.result } in

@@ -1,8 +1,10 @@
 use Rattle.std.proofs.Common.{◌≡◌, drop, map}
-use Rattle.std.specs.Prelude.{fold, string_bytes}
+use Rattle.std.specs.Prelude.{fold}
 use Rattle.ltl_spec.specs.Collections.Lists.{with_new}
 use Rattle.ltl_spec.specs.Formulas.Tokens.{same_name}
 use Rattle.ltl_check.proofs.names.put_all.Given as goal
 
 abbrev pub invariant-loop-i : goal.invariant-loop-i
-invariant-loop-i g l = fold (with_new same_name) (map (λ n. n.now) l.names.items) (drop l.i (map string_bytes l.more)) ≡ fold (with_new same_name) (map (λ n. n.now) l.fn.names.items) (map string_bytes l.more)
+invariant-loop-i g l =
+    fold (with_new same_name) (map (λ n. n.now) l.names.items) (drop l.i (g.F.Operand.automaton_of l.automaton).names)
+    ≡ fold (with_new same_name) (map (λ n. n.now) l.fn.names.items) (g.F.Operand.automaton_of l.automaton).names

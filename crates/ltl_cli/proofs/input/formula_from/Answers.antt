@@ -7,4 +7,4 @@ use Rattle.ltl_cli.proofs.input.formula_from.Goals as goal
 pub returns-in-Given-clause-read : goal.returns-in-Given-clause-read
 returns-in-Given-clause-read g c =
     let (input, s) = unread most_taken g.R.ByteSource.state c.args.source.now c.requires in
-    (input, s, rw c.in-Given.is (subst (λ (t : List ℕ). IsReadFrom (spec.Given t) input c.read_given.result) c.as_bytes.ensures.value c.read_given.ensures))
+    (input, s, rw c.in-Given.is (subst (λ (t : List ℕ). IsReadFrom (spec.Given t) input c.formula_of.result) c.as_bytes.ensures.value c.formula_of.ensures.given))

@@ -12,7 +12,7 @@ returns-in_err-text-clause-read g c =
 
 pub returns-clause-read : goal.returns-clause-read
 returns-clause-read g c =
-    file_from _ _ _ _ c.in_ok-text.ensures.text c.in_ok-text.ensures.ways (subst (λ (t : List ℕ). IsReadFrom (spec.Given t) spec.NotOpened c.read_given.result) c.as_slice.ensures.value c.read_given.ensures)
+    file_from _ _ _ _ c.in_ok-text.ensures.text c.in_ok-text.ensures.ways (subst (λ (t : List ℕ). IsReadFrom (spec.Given t) spec.NotOpened c.formula_of.result) c.as_slice.ensures.value c.formula_of.ensures.given)
 
 pub returns-clause-failed : goal.returns-clause-failed
-returns-clause-failed g c e = given_readable _ spec.NotOpened _ c.read_given.ensures e
+returns-clause-failed g c e = given_readable _ spec.NotOpened _ c.formula_of.ensures.given e

@@ -8,13 +8,13 @@ use Rattle.ltl_cli.proofs.standard.read_formula.Goals as goal
 pub returns-in-Given-clause-read : goal.returns-in-Given-clause-read
 returns-in-Given-clause-read g c =
     let (input, s) = some_input g.R.Read.remaining c.args.source.now in
-    (input, s, rw c.in-Given.is (subst (λ (t : List ℕ). IsReadFrom (spec.Given t) input c.read_given.result) c.as_bytes.ensures.value c.read_given.ensures))
+    (input, s, rw c.in-Given.is (subst (λ (t : List ℕ). IsReadFrom (spec.Given t) input c.formula_of.result) c.as_bytes.ensures.value c.formula_of.ensures.given))
 
 pub returns-in-Given-clause-few : goal.returns-in-Given-clause-few
 returns-in-Given-clause-few g c = takes_none most_taken (bytes_of g.R.Read.remaining c.args.source.now)
 
 pub returns-in-Given-clause-failed : goal.returns-in-Given-clause-failed
-returns-in-Given-clause-failed g c e = given_readable _ spec.NotOpened _ c.read_given.ensures e
+returns-in-Given-clause-failed g c e = given_readable _ spec.NotOpened _ c.formula_of.ensures.given e
 
 pub returns-in-Input-clause-read : goal.returns-in-Input-clause-read
 returns-in-Input-clause-read g c =

@@ -26,11 +26,11 @@ pub returns-in_err-printed : goal.returns-in_err-printed
 returns-in_err-printed g c =
     let (input, s, h) = c.in_ok-named.ensures in
     let p = err_from_is_err_and c.from_residual-in_err-printed.result c.from_residual-in_err-printed.ensures.1 in
-    let w = rw c.in_err-printed.was at c.print-printed.ensures.err in
+    let w = (rw c.in_err-printed.was at c.flushed-printed.ensures.err) _ _ c.put_dot.ensures.ok c.put_dot.ensures.err in
     (input, s, rw (p.1, p.2) (λ file. run_cut_off input _ c.requires.output _ file _ c.in_ok-word.ensures _ h _ _ c.in_ok-drawing.ensures w))
 
 pub returns : goal.returns
 returns g c =
     let (input, s, h) = c.in_ok-named.ensures in
-    let w = rw c.in_ok-printed.was at c.print-printed.ensures.ok in
+    let w = (rw c.in_ok-printed.was at c.flushed-printed.ensures.ok) _ _ c.put_dot.ensures.ok in
     (input, s, λ file. run_drawn input _ c.requires.output _ file _ c.in_ok-word.ensures _ h _ _ c.in_ok-drawing.ensures _ w)

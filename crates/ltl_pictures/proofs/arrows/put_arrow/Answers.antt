@@ -2,7 +2,7 @@ use Rattle.std.proofs.Common.{map, refl, string_bytes}
 use Rattle.ltl_hoa.specs.MarkedView.{edge_of}
 use Rattle.ltl_pictures.specs.Picked.{is_set}
 use Rattle.ltl_pictures.proofs.ArrowLaws.{arrow_pieces}
-use Rattle.ltl_pictures.proofs.PrintLaws.{lacks_all, lacks_last, lacks_step}
+use Rattle.ltl_streams.proofs.PrintLaws.{lacks_all, lacks_last, lacks_step}
 use Rattle.ltl_pictures.proofs.arrows.put_arrow.Goals as goal
 
 pub returns : goal.returns

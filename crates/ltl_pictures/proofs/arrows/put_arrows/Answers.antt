@@ -2,7 +2,7 @@ use Rattle.std.proofs.Common.{◌<◌, ℕ, length, map, string_bytes, subst, sy
 use Rattle.ltl_hoa.specs.MarkedView.{edge_of}
 use Rattle.ltl_spec.proofs.Collections.MemberLaws.{map_length}
 use Rattle.std.specs.Prelude.{All}
-use Rattle.ltl_pictures.proofs.PrintLaws.{lacks_all, lacks_step, prints_nothing}
+use Rattle.ltl_streams.proofs.PrintLaws.{lacks_all, lacks_step, prints_nothing}
 use Rattle.ltl_text.proofs.TextLaws.{first_all}
 use Rattle.ltl_pictures.specs.Picked.{is_set}
 use Rattle.ltl_pictures.proofs.EdgeLaws.{target_there}

@@ -4,7 +4,7 @@ use Rattle.ltl_spec.specs.Collections.Sets.{IsRising}
 use Rattle.ltl_hoa.specs.MarkedView.{edge_of}
 use Rattle.ltl_models.specs.BaView.{target_at}
 use Rattle.ltl_pictures.proofs.ArrowLaws.{placed_text}
-use Rattle.ltl_pictures.proofs.PrintLaws.{Lacks}
+use Rattle.ltl_streams.proofs.PrintLaws.{Lacks}
 use Rattle.ltl_text.proofs.OptionLaws.{entries, place_cmp}
 use Rattle.ltl_pictures.specs.DotText.{arrow_text}
 use Rattle.ltl_pictures.specs.Picked.{is_set}

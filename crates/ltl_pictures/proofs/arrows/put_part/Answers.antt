@@ -1,5 +1,5 @@
 use Rattle.std.proofs.Common.{refl, sym}
-use Rattle.ltl_pictures.proofs.PrintLaws.{lacks_all, lacks_last, lacks_step, prints_as}
+use Rattle.ltl_streams.proofs.PrintLaws.{lacks_all, lacks_last, lacks_step, prints_as}
 use Rattle.ltl_pictures.proofs.PutLaws.{other_part, taken_part}
 use Rattle.ltl_pictures.proofs.arrows.put_part.Goals as goal
 

@@ -1,7 +1,7 @@
 use Rattle.std.proofs.Common.{arith, ◌<◌, ℕ, refl, map, length, string_bytes}
 use Rattle.std.proofs.lemmas.List.{drop_more}
 use Rattle.ltl_hoa.specs.MarkedView.{edge_of}
-use Rattle.ltl_pictures.proofs.PrintLaws.{lacks_all, lacks_step}
+use Rattle.ltl_streams.proofs.PrintLaws.{lacks_all, lacks_step}
 use Rattle.ltl_text.proofs.TextLaws.{first_all, others_all}
 use Rattle.ltl_pictures.specs.Picked.{is_set}
 use Rattle.ltl_pictures.proofs.EdgeLaws.{edge_is, named_is, parts_begin, parts_go_on}

@@ -1,7 +1,7 @@
 use Rattle.std.proofs.Common.{◌<◌, length, map, string_bytes}
 use Rattle.std.specs.Prelude.{drop, All}
 use Rattle.ltl_hoa.specs.MarkedView.{edge_of}
-use Rattle.ltl_pictures.proofs.PrintLaws.{Lacks}
+use Rattle.ltl_streams.proofs.PrintLaws.{Lacks}
 use Rattle.ltl_text.proofs.TextLaws.{led}
 use Rattle.ltl_pictures.specs.Picked.{is_set}
 use Rattle.ltl_pictures.specs.Pieces.{parts_text}

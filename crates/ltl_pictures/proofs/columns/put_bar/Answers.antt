@@ -1,4 +1,4 @@
-use Rattle.ltl_pictures.proofs.PrintLaws.{prints_as, prints_nothing}
+use Rattle.ltl_streams.proofs.PrintLaws.{prints_as, prints_nothing}
 use Rattle.ltl_pictures.proofs.LineLaws.{bar_here, bar_not}
 use Rattle.ltl_pictures.proofs.columns.put_bar.Goals as goal
 

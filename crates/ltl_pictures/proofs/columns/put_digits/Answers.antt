@@ -1,5 +1,5 @@
 use Rattle.std.proofs.Common.{◌≤◌, ◌<◌, ap₂, arith, length, sym}
-use Rattle.ltl_pictures.proofs.PrintLaws.{lacks_all}
+use Rattle.ltl_streams.proofs.PrintLaws.{lacks_all}
 use Rattle.ltl_pictures.specs.Timeline.{column, digit}
 use Rattle.ltl_word.specs.LassoView.{size}
 use Rattle.ltl_pictures.proofs.LineLaws.{from_start, from_step, from_end}

@@ -1,5 +1,5 @@
 use Rattle.std.proofs.Common.{◌∙◌, ◌≤◌, ◌<◌, ap, ap₂, arith, length, sym}
-use Rattle.ltl_pictures.proofs.PrintLaws.{lacks_all}
+use Rattle.ltl_streams.proofs.PrintLaws.{lacks_all}
 use Rattle.ltl_pictures.specs.Timeline.{column, mark}
 use Rattle.ltl_word.specs.LassoView.{size}
 use Rattle.ltl_word.specs.Rows.{bit_of}

@@ -1,5 +1,5 @@
 use Rattle.std.proofs.Common.{refl, map, string_bytes}
-use Rattle.ltl_pictures.proofs.PrintLaws.{lacks_all, lacks_step}
+use Rattle.ltl_streams.proofs.PrintLaws.{lacks_all, lacks_step}
 use Rattle.ltl_text.proofs.TextLaws.{first_name, other_names}
 use Rattle.ltl_text.proofs.TextLaws as text
 use Rattle.ltl_pictures.proofs.EdgeLaws.{has_names}

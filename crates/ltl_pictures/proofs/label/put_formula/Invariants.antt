@@ -1,6 +1,6 @@
-use Rattle.std.proofs.Common.{◌≡◌, length, map, string_bytes}
+use Rattle.std.proofs.Common.{length, map, string_bytes}
 use Rattle.ltl_sets.specs.Literals.{cube_of}
-use Rattle.ltl_pictures.proofs.PrintLaws.{Lacks}
+use Rattle.ltl_streams.proofs.PrintLaws.{Lacks}
 use Rattle.ltl_text.specs.Names.{HasNames}
 use Rattle.ltl_text.proofs.TextLaws.{led}
 use Rattle.ltl_pictures.specs.DotText.{and_text, formula_text}

@@ -1,6 +1,6 @@
 use Rattle.std.proofs.Common.{◌∙◌, map, string_bytes, sym}
 use Rattle.ltl_sets.specs.Literals.{literal_of}
-use Rattle.ltl_pictures.proofs.PrintLaws.{lacks_all, lacks_last, lacks_step, prints_as}
+use Rattle.ltl_streams.proofs.PrintLaws.{lacks_all, lacks_last, lacks_step, prints_as}
 use Rattle.ltl_pictures.proofs.PutLaws.{mapped_at, negative_text, positive_text}
 use Rattle.ltl_pictures.proofs.label.put_literal.Goals as goal
 

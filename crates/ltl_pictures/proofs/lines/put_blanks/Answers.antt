@@ -1,5 +1,5 @@
 use Rattle.std.proofs.Common.{◌≤◌, arith}
-use Rattle.ltl_pictures.proofs.PrintLaws.{lacks_end, lacks_step}
+use Rattle.ltl_streams.proofs.PrintLaws.{lacks_end, lacks_step}
 use Rattle.ltl_pictures.proofs.LineLaws.{blanks_end, blanks_go_on}
 use Rattle.ltl_pictures.proofs.lines.put_blanks.Goals as goal
 

@@ -1,7 +1,7 @@
 use Rattle.std.proofs.Common.{◌≡◌, ◌∙◌, ◌-◌, ap, arith, length, suc, sym, zero}
 use Rattle.std.specs.Fmt.{decimal}
 use Rattle.ltl_pictures.specs.Timeline.{digit_count, number_lines}
-use Rattle.ltl_pictures.proofs.PrintLaws.{lacks_all, lacks_end, lacks_step, prints_nothing}
+use Rattle.ltl_streams.proofs.PrintLaws.{lacks_all, lacks_end, lacks_step, prints_nothing}
 use Rattle.ltl_pictures.proofs.lines.put_head.Goals as goal
 
 pub lines-init : goal.lines-init

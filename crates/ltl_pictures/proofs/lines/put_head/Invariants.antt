@@ -1,5 +1,5 @@
 use Rattle.ltl_pictures.specs.Timeline.{digit_count, number_lines}
-use Rattle.ltl_pictures.proofs.PrintLaws.{Lacks}
+use Rattle.ltl_streams.proofs.PrintLaws.{Lacks}
 use Rattle.ltl_pictures.proofs.lines.put_head.Given as goal
 
 abbrev pub invariant-lines : goal.invariant-lines

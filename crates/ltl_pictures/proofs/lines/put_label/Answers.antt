@@ -1,5 +1,5 @@
 use Rattle.std.proofs.Common.{refl}
-use Rattle.ltl_pictures.proofs.PrintLaws.{lacks_all, lacks_last, lacks_step}
+use Rattle.ltl_streams.proofs.PrintLaws.{lacks_all, lacks_last, lacks_step}
 use Rattle.ltl_pictures.proofs.lines.put_label.Goals as goal
 
 pub returns : goal.returns

@@ -1,5 +1,5 @@
 use Rattle.std.proofs.Common.{refl}
-use Rattle.ltl_pictures.proofs.PrintLaws.{lacks_all, lacks_last, lacks_step}
+use Rattle.ltl_streams.proofs.PrintLaws.{lacks_all, lacks_last, lacks_step}
 use Rattle.ltl_pictures.specs.Timeline.{mark}
 use Rattle.ltl_word.specs.Rows.{bit_of}
 use Rattle.ltl_pictures.proofs.LineLaws.{line_pieces}

@@ -1,7 +1,7 @@
 use Rattle.std.proofs.Common.{◌<◌, ap, arith, length}
 use Rattle.std.specs.Prelude.{flat_map}
 use Rattle.std.proofs.lemmas.List.{drop_more}
-use Rattle.ltl_pictures.proofs.PrintLaws.{lacks_all, lacks_step, prints_nothing}
+use Rattle.ltl_streams.proofs.PrintLaws.{lacks_all, lacks_step, prints_nothing}
 use Rattle.ltl_pictures.proofs.PutLaws.{begun_flat}
 use Rattle.ltl_pictures.specs.NameText.{shown_byte}
 use Rattle.ltl_pictures.proofs.name.put_bytes.Goals as goal

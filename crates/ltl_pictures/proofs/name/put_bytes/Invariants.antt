@@ -1,6 +1,6 @@
 use Rattle.std.proofs.Common.{drop}
 use Rattle.std.specs.Prelude.{flat_map}
-use Rattle.ltl_pictures.proofs.PrintLaws.{Lacks}
+use Rattle.ltl_streams.proofs.PrintLaws.{Lacks}
 use Rattle.ltl_pictures.specs.NameText.{shown_byte}
 use Rattle.ltl_pictures.proofs.name.put_bytes.Given as goal
 

@@ -1,5 +1,5 @@
 use Rattle.std.proofs.Common.{arith, ap, length-take, take}
-use Rattle.ltl_pictures.proofs.PrintLaws.{lacks_all, lacks_last, lacks_step}
+use Rattle.ltl_streams.proofs.PrintLaws.{lacks_all, lacks_last, lacks_step}
 use Rattle.ltl_pictures.proofs.CutLaws.{cut_text, start_within}
 use Rattle.ltl_pictures.proofs.name.put_name.Goals as goal
 

@@ -1,6 +1,6 @@
 use Rattle.std.proofs.Common.{arith}
 use Rattle.ltl_pictures.proofs.PutLaws.{many_sets}
-use Rattle.ltl_pictures.proofs.PrintLaws.{lacks_all, lacks_last, lacks_step}
+use Rattle.ltl_streams.proofs.PrintLaws.{lacks_all, lacks_last, lacks_step}
 use Rattle.ltl_pictures.proofs.picture.put_acceptance_name.Goals as goal
 
 pub returns-else-sets-eq1 : goal.returns-else-sets-eq1

@@ -1,7 +1,7 @@
 use Rattle.std.proofs.Common.{◌++◌, ap, refl, sym}
 use Rattle.std.specs.Prelude.{codes}
 use Rattle.std.specs.Fmt.{decimal}
-use Rattle.ltl_pictures.proofs.PrintLaws.{lacks_all, lacks_last, lacks_step}
+use Rattle.ltl_streams.proofs.PrintLaws.{lacks_all, lacks_last, lacks_step}
 use Rattle.ltl_pictures.specs.DotText.{acceptance_name, title_line}
 use Rattle.ltl_pictures.specs.NamedAutomaton.{NamedAutomaton}
 use Rattle.ltl_pictures.proofs.PutLaws.{head_pieces, name_end}

@@ -1,5 +1,5 @@
 use Rattle.std.proofs.Common.{Bor, List, ap, option_map, ℕ}
-use Rattle.ltl_pictures.proofs.PrintLaws.{lacks_all, lacks_last, lacks_step}
+use Rattle.ltl_streams.proofs.PrintLaws.{lacks_all, lacks_last, lacks_step}
 use Rattle.ltl_pictures.specs.DotText.{title_line}
 use Rattle.ltl_pictures.proofs.picture.put_title_line.Goals as goal
 

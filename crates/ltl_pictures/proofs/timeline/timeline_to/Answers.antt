@@ -6,7 +6,7 @@ use Rattle.ltl_streams.specs.Streams.{Breaks, Takes}
 use Rattle.ltl_word.specs.Rows.{bit_of}
 use Rattle.ltl_pictures.specs.Timeline.{greatest}
 use Rattle.ltl_pictures.specs.TimelineView.{HasTrueMarks}
-use Rattle.ltl_pictures.proofs.PrintLaws.{lacks_all, lacks_last, lacks_step, printed_err, printed_ok}
+use Rattle.ltl_streams.proofs.PrintLaws.{lacks_all, lacks_last, lacks_step, printed_err, printed_ok}
 use Rattle.ltl_pictures.proofs.TimelineLaws.{shown_err, shown_ok, shows_end, texts_width, whole_is}
 use Rattle.ltl_pictures.proofs.timeline.timeline_to.Goals as goal
 

@@ -1,7 +1,7 @@
 use Rattle.std.proofs.Common.{refl, rules, sym}
 use Rattle.std.proofs.lemmas.Result.{err_from_is_err_and}
 use Rattle.ltl_pictures.specs.Timeline.{word_timeline}
-use Rattle.ltl_pictures.proofs.PrintLaws.{printed_err, printed_ok, prints_as}
+use Rattle.ltl_streams.proofs.PrintLaws.{printed_err, printed_ok, prints_as}
 use Rattle.ltl_pictures.proofs.TimelineLaws.{shows_end, word_is}
 use Rattle.ltl_pictures.proofs.timeline.word_timeline_to.Goals as goal
 

@@ -1,8 +1,8 @@
 use Rattle.std.proofs.Common.{drop}
 use Rattle.ltl_text.specs.HoaPieces.{quoted_names}
-use Rattle.ltl_text.proofs.OutputLaws.{Remains}
+use Rattle.ltl_streams.proofs.PrintLaws.{Lacks}
 use Rattle.ltl_text.proofs.hoa.put_names.Given as goal
 
 abbrev pub invariant-loop-k : goal.invariant-loop-k
 invariant-loop-k g l =
-    Remains g.S.ByteSink.state l.fn.output l.output (quoted_names (drop l.k l.formula.names)) (quoted_names l.formula.names)
+    Lacks g.S.ByteSink.state l.fn.output l.output (quoted_names (drop l.k l.formula.names)) (quoted_names l.formula.names)

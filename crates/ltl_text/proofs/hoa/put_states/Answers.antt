@@ -1,17 +1,16 @@
 use Rattle.std.proofs.Common.{◌<◌, arith, length}
 use Rattle.ltl_spec.specs.Automata.HoaText.{state_lines}
-use Rattle.ltl_text.proofs.OutputLaws.{remains_fails, remains_step}
-use Rattle.ltl_text.proofs.HoaLaws.{states_go_on}
+use Rattle.ltl_streams.proofs.PrintLaws.{lacks_all, lacks_step, prints_as, prints_nothing}
+use Rattle.ltl_text.proofs.HoaLaws.{state_is, states_begin, states_go_on}
 use Rattle.ltl_text.proofs.hoa.put_states.Goals as goal
 
-pub returns-in_err-put_state : goal.returns-in_err-put_state
-returns-in_err-put_state g c =
-    let n = length c.args.automaton.now.states in
-    let lt : c.loop-k.k < n = omega arith in
-    remains_fails c.loop-k.invariant _ _ c.from_residual.ensures.0 (states_go_on (state_lines c.args.automaton.now) n c.loop-k.k lt) c.in_err-put_state.ensures
+pub loop-k-init : goal.loop-k-init
+loop-k-init g c = lacks_step (lacks_all _ _) _ (states_begin (state_lines c.args.automaton.now) (length c.args.automaton.now.states)) (prints_nothing _)
 
 pub loop-k-preserved : goal.loop-k-preserved
 loop-k-preserved g c =
-    let n = length c.args.automaton.now.states in
+    let B = c.args.automaton.now in
+    let n = length B.states in
     let lt : c.loop-k.k < n = omega arith in
-    remains_step c.loop-k.invariant _ (states_go_on (state_lines c.args.automaton.now) n c.loop-k.k lt) c.in_ok-put_state.ensures
+    let e = state_is B c.loop-k.k _ c.edges.ensures.edges _ c.accepting.ensures c.edges.ensures.plain in
+    lacks_step c.loop-k.invariant _ (states_go_on (state_lines B) n c.loop-k.k lt) (prints_as e c.put_state.ensures)

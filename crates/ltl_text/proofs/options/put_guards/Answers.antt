@@ -1,9 +1,9 @@
 use Rattle.std.proofs.Common.{arith, ◌<◌, ℕ, refl, length}
 use Rattle.std.proofs.lemmas.List.{drop_more}
 use Rattle.ltl_automaton.specs.CodedEdges.{edges_in}
+use Rattle.ltl_streams.proofs.PrintLaws.{lacks_all, lacks_step}
 use Rattle.ltl_text.proofs.EdgeLaws.{cube_is}
 use Rattle.ltl_text.proofs.NameLaws.{name_there}
-use Rattle.ltl_text.proofs.OutputLaws.{remains_all, remains_fails, remains_step}
 use Rattle.ltl_text.proofs.TextLaws.{first_all, guards_begin, guards_go_on, others_all}
 use Rattle.ltl_text.proofs.options.put_guards.Goals as goal
 
@@ -13,13 +13,6 @@ put_guard-requires g c = name_there (length c.args.texts.now) (edges_in c.args.e
 pub put_guard-requires-in-loop-place : goal.put_guard-requires-in-loop-place
 put_guard-requires-in-loop-place g c = name_there (length c.args.texts.now) (edges_in c.args.edges.now) _ _ c.requires.named c.get-in-loop-place.ensures
 
-pub returns-in_err-put_guard : goal.returns-in_err-put_guard
-returns-in_err-put_guard g c =
-    let P : ℕ → Type 0 = λ p. p < length c.args.edges.now.coded.now in
-    let within = first_all P _ _ _ c.in-Some.ensures.cases.0 c.requires.within in
-    let e = guards_begin c.args.texts.now (edges_in c.args.edges.now) _ _ _ _ c.in-Some.ensures.cases.0 (cube_is (edges_in c.args.edges.now) _ _ c.get.ensures) in
-    remains_fails (remains_all _ _) _ _ c.from_residual.ensures.0 e c.in_err-put_guard.ensures
-
 pub loop-place-init : goal.loop-place-init
 loop-place-init g c =
     let P : ℕ → Type 0 = λ p. p < length c.args.edges.now.coded.now in
@@ -27,30 +20,16 @@ loop-place-init g c =
     let e = guards_begin c.args.texts.now (edges_in c.args.edges.now) _ _ _ _ c.in-Some.ensures.cases.0 (cube_is (edges_in c.args.edges.now) _ _ c.get.ensures) in
     record {
       within = others_all P _ _ _ c.in-Some.ensures.cases.0 c.requires.within;
-      text = remains_step (remains_all _ _) _ e c.in_ok-put_guard.ensures;
+      text = lacks_step (lacks_all _ _) _ e c.put_guard.ensures;
     }
-
-pub returns-in_err-put : goal.returns-in_err-put
-returns-in_err-put g c =
-    let lt : c.loop-place.place-index < length c.in-Some.others.now = omega arith in
-    let e = guards_go_on c.args.texts.now (edges_in c.args.edges.now) _ _ _ _ (drop_more c.in-Some.others.now c.loop-place.place-index 0 lt) refl in
-    remains_fails c.loop-place.invariant.text _ _ c.from_residual-in_err-put.ensures.0 e c.in_err-put.ensures
-
-pub returns-in_err-put_guard-2 : goal.returns-in_err-put_guard-2
-returns-in_err-put_guard-2 g c =
-    let lt : c.loop-place.place-index < length c.in-Some.others.now = omega arith in
-    let f = cube_is (edges_in c.args.edges.now) _ _ c.get-in-loop-place.ensures in
-    let e = guards_go_on c.args.texts.now (edges_in c.args.edges.now) _ _ _ _ (drop_more c.in-Some.others.now c.loop-place.place-index 0 lt) f in
-    let between = remains_step c.loop-place.invariant.text _ e c.in_ok-put.ensures in
-    remains_fails between _ _ c.from_residual-in_err-put_guard-2.ensures.0 refl c.in_err-put_guard-2.ensures
 
 pub loop-place-preserved : goal.loop-place-preserved
 loop-place-preserved g c =
     let lt : c.loop-place.place-index < length c.in-Some.others.now = omega arith in
     let f = cube_is (edges_in c.args.edges.now) _ _ c.get-in-loop-place.ensures in
     let e = guards_go_on c.args.texts.now (edges_in c.args.edges.now) _ _ _ _ (drop_more c.in-Some.others.now c.loop-place.place-index 0 lt) f in
-    let between = remains_step c.loop-place.invariant.text _ e c.in_ok-put.ensures in
+    let between = lacks_step c.loop-place.invariant.text _ e c.put.ensures in
     record {
       within = c.loop-place.invariant.within;
-      text = remains_step between _ refl c.in_ok-put_guard-2.ensures;
+      text = lacks_step between _ refl c.put_guard-in-loop-place.ensures;
     }

@@ -5,10 +5,10 @@ use Rattle.ltl_spec.specs.Automata.Automaton.{state_at}
 use Rattle.ltl_automaton.specs.CodedEdges.{edges_in}
 use Rattle.ltl_models.specs.BaView.{target_at}
 use Rattle.ltl_automaton.specs.declared.labels.Edges as lent
+use Rattle.ltl_streams.proofs.PrintLaws.{lacks_all, lacks_step, prints_nothing}
 use Rattle.ltl_text.proofs.EdgeLaws.{no_edge, places_within, target_there}
 use Rattle.ltl_text.proofs.NameLaws.{all_have_names}
 use Rattle.ltl_text.proofs.OptionLaws.{entries_whole, options_fall, options_rise, options_step, options_within, place_cmp}
-use Rattle.ltl_text.proofs.OutputLaws.{halts_first, halts_then, passes_nothing, remains_all, remains_puts, remains_step, writes_halted}
 use Rattle.ltl_text.proofs.TextLaws.{first_all}
 use Rattle.ltl_text.proofs.options.put_options.Goals as goal
 
@@ -25,41 +25,11 @@ options-init g c =
     record {
       within = places_within c.edges-edges.result _ _ e c.by_target-rest.ensures.order.within;
       rising = subst (λ l. IsRising (place_cmp (target_at l)) ps) (sym e) rising;
-      text = remains_step (remains_all _ _) _ (sym (entries_whole c.args.automaton.now c.args.texts.now s (edges_in c.edges-edges.result) ps e c.by_target-rest.ensures.order)) (passes_nothing _);
+      text = lacks_step (lacks_all _ _) _ (sym (entries_whole c.args.automaton.now c.args.texts.now s (edges_in c.edges-edges.result) ps e c.by_target-rest.ensures.order)) (prints_nothing _);
     }
 
 pub put_guards-requires-clause-named : goal.put_guards-requires-clause-named
 put_guards-requires-clause-named g c = all_have_names _ c.args.automaton.now c.args.k _ c.requires.named c.edges-edges.ensures.edges
-
-pub returns-in_err-put : goal.returns-in_err-put
-returns-in_err-put g c =
-    let f = first_target c.edges-edges.result c.in-Some.ensures.cases.0 c.options.invariant.within in
-    let e = options_step c.args.automaton.now c.args.texts.now (edges_in c.edges-edges.result) _ _ _ _ _ _ _ c.in-Some.ensures.cases.0 f c.group_len.ensures.group c.options.invariant.rising c.split_at.ensures.front c.split_at.ensures.back in
-    remains_puts c.options.invariant.text _ _ (writes_halted _ c.from_residual.ensures.0 e (halts_first _ c.in_err-put.ensures))
-
-pub returns-in_err-put_guards : goal.returns-in_err-put_guards
-returns-in_err-put_guards g c =
-    let f = first_target c.edges-edges.result c.in-Some.ensures.cases.0 c.options.invariant.within in
-    let e = options_step c.args.automaton.now c.args.texts.now (edges_in c.edges-edges.result) _ _ _ _ _ _ _ c.in-Some.ensures.cases.0 f c.group_len.ensures.group c.options.invariant.rising c.split_at.ensures.front c.split_at.ensures.back in
-    remains_puts c.options.invariant.text _ _ (writes_halted _ c.from_residual-in_err-put_guards.ensures.0 e (halts_then c.in_ok-put.ensures (halts_first _ c.in_err-put_guards.ensures)))
-
-pub returns-in_err-put-2 : goal.returns-in_err-put-2
-returns-in_err-put-2 g c =
-    let f = first_target c.edges-edges.result c.in-Some.ensures.cases.0 c.options.invariant.within in
-    let e = options_step c.args.automaton.now c.args.texts.now (edges_in c.edges-edges.result) _ _ _ _ _ _ _ c.in-Some.ensures.cases.0 f c.group_len.ensures.group c.options.invariant.rising c.split_at.ensures.front c.split_at.ensures.back in
-    remains_puts c.options.invariant.text _ _ (writes_halted _ c.from_residual-in_err-put-2.ensures.0 e (halts_then c.in_ok-put.ensures (halts_then c.in_ok-put_guards.ensures (halts_first _ c.in_err-put-2.ensures))))
-
-pub returns-in_err-put_label : goal.returns-in_err-put_label
-returns-in_err-put_label g c =
-    let f = first_target c.edges-edges.result c.in-Some.ensures.cases.0 c.options.invariant.within in
-    let e = options_step c.args.automaton.now c.args.texts.now (edges_in c.edges-edges.result) _ _ _ _ _ _ _ c.in-Some.ensures.cases.0 f c.group_len.ensures.group c.options.invariant.rising c.split_at.ensures.front c.split_at.ensures.back in
-    remains_puts c.options.invariant.text _ _ (writes_halted _ c.from_residual-in_err-put_label.ensures.0 e (halts_then c.in_ok-put.ensures (halts_then c.in_ok-put_guards.ensures (halts_then c.in_ok-put-2.ensures (halts_first _ c.in_err-put_label.ensures)))))
-
-pub returns-in_err-put-3 : goal.returns-in_err-put-3
-returns-in_err-put-3 g c =
-    let f = first_target c.edges-edges.result c.in-Some.ensures.cases.0 c.options.invariant.within in
-    let e = options_step c.args.automaton.now c.args.texts.now (edges_in c.edges-edges.result) _ _ _ _ _ _ _ c.in-Some.ensures.cases.0 f c.group_len.ensures.group c.options.invariant.rising c.split_at.ensures.front c.split_at.ensures.back in
-    remains_puts c.options.invariant.text _ _ (writes_halted _ c.from_residual-in_err-put-3.ensures.0 e (halts_then c.in_ok-put.ensures (halts_then c.in_ok-put_guards.ensures (halts_then c.in_ok-put-2.ensures (halts_then c.in_ok-put_label.ensures (halts_first _ c.in_err-put-3.ensures))))))
 
 pub options-smaller : goal.options-smaller
 options-smaller g c =
@@ -70,14 +40,14 @@ pub options-preserved : goal.options-preserved
 options-preserved g c =
     let f = first_target c.edges-edges.result c.in-Some.ensures.cases.0 c.options.invariant.within in
     let e = options_step c.args.automaton.now c.args.texts.now (edges_in c.edges-edges.result) _ _ _ _ _ _ _ c.in-Some.ensures.cases.0 f c.group_len.ensures.group c.options.invariant.rising c.split_at.ensures.front c.split_at.ensures.back in
-    let first = remains_step c.options.invariant.text _ e c.in_ok-put.ensures in
-    let second = remains_step first _ refl c.in_ok-put_guards.ensures in
-    let third = remains_step second _ refl c.in_ok-put-2.ensures in
-    let fourth = remains_step third _ refl c.in_ok-put_label.ensures in
+    let first = lacks_step c.options.invariant.text _ e c.put.ensures in
+    let second = lacks_step first _ refl c.put_guards.ensures in
+    let third = lacks_step second _ refl c.put-in-Some.ensures in
+    let fourth = lacks_step third _ refl c.put_label.ensures in
     record {
       within = options_within c.args.automaton.now c.args.texts.now (edges_in c.edges-edges.result) _ _ _ _ _ _ _ c.in-Some.ensures.cases.0 f c.group_len.ensures.group c.options.invariant.rising c.split_at.ensures.front c.split_at.ensures.back (λ p. p < length c.edges-edges.result.coded.now) c.options.invariant.within;
       rising = options_rise c.args.automaton.now c.args.texts.now (edges_in c.edges-edges.result) _ _ _ _ _ _ _ c.in-Some.ensures.cases.0 f c.group_len.ensures.group c.options.invariant.rising c.split_at.ensures.front c.split_at.ensures.back;
-      text = remains_step fourth _ refl c.in_ok-put-3.ensures;
+      text = lacks_step fourth _ refl c.put-in-Some-2.ensures;
     }
 
 pub put_label-requires-clause-within : goal.put_label-requires-clause-within

@@ -1,7 +1,8 @@
 use Rattle.std.proofs.Common.{◌≡◌, ◌∙◌, ◌+◌, ◌*◌, ◌≤◌, ◌||◌, ◌&&◌, ℕ, ap, ap₂, sym, arith, false, true, nat_eq, bit_and}
+use Rattle.std.proofs.Math.Bool.{or-false, and-false, and-true}
 use Rattle.ltl_word.specs.Rows.{back, is_set}
 use Rattle.ltl_word.proofs.BackWords.{comes_twice, holds_twice, never, one_comes, one_place, with_later, word_ahead, word_later}
-use Rattle.ltl_word.proofs.BitLemmas.{and_false, and_true, none_above, one_and, one_bit, one_or, one_shr, or_false}
+use Rattle.ltl_word.proofs.BitLemmas.{none_above, one_and, one_bit, one_or, one_shr}
 use Rattle.ltl_word.proofs.machine_word.until_word.Goals.{then-later, else-later}
 use Rattle.ltl_word.proofs.machine_word.until_word.Goals as goal
 
@@ -13,10 +14,10 @@ doublings-init c =
     elim c.if-later.branch as (λ b. is_set c.if-later.comes i ≡ with_later (is_set left) (is_set right) c.args.later i) [
       | then-later w ↦
           ap (λ x. is_set x i) w.comes-is ∙ one_or right (bit_and left 9223372036854775808) i
-          ∙ ap (λ t. is_set right i || t) (one_and left 9223372036854775808 i ∙ ap (λ t. is_set left i && t) (one_bit 63 i (omega arith) ∙ sym (and_true (nat_eq i 63)) ∙ ap (λ t. nat_eq i 63 && t) (sym w.if-later.true)))
+          ∙ ap (λ t. is_set right i || t) (one_and left 9223372036854775808 i ∙ ap (λ t. is_set left i && t) (one_bit 63 i (omega arith) ∙ sym (and-true (nat_eq i 63)) ∙ ap (λ t. nat_eq i 63 && t) (sym w.if-later.true)))
       | else-later w ↦
-          ap (λ x. is_set x i) w.comes-is ∙ sym (or_false (is_set right i))
-          ∙ ap (λ t. is_set right i || t) (sym (and_false (is_set left i)) ∙ ap (λ t. is_set left i && t) (sym (and_false (nat_eq i 63)) ∙ ap (λ t. nat_eq i 63 && t) (sym w.if-later.false)))
+          ap (λ x. is_set x i) w.comes-is ∙ sym (or-false (is_set right i))
+          ∙ ap (λ t. is_set right i || t) (sym (and-false (is_set left i)) ∙ ap (λ t. is_set left i && t) (sym (and-false (nat_eq i 63)) ∙ ap (λ t. nat_eq i 63 && t) (sym w.if-later.false)))
     ] in
     record {
       some = omega arith;

@@ -8,5 +8,5 @@ use Rattle.ltl_word.proofs.making.all_places.Given as goal
 abbrev pub invariant-loop-i : goal.invariant-loop-i
 invariant-loop-i g l = record {
   count : length l.rows.items ≡ l.i;
-  each : (k : ℕ) → k < length l.rows.items → ArePlaces l.names (set_of name_cmp (slice_index_or (map (λ a. map (λ n. n.now) a.items) l.letters) k [])) (slice_index_or l.rows.items k []);
+  each : (k : ℕ) → k < length l.rows.items → ArePlaces (map (λ n. n.now) l.names) (set_of name_cmp (slice_index_or (map (λ a. map (λ n. n.now) a.items) l.letters) k [])) (slice_index_or l.rows.items k []);
 }

@@ -1,6 +1,6 @@
 use Rattle.std.proofs.Common.{◌≤◌, ◌<◌, arith, length, map, refl}
 use Rattle.ltl_spec.proofs.Collections.MemberLaws.{map_length}
-use Rattle.ltl_pictures.proofs.PrintLaws.{lacks_all, lacks_step}
+use Rattle.ltl_streams.proofs.PrintLaws.{lacks_all, lacks_step}
 use Rattle.ltl_pictures.specs.Timeline.{name_at, proposition_line}
 use Rattle.ltl_pictures.proofs.LineLaws.{from_start, from_step, from_end}
 use Rattle.ltl_pictures.proofs.TimelineLaws.{name_row_line, name_row_long}

@@ -1,7 +1,7 @@
 use Rattle.std.proofs.Common.{◌++◌, ◌∙◌, ap, refl, rules, sym}
 use Rattle.std.specs.Prelude.{codes, flat_map}
 use Rattle.std.specs.List.{range_with_len}
-use Rattle.ltl_pictures.proofs.PrintLaws.{lacks_all, lacks_last, lacks_step, printed_err, printed_ok}
+use Rattle.ltl_streams.proofs.PrintLaws.{lacks_all, lacks_last, lacks_step, printed_err, printed_ok}
 use Rattle.ltl_pictures.specs.DotText.{head_text, state_text}
 use Rattle.ltl_pictures.specs.RunText.{RunPicture, is_picked, named_of, note_of, picks_in}
 use Rattle.ltl_pictures.proofs.RunLaws.{picture_pieces}

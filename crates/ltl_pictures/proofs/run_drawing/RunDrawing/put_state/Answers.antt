@@ -1,9 +1,10 @@
 use Rattle.std.proofs.Common.{◌≡◌, ◌∙◌, ◌<◌, ℕ, ap, length, map, string_bytes, subst, sym, []}
 use Rattle.std.specs.Prelude.{option_map}
 use Rattle.std.specs.List.{list_any}
+use Rattle.std.proofs.lemmas.List.{get_or-map}
 use Rattle.ltl_spec.proofs.Collections.MemberLaws.{map_length}
 use Rattle.ltl_hoa.specs.MarkedView.{edge_of}
-use Rattle.ltl_pictures.proofs.PrintLaws.{lacks_all, lacks_last, lacks_step}
+use Rattle.ltl_streams.proofs.PrintLaws.{lacks_all, lacks_last, lacks_step}
 use Rattle.ltl_pictures.specs.DotText.{state_text}
 use Rattle.ltl_pictures.specs.Picked.{is_set}
 use Rattle.ltl_pictures.specs.RunText.{RunPicture, is_picked, named_of, picks_in}
@@ -18,7 +19,9 @@ put_arrows-requires-clause-order g c =
     let d = c.self.invariant in
     let lt : c.args.k < A.states = subst (λ (x : RunPicture). c.args.k < x.automaton.states) (sym c.self.view_is) c.requires in
     let sorted = d.sorted.sorted c.args.k lt in
-    let order = c.as_slice.ensures ∙ c.index.ensures ∙ any_default c.self.inside.orders.items c.args.k c.index.result.now [] (subst (λ n. c.args.k < n) (sym d.sorted.long) lt) in
+    let orders = c.self.inside.orders.items in
+    let many = subst (λ n. c.args.k < n) (sym d.sorted.long ∙ map_length (λ p. p.items) orders) lt in
+    let order = c.as_slice.ensures ∙ ap (λ p. p.items) c.index.ensures ∙ sym (get_or-map (λ p. p.items) orders c.args.k c.index.result.now [] many) in
     rw (order, c.edges-edges.ensures) sorted
 
 pub put_arrows-requires-clause-named : goal.put_arrows-requires-clause-named

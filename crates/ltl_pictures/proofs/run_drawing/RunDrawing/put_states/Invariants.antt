@@ -1,6 +1,6 @@
 use Rattle.std.specs.Prelude.{flat_map}
 use Rattle.std.specs.List.{range_with_len}
-use Rattle.ltl_pictures.proofs.PrintLaws.{Lacks}
+use Rattle.ltl_streams.proofs.PrintLaws.{Lacks}
 use Rattle.ltl_text.proofs.HoaLaws.{states_from}
 use Rattle.ltl_pictures.specs.DotText.{state_text}
 use Rattle.ltl_pictures.specs.RunText.{is_picked, named_of, picks_in}

@@ -1,6 +1,6 @@
 use Rattle.std.proofs.Common.{◌∙◌, sym, ◌≤◌, ◌<◌, arith, length, [], refl}
 use Rattle.std.specs.Prelude.{slice_index_or}
-use Rattle.ltl_pictures.proofs.PrintLaws.{lacks_all}
+use Rattle.ltl_streams.proofs.PrintLaws.{lacks_all}
 use Rattle.ltl_pictures.specs.Timeline.{subformula_line}
 use Rattle.ltl_word.specs.Rows.{bit_of}
 use Rattle.ltl_pictures.proofs.LineLaws.{from_start, from_step, from_skip, from_end}

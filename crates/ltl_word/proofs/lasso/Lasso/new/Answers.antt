@@ -13,7 +13,7 @@ written_of-requires g c =
 pub from_written-requires : goal.from_written-requires
 from_written-requires g c =
     let names = map (λ n. n.now) c.args.names.now in
-    written_known c.args.names.now names c.in_ok-set.set c.args.stem.now c.args.cycle.now c.in_ok-word.word (map_length (λ n. n.now) c.args.names.now) c.requires.propositions c.requires.few c.requires.within c.requires.cycles c.in_ok-set.ensures
+    written_known c.args.names.now names (map (λ n. n.now) c.as_slice.result.now) c.args.stem.now c.args.cycle.now c.in_ok-word.word (map_length (λ n. n.now) c.args.names.now) c.requires.propositions c.requires.few c.requires.within c.requires.cycles (ap (map (λ n. n.now)) c.as_slice.ensures.value ∙ c.in_ok-set.ensures)
     (written_listed names c.args.stem.now c.args.cycle.now c.in_ok-word.word
     (ap (λ (v : WrittenView). v.stem) c.in_ok-word.ensures)
     (ap (λ (v : WrittenView). v.cycle) c.in_ok-word.ensures))

@@ -1,0 +1,4 @@
+pub mod ComparisonLaws
+pub mod MessageLaws
+pub mod ProgramLaws
+pub mod RunLaws

@@ -1,0 +1,4 @@
+pub mod Comparisons
+pub mod Openings
+pub mod Refusals
+pub mod Runs
