@@ -30,8 +30,8 @@ read : AreInputs stated_limits stated_form (plan_of Checker (Some request)) (End
 read = record {
   asked = record { formula = File (codes "formula"); automaton = None };
   words = refl;
-  formula = inr (codes "<>p", refl, eventually_read);
-  automaton = inr (text_e, refl, program_reads_e);
+  formula = (codes "<>p", inr refl, eventually_read);
+  automaton = (text_e, inr refl, program_reads_e);
 }
 
 -- a violation is reported

@@ -8,10 +8,11 @@ use Rattle.ltl_spec.specs.Words.LassoText.{IsLassoText}
 use Rattle.ltl_spec.specs.Tools.Limits.{Limits}
 use Rattle.ltl_spec.specs.Tools.Refusal.{Refusal, Evaluator}
 use Rattle.ltl_spec.specs.Tools.Outcome.{Answer, Input, IsPromised, Seen, Then, answer_by, input_of}
+use Rattle.ltl_spec.specs.Tools.Readings.{IsFormulaIn}
 use Rattle.ltl_spec.specs.Tools.Programs.{EvaluatorAnswers, EvaluatorFinds, EvaluatorPlan, Evaluates, InputReads, ReadsWord, truth_answer}
 use Rattle.ltl_spec.specs.Tools.Run.{AreRead, TellsTruth}
 use Rattle.ltl_spec.proofs.Words.LassoTextLaws.{one_word}
-use Rattle.ltl_spec.proofs.Tools.StepLaws.{one_formula, promise_holds, refusals_high, same_ok, same_some, then_ok}
+use Rattle.ltl_spec.proofs.Tools.StepLaws.{formula_in, one_formula, promise_holds, refusals_high, same_ok, same_some, then_ok}
 
 -- the words ask for one formula and one word
 module _ (l : Limits) (plan : Option EvaluatorPlan) (input : Input) (R S : Reading) (v w : Lasso) (g : AreRead l plan input R v) (h : AreRead l plan input S w) where
@@ -19,7 +20,7 @@ module _ (l : Limits) (plan : Option EvaluatorPlan) (input : Input) (R S : Readi
   asked = same_some h.asked g.asked (sym h.words ∙ g.words)
 
   same_formula : R ≡ S
-  same_formula = one_formula l (input_of g.asked.formula input) R S g.formula (subst (λ (p : EvaluatorPlan). InputReads l (input_of p.formula input) (Ok S)) asked h.formula)
+  same_formula = one_formula l (input_of g.asked.formula input) R S g.formula (subst (λ (p : EvaluatorPlan). IsFormulaIn l (input_of p.formula input) S) asked h.formula)
 
   same_word : v ≡ w
   same_word = one_word g.asked.word v w g.word.1 (subst (λ (p : EvaluatorPlan). IsLassoText p.word w) asked h.word.1)
@@ -47,7 +48,7 @@ module _ (l : Limits) (p : EvaluatorPlan) (input : Input) (seen : Seen) where
   found_tells (Ok b) h st =
       let (R, reads, h1) = then_ok (InputReads l (input_of p.formula input)) (λ R. Then (ReadsWord l R.names p.word) (λ w. Evaluates l R w)) b h in
       let (w, word, h2) = then_ok (ReadsWord l R.names p.word) (λ w. Evaluates l R w) b h1 in
-      decides_tells l (Some p) input seen R w (record { asked = p; words = refl; formula = reads; word = word }) (decided R w b h2 st)
+      decides_tells l (Some p) input seen R w (record { asked = p; words = refl; formula = formula_in l (input_of p.formula input) R reads; word = word }) (decided R w b h2 st)
 
 -- what a run of the evaluator may show tells the truth
 pub promised_truth : (l : Limits) (plan : Option EvaluatorPlan) (input : Input) (seen : Seen) → IsPromised l Evaluator (EvaluatorAnswers l plan input) seen → TellsTruth l plan input seen

@@ -1,5 +1,5 @@
 -- What the checker prints is the verdict.
-use Rattle.std.proofs.Common.{◌≡◌, ◌∙◌, ap, sym, subst, refl, ℕ, ◌≤◌, true, inl, inr, List, Option, Some, None, arith}
+use Rattle.std.proofs.Common.{◌≡◌, ◌∙◌, ap, sym, subst, refl, ℕ, ◌≤◌, true, inr, List, Option, Some, None, arith}
 use Rattle.std.specs.List.{list_all}
 use Rattle.std.specs.Prelude.{Result, Ok, Err, IsTrue}
 use Rattle.ltl_spec.specs.Formulas.Formula.{Reading}
@@ -11,28 +11,24 @@ use Rattle.ltl_spec.specs.Checking.Check.{Verdict, Contained, Violated, IsVerdic
 use Rattle.ltl_spec.specs.Tools.Limits.{Limits}
 use Rattle.ltl_spec.specs.Tools.Refusal.{Refusal, Checker}
 use Rattle.ltl_spec.specs.Tools.Outcome.{Answer, Input, IsPromised, Seen, Then, answer_by, input_of, taken}
+use Rattle.ltl_spec.specs.Tools.Readings.{IsAutomatonIn, IsFormulaIn}
 use Rattle.ltl_spec.specs.Tools.Programs.{CheckerAnswers, CheckerFinds, CheckerPlan, InputReads, Judges, KeepsRows, ReadsHoa, Translates, plain_options, verdict_answer}
-use Rattle.ltl_spec.specs.Tools.Run.{AreInputs, AutomatonReads, PrintsViolation, TellsVerdict}
+use Rattle.ltl_spec.specs.Tools.Run.{AreInputs, PrintsViolation, TellsVerdict}
 use Rattle.ltl_spec.proofs.Hoa.HoaLaws.{one_automaton}
-use Rattle.ltl_spec.proofs.Tools.StepLaws.{never, one_formula, promise_holds, refusals_high, same_ok, same_some, then_ok}
+use Rattle.ltl_spec.proofs.Tools.StepLaws.{automaton_in, formula_in, one_formula, one_text, promise_holds, refusals_high, same_some, then_ok}
 use Rattle.ltl_spec.proofs.Tools.WordNames.{needed_proposition, proper_reads, text_propositions}
 
 module _ (l : Limits) (form : AcceptanceForm) where
   -- an input reads as one automaton
-  one_given : (file : Input) (A M : MarkedAutomaton) → AutomatonReads l form file (Ok A) → AutomatonReads l form file (Ok M) → A ≡ M
-  one_given file A M g h =
-      let (t, p, a) = then_ok (λ r. r ≡ taken l.hoa_bytes file) (ReadsHoa l form) A g in
-      let (u, q, m) = then_ok (λ r. r ≡ taken l.hoa_bytes file) (ReadsHoa l form) M h in
-      one_automaton l form t A M a (subst (λ (x : List ℕ). HoaReadsWithin l form x M) (same_ok u t (q ∙ sym p)) m)
+  one_given : (file : Input) (A M : MarkedAutomaton) → IsAutomatonIn l form file A → IsAutomatonIn l form file M → A ≡ M
+  one_given file A M (t, p, a) (u, q, m) = one_automaton l form t A M a (subst (λ (x : List ℕ). HoaReadsWithin l form x M) (one_text file t u p q) m)
 
   -- the names of what was read are propositions
-  formula_proper : (input : Input) (R : Reading) → InputReads l input (Ok R) → IsTrue (list_all is_proposition R.names)
-  formula_proper input R (inl (e, p, q)) = absurd (never R e (sym q))
-  formula_proper input R (inr (t, p, g)) = text_propositions t R g.1
+  formula_proper : (input : Input) (R : Reading) → IsFormulaIn l input R → IsTrue (list_all is_proposition R.names)
+  formula_proper input R (t, p, g) = text_propositions t R g.1
 
-  automaton_proper : (file : Input) (A : MarkedAutomaton) → AutomatonReads l form file (Ok A) → IsTrue (list_all is_proposition A.names)
-  automaton_proper file A (inl (e, p, q)) = absurd (never A e (sym q))
-  automaton_proper file A (inr (t, p, g)) = g.describes.propositions
+  automaton_proper : (file : Input) (A : MarkedAutomaton) → IsAutomatonIn l form file A → IsTrue (list_all is_proposition A.names)
+  automaton_proper file A (t, p, g) = g.describes.propositions
 
 -- the words ask for one formula and one automaton
 module _ (l : Limits) (form : AcceptanceForm) (plan : Option CheckerPlan) (input file : Input) (R S : Reading) (A M : MarkedAutomaton) (g : AreInputs l form plan input file R A)
@@ -41,7 +37,7 @@ module _ (l : Limits) (form : AcceptanceForm) (plan : Option CheckerPlan) (input
   asked = same_some h.asked g.asked (sym h.words ∙ g.words)
 
   same_formula : R ≡ S
-  same_formula = one_formula l (input_of g.asked.formula input) R S g.formula (subst (λ (p : CheckerPlan). InputReads l (input_of p.formula input) (Ok S)) asked h.formula)
+  same_formula = one_formula l (input_of g.asked.formula input) R S g.formula (subst (λ (p : CheckerPlan). IsFormulaIn l (input_of p.formula input) S) asked h.formula)
 
   same_automaton : A ≡ M
   same_automaton = one_given l form file A M g.automaton h.automaton
@@ -94,7 +90,9 @@ module _ (l : Limits) (form : AcceptanceForm) (p : CheckerPlan) (input file : In
       let (B, made, h3) = then_ok (Translates l N plain_options) (Looked R) v h2 in
       let (text, took, h4) = then_ok (λ r. r ≡ taken l.hoa_bytes file) (λ text. Then (ReadsHoa l form text) (Checked R B)) v h3 in
       let (A, read, judged) = then_ok (ReadsHoa l form text) (Checked R B) v h4 in
-      verdict_tells l form (Some p) input file seen R A B v (record { asked = p; words = refl; formula = reads; automaton = inr (text, took, read) }) judged.2 st o
+      let formula = formula_in l (input_of p.formula input) R reads in
+      let automaton = automaton_in l form file A (inr (text, took, read)) in
+      verdict_tells l form (Some p) input file seen R A B v (record { asked = p; words = refl; formula = formula; automaton = automaton }) judged.2 st o
 
   answer_tells : (r : Result Verdict Refusal) → CheckerFinds l form p input file r → seen.status ≡ (answer_by l Checker (verdict_answer l) r).status
       → seen.output ≡ (answer_by l Checker (verdict_answer l) r).output → TellsVerdict l form (Some p) input file seen

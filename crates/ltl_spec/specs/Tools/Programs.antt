@@ -21,6 +21,7 @@ use Rattle.ltl_spec.specs.Hoa.HoaReading.{AcceptanceForm, MarkedAutomaton, HoaRe
 use Rattle.ltl_spec.specs.Hoa.HoaFault.{hoa_fault}
 use Rattle.ltl_spec.specs.Checking.Check.{Verdict, Contained, Violated, IsVerdict, IsViolation, product_size}
 use Rattle.ltl_spec.specs.Tools.Outcome.{Input, FormulaWord, input_of, taken, Answer, refused, printed, Then, answer_by}
+use Rattle.ltl_spec.specs.Tools.Readings.{IsFormulaText, IsWordText}
 
 module _ (l : Limits) where
   -- A formula's text reads as the formula, or is refused: its length first, then its fault, then the number of its propositions
@@ -31,8 +32,7 @@ module _ (l : Limits) where
   RefusesFormula text _ = ⊥
 
   abbrev pub ReadsFormula : List ℕ → Result Reading Refusal → Type 0
-  ReadsFormula text r =
-      MatchResult r (λ R. (length text ≤ l.formula_bytes) × IsTextOf text R × (length R.names ≤ l.propositions)) (RefusesFormula text)
+  ReadsFormula text r = MatchResult r (IsFormulaText l text) (RefusesFormula text)
 
   -- a normal form is kept, or has too many rows
   abbrev pub RefusesRows : Normal → Refusal → Type 0
@@ -69,8 +69,7 @@ module _ (l : Limits) where
   RefusesWord names text _ = ⊥
 
   abbrev pub ReadsWord : List Name → List ℕ → Result Lasso Refusal → Type 0
-  ReadsWord names text r =
-      MatchResult r (λ w. (length text ≤ l.word_bytes) × IsLassoText text w × ¬ (HasTooManyNames l.propositions names w)) (RefusesWord names text)
+  ReadsWord names text r = MatchResult r (IsWordText l names text) (RefusesWord names text)
 
   -- an automaton's text reads as the automaton, or is refused for its fault
   abbrev pub RefusesHoa : AcceptanceForm → List ℕ → Refusal → Type 0

@@ -1,5 +1,5 @@
 -- What a run of a program may show, for what its words ask for and for its inputs: a right answer, and what one with status 0 or 1 means.
-use Rattle.std.specs.Prelude.{◌≡◌, ℕ, ◌≤◌, ◌↔◌, ◌⊎◌, List, ◌++◌, Option, Some, None, Result, Ok, codes}
+use Rattle.std.specs.Prelude.{◌≡◌, ℕ, ◌≤◌, ◌↔◌, ◌⊎◌, List, ◌++◌, Option, Some, None, Result, codes}
 use Rattle.ltl_spec.specs.Formulas.Formula.{Reading}
 use Rattle.ltl_spec.specs.Semantics.Word.{Lasso, IsLasso}
 use Rattle.ltl_spec.specs.Semantics.Satisfaction.{Satisfies}
@@ -18,7 +18,8 @@ use Rattle.ltl_spec.specs.Tools.Limits.{Limits}
 use Rattle.ltl_spec.specs.Tools.Refusal.{Refusal, Tool, Translator, Checker, Evaluator, CannotWrite, status_of}
 use Rattle.ltl_spec.specs.Tools.Stage.{Broken}
 use Rattle.ltl_spec.specs.Tools.Outcome.{Answer, Input, IsAtFault, IsPromised, Seen, Then, input_of, taken}
-use Rattle.ltl_spec.specs.Tools.Programs.{Layout, Claim, Hoa, Generalized, TranslatorPlan, CheckerPlan, EvaluatorPlan, TranslatorAnswers, CheckerAnswers, EvaluatorAnswers, InputReads, ReadsHoa, ReadsWord}
+use Rattle.ltl_spec.specs.Tools.Readings.{IsAutomatonIn, IsFormulaIn, IsWordText}
+use Rattle.ltl_spec.specs.Tools.Programs.{Layout, Claim, Hoa, Generalized, TranslatorPlan, CheckerPlan, EvaluatorPlan, TranslatorAnswers, CheckerAnswers, EvaluatorAnswers, ReadsHoa}
 
 -- the text of an automaton in a layout
 abbrev pub laid_out : Layout → Automaton → Reading → List ℕ
@@ -42,29 +43,35 @@ pub record PrintsViolation (A : MarkedAutomaton) (R : Reading) (output : List �
   pub reads : IsLassoText (lasso_text word) word
 
 module _ (l : Limits) where
-  -- The output is the text of an automaton that accepts exactly the ultimately periodic words that satisfy the formula that was asked for. As a
-  -- never claim it is also read as a program that accepts exactly these words, unless a proposition of the formula is a word of Promela
+  -- the output is the text of an automaton that accepts exactly the ultimately periodic words that satisfy the formula that was asked for
   pub record IsTextOfModels (plan : Option TranslatorPlan) (input : Input) (output : List ℕ) : Type 0 where
     pub asked : TranslatorPlan
     pub words : plan ≡ Some asked
     pub formula : Reading
-    pub reads : InputReads l (input_of asked.formula input) (Ok formula)
+    pub reads : IsFormulaIn l (input_of asked.formula input) formula
     pub automaton : Automaton
     pub printed : output ≡ laid_out asked.layout automaton formula
     pub told : IsTold asked.layout automaton
     pub models : AcceptsModels automaton formula.formula
+
+  -- If a never claim was asked for, the output is read as one that accepts exactly these words, unless a proposition of the formula is a word of Promela
+  pub record IsReadAsModels (plan : Option TranslatorPlan) (input : Input) (output : List ℕ) : Type 0 where
+    pub asked : TranslatorPlan
+    pub words : plan ≡ Some asked
+    pub formula : Reading
+    pub reads : IsFormulaIn l (input_of asked.formula input) formula
     pub claim : asked.layout ≡ Claim → HasNoPromelaWord formula.names → IsClaimOfModels formula output
 
   -- a run of the translator that ends with status 0 has printed such a text
   abbrev pub TellsModels : Option TranslatorPlan → Input → Seen → Type 0
-  TellsModels plan input seen = seen.status ≡ 0 → IsTextOfModels plan input seen.output
+  TellsModels plan input seen = seen.status ≡ 0 → IsTextOfModels plan input seen.output × IsReadAsModels plan input seen.output
 
   -- the words ask for a formula and a word, which are read as these
   pub record AreRead (plan : Option EvaluatorPlan) (input : Input) (R : Reading) (w : Lasso) : Type 0 where
     pub asked : EvaluatorPlan
     pub words : plan ≡ Some asked
-    pub formula : InputReads l (input_of asked.formula input) (Ok R)
-    pub word : ReadsWord l R.names asked.word (Ok w)
+    pub formula : IsFormulaIn l (input_of asked.formula input) R
+    pub word : IsWordText l R.names asked.word w
 
   -- A run of the evaluator that ends with status 0 or 1 has read a formula and a word, and the status is 0 exactly where that formula holds
   -- at the beginning of that word
@@ -81,8 +88,8 @@ module _ (l : Limits) (form : AcceptanceForm) where
   pub record AreInputs (plan : Option CheckerPlan) (input file : Input) (R : Reading) (A : MarkedAutomaton) : Type 0 where
     pub asked : CheckerPlan
     pub words : plan ≡ Some asked
-    pub formula : InputReads l (input_of asked.formula input) (Ok R)
-    pub automaton : AutomatonReads file (Ok A)
+    pub formula : IsFormulaIn l (input_of asked.formula input) R
+    pub automaton : IsAutomatonIn l form file A
 
   -- A run of the checker that ends with status 0 or 1 has read a formula and an automaton. With 0 no word that this automaton accepts
   -- violates this formula; with 1 such a word was printed
