@@ -203,7 +203,7 @@ impl Held {
 """
 UNNEEDED = (15, "LEAST"), (18, "lonely"), (26, "own_test_alone"), (35, "Held"), (40, "Held::looked")
 
-# Two crates for tools/believe. The definitions `odd`, `idle` and the law rest on nothing that the call names.
+# Two crates for tools/believe. Nothing that the call names rests on the definitions `odd` and `idle`, the statement, and the law.
 SMALL = {
     "crates/low/specs/Numbers.antt": """-- Numbers.
 use Rattle.std.specs.Prelude.{◌≡◌, ◌+◌, ℕ, List, length}
@@ -238,6 +238,14 @@ use Rattle.low.specs.declared.kind.Kind.{Kind}
 
 abbrev pub seen : numbers.Both Kind → numbers.Both Kind
 seen b = record { size = b.size; next = b.next }
+""",
+    "crates/low/specs/Meaning.antt": """-- What an answer means.
+use Rattle.std.specs.Prelude.{◌≡◌, ℕ}
+use Rattle.low.specs.Numbers.{odd}
+
+-- the answer is odd
+abbrev pub TellsTruth : ℕ → Type 0
+TellsTruth n = n ≡ odd n
 """,
     "crates/low/proofs/Laws.antt": """use Rattle.std.specs.Prelude.{ℕ}
 use Rattle.low.specs.Numbers.{next}
@@ -308,9 +316,35 @@ pub fn size(shelf: &Shelf) -> usize
 | `fill(shelf, most)` | all |
 | `Size`: `size` | `odd` |
 """,
-    "README.md": "`ltl_cli::run` rests on 1 definitions, 2 lines in 3 files\n",
-    "docs/PROVED.md": "`high::fill` rests on 6 definitions, 26 lines in 3 files, and on `odd`\n",
+    "README.md": "`ltl_cli::run` rests on 1 definitions, 2 lines in 3 files, `TellsTruth` on 8\nlines, `odd` on 6 lines\n",
+    "docs/PROVED.md": "`high::fill` rests on 6 definitions, 26 lines in 3 files, and on `odd`\n| `TellsTruth` rests on 3 definitions, 8 lines in 2 files |\n",
 }
+
+STATED = """
+==== crates/low/specs/Numbers.antt: Numbers.
+
+-- the number and one
+abbrev pub next : ℕ → ℕ
+next n = n + 1
+
+abbrev pub odd : ℕ → ℕ
+odd n = next (next n)
+
+==== crates/low/specs/Meaning.antt: What an answer means.
+
+-- the answer is odd
+abbrev pub TellsTruth : ℕ → Type 0
+TellsTruth n = n ≡ odd n
+
+==== declared in the code
+
+
+==== names of the kit
+
+std.specs.Prelude: ℕ, ◌+◌, ◌≡◌
+
+TellsTruth rests on 3 definitions, 8 lines in 2 files, and on 0 names of the code and 3 of the kit
+"""
 
 BELIEVED = """
 ==== crates/low/specs/Numbers.antt: Numbers.
@@ -907,14 +941,33 @@ def try_believe(tree):
     (tree.top / small).chmod(0o755)
     tree.expect("a call", tree.run(small, "high::fill"), (BELIEVED, "", 0))
     tree.expect("without its crate", tree.run(small, "fill"), (BELIEVED, "", 0))
-    rows = ["| call | definitions | files | lines |", "|---|---|---|---|", "| `high::fill` | 6 | 3 | 25 |", "| `low::Size::size` | 1 | 1 | 6 |", ""]
-    tree.expect("all calls", tree.run(small), ("\n".join(rows), "", 0))
-    tree.expect("no such call", tree.run(small, "odd"), ("", "believe: odd is no public call\n", 2))
+    rows = "| `high::fill` | 6 | 3 | 25 |", "| `low::Size::size` | 1 | 1 | 6 |", "| `TellsTruth` | 3 | 2 | 8 |"
+    tree.expect("all calls, and a meaning", tree.run(small), ("\n".join(["| call | definitions | files | lines |", "|---|---|---|---|", *rows, ""]), "", 0))
+    for name in "TellsTruth", "Meaning.TellsTruth", "low.specs.Meaning.TellsTruth":
+        tree.expect(f"the definition {name}", tree.run(small, name), (STATED, "", 0))
+    for name in "nowhere", "Numbers.TellsTruth", "next.odd":
+        tree.expect(f"nothing by the name {name}", tree.run(small, name), ("", f"believe: {name} is neither a public call nor a definition\n", 2))
     tree.expect("several calls", tree.run(small, "size"), ("", "believe: size is one of high::size, low::Size::size\n", 2))
     shown, told, status = tree.run(small, "--check")
-    wrong = "docs/PROVED.md says that `high::fill` rests on 6 definitions, 26 lines in 3 files, and not that `high::fill` rests on 6 definitions, 25 lines in 3 files"
-    tree.expect("wrong numbers", (wrong in shown.split("\n"), "docs/PROVED.md doesn't say what `ltl_cli::run` rests on" in shown.split("\n"), told, status), (True, True, "", 1))
-    tree.expect("a call that isn't there", "README.md says that `ltl_cli::run` rests on 1 definitions, 2 lines in 3 files, and not that there is no such call" in shown, True)
+    wrong = [
+        "README.md doesn't say what `IsReadAsModels` rests on",
+        "README.md doesn't say what `IsTextOfModels` rests on",
+        "README.md doesn't say what `TellsVerdict` rests on",
+        "README.md says that `ltl_cli::run` rests on 1 definitions, 2 lines in 3 files, and not that there is no such call or definition",
+        "README.md says that `odd` on 6 lines, and not that `odd` rests on 2 definitions, 5 lines in 1 files",
+        "docs/PROVED.md doesn't say what `ltl_cli::run` rests on",
+        "docs/PROVED.md doesn't say what `IsReadAsModels` rests on",
+        "docs/PROVED.md doesn't say what `IsTextOfModels` rests on",
+        "docs/PROVED.md doesn't say what `TellsVerdict` rests on",
+        "docs/PROVED.md says that `high::fill` rests on 6 definitions, 26 lines in 3 files, and not that `high::fill` rests on 6 definitions, 25 lines in 3 files",
+    ]
+    tree.expect("what pages say", (shown.split("\n")[:-2], told, status), (wrong, "", 1))
+    tree.put("small/crates/low/specs/Meaning.antt", SMALL["crates/low/specs/Meaning.antt"].replace("-- the answer", "-- the number\n-- of the answer") + "\nabbrev pub idle : ℕ\nidle = 1\n")
+    shown = tree.run(small, "--check")[0].split("\n")
+    grown = "`TellsTruth` on 8 lines", "`TellsTruth` rests on 3 definitions, 8 lines in 2 files"
+    wrong = [f"{page} says that {it}, and not that `TellsTruth` rests on 3 definitions, 9 lines in 2 files" for page, it in zip(("README.md", "docs/PROVED.md"), grown)]
+    tree.expect("a definition that has grown", [it for it in shown if "TellsTruth" in it], wrong)
+    tree.expect("two definitions", tree.run(small, "idle"), ("", "believe: idle is one of Meaning.idle, Numbers.idle\n", 2))
     tree.put("small/crates/high/src/lib.rt", SMALL["crates/high/src/lib.rt"].replace("low.specs.Numbers as numbers", "low.proofs.Laws as numbers").replace("IsFull", "law"))
     tree.put("small/docs/LIBRARY.md", SMALL["docs/LIBRARY.md"].replace("`fill(shelf, most)`", "`fill(shelf)`, `empty(shelf)`"))
     shown = tree.run(small, "--check")[0].split("\n")
