@@ -1,4 +1,5 @@
 pub mod CallLemmas
+mod CombinationLaws
 mod LexerLemmas
 mod NameLemmas
 pub mod ParserLemmas

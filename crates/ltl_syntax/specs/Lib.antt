@@ -1,4 +1,5 @@
 pub mod CanonicalWork
+pub mod CombinationView
 pub mod FormulaView
 pub mod ParserView
 pub mod ReadText

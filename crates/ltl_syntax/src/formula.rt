@@ -1,10 +1,17 @@
 //! Formulas as syntax trees.
 
-ghost use Rattle.std.specs.Prelude.{◌≡◌, ◌<◌, length, slice_index_or, slice_get, Some, [], map, string_bytes};
+ghost use Rattle.std.specs.Prelude.{◌≡◌, ◌<◌, ◌≤◌, length, slice_index_or, slice_get, Some, [], map, string_bytes, IfOk, IfErr, OnOk};
 ghost use Rattle.ltl_syntax.specs.FormulaView.{IsFormula, StandsAt, reading_of, whole_tree};
+ghost use Rattle.ltl_syntax.specs.CombinationView.{IsEquivalence, IsImplication, combination};
+ghost use Rattle.ltl_syntax.specs.ReadText.{RefusesNames};
+ghost use Rattle.ltl_spec.specs.Formulas.Formula.{Iff, Implies};
+ghost use Rattle.ltl_spec.specs.Formulas.Names.{unified};
+ghost use Rattle.ltl_spec.specs.Tools.Limits.{stated_limits};
 ghost use Rattle.ltl_spec.specs.Formulas.Canonical.{canonical_text, formula_text};
 
-use crate::operators::Node;
+use crate::combining::combined;
+use crate::fault::ReadFault;
+use crate::operators::{BinaryOperator, Node};
 use std::alloc::Allocator;
 use std::marker::Model;
 
@@ -91,5 +98,32 @@ impl<'a, A: Allocator> Formula<'a, A> {
         ensures { result.now ≡ slice_index_or self.now.names i [] }
     {
         self.names[i].as_str()
+    }
+    /// The formula `self -> other`. Propositions of both with one name are the same; those of `other` that `self` lacks are numbered behind its own.
+    ///
+    /// # Errors
+    ///
+    /// There are more than `PROPOSITION_LIMIT` propositions together, or memory is refused.
+    pub fn implies(&self, alloc: &'a A, other: &Formula<'a, A>) -> Result<Formula<'a, A>, ReadFault>
+        ensures meaning { IfOk result (λ f. IsImplication (reading_of self.now) (reading_of other.now) (reading_of f)) }
+        ensures combination { IfOk result (λ f. reading_of f ≡ combination Implies (reading_of self.now) (reading_of other.now)) }
+        ensures few { OnOk result (length (unified self.now.names other.now.names) ≤ stated_limits.propositions) }
+        ensures refused { IfErr result (RefusesNames (length (unified self.now.names other.now.names))) }
+    {
+        combined(alloc, BinaryOperator::Implies, self, other)
+    }
+
+    /// The formula `self <-> other`, with propositions as in `implies`.
+    ///
+    /// # Errors
+    ///
+    /// Those of `implies`.
+    pub fn iff(&self, alloc: &'a A, other: &Formula<'a, A>) -> Result<Formula<'a, A>, ReadFault>
+        ensures meaning { IfOk result (λ f. IsEquivalence (reading_of self.now) (reading_of other.now) (reading_of f)) }
+        ensures combination { IfOk result (λ f. reading_of f ≡ combination Iff (reading_of self.now) (reading_of other.now)) }
+        ensures few { OnOk result (length (unified self.now.names other.now.names) ≤ stated_limits.propositions) }
+        ensures refused { IfErr result (RefusesNames (length (unified self.now.names other.now.names))) }
+    {
+        combined(alloc, BinaryOperator::Iff, self, other)
     }
 }

@@ -14,6 +14,7 @@
 #![tactic(auto)]
 
 mod canonical;
+mod combining;
 pub mod fault;
 pub mod formula;
 pub mod laws;

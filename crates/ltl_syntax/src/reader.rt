@@ -35,7 +35,7 @@ pub fn read<'a, A: Allocator>(alloc: &'a A, text: &[u8]) -> Result<Formula<'a, A
 }
 
 /// The formula with these nodes and names, if the names aren't too many.
-fn formula_from<'a, A: Allocator>(
+pub(crate) fn formula_from<'a, A: Allocator>(
     alloc: &'a A,
     nodes: Vec<Node, &'a A>,
     names: &NameSet<'_, 'a, A>,
