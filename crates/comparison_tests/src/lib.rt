@@ -7,5 +7,3 @@
 
 #[cfg(test)]
 mod runs;
-#[cfg(test)]
-mod streams;

@@ -1,11 +1,10 @@
 //! Tests of runs of the program.
 
-use crate::streams::{Given, Taken};
 use ltl_cli::Source;
 use ltl_comparison::compare_over;
 use ltl_streams::{ReaderSource, WriterSink};
 use ltl_words::comparer_plan;
-use refusing::Refusing;
+use refusing::{Given, Outcome, Refusing, Taken};
 use std::alloc::{Allocator, Global};
 use std::process::Abort;
 
@@ -33,14 +32,6 @@ fn whole<'t>(first: &'t str, second: &'t str) -> Files<'t> {
             left: usize::MAX,
         },
     }
-}
-
-/// What a run left.
-#[derive(Drop)]
-struct Outcome {
-    status: u8,
-    output: Taken,
-    message: Taken,
 }
 
 /// Runs the program with this command line, which is right, over these writers, and returns its exit status.
@@ -85,10 +76,7 @@ fn ended<A: Allocator>(
 
 /// Compares what a run left with what is wanted. The output is flushed once if the status is 0 or 1, and never if not.
 fn expect<R: Abort>(rt: &R, outcome: &Outcome, status: u8, output: &[u8], told: &str) {
-    assert_eq!(rt; outcome.status, status, "{told}");
-    assert_eq!(rt; outcome.output.held.as_slice(), output);
-    assert_eq!(rt; outcome.message.held.as_slice(), told.as_bytes());
-    assert!(rt; outcome.output.flushes == if status < 2 { 1 } else { 0 });
+    assert!(rt; outcome.is(status, output, told, status < 2), "{told}");
 }
 
 /// Texts of two formulas, the output, and the exit status. Each of these formulas has one word over its names, or all of their words satisfy both.

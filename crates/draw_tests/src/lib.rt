@@ -10,5 +10,3 @@
 mod pictures;
 #[cfg(test)]
 mod runs;
-#[cfg(test)]
-mod streams;

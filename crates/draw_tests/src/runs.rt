@@ -1,10 +1,9 @@
 //! Tests of runs of the program.
 
-use crate::streams::{Given, Taken};
 use ltl_cli::Source;
 use ltl_draw::{draw_over, plan};
 use ltl_streams::{ReaderSource, WriterSink};
-use refusing::Refusing;
+use refusing::{Given, Outcome, Refusing, Taken};
 use std::alloc::{Allocator, Global};
 use std::process::Abort;
 
@@ -42,14 +41,6 @@ fn drawn<A: Allocator>(
     )
 }
 
-/// What a run left.
-#[derive(Drop)]
-struct Outcome {
-    status: u8,
-    output: Taken,
-    message: Taken,
-}
-
 /// Runs the program with this command line. Its output fails after this number of bytes.
 fn ended<A: Allocator>(
     memory: Global,
@@ -70,10 +61,7 @@ fn ended<A: Allocator>(
 
 /// Compares what a run left with what is wanted. The output is flushed once if the status is 0, and never if not.
 fn expect<R: Abort>(rt: &R, outcome: &Outcome, status: u8, output: &[u8], told: &str) {
-    assert_eq!(rt; outcome.status, status, "{told}");
-    assert_eq!(rt; outcome.output.held.as_slice(), output);
-    assert_eq!(rt; outcome.message.held.as_slice(), told.as_bytes());
-    assert!(rt; outcome.output.flushes == if status == 0 { 1 } else { 0 });
+    assert!(rt; outcome.is(status, output, told, status == 0), "{told}");
 }
 
 fn whole(text: &str) -> Given<'_> {

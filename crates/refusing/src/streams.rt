@@ -10,9 +10,11 @@ fn fault() -> io::Error {
 
 /// A reader that gives a text, a few bytes in each call, and fails after a number of bytes.
 #[derive(Drop)]
-pub(crate) struct Given<'t> {
-    pub(crate) rest: &'t [u8],
-    pub(crate) left: usize,
+pub struct Given<'t> {
+    /// The bytes that aren't read yet.
+    pub rest: &'t [u8],
+    /// The number of bytes after which it fails.
+    pub left: usize,
 }
 
 impl Read for Given<'_> {
@@ -30,15 +32,20 @@ impl Read for Given<'_> {
 
 /// A writer that takes a number of bytes, a few in each call, and counts flushes.
 #[derive(Drop)]
-pub(crate) struct Taken {
-    pub(crate) held: Vec<u8>,
-    pub(crate) room: usize,
-    pub(crate) flushes: usize,
-    pub(crate) stays: bool,
+pub struct Taken {
+    /// The bytes that were written.
+    pub held: Vec<u8>,
+    /// The number of bytes after which it fails.
+    pub room: usize,
+    /// The number of flushes.
+    pub flushes: usize,
+    /// Whether a flush succeeds.
+    pub stays: bool,
 }
 
 impl Taken {
-    pub(crate) fn new(alloc: Global, room: usize) -> Taken {
+    /// A writer that fails after so many bytes, and whose flushes succeed.
+    pub fn new(alloc: Global, room: usize) -> Taken {
         Taken {
             held: Vec::new(alloc),
             room,
