@@ -1,17 +1,20 @@
--- The parts of the edges of an automaton, and a Büchi automaton with names as one with sets on its edges.
-use Rattle.std.proofs.Common.{◌≡◌, ℕ, ◌+◌, ◌<◌, ◌≤◌, Bool, true, false, List, [], ◌∷◌, length, map, Some, inl, inr, refl, sym, ◌∙◌, ap, subst, arith}
-use Rattle.std.specs.Prelude.{All, if◌then◌else◌, slice_index_or, slice_get, sum_by, fold}
+-- The parts of the edges of an automaton, and a Büchi or generalized automaton with names as one that is read.
+use Rattle.std.proofs.Common.{◌≡◌, ℕ, ◌+◌, ◌<◌, ◌≤◌, Bool, true, false, List, [], ◌∷◌, length, map, inl, inr, refl, sym, ◌∙◌, ap, subst, arith}
+use Rattle.std.specs.Prelude.{All, if◌then◌else◌, slice_index_or, sum_by, fold}
 use Rattle.std.proofs.lemmas.List.{get_or-map}
 use Rattle.ltl_spec.specs.Semantics.Word.{Name}
 use Rattle.ltl_spec.specs.Transitions.Cubes.{Literal}
 use Rattle.ltl_spec.specs.Automata.Automaton.{Automaton, State, Edge, state_at}
 use Rattle.ltl_spec.specs.Checking.Bounds.{HasNamesBelow}
 use Rattle.ltl_spec.proofs.Automata.ListedStates.{no_state}
-use Rattle.ltl_spec.proofs.Collections.ListLaws.{All-from_has}
+use Rattle.ltl_spec.proofs.Collections.ListLaws.{All-at_has, All-from_has}
 use Rattle.ltl_spec.proofs.Collections.MemberLaws.{map_cases, map_length}
 use Rattle.ltl_syntax.specs.FormulaView.{IsFormula}
 use Rattle.ltl_syntax.specs.declared.operators.Node.{Node}
 use Rattle.ltl_models.specs.BaView.{IsBa}
+use Rattle.ltl_models.specs.GbaView.{IsGba, IsEdgeWithin as IsGbaEdge}
+use Rattle.ltl_spec.specs.Hoa.HoaPrinted as generalized
+use Rattle.ltl_hoa.specs.declared.marked.TheConstants.{MOST_SETS}
 use Rattle.ltl_hoa.specs.MarkedView.{IsEdgeWithin, IsMarked}
 use Rattle.ltl_hoa.specs.Printed.{marked_edge, marked_of}
 use Rattle.ltl_check.specs.ProductView.{edge_from, edges_from, no_edge}
@@ -77,4 +80,36 @@ named_marked B nodes names ba formula named = record {
         marks = one_set (state_at B k).accepting;
       })));
   few_edges = subst (λ n. n ≤ 1_048_576) (sym (edge_sum B.states)) ba.few_edges;
+}
+
+-- the edges of all states are as many
+generalized_sum : (ss : List State) → sum_by length (map (λ s. s.edges) ss) ≡ sum_by (λ s. length s.edges) ss
+generalized_sum ss = total 0 ss
+  where
+    total : (n : ℕ) (ss : List State) → fold (λ a (es : List Edge). a + length es) n (map (λ s. s.edges) ss) ≡ fold (λ a (s : State). a + length s.edges) n ss
+    total n [] = refl
+    total n (s ∷ ss) = total (n + length s.edges) ss
+
+-- a generalized automaton with the names of a formula is within the limits, if it has few acceptance sets
+pub generalized_marked : (A : Automaton) (nodes : List Node) (names : List Name) → IsGba A → IsFormula nodes names → HasNamesBelow (length names) A → A.sets ≤ MOST_SETS
+    → IsMarked (generalized.marked_of A names)
+generalized_marked A nodes names gba formula named few = record {
+  counted = map_length (λ s. s.edges) A.states;
+  few_states = gba.few_states;
+  begins = gba.some;
+  few_names = formula.few;
+  few_sets = few;
+  propositions = formula.propositions;
+  differ = formula.distinct;
+  within = λ k d l.
+      let here : k < length A.states = (let n = map_length (λ (s : State). s.edges) A.states in omega (arith, n, l)) in
+      subst (All (IsEdgeWithin (length names) (length A.states) A.sets)) (sym (get_or-map (λ s. s.edges) A.states k no_state d here))
+      (All-from_has (IsEdgeWithin (length names) (length A.states) A.sets) (state_at A k).edges (λ e m.
+      let edge = All-at_has (IsGbaEdge (length A.states) A.sets) (state_at A k).edges (gba.within k no_state here) e m in
+      record {
+        cube = All-from_has (λ (j : Literal). j.proposition < length names) e.cube (named k e m);
+        target = edge.target;
+        marks = edge.marks;
+      }));
+  few_edges = subst (λ n. n ≤ 1_048_576) (sym (generalized_sum A.states)) gba.few_edges;
 }

@@ -43,7 +43,7 @@ pub use fault::CheckFault;
 pub use finding::find;
 pub use graph::{Graph, Step};
 pub use levels::Levels;
-pub use operand::{NamedBa, Operand};
+pub use operand::{NamedBa, NamedGba, Operand};
 pub use product::{Product, Steps};
 pub use shortest::{SHORTENING_LIMIT, shorten};
 pub use verdict::{Outcome, Verdict};

@@ -1,14 +1,16 @@
 //! The automata that can be the first one of a product.
 
-ghost use Rattle.std.specs.Prelude.{◌≡◌, ◌<◌, length, slice_index_or, []};
+ghost use Rattle.std.specs.Prelude.{◌≡◌, ◌<◌, ◌≤◌, length, slice_index_or, []};
 ghost use Rattle.ltl_spec.specs.Hoa.HoaReading.{MarkedAutomaton};
 ghost use Rattle.ltl_spec.specs.Checking.Bounds.{HasNamesBelow};
 ghost use Rattle.ltl_hoa.specs.MarkedView.{IsMarked};
 ghost use Rattle.ltl_hoa.specs.Printed as printed;
+ghost use Rattle.ltl_spec.specs.Hoa.HoaPrinted as generalized;
+ghost use Rattle.ltl_hoa.specs.declared.marked.TheConstants.{MOST_SETS};
 ghost use Rattle.ltl_check.specs.ProductView.{edge_from, edges_from};
 
 use ltl_hoa::Marked;
-use ltl_models::Ba;
+use ltl_models::{Ba, Gba};
 use ltl_sets::{Cube, RowSet};
 use ltl_syntax::Formula;
 use std::alloc::Allocator;
@@ -175,6 +177,72 @@ impl<'p, 'a, A: Allocator> Operand for NamedBa<'p, 'a, A> {
 
     fn invariant(&self) {
         self.ba.invariant();
+        self.formula.invariant();
+    }
+}
+
+/// A generalized Büchi automaton whose propositions are those of a formula, by number. It has at most as many acceptance sets as an automaton that is read.
+#[derive(Drop)]
+pub struct NamedGba<'p, 'a, A: Allocator> {
+    gba: &'p Gba<'a, A>,
+    formula: &'p Formula<'a, A>,
+    ghost named: { HasNamesBelow (length formula.now.names) gba.now },
+    ghost few: { gba.now.sets ≤ MOST_SETS },
+}
+
+impl<'p, 'a, A: Allocator> NamedGba<'p, 'a, A> {
+    /// The automaton with the names of the formula.
+    pub fn new(gba: &'p Gba<'a, A>, formula: &'p Formula<'a, A>) -> NamedGba<'p, 'a, A>
+        requires named { HasNamesBelow (length formula.now.names) gba.now }
+        requires few { gba.now.sets ≤ MOST_SETS }
+        ensures gba { result.gba.now ≡ gba.now }
+        ensures formula { result.formula.now ≡ formula.now }
+    {
+        NamedGba { gba, formula }
+    }
+}
+
+impl<'p, 'a, A: Allocator> Operand for NamedGba<'p, 'a, A> {
+    ghost automaton_of = { λ n. generalized.marked_of n.gba.now n.formula.now.names };
+
+    fn len(&self) -> usize {
+        self.gba.len()
+    }
+
+    fn start(&self) -> usize {
+        0
+    }
+
+    fn sets(&self) -> usize {
+        self.gba.sets()
+    }
+
+    fn name_count(&self) -> usize {
+        self.formula.name_count()
+    }
+
+    fn name(&self, i: usize) -> &str {
+        self.formula.name(i)
+    }
+
+    fn edge_count(&self, s: usize) -> usize {
+        self.gba.edges(s).len()
+    }
+
+    fn cube(&self, s: usize, k: usize) -> Cube {
+        self.gba.edges(s).get(k).cube
+    }
+
+    fn target(&self, s: usize, k: usize) -> usize {
+        self.gba.edges(s).get(k).target
+    }
+
+    fn marks(&self, s: usize, k: usize) -> RowSet {
+        self.gba.edges(s).get(k).marks
+    }
+
+    fn invariant(&self) {
+        self.gba.invariant();
         self.formula.invariant();
     }
 }
