@@ -25,7 +25,7 @@ use Rattle.ltl_syntax.specs.declared.operators.BinaryOperator.{BinaryOperator}
 use Rattle.ltl_syntax.specs.declared.fault.ReadFault.{ReadFault}
 use Rattle.ltl_syntax.specs.FormulaView.{FormulaView, IsFormula, StandsAt, binary_of, operands_of, reading_of, times, tree_in, tree_of, trees, unary_of, whole_tree, with_tree}
 use Rattle.ltl_syntax.specs.CanonicalWork.{HasOperands}
-use Rattle.ltl_syntax.specs.CombinationView.{HoldsOn, IsEquivalence, IsImplication, combination, joint_nodes, moved, moved_nodes, number_among, renumbered}
+use Rattle.ltl_syntax.specs.CombinationView.{HoldsOn, IsEquivalence, IsImplication, combination, joint_nodes, moved, number_among, renumbered}
 use Rattle.ltl_syntax.specs.ParserView.{AreUsedOnce}
 use Rattle.ltl_syntax.proofs.NameLemmas.{same_place}
 use Rattle.ltl_syntax.proofs.ParserLemmas.{operands_push}
@@ -49,13 +49,6 @@ pub place_found : (name : Bor Name) (ks : List (Bor Name)) (found : Option ℕ) 
     → place ≡ place_of same_name name.now (map (λ k. k.now) ks)
 place_found name ks found len place e f g =
     g ∙ (λ i. unwrap_or (e i) (f i)) ∙ found_or_len (λ k. same_name name.now k.now) ks ∙ same_place (λ k. k.now) (λ x y. same_name x.now y.now) (λ x y. refl) name ks
-
--- a node that stands behind its operands does so later, too
-pub stands_later : (count i j : ℕ) (v : Node) → StandsAt count i v → i ≤ j → StandsAt count j v
-stands_later count i j (Constant b) s l = tt
-stands_later count i j (Proposition p) s l = s
-stands_later count i j (Unary op a) s l = omega (arith, s, l)
-stands_later count i j (Binary op a b) s l = (omega (arith, s.0, l), omega (arith, s.1, l))
 
 module _ (base : ℕ) (number : ℕ → ℕ) (ns whole : List Node) where
   -- one node more is put
@@ -485,9 +478,6 @@ module _ (xs ys : List Name) where
 
 -- what a reader of the nodes of two formulas needs
 module _ (op : BinaryOperator) (f g : FormulaView) (F : IsFormula f.nodes f.names) (G : IsFormula g.nodes g.names) (all : List Name) (e : all ≡ unified f.names g.names) where
-  pub joint_some : 0 < length (joint_nodes op all f g)
-  joint_some = let l = push_length (moved_nodes 0 all f ++ moved_nodes (length (moved_nodes 0 all f)) all g) (top_node op (number_among all f.names) (number_among all g.names) f.nodes g.nodes) in omega (arith, l)
-
   pub joint_stand : HasOperands (length all) (joint_nodes op all f g)
   joint_stand = subst (λ a. HasOperands (length a) (joint_nodes op a f g)) (sym e)
       (joint_operands op (number_among (unified f.names g.names) f.names) (number_among (unified f.names g.names) g.names) f.nodes g.nodes
