@@ -45,7 +45,8 @@ impl fmt::Display for FaultKind {
 
 impl std::error::Error for FaultKind {}
 
-/// Why a text is not read. If several reasons apply, the first one in this order is answered. `OutOfMemory` may come in place of any.
+/// Why a text is not read. If several reasons apply, the first one in this order is answered. `OutOfMemory` may come in place of any. The last two are also
+/// why no formula is made of two.
 #[derive(Clone, Copy, Debug, PartialEq, Eq, Error)]
 pub enum ReadFault {
     /// The text has more than `TEXT_LIMIT` bytes.

@@ -15,8 +15,8 @@ use crate::operators::{BinaryOperator, Node};
 use std::alloc::Allocator;
 use std::marker::Model;
 
-/// A formula that was read: its nodes in postorder, so that operands come before their operators and the whole formula is last; the names of its
-/// propositions, numbered by first occurrence; and its canonical text.
+/// A formula that was read or made of two: its nodes in postorder, so that operands come before their operators and the whole formula is last; the
+/// names of its propositions, numbered by first occurrence; and its canonical text.
 #[derive(Drop)]
 pub struct Formula<'a, A: Allocator> {
     nodes: Vec<Node, &'a A>,
