@@ -1,8 +1,8 @@
 /* SPDX-License-Identifier: MIT OR Apache-2.0 */
-/* The translator, the checker and the evaluator as a library: linear temporal logic to Büchi automata.
+/* The translator, the checker, the evaluator and the comparer as a library: linear temporal logic to Büchi automata.
 
-   The calls do the work of the programs ltl2ba, ltlcheck and ltleval over texts in memory, and return their exit statuses: see ltl2ba(3), and for the
-   texts ltl2ba(1), ltlcheck(1) and ltleval(1). What the library does is proved for every input, on the conditions below. That this header declares it
+   The calls do the work of the programs ltl2ba, ltlcheck, ltleval and ltlcompare over texts in memory, and return their exit statuses: see ltl2ba(3), and
+   for the texts ltl2ba(1), ltlcheck(1), ltleval(1) and ltlcompare(1). What the library does is proved for every input, on the conditions below. That this header declares it
    correctly isn't proved: a test compares calls, structures and numbers with the library's sources.
 
    No call prints anything, ends the process, or keeps anything between calls: a call frees all its memory before it returns, so the caller has nothing to
@@ -42,8 +42,8 @@ extern "C" {
 #define LTL2BA_ABI 1
 
 /* Statuses: those of the programs, and one of a buffer that is too short. */
-#define LTL2BA_DONE 0          /* done; of a check: each word satisfies the formula; of an evaluation: the formula holds */
-#define LTL2BA_VIOLATED 1      /* of a check: a word violates the formula; of an evaluation: the formula doesn't hold */
+#define LTL2BA_DONE 0          /* done; of a check: each word satisfies the formula; of an evaluation: the formula holds; of two formulas: they are equivalent */
+#define LTL2BA_VIOLATED 1      /* of a check: a word violates the formula; of an evaluation: the formula doesn't hold; of two formulas: they aren't equivalent */
 #define LTL2BA_USAGE 2         /* the options have no meaning */
 #define LTL2BA_REFUSED 3       /* a text was refused */
 #define LTL2BA_OUT_OF_MEMORY 4 /* an allocation failed; the call may be made again */
@@ -163,9 +163,32 @@ struct ltlcheck_found {
 uint8_t ltlcheck_verdict(const uint8_t *formula, size_t formula_length, const uint8_t *automaton, size_t automaton_length,
                          uint8_t *buffer, size_t buffer_length, struct ltlcheck_found *found, struct ltl2ba_refusal *refusal);
 
+/* How two formulas compare. With LTL2BA_TOO_SHORT the lengths are the needed ones; the implications are those of the formulas then, too. With a refusal the
+   lengths are 0, and the implications false. */
+struct ltlcompare_found {
+    size_t first_only_length;      /* of the text of a word that satisfies the first formula and violates the second one, 0 if there is none */
+    size_t second_only_length;     /* of the text of a word that satisfies the second formula and violates the first one, 0 if there is none */
+    bool first_implies_second;     /* whether each word that satisfies the first formula satisfies the second one */
+    bool second_implies_first;     /* whether each word that satisfies the second formula satisfies the first one */
+    uint32_t subject;              /* what a refusal is about: one of the following */
+    struct ltl2ba_refusal refusal; /* why the formulas weren't compared */
+};
+
+#define LTL2BA_NEITHER_ALONE 0  /* the comparison of both; and without a refusal */
+#define LTL2BA_FIRST_FORMULA 1  /* the first formula, as it was read */
+#define LTL2BA_SECOND_FORMULA 2 /* the second formula, as it was read */
+
+/* Which of two formulas implies the other one: with status 0 each of them does, so they are equivalent. With status 1 one of them doesn't, and its buffer has
+   the text of a word that satisfies it and violates the other one: first_only for the first formula, second_only for the second one. Propositions of the same
+   name are the same. */
+uint8_t ltlcompare_verdict(const uint8_t *first, size_t first_length, const uint8_t *second, size_t second_length,
+                           uint8_t *first_only, size_t first_only_length, uint8_t *second_only, size_t second_only_length,
+                           struct ltlcompare_found *found);
+
 #define LTL2BA_TRANSLATOR 0 /* ltl2ba */
 #define LTL2BA_CHECKER 1    /* ltlcheck */
 #define LTL2BA_EVALUATOR 2  /* ltleval */
+#define LTL2BA_COMPARER 3   /* ltlcompare, for a refusal of neither formula alone; add the subject of the comparison */
 
 /* Writes the line that a program prints for a refusal, with its line feed, to the buffer, and its length to *length. It allocates nothing, and 128 bytes are
    enough for each line. The line is empty if there is no program or no refusal with this number. */

@@ -1,6 +1,6 @@
 #!/usr/bin/env python3
 """Builds the sources in tests/c and examples/c against the C library, and compares the answers of its calls with the programs: on the stored runs of
-tests/*.json, on 500 random formulas, with every length of a buffer up to the needed one, with each allocation refused, under valgrind, and with the
+tests/*.json, on 500 random formulas and on pairs of formulas, with every length of a buffer up to the needed one, with each allocation refused, under valgrind, and with the
 compiler's sanitizers. Links the shared library, and looks at its names. Builds the program in the manual page ltl2ba(3), linked in several ways, and compares
 what it prints with the program.
 
@@ -23,10 +23,10 @@ from pathlib import Path
 from run import text
 
 TOP = Path(__file__).resolve().parent.parent
-PROGRAMS = "ltl2ba", "ltlcheck", "ltleval"
+PROGRAMS = "ltl2ba", "ltlcheck", "ltleval", "ltlcompare"
 COMPILER, COMPILER_OF_CPP = os.environ.get("CC", "cc"), os.environ.get("CXX", "c++")
-SECONDS, RANDOM_FORMULAS = 600, 500
-KINDS = {"ltl2ba": "t", "ltlcheck": "c", "ltleval": "e"}
+SECONDS, RANDOM_FORMULAS, RANDOM_PAIRS = 600, 500, 200
+KINDS = {"ltl2ba": "t", "ltlcheck": "c", "ltleval": "e", "ltlcompare": "m"}
 FORMULAS = "[]<>p", "p U (q U r)", "[](p -> <>q)", "<>[]p && []<>q", "true", "false", "p", "X(p V q) || !r", "[](a U b) -> <>c", "(p <-> q) U X X r"
 WORD = b"{p}; cycle {q}; {}"
 SANITIZERS = "-fsanitize=address,undefined", "-fno-sanitize-recover=all"
@@ -57,19 +57,31 @@ def answers(words, requests):
     return found, ran.returncode, ran.stderr.decode(errors="replace")
 
 
+def second_of(tool, values, files, run):
+    """The word, the second formula, or the automaton."""
+    if tool == "ltleval":
+        return values["-w"].encode()
+    if tool == "ltlcompare":
+        return values["-g"].encode() if "-g" in values else files.get(values.get("-G"))
+    return files.get(values["-A"]) if "-A" in values else text(run.get("stdin", []))
+
+
 def asked(tool, run):
     """The request that stands for a stored run, if there is one, and its layout."""
     if run["status"] in (2, 5) or "output" in run or "message" in run or "stdout_begins" in run:
         return None
-    words, rest = getopt.getopt([it if isinstance(it, str) else text(it).decode() for it in run["args"]], "lopHGf:F:w:A:")
+    takes = "f:F:g:G:" if tool == "ltlcompare" else "lopHGf:F:w:A:"
+    words, rest = getopt.getopt([it if isinstance(it, str) else text(it).decode() for it in run["args"]], takes)
     values = dict(words)
     files = {name: text(it) for name, it in run.get("files", {}).items() if it is not None}
     if rest or any(it.startswith("=") for it in values.values()) or len(values) != len(words):
         return None
     formula = values["-f"].encode() if "-f" in values else files.get(values.get("-F"))
-    second = values["-w"].encode() if tool == "ltleval" else files.get(values["-A"]) if "-A" in values else text(run.get("stdin", []))
+    second = second_of(tool, values, files, run)
     if formula is None or second is None:
         return None
+    if tool == "ltlcompare":
+        return KINDS[tool], formula, 0, 0, -1, second
     layout = 1 if "-H" in values else 2 if "-G" in values else 0
     flags = sum(bit for bit, it in ((1, "-l"), (2, "-o"), (4, "-p")) if it in values)
     return KINDS[tool], formula, layout, flags, -1, b"" if tool == "ltl2ba" else second
@@ -82,7 +94,7 @@ def output_of(tool, found):
         return {0: b"true\n", 1: b"false\n"}.get(status, b"")
     if tool == "ltlcheck":
         return {0: handed + b"contained\n", 1: b"violated\n" + handed + b"\n"}.get(status, b"")
-    return handed
+    return handed.partition(b"\n")[2] if tool == "ltlcompare" else handed
 
 
 def first_places(formula):
@@ -160,6 +172,43 @@ def try_random_formulas(tally, driver, folder):
     try_arrays(tally, driver, folder, asked_for)
 
 
+def try_comparisons(tally, driver, folder):
+    """Compares the call with `ltlcompare`: on each pair of the formulas, on a few that are refused, and on random pairs."""
+    chance = random.Random(77)
+    pairs = [(one, two) for one in (*FORMULAS, "p U", "(" * 9) for two in (*FORMULAS, "q V", "p && 1")]
+    pairs += [(random_formula(chance, 3), random_formula(chance, 3)) for _ in range(RANDOM_PAIRS)]
+    found, status, told = answers([driver], [request("m", one.encode(), second=two.encode()) for one, two in pairs])
+    tally.expect("comparisons: the driver ends", (status, told, len(found)), (0, "", len(pairs)))
+    for (one, two), it in zip(pairs, found):
+        ran = subprocess.run([f"{folder}/ltlcompare", "-f", one, "-g", two], capture_output=True, timeout=SECONDS, check=False)
+        tally.expect(f"{one} and {two}", (it[0], output_of("ltlcompare", it), it[2], it[3][2]), (ran.returncode, ran.stdout, ran.stderr, 0))
+        tally.expect(f"what is told of {one} and {two}", it[1].partition(b"\n")[0], told_of(ran.stdout, ran.stderr))
+    print(f"{len(pairs)} comparisons")
+
+
+def told_of(printed, message):
+    """The lengths of both words, the implications and the subject, by what the program prints."""
+    words = [len((re.search(rb"^%s only: (.*)$" % which, printed, re.M) or [b"", b""])[1]) for which in (b"first", b"second")]
+    implied = [printed.startswith(b"equivalent") or printed.startswith(it) for it in (b"first implies", b"second implies")]
+    subject = 1 if b" first formula:" in message else 2 if b" second formula:" in message else 0
+    return "{} {} {:d} {:d} {}".format(*words, *implied, subject).encode()
+
+
+def try_comparison_lengths(tally, driver):
+    """One buffer of each length up to the needed one, the other of the needed one."""
+    for one, two in zip(FORMULAS, FORMULAS[1:]):
+        pair = {"formula": one.encode(), "second": two.encode()}
+        status, whole, _, _ = answers([driver], [request("m", **pair)])[0][0]
+        counts = whole.partition(b"\n")[0] + b"\n"
+        needed = list(map(int, counts.split()[:2]))
+        rooms = [(which, room) for which, most in enumerate(needed) for room in range(most + 2)]
+        found, code, told = answers([driver], [request("m", flags=which, room=room, **pair) for which, room in rooms])
+        tally.expect(f"{one} and {two}: the driver ends", (code, told, len(found)), (0, "", len(rooms)))
+        for (which, room), it in zip(rooms, found):
+            wanted = (status, whole) if room >= needed[which] else (6, counts)
+            tally.expect(f"{one} and {two}, with room for {room}", (it[:2], it[3][2]), (wanted, 0))
+
+
 def try_lengths(tally, driver):
     for formula in FORMULAS:
         whole = answers([driver], [request("t", formula.encode(), 1), request("n", formula.encode())])[0]
@@ -191,7 +240,7 @@ def try_growths(tally, driver, formulas):
     growths = 0
     for formula in formulas:
         hoa = answers([driver], [request("t", b"true", 1)])[0][0][1]
-        requests = [request(kind, formula.encode(), layout, 0, -2, second) for kind, layout, second in (("t", 0, b""), ("t", 1, b""), ("t", 2, b""), ("n", 0, b""), ("a", 1, b""), ("a", 2, b""), ("e", 0, WORD), ("c", 0, hoa))]
+        requests = [request(kind, formula.encode(), layout, 0, -2, second) for kind, layout, second in (("t", 0, b""), ("t", 1, b""), ("t", 2, b""), ("n", 0, b""), ("a", 1, b""), ("a", 2, b""), ("e", 0, WORD), ("c", 0, hoa), ("m", 0, b"<>[]p"))]
         found, code, told = answers([driver], requests)
         tally.expect(f"{formula}: the driver ends", (code, told, len(found)), (0, "", len(requests)))
         for it in found:
@@ -336,6 +385,8 @@ def try_examples(tally, folder, programs, checker):
         tally.expect(f"word {formula}", (word, told, status), wanted)
         if not is_empty:
             tally.expect(f"{formula} on {word}", ran(f"{programs}/ltleval", "-f", formula, "-w", word[:-1]), ("true\n", "", 0))
+    for one, two in (*zip(FORMULAS, FORMULAS[1:]), ("p U", "q"), ("p", "q U")):
+        tally.expect(f"compare {one} and {two}", ran(*checker, f"{examples}/compare", one, two), ran(f"{programs}/ltlcompare", "-f", one, "-g", two))
     for name in "dot", "word":
         tally.expect(f"the message of {name}", ran(f"{examples}/{name}", "p U"), ("", "ltl2ba: formula: byte 3: expected operand\n", 3))
 
@@ -374,9 +425,11 @@ def try_all(tally, folder, programs, driver, archive):
     try_random_formulas(tally, driver, programs)
     try_lengths(tally, driver)
     try_array_lengths(tally, driver)
+    try_comparisons(tally, driver, programs)
+    try_comparison_lengths(tally, driver)
     try_growths(tally, driver, FORMULAS)
     sanitized, faults = driver_in(folder, "sanitized", archive, *SANITIZERS)
-    few = [request(kind, it.encode(), layout, 0, -1, second) for it in FORMULAS for kind, layout, second in (("t", 0, b""), ("t", 2, b""), ("n", 0, b""), ("a", 0, b""), ("a", 2, b""), ("e", 0, WORD), ("c", 0, b"HOA: v2"))]
+    few = [request(kind, it.encode(), layout, 0, -1, second) for it in FORMULAS for kind, layout, second in (("t", 0, b""), ("t", 2, b""), ("n", 0, b""), ("a", 0, b""), ("a", 2, b""), ("e", 0, WORD), ("c", 0, b"HOA: v2"), ("m", 0, b"<>[]p"))]
     right = answers([driver], few)[0]
     if faults is None:
         tally.expect("with sanitizers", answers([sanitized], few), (right, 0, ""))

@@ -1,12 +1,13 @@
 /* Makes the calls of include/ltl2ba.h that its standard input asks for, and writes what they answer.
 
    A request is a line `KIND LAYOUT FLAGS ROOM FIRST SECOND` and then the bytes of two texts of these lengths. KIND is t (text), n (names), e (evaluation),
-   c (check) or a (automaton), FLAGS has 1, 2 and 4 for no_rewrite, keep_implied and keep_equal. ROOM is the length of the buffer; with -1
+   c (check), a (automaton) or m (comparison), FLAGS has 1, 2 and 4 for no_rewrite, keep_implied and keep_equal. ROOM is the length of the buffer; with -1
    a call with no room asks for the length, and a second one has exactly that; with -2 that is done with each growth of memory refused in turn, until none
    was left to refuse. Of an automaton it is the length of the array that the second text names, s (states), e (edges) or n (names), and the other two have the
-   length that is needed. The answer is a line `STATUS LENGTH MESSAGE COUNTS` and the bytes of the text and of the message; COUNTS are three numbers, and of a
+   length that is needed; of a comparison FLAGS is 0 if that is the length of the first buffer, and 1 if it is that of the second one. The answer is a line `STATUS LENGTH MESSAGE COUNTS` and the bytes of the text and of the message; COUNTS are three numbers, and of a
    text the third is 1 where what stands behind the text was changed. The text of an automaton is a line with its four counts, and behind it, with status 0,
-   what the Hanoi Omega-Automata format says of the names, which have their places beside them, of states and of edges.
+   what the Hanoi Omega-Automata format says of the names, which have their places beside them, of states and of edges. That of a comparison is a line with
+   the two lengths, the two implications and the subject, and behind it, with status 0 or 1, what the program prints.
 
    It is linked with --wrap for malloc and realloc. */
 #include <ltl2ba.h>
@@ -42,9 +43,9 @@ struct request {
     uint8_t *first, *second;
 };
 
-/* The length of a buffer, or those of three arrays. */
+/* The length of a buffer, those of three arrays, or those of two buffers. */
 struct room {
-    size_t bytes, states, edges, names;
+    size_t bytes, states, edges, names, first, second;
 };
 
 struct answer {
@@ -52,6 +53,7 @@ struct answer {
     size_t length, growths, truth;
     struct room needed;
     struct ltl2ba_refusal refusal;
+    uint32_t subject;
     uint8_t *text;
     int is_changed;
 };
@@ -141,11 +143,50 @@ static struct answer call_automaton(const struct request *asked, const struct lt
         put_automaton(to, asked, states, edges, names, &counts);
     fclose(to);
     left_to_refuse = held;
-    made.needed = (struct room){0, counts.states, counts.edges, counts.names};
+    made.needed = (struct room){.states = counts.states, .edges = counts.edges, .names = counts.names};
     made.refusal = counts.refusal;
     free(states);
     free(edges);
     free(names);
+    return made;
+}
+
+/* What the program prints for a comparison. */
+static void put_comparison(FILE *to, const struct ltlcompare_found *found, const uint8_t *first_only, const uint8_t *second_only)
+{
+    fputs(found->first_implies_second ? found->second_implies_first ? "equivalent\n" : "first implies second\n" : found->second_implies_first ? "second implies first\n" : "incomparable\n", to);
+    if (found->first_only_length)
+        fprintf(to, "first only: %.*s\n", (int)found->first_only_length, (const char *)first_only);
+    if (found->second_only_length)
+        fprintf(to, "second only: %.*s\n", (int)found->second_only_length, (const char *)second_only);
+}
+
+/* One call, with two buffers of these lengths. */
+static struct answer call_comparison(const struct request *asked, struct room room)
+{
+    struct answer made = {0};
+    struct ltlcompare_found found;
+    uint8_t *first_only = room_for(room.first, 1), *second_only = room_for(room.second, 1);
+    memset(&found, 0xa5, sizeof found);
+    made.status = ltlcompare_verdict(asked->first, asked->first_length, asked->second, asked->second_length, first_only, room.first, second_only, room.second, &found);
+    int is_written = made.status == LTL2BA_DONE || made.status == LTL2BA_VIOLATED;
+    made.is_changed = is_changed_behind(first_only, is_written ? found.first_only_length : 0, room.first, 1)
+        || is_changed_behind(second_only, is_written ? found.second_only_length : 0, room.second, 1);
+    long held = left_to_refuse;
+    left_to_refuse = 0;
+    FILE *to = open_memstream((char **)&made.text, &made.length);
+    if (!to)
+        exit(9);
+    fprintf(to, "%zu %zu %d %d %u\n", found.first_only_length, found.second_only_length, found.first_implies_second, found.second_implies_first, (unsigned)found.subject);
+    if (is_written)
+        put_comparison(to, &found, first_only, second_only);
+    fclose(to);
+    left_to_refuse = held;
+    made.needed = (struct room){.first = found.first_only_length, .second = found.second_only_length};
+    made.refusal = found.refusal;
+    made.subject = found.subject;
+    free(first_only);
+    free(second_only);
     return made;
 }
 
@@ -159,6 +200,8 @@ static struct answer call(const struct request *asked, struct room of)
     bool holds = false;
     if (asked->kind == 'a')
         return call_automaton(asked, &options, of);
+    if (asked->kind == 'm')
+        return call_comparison(asked, of);
     memset(&made.refusal, 0xa5, sizeof made.refusal);
     made.text = room_for(room, 1);
     switch (asked->kind) {
@@ -203,16 +246,19 @@ static struct answer call_twice(const struct request *asked)
     return call(asked, needed);
 }
 
-/* With room for so many bytes, or so many elements of the array that is asked for. */
+/* With room for so many bytes, or so many elements of the array or bytes of the buffer that is asked for. */
 static struct answer call_within(const struct request *asked, size_t room)
 {
-    struct room of = {room, 0, 0, 0};
-    if (asked->kind != 'a')
+    struct room of = {.bytes = room};
+    if (asked->kind != 'a' && asked->kind != 'm')
         return call(asked, of);
     struct answer made = call(asked, of);
     of = made.needed;
     let_go(&made);
-    *(asked->second[0] == 's' ? &of.states : asked->second[0] == 'e' ? &of.edges : &of.names) = room;
+    if (asked->kind == 'm')
+        *(asked->flags ? &of.second : &of.first) = room;
+    else
+        *(asked->second[0] == 's' ? &of.states : asked->second[0] == 'e' ? &of.edges : &of.names) = room;
     return call(asked, of);
 }
 
@@ -253,8 +299,10 @@ static void answer(const struct request *asked, struct answer *made)
     if (made->status < 90 && !is_exact(made->status, &made->refusal))
         made->status = 92;
     uint8_t line[128];
-    size_t told, length = (made->status == LTL2BA_TOO_SHORT && asked->kind != 'a') || asked->kind == 'e' || asked->room == -2 ? 0 : made->length;
-    ltl2ba_message(asked->kind == 'c' ? LTL2BA_CHECKER : asked->kind == 'e' ? LTL2BA_EVALUATOR : LTL2BA_TRANSLATOR, &made->refusal, line, sizeof line, &told);
+    int has_lengths = asked->kind == 'a' || asked->kind == 'm';
+    size_t told, length = (made->status == LTL2BA_TOO_SHORT && !has_lengths) || asked->kind == 'e' || asked->room == -2 ? 0 : made->length;
+    uint32_t program = asked->kind == 'c' ? LTL2BA_CHECKER : asked->kind == 'e' ? LTL2BA_EVALUATOR : asked->kind == 'm' ? LTL2BA_COMPARER + made->subject : LTL2BA_TRANSLATOR;
+    ltl2ba_message(program, &made->refusal, line, sizeof line, &told);
     printf("%d %zu %zu %zu %zu %zu\n", made->status, length, told, made->length, made->growths, asked->kind == 'e' || asked->kind == 'c' ? made->truth : (size_t)made->is_changed);
     fwrite(made->text, 1, length, stdout);
     fwrite(line, 1, told, stdout);

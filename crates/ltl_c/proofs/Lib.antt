@@ -1,6 +1,7 @@
 pub mod ArrayLaws
 pub mod CallLaws
 pub mod CodeLaws
+pub mod ComparisonLaws
 pub mod FoundLaws
 pub mod HandLaws
 pub mod LineLaws

@@ -6,7 +6,9 @@ use Rattle.ltl_spec.specs.Formulas.Fault.{FaultKind, UnexpectedByte, ExpectedOpe
 use Rattle.ltl_spec.specs.Hoa.HoaFaultKind.{HoaFaultKind, NotHoaVersion1, BadToken, ItemTwice, ItemMissing, UnknownItem, Unsupported, NumberOutOfRange, BadPropositionList, StateDefinedTwice, TextAfterEnd, LimitPassed, hoa_fault_text}
 use Rattle.ltl_spec.specs.Tools.Limits.{stated_limits}
 use Rattle.ltl_spec.specs.Tools.Refusal.{Tool, Translator, Checker, Evaluator, message, Refusal, Usage, CannotOpen, CannotRead, CannotWrite, OutOfMemory, LongFormula, TooManyPropositions, TooManyRows, TooManyElementaryRows, LargeAutomaton, LongWord, LargeProduct, BadFormula, BadWord, BadAutomaton, fault_text}
+use Rattle.ltl_spec.specs.Tools.Comparer.{Subject, First, Second, Other, comparer_message}
 use Rattle.ltl_c.specs.declared.refusal_code.RefusalCode.{RefusalCode}
+use Rattle.ltl_c.specs.declared.subject.Subject as code
 
 -- the faults of a formula and of an automaton, by number
 
@@ -57,14 +59,37 @@ code_for (Some CannotOpen) = code_with 13 0 0
 code_for (Some CannotRead) = code_with 14 0 0
 code_for (Some CannotWrite) = code_with 15 0 0
 
--- the programs by number
-abbrev pub tool_numbered : ℕ → Option Tool
-tool_numbered n = slice_get (Translator ∷ Checker ∷ Evaluator ∷ []) n
+-- what a refusal of the comparer is about, by number
+abbrev pub subject_number : Subject → ℕ
+subject_number Other = 0
+subject_number First = 1
+subject_number Second = 2
 
--- the line that the program with this number prints for a refusal; empty if there is no program or no refusal
-abbrev pub line_with : Option Tool → Option Refusal → List ℕ
-line_with (Some tool) (Some refusal) = message stated_limits tool refusal
+abbrev pub subject_in : code.Subject → Subject
+subject_in code.TheVariants.Other = Other
+subject_in code.TheVariants.First = First
+subject_in code.TheVariants.Second = Second
+
+-- ---- lines
+
+-- a program; the comparer with what a refusal is about
+pub data Program : Type 0 where
+  Plain : Tool → Program
+  Comparer : Subject → Program
+
+-- the programs by number
+abbrev pub program_numbered : ℕ → Option Program
+program_numbered n = slice_get (Plain Translator ∷ Plain Checker ∷ Plain Evaluator ∷ Comparer Other ∷ Comparer First ∷ Comparer Second ∷ []) n
+
+-- the line that a program prints for a refusal
+abbrev pub program_line : Program → Refusal → List ℕ
+program_line (Plain tool) refusal = message stated_limits tool refusal
+program_line (Comparer subject) refusal = comparer_message stated_limits subject refusal
+
+-- the same; empty if there is no program or no refusal
+abbrev pub line_with : Option Program → Option Refusal → List ℕ
+line_with (Some program) (Some refusal) = program_line program refusal
 line_with _ _ = []
 
 abbrev pub line_numbered : ℕ → RefusalCode → List ℕ
-line_numbered program code = line_with (tool_numbered program) (refusal_in code)
+line_numbered program code = line_with (program_numbered program) (refusal_in code)

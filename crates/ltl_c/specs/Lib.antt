@@ -1,5 +1,7 @@
 pub mod Arrays
 pub mod Calls
 pub mod Codes
+pub mod Comparisons
+pub mod Lines
 pub mod Names
 pub mod Verdicts

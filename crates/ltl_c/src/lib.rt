@@ -13,6 +13,7 @@ mod arrays;
 pub mod automaton;
 mod buffer;
 pub mod checking;
+pub mod comparison;
 pub mod evaluation;
 mod made;
 pub mod message;
@@ -20,6 +21,7 @@ pub mod names;
 mod places;
 pub mod refusal_code;
 pub mod rows;
+mod subject;
 #[cfg(test)]
 mod tests;
 pub mod text;

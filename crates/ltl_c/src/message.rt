@@ -1,14 +1,18 @@
 //! The C call `ltl2ba_message`: the line that a program prints for a refusal.
 
 ghost use Rattle.std.specs.Prelude.{◌≡◌, ◌+◌, ◌≤◌, ◌++◌, Option, length, option_map};
+ghost use Rattle.ltl_spec.specs.Tools.Comparer.{comparer_message, subject_of_text};
+ghost use Rattle.ltl_spec.specs.Tools.Limits.{stated_limits};
 ghost use Rattle.ltl_spec.specs.Tools.Refusal as spec;
-ghost use Rattle.ltl_words.specs.Tools.{tool_of};
 ghost use Rattle.ltl_cli.specs.Messages.{line_for, number_text};
+ghost use Rattle.ltl_cli.specs.Refusals.{refusal_of};
 ghost use Rattle.ltl_c.specs.Calls.{Delivers};
-ghost use Rattle.ltl_c.specs.Codes.{code_for, line_numbered, refusal_in, tool_numbered};
+ghost use Rattle.ltl_c.specs.Codes.{code_for, line_numbered, program_line, program_numbered, refusal_in, subject_in};
+ghost use Rattle.ltl_c.specs.Lines.{comparer_front_text, program_in};
 
 use crate::buffer::deliver;
 use crate::refusal_code::{RefusalCode, refusal_at};
+use crate::subject::Subject;
 use arrayvec::ArrayVec;
 use ltl_cli::Refusal;
 use ltl_cli::message::{back, front, name, number};
@@ -16,11 +20,18 @@ use ltl_text::Digits;
 use ltl_words::Tool;
 
 /// Room for the longest line of a program, in bytes.
-const SIZE: usize = 128;
+const SIZE: usize = 144;
+
+/// A program; the comparer with what a refusal is about.
+#[derive(Clone, Copy, Debug, PartialEq, Eq)]
+enum Program {
+    Plain(Tool),
+    Comparer(Subject),
+}
 
 /// Appends bytes. There is room for them.
 fn put(line: &mut ArrayVec<u8, SIZE>, bytes: &[u8])
-    requires { length line.old.items + length bytes.now ≤ 128 }
+    requires { length line.old.items + length bytes.now ≤ 144 }
     ensures { line.new.items ≡ line.old.items ++ bytes.now }
 {
     let _ = line.try_extend_from_slice(bytes);
@@ -39,7 +50,7 @@ fn put_number(line: &mut ArrayVec<u8, SIZE>, number: Option<usize>)
 }
 
 /// The whole line for a refusal, with a line feed.
-fn line_of(tool: Tool, refusal: Refusal) -> ArrayVec<u8, SIZE>
+fn plain_line(tool: Tool, refusal: Refusal) -> ArrayVec<u8, SIZE>
     ensures { result.items ≡ line_for tool refusal }
 {
     let mut line = ArrayVec::new();
@@ -51,21 +62,71 @@ fn line_of(tool: Tool, refusal: Refusal) -> ArrayVec<u8, SIZE>
     line
 }
 
-/// The tool with this number.
-fn tool_at(number: u32) -> Option<Tool>
-    ensures { option_map tool_of result ≡ tool_numbered number }
+/// What stands before the text of a refusal of the comparer: which formula has a syntax error.
+fn formula_name(subject: Subject, refusal: Refusal) -> &'static [u8]
+    ensures name { result.now ≡ subject_of_text (subject_in subject) (refusal_of refusal) }
+    ensures short { length result.now ≤ 7 }
+{
+    match (refusal, subject) {
+        (Refusal::BadFormula(_, _), Subject::First) => b"first ",
+        (Refusal::BadFormula(_, _), Subject::Second) => b"second ",
+        _ => b"",
+    }
+}
+
+/// The comparer's text of a refusal up to its number, or all of it if it has no number.
+fn comparer_front(refusal: Refusal) -> &'static [u8]
+    ensures front { result.now ≡ comparer_front_text (refusal_of refusal) }
+    ensures short { length result.now ≤ 64 }
+{
+    match refusal {
+        Refusal::Usage => b"usage: ltlcompare (-f formula | -F file) (-g formula | -G file)",
+        _ => front(Tool::Checker, refusal),
+    }
+}
+
+/// The whole line of the comparer for a refusal, with a line feed.
+fn comparer_line(subject: Subject, refusal: Refusal) -> ArrayVec<u8, SIZE>
+    ensures { result.items ≡ comparer_message stated_limits (subject_in subject) (refusal_of refusal) }
+{
+    let mut line = ArrayVec::new();
+    put(&mut line, b"ltlcompare: ");
+    put(&mut line, formula_name(subject, refusal));
+    put(&mut line, comparer_front(refusal));
+    put_number(&mut line, number(refusal));
+    put(&mut line, back(refusal));
+    put(&mut line, b"\n");
+    line
+}
+
+/// The whole line of a program for a refusal.
+fn line_of(program: Program, refusal: Refusal) -> ArrayVec<u8, SIZE>
+    ensures { result.items ≡ program_line (program_in program) (refusal_of refusal) }
+{
+    match program {
+        Program::Plain(tool) => plain_line(tool, refusal),
+        Program::Comparer(subject) => comparer_line(subject, refusal),
+    }
+}
+
+/// The program with this number.
+fn program_at(number: u32) -> Option<Program>
+    ensures { option_map program_in result ≡ program_numbered number }
 {
     match number {
-        0 => Some(Tool::Translator),
-        1 => Some(Tool::Checker),
-        2 => Some(Tool::Evaluator),
+        0 => Some(Program::Plain(Tool::Translator)),
+        1 => Some(Program::Plain(Tool::Checker)),
+        2 => Some(Program::Plain(Tool::Evaluator)),
+        3 => Some(Program::Comparer(Subject::Other)),
+        4 => Some(Program::Comparer(Subject::First)),
+        5 => Some(Program::Comparer(Subject::Second)),
         _ => None,
     }
 }
 
-/// Writes the line that a program prints for a refusal into the buffer. The program is 0 for `ltl2ba`, 1 for `ltlcheck`, 2 for `ltleval`. The text is empty
-/// if there is no such program or if the code is that of no refusal. The result is 0, or 6 if the buffer is too short; `count` is the length of the line in
-/// bytes. It allocates nothing.
+/// Writes the line that a program prints for a refusal into the buffer. The program is 0 for `ltl2ba`, 1 for `ltlcheck`, 2 for `ltleval`, and for `ltlcompare`
+/// 3 and the `subject` of the comparison added. The text is empty if there is no such program or if the code is that of no refusal. The result is 0, or 6 if
+/// the buffer is too short; `count` is the length of the line in bytes. It allocates nothing.
 #[unsafe(no_mangle)]
 #[tactic(auto, using(crate::proofs::CodeLaws::code_read))]
 pub extern "C" fn ltl2ba_message(
@@ -77,8 +138,10 @@ pub extern "C" fn ltl2ba_message(
     ensures line { Delivers 0 (line_numbered program refusal.now) buffer.old buffer.new count.new result }
     ensures reported { (reason : Option spec.Refusal) → refusal.now ≡ code_for reason → refusal_in refusal.now ≡ reason }
 {
-    match (tool_at(program), refusal_at(refusal)) {
-        (Some(tool), Some(reason)) => deliver(0, line_of(tool, reason).as_slice(), buffer, count),
+    match (program_at(program), refusal_at(refusal)) {
+        (Some(program), Some(reason)) => {
+            deliver(0, line_of(program, reason).as_slice(), buffer, count)
+        }
         _ => deliver(0, b"", buffer, count),
     }
 }

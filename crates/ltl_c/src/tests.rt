@@ -2,6 +2,7 @@
 
 use crate::automaton::ltl2ba_automaton;
 use crate::checking::{Found, ltlcheck_verdict};
+use crate::comparison::{Compared, ltlcompare_verdict};
 use crate::evaluation::ltleval_holds;
 use crate::message::ltl2ba_message;
 use crate::names::ltl2ba_names;
@@ -180,4 +181,100 @@ fn automaton_of_a_formula(rt: HostRuntime) {
     assert_eq!(rt; (edges[3].asked_false[0], edges[3].sets[0]), (0, 0));
     assert_eq!(rt; edges[4].target, 9);
     assert_eq!(rt; (names[0].offset, names[0].count), (4, 1));
+}
+
+fn nothing_compared() -> Compared {
+    Compared {
+        first_only_length: 0,
+        second_only_length: 0,
+        first_implies_second: true,
+        second_implies_first: true,
+        subject: 7,
+        refusal: no_refusal(),
+    }
+}
+
+#[test]
+fn formulas_compared(rt: HostRuntime) {
+    let mut found = nothing_compared();
+    let mut first_only = [0u8; 100];
+    let mut second_only = [0u8; 100];
+    let status = ltlcompare_verdict(
+        rt.alloc(),
+        b"[]p",
+        b"[]p || p && X[]!p",
+        &mut first_only,
+        &mut second_only,
+        &mut found,
+    );
+    assert_eq!(rt; (status, found.subject, found.refusal.kind), (1, 0, 0));
+    assert_eq!(rt;
+        (found.first_implies_second, found.second_implies_first),
+        (true, false)
+    );
+    assert_eq!(rt; found.first_only_length, 0);
+    assert!(rt; &second_only[..found.second_only_length] == b"{p}; cycle {}".as_slice());
+    let mut short = [0u8; 5];
+    let too_short = ltlcompare_verdict(
+        rt.alloc(),
+        b"[]p || p && X[]!p",
+        b"[]p",
+        &mut short,
+        &mut second_only,
+        &mut found,
+    );
+    assert_eq!(rt;
+        (too_short, found.first_only_length, found.second_only_length),
+        (6, 13, 0)
+    );
+    assert_eq!(rt;
+        (found.first_implies_second, found.second_implies_first),
+        (false, true)
+    );
+    assert!(rt; short == [0u8; 5]);
+    let equivalent = ltlcompare_verdict(
+        rt.alloc(),
+        b"<>p || <>q",
+        b"<>(p || q)",
+        &mut short,
+        &mut second_only,
+        &mut found,
+    );
+    assert_eq!(rt;
+        (
+            equivalent,
+            found.first_only_length,
+            found.second_only_length
+        ),
+        (0, 0, 0)
+    );
+}
+
+#[test]
+fn second_formula_refused(rt: HostRuntime) {
+    let mut found = nothing_compared();
+    let mut first_only = [0u8; 100];
+    let mut second_only = [0u8; 100];
+    let status = ltlcompare_verdict(
+        rt.alloc(),
+        b"p",
+        b"p U",
+        &mut first_only,
+        &mut second_only,
+        &mut found,
+    );
+    assert_eq!(rt; (status, found.subject, found.refusal.kind), (3, 2, 4));
+    assert_eq!(rt;
+        (found.first_implies_second, found.second_implies_first),
+        (false, false)
+    );
+    let mut line = [0u8; 128];
+    let mut count = 0;
+    assert_eq!(rt;
+        ltl2ba_message(3 + found.subject, &found.refusal, &mut line, &mut count),
+        0
+    );
+    assert!(rt;
+        &line[..count] == b"ltlcompare: second formula: byte 3: expected operand\n".as_slice()
+    );
 }

@@ -2,7 +2,7 @@ use Rattle.std.proofs.Common.{◌∙◌, ◌++◌, ap}
 use Rattle.ltl_words.specs.Tools.{tool_of}
 use Rattle.ltl_cli.specs.Refusals.{refusal_of}
 use Rattle.ltl_c.proofs.LineLaws.{whole_line}
-use Rattle.ltl_c.proofs.message.line_of.Goals as goal
+use Rattle.ltl_c.proofs.message.plain_line.Goals as goal
 
 pub returns : goal.returns
 returns c =
