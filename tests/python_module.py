@@ -1,6 +1,6 @@
 #!/usr/bin/env python3
 """Runs the tests of the module for Python, python/tests, in Python's development mode, in which a warning is a fault. Installs the wheel that ./package makes
-in a new virtual environment, and tries it there. Has mypy read the types, if it is installed.
+in a new virtual environment, and the sources by `pip install ./python`, and tries both there. Has mypy read the types, if it is installed.
 
 Usage: tests/python_module.py [FOLDER]; the programs are those of the folder, or those that the gate built. What isn't run, as everything is without the shared
 library for C, is reported in a line that begins with 'skipped: '. The last line is 'N passed, M failed'."""
@@ -78,14 +78,13 @@ def wheel_in(room):
     return next(made.put_wheel(files, lambda found: made.proved("of a test", "unknown", built, found), room, 1_000_000_000))
 
 
-def try_wheel(count, room, claim):
-    """Installs the wheel in a new environment, without a network, and asks the module there."""
-    wheel, here = wheel_in(room), room / "environment"
-    venv.create(here, with_pip=True)
-    installed = ran(here / "bin/python", "-m", "pip", "install", "--no-index", "--disable-pip-version-check", wheel, folder=room)
-    count.expect("pip install", (installed.returncode, installed.stderr), (0, ""))
+def try_installed(count, room, what, claim):
+    """Installs the module in the environment of the folder, without a network, asks it there, and removes it."""
+    here = room / "environment"
+    installed = ran(here / "bin/python", "-m", "pip", "install", "--no-index", "--disable-pip-version-check", what, folder=room)
+    count.expect(f"pip install {what.name}", (installed.returncode, installed.stderr), (0, ""))
     tried = ran(here / "bin/python", "-X", "dev", "-W", "error", "-c", TRIAL.replace("CLAIM", repr(claim)), folder=room)
-    count.expect("the installed module", (tried.stdout, tried.stderr), (SHOWN, ""))
+    count.expect(f"the module that {what.name} installed", (tried.stdout, tried.stderr), (SHOWN, ""))
     checked = ran(here / "bin/python", "-m", "pip", "check", folder=room)
     count.expect("pip check", checked.returncode, 0)
     removed = ran(here / "bin/python", "-m", "pip", "uninstall", "-y", "ltl2ba", folder=room)
@@ -119,7 +118,9 @@ def main(words):
     else:
         claim = ran(Path(programs or TOP / "crates/ltl2ba/out", "ltl2ba"), "-f", "[]<>p").stdout
         with tempfile.TemporaryDirectory() as room:
-            try_wheel(count, Path(room), claim)
+            venv.create(Path(room, "environment"), with_pip=True)
+            try_installed(count, Path(room), wheel_in(Path(room)), claim)
+            try_installed(count, Path(room), TOP / "python", claim)
     print(f"{count.passed} passed, {count.failed} failed")
     return 1 if count.failed or not count.passed else 0
 

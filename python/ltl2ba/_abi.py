@@ -27,7 +27,8 @@ DONE, VIOLATED, USAGE, REFUSED, OUT_OF_MEMORY, FAILED, TOO_SHORT = range(7)
 ) = range(13)
 
 CLAIM, HOA, GENERALIZED = range(3)
-TRANSLATOR, CHECKER, EVALUATOR = range(3)
+TRANSLATOR, CHECKER, EVALUATOR, COMPARER = range(4)
+NEITHER_ALONE, FIRST_FORMULA, SECOND_FORMULA = range(3)
 
 
 class Refusal(ctypes.Structure):
@@ -72,6 +73,19 @@ class Found(ctypes.Structure):
     _fields_ = [("length", c_size_t), ("contained", c_bool)]
 
 
+class Compared(ctypes.Structure):
+    """`struct ltlcompare_found`."""
+
+    _fields_ = [
+        ("first_only_length", c_size_t),
+        ("second_only_length", c_size_t),
+        ("first_implies_second", c_bool),
+        ("second_implies_first", c_bool),
+        ("subject", c_uint32),
+        ("refusal", Refusal),
+    ]
+
+
 _TEXT = [c_char_p, c_size_t]
 _END = [POINTER(c_size_t), POINTER(Refusal)]
 _ARRAYS = [POINTER(State), c_size_t, POINTER(Edge), c_size_t, POINTER(Name), c_size_t]
@@ -86,6 +100,7 @@ CALLS = {
     "ltl2ba_automaton": [*_TEXT, POINTER(Options), *_ARRAYS, POINTER(Counts)],
     "ltleval_holds": [*_TEXT, *_TEXT, POINTER(c_bool), POINTER(Refusal)],
     "ltlcheck_verdict": [*_TEXT, *_TEXT, *_TEXT, POINTER(Found), POINTER(Refusal)],
+    "ltlcompare_verdict": [*_TEXT, *_TEXT, *_TEXT, *_TEXT, POINTER(Compared)],
     "ltl2ba_message": [c_uint32, POINTER(Refusal), *_TEXT, POINTER(c_size_t)],
 }
 

@@ -7,7 +7,7 @@ from __future__ import annotations
 import ctypes
 import struct
 from ctypes import byref, c_bool, c_size_t, string_at
-from typing import NamedTuple, Tuple
+from typing import NamedTuple, Optional, Tuple
 
 from ltl2ba import _abi as abi
 from ltl2ba._shared import load
@@ -16,7 +16,8 @@ from ltl2ba.errors import FormulaError, HoaError, TooLarge, WordError
 LIBRARY = load()
 # The lengths of the first buffers and arrays.
 _BYTES, _STATES, _EDGES, _NAMES = 2048, 16, 64, 16
-_PROGRAMS = b"ltl2ba: ", b"ltlcheck: ", b"ltleval: "
+# Whose line says why a formula was refused: that of the comparer names the first or the second formula.
+FIRST, SECOND = abi.COMPARER + abi.FIRST_FORMULA, abi.COMPARER + abi.SECOND_FORMULA
 _STATE, _EDGE, _NAME = struct.Struct("@N?0N"), struct.Struct("@12QN"), struct.Struct("@2N")
 
 
@@ -84,8 +85,8 @@ def _refused(program: int, refusal: abi.Refusal, formula: bytes, word: bytes = b
     return TooLarge(told)
 
 
-def text(formula: bytes, options: abi.Options) -> bytes:
-    """The text of a formula's automaton."""
+def text(formula: bytes, options: abi.Options, program: int = abi.TRANSLATOR) -> bytes:
+    """The text of a formula's automaton. A refusal is told with the line of the program."""
     room = _BYTES
     while True:
         buffer, length, refusal = ctypes.create_string_buffer(room), c_size_t(), abi.Refusal()
@@ -93,7 +94,7 @@ def text(formula: bytes, options: abi.Options) -> bytes:
         if status == abi.DONE:
             return string_at(buffer, length.value)
         if status != abi.TOO_SHORT:
-            raise _refused(abi.TRANSLATOR, refusal, formula)
+            raise _refused(program, refusal, formula)
         room = length.value
 
 
@@ -139,8 +140,8 @@ def holds(formula: bytes, word: bytes) -> bool:
     return truth.value
 
 
-def verdict(formula: bytes, hoa: bytes) -> str | None:
-    """The text of a word that the automaton accepts and that violates the formula, or None if there is none."""
+def verdict(formula: bytes, hoa: bytes, program: int = abi.CHECKER) -> str | None:
+    """The text of a word that the automaton accepts and that violates the formula, or None if there is none. A refusal is told with the line of the program."""
     room = _BYTES
     while True:
         buffer, found, refusal = ctypes.create_string_buffer(room), abi.Found(), abi.Refusal()
@@ -150,5 +151,21 @@ def verdict(formula: bytes, hoa: bytes) -> str | None:
         if status == abi.DONE:
             return None
         if status != abi.TOO_SHORT:
-            raise _refused(abi.CHECKER, refusal, formula)
+            raise _refused(program, refusal, formula)
         room = found.length
+
+
+def compared(first: bytes, second: bytes) -> Tuple[Optional[str], Optional[str]]:
+    """The text of a word that satisfies the first formula alone, and that of a word that satisfies the second one alone; None where there is no such word."""
+    rooms = _BYTES, _BYTES
+    while True:
+        buffers, found = [ctypes.create_string_buffer(it) for it in rooms], abi.Compared()
+        given = buffers[0], rooms[0], buffers[1], rooms[1]
+        status = LIBRARY.ltlcompare_verdict(first, len(first), second, len(second), *given, byref(found))
+        lengths = found.first_only_length, found.second_only_length
+        if status in (abi.DONE, abi.VIOLATED):
+            one, two = (string_at(it, length).decode("ascii") for it, length in zip(buffers, lengths))
+            return one or None, two or None
+        if status != abi.TOO_SHORT:
+            raise _refused(abi.COMPARER + found.subject, found.refusal, second if found.subject == abi.SECOND_FORMULA else first)
+        rooms = max(1, lengths[0]), max(1, lengths[1])

@@ -1,5 +1,6 @@
 """Questions about formulas, words and automata. An answer that has a word shows it.
 
+>>> from ltl2ba import translate
 >>> check(translate("<>p"), "[]<>p")
 Violated(word=<Word {p}; cycle {}>)
 >>> implies("[]p", "p"), bool(implies("p", "[]p"))
@@ -7,17 +8,23 @@ Violated(word=<Word {p}; cycle {}>)
 >>> is_satisfiable("p && X[]!p"), is_valid("<>p || []!p")
 (Satisfiable(word=<Word {p}; cycle {}>), Contained())
 
-Each answer is one of the proved part, or made of several: whether a formula implies another one is the check of the automaton of the first one against the
-second one. If several words are right, any of them may be the answer."""
+Each answer is one of the proved part, but for `compare`, which is made of two. If several words are right, any of them may be the answer. Where two formulas
+are asked about, a refusal says which one has a fault:
+
+>>> equivalent("p", "p U")
+Traceback (most recent call last):
+ltl2ba.errors.FormulaError: second formula: byte 3: expected operand
+    p U
+       ^"""
 
 from __future__ import annotations
 
 from typing import NamedTuple, Optional, Tuple, Union
 
+from ltl2ba import _abi as abi
 from ltl2ba import _calls, _texts
-from ltl2ba.automata import Automaton, given, translate
+from ltl2ba.automata import Automaton, given
 from ltl2ba.formulas import Formula, FormulaLike
-from ltl2ba.operators import true
 from ltl2ba.words import Word, WordLike, is_plain_text, named
 
 
@@ -94,6 +101,8 @@ class Unsatisfiable(_Answer):
 
 
 Verdict = Union[Contained, Violated]
+# The Büchi automaton of a formula as a text that the checker reads.
+_PLAIN = abi.Options(layout=abi.HOA)
 
 
 class Comparison(NamedTuple):
@@ -169,15 +178,25 @@ def check(automaton: Union[Automaton, str, bytes], formula: FormulaLike) -> Verd
 
 
 def implies(left: FormulaLike, right: FormulaLike) -> Verdict:
-    """Whether each word that satisfies the first formula satisfies the second one."""
-    return check(translate(left), right)
+    """Whether each word that satisfies the first formula satisfies the second one: the check of the automaton of the first one against the second one."""
+    (one, names), (two, others) = given(left), given(right)
+    word = _calls.verdict(two, _calls.text(one, _PLAIN, _calls.FIRST), _calls.SECOND)
+    return Contained() if word is None else Violated(named(word, names.joined(others)))
+
+
+def _compared(left: FormulaLike, right: FormulaLike) -> Tuple[Optional[Word], Optional[Word]]:
+    """A word that satisfies the first formula alone, and one that satisfies the second one alone."""
+    (one, names), (two, others) = given(left), given(right)
+    words, all_names = _calls.compared(one, two), names.joined(others)
+    only_left, only_right = (None if it is None else named(it, all_names) for it in words)
+    return only_left, only_right
 
 
 def compare(left: FormulaLike, right: FormulaLike) -> Comparison:
-    """Compares two formulas. It takes three checks."""
-    one = translate(left)
-    verdicts = check(one, right), check(translate(right), left), check(one, ~Formula.of(right))
-    return Comparison(*(it.word if isinstance(it, Violated) else None for it in verdicts))
+    """Compares two formulas. Whether some word satisfies both is asked by itself: whether the first formula implies the negation of the second one."""
+    only_left, only_right = _compared(left, right)
+    verdict = implies(left, ~Formula.of(right))
+    return Comparison(only_left, only_right, verdict.word if isinstance(verdict, Violated) else None)
 
 
 def equivalent(left: FormulaLike, right: FormulaLike) -> Verdict:
@@ -185,15 +204,20 @@ def equivalent(left: FormulaLike, right: FormulaLike) -> Verdict:
 
     >>> equivalent("p U q || []p", "q V (p || q)")
     Contained()"""
-    return implies(left, right) and implies(right, left)
+    only_left, only_right = _compared(left, right)
+    word = only_left or only_right
+    return Contained() if word is None else Violated(word)
 
 
 def is_satisfiable(formula: FormulaLike) -> Union[Satisfiable, Unsatisfiable]:
     """Whether some word satisfies a formula."""
-    found = check(translate(formula), "false")
-    return Satisfiable(found.word) if isinstance(found, Violated) else Unsatisfiable()
+    text, names = given(formula)
+    word = _calls.verdict(b"false", _calls.text(text, _PLAIN))
+    return Unsatisfiable() if word is None else Satisfiable(named(word, names))
 
 
 def is_valid(formula: FormulaLike) -> Verdict:
     """Whether every word satisfies a formula."""
-    return check(translate(true), formula)
+    text, names = given(formula)
+    word = _calls.verdict(text, _calls.text(b"true", _PLAIN))
+    return Contained() if word is None else Violated(named(word, names))

@@ -17,6 +17,7 @@ STRUCTURES = {
     "ltl2ba_name": abi.Name,
     "ltl2ba_counts": abi.Counts,
     "ltlcheck_found": abi.Found,
+    "ltlcompare_found": abi.Compared,
 }
 TYPES = {**PLAIN, **{f"struct {name}": kind for name, kind in STRUCTURES.items()}}
 
