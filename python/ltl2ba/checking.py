@@ -24,7 +24,7 @@ from typing import NamedTuple, Optional, Tuple, Union
 from ltl2ba import _abi as abi
 from ltl2ba import _calls, _texts
 from ltl2ba.automata import Automaton, given
-from ltl2ba.formulas import Formula, FormulaLike
+from ltl2ba.formulas import FormulaLike
 from ltl2ba.words import Word, WordLike, is_plain_text, named
 
 
@@ -184,19 +184,13 @@ def implies(left: FormulaLike, right: FormulaLike) -> Verdict:
     return Contained() if word is None else Violated(named(word, names.joined(others)))
 
 
-def _compared(left: FormulaLike, right: FormulaLike) -> Tuple[Optional[Word], Optional[Word]]:
-    """A word that satisfies the first formula alone, and one that satisfies the second one alone."""
-    (one, names), (two, others) = given(left), given(right)
-    words, all_names = _calls.compared(one, two), names.joined(others)
-    only_left, only_right = (None if it is None else named(it, all_names) for it in words)
-    return only_left, only_right
-
-
 def compare(left: FormulaLike, right: FormulaLike) -> Comparison:
     """Compares two formulas. Whether some word satisfies both is asked by itself: whether the first formula implies the negation of the second one."""
-    only_left, only_right = _compared(left, right)
-    verdict = implies(left, ~Formula.of(right))
-    return Comparison(only_left, only_right, verdict.word if isinstance(verdict, Violated) else None)
+    (one, names), (two, others) = given(left), given(right)
+    only_left, only_right = _calls.compared(one, two)
+    both = _calls.verdict(b"!(" + two + b")", _calls.text(one, _PLAIN))
+    all_names = names.joined(others)
+    return Comparison(*(None if it is None else named(it, all_names) for it in (only_left, only_right, both)))
 
 
 def equivalent(left: FormulaLike, right: FormulaLike) -> Verdict:
@@ -204,9 +198,10 @@ def equivalent(left: FormulaLike, right: FormulaLike) -> Verdict:
 
     >>> equivalent("p U q || []p", "q V (p || q)")
     Contained()"""
-    only_left, only_right = _compared(left, right)
+    (one, names), (two, others) = given(left), given(right)
+    only_left, only_right = _calls.compared(one, two)
     word = only_left or only_right
-    return Contained() if word is None else Violated(word)
+    return Contained() if word is None else Violated(named(word, names.joined(others)))
 
 
 def is_satisfiable(formula: FormulaLike) -> Union[Satisfiable, Unsatisfiable]:
