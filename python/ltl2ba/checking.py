@@ -166,6 +166,7 @@ def holds(formula: FormulaLike, word: WordLike) -> bool:
 def check(automaton: Union[Automaton, str, bytes], formula: FormulaLike) -> Verdict:
     """Whether each word that an automaton accepts satisfies a formula. The automaton is one of `translate`, or a text in HOA format, as other tools print it.
 
+    >>> from ltl2ba import Formula
     >>> check('HOA: v1 States: 1 Start: 0 AP: 1 "Req" Acceptance: 0 t --BODY-- State: 0 [0] 0 --END--', Formula.parse("G Req", dialect="spot"))
     Contained()"""
     text, names = given(formula)
