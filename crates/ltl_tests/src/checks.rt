@@ -71,7 +71,10 @@ fn generalized_models<'a>(
 #[test]
 fn generalized_automata_in_products(rt: HostRuntime) {
     let alloc = rt.alloc();
-    let (fair, automaton) = generalized_models(&alloc, "[]<>p && []<>q").expect(&rt, "an automaton");
+    let (fair, automaton) = generalized_models(&alloc, "[]<>p && []<>q").expect(
+        &rt,
+        "an automaton",
+    );
     assert_eq!(rt; automaton.sets(), 2);
     let named = NamedGba::new(&automaton, &fair);
     let (joint, apart) = violations(&alloc, "[]<>(q && p)").expect(&rt, "an automaton");

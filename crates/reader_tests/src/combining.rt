@@ -90,6 +90,16 @@ fn most_names(rt: HostRuntime) {
     let text = conjunction(alloc, 150, 107);
     assert!(rt; 4 <= text.len());
     let third = read(&alloc, &text[4..]).expect(&rt, "a formula");
-    assert!(rt; matches!(first.implies(&alloc, &third), Err(ReadFault::TooManyPropositions)));
-    assert!(rt; matches!(third.iff(&alloc, &first), Err(ReadFault::TooManyPropositions)));
+    assert!(rt;
+        matches!(
+            first.implies(&alloc, &third),
+            Err(ReadFault::TooManyPropositions)
+        )
+    );
+    assert!(rt;
+        matches!(
+            third.iff(&alloc, &first),
+            Err(ReadFault::TooManyPropositions)
+        )
+    );
 }
