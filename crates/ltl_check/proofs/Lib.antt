@@ -13,3 +13,7 @@ pub mod OperandLaws
 pub mod PlaceLaws
 pub mod BreadthLaws
 pub mod ShortestLaws
+pub mod WordLaws
+pub mod WordLetterLaws
+pub mod ShrunkLaws
+pub mod AlongLaws

@@ -1,27 +1,26 @@
 -- The verdict of the check, from what the search finds.
-use Rattle.std.proofs.Common.{◌≡◌, ℕ, ◌+◌, ◌*◌, ◌/◌, ◌<◌, ◌≤◌, Bool, true, cond, List, ◌++◌, map, length, inl, inr, ap, sym, ◌∙◌, ◌^◌, subst, arith}
-use Rattle.std.specs.Prelude.{All, filter}
+use Rattle.std.proofs.Common.{◌≡◌, ◌≢◌, ℕ, ◌+◌, ◌*◌, ◌/◌, ◌<◌, ◌≤◌, Bool, true, cond, List, [], ◌∷◌, ◌++◌, map, take, drop, length, inl, inr, refl, ap, sym, ◌∙◌, ◌^◌, subst, arith}
+use Rattle.std.specs.Prelude.{All, filter, flat_map, slice_index_or}
+use Rattle.std.proofs.lemmas.List.{length-append, take_at, drop_at}
 use Rattle.ltl_spec.specs.Collections.Sets.{Has}
 use Rattle.ltl_spec.specs.Transitions.Cubes.{Literal}
-use Rattle.ltl_spec.specs.Semantics.Word.{Name, Lasso}
+use Rattle.ltl_spec.specs.Semantics.Word.{Name, Letter, Lasso}
 use Rattle.ltl_spec.specs.Formulas.Names.{unified}
-use Rattle.ltl_spec.specs.Words.LassoText.{IsLeastForm}
+use Rattle.ltl_spec.specs.Words.LassoText.{names_in}
 use Rattle.ltl_spec.specs.Automata.Automaton.{Automaton, State, Edge, state_at}
 use Rattle.ltl_spec.specs.Hoa.HoaReading.{MarkedAutomaton}
 use Rattle.ltl_spec.specs.Checking.Product.{unified_number}
 use Rattle.ltl_spec.specs.Checking.Search.{lasso_along}
-use Rattle.ltl_spec.specs.Checking.Searched.{HasCommonWalk, printed_word}
-use Rattle.ltl_spec.specs.Checking.Check.{Contained, Violated, IsVerdict, IsCommon, graph_of, product_size}
+use Rattle.ltl_spec.specs.Checking.Searched.{HasCommonWalk}
+use Rattle.ltl_spec.specs.Checking.Check.{Contained, Violated, IsVerdict, IsCommon, IsPositive, graph_of, marked_cubes, cubes_of, product_size}
 use Rattle.ltl_spec.specs.Checking.Bounds.{HasNamesBelow, IsBuchi, IsProper}
-use Rattle.ltl_spec.proofs.Collections.SetLaws.{append_cases, append_left, append_right, filter_cases}
+use Rattle.ltl_spec.proofs.Collections.SetLaws.{append_cases, append_left, append_right, filter_cases, Has-set_of}
 use Rattle.ltl_spec.proofs.Collections.ListLaws.{All-at_has, All-from_has, Has-at}
-use Rattle.ltl_spec.proofs.Collections.MemberLaws.{map_cases, map_length}
+use Rattle.ltl_spec.proofs.Collections.MemberLaws.{map_cases, map_length, Has-map, Has-flat_map}
+use Rattle.ltl_spec.proofs.Collections.Orders.{name_linear}
 use Rattle.ltl_spec.proofs.Automata.ListedStates.{no_state, has_edge_below}
-use Rattle.ltl_spec.proofs.Words.LeastLaws.{least_form_is}
-use Rattle.ltl_spec.proofs.Words.UniqueLaws.{least_unique}
-use Rattle.ltl_spec.proofs.Words.LeastLength.{least_most}
-use Rattle.ltl_spec.proofs.Checking.CheckLaws.{common_lasso, both_below}
-use Rattle.ltl_spec.proofs.Checking.VerdictLaws.{contained_verdict, violated_verdict, graph_is_graph}
+use Rattle.ltl_spec.proofs.Checking.CheckLaws.{common_accepted, common_needed, both_below}
+use Rattle.ltl_spec.proofs.Checking.VerdictLaws.{contained_verdict, graph_is_graph}
 use Rattle.ltl_hoa.specs.MarkedView.{IsMarked, IsEdgeWithin}
 use Rattle.ltl_models.specs.BaView.{IsBa}
 use Rattle.ltl_check.specs.declared.walk.Taken.{Taken}
@@ -29,6 +28,7 @@ use Rattle.ltl_check.specs.Levels.{IsFullWalk, levels_net}
 use Rattle.ltl_check.specs.ProductView.{number_in, product_net, edge_pairs, pair_at, pair_count}
 use Rattle.ltl_check.specs.VerdictView.{letters_of, IsReachedLevelState, IsBriefOn, chosen_pairs}
 use Rattle.ltl_check.specs.Shortest.{IsShortestLasso}
+use Rattle.ltl_check.specs.Shrunk.{AreNeeded, IsShared}
 use Rattle.ltl_check.specs.Looks.{LooksAtMost}
 use Rattle.ltl_word.specs.LassoView.{letter_with, word_with}
 use Rattle.ltl_check.specs.Explored.{sum_below, Reached, IsGrown}
@@ -55,6 +55,14 @@ buchi_of n B b named = record { sets = b.no_sets; begins = b.some; inside = insi
         let P : Edge → Type 0 = λ x. x.target < length B.states in
         let Q : State → Type 0 = λ x. All P x.edges in
         All-at_has P (state_at B s).edges (All-at_has Q B.states b.within (state_at B s) (Has-at B.states s no_state (has_edge_below B s e h))) e h
+
+-- the cubes of a marked automaton are those of its graph
+marked_cubes_same : (A : MarkedAutomaton) → cubes_of (graph_of A) ≡ marked_cubes A
+marked_cubes_same A = at A.edges
+  where
+    at : (ess : List (List Edge)) → flat_map (λ (s : State). map (λ (e : Edge). e.cube) s.edges) (map (λ es. let t : State = record { accepting = true; edges = es } in t) ess) ≡ flat_map (map (λ (e : Edge). e.cube)) ess
+    at [] = refl
+    at (es ∷ ess) = ap (λ l. map (λ (e : Edge). e.cube) es ++ l) (at ess)
 
 module _ (A : MarkedAutomaton) (names : List Name) (B : Automaton) (numbers : List ℕ) (marked : IsMarked A) (ba : IsBa B) (named : HasNamesBelow (length names) B)
     (maps : (p : ℕ) → p < length names → number_in numbers p ≡ unified_number A.names names p) where
@@ -92,40 +100,50 @@ module _ (A : MarkedAutomaton) (names : List Name) (B : Automaton) (numbers : Li
           | inr k ↦ letters_at cycle (λ t m. append_right stem cycle t m) is k
         ]))
 
-    -- the letters along the walk of the definitions
-    along_both : (h : HasCommonWalk A names B) → lasso_along all_names h.stem h.cycle ≡ record { stem = map (λ (t : Taken). letter_with all_names t.letter) stem; cycle = map (λ (t : Taken). letter_with all_names t.letter) cycle }
-        → (all : List Name) → all ≡ all_names → (v : Lasso) → IsLeastForm (word_with all (letters_of stem) (letters_of cycle)) v → v ≡ printed_word A names h.stem h.cycle
-    along_both h along all e v least =
-        let letters : word_with all_names (letters_of stem) (letters_of cycle) ≡ lasso_along all_names h.stem h.cycle =
-        (λ i. record { stem = map_same (λ (t : Taken). t.letter) (letter_with all_names) stem i; cycle = map_same (λ (t : Taken). t.letter) (letter_with all_names) cycle i }) ∙ sym along in
-        let here : IsLeastForm (lasso_along all_names h.stem h.cycle) v = subst (λ u. IsLeastForm u v) letters (subst (λ ns. IsLeastForm (word_with ns (letters_of stem) (letters_of cycle)) v) e least) in
-        let lasso = common_lasso (graph_of A) B A.names names marked.differ (graph_is_graph A proper) buchi A.start h in
-        let p = least_form_is (lasso_along all_names h.stem h.cycle) lasso in
-        least_unique v (printed_word A names h.stem h.cycle) here.lasso.cycles p.lasso.cycles (λ k. sym (here.same k) ∙ p.same k) here.least p.least
+    -- the letters along the walk, as numbers of names
+    letters_along : (h : HasCommonWalk A names B) → lasso_along all_names h.stem h.cycle ≡ record { stem = map (λ (t : Taken). letter_with all_names t.letter) stem; cycle = map (λ (t : Taken). letter_with all_names t.letter) cycle }
+        → (all : List Name) → all ≡ all_names → word_with all (letters_of stem) (letters_of cycle) ≡ lasso_along all_names h.stem h.cycle
+    letters_along h along all e =
+        ap (λ ns. word_with ns (letters_of stem) (letters_of cycle)) e
+        ∙ (λ i. record { stem = map_same (λ (t : Taken). t.letter) (letter_with all_names) stem i; cycle = map_same (λ (t : Taken). t.letter) (letter_with all_names) cycle i }) ∙ sym along
 
-    -- the word along a walk, in least form
-    pub walk_verdict : (all : List Name) → all ≡ all_names → (v : Lasso) → IsLeastForm (word_with all (letters_of stem) (letters_of cycle)) v → IsVerdict A names B (IsCommon A names B) (Violated v)
-    walk_verdict all e v least =
+    -- both automata accept the word along the walk
+    pub walk_shared : (all : List Name) → all ≡ all_names → (letters : List (List ℕ)) (count : ℕ) → letters ≡ letters_of stem ++ letters_of cycle → count ≡ length stem → IsShared A names B all letters count
+    walk_shared all e letters count ls n =
         let (h, along) = found_walk A names B numbers ba.some marked.counted named maps stem cycle w in
-        subst (λ u. IsVerdict A names B (IsCommon A names B) (Violated u)) (sym (along_both h along all e v least)) (violated_verdict A proper names B buchi h)
+        let long : length (letters_of stem) ≡ count = map_length (λ (t : Taken). t.letter) stem ∙ sym n in
+        let all_long : length letters ≡ length stem + length cycle =
+        ap length ls ∙ length-append (letters_of stem) (letters_of cycle) ∙ (λ i. map_length (λ (t : Taken). t.letter) stem i + map_length (λ (t : Taken). t.letter) cycle i) in
+        let some : 0 < length cycle = some_step cycle w.moves in
+        let first : take count letters ≡ letters_of stem = ap (take count) ls ∙ take_at (letters_of stem) (letters_of cycle) count long in
+        let second : drop count letters ≡ letters_of cycle = ap (drop count) ls ∙ drop_at (letters_of stem) (letters_of cycle) count long in
+        let same : word_with all (take count letters) (drop count letters) ≡ lasso_along all_names h.stem h.cycle = (λ i. word_with all (first i) (second i)) ∙ letters_along h along all e in
+        (omega arith, subst (IsCommon A names B) (sym same) (common_accepted (graph_of A) B A.names names marked.differ (graph_is_graph A proper) buchi A.start h))
+      where
+        some_step : (ts : List Taken) → ts ≢ [] → 0 < length ts
+        some_step [] f = absurd (f refl)
+        some_step (t ∷ ts) f = omega arith
 
-    -- it has no more letters than the walk has edges
-    word_most : (all : List Name) → all ≡ all_names → (v : Lasso) → IsLeastForm (word_with all (letters_of stem) (letters_of cycle)) v → length v.stem + length v.cycle ≤ length stem + length cycle
-    word_most all e v least =
-        let (h, along) = found_walk A names B numbers ba.some marked.counted named maps stem cycle w in
-        let same = along_both h along all e v least in
-        let most = least_most (lasso_along all_names h.stem h.cycle) in
-        let sv = ap (λ (u : Lasso). length u.stem + length u.cycle) same in
-        let sa = ap (λ (u : Lasso). length u.stem + length u.cycle) along in
-        let sl = map_length (λ (t : Taken). letter_with all_names t.letter) stem in
-        let sc = map_length (λ (t : Taken). letter_with all_names t.letter) cycle in
-        omega arith
+    -- the names in its letters are needed
+    pub walk_needed : (all : List Name) → all ≡ all_names → AreNeeded A names B all (letters_of stem ++ letters_of cycle)
+    walk_needed all e b i h m =
+        let (g, along) = found_walk A names B numbers ba.some marked.counted named maps stem cycle w in
+        let named_in : Has (names_in (word_with all (letters_of stem) (letters_of cycle))) (slice_index_or all i []) =
+        Has-flat_map (λ (x : Letter). x) (map (letter_with all) (letters_of stem) ++ map (letter_with all) (letters_of cycle)) (letter_with all b) (slice_index_or all i [])
+        (elim (append_cases (letters_of stem) (letters_of cycle) b h) [
+          | inl k ↦ append_left (map (letter_with all) (letters_of stem)) (map (letter_with all) (letters_of cycle)) (letter_with all b) (Has-map (letter_with all) (letters_of stem) b k)
+          | inr k ↦ append_right (map (letter_with all) (letters_of stem)) (map (letter_with all) (letters_of cycle)) (letter_with all b) (Has-map (letter_with all) (letters_of cycle) b k)
+        ])
+        (Has-set_of name_linear (map (λ j. slice_index_or all j []) b) (slice_index_or all i []) (Has-map (λ j. slice_index_or all j []) b i m)) in
+        elim (common_needed (graph_of A) B A.names names marked.differ (graph_is_graph A proper) buchi A.start g (slice_index_or all i []) (subst (λ u. Has (names_in u) (slice_index_or all i [])) (letters_along g along all e) named_in)) [
+          | inl p ↦ inl (subst (λ cs. IsPositive A.names cs (slice_index_or all i [])) (marked_cubes_same A) p)
+          | inr p ↦ inr p
+        ]
 
-    -- no common walk has fewer edges than the word of a shortest walk has letters
-    shortest_word : IsShortestLasso (product_net A B numbers) (A.sets + 1) stem cycle
-        → (all : List Name) → all ≡ all_names → (v : Lasso) → IsLeastForm (word_with all (letters_of stem) (letters_of cycle)) v → (h : HasCommonWalk A names B) → length v.stem + length v.cycle ≤ length h.stem + length h.cycle
-    shortest_word shortest all e v least h =
-        let l = word_most all e v least in
+    -- no common walk has fewer edges than a word has letters that has no more than a shortest walk has edges
+    shortest_word : IsShortestLasso (product_net A B numbers) (A.sets + 1) stem cycle → (v : Lasso) → length v.stem + length v.cycle ≤ length stem + length cycle
+        → (h : HasCommonWalk A names B) → length v.stem + length v.cycle ≤ length h.stem + length h.cycle
+    shortest_word shortest v l h =
         let f = walk_found A names B numbers ba.some marked.counted named maps h in
         let m = shortest.1 f.0 f.1 f.2 in
         let n = f.3 in
@@ -133,8 +151,8 @@ module _ (A : MarkedAutomaton) (names : List Name) (B : Automaton) (numbers : Li
 
     -- after so many looks for a shorter walk
     pub brief_word : (before looks most : ℕ) → before ≡ 0 → most ≤ 2 ^ 64 → (c : ℕ) × IsGrown before looks c × (c < most → IsShortestLasso (product_net A B numbers) (A.sets + 1) stem cycle) → LooksAtMost before looks (2 * most)
-        → (all : List Name) → all ≡ all_names → (v : Lasso) → IsLeastForm (word_with all (letters_of stem) (letters_of cycle)) v → IsBriefOn A names B most looks (Violated v)
-    brief_word before looks most z small s m all e v least = (counted_most before looks (2 * most) z m, λ less. shortest_word (s.2 (counted_below before looks s.0 most small s.1 less)) all e v least)
+        → (v : Lasso) → length v.stem + length v.cycle ≤ length stem + length cycle → IsBriefOn A names B most looks (Violated v)
+    brief_word before looks most z small s m v few = (counted_most before looks (2 * most) z m, λ less. shortest_word (s.2 (counted_below before looks s.0 most small s.1 less)) v few)
 
   -- what is reached costs no more than what the search paid for
   pub paid_copies : (c : ℕ) → ((p : ℕ → Bool) → ((n : ℕ) → p n ≡ true → Reached (levels_net (A.sets + 1) (product_net A B numbers)) n)

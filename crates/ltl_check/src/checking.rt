@@ -10,13 +10,17 @@ ghost use Rattle.ltl_spec.specs.Checking.Check.{product_size};
 ghost use Rattle.ltl_spec.specs.Tools.Limits.{stated_limits};
 ghost use Rattle.ltl_spec.specs.Tools.Programs.{RefusesCheck};
 ghost use Rattle.ltl_spec.specs.Tools.Refusal.{TooManyPropositions, LargeProduct};
+ghost use Rattle.ltl_spec.specs.Checking.Check.{Violated};
+ghost use Rattle.ltl_check.specs.Levels.{IsFullWalk};
 ghost use Rattle.ltl_check.specs.Explored.{sum_below};
 ghost use Rattle.ltl_check.specs.Looks.{CoversReached, LooksAtCopies, LooksAtMost};
-ghost use Rattle.ltl_check.specs.ProductView.{AreAllNames, AreUnified, pair_count, pair_at, edge_pairs};
+ghost use Rattle.ltl_check.specs.ProductView.{AreAllNames, AreUnified, pair_count, pair_at, edge_pairs, product_net};
 ghost use Rattle.ltl_check.specs.VerdictView.{IsVerdictOn, IsBriefOn, verdict_of, letters_of, level_pairs};
 ghost use Rattle.ltl_word.specs.LassoView.{word_with};
 ghost use Rattle.ltl_check.specs.declared.verdict.Outcome.TheVariants.{Contained};
 
+use crate::accepting::SHRINKING_LIMIT;
+use crate::draft::Draft;
 use crate::fault::CheckFault;
 use crate::finding::find;
 use crate::graph::Graph;
@@ -24,6 +28,7 @@ use crate::names::{all_names, numbers};
 use crate::operand::Operand;
 use crate::product::{Product, Steps};
 use crate::shortest::{SHORTENING_LIMIT, shorten};
+use crate::shrinking::Shrinking;
 use crate::verdict::{Outcome, Verdict};
 use crate::walk::{Taken, Walk};
 use ltl_hoa::Marked;
@@ -74,22 +79,64 @@ pub fn word_of<'a, A: Allocator>(
     word.least(alloc)
 }
 
-/// Searches the product, and shortens the word that it finds. The result has the number of looks that this took. `names` are the propositions of both
-/// automata.
+/// The shorter one of the word along the walk and of what is left of it by shrinking, both in least form.
+fn shrunk_word<'p, 'a, F: Operand, A: Allocator>(
+    alloc: &'a A,
+    product: &'p Product<'p, 'a, F, A>,
+    formula: &'p Formula<'a, A>,
+    names: &'p [&'p str],
+    walk: &Walk<'_, A>,
+    looks: &mut Steps,
+) -> Result<Lasso<'a, A>, AllocError>
+    requires full { IsFullWalk (product_net (F.automaton_of product.now.first.now) product.now.second.now product.now.numbers.now)
+        ((F.automaton_of product.now.first.now).sets + 1) walk.now.stem.items walk.now.cycle.items }
+    requires named { HasNamesBelow (length formula.now.names) product.now.second.now }
+    requires names { AreAllNames (F.automaton_of product.now.first.now).names formula.now.names (map (λ n. n.now) names.now) }
+    requires numbers { AreUnified product.now.numbers.now (F.automaton_of product.now.first.now).names formula.now.names }
+    requires few { looks.old.count ≤ SHRINKING_LIMIT }
+    ensures verdict { IfOk result (λ w. IsVerdictOn (F.automaton_of product.now.first.now) formula.now.names product.now.second.now (Violated w)) }
+    ensures short { IfOk result (λ w. length w.stem + length w.cycle ≤ length walk.now.stem.items + length walk.now.cycle.items) }
+    ensures most { looks.new.count ≤ SHRINKING_LIMIT }
+{
+    product.first.invariant();
+    product.second.invariant();
+    formula.invariant();
+    let mut draft = Draft::along(alloc, walk)?;
+    let old = Vec::from_slice(alloc, draft.letters.as_slice())?;
+    let shrinking = Shrinking {
+        first: product.first,
+        ba: product.second,
+        formula,
+        names,
+        old,
+    };
+    let whole = shrinking.least(alloc, &draft)?;
+    shrinking.shrink(alloc, &mut draft, looks)?;
+    let shrunk = shrinking.least(alloc, &draft)?;
+    if shrunk.len() <= whole.len() {
+        Ok(shrunk)
+    } else {
+        Ok(whole)
+    }
+}
+
+/// Searches the product, and shortens the word that it finds. The result has the numbers of looks that this took, for a shorter walk and for a shorter word.
+/// `names` are the propositions of both automata.
 fn search_product<'a, F: Operand, A: Allocator>(
     alloc: &'a A,
     product: &Product<'_, 'a, F, A>,
     formula: &Formula<'a, A>,
     names: &[&str],
     steps: &mut Steps,
-) -> Result<(Outcome<'a, A>, u128), CheckFault>
+) -> Result<(Outcome<'a, A>, u128, u128), CheckFault>
     requires named { HasNamesBelow (length formula.now.names) product.now.second.now }
     requires names { AreAllNames (F.automaton_of product.now.first.now).names formula.now.names (map (λ n. n.now) names.now) }
     requires numbers { AreUnified product.now.numbers.now (F.automaton_of product.now.first.now).names formula.now.names }
     requires fits { pair_count (F.automaton_of product.now.first.now) product.now.second.now * ((F.automaton_of product.now.first.now).sets + 1 + 1)
         ≤ stated_limits.product }
     ensures verdict { IfOk result (λ o. IsVerdictOn (F.automaton_of product.now.first.now) formula.now.names product.now.second.now (verdict_of o.0)
-        × IsBriefOn (F.automaton_of product.now.first.now) formula.now.names product.now.second.now SHORTENING_LIMIT o.1 (verdict_of o.0)) }
+        × IsBriefOn (F.automaton_of product.now.first.now) formula.now.names product.now.second.now SHORTENING_LIMIT o.1 (verdict_of o.0)
+        × (o.2 ≤ SHRINKING_LIMIT)) }
     ensures most { LooksAtMost steps.old.count steps.new.count (2 * (((F.automaton_of product.now.first.now).sets + 1 + 1)
         * sum_below (λ n. edge_pairs (F.automaton_of product.now.first.now) product.now.second.now
         (pair_at (F.automaton_of product.now.first.now) product.now.second.now n))
@@ -104,10 +151,12 @@ fn search_product<'a, F: Operand, A: Allocator>(
     match find(alloc, product, steps)? {
         Some(found) => {
             let mut looks = Steps::new();
+            let mut shrinking = Steps::new();
             let walk = shorten(alloc, product, found, &mut looks)?;
-            Ok((Outcome::Violated(word_of(alloc, names, walk)?), looks.count))
+            let word = shrunk_word(alloc, product, formula, names, &walk, &mut shrinking)?;
+            Ok((Outcome::Violated(word), looks.count, shrinking.count))
         }
-        None => Ok((Outcome::Contained, 0)),
+        None => Ok((Outcome::Contained, 0, 0)),
     }
 }
 
@@ -138,7 +187,8 @@ pub fn common_word<'a, F: Operand, A: Allocator>(
     // Each pair of edges is tried at most twice on each level. If there is no common word, each reachable pair is tried at least once. If fewer looks for a
     // shorter word were made than one search may make, the word is a shortest one.
     ensures most { IfOk result (λ v. v.steps ≤ 2 * level_pairs (F.automaton_of automaton.now) ba.now
-        × IsBriefOn (F.automaton_of automaton.now) formula.now.names ba.now SHORTENING_LIMIT v.shortening (verdict_of v.outcome)) }
+        × IsBriefOn (F.automaton_of automaton.now) formula.now.names ba.now SHORTENING_LIMIT v.shortening (verdict_of v.outcome)
+        × (v.shrinking ≤ SHRINKING_LIMIT)) }
     ensures least { IfOk result (λ v. v.outcome ≡ Contained → CoversReached (F.automaton_of automaton.now) formula.now.names ba.now v.steps) }
 
     // An error of a limit comes if and only if the limit is passed, in this order. Memory may be refused at any time.
@@ -159,7 +209,7 @@ pub fn common_word<'a, F: Operand, A: Allocator>(
     let numbers = numbers(alloc, names.as_slice(), formula)?;
     let product = Product::new(automaton, ba, numbers.as_slice());
     let mut steps = Steps::new();
-    let (outcome, shortening) = search_product(
+    let (outcome, shortening, shrinking) = search_product(
         alloc,
         &product,
         formula,
@@ -170,6 +220,7 @@ pub fn common_word<'a, F: Operand, A: Allocator>(
         outcome,
         steps: Product::<F, A>::looked(&steps),
         shortening,
+        shrinking,
     })
 }
 
@@ -190,7 +241,8 @@ pub fn check<'a, A: Allocator>(
     // Each pair of edges is tried at most twice on each level. If there is no common word, each reachable pair is tried at least once. If fewer looks for a
     // shorter word were made than one search may make, the word is a shortest one.
     ensures most { IfOk result (λ v. v.steps ≤ 2 * level_pairs automaton.now ba.now
-        × IsBriefOn automaton.now formula.now.names ba.now SHORTENING_LIMIT v.shortening (verdict_of v.outcome)) }
+        × IsBriefOn automaton.now formula.now.names ba.now SHORTENING_LIMIT v.shortening (verdict_of v.outcome)
+        × (v.shrinking ≤ SHRINKING_LIMIT)) }
     ensures least { IfOk result (λ v. v.outcome ≡ Contained → CoversReached automaton.now formula.now.names ba.now v.steps) }
 
     // An error of a limit comes if and only if the limit is passed, in this order. Memory may be refused at any time.

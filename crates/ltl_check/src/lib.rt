@@ -6,7 +6,9 @@
 //! What flows: `check` takes a `Marked` and a `Ba`, and unifies their propositions by name. Their `Product` stores no states and no edges. A look at
 //! a pair of edges returns the step that both take together, if their labels don't contradict each other. `Levels` degeneralizes the product on the
 //! fly. `Search` has a stack for each of the two depth-first searches, and a colour for each state on a level. It finds a `Walk`, which is a stem and
-//! a cycle. Its word, in which the positive literals of each step are true, is put into least form, and is the counterexample of the `Verdict`.
+//! a cycle, which `shorten` replaces by a shorter one. In its word the positive literals of each step are true. `Shrinking` repeats letters and leaves
+//! letters out as long as both automata accept the rest, which a search of the product with the word decides (`accepts`). What remains is put into least
+//! form, and is the counterexample of the `Verdict`.
 //!
 //! `find` searches any type with the trait `Graph`, whose laws say what a graph is. `check` does all of this:
 //!
@@ -21,8 +23,10 @@
 //! ```
 #![tactic(auto)]
 
+pub mod accepting;
 mod breadth;
 pub mod checking;
+mod draft;
 pub mod fault;
 pub mod finding;
 pub mod graph;
@@ -35,9 +39,13 @@ mod plain;
 pub mod product;
 mod search;
 pub mod shortest;
+mod shrinking;
 pub mod verdict;
 pub mod walk;
+mod word_letters;
+pub mod word_product;
 
+pub use accepting::SHRINKING_LIMIT;
 pub use checking::{PRODUCT_LIMIT, check, common_word, word_of};
 pub use fault::CheckFault;
 pub use finding::find;

@@ -26,19 +26,21 @@ pub(crate) enum Shorter<'a, A: Allocator> {
     Spent,
 }
 
-/// A lasso with fewer than `limit` edges, and with the fewest of those whose cycle begins in one of the bases, unless there is none or no look is left.
-fn find_shorter<'a, N: Numbered, A: Allocator>(
+/// A lasso with fewer than `limit` edges, and with the fewest of those whose cycle begins in one of the bases, unless there is none or `most` looks were
+/// made.
+pub(crate) fn find_shorter<'a, N: Numbered, A: Allocator>(
     alloc: &'a A,
     net: &N,
     task: Task,
     limit: usize,
+    most: usize,
     looks: &mut N::Looks,
 ) -> Result<Shorter<'a, A>, AllocError>
     requires { (N.net net.now).count < 2 ^ 63 }
     ensures found { IfOk result (λ r. IsShorter (N.net net.now) task limit r) }
-    ensures looked { HasSearched (N.looked_of looks.old) (N.looked_of looks.new) SHORTENING_LIMIT (result ≡ Ok Shorter.Spent) }
+    ensures looked { HasSearched (N.looked_of looks.old) (N.looked_of looks.new) most (result ≡ Ok Shorter.Spent) }
 {
-    let mut breadth = Breadth::new(alloc, net, SHORTENING_LIMIT)?;
+    let mut breadth = Breadth::new(alloc, net, most)?;
     match breadth.search(net, task, limit, looks)? {
         Outcome::Closed(number) => Ok(Shorter::Found(breadth.lasso(alloc, number)?)),
         Outcome::Nothing => Ok(Shorter::Nothing),
@@ -73,7 +75,7 @@ pub fn shorten<'a, G: Graph, A: Allocator>(
         sets,
         bases: Bases::Every,
     };
-    match find_shorter(alloc, &plain, every, limit, looks)? {
+    match find_shorter(alloc, &plain, every, limit, SHORTENING_LIMIT, looks)? {
         Shorter::Found(shortest) => return Ok(shortest),
         Shorter::Nothing => return Ok(walk),
         Shorter::Spent => {}
@@ -82,7 +84,7 @@ pub fn shorten<'a, G: Graph, A: Allocator>(
         sets,
         bases: Bases::One(walk.cycle[0].state),
     };
-    match find_shorter(alloc, &plain, one, limit, looks)? {
+    match find_shorter(alloc, &plain, one, limit, SHORTENING_LIMIT, looks)? {
         Shorter::Found(shorter) => Ok(shorter),
         _ => Ok(walk),
     }

@@ -20,6 +20,7 @@ pub struct Verdict<'a, A: Allocator> {
     pub(crate) outcome: Outcome<'a, A>,
     pub(crate) steps: u128,
     pub(crate) shortening: u128,
+    pub(crate) shrinking: u128,
 }
 
 impl<'a, A: Allocator> Verdict<'a, A> {
@@ -50,5 +51,13 @@ impl<'a, A: Allocator> Verdict<'a, A> {
         ensures { result ≡ self.now.shortening }
     {
         self.shortening
+    }
+
+    /// The number of looks at products of an automaton and a word while the word was shrunk; 0 without a word, and at most
+    /// [`SHRINKING_LIMIT`](crate::SHRINKING_LIMIT).
+    pub fn shrinking(&self) -> u128
+        ensures { result ≡ self.now.shrinking }
+    {
+        self.shrinking
     }
 }

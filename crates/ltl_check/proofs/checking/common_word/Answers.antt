@@ -16,10 +16,12 @@ new-product-requires-clause-within g c =
 pub returns-clause-most : goal.returns-clause-most
 returns-clause-most g c =
     let counted = rw c.new-product.ensures.first at c.new-product.result.inside.counted in
-    let m = rw (c.new-product.ensures.first, c.new-product.ensures.second) at c.search_product.ensures.most in (
+    let m = rw (c.new-product.ensures.first, c.new-product.ensures.second) at c.search_product.ensures.most in
+    let v = rw (c.new-product.ensures.first, c.new-product.ensures.second) at c.in_ok-outcome.ensures.verdict in (
       subst (λ n. n ≤ 2 * level_pairs (g.F.Operand.automaton_of c.args.automaton.now) c.args.ba.now) (sym c.looked.ensures)
           (steps_most (g.F.Operand.automaton_of c.args.automaton.now) c.args.ba.now counted c.new-steps.result.count c.search_product.new.steps.count m.0 c.new-steps.ensures m.1 m.2),
-      (rw (c.new-product.ensures.first, c.new-product.ensures.second) at c.in_ok-outcome.ensures.verdict).1,
+      v.1,
+      v.2,
     )
 
 pub returns-clause-least : goal.returns-clause-least
