@@ -1,10 +1,9 @@
 -- The literals of two cubes, one after the other.
-use Rattle.std.proofs.Common.{◌≡◌, ℕ, ◌<◌, Bool, true, false, cond, List, [], ◌∷◌, map, length, Option, Some, None, inl, inr, refl, sym, ◌∙◌, ap, subst}
+use Rattle.std.proofs.Common.{◌≡◌, ℕ, ◌<◌, Bool, true, false, cond, List, [], ◌∷◌, map, Option, Some, None, inl, inr, refl, sym, ◌∙◌, ap, subst}
 use Rattle.ltl_spec.specs.Collections.Sets.{Has, IsRising, put, set_of, union}
 use Rattle.ltl_spec.specs.Transitions.Cubes.{Literal, Cube, literal_cmp, is_contradictory, join_cubes}
 use Rattle.ltl_spec.specs.Checking.Product.{renamed_literal, renamed_cube}
 use Rattle.ltl_spec.proofs.Collections.SetLaws.{IsRising-set_of, union_cases, union_left, union_right, union_assoc, union_nil, Has-put}
-use Rattle.ltl_spec.proofs.Collections.MemberLaws.{at_map, map_length}
 use Rattle.ltl_spec.proofs.Collections.Orders.{literal_linear}
 use Rattle.ltl_spec.proofs.Transitions.CubeLaws.{join_cubes_is}
 use Rattle.std.specs.Prelude.{slice_get, slice_index_or, option_map}

@@ -1,27 +1,24 @@
 -- What shrinking keeps of a word, and the verdict at its end.
-use Rattle.std.proofs.Common.{◌≡◌, ℕ, ◌+◌, ◌-◌, ◌<◌, ◌≤◌, Bool, true, false, List, [], ◌∷◌, ◌++◌, take, drop, map, length, inl, inr, refl, ap, sym, ◌∙◌, subst, arith}
-use Rattle.std.specs.Prelude.{All, flat_map, slice_index_or, Result, Ok, Err, IfOk}
-use Rattle.std.specs.Ordering.{nat_cmp}
+use Rattle.std.proofs.Common.{◌≡◌, ℕ, ◌+◌, ◌-◌, ◌<◌, ◌≤◌, Bool, true, false, List, [], ◌∷◌, ◌++◌, take, drop, map, length, inl, inr, ap, sym, ◌∙◌, subst, arith}
+use Rattle.std.specs.Prelude.{All, slice_index_or, Result, Ok, Err, IfOk}
 use Rattle.std.proofs.lemmas.List.{append-nil, append_assoc, map_push, take_all, take_more, length-take-le, length-drop, length-append, take-append-drop}
-use Rattle.ltl_spec.specs.Collections.Sets.{Has, has}
-use Rattle.ltl_spec.specs.Transitions.Cubes.{Literal}
-use Rattle.ltl_spec.specs.Semantics.Word.{Name, name_cmp, Letter, Lasso, IsLasso}
-use Rattle.ltl_spec.specs.Formulas.Names.{unified}
+use Rattle.ltl_spec.specs.Collections.Sets.{Has}
+use Rattle.ltl_spec.specs.Semantics.Word.{Name, Letter, Lasso, IsLasso}
 use Rattle.ltl_spec.specs.Words.LassoText.{IsLeastForm, names_in}
 use Rattle.ltl_spec.specs.Words.LeastForm.{least_form}
-use Rattle.ltl_spec.specs.Automata.Automaton.{Automaton, State, Edge}
+use Rattle.ltl_spec.specs.Automata.Automaton.{Automaton}
 use Rattle.ltl_spec.specs.Hoa.HoaReading.{MarkedAutomaton}
-use Rattle.ltl_spec.specs.Checking.Check.{Violated, IsVerdict, IsCommon, IsNeeded, IsPositive, graph_of, marked_cubes, cubes_of}
-use Rattle.ltl_spec.proofs.Collections.SetLaws.{append_cases, append_left, append_right, set_of_cases, has_Decides, filter_cases}
+use Rattle.ltl_spec.specs.Checking.Check.{Violated, IsVerdict, IsCommon, IsNeeded, graph_of}
+use Rattle.ltl_spec.proofs.Collections.SetLaws.{append_cases, append_left, append_right, set_of_cases}
 use Rattle.ltl_spec.proofs.Collections.ListLaws.{All-at_has, All-from_has, Has-at}
 use Rattle.ltl_spec.proofs.Collections.MemberLaws.{map_cases, map_length, flat_map_cases}
-use Rattle.ltl_spec.proofs.Collections.Orders.{name_linear, nat_linear}
+use Rattle.ltl_spec.proofs.Collections.Orders.{name_linear}
 use Rattle.ltl_spec.proofs.Words.LeastLaws.{least_form_is, least_names}
 use Rattle.ltl_spec.proofs.Words.LeastLength.{least_most}
 use Rattle.ltl_spec.proofs.Words.SameWordLaws.{accepts_from_same, accepts_same}
 use Rattle.ltl_spec.proofs.Words.UniqueLaws.{least_forms_same}
 use Rattle.ltl_word.specs.LassoView.{letter_with, word_with}
-use Rattle.ltl_check.specs.Shrunk.{AreNeeded, IsOf, IsNoMore, IsShared, IsShrunk}
+use Rattle.ltl_check.specs.Shrunk.{AreNeeded, IsOf, IsNoMore, IsShrunk}
 
 -- ---- letters
 

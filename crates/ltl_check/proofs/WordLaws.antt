@@ -1,10 +1,9 @@
 -- A walk of the product of an automaton and a word makes the automaton accept the word.
-use Rattle.std.proofs.Common.{◌≡◌, ◌≢◌, ◌∙◌, ap, ap₂, sym, refl, subst, ℕ, zero, suc, ◌+◌, ◌-◌, ◌*◌, ◌/◌, ◌%◌, ◌<◌, ◌≤◌, ◌^◌, min, Bool, true, false, inl, inr, List, [], ◌∷◌, length, map, Some, None, arith}
+use Rattle.std.proofs.Common.{◌≡◌, ◌≢◌, ◌∙◌, ap, ap₂, sym, refl, subst, ℕ, zero, suc, ◌+◌, ◌-◌, ◌*◌, ◌/◌, ◌%◌, ◌<◌, ◌≤◌, Bool, true, false, inl, inr, List, [], ◌∷◌, length, map, Some, None, arith}
 use Rattle.std.specs.Prelude.{◌&&◌, cond, nat_lt, slice_index_or, IsTrue}
 use Rattle.std.specs.Bool.{beq}
 use Rattle.std.specs.Ordering.{nat_cmp}
 use Rattle.std.proofs.lemmas.Nat.{div-mul-add, mod-mul-add}
-use Rattle.std.proofs.lemmas.Bool.{cases_lt}
 use Rattle.ltl_spec.specs.Collections.Sets.{Has, has}
 use Rattle.ltl_spec.specs.Semantics.Word.{Name, Lasso, is_true_at, next}
 use Rattle.ltl_spec.specs.Transitions.Cubes.{Cube, Literal, allows}
@@ -14,7 +13,6 @@ use Rattle.ltl_spec.specs.Checking.Check.{MarkedAccepts, graph_of}
 use Rattle.ltl_spec.proofs.Automata.ListedStates.{no_state}
 use Rattle.ltl_spec.proofs.Collections.SetLaws.{has_Decides}
 use Rattle.ltl_spec.proofs.Collections.ListLaws.{All-at_has, Has-at}
-use Rattle.ltl_spec.proofs.Collections.MemberLaws.{Has-map}
 use Rattle.ltl_spec.proofs.Collections.Orders.{nat_linear}
 use Rattle.ltl_spec.proofs.Semantics.LeavingEdges.{leaving, leaving_state, leaving_accepts}
 use Rattle.ltl_hoa.specs.Printed.{marked_edge, marked_of}

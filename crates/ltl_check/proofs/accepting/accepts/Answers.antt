@@ -1,4 +1,4 @@
-use Rattle.std.proofs.Common.{◌≡◌, ◌∙◌, arith, length}
+use Rattle.std.proofs.Common.{◌∙◌, arith}
 use Rattle.ltl_check.specs.declared.place.Bases.TheVariants.{Every}
 use Rattle.ltl_check.specs.WordView.{IsInside, word_net}
 use Rattle.ltl_check.proofs.WordLaws.{shorter_accepts}

@@ -1,4 +1,4 @@
-use Rattle.std.proofs.Common.{◌≡◌, ◌≤◌, ◌-◌, length, map}
+use Rattle.std.proofs.Common.{◌≡◌, ◌≤◌, length, map}
 use Rattle.ltl_check.specs.declared.accepting.TheConstants.{SHRINKING_LIMIT}
 use Rattle.ltl_check.specs.Shrunk.{IsShrunk}
 use Rattle.ltl_check.proofs.shrinking.Shrinking.repeat_all.Given as goal
