@@ -1,0 +1,4 @@
+pub mod SimulationLaws
+pub mod CheckLaws
+pub mod BuildLaws
+pub mod ReductionLaws

@@ -1,0 +1,6 @@
+pub mod Reduction
+pub mod Simulation
+pub mod FreesView
+pub mod RelationView
+pub mod Matching
+pub mod Build

@@ -1,0 +1,24 @@
+//! Reduction of generalized Büchi automata: the same words, with fewer states and edges.
+//!
+//! In the field's words: removal of states that are unreachable or from which no accepting run starts, marks only in accepting strongly connected components, and
+//! the quotient by direct simulation, without the edges that another one dominates ("little brothers").
+//!
+//! What flows: `reduce` takes a `Gba` and returns a smaller one. Each step makes a new automaton (`build`), and checks that it simulates the old one and is
+//! simulated by it (`checking`). A step whose check fails, or for which the budget of comparisons doesn't last, is left out. So the proof rests on the check
+//! alone: nothing is proved of the searches for components (`components`), for the largest simulation (`simulation`) and for the states and edges to keep
+//! (`trimming`, `folding`), except that they are safe and return.
+#![tactic(auto)]
+
+mod build;
+mod checking;
+mod components;
+mod folding;
+mod frees;
+mod matching;
+mod places;
+pub mod reducing;
+mod relation;
+mod simulation;
+mod trimming;
+
+pub use reducing::{SIMULATION_LIMIT, reduce};
