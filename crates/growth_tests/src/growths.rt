@@ -199,6 +199,26 @@ fn timeline<'a>(
     Some(digest)
 }
 
+fn implication<'a>(alloc: &'a Memory, formula: &Formula<'a, Memory>) -> Option<Digest> {
+    digest!(
+        of_formula,
+        alloc,
+        of_formula(formula),
+        ReadFault::OutOfMemory,
+        formula.implies(alloc, formula)
+    )
+}
+
+fn equivalence<'a>(alloc: &'a Memory, formula: &Formula<'a, Memory>) -> Option<Digest> {
+    digest!(
+        of_formula,
+        alloc,
+        of_formula(formula),
+        ReadFault::OutOfMemory,
+        formula.iff(alloc, formula)
+    )
+}
+
 fn word_of_numbers(alloc: &Memory) -> Option<Digest> {
     let cycle = [RowSet::single(1), RowSet::empty()];
     digest!(
@@ -221,6 +241,8 @@ fn words<'a>(alloc: &'a Memory, formula: &Formula<'a, Memory>, text: &str) -> Op
     let mut digest = of_word(&word).with(least(alloc, &word)?);
     digest.take(truth(alloc, formula, &word)? as usize);
     digest = digest.with(timeline(alloc, formula, &word)?);
+    digest = digest.with(implication(alloc, formula)?);
+    digest = digest.with(equivalence(alloc, formula)?);
     Some(digest.with(word_of_numbers(alloc)?))
 }
 
