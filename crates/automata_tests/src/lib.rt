@@ -1,4 +1,5 @@
-//! Tests of how automata are made: shared edge lists, the edges of a state with the same ones, pairs of rows, generalized automata and their texts.
+//! Tests of how automata are made: shared edge lists, the edges of a state with the same ones, pairs of rows, generalized automata with their texts, and
+//! reductions.
 //!
 //! `ltl_tests` says why tests are crates of their own, divided by what they call, and where the others are.
 //!
@@ -11,3 +12,5 @@ mod automata;
 mod generalized;
 #[cfg(test)]
 mod pairs;
+#[cfg(test)]
+mod reducing;
