@@ -91,13 +91,6 @@ with_long ls ds at letter l e =
     let a = ap length e ∙ length-append (take at ls) (letter ∷ drop (at + 1) ls) in
     omega (arith, t, d, a, l)
 
-pub without_long : (ls ds : List (List ℕ)) (at end : ℕ) → at < end → end ≤ length ls → ds ≡ take at ls ++ drop end ls → length ds < length ls
-without_long ls ds at end l m e =
-    let t = length-take-le at ls (omega arith) in
-    let d = length-drop end ls in
-    let a = ap length e ∙ length-append (take at ls) (drop end ls) in
-    omega (arith, t, d, a, l, m)
-
 -- the candidate was put in place, or not
 pub put_long : {E : Type 0} (r : Result Bool E) (b : Bool) (old new candidate : List (List ℕ)) → r ≡ Ok b → (r ≡ Ok true → new ≡ candidate) → (r ≡ Ok false → new ≡ old) → length candidate ≡ length old → length new ≡ length old
 put_long r true old new candidate e f g same = ap length (f e) ∙ same
@@ -115,11 +108,6 @@ shrunk_within old letters first second stem count within h e f =
     All-from_has (λ i. i < count) a (λ i m.
     let (b, o, q) = All-at_has (IsOf old) letters h.1 a here i m in
     All-at_has (λ i. i < count) b (All-at_has (All (λ i. i < count)) old within b o) i q))
-
--- a candidate that both automata accept
-pub shrunk_put : (A : MarkedAutomaton) (names : List Name) (B : Automaton) (all : List Name) (old letters : List (List ℕ)) (stem : ℕ) (w : Lasso) → IsNoMore old letters → stem < length letters
-    → w ≡ word_with all (take stem letters) (drop stem letters) → IsCommon A names B w → IsShrunk A names B all old letters stem
-shrunk_put A names B all old letters stem w kept l e common = record { kept = kept; shared = (l, subst (IsCommon A names B) e common) }
 
 -- ---- the word at the end
 module _ (A : MarkedAutomaton) (names : List Name) (B : Automaton) (all : List Name) (old letters : List (List ℕ)) (stem : ℕ) (needed : AreNeeded A names B all old) (shrunk : IsShrunk A names B all old letters stem) where

@@ -200,8 +200,3 @@ marked_graph B names = ap (λ ss. let A : Automaton = record { sets = 1; states 
 pub named_accepts : (B : Automaton) (names : List Name) → B.sets ≡ 0 → (w : Lasso) → MarkedAccepts (marked_of B names) w → Accepts names B w
 named_accepts B names none w =
     (subst (λ G. AcceptedFrom 0 G (is_true_at names w) (next w) → Accepts names B w) (sym (marked_graph B names)) (leaving_accepts B (is_true_at names w) (next w) none 0).0)
-
--- the looks of a search stay within those that are left
-pub within_limit : (old new c most : ℕ) → old ≤ most → IsGrown old new c → c ≤ most - old → new ≤ most
-within_limit old new c most o (inl g) l = let e = g.1 in omega arith
-within_limit old new c most o (inr g) l = let e = g in omega arith
