@@ -1,8 +1,8 @@
 /* SPDX-License-Identifier: MIT OR Apache-2.0 */
-/* The translator, the checker, the evaluator and the comparer as a library: linear temporal logic to Büchi automata.
+/* The translator, the checker, the evaluator, the comparer and pictures as a library: linear temporal logic to Büchi automata.
 
-   The calls do the work of the programs ltl2ba, ltlcheck, ltleval and ltlcompare over texts in memory, and return their exit statuses: see ltl2ba(3), and
-   for the texts ltl2ba(1), ltlcheck(1), ltleval(1) and ltlcompare(1). What the library does is proved for every input, on the conditions below. That this header declares it
+   The calls do the work of the programs ltl2ba, ltlcheck, ltleval, ltlcompare and ltldraw over texts in memory, and return their exit statuses: see ltl2ba(3), and
+   for the texts ltl2ba(1), ltlcheck(1), ltleval(1), ltlcompare(1) and ltldraw(1). What the library does is proved for every input, on the conditions below. That this header declares it
    correctly isn't proved: a test compares calls, structures and numbers with the library's sources.
 
    No call prints anything, ends the process, or keeps anything between calls: a call frees all its memory before it returns, so the caller has nothing to
@@ -185,10 +185,15 @@ uint8_t ltlcompare_verdict(const uint8_t *first, size_t first_length, const uint
                            uint8_t *first_only, size_t first_only_length, uint8_t *second_only, size_t second_only_length,
                            struct ltlcompare_found *found);
 
+/* Writes the picture of an automaton, a text in the Hanoi Omega-Automata format, to the buffer, as ltldraw prints it: a graph for Graphviz. */
+uint8_t ltldraw_dot(const uint8_t *automaton, size_t automaton_length,
+                    uint8_t *buffer, size_t buffer_length, size_t *length, struct ltl2ba_refusal *refusal);
+
 #define LTL2BA_TRANSLATOR 0 /* ltl2ba */
 #define LTL2BA_CHECKER 1    /* ltlcheck */
 #define LTL2BA_EVALUATOR 2  /* ltleval */
 #define LTL2BA_COMPARER 3   /* ltlcompare, for a refusal of neither formula alone; add the subject of the comparison */
+#define LTL2BA_DRAWER 6     /* ltldraw */
 
 /* Writes the line that a program prints for a refusal, with its line feed, to the buffer, and its length to *length. It allocates nothing, and 128 bytes are
    enough for each line. The line is empty if there is no program or no refusal with this number. */

@@ -24,6 +24,7 @@ from run import text
 
 TOP = Path(__file__).resolve().parent.parent
 PROGRAMS = "ltl2ba", "ltlcheck", "ltleval", "ltlcompare"
+DRAWER = "ltldraw"
 COMPILER, COMPILER_OF_CPP = os.environ.get("CC", "cc"), os.environ.get("CXX", "c++")
 SECONDS, RANDOM_FORMULAS, RANDOM_PAIRS = 600, 500, 200
 KINDS = {"ltl2ba": "t", "ltlcheck": "c", "ltleval": "e", "ltlcompare": "m"}
@@ -186,6 +187,18 @@ def try_comparisons(tally, driver, folder):
     print(f"{len(pairs)} comparisons")
 
 
+def try_pictures(tally, driver, folder):
+    """Compares the call with `ltldraw`: on the automata of the formulas, and on texts that are refused."""
+    texts = [subprocess.run([f"{folder}/ltl2ba", layout, "-f", it], capture_output=True, timeout=SECONDS, check=False).stdout for it in FORMULAS for layout in ("-H", "-G")]
+    texts += [b"", b"HOA: v2", texts[0][:60], texts[0].replace(b'name: "', b'name: "\\"&<\xc3\xa9'), texts[0].replace(b"State: 0", b'State: 0 "a & b"')]
+    found, status, told = answers([driver], [request("d", it) for it in texts])
+    tally.expect("pictures: the driver ends", (status, told, len(found)), (0, "", len(texts)))
+    for text_, it in zip(texts, found):
+        ran = subprocess.run([f"{folder}/{DRAWER}"], input=text_, capture_output=True, timeout=SECONDS, check=False)
+        tally.expect(f"the picture of {text_[:60]!r}", (it[0], it[1], it[2], it[3][2]), (ran.returncode, ran.stdout, ran.stderr, 0))
+    print(f"{len(texts)} pictures")
+
+
 def told_of(printed, message):
     """The lengths of both words, the implications and the subject, by what the program prints."""
     words = [len((re.search(rb"^%s only: (.*)$" % which, printed, re.M) or [b"", b""])[1]) for which in (b"first", b"second")]
@@ -240,7 +253,7 @@ def try_growths(tally, driver, formulas):
     growths = 0
     for formula in formulas:
         hoa = answers([driver], [request("t", b"true", 1)])[0][0][1]
-        requests = [request(kind, formula.encode(), layout, 0, -2, second) for kind, layout, second in (("t", 0, b""), ("t", 1, b""), ("t", 2, b""), ("n", 0, b""), ("a", 1, b""), ("a", 2, b""), ("e", 0, WORD), ("c", 0, hoa), ("m", 0, b"<>[]p"))]
+        requests = [request(kind, formula.encode(), layout, 0, -2, second) for kind, layout, second in (("t", 0, b""), ("t", 1, b""), ("t", 2, b""), ("n", 0, b""), ("a", 1, b""), ("a", 2, b""), ("e", 0, WORD), ("c", 0, hoa), ("m", 0, b"<>[]p"))] + [request("d", hoa, room=-2)]
         found, code, told = answers([driver], requests)
         tally.expect(f"{formula}: the driver ends", (code, told, len(found)), (0, "", len(requests)))
         for it in found:
@@ -401,7 +414,7 @@ def main(words):
         if programs is None:
             programs = f"{folder}/programs"
             os.mkdir(programs)
-            for it in PROGRAMS:
+            for it in (*PROGRAMS, DRAWER):
                 os.symlink(TOP / f"crates/{it}/out/{it}", f"{programs}/{it}")
         if not shutil.which(shlex.split(COMPILER)[0]):
             print(f"skipped: all of this, for want of a C compiler ({COMPILER})")
@@ -427,6 +440,7 @@ def try_all(tally, folder, programs, driver, archive):
     try_array_lengths(tally, driver)
     try_comparisons(tally, driver, programs)
     try_comparison_lengths(tally, driver)
+    try_pictures(tally, driver, programs)
     try_growths(tally, driver, FORMULAS)
     sanitized, faults = driver_in(folder, "sanitized", archive, *SANITIZERS)
     few = [request(kind, it.encode(), layout, 0, -1, second) for it in FORMULAS for kind, layout, second in (("t", 0, b""), ("t", 2, b""), ("n", 0, b""), ("a", 0, b""), ("a", 2, b""), ("e", 0, WORD), ("c", 0, b"HOA: v2"), ("m", 0, b"<>[]p"))]

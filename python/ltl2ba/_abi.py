@@ -28,6 +28,7 @@ DONE, VIOLATED, USAGE, REFUSED, OUT_OF_MEMORY, FAILED, TOO_SHORT = range(7)
 
 CLAIM, HOA, GENERALIZED = range(3)
 TRANSLATOR, CHECKER, EVALUATOR, COMPARER = range(4)
+DRAWER = 6
 NEITHER_ALONE, FIRST_FORMULA, SECOND_FORMULA = range(3)
 
 
@@ -101,6 +102,7 @@ CALLS = {
     "ltleval_holds": [*_TEXT, *_TEXT, POINTER(c_bool), POINTER(Refusal)],
     "ltlcheck_verdict": [*_TEXT, *_TEXT, *_TEXT, POINTER(Found), POINTER(Refusal)],
     "ltlcompare_verdict": [*_TEXT, *_TEXT, *_TEXT, *_TEXT, POINTER(Compared)],
+    "ltldraw_dot": [*_TEXT, *_TEXT, *_END],
     "ltl2ba_message": [c_uint32, POINTER(Refusal), *_TEXT, POINTER(c_size_t)],
 }
 

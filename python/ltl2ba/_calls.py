@@ -169,3 +169,16 @@ def compared(first: bytes, second: bytes) -> Tuple[Optional[str], Optional[str]]
         if status != abi.TOO_SHORT:
             raise _refused(abi.COMPARER + found.subject, found.refusal, second if found.subject == abi.SECOND_FORMULA else first)
         rooms = max(1, lengths[0]), max(1, lengths[1])
+
+
+def dot(hoa: bytes) -> bytes:
+    """The picture of an automaton, as a graph for Graphviz."""
+    room = 2 * _BYTES
+    while True:
+        buffer, length, refusal = ctypes.create_string_buffer(room), c_size_t(), abi.Refusal()
+        status = LIBRARY.ltldraw_dot(hoa, len(hoa), buffer, room, byref(length), byref(refusal))
+        if status == abi.DONE:
+            return string_at(buffer, length.value)
+        if status != abi.TOO_SHORT:
+            raise _refused(abi.DRAWER, refusal, b"")
+        room = length.value

@@ -5,7 +5,7 @@ A text without such names stays as it is."""
 from __future__ import annotations
 
 import re
-from typing import List, Tuple
+from typing import Callable, List, Tuple
 
 from ltl2ba._names import Names, proposition, shown
 
@@ -15,9 +15,14 @@ _GUARD = re.compile(r"^(\t:: )(.*)( -> goto \w+)$", re.M)
 _HOA = re.compile(r'/\*|\*/|"(?:\\.|[^"\\])*"|[a-zA-Z_][0-9a-zA-Z_-]*:?|--[A-Z]+--|\d+|\s+|.', re.S)
 
 
+def with_names(text: str, names: Names, written: Callable[[str], str]) -> str:
+    """A text in which each proposition is replaced by its name, as it is written there."""
+    return text if names.is_plain else _PROPOSITION.sub(lambda it: written(names.name(str(it[0]))), text)
+
+
 def named_formula(text: str, names: Names) -> str:
     """A formula of the library, with names."""
-    return text if names.is_plain else _PROPOSITION.sub(lambda it: shown(names.name(str(it[0]))), text)
+    return with_names(text, names, shown)
 
 
 def formula_of(hoa: str, names: Names) -> str:
@@ -29,6 +34,12 @@ def formula_of(hoa: str, names: Names) -> str:
 def quoted(text: str) -> str:
     """A string in HOA format."""
     return '"' + text.replace("\\", "\\\\").replace('"', '\\"') + '"'
+
+
+def titled_hoa(hoa: str, names: Names) -> str:
+    """An automaton's text in HOA format, whose title has names and whose propositions are the library's."""
+    head, title, rest = hoa.split("\n", 2)
+    return hoa if names.is_plain else f"{head}\nname: {quoted(formula_of(hoa, names))}\n{rest}"
 
 
 def named_hoa(hoa: str, names: Names) -> str:

@@ -178,7 +178,8 @@ class Automaton:
         return _texts.named_claim(_calls.text(self._formula, _with_layout(self._options, abi.CLAIM)).decode("ascii"), self.names)
 
     def to_dot(self) -> str:
-        """The graph for Graphviz' `dot`, by the rules of `ltldraw`. It is made in Python: tested to be what `ltldraw` prints, and not proved.
+        """The graph for Graphviz' `dot`, as `ltldraw` prints it. The library makes it; names that stand as other propositions are put back in Python. An automaton
+        with more than 32 acceptance sets is refused with `HoaError`, as by `ltldraw`.
 
         >>> print(translate("[]p").to_dot(), end="")
         digraph automaton {
@@ -193,10 +194,10 @@ class Automaton:
         }"""
         from ltl2ba.dot import dot_of
 
-        return dot_of(self)
+        return dot_of(self.own_hoa, self.names)
 
     def to_svg(self) -> Optional[str]:
-        """The picture that `dot` draws, or None if `dot` isn't installed or doesn't draw it within ten seconds."""
+        """The picture that `dot` draws of `to_dot`, or None if `dot` isn't installed or doesn't draw it within ten seconds."""
         from ltl2ba.dot import svg_of
 
         return svg_of(self.to_dot())
@@ -223,8 +224,8 @@ class Automaton:
 
     @cached_property
     def _shown_svg(self) -> Optional[str]:
-        """The picture in a notebook. That of a large automaton could not be read, and takes long."""
-        return self.to_svg() if len(self.edges) <= 200 else None
+        """The picture in a notebook. That of a large automaton could not be read, and takes long; one with more sets than the library reads has none."""
+        return self.to_svg() if len(self.edges) <= 200 and self.sets <= 32 else None
 
     def __repr__(self) -> str:
         return f"<Automaton of {self.formula}: {len(self.states)} states, {len(self._arrays.edges) // abi.EDGE_SIZE} edges>"

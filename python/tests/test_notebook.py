@@ -8,7 +8,7 @@ import unittest
 from unittest import mock
 
 from tests.support import TOP, ltl2ba
-from ltl2ba import Formula, Word, proposition, timeline, translate
+from ltl2ba import Formula, HoaError, Word, proposition, timeline, translate
 
 HOSTILE = '<script>&"'.replace('"', "'")
 
@@ -36,6 +36,15 @@ class TestNotebook(unittest.TestCase):
         large = translate(" && ".join(f"<>p{i}" for i in range(5)))
         self.assertIsNone(large._repr_svg_())
         self.assertIn("of them not shown", large._repr_html_())
+
+    def test_many_sets(self):
+        many = translate(" || ".join(f"<>p{i}" for i in range(33)), generalized=True)
+        self.assertEqual(many.sets, 33)
+        self.assertLess(len(many.edges), 200)
+        self.assertIsNone(many._repr_svg_())
+        self.assertIn("<table>", many._repr_html_())
+        with self.assertRaises(HoaError):
+            many.to_dot()
 
     def test_timeline(self):
         word = Word([{HOSTILE}], [{"p"}, set()])

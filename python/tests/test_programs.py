@@ -71,10 +71,12 @@ class TestPrograms(unittest.TestCase):
                 except ltl2ba.TooLarge:
                     continue
                 drawn = ran("ltldraw", given=made.to_hoa())
-                if drawn[2] == 0 and drawn[0] != made.to_dot():
-                    return formula, is_generalized, drawn[0], made.to_dot()
-                if drawn[2] and made.sets <= 32:
-                    return formula, drawn
+                try:
+                    seen = made.to_dot(), "", 0
+                except ltl2ba.HoaError as refusal:
+                    seen = "", f"ltldraw: {refusal}\n", 3
+                if drawn != seen:
+                    return formula, is_generalized, drawn, seen
             return None
 
         self.all_hold(fault, self.formulas)

@@ -1,9 +1,9 @@
 /* Makes the calls of include/ltl2ba.h that its standard input asks for, and writes what they answer.
 
    A request is a line `KIND LAYOUT FLAGS ROOM FIRST SECOND` and then the bytes of two texts of these lengths. KIND is t (text), n (names), e (evaluation),
-   c (check), a (automaton) or m (comparison), FLAGS has 1, 2 and 4 for no_rewrite, keep_implied and keep_equal. ROOM is the length of the buffer; with -1
-   a call with no room asks for the length, and a second one has exactly that; with -2 that is done with each growth of memory refused in turn, until none
-   was left to refuse. Of an automaton it is the length of the array that the second text names, s (states), e (edges) or n (names), and the other two have the
+   c (check), d (picture), a (automaton) or m (comparison), FLAGS has 1, 2 and 4 for no_rewrite, keep_implied and keep_equal. ROOM is the length of the
+   buffer; with -1 a call with no room asks for the length, and a second one has exactly that; with -2 that is done with each growth of memory refused in
+   turn, until none was left to refuse. Of an automaton it is the length of the array that the second text names, s (states), e (edges) or n (names), and the other two have the
    length that is needed; of a comparison FLAGS is 0 if that is the length of the first buffer, and 1 if it is that of the second one. The answer is a line `STATUS LENGTH MESSAGE COUNTS` and the bytes of the text and of the message; COUNTS are three numbers, and of a
    text the third is 1 where what stands behind the text was changed. The text of an automaton is a line with its four counts, and behind it, with status 0,
    what the Hanoi Omega-Automata format says of the names, which have their places beside them, of states and of edges. That of a comparison is a line with
@@ -220,6 +220,9 @@ static struct answer call(const struct request *asked, struct room of)
         made.length = found.length;
         made.truth = found.contained;
         break;
+    case 'd':
+        made.status = ltldraw_dot(asked->first, asked->first_length, made.text, room, &made.length, &made.refusal);
+        break;
     default:
         exit(7);
     }
@@ -294,6 +297,23 @@ static int is_exact(int status, const struct ltl2ba_refusal *refusal)
     return (refusal->kind != LTL2BA_NO_REFUSAL) == is_refused && refusal->kind <= LTL2BA_LARGE_PRODUCT && (has_fault || !refusal->fault) && (has_place || !refusal->place);
 }
 
+/* The number of the program whose line says why such a request was refused. */
+static uint32_t program_of(char kind, const struct answer *made)
+{
+    switch (kind) {
+    case 'c':
+        return LTL2BA_CHECKER;
+    case 'e':
+        return LTL2BA_EVALUATOR;
+    case 'm':
+        return LTL2BA_COMPARER + made->subject;
+    case 'd':
+        return LTL2BA_DRAWER;
+    default:
+        return LTL2BA_TRANSLATOR;
+    }
+}
+
 static void answer(const struct request *asked, struct answer *made)
 {
     if (made->status < 90 && !is_exact(made->status, &made->refusal))
@@ -301,8 +321,7 @@ static void answer(const struct request *asked, struct answer *made)
     uint8_t line[128];
     int has_lengths = asked->kind == 'a' || asked->kind == 'm';
     size_t told, length = (made->status == LTL2BA_TOO_SHORT && !has_lengths) || asked->kind == 'e' || asked->room == -2 ? 0 : made->length;
-    uint32_t program = asked->kind == 'c' ? LTL2BA_CHECKER : asked->kind == 'e' ? LTL2BA_EVALUATOR : asked->kind == 'm' ? LTL2BA_COMPARER + made->subject : LTL2BA_TRANSLATOR;
-    ltl2ba_message(program, &made->refusal, line, sizeof line, &told);
+    ltl2ba_message(program_of(asked->kind, made), &made->refusal, line, sizeof line, &told);
     printf("%d %zu %zu %zu %zu %zu\n", made->status, length, told, made->length, made->growths, asked->kind == 'e' || asked->kind == 'c' ? made->truth : (size_t)made->is_changed);
     fwrite(made->text, 1, length, stdout);
     fwrite(line, 1, told, stdout);

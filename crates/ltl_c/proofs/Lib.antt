@@ -5,5 +5,6 @@ pub mod ComparisonLaws
 pub mod FoundLaws
 pub mod HandLaws
 pub mod LineLaws
+pub mod PictureLaws
 pub mod PlaceLaws
 pub mod StepLaws

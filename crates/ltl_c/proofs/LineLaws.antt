@@ -6,7 +6,8 @@ use Rattle.ltl_spec.specs.Tools.Limits.{stated_limits}
 use Rattle.ltl_spec.specs.Tools.Refusal.{Tool, Checker, Refusal, Usage, CannotOpen, CannotRead, CannotWrite, OutOfMemory, LongFormula, TooManyPropositions, TooManyRows, TooManyElementaryRows, LargeAutomaton, LongWord, LargeProduct, BadFormula, BadWord, BadAutomaton, message, tool_name}
 use Rattle.ltl_cli.specs.Messages.{back_text, front_text, number_in, number_text}
 use Rattle.ltl_cli.proofs.MessageLaws.{line_same, parts_are, put_same}
-use Rattle.ltl_c.specs.Lines.{comparer_front_text}
+use Rattle.ltl_draw.specs.Messages.{draw_message, draw_text}
+use Rattle.ltl_c.specs.Lines.{comparer_front_text, draw_front_text}
 
 module _ (tool : Tool) (r : Refusal) (a f : List ℕ) (n : Option ℕ) (b : List ℕ) where
   regrouped : (a ++ f ++ number_text n) ++ b ≡ a ++ (f ++ number_text n ++ b)
@@ -53,3 +54,29 @@ module _ (s : Subject) (r : Refusal) (a i f : List ℕ) (n : Option ℕ) (b : Li
       ∙ ap (λ x. x ++ 10 ∷ [])
       (ep ∙ ap (λ x. x ++ b) (eo ∙ ap (λ x. x ++ number_text n) (em ∙ ap (λ x. x ++ f) (ek ∙ ap (λ x. x ++ i) el))) ∙ regrouped_behind ∙ ap (λ t. a ++ t) (rw (ei, ef, en, eb) (comparer_parts s r)))
       ∙ ap (λ x. (x ++ comparer_text stated_limits s r) ++ 10 ∷ []) ea
+
+-- the drawer's text of a refusal in parts
+draw_parts : (r : Refusal) → draw_front_text r ++ number_text (number_in r) ++ back_text r ≡ draw_text r
+draw_parts Usage = append-nil _ ∙ append-nil _
+draw_parts CannotOpen = parts_are Checker CannotOpen
+draw_parts CannotRead = parts_are Checker CannotRead
+draw_parts CannotWrite = parts_are Checker CannotWrite
+draw_parts OutOfMemory = parts_are Checker OutOfMemory
+draw_parts LongFormula = parts_are Checker LongFormula
+draw_parts TooManyPropositions = parts_are Checker TooManyPropositions
+draw_parts TooManyRows = parts_are Checker TooManyRows
+draw_parts TooManyElementaryRows = parts_are Checker TooManyElementaryRows
+draw_parts LargeAutomaton = parts_are Checker LargeAutomaton
+draw_parts LongWord = parts_are Checker LongWord
+draw_parts LargeProduct = parts_are Checker LargeProduct
+draw_parts (BadFormula place kind) = parts_are Checker (BadFormula place kind)
+draw_parts (BadWord place) = parts_are Checker (BadWord place)
+draw_parts (BadAutomaton number kind) = parts_are Checker (BadAutomaton number kind)
+
+pub draw_line : (r : Refusal) (a f : List ℕ) (n : Option ℕ) (b : List ℕ) → a ≡ codes "ltldraw: " → f ≡ draw_front_text r → n ≡ number_in r → b ≡ back_text r
+    → (l m o p q : List ℕ) → l ≡ a → m ≡ l ++ f → o ≡ m ++ number_text n → p ≡ o ++ b → q ≡ p ++ 10 ∷ [] → q ≡ draw_message r
+draw_line r a f n b ea ef en eb l m o p q el em eo ep eq =
+    eq
+    ∙ ap (λ x. x ++ 10 ∷ [])
+    (ep ∙ ap (λ x. x ++ b) (eo ∙ ap (λ x. x ++ number_text n) (em ∙ ap (λ x. x ++ f) el)) ∙ regrouped Checker r a f n b ∙ ap (λ t. a ++ t) (rw (ef, en, eb) (draw_parts r)))
+    ∙ ap (λ x. (x ++ draw_text r) ++ 10 ∷ []) ea

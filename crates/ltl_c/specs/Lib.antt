@@ -4,4 +4,5 @@ pub mod Codes
 pub mod Comparisons
 pub mod Lines
 pub mod Names
+pub mod Pictures
 pub mod Verdicts

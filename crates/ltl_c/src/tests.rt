@@ -6,6 +6,7 @@ use crate::comparison::{Compared, ltlcompare_verdict};
 use crate::evaluation::ltleval_holds;
 use crate::message::ltl2ba_message;
 use crate::names::ltl2ba_names;
+use crate::picture::ltldraw_dot;
 use crate::refusal_code::{RefusalCode, no_refusal};
 use crate::rows::{Counts, EdgeRow, NameRow, StateRow};
 use crate::text::ltl2ba_text;
@@ -277,4 +278,33 @@ fn second_formula_refused(rt: HostRuntime) {
     assert!(rt;
         &line[..count] == b"ltlcompare: second formula: byte 3: expected operand\n".as_slice()
     );
+}
+
+const DOT: &str =
+    "digraph automaton {\n  rankdir=LR\n  labelloc=t\n  label=\"[]<>p\\nB&uuml;chi\"\n  node [shape=circle]\n  I [label=\"\", style=invis, width=0]\n  I -> 0\n  0\n  0 -> 0 [label=\"1\"]\n  0 -> 1 [label=\"p\"]\n  1 [peripheries=2]\n  1 -> 0 [label=\"1\"]\n  1 -> 1 [label=\"p\"]\n}\n";
+
+#[test]
+fn picture_of_an_automaton(rt: HostRuntime) {
+    let mut buffer = [0u8; 1000];
+    let mut count = 0;
+    let mut refusal = no_refusal();
+    let status = ltldraw_dot(
+        rt.alloc(),
+        HOA.as_bytes(),
+        &mut buffer,
+        &mut count,
+        &mut refusal,
+    );
+    assert_eq!(rt; status, 0);
+    assert!(rt; &buffer[..count] == DOT.as_bytes());
+    let refused = ltldraw_dot(
+        rt.alloc(),
+        b"HOA: v2",
+        &mut buffer,
+        &mut count,
+        &mut refusal,
+    );
+    assert_eq!(rt; (refused, count), (3, 0));
+    assert_eq!(rt; ltl2ba_message(6, &refusal, &mut buffer, &mut count), 0);
+    assert!(rt; &buffer[..count] == b"ltldraw: automaton: line 1: not HOA v1\n".as_slice());
 }
