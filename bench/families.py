@@ -1,11 +1,13 @@
 #!/usr/bin/env python3
 """Times ltl2ba on families of formulas, beside `spin -f` if that is installed.
 
-Usage: bench/families.py [-s SECONDS] [FAMILY..]
+Usage: bench/families.py [-s SECONDS] [-c] [FAMILY..]
 
 It prints for each formula how long each program took as a whole, with the output thrown away, and how much it printed. A program that takes longer than
 SECONDS (10, if not given) is stopped. The last line has the geometric mean of the ratios of both times, over the formulas that both translate. Nothing
-checks the numbers: they depend on the machine."""
+checks the numbers: they depend on the machine.
+
+With -c it has ltlclaim read the claim of each formula back, and ltlcheck say whether that is contained in the formula, with the times of both."""
 import math
 import shutil
 import subprocess
@@ -13,7 +15,8 @@ import sys
 import time
 from pathlib import Path
 
-PROGRAM = Path(__file__).resolve().parent.parent / "crates/ltl2ba/out/ltl2ba"
+CRATES = Path(__file__).resolve().parent.parent / "crates"
+PROGRAM, READER, CHECKER = (CRATES / it / "out" / it for it in ("ltl2ba", "ltlclaim", "ltlcheck"))
 
 
 def all_of(count, formula):
@@ -47,17 +50,50 @@ def timed(words, most):
     return (f"{said}, status {run.returncode}", None) if run.returncode else (said, took)
 
 
+def answered(words, given, most):
+    """A text with the time of the program and the first line that it printed, and all that it printed, or nothing if it was stopped or refused."""
+    began = time.monotonic()
+    try:
+        run = subprocess.run(words, input=given, capture_output=True, timeout=most)
+    except subprocess.TimeoutExpired:
+        return f"over {most:g} s", b""
+    took, told = time.monotonic() - began, run.stderr if run.returncode > 1 else run.stdout
+    line = told.decode().split("\n")[0]
+    return f"{took:8.3f} s {line}", run.stdout
+
+
+def read_back(formula, most):
+    """Has the claim of the formula read back, and the automaton checked."""
+    try:
+        claim = subprocess.run([PROGRAM, "-f", formula], capture_output=True, timeout=most).stdout
+    except subprocess.TimeoutExpired:
+        claim = b""
+    if not claim:
+        print("  no claim")
+        return
+    said, automaton = answered([READER], claim, most)
+    print(f"  ltlclaim {said}, a claim of {len(claim)} bytes")
+    if automaton:
+        print(f"  ltlcheck {answered([CHECKER, '-f', formula], automaton, most)[0]}", flush=True)
+
+
 def main(words):
-    most = 10.0
+    most, is_read_back = 10.0, False
     if words[:1] == ["-s"]:
         most, words = float(words[1]), words[2:]
+    if words[:1] == ["-c"]:
+        is_read_back, words = True, words[1:]
     if not PROGRAM.exists():
         sys.exit("bench/families.py: build ltl2ba first: ./run ltl2ba -f p")
-    spin = shutil.which("spin")
+    spin = not is_read_back and shutil.which("spin")
     logarithms = []
     for family in words or FAMILIES:
         for formula in FAMILIES[family]:
             shown = formula if len(formula) < 60 else formula[:57] + "..."
+            if is_read_back:
+                print(f"{family}: {shown}")
+                read_back(formula, most)
+                continue
             said, ours = timed([PROGRAM, "-f", formula], most)
             print(f"{family}: {shown}\n  ltl2ba   {said}")
             if spin:

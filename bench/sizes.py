@@ -65,4 +65,5 @@ def main(words):
     print(row("all", [counts for part in counted.values() for counts in part.values()]))
 
 
-main(sys.argv[1:])
+if __name__ == "__main__":
+    main(sys.argv[1:])

@@ -1,9 +1,9 @@
 /* SPDX-License-Identifier: MIT OR Apache-2.0 */
-/* The translator, the checker, the evaluator, the comparer and pictures as a library: linear temporal logic to Büchi automata.
+/* The translator, the checker, the evaluator, the comparer, pictures and the reader of claims as a library: linear temporal logic to Büchi automata.
 
-   The calls do the work of the programs ltl2ba, ltlcheck, ltleval, ltlcompare and ltldraw over texts in memory, and return their exit statuses: see ltl2ba(3), and
-   for the texts ltl2ba(1), ltlcheck(1), ltleval(1), ltlcompare(1) and ltldraw(1). What the library does is proved for every input, on the conditions below. That this header declares it
-   correctly isn't proved: a test compares calls, structures and numbers with the library's sources.
+   The calls do the work of the programs ltl2ba, ltlcheck, ltleval, ltlcompare, ltldraw and ltlclaim over texts in memory, and return their exit statuses: see
+   ltl2ba(3), and for the texts ltl2ba(1), ltlcheck(1), ltleval(1), ltlcompare(1), ltldraw(1) and ltlclaim(1). What the library does is proved for every input, on the
+   conditions below. That this header declares it correctly isn't proved: a test compares calls, structures and numbers with the library's sources.
 
    No call prints anything, ends the process, or keeps anything between calls: a call frees all its memory before it returns, so the caller has nothing to
    free. Any number of threads may call at the same time, each with buffers of its own.
@@ -12,7 +12,7 @@
    - A pointer with a length is valid for this many elements, and is not null, not even with length 0. Every other pointer points to an object.
    - A buffer, or an object that is written to, overlaps no other argument of the same call.
    - During a call no other thread writes to any of its arguments, not even to a text or to the options, or reads what the call writes to.
-   - What a call reads is initialised: the texts, the options, in which a bool is 0 or 1, and the refusal of ltl2ba_message.
+   - What a call reads is initialised: the texts, the options, in which a bool is 0 or 1, and the refusal of ltl2ba_message and of ltlclaim_message.
    - malloc, realloc and free belong to one allocator, which aligns a block to each power of two up to 16 that divides its size.
    - No call is made in a signal handler, or in the child of a fork of a process with several threads.
    - There is room for 64 KiB on the stack.
@@ -70,6 +70,7 @@ struct ltl2ba_refusal {
 #define LTL2BA_BAD_WORD 10      /* place */
 #define LTL2BA_BAD_AUTOMATON 11 /* fault and place */
 #define LTL2BA_LARGE_PRODUCT 12
+#define LTL2BA_BAD_CLAIM 16 /* of ltlclaim_hoa alone: fault, line and column */
 
 /* The faults of LTL2BA_BAD_FORMULA: what is wrong at the place. */
 #define LTL2BA_UNEXPECTED_BYTE 0
@@ -188,6 +189,35 @@ uint8_t ltlcompare_verdict(const uint8_t *first, size_t first_length, const uint
 /* Writes the picture of an automaton, a text in the Hanoi Omega-Automata format, to the buffer, as ltldraw prints it: a graph for Graphviz. */
 uint8_t ltldraw_dot(const uint8_t *automaton, size_t automaton_length,
                     uint8_t *buffer, size_t buffer_length, size_t *length, struct ltl2ba_refusal *refusal);
+
+/* Why a claim was refused: with each status from 2 to 5, and else all are 0. */
+struct ltlclaim_refusal {
+    uint32_t kind;  /* LTL2BA_NO_REFUSAL, LTL2BA_NO_MEMORY or LTL2BA_BAD_CLAIM */
+    uint32_t fault; /* which fault the claim has, by the names below; 0 for other refusals */
+    size_t line;    /* the line of the fault, from 1; 0 for other refusals */
+    size_t column;  /* its column in bytes, from 1; 0 for other refusals */
+};
+
+/* The faults of LTL2BA_BAD_CLAIM: what is wrong at the place. */
+#define LTLCLAIM_NOT_A_NEVER_CLAIM 0
+#define LTLCLAIM_UNSUPPORTED 1
+#define LTLCLAIM_BAD_NAME 2
+#define LTLCLAIM_LABEL_TWICE 3
+#define LTLCLAIM_ELSE_TWICE 4
+#define LTLCLAIM_BREAK_OUTSIDE_OF_DO 5
+#define LTLCLAIM_UNDEFINED_LABEL 6
+#define LTLCLAIM_TEXT_AFTER_END 7
+#define LTLCLAIM_LIMIT_PASSED 8
+#define LTLCLAIM_BAD_TOKEN 9
+
+/* Writes the automaton of a never claim of Spin to the buffer, as ltlclaim prints it: a text in the Hanoi Omega-Automata format. It accepts exactly the words
+   that the claim accepts. */
+uint8_t ltlclaim_hoa(const uint8_t *claim, size_t claim_length,
+                     uint8_t *buffer, size_t buffer_length, size_t *length, struct ltlclaim_refusal *refusal);
+
+/* Writes the line that ltlclaim prints for a refusal, with its line feed, to the buffer, and its length to *length. It allocates nothing, and 128 bytes are
+   enough for each line. The line is empty if there is no refusal with this number. */
+uint8_t ltlclaim_message(const struct ltlclaim_refusal *refusal, uint8_t *buffer, size_t buffer_length, size_t *length);
 
 #define LTL2BA_TRANSLATOR 0 /* ltl2ba */
 #define LTL2BA_CHECKER 1    /* ltlcheck */

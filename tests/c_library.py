@@ -24,7 +24,7 @@ from run import text
 
 TOP = Path(__file__).resolve().parent.parent
 PROGRAMS = "ltl2ba", "ltlcheck", "ltleval", "ltlcompare"
-DRAWER = "ltldraw"
+DRAWER, READER = "ltldraw", "ltlclaim"
 COMPILER, COMPILER_OF_CPP = os.environ.get("CC", "cc"), os.environ.get("CXX", "c++")
 SECONDS, RANDOM_FORMULAS, RANDOM_PAIRS = 600, 500, 200
 KINDS = {"ltl2ba": "t", "ltlcheck": "c", "ltleval": "e", "ltlcompare": "m"}
@@ -199,6 +199,28 @@ def try_pictures(tally, driver, folder):
     print(f"{len(texts)} pictures")
 
 
+def try_claims(tally, driver, folder):
+    """Compares the call with `ltlclaim`: on the stored runs, with every length of a buffer up to the needed one for the first of them, and on the claims of the formulas."""
+    runs = [it for it in json.loads((TOP / "tests/ltlclaim.json").read_text(encoding="utf-8")) if not it["args"] and it["status"] in (0, 3) and not {"output", "message", "stdout_begins"} & set(it)]
+    claims = [(text(it.get("stdin", [])), (it["status"], text(it["stdout"]), text(it["stderr"]))) for it in runs]
+    for formula in FORMULAS:
+        claim = subprocess.run([f"{folder}/ltl2ba", "-f", formula], capture_output=True, timeout=SECONDS, check=False).stdout
+        ran = subprocess.run([f"{folder}/{READER}"], input=claim, capture_output=True, timeout=SECONDS, check=False)
+        claims.append((claim, (ran.returncode, ran.stdout, ran.stderr)))
+    found, status, told = answers([driver], [request("k", it) for it, _ in claims])
+    tally.expect("claims: the driver ends", (status, told, len(found)), (0, "", len(claims)))
+    for (claim, wanted), it in zip(claims, found):
+        tally.expect(f"the claim {claim[:60]!r}", (it[:3], it[3][2]), (wanted, 0))
+    claim, (_, whole, _) = next(it for it in claims if it[1][0] == 0)
+    rooms = range(len(whole) + 2)
+    found, status, told = answers([driver], [request("k", claim, room=it) for it in rooms])
+    tally.expect("the lengths of a claim: the driver ends", (status, told, len(found)), (0, "", len(rooms)))
+    for room, it in zip(rooms, found):
+        wanted = (0, whole) if room >= len(whole) else (6, b"")
+        tally.expect(f"a claim with room for {room}", (it[:2], it[3][0], it[3][2]), (wanted, len(whole), 0))
+    print(f"{len(claims)} claims")
+
+
 def told_of(printed, message):
     """The lengths of both words, the implications and the subject, by what the program prints."""
     words = [len((re.search(rb"^%s only: (.*)$" % which, printed, re.M) or [b"", b""])[1]) for which in (b"first", b"second")]
@@ -253,7 +275,7 @@ def try_growths(tally, driver, formulas):
     growths = 0
     for formula in formulas:
         hoa = answers([driver], [request("t", b"true", 1)])[0][0][1]
-        requests = [request(kind, formula.encode(), layout, 0, -2, second) for kind, layout, second in (("t", 0, b""), ("t", 1, b""), ("t", 2, b""), ("n", 0, b""), ("a", 1, b""), ("a", 2, b""), ("e", 0, WORD), ("c", 0, hoa), ("m", 0, b"<>[]p"))] + [request("d", hoa, room=-2)]
+        requests = [request(kind, formula.encode(), layout, 0, -2, second) for kind, layout, second in (("t", 0, b""), ("t", 1, b""), ("t", 2, b""), ("n", 0, b""), ("a", 1, b""), ("a", 2, b""), ("e", 0, WORD), ("c", 0, hoa), ("m", 0, b"<>[]p"))] + [request("d", hoa, room=-2), request("k", answers([driver], [request("t", formula.encode())])[0][0][1], room=-2)]
         found, code, told = answers([driver], requests)
         tally.expect(f"{formula}: the driver ends", (code, told, len(found)), (0, "", len(requests)))
         for it in found:
@@ -414,7 +436,7 @@ def main(words):
         if programs is None:
             programs = f"{folder}/programs"
             os.mkdir(programs)
-            for it in (*PROGRAMS, DRAWER):
+            for it in (*PROGRAMS, DRAWER, READER):
                 os.symlink(TOP / f"crates/{it}/out/{it}", f"{programs}/{it}")
         if not shutil.which(shlex.split(COMPILER)[0]):
             print(f"skipped: all of this, for want of a C compiler ({COMPILER})")
@@ -441,9 +463,11 @@ def try_all(tally, folder, programs, driver, archive):
     try_comparisons(tally, driver, programs)
     try_comparison_lengths(tally, driver)
     try_pictures(tally, driver, programs)
+    try_claims(tally, driver, programs)
     try_growths(tally, driver, FORMULAS)
     sanitized, faults = driver_in(folder, "sanitized", archive, *SANITIZERS)
     few = [request(kind, it.encode(), layout, 0, -1, second) for it in FORMULAS for kind, layout, second in (("t", 0, b""), ("t", 2, b""), ("n", 0, b""), ("a", 0, b""), ("a", 2, b""), ("e", 0, WORD), ("c", 0, b"HOA: v2"), ("m", 0, b"<>[]p"))]
+    few += [request("k", it) for it in (b"never { do :: p od }", b"never { goto S }")]
     right = answers([driver], few)[0]
     if faults is None:
         tally.expect("with sanitizers", answers([sanitized], few), (right, 0, ""))

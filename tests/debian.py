@@ -31,10 +31,12 @@ SECONDS = 240
 OF_SYSTEM = "var/lib/dpkg", "var/log", "var/cache", "var/lib/apt"
 # An automaton that accepts one word alone; and runs of programs: words, input, output and status.
 ALWAYS = 'HOA: v1\nStates: 1\nStart: 0\nAP: 1 "p"\nAcceptance: 1 Inf(0)\n--BODY--\nState: 0 {0}\n[0] 0\n--END--\n'
+AS_HOA = ALWAYS.replace("Acceptance", "acc-name: Buchi\nAcceptance").replace("--BODY--", "properties: trans-labels explicit-labels state-acc\n--BODY--")
 ANSWERS = [
     (["ltleval", "-f", "[]<>p", "-w", "{p}; cycle {}"], "", "false\n", 1),
     (["ltlcompare", "-f", "[]p", "-g", "p && X[]p"], "", "equivalent\n", 0),
     (["ltlcheck", "-f", "p"], ALWAYS, "contained\n", 0),
+    (["ltlclaim"], "never { accept_init: do :: p -> goto accept_init od }", AS_HOA, 0),
     (["ltlcheck", "-f", "!p"], ALWAYS, "violated\ncycle {p}\n", 1),
 ]
 MODULE = [

@@ -16,7 +16,7 @@ import zipfile
 from pathlib import Path
 
 TOP = Path(__file__).resolve().parent.parent
-PROGRAMS = "ltl2ba", "ltlcheck", "ltlcompare", "ltleval", "ltldraw"
+PROGRAMS = "ltl2ba", "ltlcheck", "ltlclaim", "ltlcompare", "ltleval", "ltldraw", "ltlreduce"
 # What the copy has of the tree beside its code.
 COPIED = (
     *("test", "page", "ltlspin", "tutorial", ".gitignore", "COPYRIGHT", "LICENSE-APACHE", "LICENSE-MIT", "docs/*.md", "docs/*.svg", "docs/tutorial/*"),
@@ -100,7 +100,7 @@ done >"$3"
 """
 
 # Both libraries in one object, in which only the calls of the header are global.
-CALLS = "ltl2ba_text", "ltl2ba_names", "ltl2ba_automaton", "ltleval_holds", "ltlcheck_verdict", "ltlcompare_verdict", "ltldraw_dot", "ltl2ba_message"
+CALLS = "ltl2ba_text", "ltl2ba_names", "ltl2ba_automaton", "ltleval_holds", "ltlcheck_verdict", "ltlcompare_verdict", "ltldraw_dot", "ltlclaim_hoa", "ltlclaim_message", "ltl2ba_message"
 ARCHIVE = "".join(f"{it}\n" for it in ("qcs", "-r --whole-archive", "a library", "the allocator", *(f"--keep-global-symbol={it}" for it in CALLS)))
 
 # The shared library, in which these calls alone are seen.
@@ -461,7 +461,7 @@ class Tree:
 
 def try_run(tree):
     usage = tree.run("./run", "nothing")
-    tree.expect("no such program", (usage[0], usage[2], "ltl2ba ltlcheck ltlcompare ltldraw ltleval" in usage[1]), ("", 2, True))
+    tree.expect("no such program", (usage[0], usage[2], "ltl2ba ltlcheck ltlclaim ltlcompare ltldraw ltleval ltlreduce" in usage[1]), ("", 2, True))
 
     def tried(tool, words, input_text="", handed=""):
         return f"{handed}words:{''.join(f' <{it}>' for it in words)}\ninput: {input_text}\n", NOTICE.format(tool) + f"{tool}: a message\n", 3
@@ -514,7 +514,7 @@ def try_build(tree):
     tree.expect("no such program", tree.run("./build", "ltl_spec"), ("", "build: ltl_spec is no program of this repository\n", 2))
     tree.expect("no kit", tree.run("./build", has_rt=False)[1:], ("build: the Rattle kit, whose command rt proves and builds, is missing\n", 70))
     shown, told, status = tree.run("./build")
-    tree.expect("the last line", (shown.split("\n")[-2].split(" in ")[0], told, status), ("built ltl2ba, ltlcheck, ltlcompare, ltleval, ltldraw, ltl_c", "", 0))
+    tree.expect("the last line", (shown.split("\n")[-2].split(" in ")[0], told, status), ("built ltl2ba, ltlcheck, ltlclaim, ltlcompare, ltleval, ltldraw, ltlreduce, ltl_c", "", 0))
     stands, seen, calls = below(tree), set(), tree.calls.read_text(encoding="ascii").split("\n")[:-1]
     for kind, verb, name in (it.split()[:3] for it in calls):
         if kind == "begin":

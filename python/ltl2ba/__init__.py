@@ -14,9 +14,10 @@ and what it makes of the answers is tested. Calls may be made in any number of t
 
 - `translate` makes an `Automaton`; `holds`, `check`, `implies`, `equivalent`, `compare`, `is_satisfiable` and `is_valid` answer questions; `timeline` shows
   where subformulas hold on a `Word`.
+- `claim_to_hoa` reads a never claim, as Spin and other tools print it, for `check`.
 - `Formula.parse` reads formulas as this library, Spot or Spin write them; `propositions`, `G`, `F`, `X`, `U`, `V`, `R`, `W`, `M`, `iff` and the operators of
   Python make formulas of objects.
-- `FormulaError`, `WordError`, `HoaError` and `TooLarge` say why a text was refused, and where."""
+- `FormulaError`, `WordError`, `HoaError`, `ClaimError` and `TooLarge` say why a text was refused, and where."""
 
 from ltl2ba.automata import Automaton, Edge, Label, translate
 from ltl2ba.checking import (
@@ -33,7 +34,8 @@ from ltl2ba.checking import (
     is_satisfiable,
     is_valid,
 )
-from ltl2ba.errors import FormulaError, HoaError, LtlError, TooLarge, WordError
+from ltl2ba.claims import claim_to_hoa
+from ltl2ba.errors import ClaimError, FormulaError, HoaError, LtlError, TooLarge, WordError
 from ltl2ba.formulas import Formula
 from ltl2ba.operators import F, G, M, R, U, V, W, X, false, iff, proposition, propositions, true
 from ltl2ba.timelines import Timeline, timeline
@@ -45,7 +47,7 @@ __all__ = [
     *("Automaton", "Edge", "Label", "translate"),
     *("Comparison", "Contained", "Satisfiable", "Unsatisfiable", "Violated"),
     *("check", "compare", "equivalent", "holds", "implies", "is_satisfiable", "is_valid"),
-    *("FormulaError", "HoaError", "LtlError", "TooLarge", "WordError"),
+    *("claim_to_hoa", "ClaimError", "FormulaError", "HoaError", "LtlError", "TooLarge", "WordError"),
     *("Formula", "F", "G", "M", "R", "U", "V", "W", "X", "false", "iff", "proposition", "propositions", "true"),
     *("Timeline", "timeline", "Word"),
 ]

@@ -25,6 +25,7 @@ DONE, VIOLATED, USAGE, REFUSED, OUT_OF_MEMORY, FAILED, TOO_SHORT = range(7)
     BAD_AUTOMATON,
     LARGE_PRODUCT,
 ) = range(13)
+BAD_CLAIM = 16
 
 CLAIM, HOA, GENERALIZED = range(3)
 TRANSLATOR, CHECKER, EVALUATOR, COMPARER = range(4)
@@ -36,6 +37,12 @@ class Refusal(ctypes.Structure):
     """`struct ltl2ba_refusal`: why a call was refused."""
 
     _fields_ = [("kind", c_uint32), ("fault", c_uint32), ("place", c_size_t)]
+
+
+class ClaimRefusal(ctypes.Structure):
+    """`struct ltlclaim_refusal`: why a claim was refused."""
+
+    _fields_ = [("kind", c_uint32), ("fault", c_uint32), ("line", c_size_t), ("column", c_size_t)]
 
 
 class Options(ctypes.Structure):
@@ -103,6 +110,8 @@ CALLS = {
     "ltlcheck_verdict": [*_TEXT, *_TEXT, *_TEXT, POINTER(Found), POINTER(Refusal)],
     "ltlcompare_verdict": [*_TEXT, *_TEXT, *_TEXT, *_TEXT, POINTER(Compared)],
     "ltldraw_dot": [*_TEXT, *_TEXT, *_END],
+    "ltlclaim_hoa": [*_TEXT, *_TEXT, POINTER(c_size_t), POINTER(ClaimRefusal)],
+    "ltlclaim_message": [POINTER(ClaimRefusal), *_TEXT, POINTER(c_size_t)],
     "ltl2ba_message": [c_uint32, POINTER(Refusal), *_TEXT, POINTER(c_size_t)],
 }
 

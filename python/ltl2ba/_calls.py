@@ -11,7 +11,7 @@ from typing import NamedTuple, Optional, Tuple
 
 from ltl2ba import _abi as abi
 from ltl2ba._shared import load
-from ltl2ba.errors import FormulaError, HoaError, TooLarge, WordError
+from ltl2ba.errors import ClaimError, FormulaError, HoaError, TooLarge, WordError
 
 LIBRARY = load()
 # The lengths of the first buffers and arrays.
@@ -181,4 +181,30 @@ def dot(hoa: bytes) -> bytes:
             return string_at(buffer, length.value)
         if status != abi.TOO_SHORT:
             raise _refused(abi.DRAWER, refusal, b"")
+        room = length.value
+
+
+def _claim_refused(refusal: abi.ClaimRefusal) -> Exception:
+    """The error that stands for the refusal of a claim."""
+    if refusal.kind == abi.NO_MEMORY:
+        return MemoryError("out of memory")
+    room = 128
+    while True:
+        buffer, length = ctypes.create_string_buffer(room), c_size_t()
+        if LIBRARY.ltlclaim_message(byref(refusal), buffer, room, byref(length)) != abi.TOO_SHORT:
+            told = string_at(buffer, length.value).decode("ascii").rstrip("\n").partition(": ")[2]
+            return ClaimError(told, refusal.line, refusal.column)
+        room = length.value
+
+
+def claim_hoa(claim: bytes) -> bytes:
+    """The automaton of a never claim, as a text in HOA format."""
+    room = _BYTES
+    while True:
+        buffer, length, refusal = ctypes.create_string_buffer(room), c_size_t(), abi.ClaimRefusal()
+        status = LIBRARY.ltlclaim_hoa(claim, len(claim), buffer, room, byref(length), byref(refusal))
+        if status == abi.DONE:
+            return string_at(buffer, length.value)
+        if status != abi.TOO_SHORT:
+            raise _claim_refused(refusal)
         room = length.value

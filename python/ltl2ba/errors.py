@@ -71,3 +71,14 @@ class HoaError(LtlError):
 
     def __str__(self) -> str:
         return self.message
+
+
+class ClaimError(LtlError):
+    """A text is no never claim that is read. `line` and `column` are the place of the first fault, in bytes, from 1."""
+
+    def __init__(self, message: str, line: int, column: int) -> None:
+        super().__init__(message, line, column)
+        self.message, self.line, self.column = message, line, column
+
+    def __str__(self) -> str:
+        return self.message

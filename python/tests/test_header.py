@@ -18,6 +18,7 @@ STRUCTURES = {
     "ltl2ba_counts": abi.Counts,
     "ltlcheck_found": abi.Found,
     "ltlcompare_found": abi.Compared,
+    "ltlclaim_refusal": abi.ClaimRefusal,
 }
 TYPES = {**PLAIN, **{f"struct {name}": kind for name, kind in STRUCTURES.items()}}
 

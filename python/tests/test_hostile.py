@@ -10,7 +10,7 @@ import unittest
 from concurrent.futures import ThreadPoolExecutor
 
 from tests.support import formulas, ltl2ba
-from ltl2ba import Formula, FormulaError, HoaError, LtlError, TooLarge, Word, WordError, _calls, check, holds, translate
+from ltl2ba import ClaimError, Formula, FormulaError, HoaError, LtlError, TooLarge, Word, WordError, _calls, check, claim_to_hoa, holds, translate
 
 DEEP = 30000
 
@@ -75,6 +75,13 @@ class TestTexts(unittest.TestCase):
         with self.assertRaises(ValueError):
             translate("p", generalized=True).to_claim()
 
+    def test_claims(self):
+        for text, place in ("", (1, 1)), ("never {\n  do :: é od }", (2, 9)), ("never { p }\n\n x", (3, 2)), ("never { \udc80 }", (1, 9)), (b"never { \0 }", (1, 9)), ("never { goto S }", (1, 14)):
+            with self.assertRaises(ClaimError) as caught:
+                claim_to_hoa(text)
+            self.assertEqual((caught.exception.line, caught.exception.column), place, text)
+        self.assertIn("--BODY--", claim_to_hoa(f"never {{ {'(' * DEEP}p{')' * DEEP} }}"))
+
     def test_depths(self):
         for text in "!" * DEEP + "p", "(" * (DEEP // 2) + "p" + ")" * (DEEP // 2), "X" * 4000 + "p", " && ".join(["p"] * 7000):
             it = Formula.parse(text)
@@ -103,7 +110,7 @@ class TestTexts(unittest.TestCase):
                 call()
 
     def test_pickles(self):
-        for it in Formula.parse('G(Req -> F "bus.x") W a xor b', "spot"), Word.parse('{"X y"}; cycle {p}'), FormulaError("m", "t", 1), HoaError("m", 3):
+        for it in Formula.parse('G(Req -> F "bus.x") W a xor b', "spot"), Word.parse('{"X y"}; cycle {p}'), FormulaError("m", "t", 1), HoaError("m", 3), ClaimError("m", 3, 4):
             other = pickle.loads(pickle.dumps(it))
             self.assertEqual(str(other), str(it))
 

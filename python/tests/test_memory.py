@@ -16,7 +16,7 @@ ARCHIVE = TOP / "crates/ltl_c/out/libltl2ba.a"
 CODE = """
 import sys
 sys.path.insert(0, sys.argv[1])
-from ltl2ba import _calls, check, compare, holds, timeline, translate
+from ltl2ba import _calls, check, claim_to_hoa, compare, holds, timeline, translate
 from ltl2ba._calls import LIBRARY
 
 whole = translate("[]<>p")
@@ -30,6 +30,7 @@ calls = [
     lambda: check(whole.to_hoa(), "[]<>p"),
     lambda: compare("p U q", "[]p"),
     lambda: _calls.names(b"p U (q || r)"),
+    lambda: claim_to_hoa(whole.to_claim()),
     lambda: str(timeline("p U q", "cycle {p}; {q}")),
 ]
 refused = 0

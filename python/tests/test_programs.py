@@ -26,7 +26,7 @@ def hoa_of(it):
 class TestPrograms(unittest.TestCase):
     @classmethod
     def setUpClass(cls):
-        for name in "ltl2ba", "ltlcheck", "ltleval", "ltldraw":
+        for name in "ltl2ba", "ltlcheck", "ltleval", "ltldraw", "ltlclaim":
             program(name)
         cls.formulas = formulas(COUNT, SEED)
         cls.pool = ThreadPoolExecutor()
@@ -80,6 +80,28 @@ class TestPrograms(unittest.TestCase):
             return None
 
         self.all_hold(fault, self.formulas)
+
+    def test_claims(self):
+        def fault(asked):
+            number, formula = asked
+            try:
+                claim = ltl2ba.translate(formula).to_claim()
+            except ltl2ba.TooLarge:
+                return None
+            if number % 2:
+                place = random.Random(number).randrange(len(claim))
+                claim = claim[:place] + claim[place + 1 :]
+            told = ran("ltlclaim", given=claim)
+            try:
+                seen = ltl2ba.claim_to_hoa(claim), "", 0
+            except ltl2ba.ClaimError as refusal:
+                place = re.search(r"line (\d+), column (\d+)", str(refusal)).groups()
+                if place != (str(refusal.line), str(refusal.column)):
+                    return claim, place
+                seen = "", f"ltlclaim: {refusal}\n", 3
+            return None if told == seen else (claim, told, seen)
+
+        self.all_hold(fault, enumerate(self.formulas))
 
     def test_verdicts(self):
         def fault(pair):

@@ -1,7 +1,7 @@
 /* Makes the calls of include/ltl2ba.h that its standard input asks for, and writes what they answer.
 
    A request is a line `KIND LAYOUT FLAGS ROOM FIRST SECOND` and then the bytes of two texts of these lengths. KIND is t (text), n (names), e (evaluation),
-   c (check), d (picture), a (automaton) or m (comparison), FLAGS has 1, 2 and 4 for no_rewrite, keep_implied and keep_equal. ROOM is the length of the
+   c (check), d (picture), k (claim), a (automaton) or m (comparison), FLAGS has 1, 2 and 4 for no_rewrite, keep_implied and keep_equal. ROOM is the length of the
    buffer; with -1 a call with no room asks for the length, and a second one has exactly that; with -2 that is done with each growth of memory refused in
    turn, until none was left to refuse. Of an automaton it is the length of the array that the second text names, s (states), e (edges) or n (names), and the other two have the
    length that is needed; of a comparison FLAGS is 0 if that is the length of the first buffer, and 1 if it is that of the second one. The answer is a line `STATUS LENGTH MESSAGE COUNTS` and the bytes of the text and of the message; COUNTS are three numbers, and of a
@@ -53,6 +53,7 @@ struct answer {
     size_t length, growths, truth;
     struct room needed;
     struct ltl2ba_refusal refusal;
+    struct ltlclaim_refusal of_claim;
     uint32_t subject;
     uint8_t *text;
     int is_changed;
@@ -223,6 +224,11 @@ static struct answer call(const struct request *asked, struct room of)
     case 'd':
         made.status = ltldraw_dot(asked->first, asked->first_length, made.text, room, &made.length, &made.refusal);
         break;
+    case 'k':
+        memset(&made.of_claim, 0xa5, sizeof made.of_claim);
+        made.status = ltlclaim_hoa(asked->first, asked->first_length, made.text, room, &made.length, &made.of_claim);
+        made.refusal.kind = made.of_claim.kind;
+        break;
     default:
         exit(7);
     }
@@ -288,13 +294,25 @@ static struct answer call_refused(const struct request *asked)
     }
 }
 
-/* Whether there is a refusal exactly with the status of one, and each number that it doesn't have is 0. */
+/* Whether there is a refusal exactly with the status of one. */
+static int is_refusal(int status, uint32_t kind)
+{
+    return (kind != LTL2BA_NO_REFUSAL) == (status != LTL2BA_DONE && status != LTL2BA_VIOLATED && status != LTL2BA_TOO_SHORT);
+}
+
+/* The same, and each number that it doesn't have is 0. */
+static int is_exact_claim(int status, const struct ltlclaim_refusal *refusal)
+{
+    int has_fault = refusal->kind == LTL2BA_BAD_CLAIM, has_none = !refusal->fault && !refusal->line && !refusal->column;
+    int is_known = has_fault || refusal->kind == LTL2BA_NO_MEMORY || refusal->kind == LTL2BA_NO_REFUSAL;
+    return is_refusal(status, refusal->kind) && is_known && (has_fault ? refusal->fault <= LTLCLAIM_BAD_TOKEN && refusal->line && refusal->column : has_none);
+}
+
 static int is_exact(int status, const struct ltl2ba_refusal *refusal)
 {
-    int is_refused = status != LTL2BA_DONE && status != LTL2BA_VIOLATED && status != LTL2BA_TOO_SHORT;
     int has_fault = refusal->kind == LTL2BA_BAD_FORMULA || refusal->kind == LTL2BA_BAD_AUTOMATON;
     int has_place = has_fault || refusal->kind == LTL2BA_BAD_WORD;
-    return (refusal->kind != LTL2BA_NO_REFUSAL) == is_refused && refusal->kind <= LTL2BA_LARGE_PRODUCT && (has_fault || !refusal->fault) && (has_place || !refusal->place);
+    return is_refusal(status, refusal->kind) && refusal->kind <= LTL2BA_LARGE_PRODUCT && (has_fault || !refusal->fault) && (has_place || !refusal->place);
 }
 
 /* The number of the program whose line says why such a request was refused. */
@@ -316,12 +334,16 @@ static uint32_t program_of(char kind, const struct answer *made)
 
 static void answer(const struct request *asked, struct answer *made)
 {
-    if (made->status < 90 && !is_exact(made->status, &made->refusal))
+    int is_claim = asked->kind == 'k';
+    if (made->status < 90 && !(is_claim ? is_exact_claim(made->status, &made->of_claim) : is_exact(made->status, &made->refusal)))
         made->status = 92;
     uint8_t line[128];
     int has_lengths = asked->kind == 'a' || asked->kind == 'm';
     size_t told, length = (made->status == LTL2BA_TOO_SHORT && !has_lengths) || asked->kind == 'e' || asked->room == -2 ? 0 : made->length;
-    ltl2ba_message(program_of(asked->kind, made), &made->refusal, line, sizeof line, &told);
+    if (is_claim)
+        ltlclaim_message(&made->of_claim, line, sizeof line, &told);
+    else
+        ltl2ba_message(program_of(asked->kind, made), &made->refusal, line, sizeof line, &told);
     printf("%d %zu %zu %zu %zu %zu\n", made->status, length, told, made->length, made->growths, asked->kind == 'e' || asked->kind == 'c' ? made->truth : (size_t)made->is_changed);
     fwrite(made->text, 1, length, stdout);
     fwrite(line, 1, told, stdout);

@@ -3,6 +3,7 @@
 use ltl_alt::{Edges, Gba, PairSet};
 use ltl_buchi::{Ba, Gen};
 use ltl_check::{Outcome, Taken, Verdict, Walk};
+use ltl_claim::{Claim, ClaimMove, GuardStep};
 use ltl_formula::{Row, Table};
 use ltl_hoa::{HoaNames, Marked};
 use ltl_sets::{Cube, RowSet};
@@ -94,6 +95,29 @@ impl Digest {
             self.take(step.state);
             self.take(step.pick);
             self.rows(&step.letter);
+        }
+        self.take(usize::MAX);
+    }
+
+    fn guard_step(&mut self, step: GuardStep) {
+        let (kind, number) = match step {
+            GuardStep::Constant(value) => (0, value as usize),
+            GuardStep::Name(name) => (1, name),
+            GuardStep::Not => (2, 0),
+            GuardStep::And => (3, 0),
+            GuardStep::Or => (4, 0),
+        };
+        self.take(kind);
+        self.take(number);
+    }
+
+    /// Adds the moves of a statement.
+    fn moves<A: Allocator>(&mut self, moves: &[ClaimMove<'_, A>]) {
+        for one in moves {
+            for step in one.guard() {
+                self.guard_step(*step);
+            }
+            self.take(one.target());
         }
         self.take(usize::MAX);
     }
@@ -228,5 +252,24 @@ pub(crate) fn of_walk<A: Allocator>(walk: &Option<Walk<'_, A>>) -> Digest {
         digest.steps(&walk.stem);
         digest.steps(&walk.cycle);
     }
+    digest
+}
+
+pub(crate) fn of_claim<A: Allocator>(claim: &Claim<'_, A>) -> Digest {
+    let mut digest = Digest::new();
+    digest.take(claim.start());
+    for name in claim.names() {
+        digest.name(Some(name.as_bytes()));
+    }
+    for i in 0..claim.len() {
+        digest.take(claim.accepting(i) as usize);
+        digest.moves(claim.moves(i));
+    }
+    digest
+}
+
+pub(crate) fn of_text<A: Allocator>(text: &Vec<u8, &A>) -> Digest {
+    let mut digest = Digest::new();
+    digest.name(Some(text.as_slice()));
     digest
 }

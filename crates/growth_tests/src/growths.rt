@@ -4,13 +4,15 @@ ghost use Rattle.std.specs.Prelude.{◌<◌, length, IfSome};
 ghost use Rattle.ltl_spec.specs.Checking.Bounds.{HasNamesBelow};
 
 use crate::digest::{
-    Digest, of_ba, of_formula, of_gba, of_gen, of_marked, of_names, of_pairs, of_table, of_verdict,
-    of_walk, of_word,
+    Digest, of_ba, of_claim, of_formula, of_gba, of_gen, of_marked, of_names, of_pairs, of_table,
+    of_text, of_verdict, of_walk, of_word,
 };
 use crate::inputs::{CASES, Case};
 use ltl_alt::{AltFault, Gba, Reach, pairs};
 use ltl_buchi::{Ba, BaFault, Options, generalized, levels, merge, merge_ba, renumber, translate};
 use ltl_check::{CheckFault, Graph, PRODUCT_LIMIT, Product, Steps, check, find};
+use ltl_claim::{Claim, ClaimFault, claim_read};
+use ltl_claim_hoa::claim_hoa;
 use ltl_formula::{BuildFault, Table};
 use ltl_hoa::{HoaFault, Marked, hoa_names, hoa_read};
 use ltl_pictures::{TimelineFault, timeline_to};
@@ -343,6 +345,21 @@ fn automaton(alloc: &Memory, text: &str) -> Option<Digest> {
     )
 }
 
+fn claim_text(alloc: &Memory, claim: &Claim<'_, Memory>) -> Option<Digest> {
+    digest!(of_text, alloc, of_claim(claim), _, claim_hoa(alloc, claim))
+}
+
+/// The digest of a claim that is read, and of the text of its automaton.
+fn claimed<'a>(alloc: &'a Memory, text: &str) -> Option<Digest> {
+    let claim = made!(
+        alloc,
+        Digest::new(),
+        ClaimFault::OutOfMemory,
+        claim_read(alloc, &mut text.as_bytes())
+    );
+    Some(of_claim(&claim).with(claim_text(alloc, &claim)?))
+}
+
 /// The digest of all that is made of a case, or `None` if a call answers wrongly. `calm` refuses no allocation.
 fn all_of<'a>(alloc: &'a Memory, calm: &'a Memory, case: &Case<'_>) -> Option<Digest> {
     let formula = made!(
@@ -357,6 +374,7 @@ fn all_of<'a>(alloc: &'a Memory, calm: &'a Memory, case: &Case<'_>) -> Option<Di
     }
     digest = digest.with(automaton(alloc, case.automaton)?);
     digest = digest.with(names(alloc, case.automaton)?);
+    digest = digest.with(claimed(alloc, case.claim)?);
     Some(digest.with(checks(alloc, calm, case)?))
 }
 

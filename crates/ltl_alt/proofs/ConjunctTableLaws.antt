@@ -7,8 +7,7 @@ use Rattle.std.specs.Ordering.{nat_cmp}
 use Rattle.std.proofs.lemmas.List.{length-append, get_or_past, append-nil, append_assoc}
 use Rattle.ltl_spec.specs.Collections.Sets.{Has, has, is_subset, put, union}
 use Rattle.ltl_spec.specs.Collections.Lists.{places_where, places_from}
-use Rattle.ltl_spec.specs.Transitions.Pairs.{RowSet, Pair, join, empty_pair, later_pair, pairs}
-use Rattle.ltl_formula.specs.TableView.{TableView}
+use Rattle.ltl_spec.specs.Transitions.Pairs.{RowSet, Pair, join, empty_pair, pairs}
 use Rattle.ltl_spec.specs.Transitions.RowTransitions.{Table, pairs_at}
 use Rattle.ltl_spec.proofs.Collections.SetLaws.{has_Decides, put_cases, Has-put, append_cases, union_left, union_right, union_cases, filter_cases, Has-filter}
 use Rattle.ltl_spec.proofs.Collections.ListLaws.{places_cases}
@@ -20,15 +19,8 @@ use Rattle.ltl_alt.specs.declared.support.Dependencies.{Dependencies}
 use Rattle.ltl_alt.specs.SupportView.{AreDependencies}
 use Rattle.ltl_alt.specs.ConjunctTableView.{conjunct_of, dependency_of, links_of, tells_independent, numbers_of, IsLinked, AreAdded, AreKeptBy, AreLinked, AreMade, IsComponent}
 use Rattle.ltl_alt.specs.declared.rule.Rule.{Rule}
-use Rattle.ltl_alt.specs.RowLists.{row_place, IsListedRow}
-use Rattle.ltl_alt.specs.ConjunctView.{conjunct_pairs}
-use Rattle.ltl_alt.specs.declared.conjuncts.Conjunct.TheVariants as conjunct
-use Rattle.ltl_formula.specs.TableView.{row_tree}
-use Rattle.ltl_alt.specs.declared.fulfilment.Fulfilment.{Fulfilment}
-use Rattle.ltl_alt.specs.Tests.{AreTests}
-use Rattle.ltl_alt.specs.StandIns.{IsKeptBy, IsListed, IsPruned, StandsFor}
-use Rattle.ltl_alt.specs.TransitionView.{table_at}
-use Rattle.ltl_alt.proofs.StandInLaws.{IsStandIn, stands_in, kept_on, kept_all, kept_join, kept_append, pruned_of, tests_fit}
+use Rattle.ltl_alt.specs.StandIns.{IsKeptBy, StandsFor}
+use Rattle.ltl_alt.proofs.StandInLaws.{IsStandIn, stands_in, kept_on, kept_all, kept_join}
 use Rattle.ltl_alt.proofs.NeedsLaws.{same_or_other}
 use Rattle.ltl_alt.proofs.MapLaws.{at_last, at_before}
 
@@ -445,15 +437,3 @@ more_inside rest inside linked more some e i h = elim (union_cases nat_linear in
 
 pub more_there : (first : ℕ) (rest inside linked more : RowSet) → Has inside first → more ≡ union nat_cmp inside (filter (λ i. has nat_cmp i linked) rest) → Has more first
 more_there first rest inside linked more h e = subst (λ xs. Has xs first) (sym e) (union_left nat_linear inside (filter (λ x. has nat_cmp x linked) rest) first h)
-
--- ---- conjuncts
-
--- the pairs of a row with the one that asks for another row later
-pub released_listed : {A : Type 0} (t : TableView) (r : Rule) (f : Fulfilment A) (i k at : ℕ) (now all qs : List Pair) → AreTests (table_at t) f → IsListedRow t r i now → at ≡ row_place t (row_tree t k) → all ≡ now ++ later_pair at ∷ []
-    → IsPruned r f all qs → IsListed (StandsFor (table_at t) r) (conjunct_pairs t (conjunct.Released i k)) qs
-released_listed t r f i k at now all qs fit w e d p =
-    let T = table_at t in
-    let one = later_pair (row_place t (row_tree t k)) ∷ [] in
-    let both = kept_append (stands_in T r) (pairs (row_place t) (row_tree t i)) now one one w.kept (kept_all (stands_in T r) one) in
-    let kept = subst (IsKeptBy (StandsFor T r) (conjunct_pairs t (conjunct.Released i k))) (sym (d ∙ ap (λ m. now ++ later_pair m ∷ []) e)) both in
-    pruned_of T r f (conjunct_pairs t (conjunct.Released i k)) all qs (tests_fit T r f fit) kept p

@@ -1,45 +1,50 @@
 -- Which until rows count: what the pairs and the sets of each row need, what a round adds, and that rounds end.
-use Rattle.std.proofs.Common.{◌≡◌, ℕ, zero, suc, ◌+◌, ◌<◌, ◌≤◌, Bool, true, false, cond, ◌&&◌, ◌||◌, inl, inr, List, [], ◌∷◌, ◌++◌, length, map, refl, sym, ◌∙◌, ap, subst, arith, eqb, Some}
+use Rattle.std.proofs.Common.{◌≡◌, ℕ, zero, suc, ◌+◌, ◌<◌, ◌≤◌, Bool, true, false, cond, ◌&&◌, ◌||◌, inl, inr, List, [], ◌∷◌, length, map, refl, sym, ◌∙◌, ap, subst, arith, eqb, Some}
 use Rattle.std.specs.Prelude.{slice_get, slice_index_or}
 use Rattle.std.specs.List.{list_all}
 use Rattle.std.specs.Ordering.{nat_cmp}
 use Rattle.std.proofs.lemmas.Bool.Decides.{Decides-eqb}
-use Rattle.std.proofs.lemmas.List.{length-append}
 use Rattle.std.proofs.lemmas.Option.{slice_get-get_or}
 use Rattle.ltl_spec.specs.Collections.Lists.{place_of}
 use Rattle.ltl_spec.specs.Collections.Sets.{Has, has, union, is_subset, IsRising}
 use Rattle.ltl_spec.specs.NormalForms.Normal.{Normal, Top, Bottom, Leaf, Next, And, Or, Until, Release, same}
 use Rattle.ltl_spec.specs.NormalForms.NormalForm as normal
+use Rattle.ltl_spec.specs.Transitions.Cubes.{Literal}
 use Rattle.ltl_spec.specs.Transitions.CountedUntils.{SharesNothing, CountsAll, AreCounted}
 use Rattle.ltl_spec.specs.Transitions.Pairs as spec
 use Rattle.ltl_spec.specs.Transitions.Pruning.{is_counted, fulfilling_pairs}
 use Rattle.ltl_spec.specs.Transitions.RowTransitions.{Table, place}
 use Rattle.ltl_spec.proofs.Collections.CaseLaws.{false_is_true, below_or_last, last_or_below}
-use Rattle.ltl_spec.proofs.Collections.ListLaws.{at_place, place_below, place_same, index_append, numbered_short}
+use Rattle.ltl_spec.proofs.Collections.ListLaws.{at_place, place_below, place_same, numbered_short}
 use Rattle.ltl_spec.proofs.Collections.MemberLaws.{Has-map}
 use Rattle.ltl_spec.proofs.Collections.Orders.{nat_linear}
 use Rattle.ltl_spec.proofs.Collections.ProductLists.{rising_once}
-use Rattle.ltl_spec.proofs.Collections.SetLaws.{has_Decides, is_subset_Decides, union_left, union_right, filter_cases}
+use Rattle.ltl_spec.proofs.Collections.SetLaws.{append_cases, append_left, append_right, has_Decides, is_subset_Decides, union_left, union_right, filter_cases}
 use Rattle.ltl_spec.proofs.NormalForms.NormalLaws.{same_Decides}
-use Rattle.ltl_spec.proofs.NormalForms.SharedNodes.{tree_of, index_last}
-use Rattle.ltl_spec.proofs.Transitions.IndependenceTests.{Support, no_support, together, shares_some, Covers, covers_one, covers_append, within_sign, within_together_left, within_together_right, shares_sign, shares_row}
-use Rattle.ltl_spec.proofs.Transitions.IndependentPairs.{asks_join, leads_join}
-use Rattle.ltl_sets.specs.Literals.{literal_of}
+use Rattle.ltl_spec.proofs.NormalForms.SharedNodes.{tree_of}
+use Rattle.ltl_spec.proofs.Transitions.Fulfilment as test
+use Rattle.ltl_spec.proofs.Transitions.Fulfilment.{Test, literals_of, targets_of}
+use Rattle.ltl_spec.proofs.Transitions.IndependenceTests.{Support, of_sign, support_of, together, shares_some, Covers, covers_one, within_sign, within_together_left, within_together_right, shares_sign, shares_row}
+use Rattle.ltl_spec.proofs.Transitions.IndependentPairs.{Asks, Leads as LeadTo, asks_join, leads_join, asks_nothing, leads_nothing}
+use Rattle.ltl_spec.proofs.Transitions.SupportTests.{TellsOf}
 use Rattle.ltl_formula.specs.SharedNodesView.{node_of, IsBelow}
 use Rattle.ltl_formula.specs.TableView.{TableView, IsTable, row_tree, core_of, is_until_row, is_elementary_row}
 use Rattle.ltl_formula.specs.declared.row.Row.{Row}
 use Rattle.ltl_formula.specs.declared.row.Row.TheVariants as row
-use Rattle.ltl_alt.specs.CountedView.{support_at, own_support, postponing_support, pairs_support, sets_support, IsSupported, AreSupported, places_added, IsClosed, AreClosed, IsRound}
-use Rattle.ltl_alt.specs.RowLists.{row_place, next_pair}
+use Rattle.ltl_alt.specs.CountedView.{support_at, postponing_support, places_added, IsClosed, AreClosed, IsRound}
+use Rattle.ltl_alt.specs.RowLists.{row_place}
+use Rattle.ltl_alt.specs.Steps.{IsWholeProgram, steps_at}
+use Rattle.ltl_alt.specs.TestPairs.{dnf}
+use Rattle.ltl_alt.specs.Tests.{AreLeaves, test_of}
 use Rattle.ltl_alt.specs.TransitionView.{table_at}
+use Rattle.ltl_alt.specs.declared.program.RowSteps.{RowSteps}
+use Rattle.ltl_alt.specs.declared.program.Step.{Step}
 use Rattle.ltl_alt.proofs.ElementaryLaws.{kind_stands}
-use Rattle.ltl_alt.proofs.RowListLaws.{row_tree_is, next_append, next_unions}
 use Rattle.ltl_alt.proofs.RowLaws.{rows_count}
+use Rattle.ltl_alt.proofs.TestPairLaws.{dnf_pairs, dnf_sets, next_pair}
+use Rattle.ltl_alt.proofs.TreeLaws.{row_tree_is}
 
 -- ---- supports of lists
-
-covers_none : Covers no_support []
-covers_none = record { literals = λ l w. absurd w.1; rows = λ k w. absurd w.1 }
 
 covers_join : (a b : Support) (ps qs : List spec.Pair) → Covers a ps → Covers b qs → Covers (together a b) (spec.join ps qs)
 covers_join a b ps qs c d = record {
@@ -53,82 +58,61 @@ covers_join a b ps qs c d = record {
   ];
 }
 
-covers_later : (at k : ℕ) → at ≡ k → Covers (own_support at) (spec.later_pair k ∷ [])
-covers_later at k e = subst (λ j. Covers (own_support at) (spec.later_pair j ∷ [])) e (covers_one (spec.later_pair at))
-
--- ---- supports of rows
-
--- `at` is the place of the row
-module _ (t : TableView) (n : ℕ) (ps es : List Support) (each : (k : ℕ) → k < n → IsSupported t k (support_at ps k) (support_at es k)) (at : ℕ) where
-  abbrev pairs_of : ℕ → List spec.Pair
-  pairs_of i = spec.pairs (row_place t) (row_tree t i)
-
-  abbrev sets_of : ℕ → List spec.RowSet
-  sets_of i = spec.conj (row_place t) (row_tree t i)
-
-  postponing_covers : (i k : ℕ) → i < n → at ≡ k → Covers (postponing_support ps at i) (spec.join (pairs_of i) (spec.later_pair k ∷ []))
-  postponing_covers i k l e = covers_join (support_at ps i) (own_support at) (pairs_of i) (spec.later_pair k ∷ []) (each i l).pairs (covers_later at k e)
-
-  pairs_cover : (r : Row) → IsBelow n r → at ≡ row_place t (tree_of (row_tree t) (node_of r)) → Covers (pairs_support ps es at r) (spec.pairs (row_place t) (tree_of (row_tree t) (node_of r)))
-  pairs_cover row.True b e = covers_one spec.empty_pair
-  pairs_cover row.False b e = covers_none
-  pairs_cover (row.Literal l) b e = covers_one (record { cube = literal_of l ∷ []; targets = [] })
-  pairs_cover (row.Next i) b e = (each i b).sets
-  pairs_cover (row.And i j) b e = covers_join (support_at ps i) (support_at ps j) (pairs_of i) (pairs_of j) (each i b.0).pairs (each j b.1).pairs
-  pairs_cover (row.Or i j) b e = covers_append (support_at ps i) (support_at ps j) (pairs_of i) (pairs_of j) (each i b.0).pairs (each j b.1).pairs
-  pairs_cover (row.Until i j) b e =
-      let k = row_place t (Until (row_tree t i) (row_tree t j)) in
-      covers_append (support_at ps j) (postponing_support ps at i) (pairs_of j) (spec.join (pairs_of i) (spec.later_pair k ∷ [])) (each j b.1).pairs (postponing_covers i k b.0 e)
-  pairs_cover (row.Release i j) b e =
-      let k = row_place t (Release (row_tree t i) (row_tree t j)) in
-      covers_join (support_at ps j) (postponing_support ps at i) (pairs_of j) (pairs_of i ++ spec.later_pair k ∷ []) (each j b.1).pairs
-      (covers_append (support_at ps i) (own_support at) (pairs_of i) (spec.later_pair k ∷ []) (each i b.0).pairs (covers_later at k e))
-
-  sets_cover : (r : Row) → IsBelow n r → at ≡ row_place t (tree_of (row_tree t) (node_of r)) → Covers (sets_support es at r) (map next_pair (spec.conj (row_place t) (tree_of (row_tree t) (node_of r))))
-  sets_cover row.True b e = covers_one spec.empty_pair
-  sets_cover row.False b e = covers_none
-  sets_cover (row.And i j) b e =
-      subst (Covers (together (support_at es i) (support_at es j))) (sym (next_unions (sets_of i) (sets_of j)))
-      (covers_join (support_at es i) (support_at es j) (map next_pair (sets_of i)) (map next_pair (sets_of j)) (each i b.0).sets (each j b.1).sets)
-  sets_cover (row.Or i j) b e =
-      subst (Covers (together (support_at es i) (support_at es j))) (sym (next_append (sets_of i) (sets_of j)))
-      (covers_append (support_at es i) (support_at es j) (map next_pair (sets_of i)) (map next_pair (sets_of j)) (each i b.0).sets (each j b.1).sets)
-  sets_cover (row.Literal l) b e = covers_later at _ e
-  sets_cover (row.Next i) b e = covers_later at _ e
-  sets_cover (row.Until i j) b e = covers_later at _ e
-  sets_cover (row.Release i j) b e = covers_later at _ e
-
--- one row more
-pub supports_step : (t : TableView) (k : ℕ) (r : Row) (at : ℕ) (ps es : List Support) → slice_get t.rows k ≡ Some r → IsBelow k r → at ≡ row_place t (row_tree t k)
-    → AreSupported t k ps es → AreSupported t (k + 1) (ps ++ pairs_support ps es at r ∷ []) (es ++ sets_support es at r ∷ [])
-supports_step t k r at ps es f b p w =
-    let a = pairs_support ps es at r in
-    let c = sets_support es at r in
-    let pair_long = length-append ps (a ∷ []) in
-    let set_long = length-append es (c ∷ []) in
-    let pair_count = w.pair_count in
-    let set_count = w.set_count in
-    record {
-      pair_count = omega arith;
-      set_count = omega arith;
-      each = λ j l. elim (below_or_last j k l) [
-        | inl m ↦ told j (sym (index_append ps (a ∷ []) j no_support (omega arith))) (sym (index_append es (c ∷ []) j no_support (omega arith))) (w.each j m)
-        | inr e ↦ told j (sym (ap (support_at (ps ++ a ∷ [])) (e ∙ sym pair_count) ∙ index_last ps a no_support)) (sym (ap (support_at (es ++ c ∷ [])) (e ∙ sym set_count) ∙ index_last es c no_support))
-            (subst (λ i. IsSupported t i a c) (sym e) here)
-      ];
-    }
+-- all that the pairs of a test need is what the test speaks of
+covers_dnf : (a : Test) (v : Support) → TellsOf v a → Covers v (dnf a)
+covers_dnf test.Always v w = record { literals = λ l h. absurd (asks_nothing l h); rows = λ k h. absurd (leads_nothing k h) }
+covers_dnf test.Never v w = record { literals = λ l h. absurd h.1; rows = λ k h. absurd h.1 }
+covers_dnf (test.Reads l) v w = record { literals = literals; rows = rows }
   where
-    told : (j : ℕ) {a b c d : Support} → a ≡ b → c ≡ d → IsSupported t j a c → IsSupported t j b d
-    told j {b = b} {c = c} d e x = subst (IsSupported t j b) e (subst (λ y. IsSupported t j y c) d x)
+    literals : (m : Literal) → Asks (dnf (test.Reads l)) m → Has (of_sign m.positive v) m.proposition
+    literals m (p, inl e, k) = w.literals m (subst (λ (x : spec.Pair). Has x.cube m) e k)
+    literals m (p, inr z, k) = absurd z
 
-    tree : row_tree t k ≡ tree_of (row_tree t) (node_of r)
-    tree = row_tree_is t k r f b
+    rows : (k : ℕ) → LeadTo (dnf (test.Reads l)) k → Has v.targets k
+    rows k (p, inl e, h) = absurd (subst (λ (x : spec.Pair). Has x.targets k) e h)
+    rows k (p, inr z, h) = absurd z
+covers_dnf (test.Leads i) v w = record { literals = literals; rows = rows }
+  where
+    literals : (m : Literal) → Asks (dnf (test.Leads i)) m → Has (of_sign m.positive v) m.proposition
+    literals m (p, inl e, k) = absurd (subst (λ (x : spec.Pair). Has x.cube m) e k)
+    literals m (p, inr z, k) = absurd z
 
-    here : IsSupported t k (pairs_support ps es at r) (sets_support es at r)
-    here = record {
-      pairs = subst (λ F. Covers (pairs_support ps es at r) (spec.pairs (row_place t) F)) (sym tree) (pairs_cover t k ps es w.each at r b (p ∙ ap (row_place t) tree));
-      sets = subst (λ F. Covers (sets_support es at r) (map next_pair (spec.conj (row_place t) F))) (sym tree) (sets_cover t k ps es w.each at r b (p ∙ ap (row_place t) tree));
+    rows : (k : ℕ) → LeadTo (dnf (test.Leads i)) k → Has v.targets k
+    rows k (p, inl e, h) = w.rows k (subst (λ (x : spec.Pair). Has x.targets k) e h)
+    rows k (p, inr z, h) = absurd z
+covers_dnf (test.Both a b) v w =
+    let c = covers_dnf a v (record { literals = λ l h. w.literals l (append_left (literals_of a) (literals_of b) l h); rows = λ k h. w.rows k (append_left (targets_of a) (targets_of b) k h) }) in
+    let d = covers_dnf b v (record { literals = λ l h. w.literals l (append_right (literals_of a) (literals_of b) l h); rows = λ k h. w.rows k (append_right (targets_of a) (targets_of b) k h) }) in
+    record {
+      literals = λ l h. elim (asks_join (dnf a) (dnf b) l h) [ inl m ↦ c.literals l m | inr m ↦ d.literals l m ];
+      rows = λ k h. elim (leads_join (dnf a) (dnf b) k h) [ inl m ↦ c.rows k m | inr m ↦ d.rows k m ];
     }
+covers_dnf (test.Either a b) v w =
+    let c = covers_dnf a v (record { literals = λ l h. w.literals l (append_left (literals_of a) (literals_of b) l h); rows = λ k h. w.rows k (append_left (targets_of a) (targets_of b) k h) }) in
+    let d = covers_dnf b v (record { literals = λ l h. w.literals l (append_right (literals_of a) (literals_of b) l h); rows = λ k h. w.rows k (append_right (targets_of a) (targets_of b) k h) }) in
+    record {
+      literals = λ l (p, h, k). elim (append_cases (dnf a) (dnf b) p h) [ inl m ↦ c.literals l (p, m, k) | inr m ↦ d.literals l (p, m, k) ];
+      rows = λ i (p, h, k). elim (append_cases (dnf a) (dnf b) p h) [ inl m ↦ c.rows i (p, m, k) | inr m ↦ d.rows i (p, m, k) ];
+    }
+
+-- ---- what steps depend on
+
+module _ (t : TableView) (ss : List Step) (rs : List RowSteps) (ls : List Support) (program : IsWholeProgram t ss rs) (leaves : AreLeaves ss ls) where
+  sets_cover : (i : ℕ) → i < length t.rows → Covers (support_at ls (steps_at rs i).sets) (map next_pair (spec.conj (row_place t) (row_tree t i)))
+  sets_cover i l =
+      let c = program.count in
+      let made = (program.program.rows i (omega arith)).sets in
+      subst (Covers (support_at ls (steps_at rs i).sets)) (ap dnf made.test ∙ dnf_sets (row_place t) (row_tree t i)) (covers_dnf (test_of ss (steps_at rs i).sets) (support_at ls (steps_at rs i).sets) (leaves.tell (steps_at rs i).sets))
+
+  pairs_cover : (i : ℕ) → i < length t.rows → Covers (support_at ls (steps_at rs i).pairs) (spec.pairs (row_place t) (row_tree t i))
+  pairs_cover i l =
+      let c = program.count in
+      let made = (program.program.rows i (omega arith)).pairs in
+      subst (Covers (support_at ls (steps_at rs i).pairs)) (ap dnf made.test ∙ dnf_pairs (row_place t) (row_tree t i)) (covers_dnf (test_of ss (steps_at rs i).pairs) (support_at ls (steps_at rs i).pairs) (leaves.tell (steps_at rs i).pairs))
+
+  postponing_covers : (i at k : ℕ) → i < length t.rows → at ≡ k → Covers (postponing_support (support_at ls (steps_at rs i).pairs) at) (spec.join (spec.pairs (row_place t) (row_tree t i)) (spec.later_pair k ∷ []))
+  postponing_covers i at k l e = covers_join (support_at ls (steps_at rs i).pairs) (support_of (spec.later_pair at)) (spec.pairs (row_place t) (row_tree t i)) (spec.later_pair k ∷ []) (pairs_cover i l)
+      (subst (λ j. Covers (support_of (spec.later_pair at)) (spec.later_pair j ∷ [])) e (covers_one (spec.later_pair at)))
 
 -- ---- which rows are until rows
 
@@ -170,33 +154,31 @@ closed_more T xs ys w (Until a c) g (inl i) = inl (g _ i)
 closed_more T xs ys w (Until a c) g (inr i) = inr i
 closed_more T xs ys w (Release a c) g h = tt
 
-module _ (t : TableView) (ps es : List Support) (supported : AreSupported t (length t.rows) ps es) (k : ℕ) (r : Row) (at : ℕ) (l : k < length t.rows) (f : slice_get t.rows k ≡ Some r) (b : IsBelow k r) (p : normal.is_until (row_tree t k) ≡ true → at ≡ row_place t (row_tree t k)) where
+module _ (t : TableView) (ss : List Step) (rs : List RowSteps) (ls : List Support) (program : IsWholeProgram t ss rs) (leaves : AreLeaves ss ls) (k : ℕ) (r : Row) (at : ℕ) (l : k < length t.rows) (f : slice_get t.rows k ≡ Some r) (b : IsBelow k r) (p : normal.is_until (row_tree t k) ≡ true → at ≡ row_place t (row_tree t k)) where
   row_is : row_tree t k ≡ tree_of (row_tree t) (node_of r)
   row_is = row_tree_is t k r f b
-
-  before : (i : ℕ) → i < k → IsSupported t i (support_at ps i) (support_at es i)
-  before i m = supported.each i (omega arith)
 
   -- ---- what a round adds
 
   row_closed : (w : Support) (s : Row) → IsBelow k s → (normal.is_until (tree_of (row_tree t) (node_of s)) ≡ true → at ≡ row_place t (tree_of (row_tree t) (node_of s)))
-      → IsClosed (table_at t) (places_added ps es w s at) w (tree_of (row_tree t) (node_of s))
+      → IsClosed (table_at t) (places_added ls rs w s at) w (tree_of (row_tree t) (node_of s))
   row_closed w row.True c e = tt
   row_closed w row.False c e = tt
   row_closed w (row.Literal m) c e = tt
-  row_closed w (row.Next i) c e = λ d h j m. (before i c).sets.rows j (next_pair d, Has-map next_pair (spec.conj (row_place t) (row_tree t i)) d h, m)
+  row_closed w (row.Next i) c e = λ d h j m. (sets_cover t ss rs ls program leaves i (omega arith)).rows j (next_pair d, Has-map next_pair (spec.conj (row_place t) (row_tree t i)) d h, m)
   row_closed w (row.And i j) c e = tt
   row_closed w (row.Or i j) c e = tt
   row_closed w (row.Until i j) c e =
-      let v = postponing_support ps at i in
+      let v = postponing_support (support_at ls (steps_at rs i).pairs) at in
+      let m = c.0 in
       let F = Until (row_tree t i) (row_tree t j) in
       elim (shares_some w v) as (λ o. shares_some w v ≡ o → IsClosed (table_at t) (cond o (at ∷ []) []) w F) [
         | true ↦ λ d. inl (inl (sym (e refl)))
-        | false ↦ λ d. inr (v, postponing_covers t k ps es before at i (row_place t F) c.0 (e refl), d)
+        | false ↦ λ d. inr (v, postponing_covers t ss rs ls program leaves i at (row_place t F) (omega arith) (e refl), d)
       ] refl
   row_closed w (row.Release i j) c e = tt
 
-  pub closed_step : (w : Support) (xs added : spec.RowSet) → added ≡ places_added ps es w r at → AreClosed t xs w k → AreClosed t (union nat_cmp xs added) w (k + 1)
+  pub closed_step : (w : Support) (xs added : spec.RowSet) → added ≡ places_added ls rs w r at → AreClosed t xs w k → AreClosed t (union nat_cmp xs added) w (k + 1)
   closed_step w xs added q all j m = elim (below_or_last j k m) [
     | inl i ↦ closed_more (table_at t) xs (union nat_cmp xs added) w (row_tree t j) (λ n h. union_left nat_linear xs added n h) (all j i)
     | inr e ↦

@@ -16,7 +16,7 @@ use Rattle.ltl_formula.specs.TableView.{TableView, IsTable, row_tree, core_of, i
 use Rattle.ltl_formula.specs.declared.row.Row.{Row}
 use Rattle.ltl_formula.specs.declared.row.Row.TheVariants as row
 use Rattle.ltl_alt.proofs.RowLaws.{rows_count, until_elementary}
-use Rattle.ltl_alt.proofs.RowListLaws.{row_tree_is}
+use Rattle.ltl_alt.proofs.TreeLaws.{row_tree_is}
 use Rattle.ltl_alt.proofs.PlaceLaws.{told_equal}
 
 -- ---- which rows are elementary

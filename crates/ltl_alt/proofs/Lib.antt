@@ -10,7 +10,6 @@ pub mod ComponentLaws
 pub mod ImpliedLaws
 pub mod JoinLaws
 pub mod JoinOrderLaws
-pub mod ListsLaws
 pub mod KeyLaws
 pub mod MapLaws
 pub mod NeedsLaws
@@ -20,13 +19,15 @@ pub mod ConjunctLaws
 pub mod PlaceLaws
 pub mod RepeatLaws
 pub mod RowLaws
-pub mod RowListLaws
 pub mod ProductLaws
 pub mod ProgramLaws
 pub mod PruneLaws
 pub mod PrunedJoinLaws
 pub mod SpareLaws
 pub mod StandInLaws
+pub mod StepListLaws
+pub mod SubprogramLaws
 pub mod TestLaws
+pub mod TestPairLaws
 pub mod TransitionLaws
 pub mod TreeLaws

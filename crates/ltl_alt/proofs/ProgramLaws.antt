@@ -27,18 +27,16 @@ use Rattle.ltl_formula.specs.SharedNodesView.{IsBelow, node_of}
 use Rattle.ltl_formula.specs.TableView.{TableView, IsTable, core_of, is_elementary_row, row_tree}
 use Rattle.ltl_formula.specs.declared.row.Row.{Row}
 use Rattle.ltl_formula.specs.declared.row.Row.TheVariants as row
-use Rattle.ltl_alt.specs.NeedsView.{need_at, AllAsked, IsAsked, IsSecondNeeded}
 use Rattle.ltl_alt.specs.RowLists.{row_place}
-use Rattle.ltl_alt.specs.Steps.{AreOrdered, AreRowSteps, AreUntilSteps, HavePairSteps, HaveSetSteps, IsGrown, IsNumbered, IsNumberedIf, IsProgram, IsStepOf, pair_test_from, set_test_from, steps_at, test_by, until_step}
-use Rattle.ltl_alt.specs.Tests.{AreEarlier, AreSmall, HasOperands, IsSmall, IsUntilTest, step_of, steps_of}
-use Rattle.ltl_alt.specs.declared.needs.Need.{Need}
+use Rattle.ltl_alt.specs.Steps.{AreOrdered, AreRowSteps, AreUntilSteps, HavePairSteps, HaveSetSteps, IsGiven, IsGrown, IsNumbered, IsProgram, IsStepOf, IsWholeProgram, pair_test_from, set_test_from, steps_at, test_by, until_step}
+use Rattle.ltl_alt.specs.Tests.{AreEarlier, AreSmall, HasOperands, IsSmall, step_of, steps_of}
 use Rattle.ltl_alt.specs.declared.program.RowSteps.{RowSteps}
 use Rattle.ltl_alt.specs.declared.program.Step.{Step}
 use Rattle.ltl_alt.specs.declared.program.Step.TheVariants as step
 use Rattle.ltl_alt.specs.contracts.program.StepPartialEq.TheImpl.{ghosts}
 use Rattle.ltl_alt.proofs.NeedsLaws.{same_or_other}
 use Rattle.ltl_alt.proofs.RowLaws.{until_below}
-use Rattle.ltl_alt.proofs.RowListLaws.{row_tree_is}
+use Rattle.ltl_alt.proofs.TreeLaws.{row_tree_is}
 use Rattle.ltl_alt.proofs.TransitionLaws.{until_tree, untils_count}
 use Rattle.ltl_alt.specs.TransitionView.{table_at}
 
@@ -54,7 +52,7 @@ step_alike ts us n (spec.Both i j) b e = let d = e i (b i (inl refl)) in let f =
 step_alike ts us n (spec.Either i j) b e = let d = e i (b i (inl refl)) in let f = e j (b j (inr refl)) in λ k. by.Either (d k) (f k)
 
 -- the test of a number by all tests
-test_whole : (ss : List spec.Step) → AreEarlier ss → (k : ℕ) → k < length ss → test_at (tests_of ss) k ≡ step_test (tests_of ss) (slice_index_or ss k spec.Always)
+pub test_whole : (ss : List spec.Step) → AreEarlier ss → (k : ℕ) → k < length ss → test_at (tests_of ss) k ≡ step_test (tests_of ss) (slice_index_or ss k spec.Always)
 test_whole ss w k l =
     test_of_step ss k l
     ∙ step_alike (tests_of (take k ss)) (tests_of ss) k (slice_index_or ss k spec.Always) (w k l) (λ j m. sym (test_earlier ss k j m (omega arith)))
@@ -115,7 +113,12 @@ found_step [] k s e = cc
 found_step (x ∷ ss) zero s e = let d : x ≡ s = cc in ap step_of d
 found_step (x ∷ ss) (suc k) s e = found_step ss k s e
 
-inside : (ss : List Step) → length (steps_of ss) ≡ length ss
+pub step_found : (ss : List Step) (k : ℕ) (s : Step) → k < length ss → s ≡ slice_index_or ss k s → slice_index_or (steps_of ss) k spec.Always ≡ step_of s
+step_found [] k s l e = absurd (omega arith)
+step_found (x ∷ ss) zero s l e = ap step_of (sym e)
+step_found (x ∷ ss) (suc k) s l e = step_found ss k s (omega arith) e
+
+pub inside : (ss : List Step) → length (steps_of ss) ≡ length ss
 inside ss = map_length step_of ss
 
 grown_same : (ss : List Step) → AreOrdered ss → IsGrown ss ss
@@ -134,7 +137,7 @@ number_there ss w s k e =
     let n = inside ss in
     record {
       grown = grown_same ss w;
-      step = λ _. record { below = l; test = test_whole (steps_of ss) w.earlier k (omega arith) ∙ ap (step_test (tests_of (steps_of ss))) (found_step ss k s e) };
+      step = record { below = l; test = test_whole (steps_of ss) w.earlier k (omega arith) ∙ ap (step_test (tests_of (steps_of ss))) (found_step ss k s e) };
     }
 
 small_push : (ss : List Step) (s : Step) → AreSmall ss → IsSmall s → AreSmall (ss ++ s ∷ [])
@@ -171,7 +174,7 @@ pushed ss w s m o k d =
     let f : k ≡ length (steps_of ss) = omega arith in
     record {
       grown = push_grown ss w s m o;
-      step = λ _. record { below = omega arith; test = ap (λ xs. test_at (tests_of xs) k) e ∙ ap (test_at (tests_of (steps_of ss ++ step_of s ∷ []))) f ∙ next_new (steps_of ss) (step_of s) };
+      step = record { below = omega arith; test = ap (λ xs. test_at (tests_of xs) k) e ∙ ap (test_at (tests_of (steps_of ss ++ step_of s ∷ []))) f ∙ next_new (steps_of ss) (step_of s) };
     }
 
 -- the number of a step that was looked for
@@ -186,9 +189,9 @@ numbered old new s k e (t, f, g) w m o =
     at false d = elim (at_end old s s k d) [
       | inl l ↦
           let h = number_there old w s k (before old k l d) in
-          let q = h.step refl in
+          let q = h.step in
           let p = push_grown old w s m o in
-          record { grown = p; step = λ _. p.stays k (test_by old s) q }
+          record { grown = p; step = p.stays k (test_by old s) q }
       | inr c ↦ pushed old w s m o k c.0
     ]
       where
@@ -199,42 +202,38 @@ numbered old new s k e (t, f, g) w m o =
 
 -- ---- the steps of a row
 
--- what a call of `number` gives
-abbrev pub Gives : List Step → List Step → ℕ → Step → Type 0
-Gives old new k s = AreOrdered old → IsSmall s → HasOperands (length old) (step_of s) → IsNumbered old new k (test_by old s)
-
 operands_two : (n i j k : ℕ) → i < n → j < n → (k ≡ i) ⊎ (k ≡ j) → k < n
 operands_two n i j k l m (inl e) = omega arith
 operands_two n i j k l m (inr e) = omega arith
 
-pub both_given : (old new : List Step) (i j k : ℕ) (a b : Test) → Gives old new k (step.Both i j) → AreOrdered old → IsStepOf old i a → IsStepOf old j b → IsNumbered old new k (by.Both a b)
+pub both_given : (old new : List Step) (i j k : ℕ) (a b : Test) → IsGiven old new k (step.Both i j) → AreOrdered old → IsStepOf old i a → IsStepOf old j b → IsNumbered old new k (by.Both a b)
 both_given old new i j k a b f w p q = subst (IsNumbered old new k) (λ x. by.Both (p.test x) (q.test x)) (f w tt (λ m o. operands_two (length old) i j m p.below q.below o))
 
-pub either_given : (old new : List Step) (i j k : ℕ) (a b : Test) → Gives old new k (step.Either i j) → AreOrdered old → IsStepOf old i a → IsStepOf old j b → IsNumbered old new k (by.Either a b)
+pub either_given : (old new : List Step) (i j k : ℕ) (a b : Test) → IsGiven old new k (step.Either i j) → AreOrdered old → IsStepOf old i a → IsStepOf old j b → IsNumbered old new k (by.Either a b)
 either_given old new i j k a b f w p q = subst (IsNumbered old new k) (λ x. by.Either (p.test x) (q.test x)) (f w tt (λ m o. operands_two (length old) i j m p.below q.below o))
 
 pub then_given : (old mid new : List Step) (x y : ℕ) (a b : Test) → IsNumbered old mid x a → IsNumbered mid new y b → IsNumbered old new y b
 then_given old mid new x y a b v w = record { grown = grown_on old mid new v.grown w.grown; step = w.step }
 
 -- the steps of an until row's pairs
-pub until_given : (old one two new : List Step) (at i j x y k : ℕ) (a b : Test) → Gives old one x (step.Leads at) → at < 256 → Gives one two y (step.Both i x) → Gives two new k (step.Either j y) → AreOrdered old → IsStepOf old i a → IsStepOf old j b
+pub until_given : (old one two new : List Step) (at i j x y k : ℕ) (a b : Test) → IsGiven old one x (step.Leads at) → at < 256 → IsGiven one two y (step.Both i x) → IsGiven two new k (step.Either j y) → AreOrdered old → IsStepOf old i a → IsStepOf old j b
     → IsNumbered old new k (by.Either b (by.Both a (by.Leads at)))
 until_given old one two new at i j x y k a b f l g h w p q =
     let first : IsNumbered old one x (by.Leads at) = f w l (λ m o. absurd o) in
-    let second = both_given one two i x y a (by.Leads at) g (grown_ordered old one first.grown) (first.grown.stays i a p) (first.step refl) in
-    let third = either_given two new j y k b (by.Both a (by.Leads at)) h (grown_ordered one two second.grown) (second.grown.stays j b (first.grown.stays j b q)) (second.step refl) in
+    let second = both_given one two i x y a (by.Leads at) g (grown_ordered old one first.grown) (first.grown.stays i a p) (first.step) in
+    let third = either_given two new j y k b (by.Both a (by.Leads at)) h (grown_ordered one two second.grown) (second.grown.stays j b (first.grown.stays j b q)) (second.step) in
     then_given old one new x k (by.Leads at) (by.Either b (by.Both a (by.Leads at))) first (then_given one two new y k (by.Both a (by.Leads at)) (by.Either b (by.Both a (by.Leads at))) second third)
 
-pub release_given : (old one two new : List Step) (at i j x y k : ℕ) (a b : Test) → Gives old one x (step.Leads at) → at < 256 → Gives one two y (step.Either i x) → Gives two new k (step.Both j y) → AreOrdered old → IsStepOf old i a → IsStepOf old j b
+pub release_given : (old one two new : List Step) (at i j x y k : ℕ) (a b : Test) → IsGiven old one x (step.Leads at) → at < 256 → IsGiven one two y (step.Either i x) → IsGiven two new k (step.Both j y) → AreOrdered old → IsStepOf old i a → IsStepOf old j b
     → IsNumbered old new k (by.Both b (by.Either a (by.Leads at)))
 release_given old one two new at i j x y k a b f l g h w p q =
     let first : IsNumbered old one x (by.Leads at) = f w l (λ m o. absurd o) in
-    let second = either_given one two i x y a (by.Leads at) g (grown_ordered old one first.grown) (first.grown.stays i a p) (first.step refl) in
-    let third = both_given two new j y k b (by.Either a (by.Leads at)) h (grown_ordered one two second.grown) (second.grown.stays j b (first.grown.stays j b q)) (second.step refl) in
+    let second = either_given one two i x y a (by.Leads at) g (grown_ordered old one first.grown) (first.grown.stays i a p) (first.step) in
+    let third = both_given two new j y k b (by.Either a (by.Leads at)) h (grown_ordered one two second.grown) (second.grown.stays j b (first.grown.stays j b q)) (second.step) in
     then_given old one new x k (by.Leads at) (by.Both b (by.Either a (by.Leads at))) first (then_given one two new y k (by.Either a (by.Leads at)) (by.Both b (by.Either a (by.Leads at))) second third)
 
 -- the step of a row that is asked for later
-pub leads_given : (old new : List Step) (at k : ℕ) (es : ℕ → Test) (q : Row) {r : Row} → r ≡ q → set_test_from es at r ≡ by.Leads at → is_elementary_row r ≡ true → Gives old new k (step.Leads at) → (is_elementary_row q ≡ true → at < 256) → AreOrdered old
+pub leads_given : (old new : List Step) (at k : ℕ) (es : ℕ → Test) (q : Row) {r : Row} → r ≡ q → set_test_from es at r ≡ by.Leads at → is_elementary_row r ≡ true → IsGiven old new k (step.Leads at) → (is_elementary_row q ≡ true → at < 256) → AreOrdered old
     → IsNumbered old new k (set_test_from es at q)
 leads_given old new at k es q e test kind f small w =
     subst (λ x. IsNumbered old new k (set_test_from es at x)) e (subst (IsNumbered old new k) (sym test) (f w (small (subst (λ x. is_elementary_row x ≡ true) e kind)) (λ m o. absurd o)))
@@ -269,32 +268,32 @@ module _ (t : TableView) (at : ℕ) where
   sets_from (row.Release i j) e = ap by.Leads e
 
   -- the steps of the operands are there
-  module _ (ns : List Need) (ss : List Step) (rs : List RowSteps) (n : ℕ) (long : length rs ≡ n) (program : IsProgram t ns ss rs) where
-    operand_pairs : (i : ℕ) → i < n → (need_at ns i).pairs ≡ true → IsStepOf ss (steps_at rs i).pairs (ps i)
-    operand_pairs i l e = (program.rows i (omega arith)).pairs e
+  module _ (ss : List Step) (rs : List RowSteps) (n : ℕ) (long : length rs ≡ n) (program : IsProgram t ss rs) where
+    operand_pairs : (i : ℕ) → i < n → IsStepOf ss (steps_at rs i).pairs (ps i)
+    operand_pairs i l = (program.rows i (omega arith)).pairs
 
-    operand_sets : (i : ℕ) → i < n → (need_at ns i).sets ≡ true → IsStepOf ss (steps_at rs i).sets (es i)
-    operand_sets i l e = (program.rows i (omega arith)).sets e
+    operand_sets : (i : ℕ) → i < n → IsStepOf ss (steps_at rs i).sets (es i)
+    operand_sets i l = (program.rows i (omega arith)).sets
 
-    have_pairs : (r : Row) (m : Need) → IsBelow n r → IsAsked ns r m → m.pairs ≡ true → HavePairSteps ss rs ps es r
-    have_pairs row.True m b a e = tt
-    have_pairs row.False m b a e = tt
-    have_pairs (row.Literal l) m b a e = tt
-    have_pairs (row.Next i) m b a e = operand_sets i b (a e)
-    have_pairs (row.And i j) m b a e = (operand_pairs i b.0 (a.0.pairs e), operand_pairs j b.1 (a.1.pairs e))
-    have_pairs (row.Or i j) m b a e = (operand_pairs i b.0 (a.0.pairs e), operand_pairs j b.1 (a.1.pairs e))
-    have_pairs (row.Until i j) m b a e = (operand_pairs i b.0 (a.0 e), operand_pairs j b.1 (a.1 e))
-    have_pairs (row.Release i j) m b a e = (operand_pairs i b.0 (a.0 e), operand_pairs j b.1 (a.1 e))
+    have_pairs : (r : Row) → IsBelow n r → HavePairSteps ss rs ps es r
+    have_pairs row.True b = tt
+    have_pairs row.False b = tt
+    have_pairs (row.Literal l) b = tt
+    have_pairs (row.Next i) b = operand_sets i b
+    have_pairs (row.And i j) b = (operand_pairs i b.0, operand_pairs j b.1)
+    have_pairs (row.Or i j) b = (operand_pairs i b.0, operand_pairs j b.1)
+    have_pairs (row.Until i j) b = (operand_pairs i b.0, operand_pairs j b.1)
+    have_pairs (row.Release i j) b = (operand_pairs i b.0, operand_pairs j b.1)
 
-    have_sets : (r : Row) (m : Need) → IsBelow n r → IsAsked ns r m → m.sets ≡ true → HaveSetSteps ss rs es r
-    have_sets row.True m b a e = tt
-    have_sets row.False m b a e = tt
-    have_sets (row.And i j) m b a e = (operand_sets i b.0 (a.0.sets e), operand_sets j b.1 (a.1.sets e))
-    have_sets (row.Or i j) m b a e = (operand_sets i b.0 (a.0.sets e), operand_sets j b.1 (a.1.sets e))
-    have_sets (row.Literal l) m b a e = tt
-    have_sets (row.Next i) m b a e = tt
-    have_sets (row.Until i j) m b a e = tt
-    have_sets (row.Release i j) m b a e = tt
+    have_sets : (r : Row) → IsBelow n r → HaveSetSteps ss rs es r
+    have_sets row.True b = tt
+    have_sets row.False b = tt
+    have_sets (row.And i j) b = (operand_sets i b.0, operand_sets j b.1)
+    have_sets (row.Or i j) b = (operand_sets i b.0, operand_sets j b.1)
+    have_sets (row.Literal l) b = tt
+    have_sets (row.Next i) b = tt
+    have_sets (row.Until i j) b = tt
+    have_sets (row.Release i j) b = tt
 
 -- steps that stay are still those of a row
 sets_stay : (ss rs_new : List Step) (rs : List RowSteps) (es : ℕ → Test) → IsGrown ss rs_new → (r : Row) → HaveSetSteps ss rs es r → HaveSetSteps rs_new rs es r
@@ -314,28 +313,27 @@ at_pushed (x ∷ xs) y d zero e = absurd (omega arith)
 at_pushed (x ∷ xs) y d (suc i) e = at_pushed xs y d i (omega arith)
 
 -- one row more
-pub program_step : (t : TableView) (ns : List Need) (n at : ℕ) (r : Row) (ss one two : List Step) (rs new : List RowSteps) (x y : ℕ) → slice_get t.rows n ≡ Some r → IsBelow n r → at ≡ row_place t (row_tree t n) → n < length ns → AllAsked t ns → length rs ≡ n
-    → ((ps es : ℕ → Test) → AreOrdered ss → ((need_at ns n).pairs ≡ true → HavePairSteps ss rs ps es r) → IsNumberedIf (need_at ns n).pairs ss one x (pair_test_from ps es at r))
-    → ((es : ℕ → Test) → AreOrdered one → ((need_at ns n).sets ≡ true → HaveSetSteps one rs es r) → IsNumberedIf (need_at ns n).sets one two y (set_test_from es at r))
-    → new ≡ rs ++ record { pairs = x; sets = y } ∷ [] → IsProgram t ns ss rs → IsProgram t ns two new
-program_step t ns n at r ss one two rs new x y found below place inside asked long first second pushed program =
-    subst (IsProgram t ns two) (sym pushed) (record {
-      earlier = two_grown.grown.earlier;
-      small = two_grown.grown.small;
+pub program_step : (t : TableView) (n at : ℕ) (r : Row) (ss one two : List Step) (rs new : List RowSteps) (x y : ℕ) → slice_get t.rows n ≡ Some r → IsBelow n r → at ≡ row_place t (row_tree t n) → length rs ≡ n
+    → ((ps es : ℕ → Test) → AreOrdered ss → HavePairSteps ss rs ps es r → IsNumbered ss one x (pair_test_from ps es at r))
+    → ((es : ℕ → Test) → AreOrdered one → HaveSetSteps one rs es r → IsNumbered one two y (set_test_from es at r))
+    → new ≡ rs ++ record { pairs = x; sets = y } ∷ [] → IsProgram t ss rs → IsProgram t two new
+program_step t n at r ss one two rs new x y found below place long first second pushed program =
+    subst (IsProgram t two) (sym pushed) (record {
+      ordered = grown_ordered one two two_grown.grown;
       rows = λ k l. elim (same_or_other k n) [
         | inl e ↦
             let here : steps_at (rs ++ record { pairs = x; sets = y } ∷ []) k ≡ record { pairs = x; sets = y } = at_pushed rs (record { pairs = x; sets = y }) (record { pairs = 0; sets = 0 }) k (omega arith) in
-            subst (AreRowSteps t two (need_at ns k) k) (sym here) (subst (λ j. AreRowSteps t two (need_at ns j) j (record { pairs = x; sets = y })) (sym e) (record {
-              pairs = λ d. subst (IsStepOf two x) pairs_is (two_grown.grown.stays x _ (one_grown.step d));
-              sets = λ d. subst (IsStepOf two y) sets_is (two_grown.step d);
+            subst (AreRowSteps t two k) (sym here) (subst (λ j. AreRowSteps t two j (record { pairs = x; sets = y })) (sym e) (record {
+              pairs = subst (IsStepOf two x) pairs_is (two_grown.grown.stays x _ (one_grown.step));
+              sets = subst (IsStepOf two y) sets_is (two_grown.step);
             }))
         | inr d ↦
             let c = length-append rs (record { pairs = x; sets = y } ∷ []) in
             let m : k < length rs = omega arith in
             let old = program.rows k m in
-            subst (AreRowSteps t two (need_at ns k) k) (sym (index_append rs (record { pairs = x; sets = y } ∷ []) k (record { pairs = 0; sets = 0 }) m)) (record {
-              pairs = λ e. two_grown.grown.stays _ _ (one_grown.grown.stays _ _ (old.pairs e));
-              sets = λ e. two_grown.grown.stays _ _ (one_grown.grown.stays _ _ (old.sets e));
+            subst (AreRowSteps t two k) (sym (index_append rs (record { pairs = x; sets = y } ∷ []) k (record { pairs = 0; sets = 0 }) m)) (record {
+              pairs = two_grown.grown.stays _ _ (one_grown.grown.stays _ _ old.pairs);
+              sets = two_grown.grown.stays _ _ (one_grown.grown.stays _ _ old.sets);
             })
       ];
     })
@@ -343,14 +341,11 @@ program_step t ns n at r ss one two rs new x y found below place inside asked lo
     tree : row_tree t n ≡ tree_of (row_tree t) (node_of r)
     tree = row_tree_is t n r found below
 
-    is_asked : IsAsked ns r (need_at ns n)
-    is_asked = asked n r (omega arith) inside found
+    one_grown : IsNumbered ss one x (pair_test_from (ps t at) (es t at) at r)
+    one_grown = first (ps t at) (es t at) program.ordered (have_pairs t at ss rs n long program r below)
 
-    one_grown : IsNumberedIf (need_at ns n).pairs ss one x (pair_test_from (ps t at) (es t at) at r)
-    one_grown = first (ps t at) (es t at) (record { earlier = program.earlier; small = program.small }) (have_pairs t at ns ss rs n long program r (need_at ns n) below is_asked)
-
-    two_grown : IsNumberedIf (need_at ns n).sets one two y (set_test_from (es t at) at r)
-    two_grown = second (es t at) (grown_ordered ss one one_grown.grown) (λ d. sets_stay ss one rs (es t at) one_grown.grown r (have_sets t at ns ss rs n long program r (need_at ns n) below is_asked d))
+    two_grown : IsNumbered one two y (set_test_from (es t at) at r)
+    two_grown = second (es t at) (grown_ordered ss one one_grown.grown) (sets_stay ss one rs (es t at) one_grown.grown r (have_sets t at ss rs n long program r below))
 
     pairs_is : pair_test_from (ps t at) (es t at) at r ≡ pair_test (row_place t) (row_tree t n)
     pairs_is = pairs_from t at r (place ∙ ap (row_place t) tree) ∙ ap (pair_test (row_place t)) (sym tree)
@@ -361,41 +356,47 @@ program_step t ns n at r ss one two rs new x y found below place inside asked lo
 -- ---- the steps of until rows
 
 -- an until row's second operand has the step
-module _ (t : TableView) (ns : List Need) (ss : List Step) (rs : List RowSteps) (long : length rs ≡ length t.rows) (program : IsProgram t ns ss rs) (w : IsTable t) (k : ℕ) (l : k < length t.rows) (a b : Normal) (is : row_tree t k ≡ Until a b) where
-  until_row_step : (r : Row) → slice_get t.rows k ≡ Some r → IsBelow k r → IsSecondNeeded ns r → row_tree t k ≡ tree_of (row_tree t) (node_of r) → IsStepOf ss (until_step rs r) (until_test (row_place t) (row_tree t k))
-  until_row_step row.True f o n e = let d : Until a b ≡ Top = sym is ∙ e in cc
-  until_row_step row.False f o n e = let d : Until a b ≡ Bottom = sym is ∙ e in cc
-  until_row_step (row.Literal x) f o n e = let d : Until a b ≡ Leaf (literal_of x) = sym is ∙ e in cc
-  until_row_step (row.Next i) f o n e = let d : Until a b ≡ Next (row_tree t i) = sym is ∙ e in cc
-  until_row_step (row.And i j) f o n e = let d : Until a b ≡ And (row_tree t i) (row_tree t j) = sym is ∙ e in cc
-  until_row_step (row.Or i j) f o n e = let d : Until a b ≡ Or (row_tree t i) (row_tree t j) = sym is ∙ e in cc
-  until_row_step (row.Release i j) f o n e = let d : Until a b ≡ Release (row_tree t i) (row_tree t j) = sym is ∙ e in cc
-  until_row_step (row.Until i j) f o n e =
+module _ (t : TableView) (ss : List Step) (rs : List RowSteps) (long : length rs ≡ length t.rows) (program : IsProgram t ss rs) (k : ℕ) (l : k < length t.rows) (a b : Normal) (is : row_tree t k ≡ Until a b) where
+  until_row_step : (r : Row) → IsBelow k r → row_tree t k ≡ tree_of (row_tree t) (node_of r) → IsStepOf ss (until_step rs r) (until_test (row_place t) (row_tree t k))
+  until_row_step row.True o e = let d : Until a b ≡ Top = sym is ∙ e in cc
+  until_row_step row.False o e = let d : Until a b ≡ Bottom = sym is ∙ e in cc
+  until_row_step (row.Literal x) o e = let d : Until a b ≡ Leaf (literal_of x) = sym is ∙ e in cc
+  until_row_step (row.Next i) o e = let d : Until a b ≡ Next (row_tree t i) = sym is ∙ e in cc
+  until_row_step (row.And i j) o e = let d : Until a b ≡ And (row_tree t i) (row_tree t j) = sym is ∙ e in cc
+  until_row_step (row.Or i j) o e = let d : Until a b ≡ Or (row_tree t i) (row_tree t j) = sym is ∙ e in cc
+  until_row_step (row.Release i j) o e = let d : Until a b ≡ Release (row_tree t i) (row_tree t j) = sym is ∙ e in cc
+  until_row_step (row.Until i j) o e =
       let m = o.1 in
-      subst (λ F. IsStepOf ss (steps_at rs j).pairs (until_test (row_place t) F)) (sym e) ((program.rows j (omega arith)).pairs n)
+      subst (λ F. IsStepOf ss (steps_at rs j).pairs (until_test (row_place t) F)) (sym e) (program.rows j (omega arith)).pairs
 
-pub until_steps_are : (t : TableView) (ns : List Need) (ss : List Step) (rs : List RowSteps) → IsTable t → length rs ≡ length t.rows → IsProgram t ns ss rs → ((i k : ℕ) (r : Row) → slice_get t.untils i ≡ Some k → slice_get t.rows k ≡ Some r → IsSecondNeeded ns r)
-    → AreUntilSteps t ss rs
-until_steps_are t ns ss rs w long program seconds = record {
-  earlier = program.earlier;
-  small = program.small;
-  count = long;
-  untils = λ i k r e f.
-      let l : k < length t.rows = until_below t i k w e in
-      let o : IsBelow k r = subst (IsBelow k) (get_or_from_slice_get t.rows k r r f) (w.ordered k r l) in
-      let tree = until_tree t i k w e in
-      let inside : i < length (table_at t).untils = let c = untils_count t w in let d = slice_get_within t.untils i k e in omega arith in
-      let there : Has (until_rows (core_of t)) (row_tree t k) = subst (Has (until_rows (core_of t))) tree (Has-at (table_at t).untils i Bottom inside) in
-      let (a, b, is, conjuncts) = until_row_parts (core_of t) (row_tree t k) there in
-      until_row_step t ns ss rs long program w k l a b is r f o (seconds i k r e f) (row_tree_is t k r f o);
-}
-
--- ---- the test of an until row
-
-pub until_test_is : (t : TableView) (ss : List Step) (rs : List RowSteps) (i k at x : ℕ) (r : Row) → IsTable t → AreUntilSteps t ss rs → slice_get t.untils i ≡ Some k → slice_get t.rows k ≡ Some r → at ≡ row_place t (row_tree t k) → x ≡ until_step rs r
-    → IsUntilTest (table_at t) ss (record { place = at; step = x }) (slice_index_or (table_at t).untils i Bottom)
-until_test_is t ss rs i k at x r w steps e f d g =
+pub until_step_is : (t : TableView) (ss : List Step) (rs : List RowSteps) (i k x : ℕ) (r : Row) → IsTable t → IsWholeProgram t ss rs → slice_get t.untils i ≡ Some k → slice_get t.rows k ≡ Some r → x ≡ until_step rs r
+    → IsStepOf ss x (until_test (row_place t) (slice_index_or (table_at t).untils i Bottom))
+until_step_is t ss rs i k x r w whole e f g =
+    let l : k < length t.rows = until_below t i k w e in
+    let o : IsBelow k r = subst (IsBelow k) (get_or_from_slice_get t.rows k r r f) (w.ordered k r l) in
     let tree = until_tree t i k w e in
-    let p = steps.untils i k r e f in
-    let q : IsStepOf ss x (until_test (row_place t) (row_tree t k)) = subst (λ n. IsStepOf ss n (until_test (row_place t) (row_tree t k))) (sym g) p in
-    subst (IsUntilTest (table_at t) ss (record { place = at; step = x })) (sym tree) (record { place_of = d; below = q.below; test = q.test })
+    let inside : i < length (table_at t).untils = let c = untils_count t w in let d = slice_get_within t.untils i k e in omega arith in
+    let there : Has (until_rows (core_of t)) (row_tree t k) = subst (Has (until_rows (core_of t))) tree (Has-at (table_at t).untils i Bottom inside) in
+    let (a, b, is, conjuncts) = until_row_parts (core_of t) (row_tree t k) there in
+    subst (λ F. IsStepOf ss x (until_test (row_place t) F)) (sym tree) (subst (λ n. IsStepOf ss n (until_test (row_place t) (row_tree t k))) (sym g)
+    (until_row_step t ss rs whole.count whole.program k l a b is r o (row_tree_is t k r f o)))
+
+-- the test of one more until row
+pub until_steps_more : (t : TableView) (ss : List Step) (n x : ℕ) (ks more : List ℕ) → more ≡ ks ++ x ∷ [] → IsStepOf ss x (until_test (row_place t) (slice_index_or (table_at t).untils n Bottom)) → AreUntilSteps (table_at t) ss n ks
+    → AreUntilSteps (table_at t) ss (n + 1) more
+until_steps_more t ss n x ks more e p w = subst (AreUntilSteps (table_at t) ss (n + 1)) (sym e) (record {
+  count = let a = length-append ks (x ∷ []) in let b = w.count in omega arith;
+  each = λ i l. elim (same_or_other i n) [
+    | inl d ↦
+        let here : slice_index_or (ks ++ x ∷ []) i 0 ≡ x = at_pushed ks x 0 i (d ∙ sym w.count) in
+        subst (λ y. IsStepOf ss y (until_test (row_place t) (slice_index_or (table_at t).untils i Bottom))) (sym here)
+        (subst (λ j. IsStepOf ss x (until_test (row_place t) (slice_index_or (table_at t).untils j Bottom))) (sym d) p)
+    | inr d ↦
+        let c = w.count in
+        let m : i < length ks = omega arith in
+        subst (λ y. IsStepOf ss y (until_test (row_place t) (slice_index_or (table_at t).untils i Bottom))) (sym (index_append ks (x ∷ []) i 0 m)) (w.each i (omega arith))
+  ];
+})
+
+pub until_steps_begin : (t : TableView) (ss : List Step) (ks : List ℕ) → ks ≡ [] → AreUntilSteps (table_at t) ss 0 ks
+until_steps_begin t ss ks e = record { count = ap length e; each = λ i l. absurd (omega arith) }

@@ -1,5 +1,5 @@
 -- Joins of long lists, each pair once, have the same set.
-use Rattle.std.proofs.Common.{◌≡◌, List, [], ◌∷◌, ◌++◌, inl, inr, refl, sym, ◌∙◌, ap, subst, Some, None, Option}
+use Rattle.std.proofs.Common.{◌≡◌, List, [], ◌∷◌, ◌++◌, refl, sym, ◌∙◌, ap, Some, None, Option}
 use Rattle.std.specs.Prelude.{fold, filter_map}
 use Rattle.std.specs.List.{cons_option}
 use Rattle.std.specs.Ordering.{eq_by_cmp}
@@ -8,12 +8,12 @@ use Rattle.std.proofs.lemmas.List.Concat.{flat_map-append}
 use Rattle.std.proofs.lemmas.List.Elements.{filter_map-append}
 use Rattle.std.proofs.lemmas.List.Sums.{fold-append}
 use Rattle.ltl_spec.specs.Collections.Lists.{first_occurrences, with_new}
-use Rattle.ltl_spec.specs.Collections.Sets.{Has, set_of}
+use Rattle.ltl_spec.specs.Collections.Sets.{set_of}
 use Rattle.ltl_spec.specs.Transitions.Pairs.{Pair, pair_cmp, join_pair, join}
 use Rattle.ltl_spec.proofs.Collections.ListLaws.{first_occurrences_cases, Has-first_occurrences}
 use Rattle.ltl_spec.proofs.Collections.MemberLaws.{flat_map_cases, Has-flat_map, filter_map_cases, Has-filter_map}
 use Rattle.ltl_spec.proofs.Collections.Orders.{pair_linear}
-use Rattle.ltl_spec.proofs.Collections.SetLaws.{append_cases, append_left, append_right, set_of_alike, set_of_cases, Has-set_of}
+use Rattle.ltl_spec.proofs.Collections.SetLaws.{set_of_alike}
 use Rattle.ltl_spec.proofs.Transitions.JoinLaws.{Has-join, join_parts}
 use Rattle.ltl_alt.specs.PairHash.{pair_Decides}
 use Rattle.ltl_alt.specs.StandIns.{joins_by_right}
@@ -62,13 +62,3 @@ by_right left right = set_of_alike pair_linear (joins_by_right left right) (join
 pub same_set : (xs keys zs : List Pair) → keys ≡ first_occurrences (eq_by_cmp pair_cmp) xs → zs ≡ keys → set_of pair_cmp zs ≡ set_of pair_cmp xs
 same_set xs keys zs e f =
     ap (set_of pair_cmp) (f ∙ e) ∙ set_of_alike pair_linear (first_occurrences (eq_by_cmp pair_cmp) xs) xs (first_occurrences_cases (eq_by_cmp pair_cmp) pair_Decides xs) (Has-first_occurrences (eq_by_cmp pair_cmp) pair_Decides xs)
-
--- so it does where a list stands before
-pub same_behind : (xs ys zs : List Pair) → set_of pair_cmp ys ≡ set_of pair_cmp zs → set_of pair_cmp (xs ++ ys) ≡ set_of pair_cmp (xs ++ zs)
-same_behind xs ys zs e = set_of_alike pair_linear (xs ++ ys) (xs ++ zs) (over ys zs e) (over zs ys (sym e))
-  where
-    over : (us vs : List Pair) → set_of pair_cmp us ≡ set_of pair_cmp vs → (p : Pair) → Has (xs ++ us) p → Has (xs ++ vs) p
-    over us vs d p h = elim (append_cases xs us p h) [
-      | inl k ↦ append_left xs vs p k
-      | inr k ↦ append_right xs vs p (set_of_cases pair_linear vs p (subst (λ ps. Has ps p) d (Has-set_of pair_linear us p k)))
-    ]

@@ -1,6 +1,6 @@
 -- What a table says of its rows.
-use Rattle.std.proofs.Common.{◌≡◌, ℕ, ◌+◌, ◌<◌, ◌≤◌, Bool, true, false, cond, ◌||◌, List, [], ◌∷◌, length, map, refl, sym, ◌∙◌, ap, subst, arith, Some, None, Option}
-use Rattle.std.specs.Prelude.{slice_get, IfSome}
+use Rattle.std.proofs.Common.{◌≡◌, ℕ, ◌+◌, ◌<◌, ◌≤◌, Bool, true, false, cond, ◌||◌, List, [], ◌∷◌, length, map, refl, sym, ◌∙◌, ap, subst, arith, Some}
+use Rattle.std.specs.Prelude.{slice_get}
 use Rattle.ltl_spec.specs.Collections.Lists.{places_where, places_from}
 use Rattle.ltl_spec.specs.Collections.Sets.{Has}
 use Rattle.ltl_spec.specs.NormalForms.Normal.{Normal, Top, Bottom, Leaf, Next, And, Or, Until, Release, same}
@@ -31,9 +31,8 @@ found_within t p ks i k w e f =
 pub until_below : (t : TableView) (i k : ℕ) → IsTable t → slice_get t.untils i ≡ Some k → k < length t.rows
 until_below t i k w e = found_within t normal.is_until t.untils i k w w.table.untils e
 
-pub elementary_below : (t : TableView) (i : ℕ) (o : Option ℕ) → IsTable t → o ≡ slice_get t.elementary i → IfSome o (λ k. k < length t.rows)
-elementary_below t i None w e = tt
-elementary_below t i (Some k) w e = found_within t (λ a. normal.is_elementary a || same a (core_of t)) t.elementary i k w w.table.elementary (sym e)
+pub elementary_below : (t : TableView) (i k : ℕ) → IsTable t → slice_get t.elementary i ≡ Some k → k < length t.rows
+elementary_below t i k w e = found_within t (λ a. normal.is_elementary a || same a (core_of t)) t.elementary i k w w.table.elementary e
 
 -- a test that asks for more passes no more
 fewer_places : {K : Type 0} (p q : K → Bool) → ((x : K) → p x ≡ true → q x ≡ true) → (n : ℕ) (xs : List K) → length (places_from p n xs) ≤ length (places_from q n xs)

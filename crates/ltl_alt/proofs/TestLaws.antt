@@ -3,17 +3,18 @@ use Rattle.std.proofs.Common.{◌≡◌, ℕ, zero, suc, ◌+◌, ◌<◌, ◌�
 use Rattle.std.specs.Prelude.{slice_get, slice_index_or}
 use Rattle.std.proofs.lemmas.List.{length-append}
 use Rattle.ltl_spec.specs.NormalForms.Normal.{Bottom}
-use Rattle.ltl_spec.specs.Transitions.RowTransitions.{Table}
+use Rattle.ltl_spec.specs.Transitions.RowTransitions.{Table, place}
 use Rattle.ltl_spec.proofs.Transitions.IndependenceTests.{Support}
-use Rattle.ltl_formula.specs.TableView.{TableView, IsTable, core_of}
-use Rattle.ltl_alt.specs.Steps.{AreUntilSteps}
+use Rattle.ltl_spec.proofs.Transitions.Fulfilment.{until_test}
+use Rattle.ltl_formula.specs.TableView.{TableView, IsTable, core_of, row_tree}
+use Rattle.ltl_alt.specs.Steps.{AreOrdered, IsStepOf}
+use Rattle.ltl_alt.specs.Subprograms.{HasTests, number_at}
 use Rattle.ltl_alt.specs.Tests.{AreLeaves, AreTestsOf, IsUntilTest}
 use Rattle.ltl_alt.specs.TransitionView.{table_at}
 use Rattle.ltl_alt.specs.declared.fulfilment.UntilTest.{UntilTest}
-use Rattle.ltl_alt.specs.declared.program.RowSteps.{RowSteps}
 use Rattle.ltl_alt.specs.declared.program.Step.{Step}
 use Rattle.ltl_alt.proofs.RowLaws.{untils_few}
-use Rattle.ltl_alt.proofs.TransitionLaws.{untils_count}
+use Rattle.ltl_alt.proofs.TransitionLaws.{until_tree, untils_count}
 
 -- ---- one by one
 
@@ -37,8 +38,8 @@ tests_push T ss n us more u e t w = subst (AreTestsSoFar T ss (n + 1)) (sym e) (
     at_end (x ∷ xs) y v zero f = inl (f, omega arith)
     at_end (x ∷ xs) y v (suc i) f = elim (at_end xs y v i f) [ inl (g, l) ↦ inl (g, omega arith) | inr (d, s) ↦ inr (ap suc d, s) ]
 
-pub tests_end : (t : TableView) (ss : List Step) (ls : List Support) (rs : List RowSteps) (n : ℕ) (us : List UntilTest) → IsTable t → AreUntilSteps t ss rs → AreLeaves ss ls → n ≡ length t.untils → AreTestsSoFar (table_at t) ss n us → AreTestsOf (table_at t) ss ls us
-tests_end t ss ls rs n us w steps leaves e so_far = record {
+pub tests_end : (t : TableView) (ss : List Step) (ls : List Support) (n : ℕ) (us : List UntilTest) → IsTable t → AreOrdered ss → AreLeaves ss ls → n ≡ length t.untils → AreTestsSoFar (table_at t) ss n us → AreTestsOf (table_at t) ss ls us
+tests_end t ss ls n us w steps leaves e so_far = record {
   core = core_of t;
   is_table = refl;
   earlier = steps.earlier;
@@ -47,3 +48,12 @@ tests_end t ss ls rs n us w steps leaves e so_far = record {
   count = let a = untils_count t w in so_far.count ∙ e ∙ sym a;
   each = so_far.each;
 }
+
+-- the test of an until row
+pub until_test_is : (t : TableView) (ss : List Step) (tests numbers : List ℕ) (i k at x : ℕ) → IsTable t → HasTests (table_at t) tests ss numbers → slice_get t.untils i ≡ Some k → at ≡ place (table_at t) (row_tree t k)
+    → x ≡ number_at numbers (number_at tests i) → i < length t.untils → IsUntilTest (table_at t) ss (record { place = at; step = x }) (slice_index_or (table_at t).untils i Bottom)
+until_test_is t ss tests numbers i k at x w has e d g l =
+    let c = untils_count t w in
+    let made = has i (omega arith) in
+    let q = subst (λ n. IsStepOf ss n (until_test (place (table_at t)) (slice_index_or (table_at t).untils i Bottom))) (sym g) made in
+    record { place_of = d ∙ ap (place (table_at t)) (sym (until_tree t i k w e)); below = q.below; test = q.test }

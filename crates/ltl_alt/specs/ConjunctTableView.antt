@@ -99,8 +99,8 @@ abbrev pub IsLonger : List (List Pair) → List (List Pair) → Type 0
 IsLonger old new = (more : List (List Pair)) × (new ≡ old ++ more)
 
 -- the row at a place may get `most` numbers
-abbrev pub IsRoom : ℕ → ℕ → List (List Pair) → Type 0
-IsRoom place most lists = (place < 256) × (0 < most) × (length lists + most ≤ 256)
+abbrev pub IsRoom : TableView → ℕ → ℕ → List (List Pair) → Type 0
+IsRoom t place most lists = (place < length t.elementary) × (0 < most) × (length lists + most ≤ 256)
 
 -- a connected component of the links: the one of the first conjunct within the rest
 pub record IsComponent (links : List RowSet) (first : ℕ) (rest inside : RowSet) : Type 0 where

@@ -5,6 +5,7 @@ pub mod Columns
 pub mod ComponentView
 pub mod ConjunctTableView
 pub mod ConjunctView
+pub mod ContextView
 pub mod CountedView
 pub mod Elements
 pub mod FinalView
@@ -17,8 +18,11 @@ pub mod ProductView
 pub mod ReachView
 pub mod RowLists
 pub mod StandIns
+pub mod StepLists
 pub mod Steps
+pub mod Subprograms
 pub mod SupportView
+pub mod TestPairs
 pub mod Tests
 pub mod TransitionHash
 pub mod TransitionView

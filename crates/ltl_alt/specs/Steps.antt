@@ -1,16 +1,16 @@
--- The straight-line program of the rows' tests.
-use Rattle.std.specs.Prelude.{◌≡◌, ℕ, ◌<◌, Bool, true, List, length, slice_get, slice_index_or, Some}
+-- The straight-line program of the rows of a table.
+use Rattle.std.specs.Prelude.{◌≡◌, ℕ, ◌<◌, List, length, slice_index_or}
 use Rattle.ltl_sets.specs.Literals.{literal_of}
+use Rattle.ltl_spec.specs.NormalForms.Normal.{Bottom}
+use Rattle.ltl_spec.specs.Transitions.RowTransitions.{Table, place}
 use Rattle.ltl_spec.proofs.Transitions.Fulfilment as test
 use Rattle.ltl_spec.proofs.Transitions.Fulfilment.{Test, pair_test, set_test, until_test}
 use Rattle.ltl_spec.proofs.Transitions.Steps.{step_test, tests_of}
 use Rattle.ltl_formula.specs.TableView.{TableView, row_tree}
 use Rattle.ltl_formula.specs.declared.row.Row.{Row}
 use Rattle.ltl_formula.specs.declared.row.Row.TheVariants as row
-use Rattle.ltl_alt.specs.NeedsView.{need_at}
 use Rattle.ltl_alt.specs.RowLists.{row_place}
-use Rattle.ltl_alt.specs.Tests.{AreEarlier, AreSmall, step_of, steps_of, test_of}
-use Rattle.ltl_alt.specs.declared.needs.Need.{Need}
+use Rattle.ltl_alt.specs.Tests.{AreEarlier, AreSmall, HasOperands, IsSmall, step_of, steps_of, test_of}
 use Rattle.ltl_alt.specs.declared.program.RowSteps.{RowSteps}
 use Rattle.ltl_alt.specs.declared.program.Step.{Step}
 
@@ -29,13 +29,10 @@ pub record IsGrown (old new : List Step) : Type 0 where
   pub small : AreSmall new
   pub stays : (k : ℕ) (a : Test) → IsStepOf old k a → IsStepOf new k a
 
--- steps were appended, and if it is wanted, the one with this number is the test
-pub record IsNumberedIf (is_asked : Bool) (old new : List Step) (k : ℕ) (a : Test) : Type 0 where
+-- steps were appended, and the one with this number is the test
+pub record IsNumbered (old new : List Step) (k : ℕ) (a : Test) : Type 0 where
   pub grown : IsGrown old new
-  pub step : is_asked ≡ true → IsStepOf new k a
-
-abbrev pub IsNumbered : List Step → List Step → ℕ → Test → Type 0
-IsNumbered old new k a = IsNumberedIf true old new k a
+  pub step : IsStepOf new k a
 
 -- the test of the pairs of a row with a place, from those of its operands
 abbrev pub pair_test_from : (ℕ → Test) → (ℕ → Test) → ℕ → Row → Test
@@ -64,6 +61,10 @@ pub record AreOrdered (ss : List Step) : Type 0 where
   pub earlier : AreEarlier (steps_of ss)
   pub small : AreSmall ss
 
+-- a step with earlier operands was given this number
+abbrev pub IsGiven : List Step → List Step → ℕ → Step → Type 0
+IsGiven old new k s = AreOrdered old → IsSmall s → HasOperands (length old) (step_of s) → IsNumbered old new k (test_by old s)
+
 -- the numbers of the steps of a row
 abbrev pub steps_at : List RowSteps → ℕ → RowSteps
 steps_at rs k = slice_index_or rs k (record { pairs = 0; sets = 0 })
@@ -90,10 +91,20 @@ HaveSetSteps ss rs es (row.Next i) = Unit {0}
 HaveSetSteps ss rs es (row.Until i j) = Unit {0}
 HaveSetSteps ss rs es (row.Release i j) = Unit {0}
 
--- the numbers of the needed tests of a row
-pub record AreRowSteps (t : TableView) (ss : List Step) (n : Need) (k : ℕ) (r : RowSteps) : Type 0 where
-  pub pairs : n.pairs ≡ true → IsStepOf ss r.pairs (pair_test (row_place t) (row_tree t k))
-  pub sets : n.sets ≡ true → IsStepOf ss r.sets (set_test (row_place t) (row_tree t k))
+-- the numbers of the steps of a row
+pub record AreRowSteps (t : TableView) (ss : List Step) (k : ℕ) (r : RowSteps) : Type 0 where
+  pub pairs : IsStepOf ss r.pairs (pair_test (row_place t) (row_tree t k))
+  pub sets : IsStepOf ss r.sets (set_test (row_place t) (row_tree t k))
+
+-- the steps of the first rows are right
+pub record IsProgram (t : TableView) (ss : List Step) (rs : List RowSteps) : Type 0 where
+  pub ordered : AreOrdered ss
+  pub rows : (k : ℕ) → k < length rs → AreRowSteps t ss k (steps_at rs k)
+
+-- so are those of all rows
+pub record IsWholeProgram (t : TableView) (ss : List Step) (rs : List RowSteps) : Type 0 where
+  pub program : IsProgram t ss rs
+  pub count : length rs ≡ length t.rows
 
 -- the number of the step of an until row's test
 abbrev pub until_step : List RowSteps → Row → ℕ
@@ -106,15 +117,7 @@ until_step rs (row.Or i j) = 0
 until_step rs (row.Until i j) = (steps_at rs j).pairs
 until_step rs (row.Release i j) = 0
 
--- each until row has its test
-pub record AreUntilSteps (t : TableView) (ss : List Step) (rs : List RowSteps) : Type 0 where
-  pub earlier : AreEarlier (steps_of ss)
-  pub small : AreSmall ss
-  pub count : length rs ≡ length t.rows
-  pub untils : (i k : ℕ) (r : Row) → slice_get t.untils i ≡ Some k → slice_get t.rows k ≡ Some r → IsStepOf ss (until_step rs r) (until_test (row_place t) (row_tree t k))
-
--- the needed steps of the first rows are right
-pub record IsProgram (t : TableView) (ns : List Need) (ss : List Step) (rs : List RowSteps) : Type 0 where
-  pub earlier : AreEarlier (steps_of ss)
-  pub small : AreSmall ss
-  pub rows : (k : ℕ) → k < length rs → AreRowSteps t ss (need_at ns k) k (steps_at rs k)
+-- the first until rows have these tests
+pub record AreUntilSteps (T : Table) (ss : List Step) (n : ℕ) (ks : List ℕ) : Type 0 where
+  pub count : length ks ≡ n
+  pub each : (i : ℕ) → i < n → IsStepOf ss (slice_index_or ks i 0) (until_test (place T) (slice_index_or T.untils i Bottom))

@@ -6,25 +6,23 @@ ghost use Rattle.ltl_spec.specs.Collections.Sets.{Has, put};
 ghost use Rattle.ltl_spec.specs.Transitions.Pairs as spec_pairs;
 ghost use Rattle.ltl_spec.specs.Transitions.RowTransitions as spec;
 ghost use Rattle.ltl_spec.proofs.Transitions.SameJoins.{AreSound};
-ghost use Rattle.ltl_alt.specs.declared.conjuncts.Conjunct.TheVariants as made_conjunct;
 ghost use Rattle.ltl_alt.specs.declared.rule.Rule as made_rule;
 ghost use Rattle.ltl_alt.specs.ConjunctTableView.{AreAdded, AreLinked, AreMade, HasAllParts, HasConjuncts, IsComponent};
 ghost use Rattle.ltl_alt.specs.ConjunctTableView.{HasEach, HasNoConjunct, IsLinked, IsRoom, links_of, numbers_in, conjunct_of};
-ghost use Rattle.ltl_alt.specs.ConjunctView.{AreFew, IsConjunct, conjunct_pairs};
-ghost use Rattle.ltl_alt.specs.RowLists.{AreLists, IsListedRow};
-ghost use Rattle.ltl_alt.specs.StandIns.{IsListed, StandsFor};
+ghost use Rattle.ltl_alt.specs.ConjunctView.{AreFew};
+ghost use Rattle.ltl_alt.specs.ContextView.{IsContext};
+ghost use Rattle.ltl_alt.specs.StepLists.{AreLists, IsListedStep};
+ghost use Rattle.ltl_alt.specs.TestPairs.{step_pairs};
 ghost use Rattle.ltl_alt.specs.Tests.{AreTests};
 ghost use Rattle.ltl_alt.specs.TransitionView.{table_at};
 
-use crate::conjuncts::{Conjunct, conjunct_at, conjuncts};
+use crate::conjuncts::conjuncts;
 use crate::context::Context;
 use crate::fulfilment::Fulfilment;
-use crate::lists::both;
 use crate::pair::Pair;
 use crate::pair_set::PairSet;
-use crate::place::{elementary_places, first, place, put_if};
-use crate::prune::prune;
-use crate::row_lists::RowLists;
+use crate::place::{elementary_places, elementary_row, first, put_if};
+use crate::step_lists::StepLists;
 use crate::support::Dependencies;
 use ltl_formula::Table;
 use ltl_sets::RowSet;
@@ -117,22 +115,24 @@ impl<'a, A: Allocator> ConjunctTable<'a, A> {
     fn push_conjuncts(
         &mut self,
         context: &Context<'_, '_, '_, 'a, A>,
-        rows: &mut RowLists<'a, A>,
+        lists: &mut StepLists<'a, A>,
         place: usize,
-        conjuncts: &[Conjunct],
+        conjuncts: &[usize],
     ) -> Result<(), AllocError>
-        requires lists { AreLists context.now.table.now context.now.pruning.rule rows.old.pairs.items rows.old.sets.items }
-        requires tests { AreTests (table_at context.now.table.now) context.now.pruning.fulfilment.now }
+        requires context { IsContext context.now }
+        requires lists { AreLists (table_at context.now.table.now) context.now.pruning.rule context.now.program.now.steps.keys lists.old.lists.items }
         requires linked { AreLinked (table_at context.now.table.now) self.old.lists.items self.old.dependencies.items self.old.links.items }
-        requires conjuncts { AreFew context.now.table.now conjuncts.now (length self.old.lists.items) }
-        ensures lists { OnOk result (AreLists context.now.table.now context.now.pruning.rule rows.new.pairs.items rows.new.sets.items) }
+        requires conjuncts { AreFew context.now.program.now.steps.keys conjuncts.now (length self.old.lists.items) }
+        ensures lists { OnOk result (AreLists
+            (table_at context.now.table.now) context.now.pruning.rule context.now.program.now.steps.keys lists.new.lists.items) }
         ensures linked { OnOk result (AreLinked (table_at context.now.table.now) self.new.lists.items self.new.dependencies.items self.new.links.items) }
         ensures added { OnOk result (AreAdded (table_at context.now.table.now) context.now.pruning.rule place
-            (map (conjunct_pairs context.now.table.now) conjuncts.now) self.old.owners.items self.new.owners.items self.old.lists.items self.new.lists.items) }
+            (map (step_pairs context.now.program.now.steps.keys) conjuncts.now)
+            self.old.owners.items self.new.owners.items self.old.lists.items self.new.lists.items) }
         ensures made { OnOk result (self.new.made ≡ self.old.made) }
     {
         'conjuncts: for conjunct in conjuncts {
-            let pairs = conjunct_pairs(context, rows, *conjunct)?;
+            let pairs = conjunct_pairs(context, lists, *conjunct)?;
             self.push(context.table, context.pruning.fulfilment, place, pairs)?;
         }
         Ok(())
@@ -142,26 +142,26 @@ impl<'a, A: Allocator> ConjunctTable<'a, A> {
     fn add(
         &mut self,
         context: &Context<'_, '_, '_, 'a, A>,
-        rows: &mut RowLists<'a, A>,
+        lists: &mut StepLists<'a, A>,
         place: usize,
         most: usize,
     ) -> Result<(), AllocError>
-        requires lists { AreLists context.now.table.now context.now.pruning.rule rows.old.pairs.items rows.old.sets.items }
-        requires tests { AreTests (table_at context.now.table.now) context.now.pruning.fulfilment.now }
+        requires context { IsContext context.now }
+        requires lists { AreLists (table_at context.now.table.now) context.now.pruning.rule context.now.program.now.steps.keys lists.old.lists.items }
         requires conjuncts { HasConjuncts (table_at context.now.table.now) context.now.pruning.rule self.old }
-        requires room { (Has self.old.made place → ⊥) × IsRoom place most self.old.lists.items }
-        ensures lists { OnOk result (AreLists context.now.table.now context.now.pruning.rule rows.new.pairs.items rows.new.sets.items) }
+        requires room { (Has self.old.made place → ⊥) × IsRoom context.now.table.now place most self.old.lists.items }
+        ensures lists { OnOk result (AreLists
+            (table_at context.now.table.now) context.now.pruning.rule context.now.program.now.steps.keys lists.new.lists.items) }
         ensures conjuncts { OnOk result (HasConjuncts (table_at context.now.table.now) context.now.pruning.rule self.new) }
         ensures made { OnOk result (self.new.made ≡ put nat_cmp place self.old.made) }
         ensures few { OnOk result (length self.new.lists.items ≤ length self.old.lists.items + most) }
     {
-        let conjuncts = conjuncts(
-            context.alloc,
-            context.table,
-            conjunct_at(context.table, place),
-            most,
-        )?;
-        self.push_conjuncts(context, rows, place, conjuncts.as_slice())?;
+        context.table.invariant();
+        let step = context
+            .program
+            .pair_step(elementary_row(context.table, place));
+        let conjuncts = conjuncts(context.alloc, context.program.steps(), step, most)?;
+        self.push_conjuncts(context, lists, place, conjuncts.as_slice())?;
         self.made.insert(place);
         Ok(())
     }
@@ -171,17 +171,17 @@ impl<'a, A: Allocator> ConjunctTable<'a, A> {
     pub(crate) fn of(
         context: &Context<'_, '_, '_, 'a, A>,
     ) -> Result<ConjunctTable<'a, A>, AllocError>
-        requires tests { AreTests (table_at context.now.table.now) context.now.pruning.fulfilment.now }
+        requires context { IsContext context.now }
         ensures conjuncts { IfOk result (HasAllParts context.now.table.now context.now.pruning.rule) }
     {
         context.table.invariant();
-        let mut lists = RowLists::new(context.alloc, context.table)?;
+        let mut lists = StepLists::new(context.alloc, context.program)?;
         let mut conjuncts = ConjunctTable::new(context.alloc);
         let mut rest = elementary_places(context.table);
         'rows: while let Some(place) = first(&rest) {
             rest.invariant();
             rest = rest.without(&RowSet::single(place));
-            let most = RowSet::LIMIT - conjuncts.len() - count(&rest);
+            let most = RowSet::LIMIT - conjuncts.len() - rest.count();
             conjuncts.add(context, &mut lists, place, most)?;
         }
         Ok(conjuncts)
@@ -251,74 +251,19 @@ impl<'a, A: Allocator> ConjunctTable<'a, A> {
     }
 }
 
-/// The number of members of a set.
-fn count(rows: &RowSet) -> usize
-    ensures { result ≡ length rows.now }
-{
-    let mut count = 0usize;
-    let mut rest = rows.iter();
-    'members: while let Some(_) = rest.next() {
-        count += 1;
-    }
-    count
-}
-
-/// The pruned pairs of a row.
-fn row_pairs<'a, A: Allocator>(
-    context: &Context<'_, '_, '_, 'a, A>,
-    rows: &mut RowLists<'a, A>,
-    row: usize,
-) -> Result<PairSet<'a, A>, AllocError>
-    requires lists { AreLists context.now.table.now context.now.pruning.rule rows.old.pairs.items rows.old.sets.items }
-    requires tests { AreTests (table_at context.now.table.now) context.now.pruning.fulfilment.now }
-    requires within { row < length context.now.table.now.rows }
-    ensures lists { OnOk result (AreLists context.now.table.now context.now.pruning.rule rows.new.pairs.items rows.new.sets.items) }
-    ensures pairs { IfOk result (IsListedRow context.now.table.now context.now.pruning.rule row) }
-{
-    rows.prepare(context, row)?;
-    let pairs = Vec::from_slice(context.alloc, rows.pairs(row))?;
-    Ok(PairSet { pairs })
-}
-
-/// The pruned pairs of the left operand of a release row, and the pair that has the release row as its target and needs nothing else.
-fn released_pairs<'a, A: Allocator>(
-    context: &Context<'_, '_, '_, 'a, A>,
-    rows: &mut RowLists<'a, A>,
-    left: usize,
-    row: usize,
-) -> Result<PairSet<'a, A>, AllocError>
-    requires lists { AreLists context.now.table.now context.now.pruning.rule rows.old.pairs.items rows.old.sets.items }
-    requires tests { AreTests (table_at context.now.table.now) context.now.pruning.fulfilment.now }
-    requires conjunct { IsConjunct context.now.table.now (made_conjunct.Released left row) }
-    ensures lists { OnOk result (AreLists context.now.table.now context.now.pruning.rule rows.new.pairs.items rows.new.sets.items) }
-    ensures pairs { IfOk result (IsListed (StandsFor (table_at context.now.table.now) context.now.pruning.rule)
-        (conjunct_pairs context.now.table.now (made_conjunct.Released left row))) }
-{
-    rows.prepare(context, left)?;
-    let later = [Pair::later(RowSet::single(place(context.table, row)))];
-    let all = both(context.alloc, rows.pairs(left), &later)?;
-    let pairs = prune(context.alloc, &context.pruning, all)?;
-    Ok(PairSet { pairs })
-}
-
-/// The pruned pairs of a conjunct.
+/// The pruned pairs of a conjunct, by the number of its step.
 fn conjunct_pairs<'a, A: Allocator>(
     context: &Context<'_, '_, '_, 'a, A>,
-    rows: &mut RowLists<'a, A>,
-    conjunct: Conjunct,
+    lists: &mut StepLists<'a, A>,
+    step: usize,
 ) -> Result<PairSet<'a, A>, AllocError>
-    requires lists { AreLists context.now.table.now context.now.pruning.rule rows.old.pairs.items rows.old.sets.items }
-    requires tests { AreTests (table_at context.now.table.now) context.now.pruning.fulfilment.now }
-    requires conjunct { IsConjunct context.now.table.now conjunct }
-    ensures lists { OnOk result (AreLists context.now.table.now context.now.pruning.rule rows.new.pairs.items rows.new.sets.items) }
-    ensures pairs { IfOk result (IsListed (StandsFor (table_at context.now.table.now) context.now.pruning.rule)
-        (conjunct_pairs context.now.table.now conjunct)) }
+    requires context { IsContext context.now }
+    requires lists { AreLists (table_at context.now.table.now) context.now.pruning.rule context.now.program.now.steps.keys lists.old.lists.items }
+    requires within { step < length context.now.program.now.steps.keys }
+    ensures lists { OnOk result (AreLists (table_at context.now.table.now) context.now.pruning.rule context.now.program.now.steps.keys lists.new.lists.items) }
+    ensures pairs { IfOk result (IsListedStep (table_at context.now.table.now) context.now.pruning.rule context.now.program.now.steps.keys step) }
 {
-    match conjunct {
-        Conjunct::Never => Ok(PairSet {
-            pairs: Vec::new(context.alloc),
-        }),
-        Conjunct::Whole(row) => row_pairs(context, rows, row),
-        Conjunct::Released(left, row) => released_pairs(context, rows, left, row),
-    }
+    lists.prepare(context, step)?;
+    let pairs = Vec::from_slice(context.alloc, lists.pairs(step))?;
+    Ok(PairSet { pairs })
 }

@@ -4,13 +4,16 @@ ghost use Rattle.std.specs.Prelude.{◌≡◌, ◌<◌, length, slice_get, slice
 ghost use Rattle.ltl_formula.specs.SharedNodesView.{IsBelow};
 ghost use Rattle.ltl_spec.specs.NormalForms.Normal.{Bottom};
 ghost use Rattle.ltl_spec.proofs.Transitions.IndependenceTests.{no_support};
-ghost use Rattle.ltl_alt.specs.Steps.{AreUntilSteps, until_step};
+ghost use Rattle.ltl_alt.specs.Steps.{AreUntilSteps, IsWholeProgram, until_step};
+ghost use Rattle.ltl_alt.specs.Subprograms.{HasTests};
 ghost use Rattle.ltl_alt.specs.Tests.{AreTests, IsUntilTest};
 ghost use Rattle.ltl_alt.specs.TransitionView.{table_at};
 
 use crate::leaves::{leaves, leaves_at};
+use crate::needs::needed_steps;
 use crate::place::{place, until_count, until_row};
-use crate::program::{Program, Step, until_steps};
+use crate::program::{Program, Step};
+use crate::subprogram::Subprogram;
 use crate::support::Support;
 use ltl_formula::{Row, Table};
 use std::alloc::{AllocError, Allocator};
@@ -42,21 +45,39 @@ fn test_step<A: Allocator>(program: &Program<'_, A>, row: Row) -> usize
     }
 }
 
+/// The numbers of the steps of a program that are the tests of the until rows of its table.
+fn until_steps<'a, A: Allocator>(
+    alloc: &'a A,
+    table: &Table<'_, A>,
+    program: &Program<'_, A>,
+) -> Result<Vec<usize, &'a A>, AllocError>
+    requires { IsWholeProgram table.now program.now.steps.keys program.now.rows.items }
+    ensures { IfOk result (λ v. AreUntilSteps (table_at table.now) program.now.steps.keys (length table.now.untils) v.items) }
+{
+    table.invariant();
+    let mut tests = Vec::new(alloc);
+    'untils: for number in 0..until_count(table) {
+        tests.push(test_step(program, table.row(until_row(table, number))))?;
+    }
+    Ok(tests)
+}
+
 /// The test of the until row with this number.
 fn until_test<A: Allocator>(
     table: &Table<'_, A>,
-    program: &Program<'_, A>,
+    tests: &[usize],
+    part: &Subprogram<'_, A>,
     number: usize,
 ) -> UntilTest
     requires within { number < length table.now.untils }
-    requires steps { AreUntilSteps table.now program.now.steps.keys program.now.rows.items }
-    ensures { IsUntilTest (table_at table.now) program.now.steps.keys result (slice_index_or (table_at table.now).untils number Bottom) }
+    requires count { length tests.now ≡ length table.now.untils }
+    requires part { HasTests (table_at table.now) tests.now part.now.steps.keys part.now.numbers.items }
+    ensures { IsUntilTest (table_at table.now) part.now.steps.keys result (slice_index_or (table_at table.now).untils number Bottom) }
 {
     table.invariant();
-    let row = until_row(table, number);
     UntilTest {
-        place: place(table, row),
-        step: test_step(program, table.row(row)),
+        place: place(table, until_row(table, number)),
+        step: part.number(tests[number]),
     }
 }
 
@@ -70,17 +91,25 @@ impl<'a, A: Allocator> Fulfilment<'a, A> {
         }
     }
 
-    /// The tests of all until rows of a table.
-    pub(crate) fn of(alloc: &'a A, table: &Table<'_, A>) -> Result<Self, AllocError>
+    /// The tests of all until rows of a table, out of the program of its rows.
+    pub(crate) fn of(
+        alloc: &'a A,
+        table: &Table<'_, A>,
+        program: &Program<'_, A>,
+    ) -> Result<Self, AllocError>
+        requires { IsWholeProgram table.now program.now.steps.keys program.now.rows.items }
         ensures { IfOk result (AreTests (table_at table.now)) }
     {
         table.invariant();
-        let program = until_steps(alloc, table)?;
-        let steps = Vec::from_slice(alloc, program.steps())?;
+        let whole = program.steps();
+        let tests = until_steps(alloc, table, program)?;
+        let needed = needed_steps(alloc, whole, tests.as_slice())?;
+        let part = Subprogram::of(alloc, whole, needed.as_slice())?;
+        let steps = Vec::from_slice(alloc, part.steps.as_slice())?;
         let leaves = leaves(alloc, steps.as_slice())?;
         let mut untils = Vec::new(alloc);
         'untils: for number in 0..until_count(table) {
-            untils.push(until_test(table, &program, number))?;
+            untils.push(until_test(table, tests.as_slice(), &part, number))?;
         }
         Ok(Fulfilment {
             steps,

@@ -10,9 +10,10 @@
 //!
 //! `Gba::reach` (`of_table`) explores the sets of rows that are reachable from the root, breadth first (`reach`). The edges get numbers for their
 //! labels as they are made (`CodedBuilder` of `ltl_automaton`). The data that all sets share is made before the first set, and doesn't change
-//! (`basis`). One part of it is the tests of which until rows a pair fulfils (`program`, `fulfilment`, `leaves`). The other part is the conjuncts of
-//! each elementary row (`conjuncts`). Each conjunct has a number and a list of pairs (`conjunct_table`, `row_lists`). Two conjuncts are linked if they
-//! share a proposition or a target, or if one may fulfil an until row that the other one postpones (`support`).
+//! (`basis`). It is read off a straight-line program, which has a step for the pairs of each row and one for its sets of rows (`program`). One part of it is
+//! the tests of which until rows a pair fulfils: the steps that these need (`needs`), numbered anew (`subprogram`, `fulfilment`, `leaves`). The other part is
+//! the conjuncts of each elementary row (`conjuncts`). Each conjunct is a step with a list of pairs (`conjunct_table`, `step_lists`). Two conjuncts are linked
+//! if they share a proposition or a target, or if one may fulfil an until row that the other one postpones (`support`).
 //!
 //! The transitions of a set of rows are made in three steps:
 //!
@@ -68,8 +69,9 @@ mod prune;
 mod pruned_join;
 mod reach;
 mod roots;
-mod row_lists;
 mod rule;
+mod step_lists;
+mod subprogram;
 mod support;
 mod transition;
 mod transition_list;

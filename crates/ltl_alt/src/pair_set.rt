@@ -6,8 +6,9 @@ ghost use Rattle.ltl_alt.specs.RowLists.{row_pairs};
 use crate::context::Context;
 use crate::fulfilment::Fulfilment;
 use crate::pair::Pair;
-use crate::row_lists::RowLists;
+use crate::program::Program;
 use crate::rule::{Pruning, Rule};
+use crate::step_lists::StepLists;
 use ltl_formula::Table;
 use std::alloc::{AllocError, Allocator};
 use std::hash::{Hash, Hasher};
@@ -81,17 +82,20 @@ pub fn pairs<'a, A: Allocator>(
     requires { row < length table.now.rows }
     ensures { IfOk result (λ s. s ≡ row_pairs table.now row) }
 {
+    let program = Program::of(alloc, table)?;
     let none = Fulfilment::nothing(alloc);
     let context = Context {
         alloc,
         table,
+        program: &program,
         pruning: Pruning {
             rule: Rule::Duplicate,
             fulfilment: &none,
         },
     };
-    let mut lists = RowLists::new(alloc, table)?;
-    lists.prepare(&context, row)?;
-    let pairs = Vec::from_slice(alloc, lists.pairs(row))?;
+    let step = program.pair_step(row);
+    let mut lists = StepLists::new(alloc, &program)?;
+    lists.prepare(&context, step)?;
+    let pairs = Vec::from_slice(alloc, lists.pairs(step))?;
     Ok(PairSet { pairs })
 }

@@ -6,7 +6,7 @@ ghost use Rattle.ltl_formula.specs.TableView.{row_tree};
 ghost use Rattle.ltl_spec.specs.Collections.Sets.{Has};
 ghost use Rattle.ltl_spec.specs.Collections.Sets.{put};
 ghost use Rattle.std.specs.Ordering.{nat_cmp};
-ghost use Rattle.std.specs.Prelude.{position, ℕ, ◌==◌, ◌≡◌, ◌≤◌, ◌<◌, [], length, slice_get, Some, IfSome, MatchOption, if◌then◌else◌};
+ghost use Rattle.std.specs.Prelude.{position, ℕ, ◌==◌, ◌≡◌, ◌≤◌, ◌<◌, [], length, slice_get, Some, MatchOption, if◌then◌else◌};
 
 use ltl_formula::Table;
 use ltl_sets::RowSet;
@@ -63,6 +63,7 @@ pub(crate) fn first(rows: &RowSet) -> Option<usize>
 /// The places of the elementary rows.
 pub(crate) fn elementary_places<A: Allocator>(table: &Table<'_, A>) -> RowSet
     ensures all { (i : ℕ) → i < length table.now.elementary → Has result i }
+    ensures inside { (i : ℕ) → Has result i → i < length table.now.elementary }
     ensures few { length result ≤ RowSet.LIMIT }
 {
     table.invariant();
@@ -74,21 +75,15 @@ pub(crate) fn elementary_places<A: Allocator>(table: &Table<'_, A>) -> RowSet
     places
 }
 
-/// The elementary row at a place, if there is one.
-fn elementary_at<A: Allocator>(table: &Table<'_, A>, place: usize) -> Option<usize>
-    ensures { result ≡ slice_get table.now.elementary place }
-{
-    table.elementary().get(place).copied()
-}
-
-/// The elementary row at a place, or `None` if there are fewer.
+/// The elementary row at a place.
 #[tactic(auto, using(crate::proofs::RowLaws::elementary_below))]
-pub(crate) fn elementary_row<A: Allocator>(table: &Table<'_, A>, place: usize) -> Option<usize>
-    ensures found { result ≡ slice_get table.now.elementary place }
-    ensures within { IfSome result (λ k. k < length table.now.rows) }
+pub(crate) fn elementary_row<A: Allocator>(table: &Table<'_, A>, place: usize) -> usize
+    requires { place < length table.now.elementary }
+    ensures found { slice_get table.now.elementary place ≡ Some result }
+    ensures within { result < length table.now.rows }
 {
     table.invariant();
-    elementary_at(table, place)
+    table.elementary()[place]
 }
 
 /// Inserts a number into a set if `is_asked`.

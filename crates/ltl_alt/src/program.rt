@@ -1,17 +1,15 @@
-//! The fulfilment tests of until rows as a straight-line program.
+//! The rows of a table as a straight-line program of steps.
 //!
-//! Whether a pair fulfils an until row is a Boolean function of its literals and targets. The function is read off the formula. A step combines earlier
-//! steps, so one pass evaluates all steps. Equal steps have one number.
+//! The step of a row's pairs is the row's transition formula. Its disjunctive normal form is the list of the row's pairs. As a test of a pair it says whether
+//! the pair needs all that one of these needs. A step combines earlier steps, so one pass evaluates all steps. Equal steps have one number.
 
 ghost use Rattle.std.specs.Prelude.{◌≡◌, ℕ, ◌+◌, ◌<◌, length, IfOk, OnOk, true};
 ghost use Rattle.ltl_formula.specs.SharedNodesView.{IsBelow};
 ghost use Rattle.ltl_formula.specs.TableView.{IsNamedBelow, is_elementary_row};
 ghost use Rattle.ltl_spec.proofs.Transitions.Fulfilment as test;
-ghost use Rattle.ltl_alt.specs.NeedsView.{AllAsked};
-ghost use Rattle.ltl_alt.specs.Steps.{AreOrdered, AreUntilSteps, HavePairSteps, HaveSetSteps, IsNumbered, IsNumberedIf, IsProgram, pair_test_from, set_test_from, steps_at, test_by};
-ghost use Rattle.ltl_alt.specs.Tests.{HasOperands, IsSmall, step_of};
+ghost use Rattle.ltl_alt.specs.Steps.{AreOrdered, HavePairSteps, HaveSetSteps, IsGiven, IsNumbered, IsProgram, IsWholeProgram};
+ghost use Rattle.ltl_alt.specs.Steps.{pair_test_from, set_test_from, steps_at};
 
-use crate::needs::{Need, need_of, until_needs};
 use crate::place::place;
 use ltl_automaton::Interner;
 use ltl_formula::{Row, Table};
@@ -35,7 +33,7 @@ pub(crate) enum Step {
     Either(usize, usize),
 }
 
-/// The steps of a row: the test of its pairs, and the test of its sets of rows. A number is 0 if the test isn't needed.
+/// The steps of a row: that of its pairs, and that of its sets of rows. The row holds if all rows of one of its sets hold.
 #[derive(Clone, Copy)]
 pub(crate) struct RowSteps {
     pub(crate) pairs: usize,
@@ -50,9 +48,11 @@ pub(crate) struct Program<'a, A: Allocator> {
 }
 
 /// The number of a step. A step that is new is appended.
-fn number<A: Allocator>(steps: &mut Interner<'_, Step, A>, step: Step) -> Result<usize, AllocError>
-    ensures { IfOk result (λ k. AreOrdered steps.old.keys → IsSmall step → HasOperands (length steps.old.keys) (step_of step)
-        → IsNumbered steps.old.keys steps.new.keys k (test_by steps.old.keys step)) }
+pub(crate) fn number<A: Allocator>(
+    steps: &mut Interner<'_, Step, A>,
+    step: Step,
+) -> Result<usize, AllocError>
+    ensures { IfOk result (λ k. IsGiven steps.old.keys steps.new.keys k step) }
 {
     let number = steps.number(step)?;
     Ok(number)
@@ -75,7 +75,7 @@ impl<'a, A: Allocator> Program<'a, A> {
     }
 
     /// The number of the step that a pair passes if all rows of one of the row's sets are among its targets.
-    fn set_step(&self, row: usize) -> usize
+    pub(crate) fn set_step(&self, row: usize) -> usize
         requires { row < length self.now.rows.items }
         ensures { result ≡ (steps_at self.now.rows.items row).sets }
     {
@@ -150,81 +150,35 @@ impl<'a, A: Allocator> Program<'a, A> {
         }
     }
 
-    /// The number of the step for the pairs of a row, or 0 if it isn't needed.
-    fn needed_pairs(&mut self, row: Row, place: usize, is_needed: bool) -> Result<usize, AllocError>
-        requires rows { IsBelow (length self.old.rows.items) row }
-        requires literal { IsNamedBelow RowSet.LIMIT row }
-        requires place { is_elementary_row row ≡ true → place < RowSet.LIMIT }
-        ensures rows { self.new.rows.items ≡ self.old.rows.items }
-        ensures step { IfOk result (λ k. (ps es : ℕ → test.Test) → AreOrdered self.old.steps.keys
-            → (is_needed ≡ true → HavePairSteps self.old.steps.keys self.old.rows.items ps es row)
-            → IsNumberedIf is_needed self.old.steps.keys self.new.steps.keys k (pair_test_from ps es place row)) }
-    {
-        if is_needed {
-            self.number_pairs(row, place)
-        } else {
-            Ok(0)
-        }
-    }
-
-    /// The number of the step for the sets of a row, or 0 if it isn't needed.
-    fn needed_sets(&mut self, row: Row, place: usize, is_needed: bool) -> Result<usize, AllocError>
-        requires rows { IsBelow (length self.old.rows.items) row }
-        requires literal { IsNamedBelow RowSet.LIMIT row }
-        requires place { is_elementary_row row ≡ true → place < RowSet.LIMIT }
-        ensures rows { self.new.rows.items ≡ self.old.rows.items }
-        ensures step { IfOk result (λ k. (es : ℕ → test.Test) → AreOrdered self.old.steps.keys
-            → (is_needed ≡ true → HaveSetSteps self.old.steps.keys self.old.rows.items es row)
-            → IsNumberedIf is_needed self.old.steps.keys self.new.steps.keys k (set_test_from es place row)) }
-    {
-        if is_needed {
-            self.number_sets(row, place)
-        } else {
-            Ok(0)
-        }
-    }
-
-    /// Appends the needed steps of the next row.
-    fn add_row(
-        &mut self,
-        table: &Table<'_, A>,
-        needs: &[Need],
-        row: usize,
-    ) -> Result<(), AllocError>
+    /// Appends the steps of the next row.
+    fn add_row(&mut self, table: &Table<'_, A>, row: usize) -> Result<(), AllocError>
         requires within { row < length table.now.rows }
         requires count { length self.old.rows.items ≡ row }
-        requires needed { row < length needs.now }
-        requires asked { AllAsked table.now needs.now }
-        requires program { IsProgram table.now needs.now self.old.steps.keys self.old.rows.items }
+        requires program { IsProgram table.now self.old.steps.keys self.old.rows.items }
         ensures count { OnOk result (length self.new.rows.items ≡ row + 1) }
-        ensures program { OnOk result (IsProgram table.now needs.now self.new.steps.keys self.new.rows.items) }
+        ensures program { OnOk result (IsProgram table.now self.new.steps.keys self.new.rows.items) }
     {
         table.invariant();
         let place = place(table, row);
         let kind = table.row(row);
-        let need = need_of(needs, row);
-        let pairs = self.needed_pairs(kind, place, need.pairs)?;
-        let sets = self.needed_sets(kind, place, need.sets)?;
+        let pairs = self.number_pairs(kind, place)?;
+        let sets = self.number_sets(kind, place)?;
         self.rows.push(RowSteps { pairs, sets })?;
         Ok(())
     }
-}
 
-/// The program of the tests of which until rows a pair fulfils.
-pub(crate) fn until_steps<'a, A: Allocator>(
-    alloc: &'a A,
-    table: &Table<'_, A>,
-) -> Result<Program<'a, A>, AllocError>
-    ensures { IfOk result (λ p. AreUntilSteps table.now p.steps.keys p.rows.items) }
-{
-    table.invariant();
-    let needs = until_needs(alloc, table)?;
-    let mut program = Program {
-        steps: Interner::new(alloc),
-        rows: Vec::new(alloc),
-    };
-    'rows: for k in 0..table.len() {
-        program.add_row(table, needs.as_slice(), k)?;
+    /// The program of all rows of a table.
+    pub(crate) fn of(alloc: &'a A, table: &Table<'_, A>) -> Result<Program<'a, A>, AllocError>
+        ensures { IfOk result (λ p. IsWholeProgram table.now p.steps.keys p.rows.items) }
+    {
+        table.invariant();
+        let mut program = Program {
+            steps: Interner::new(alloc),
+            rows: Vec::new(alloc),
+        };
+        'rows: for k in 0..table.len() {
+            program.add_row(table, k)?;
+        }
+        Ok(program)
     }
-    Ok(program)
 }

@@ -21,6 +21,7 @@ use crate::keys::Keys;
 use crate::marks::marked;
 use crate::pair::Pair;
 use crate::place::{place, until_count};
+use crate::program::Program;
 use crate::rule::{Pruning, Rule};
 use crate::transition::Transition;
 use ltl_automaton::{
@@ -128,11 +129,13 @@ pub(crate) fn explored<'a, A: Allocator>(
     ensures large { IsErrOf result AltFault.TooLarge → IsTooLarge (core_of table.now) keep_implied stated_limits.states stated_limits.edges }
 {
     table.invariant();
-    let fulfilment = Fulfilment::of(alloc, table)?;
-    let rule = Rule::of(alloc, table, &fulfilment, keep_implied)?;
+    let program = Program::of(alloc, table)?;
+    let fulfilment = Fulfilment::of(alloc, table, &program)?;
+    let rule = Rule::of(alloc, table, &program, &fulfilment, keep_implied)?;
     let context = Context {
         alloc,
         table,
+        program: &program,
         pruning: Pruning {
             rule,
             fulfilment: &fulfilment,

@@ -2,11 +2,13 @@
 
 ghost use Rattle.std.specs.Prelude.{IfOk};
 ghost use Rattle.ltl_alt.specs.StandIns.{IsRuleOf};
+ghost use Rattle.ltl_alt.specs.Steps.{IsWholeProgram};
 ghost use Rattle.ltl_alt.specs.Tests.{AreTests};
 ghost use Rattle.ltl_alt.specs.TransitionView.{table_at};
 
 use crate::counted::counted;
 use crate::fulfilment::Fulfilment;
+use crate::program::Program;
 use ltl_formula::Table;
 use ltl_sets::RowSet;
 use std::alloc::{AllocError, Allocator};
@@ -26,16 +28,18 @@ impl Rule {
     pub(crate) fn of<A: Allocator>(
         alloc: &A,
         table: &Table<'_, A>,
+        program: &Program<'_, A>,
         fulfilment: &Fulfilment<'_, A>,
         keep_implied: bool,
     ) -> Result<Rule, AllocError>
-        requires { AreTests (table_at table.now) fulfilment.now }
+        requires tests { AreTests (table_at table.now) fulfilment.now }
+        requires program { IsWholeProgram table.now program.now.steps.keys program.now.rows.items }
         ensures { IfOk result (IsRuleOf (table_at table.now) keep_implied) }
     {
         if keep_implied {
             return Ok(Rule::Duplicate);
         }
-        let counted = counted(alloc, table, fulfilment)?;
+        let counted = counted(alloc, table, program, fulfilment)?;
         Ok(Rule::SafelySubsumed(counted))
     }
 }

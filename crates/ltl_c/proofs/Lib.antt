@@ -1,5 +1,6 @@
 pub mod ArrayLaws
 pub mod CallLaws
+pub mod ClaimLaws
 pub mod CodeLaws
 pub mod ComparisonLaws
 pub mod FoundLaws

@@ -1,5 +1,6 @@
 pub mod Arrays
 pub mod Calls
+pub mod Claims
 pub mod Codes
 pub mod Comparisons
 pub mod Lines

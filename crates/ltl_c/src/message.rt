@@ -1,10 +1,10 @@
 //! The C call `ltl2ba_message`: the line that a program prints for a refusal.
 
-ghost use Rattle.std.specs.Prelude.{◌≡◌, ◌+◌, ◌≤◌, ◌++◌, Option, length, option_map};
+ghost use Rattle.std.specs.Prelude.{◌≡◌, ◌≤◌, Option, length, option_map};
 ghost use Rattle.ltl_spec.specs.Tools.Comparer.{comparer_message, subject_of_text};
 ghost use Rattle.ltl_spec.specs.Tools.Limits.{stated_limits};
 ghost use Rattle.ltl_spec.specs.Tools.Refusal as spec;
-ghost use Rattle.ltl_cli.specs.Messages.{line_for, number_text};
+ghost use Rattle.ltl_cli.specs.Messages.{line_for};
 ghost use Rattle.ltl_cli.specs.Refusals.{refusal_of};
 ghost use Rattle.ltl_draw.specs.Messages.{draw_message};
 ghost use Rattle.ltl_c.specs.Calls.{Delivers};
@@ -12,16 +12,13 @@ ghost use Rattle.ltl_c.specs.Codes.{code_for, line_numbered, program_line, progr
 ghost use Rattle.ltl_c.specs.Lines.{comparer_front_text, draw_front_text, program_in};
 
 use crate::buffer::deliver;
+use crate::line::{SIZE, put, put_number};
 use crate::refusal_code::{RefusalCode, refusal_at};
 use crate::subject::Subject;
 use arrayvec::ArrayVec;
 use ltl_cli::Refusal;
 use ltl_cli::message::{back, front, name, number};
-use ltl_text::Digits;
 use ltl_words::Tool;
-
-/// Room for the longest line of a program, in bytes.
-const SIZE: usize = 144;
 
 /// A program; the comparer with what a refusal is about.
 #[derive(Clone, Copy, Debug, PartialEq, Eq)]
@@ -29,26 +26,6 @@ enum Program {
     Plain(Tool),
     Comparer(Subject),
     Drawer,
-}
-
-/// Appends bytes. There is room for them.
-fn put(line: &mut ArrayVec<u8, SIZE>, bytes: &[u8])
-    requires { length line.old.items + length bytes.now ≤ 144 }
-    ensures { line.new.items ≡ line.old.items ++ bytes.now }
-{
-    let _ = line.try_extend_from_slice(bytes);
-}
-
-/// Appends a number and a colon, if there is a number.
-fn put_number(line: &mut ArrayVec<u8, SIZE>, number: Option<usize>)
-    requires { length line.old.items ≤ 100 }
-    ensures put { line.new.items ≡ line.old.items ++ number_text number }
-    ensures short { length line.new.items ≤ length line.old.items + 22 }
-{
-    if let Some(number) = number {
-        put(line, Digits::of(number as u64).as_slice());
-        put(line, b": ");
-    }
 }
 
 /// The whole line for a refusal, with a line feed.

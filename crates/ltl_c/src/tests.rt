@@ -2,6 +2,9 @@
 
 use crate::automaton::ltl2ba_automaton;
 use crate::checking::{Found, ltlcheck_verdict};
+use crate::claim::ltlclaim_hoa;
+use crate::claim_code::no_claim_refusal;
+use crate::claim_message::ltlclaim_message;
 use crate::comparison::{Compared, ltlcompare_verdict};
 use crate::evaluation::ltleval_holds;
 use crate::message::ltl2ba_message;
@@ -307,4 +310,38 @@ fn picture_of_an_automaton(rt: HostRuntime) {
     assert_eq!(rt; (refused, count), (3, 0));
     assert_eq!(rt; ltl2ba_message(6, &refusal, &mut buffer, &mut count), 0);
     assert!(rt; &buffer[..count] == b"ltldraw: automaton: line 1: not HOA v1\n".as_slice());
+}
+
+const CLAIM_HOA: &str =
+    "HOA: v1\nStates: 1\nStart: 0\nAP: 1 \"p\"\nacc-name: Buchi\nAcceptance: 1 Inf(0)\nproperties: trans-labels explicit-labels state-acc\n--BODY--\nState: 0 {0}\n[0] 0\n--END--\n";
+
+#[test]
+fn automaton_of_a_claim(rt: HostRuntime) {
+    let mut buffer = [0u8; 1000];
+    let mut count = 0;
+    let mut refusal = no_claim_refusal();
+    let status = ltlclaim_hoa(
+        rt.alloc(),
+        b"never { accept_init: do :: p -> goto accept_init od }",
+        &mut buffer,
+        &mut count,
+        &mut refusal,
+    );
+    assert_eq!(rt; status, 0);
+    assert!(rt; &buffer[..count] == CLAIM_HOA.as_bytes());
+    assert_eq!(rt; refusal.kind, 0);
+    let refused = ltlclaim_hoa(
+        rt.alloc(),
+        b"never {\n  do :: Req od }",
+        &mut buffer,
+        &mut count,
+        &mut refusal,
+    );
+    assert_eq!(rt; (refused, count), (3, 0));
+    assert_eq!(rt;
+        (refusal.kind, refusal.fault, refusal.line, refusal.column),
+        (16, 2, 2, 9)
+    );
+    assert_eq!(rt; ltlclaim_message(&refusal, &mut buffer, &mut count), 0);
+    assert!(rt; &buffer[..count] == b"ltlclaim: claim: line 2, column 9: bad name\n".as_slice());
 }

@@ -11,6 +11,7 @@ pub mod NameLaws
 pub mod PairSums
 pub mod OperandLaws
 pub mod PlaceLaws
+pub mod PathLaws
 pub mod BreadthLaws
 pub mod ShortestLaws
 pub mod WordLaws

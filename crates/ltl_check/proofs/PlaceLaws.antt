@@ -13,7 +13,7 @@ use Rattle.ltl_check.specs.Nets.{Net, IsSuccessor, IsStepPath}
 use Rattle.ltl_check.specs.Levels.{Takes, IsFullWalk}
 use Rattle.ltl_check.specs.Places.{is_base, IsGoal, on_stem, begun, further, IsNext, LeadsAt, IsStepTo, Reaches, start_place}
 
-in_union : (ms ns : List ℕ) (j : ℕ) → in_set (union nat_cmp ms ns) j ≡ true → (in_set ms j ≡ true) ⊎ (in_set ns j ≡ true)
+pub in_union : (ms ns : List ℕ) (j : ℕ) → in_set (union nat_cmp ms ns) j ≡ true → (in_set ms j ≡ true) ⊎ (in_set ns j ≡ true)
 in_union ms ns j h = elim (union_cases nat_linear ms ns j ((has_Decides nat_linear j (union nat_cmp ms ns)).0 h)) [
   | inl k ↦ inl ((has_Decides nat_linear j ms).1 k)
   | inr k ↦ inr ((has_Decides nat_linear j ns).1 k)

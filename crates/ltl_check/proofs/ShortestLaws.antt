@@ -1,5 +1,6 @@
 -- The shortest lasso, from what the breadth-first searches say.
-use Rattle.std.proofs.Common.{◌≡◌, ℕ, ◌+◌, ◌-◌, ◌*◌, ◌<◌, ◌≤◌, ◌^◌, List, length, inl, inr, ap, subst, arith, [], ◌∷◌, sym, ◌∙◌, get_or, refl}
+use Rattle.std.proofs.Common.{◌≡◌, ℕ, ◌+◌, ◌-◌, ◌<◌, ◌≤◌, ◌^◌, ◌⊎◌, List, length, Option, Some, inl, inr, ap, subst, arith, [], ◌∷◌, sym, ◌∙◌, get_or, refl}
+use Rattle.std.specs.Prelude.{IfSome}
 use Rattle.std.proofs.lemmas.Bool.{eq-eqb}
 use Rattle.ltl_check.specs.declared.walk.Taken.{Taken}
 use Rattle.ltl_check.specs.declared.walk.Walk.{Walk}
@@ -14,7 +15,7 @@ use Rattle.ltl_check.specs.Nets.{Net}
 use Rattle.ltl_check.specs.Levels.{IsFullWalk}
 use Rattle.ltl_check.specs.Explored.{IsGrown, counted}
 use Rattle.ltl_check.specs.Looks.{LooksAtMost}
-use Rattle.ltl_check.specs.Shortened.{edges_of, IsFewest, IsShorter, HasSearched, IsShortestThere, IsShortened}
+use Rattle.ltl_check.specs.Shortened.{edges_of, IsFewest, IsShorter, HasSearched, IsShortestThere, IsShortened, IsShortenedThere}
 use Rattle.ltl_check.specs.Breadth.{IsLayer, HasClosed, IsPaid}
 use Rattle.ltl_check.proofs.BreadthLaws.{none_nearer, layer_none}
 use Rattle.ltl_check.proofs.Costs.{grown_one, grown_then}
@@ -33,13 +34,6 @@ paid_then old mid new before between after p q =
     let m = q.0 in
     let d : (before - between) + (between - after) ≡ before - after = omega arith in
     (omega arith, subst (IsGrown old new) d (grown_then old mid (before - between) new (between - after) p.1 q.1))
-
--- two searches
-pub most_twice : (Ended Later : Type 0) (old mid new most : ℕ) → HasSearched old mid most Ended → HasSearched mid new most Later → LooksAtMost old new (2 * most)
-most_twice Ended Later old mid new most h k =
-    let l = h.2 in
-    let m = k.2 in
-    (h.0 + k.0, grown_then old mid h.0 new k.0 h.1 k.1, omega arith)
 
 -- the count began at 0
 pub counted_most : (before after most : ℕ) → before ≡ 0 → LooksAtMost before after most → after ≤ most
@@ -66,9 +60,9 @@ module _ (N : Net) (task : Task) (ps : List Place) (hs : List Arrival) where
 
 -- ---- what is returned
 -- all lassos were searched
-module _ {A : Type 0} (Ended : Type 0) (N M : Net) (task : Task) (sets limit most old new : ℕ) (before : Walk A) (r : Shorter A) where
+module _ {A : Type 0} (Ended : Type 0) (N M : Net) (task : Task) (sets limit most more old new : ℕ) (before : Walk A) (r : Shorter A) where
   pub shortened_found : (after : Walk A) → N ≡ M → sets ≡ task.sets → task.bases ≡ Every → limit ≡ edges_of before → r ≡ Found after → IsShorter M task limit r → HasSearched old new most Ended
-      → IsShortened N sets before after most old new
+      → IsShortened N sets before after most more old new
   shortened_found after n s b l e f h =
       let w : IsShorter M task limit (Found after) = subst (IsShorter M task limit) e f in
       rw (n, s) (
@@ -78,7 +72,7 @@ module _ {A : Type 0} (Ended : Type 0) (N M : Net) (task : Task) (sets limit mos
       )
 
   pub shortened_stays : N ≡ M → sets ≡ task.sets → task.bases ≡ Every → limit ≡ edges_of before → r ≡ Nothing → IsShorter M task limit r → HasSearched old new most Ended
-      → IsFullWalk N sets before.stem.items before.cycle.items → IsShortened N sets before before most old new
+      → IsFullWalk N sets before.stem.items before.cycle.items → IsShortened N sets before before most more old new
   shortened_stays n s b l e f h =
       let w : IsShorter {A = A} M task limit Nothing = subst (IsShorter M task limit) e f in
       rw (n, s) (λ full. (
@@ -97,36 +91,72 @@ begins : (N : Net) (sets : ℕ) (stem cycle : List Taken) (t : Taken) → t ≡ 
 begins N sets stem [] t e k = absurd (k.moves refl)
 begins N sets stem (u ∷ us) t e k = ap (λ (v : Taken). v.state) e ∙ k.cycles.0
 
--- the first search had to end, and was followed by another one, for the cycles that begin in one state
-module _ {A : Type 0} (Ended Later : Type 0) (ended : Ended) (N M : Net) (task : Task) (sets limit most old mid new : ℕ) (first : HasSearched old mid most Ended) (second : HasSearched mid new most Later) (before : Walk A) (r : Shorter A)
-    (n : N ≡ M) (s : sets ≡ task.sets) (l : limit ≡ edges_of before) (t : Taken) (b : task.bases ≡ One t.state) (head : t ≡ get_or before.cycle.items 0 t) (f : IsShorter M task limit r) where
-  there : (us vs : List Taken) (few : ℕ) → IsFewest M task few → IsFullWalk N sets before.stem.items before.cycle.items → (k : IsFullWalk N sets before.stem.items before.cycle.items) (x : IsFullWalk N sets us vs) → x.end ≡ k.end → few ≤ length us + length vs
-  there us vs few w = rw (n, s) (λ full k x e. w us vs x (ap (λ c. is_base c x.end) b ∙ eq-eqb t.state x.end (begins M task.sets before.stem.items before.cycle.items t head k ∙ sym e)))
+-- the searches for a lasso that isn't longer, and then among the cycles that begin in one state
+module _ {A : Type 0} (Later : Type 0) (N : Net) (task : Task) (before short : Walk A) (most old new limit : ℕ) (h : HasSearched old new most Later) (l : limit ≡ edges_of short) (few : edges_of short ≤ edges_of before)
+    (t : Taken) (b : task.bases ≡ One t.state) (head : t ≡ get_or before.cycle.items 0 t) (r : Shorter A) (f : IsShorter N task limit r) where
+  there : (us vs : List Taken) (n : ℕ) → IsFewest N task n → (k : IsFullWalk N task.sets before.stem.items before.cycle.items) (x : IsFullWalk N task.sets us vs) → x.end ≡ k.end → n ≤ length us + length vs
+  there us vs n w k x e = w us vs x (ap (λ c. is_base c x.end) b ∙ eq-eqb t.state x.end (begins N task.sets before.stem.items before.cycle.items t head k ∙ sym e))
 
-  -- as many looks as both may make, but for those that the second one has left
-  looks : (after : Walk A) → IsFullWalk N sets after.stem.items after.cycle.items → edges_of after ≤ edges_of before → (second.0 < most → IsShortestThere N sets before after) → IsShortened N sets before after most old new
-  looks after w few shortest = (
-    w,
-    few,
-    (
-      first.0 + second.0,
-      grown_then old mid first.0 new second.0 first.1 second.1,
-      λ less. absurd (let e = first.3 ended in omega arith),
-      λ less. shortest (let e = first.3 ended in omega arith),
-    ),
-  )
+  pub there_found : (after : Walk A) → r ≡ Found after → IsShortenedThere N task.sets before after most old new
+  there_found after e =
+      let w : IsShorter N task limit (Found after) = subst (IsShorter N task limit) e f in
+      (w.0, (let m = w.1 in omega arith), (h.0, h.1, h.2, λ less k us vs x d. there us vs (edges_of after) w.2 k x d))
 
-  pub shortened_one : (after : Walk A) → r ≡ Found after → IsShortened N sets before after most old new
-  shortened_one after e =
-      let w : IsShorter M task limit (Found after) = subst (IsShorter M task limit) e f in
-      looks after (rw (n, s) w.0) (let m = w.1 in omega arith) (λ less k us vs x d. there us vs (edges_of after) w.2 k k x d)
-
-  pub shortened_none : ((after : Walk A) → r ≡ Found after → ⊥) → (r ≡ Spent → Later) → IsFullWalk N sets before.stem.items before.cycle.items → IsShortened N sets before before most old new
-  shortened_none none told w = looks before w (omega arith) (by r refl)
+  pub there_stays : ((after : Walk A) → r ≡ Found after → ⊥) → (r ≡ Spent → Later) → IsFullWalk N task.sets short.stem.items short.cycle.items → IsShortenedThere N task.sets before short most old new
+  there_stays none told w = (w, few, (h.0, h.1, h.2, by r refl))
     where
-      by : (q : Shorter A) → r ≡ q → second.0 < most → IsShortestThere N sets before before
+      by : (q : Shorter A) → r ≡ q → h.0 < most → IsShortestThere N task.sets before short
       by (Found after) e less = absurd (none after e)
       by Nothing e less =
-          let v : IsShorter {A = A} M task limit Nothing = subst (IsShorter M task limit) e f in
-          λ k us vs x d. let m = there us vs limit v k k x d in omega arith
-      by Spent e less = absurd (let c = second.3 (told e) in omega arith)
+          let v : IsShorter {A = A} N task limit Nothing = subst (IsShorter N task limit) e f in
+          λ k us vs x d. let m = there us vs limit v k x d in omega arith
+      by Spent e less = absurd (let c = h.3 (told e) in omega arith)
+
+-- the looks of a plan, of a path that follows it, and of a search that may make as many as are left
+pub looks_there : (Later : Type 0) (old first second new most planning spared start left : ℕ) → IsPaid old first planning spared → planning ≤ most → start ≡ (most - planning) + spared → IsPaid first second start left
+    → HasSearched second new left Later → HasSearched old new most Later
+looks_there Later old first second new most planning spared start left p few e q h =
+    let a = p.0 in
+    let b = q.0 in
+    let c = h.2 in (
+      ((planning - spared) + (start - left)) + h.0,
+      grown_then old second ((planning - spared) + (start - left)) new h.0 (grown_then old first (planning - spared) second (start - left) p.1 q.1) h.1,
+      omega arith,
+      λ last. let d = h.3 last in omega arith,
+    )
+
+pub paths_most : (old first new most planning spared start left : ℕ) → IsPaid old first planning spared → planning ≤ most → start ≡ (most - planning) + spared → IsPaid first new start left → LooksAtMost old new most
+paths_most old first new most planning spared start left p few e q =
+    let a = p.0 in
+    let b = q.0 in
+    ((planning - spared) + (start - left), grown_then old first (planning - spared) new (start - left) p.1 q.1, omega arith)
+
+pub searched_most : (Later : Type 0) (old new most : ℕ) → HasSearched old new most Later → LooksAtMost old new most
+searched_most Later old new most h = (h.0, h.1, h.2)
+
+pub most_then : (Ended : Type 0) (old mid new most more : ℕ) → HasSearched old mid most Ended → LooksAtMost mid new more → LooksAtMost old new (most + more)
+most_then Ended old mid new most more h k =
+    let l = h.2 in
+    let m = k.2 in
+    (h.0 + k.0, grown_then old mid h.0 new k.0 h.1 k.1, omega arith)
+
+-- one of two lassos
+pub short_full : {A : Type 0} (N : Net) (sets : ℕ) (first r : Walk A) (second : Option (Walk A)) → (r ≡ first) ⊎ (second ≡ Some r) → IsFullWalk N sets first.stem.items first.cycle.items
+    → IfSome second (λ w. IsFullWalk N sets w.stem.items w.cycle.items) → IsFullWalk N sets r.stem.items r.cycle.items
+short_full N sets first r second (inl e) w v = subst (λ (x : Walk _). IsFullWalk N sets x.stem.items x.cycle.items) (sym e) w
+short_full N sets first r second (inr e) w v = subst (λ o. IfSome o (λ x. IsFullWalk N sets x.stem.items x.cycle.items)) e v
+
+-- the search for the shortest lasso had to end
+pub shortened_there : {A : Type 0} (Ended : Type 0) (N M : Net) (sets other old mid new most more : ℕ) (before after : Walk A) → N ≡ M → sets ≡ other → Ended → HasSearched old mid most Ended → IsShortenedThere M other before after more mid new
+    → IsShortened N sets before after most more old new
+shortened_there Ended N M sets other old mid new most more before after n s ended h k =
+    rw (n, s) (
+      k.0,
+      k.1,
+      (
+        h.0 + k.2.0,
+        grown_then old mid h.0 new k.2.0 h.1 k.2.1,
+        λ less. absurd (let e = h.3 ended in omega arith),
+        λ less. k.2.3 (let e = h.3 ended in omega arith),
+      ),
+    )

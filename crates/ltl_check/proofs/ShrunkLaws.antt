@@ -1,15 +1,16 @@
 -- What shrinking keeps of a word, and the verdict at its end.
 use Rattle.std.proofs.Common.{◌≡◌, ℕ, ◌+◌, ◌-◌, ◌<◌, ◌≤◌, Bool, true, false, List, [], ◌∷◌, ◌++◌, take, drop, map, length, inl, inr, ap, sym, ◌∙◌, subst, arith}
-use Rattle.std.specs.Prelude.{All, slice_index_or, Result, Ok, Err, IfOk}
+use Rattle.std.specs.Prelude.{All, filter, not, slice_index_or, Result, Ok, Err, IfOk}
+use Rattle.std.specs.Ordering.{nat_cmp}
 use Rattle.std.proofs.lemmas.List.{append-nil, append_assoc, map_push, take_all, take_more, length-take-le, length-drop, length-append, take-append-drop}
-use Rattle.ltl_spec.specs.Collections.Sets.{Has}
+use Rattle.ltl_spec.specs.Collections.Sets.{Has, has}
 use Rattle.ltl_spec.specs.Semantics.Word.{Name, Letter, Lasso, IsLasso}
 use Rattle.ltl_spec.specs.Words.LassoText.{IsLeastForm, names_in}
 use Rattle.ltl_spec.specs.Words.LeastForm.{least_form}
 use Rattle.ltl_spec.specs.Automata.Automaton.{Automaton}
 use Rattle.ltl_spec.specs.Hoa.HoaReading.{MarkedAutomaton}
 use Rattle.ltl_spec.specs.Checking.Check.{Violated, IsVerdict, IsCommon, IsNeeded, graph_of}
-use Rattle.ltl_spec.proofs.Collections.SetLaws.{append_cases, append_left, append_right, set_of_cases}
+use Rattle.ltl_spec.proofs.Collections.SetLaws.{append_cases, append_left, append_right, filter_cases, set_of_cases}
 use Rattle.ltl_spec.proofs.Collections.ListLaws.{All-at_has, All-from_has, Has-at}
 use Rattle.ltl_spec.proofs.Collections.MemberLaws.{map_cases, map_length, flat_map_cases}
 use Rattle.ltl_spec.proofs.Collections.Orders.{name_linear}
@@ -18,7 +19,7 @@ use Rattle.ltl_spec.proofs.Words.LeastLength.{least_most}
 use Rattle.ltl_spec.proofs.Words.SameWordLaws.{accepts_from_same, accepts_same}
 use Rattle.ltl_spec.proofs.Words.UniqueLaws.{least_forms_same}
 use Rattle.ltl_word.specs.LassoView.{letter_with, word_with}
-use Rattle.ltl_check.specs.Shrunk.{AreNeeded, IsOf, IsNoMore, IsShrunk}
+use Rattle.ltl_check.specs.Shrunk.{AreNeeded, bare, IsOf, IsNoMore, IsShrunk}
 
 -- ---- letters
 
@@ -82,6 +83,24 @@ no_more_with old ls ds at letter l one (few, among) e =
 -- a letter of the word
 pub of_letter : (old ls : List (List ℕ)) (at : ℕ) (letter : List ℕ) → IsNoMore old ls → at < length ls → letter ≡ slice_index_or ls at letter → IsOf old letter
 of_letter old ls at letter h l e = All-at_has (IsOf old) ls h.1 letter (subst (Has ls) (sym e) (Has-at ls at letter l))
+
+-- without a name; the set of the name alone is `gone`
+pub bare_is : (p : ℕ) (letter gone out : List ℕ) → gone ≡ p ∷ [] → out ≡ filter (λ i. not (has nat_cmp i gone)) letter → out ≡ bare p letter
+bare_is p letter gone out e q = q ∙ ap (λ xs. filter (λ i. not (has nat_cmp i xs)) letter) e
+
+pub bare_more : (p : ℕ) (xs : List (List ℕ)) (i : ℕ) (ys more old : List (List ℕ)) (x out gone : List ℕ) → i < length xs → x ≡ slice_index_or xs i x → ys ≡ old ++ map (bare p) (take i xs)
+    → gone ≡ p ∷ [] → out ≡ filter (λ j. not (has nat_cmp j gone)) x → more ≡ ys ++ out ∷ [] → more ≡ old ++ map (bare p) (take (i + 1) xs)
+bare_more p xs i ys more old x out gone l is e g o q = mapped_more (bare p) xs i ys more old x l is e (q ∙ ap (λ y. ys ++ y ∷ []) (bare_is p x gone out g o))
+
+pub of_bare : (old : List (List ℕ)) (letter a : List ℕ) (p : ℕ) → IsOf old letter → a ≡ bare p letter → IsOf old a
+of_bare old letter a p h e i m = h i (filter_cases (λ j. not (has nat_cmp j (p ∷ []))) letter i (subst (λ xs. Has xs i) e m)).0
+
+pub no_more_bare : (old ls ds : List (List ℕ)) (p : ℕ) → IsNoMore old ls → ds ≡ map (bare p) ls → IsNoMore old ds
+no_more_bare old ls ds p (few, among) e =
+    subst (IsNoMore old) (sym e) (
+      (let m = map_length (bare p) ls in omega (arith, m, few)),
+      All-from_has (IsOf old) (map (bare p) ls) (λ a h. let (b, k, q) = map_cases (bare p) ls a h in of_bare old b a p (All-at_has (IsOf old) ls among b k) q),
+    )
 
 -- it has as many letters
 pub with_long : (ls ds : List (List ℕ)) (at : ℕ) (letter : List ℕ) → at < length ls → ds ≡ take at ls ++ letter ∷ drop (at + 1) ls → length ds ≡ length ls
@@ -167,6 +186,10 @@ module _ (A : MarkedAutomaton) (names : List Name) (B : Automaton) (all : List N
         omega arith
 
   -- the same of a call that may fail
+  pub least_is : {E : Type 0} (r : Result Lasso E) (w : Lasso) → IsLasso w → w ≡ word → IfOk r (λ v. IsLeastForm w v) → IfOk r (λ v. v ≡ least_form word)
+  least_is (Err e) w lasso is h = h
+  least_is (Ok v) w lasso is h = same w v lasso is h
+
   pub least_verdict : {E : Type 0} (r : Result Lasso E) (w : Lasso) → IsLasso w → w ≡ word → IfOk r (λ v. IsLeastForm w v) → IfOk r (λ v. IsVerdict A names B (IsCommon A names B) (Violated v))
   least_verdict (Err e) w lasso is h = h
   least_verdict (Ok v) w lasso is h = shrunk_verdict w v lasso is h

@@ -7,11 +7,12 @@ use Rattle.ltl_spec.specs.Transitions.Cubes.{Literal}
 use Rattle.ltl_spec.specs.Semantics.Word.{Name, Letter, Lasso}
 use Rattle.ltl_spec.specs.Formulas.Names.{unified}
 use Rattle.ltl_spec.specs.Words.LassoText.{names_in}
+use Rattle.ltl_spec.specs.Words.LeastForm.{least_form}
 use Rattle.ltl_spec.specs.Automata.Automaton.{Automaton, State, Edge, state_at}
 use Rattle.ltl_spec.specs.Hoa.HoaReading.{MarkedAutomaton}
 use Rattle.ltl_spec.specs.Checking.Product.{unified_number}
-use Rattle.ltl_spec.specs.Checking.Search.{lasso_along}
-use Rattle.ltl_spec.specs.Checking.Searched.{HasCommonWalk}
+use Rattle.ltl_spec.specs.Checking.Search.{lasso_along, letter_of}
+use Rattle.ltl_spec.specs.Checking.Searched.{HasCommonWalk, printed_word}
 use Rattle.ltl_spec.specs.Checking.Check.{Contained, Violated, IsVerdict, IsCommon, IsPositive, graph_of, marked_cubes, cubes_of, product_size}
 use Rattle.ltl_spec.specs.Checking.Bounds.{HasNamesBelow, IsBuchi, IsProper}
 use Rattle.ltl_spec.proofs.Collections.SetLaws.{append_cases, append_left, append_right, filter_cases, Has-set_of}
@@ -26,7 +27,7 @@ use Rattle.ltl_models.specs.BaView.{IsBa}
 use Rattle.ltl_check.specs.declared.walk.Taken.{Taken}
 use Rattle.ltl_check.specs.Levels.{IsFullWalk, levels_net}
 use Rattle.ltl_check.specs.ProductView.{number_in, product_net, edge_pairs, pair_at, pair_count}
-use Rattle.ltl_check.specs.VerdictView.{letters_of, IsReachedLevelState, IsBriefOn, chosen_pairs}
+use Rattle.ltl_check.specs.VerdictView.{letters_of, letters_in, IsReachedLevelState, IsBriefOn, IsNoLongerOn, chosen_pairs}
 use Rattle.ltl_check.specs.Shortest.{IsShortestLasso}
 use Rattle.ltl_check.specs.Shrunk.{AreNeeded, IsShared}
 use Rattle.ltl_check.specs.Looks.{LooksAtMost}
@@ -107,6 +108,25 @@ module _ (A : MarkedAutomaton) (names : List Name) (B : Automaton) (numbers : Li
         ap (λ ns. word_with ns (letters_of stem) (letters_of cycle)) e
         ∙ (λ i. record { stem = map_same (λ (t : Taken). t.letter) (letter_with all_names) stem i; cycle = map_same (λ (t : Taken). t.letter) (letter_with all_names) cycle i }) ∙ sym along
 
+    -- a word that isn't longer than that of the walk
+    pub no_longer : (all : List Name) → all ≡ all_names → (edges : ℕ) → edges ≡ length stem + length cycle
+        → (v : Lasso) → letters_in v ≤ letters_in (least_form (word_with all (letters_of stem) (letters_of cycle))) → IsNoLongerOn A names B edges (Violated v)
+    no_longer all e edges f v l =
+        let (h, along) = found_walk A names B numbers ba.some marked.counted named maps stem cycle w in
+        let printed : letters_in (least_form (word_with all (letters_of stem) (letters_of cycle))) ≡ letters_in (printed_word A names h.stem h.cycle) = ap (λ x. letters_in (least_form x)) (letters_along h along all e) in
+        (h, (as_many h.stem h.cycle stem cycle along ∙ sym f), subst (λ n. letters_in v ≤ n) printed l)
+      where
+        as_many : (es ds : List Edge) (ss cs : List Taken) → lasso_along all_names es ds ≡ record { stem = map (λ (t : Taken). letter_with all_names t.letter) ss; cycle = map (λ (t : Taken). letter_with all_names t.letter) cs }
+            → length es + length ds ≡ length ss + length cs
+        as_many es ds ss cs along =
+            let s = ap (λ (x : Lasso). length x.stem) along in
+            let c = ap (λ (x : Lasso). length x.cycle) along in
+            let m = map_length (λ (x : Edge). letter_of all_names x.cube) es in
+            let n = map_length (λ (x : Edge). letter_of all_names x.cube) ds in
+            let o = map_length (λ (t : Taken). letter_with all_names t.letter) ss in
+            let p = map_length (λ (t : Taken). letter_with all_names t.letter) cs in
+            omega (arith, s, c, m, n, o, p)
+
     -- both automata accept the word along the walk
     pub walk_shared : (all : List Name) → all ≡ all_names → (letters : List (List ℕ)) (count : ℕ) → letters ≡ letters_of stem ++ letters_of cycle → count ≡ length stem → IsShared A names B all letters count
     walk_shared all e letters count ls n =
@@ -150,9 +170,9 @@ module _ (A : MarkedAutomaton) (names : List Name) (B : Automaton) (numbers : Li
         omega arith
 
     -- after so many looks for a shorter walk
-    pub brief_word : (before looks most : ℕ) → before ≡ 0 → most ≤ 2 ^ 64 → (c : ℕ) × IsGrown before looks c × (c < most → IsShortestLasso (product_net A B numbers) (A.sets + 1) stem cycle) → LooksAtMost before looks (2 * most)
-        → (v : Lasso) → length v.stem + length v.cycle ≤ length stem + length cycle → IsBriefOn A names B most looks (Violated v)
-    brief_word before looks most z small s m v few = (counted_most before looks (2 * most) z m, λ less. shortest_word (s.2 (counted_below before looks s.0 most small s.1 less)) v few)
+    pub brief_word : (before looks most more : ℕ) → before ≡ 0 → most ≤ 2 ^ 64 → (c : ℕ) × IsGrown before looks c × (c < most → IsShortestLasso (product_net A B numbers) (A.sets + 1) stem cycle) → LooksAtMost before looks (most + more)
+        → (v : Lasso) → length v.stem + length v.cycle ≤ length stem + length cycle → IsBriefOn A names B most more looks (Violated v)
+    brief_word before looks most more z small s m v few = (counted_most before looks (most + more) z m, λ less. shortest_word (s.2 (counted_below before looks s.0 most small s.1 less)) v few)
 
   -- what is reached costs no more than what the search paid for
   pub paid_copies : (c : ℕ) → ((p : ℕ → Bool) → ((n : ℕ) → p n ≡ true → Reached (levels_net (A.sets + 1) (product_net A B numbers)) n)

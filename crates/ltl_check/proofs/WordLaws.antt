@@ -1,5 +1,5 @@
 -- A walk of the product of an automaton and a word makes the automaton accept the word.
-use Rattle.std.proofs.Common.{◌≡◌, ◌≢◌, ◌∙◌, ap, ap₂, sym, refl, subst, ℕ, zero, suc, ◌+◌, ◌-◌, ◌*◌, ◌/◌, ◌%◌, ◌<◌, ◌≤◌, Bool, true, false, inl, inr, List, [], ◌∷◌, length, map, Some, None, arith}
+use Rattle.std.proofs.Common.{◌≡◌, ◌≢◌, ◌∙◌, ◌↔◌, ap, ap₂, sym, refl, subst, ℕ, zero, suc, ◌+◌, ◌-◌, ◌*◌, ◌/◌, ◌%◌, ◌<◌, Bool, true, false, inl, inr, List, [], ◌∷◌, length, map, Some, None, arith}
 use Rattle.std.specs.Prelude.{◌&&◌, cond, nat_lt, slice_index_or, IsTrue}
 use Rattle.std.specs.Bool.{beq}
 use Rattle.std.specs.Ordering.{nat_cmp}
@@ -24,7 +24,6 @@ use Rattle.ltl_check.specs.declared.shortest.Shorter.{Shorter}
 use Rattle.ltl_check.specs.declared.shortest.Shorter.TheVariants.{Found}
 use Rattle.ltl_check.specs.declared.word_product.WordState.{WordState}
 use Rattle.ltl_check.specs.Shortened.{IsShorter}
-use Rattle.ltl_check.specs.Explored.{IsGrown}
 use Rattle.ltl_check.specs.LevelLaws.{mapped}
 use Rattle.ltl_check.specs.Levels.{IsFullWalk, Takes, numbered}
 use Rattle.ltl_check.specs.Nets.{IsSuccessor, IsStepPath, Net}
@@ -42,13 +41,13 @@ allows_alike f g (l ∷ ls) h = ap₂ (λ (a b : Bool). beq a l.positive && b) (
 abbrev state_with : List Edge → State
 state_with es = record { accepting = true; edges = es }
 
-at_state : (ess : List (List Edge)) (s : ℕ) → (slice_index_or (map state_with ess) s no_state).edges ≡ slice_index_or ess s []
+pub at_state : (ess : List (List Edge)) (s : ℕ) → (slice_index_or (map state_with ess) s no_state).edges ≡ slice_index_or ess s []
 at_state [] zero = refl
 at_state [] (suc s) = refl
 at_state (es ∷ ess) zero = refl
 at_state (es ∷ ess) (suc s) = at_state ess s
 
-all_accept : (ess : List (List Edge)) (s : ℕ) → (slice_index_or (map state_with ess) s no_state).accepting ≡ true
+pub all_accept : (ess : List (List Edge)) (s : ℕ) → (slice_index_or (map state_with ess) s no_state).accepting ≡ true
 all_accept [] zero = refl
 all_accept [] (suc s) = refl
 all_accept (es ∷ ess) zero = refl
@@ -68,23 +67,23 @@ module _ (A : MarkedAutomaton) (w : Lasso) (letters : List (List ℕ)) (marked :
   net = word_net A letters stem
 
   -- the letters say the same
-  meets : (s k i : ℕ) → s < A.states → k < length (edges_from A s) → i < length letters → allows (λ p. has nat_cmp p (letter_in letters i)) (edge_from A s k).cube ≡ allows (is_true_at A.names w i) (edge_from A s k).cube
+  pub meets : (s k i : ℕ) → s < A.states → k < length (edges_from A s) → i < length letters → allows (λ p. has nat_cmp p (letter_in letters i)) (edge_from A s k).cube ≡ allows (is_true_at A.names w i) (edge_from A s k).cube
   meets s k i ls lk li =
       allows_alike (λ p. has nat_cmp p (letter_in letters i)) (is_true_at A.names w i) (edge_from A s k).cube
       (λ l h. are.truth i l.proposition (subst (λ n. i < n) are.long li) (All-at_has (λ (x : Literal). x.proposition < length A.names) (edge_from A s k).cube (edge_within A marked s k ls lk).cube l h))
 
-  next_same : (i : ℕ) → position_after A letters stem i ≡ next w i
+  pub next_same : (i : ℕ) → position_after A letters stem i ≡ next w i
   next_same i = ap (λ n. cond (nat_lt (i + 1) n) (i + 1) stem) are.long
 
-  record Along (n k : ℕ) (a : Step ℕ) : Type 0 where
-    place : k < length (edges_from A (n % states))
-    met : allows (is_true_at A.names w (n / states)) (edge_from A (n % states) k).cube ≡ true
-    state : a.target % states ≡ (edge_from A (n % states) k).target
-    position : a.target / states ≡ next w (n / states)
-    below : a.target < count
-    marks : a.marks ≡ (edge_from A (n % states) k).marks
+  pub record Along (n k : ℕ) (a : Step ℕ) : Type 0 where
+    pub place : k < length (edges_from A (n % states))
+    pub met : allows (is_true_at A.names w (n / states)) (edge_from A (n % states) k).cube ≡ true
+    pub state : a.target % states ≡ (edge_from A (n % states) k).target
+    pub position : a.target / states ≡ next w (n / states)
+    pub below : a.target < count
+    pub marks : a.marks ≡ (edge_from A (n % states) k).marks
 
-  along : (n k : ℕ) (a : Step ℕ) → n < count → IsSuccessor net n k a → Along n k a
+  pub along : (n k : ℕ) (a : Step ℕ) → n < count → IsSuccessor net n k a → Along n k a
   along n k a l successor =
       let at = state_of_number A letters stem n l in
       let v = mapped (numbered (word_number A letters stem)) (word_step A letters stem (word_state A letters stem n) k) a successor.found in
@@ -102,7 +101,7 @@ module _ (A : MarkedAutomaton) (w : Lasso) (letters : List (List ℕ)) (marked :
         marks = ap (λ (x : Step ℕ). x.marks) (sym is);
       }
 
-  path_below : (s : ℕ) (ts : List Taken) (e : ℕ) → s < count → IsStepPath net s ts e → e < count
+  pub path_below : (s : ℕ) (ts : List Taken) (e : ℕ) → s < count → IsStepPath net s ts e → e < count
   path_below s [] e l h = subst (λ n. n < count) h l
   path_below s (t ∷ ts) e l (same, (a, successor, letter, rest)) = path_below a.target ts e (along t.state t.pick a (subst (λ n. n < count) (sym same) l) successor).below rest
 
@@ -137,7 +136,7 @@ module _ (A : MarkedAutomaton) (w : Lasso) (letters : List (List ℕ)) (marked :
       let (x, h, k) = marks_met a.target ts e j step.below rest m in
       (x, inr h, k)
 
-  start_below : 0 * A.states + A.start < count
+  pub start_below : 0 * A.states + A.start < count
   start_below = number_below A letters stem (word_start A letters stem) (marked.begins, some_position stem letters turning)
 
   moved : (ts : List Taken) → ts ≢ [] → map edge_of ts ≢ []
@@ -197,6 +196,6 @@ marked_graph B names = ap (λ ss. let A : Automaton = record { sets = 1; states 
     over (s ∷ ss) = ap (λ ts. leaving_state s ∷ ts) (over ss)
 
 -- a Büchi automaton accepts what it accepts with names
-pub named_accepts : (B : Automaton) (names : List Name) → B.sets ≡ 0 → (w : Lasso) → MarkedAccepts (marked_of B names) w → Accepts names B w
-named_accepts B names none w =
-    (subst (λ G. AcceptedFrom 0 G (is_true_at names w) (next w) → Accepts names B w) (sym (marked_graph B names)) (leaving_accepts B (is_true_at names w) (next w) none 0).0)
+pub named_alike : (B : Automaton) (names : List Name) → B.sets ≡ 0 → (w : Lasso) → MarkedAccepts (marked_of B names) w ↔ Accepts names B w
+named_alike B names none w =
+    subst (λ G. AcceptedFrom 0 G (is_true_at names w) (next w) ↔ Accepts names B w) (sym (marked_graph B names)) (leaving_accepts B (is_true_at names w) (next w) none 0)

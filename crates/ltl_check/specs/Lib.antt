@@ -11,6 +11,7 @@ pub mod Places
 pub mod Shortest
 pub mod Breadth
 pub mod Shortened
+pub mod Paths
 pub mod WordLetters
 pub mod WordView
 pub mod WordProductLaws

@@ -1,5 +1,5 @@
 -- What the search for a shorter lasso returns.
-use Rattle.std.specs.Prelude.{◌≡◌, ℕ, ◌+◌, ◌*◌, ◌<◌, ◌≤◌, List, length, true, ⊤}
+use Rattle.std.specs.Prelude.{◌≡◌, ℕ, ◌+◌, ◌<◌, ◌≤◌, List, length, true, ⊤}
 use Rattle.ltl_check.specs.declared.walk.Taken.{Taken}
 use Rattle.ltl_check.specs.declared.walk.Walk.{Walk}
 use Rattle.ltl_check.specs.declared.breadth.Task.{Task}
@@ -33,9 +33,14 @@ abbrev pub IsShortestThere : {A : Type 0} → Net → ℕ → Walk A → Walk A 
 IsShortestThere N sets before after =
     (k : IsFullWalk N sets before.stem.items before.cycle.items) (us vs : List Taken) (h : IsFullWalk N sets us vs) → h.end ≡ k.end → edges_of after ≤ length us + length vs
 
--- A lasso that isn't longer than the one before. It is a shortest one if fewer looks were made than one search may make. If fewer were made than two may make,
--- it is a shortest one of those whose cycle begins in the same state
-abbrev pub IsShortened : {A : Type 0} → Net → ℕ → Walk A → Walk A → ℕ → ℕ → ℕ → Type 0
-IsShortened N sets before after most old new =
+-- A lasso that isn't longer than the one before. It is a shortest one if fewer looks were made than the first search may make. If fewer were made than both
+-- searches may make, it is a shortest one of those whose cycle begins in the same state
+abbrev pub IsShortened : {A : Type 0} → Net → ℕ → Walk A → Walk A → ℕ → ℕ → ℕ → ℕ → Type 0
+IsShortened N sets before after most more old new =
     IsFullWalk N sets after.stem.items after.cycle.items × (edges_of after ≤ edges_of before)
-    × ((c : ℕ) × IsGrown old new c × (c < most → IsShortestLasso N sets after.stem.items after.cycle.items) × (c < 2 * most → IsShortestThere N sets before after))
+    × ((c : ℕ) × IsGrown old new c × (c < most → IsShortestLasso N sets after.stem.items after.cycle.items) × (c < most + more → IsShortestThere N sets before after))
+
+-- A lasso that isn't longer than the one before, after at most so many looks. If they are fewer, none whose cycle begins in the same state has fewer edges
+abbrev pub IsShortenedThere : {A : Type 0} → Net → ℕ → Walk A → Walk A → ℕ → ℕ → ℕ → Type 0
+IsShortenedThere N sets before after most old new =
+    IsFullWalk N sets after.stem.items after.cycle.items × (edges_of after ≤ edges_of before) × ((c : ℕ) × IsGrown old new c × (c ≤ most) × (c < most → IsShortestThere N sets before after))

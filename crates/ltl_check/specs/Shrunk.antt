@@ -1,6 +1,7 @@
 -- Words by their letters, which are sets of numbers of names; and what shrinking keeps of a word.
-use Rattle.std.specs.Prelude.{ℕ, ◌<◌, ◌≤◌, List, [], length, take, drop, All, slice_index_or}
-use Rattle.ltl_spec.specs.Collections.Sets.{Has}
+use Rattle.std.specs.Prelude.{ℕ, ◌<◌, ◌≤◌, List, [], ◌∷◌, length, take, drop, filter, not, All, slice_index_or}
+use Rattle.std.specs.Ordering.{nat_cmp}
+use Rattle.ltl_spec.specs.Collections.Sets.{Has, has}
 use Rattle.ltl_spec.specs.Semantics.Word.{Name}
 use Rattle.ltl_spec.specs.Automata.Automaton.{Automaton}
 use Rattle.ltl_spec.specs.Hoa.HoaReading.{MarkedAutomaton}
@@ -14,6 +15,10 @@ AreNeeded A names B all letters = (b : List ℕ) (i : ℕ) → Has letters b →
 -- the letter has no number that none of these has
 abbrev pub IsOf : List (List ℕ) → List ℕ → Type 0
 IsOf letters a = (i : ℕ) → Has a i → (b : List ℕ) × Has letters b × Has b i
+
+-- the letter without the number
+abbrev pub bare : ℕ → List ℕ → List ℕ
+bare p letter = filter (λ i. not (has nat_cmp i (p ∷ []))) letter
 
 -- no more letters than the old ones, and without other numbers
 abbrev pub IsNoMore : List (List ℕ) → List (List ℕ) → Type 0

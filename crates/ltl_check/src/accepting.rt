@@ -20,6 +20,12 @@ pub const SHRINKING_LIMIT: usize = 65_536;
 /// The largest number of letters of a word that is shrunk.
 pub(crate) const SHRINKABLE: usize = 256;
 
+/// The largest number of letters of the word along the walk that was found first, if it is shrunk, too.
+pub(crate) const FIRST_SHRINKABLE: usize = 16;
+
+/// The largest number of letters of a word from which names are taken out, each letter counted once for each name.
+pub(crate) const NAMED_LETTERS: usize = 4_096;
+
 /// The walks of a product that are searched have fewer edges.
 const WALK_LIMIT: usize = 1_024;
 

@@ -1,10 +1,15 @@
 //! Words by their letters, with letters left out or replaced.
 
-ghost use Rattle.std.specs.Prelude.{◌≡◌, ◌+◌, ◌-◌, ◌<◌, ◌≤◌, ◌∷◌, ◌++◌, length, take, drop, min, IfOk, OnOk};
+ghost use Rattle.std.specs.Prelude.{◌≡◌, ◌+◌, ◌-◌, ◌<◌, ◌≤◌, ◌∷◌, ◌++◌, length, map, take, drop, min, IfOk, OnOk};
+ghost use Rattle.std.specs.List.{list_any};
+ghost use Rattle.std.specs.Ordering.{nat_cmp};
+ghost use Rattle.ltl_spec.specs.Collections.Sets.{has};
+ghost use Rattle.ltl_sets.specs.declared.row_set.TheConstants.RowSet.{LIMIT};
+ghost use Rattle.ltl_check.specs.Shrunk.{bare};
 ghost use Rattle.ltl_check.specs.VerdictView.{letters_of};
 
 use crate::walk::{Taken, Walk};
-use ltl_sets::PropositionSet;
+use ltl_sets::{PropositionSet, RowSet};
 use std::alloc::{AllocError, Allocator};
 
 /// A word: `letters` has the stem and then the cycle. A letter has the numbers of names.
@@ -24,6 +29,23 @@ fn push_letters<A: Allocator>(
     for i in 0..steps.len() {
         let step = steps[i];
         letters.push(step.letter)?;
+    }
+    Ok(())
+}
+
+/// Appends the letters with this proposition false in each of them.
+fn push_bare<A: Allocator>(
+    letters: &mut Vec<PropositionSet, &A>,
+    with: &[PropositionSet],
+    p: usize,
+) -> Result<(), AllocError>
+    requires { p < LIMIT }
+    ensures { OnOk result (letters.new.items ≡ letters.old.items ++ map (bare p) with.now) }
+{
+    let gone = RowSet::single(p);
+    for i in 0..with.len() {
+        let letter = with[i];
+        letters.push(letter.without(&gone))?;
     }
     Ok(())
 }
@@ -76,6 +98,27 @@ impl<'a, A: Allocator> Draft<'a, A> {
         Ok(Draft {
             letters,
             stem: self.stem.saturating_sub(dropped),
+        })
+    }
+
+    /// Whether this proposition is true in one of the letters.
+    pub(crate) fn has_name(&self, p: usize) -> bool
+        ensures { result ≡ list_any (has nat_cmp p) self.now.letters.items }
+    {
+        self.letters.as_slice().iter().any(|letter| letter.holds(p))
+    }
+
+    /// The word with this proposition false in each letter.
+    pub(crate) fn without_name(&self, alloc: &'a A, p: usize) -> Result<Draft<'a, A>, AllocError>
+        requires { p < LIMIT }
+        ensures letters { IfOk result (λ d. d.letters.items ≡ map (bare p) self.now.letters.items) }
+        ensures stem { IfOk result (λ d. d.stem ≡ self.now.stem) }
+    {
+        let mut letters = Vec::with_capacity(alloc, self.letters.len())?;
+        push_bare(&mut letters, self.letters.as_slice(), p)?;
+        Ok(Draft {
+            letters,
+            stem: self.stem,
         })
     }
 

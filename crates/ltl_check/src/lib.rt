@@ -6,9 +6,9 @@
 //! What flows: `check` takes a `Marked` and a `Ba`, and unifies their propositions by name. Their `Product` stores no states and no edges. A look at
 //! a pair of edges returns the step that both take together, if their labels don't contradict each other. `Levels` degeneralizes the product on the
 //! fly. `Search` has a stack for each of the two depth-first searches, and a colour for each state on a level. It finds a `Walk`, which is a stem and
-//! a cycle, which `shorten` replaces by a shorter one. In its word the positive literals of each step are true. `Shrinking` repeats letters and leaves
-//! letters out as long as both automata accept the rest, which a search of the product with the word decides (`accepts`). What remains is put into least
-//! form, and is the counterexample of the `Verdict`.
+//! a cycle, which `shorten` replaces by a shorter one. In its word the positive literals of each step are true. `Shrinking` repeats letters, leaves letters
+//! out and takes names out of letters as long as both automata accept the rest, which a search of the product with the word decides (`accepts`). What
+//! remains is put into least form, and is the counterexample of the `Verdict`, unless the word of the walk that was found first is shorter.
 //!
 //! `find` searches any type with the trait `Graph`, whose laws say what a graph is. `check` does all of this:
 //!
@@ -34,15 +34,19 @@ pub mod levels;
 mod names;
 mod net;
 pub mod operand;
+mod path;
+mod path_search;
 mod place;
 mod plain;
+mod plan;
 pub mod product;
 mod search;
+mod shortcut;
 pub mod shortest;
 mod shrinking;
 pub mod verdict;
 pub mod walk;
-mod word_letters;
+pub mod word_letters;
 pub mod word_product;
 
 pub use accepting::SHRINKING_LIMIT;
@@ -53,6 +57,8 @@ pub use graph::{Graph, Step};
 pub use levels::Levels;
 pub use operand::{NamedBa, NamedGba, Operand};
 pub use product::{Product, Steps};
-pub use shortest::{SHORTENING_LIMIT, shorten};
+pub use shortest::{ONE_BASE_LIMIT, SHORTENING_LIMIT, shorten};
 pub use verdict::{Outcome, Verdict};
 pub use walk::{Taken, Walk};
+pub use word_letters::letters;
+pub use word_product::{WordProduct, WordState};

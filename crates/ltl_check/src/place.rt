@@ -45,7 +45,7 @@ impl Bases {
 }
 
 /// Whether the marks have every set below `sets`.
-fn holds_all(marks: &RowSet, sets: usize) -> bool
+pub(crate) fn holds_all(marks: &RowSet, sets: usize) -> bool
     ensures held { result ≡ true → HoldsAll sets marks.now }
     ensures lacked { HoldsAll sets marks.now → result ≡ true }
 {

@@ -12,11 +12,16 @@ use crate::graph::Graph;
 use crate::net::Numbered;
 use crate::place::Bases;
 use crate::plain::Plain;
+use crate::shortcut::shorten_there;
 use crate::walk::Walk;
 use std::alloc::{AllocError, Allocator};
 
-/// The number of looks that a search for a shorter lasso may make. There are at most two such searches.
-pub const SHORTENING_LIMIT: usize = 65_536;
+/// The number of looks that the search for the shortest lasso may make.
+pub const SHORTENING_LIMIT: usize = 196_608;
+
+/// The number of looks that may be made after that search, if it uses up its own: for a lasso that keeps edges of the given one, and then in a search among the
+/// lassos whose cycle begins in one state. It meets each state of the graph at most once on a stem, and then once on a cycle for each set of acceptance sets.
+pub const ONE_BASE_LIMIT: usize = 262_144;
 
 /// What a search for a shorter lasso has found.
 #[derive(Drop)]
@@ -49,8 +54,8 @@ pub(crate) fn find_shorter<'a, N: Numbered, A: Allocator>(
 }
 
 /// The shortest lasso of the graph: a path from the start, and a cycle from its end that has an edge of every set, with the fewest edges together. The
-/// given lasso is returned if it is a shortest one. If a search uses up its looks, the result is the shortest of the lassos that begin their cycle where the
-/// given one does; if that search does so too, it is the given one.
+/// given lasso is returned if it is a shortest one. If the search for it uses up its looks, the result may keep edges of the given lasso. Then no lasso that
+/// begins its cycle where the given one does has fewer edges, unless the search among these uses up its looks, too.
 ///
 /// # Errors
 ///
@@ -64,8 +69,8 @@ pub fn shorten<'a, G: Graph, A: Allocator>(
     requires full { IsFullWalk (graph_net G.Graph graph.now) (G.sets_of graph.now) walk.stem.items walk.cycle.items }
     requires fits { G.count_of graph.now ≤ stated_limits.product }
     ensures lasso { IfOk result (λ w. IsShortened (graph_net G.Graph graph.now) (G.sets_of graph.now) walk.entry w
-        SHORTENING_LIMIT (G.looked_of looks.old) (G.looked_of looks.new)) }
-    ensures most { LooksAtMost (G.looked_of looks.old) (G.looked_of looks.new) (2 * SHORTENING_LIMIT) }
+        SHORTENING_LIMIT ONE_BASE_LIMIT (G.looked_of looks.old) (G.looked_of looks.new)) }
+    ensures most { LooksAtMost (G.looked_of looks.old) (G.looked_of looks.new) (SHORTENING_LIMIT + ONE_BASE_LIMIT) }
     ensures memory { IfErr result (λ fault. fault ≡ CheckFault.OutOfMemory) }
 {
     let plain = Plain::of(graph);
@@ -80,12 +85,6 @@ pub fn shorten<'a, G: Graph, A: Allocator>(
         Shorter::Nothing => return Ok(walk),
         Shorter::Spent => {}
     }
-    let one = Task {
-        sets,
-        bases: Bases::One(walk.cycle[0].state),
-    };
-    match find_shorter(alloc, &plain, one, limit, SHORTENING_LIMIT, looks)? {
-        Shorter::Found(shorter) => Ok(shorter),
-        _ => Ok(walk),
-    }
+    let short = shorten_there(alloc, &plain, sets, walk, looks)?;
+    Ok(short)
 }

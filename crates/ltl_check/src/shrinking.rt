@@ -6,16 +6,17 @@ ghost use Rattle.ltl_spec.specs.Formulas.Names.{is_proposition};
 ghost use Rattle.ltl_spec.specs.Tools.Limits.{stated_limits};
 ghost use Rattle.ltl_spec.specs.Checking.Bounds.{HasNamesBelow};
 ghost use Rattle.ltl_spec.specs.Checking.Check.{IsCommon, Violated};
+ghost use Rattle.ltl_spec.specs.Words.LeastForm.{least_form};
 ghost use Rattle.ltl_word.specs.LassoView.{word_with};
 ghost use Rattle.ltl_check.specs.Shrunk.{AreNeeded, IsNoMore, IsShrunk};
-ghost use Rattle.ltl_check.specs.VerdictView.{IsVerdictOn};
+ghost use Rattle.ltl_check.specs.VerdictView.{IsVerdictOn, letters_in};
 
-use crate::accepting::{SHRINKABLE, SHRINKING_LIMIT, accepts};
+use crate::accepting::{NAMED_LETTERS, SHRINKABLE, SHRINKING_LIMIT, accepts};
 use crate::draft::Draft;
 use crate::operand::{NamedBa, Operand};
 use crate::product::Steps;
 use ltl_models::Ba;
-use ltl_sets::PropositionSet;
+use ltl_sets::{PropositionSet, RowSet};
 use ltl_syntax::Formula;
 use ltl_word::Lasso;
 use std::alloc::{AllocError, Allocator};
@@ -62,7 +63,9 @@ impl<'p, 'a, F: Operand, A: Allocator> Shrinking<'p, 'a, F, A> {
             (map (λ n. n.now) self.now.names.now) self.now.old.items }
         ensures verdict { IfOk result (λ w. IsVerdictOn (F.automaton_of self.now.first.now) self.now.formula.now.names self.now.ba.now
             (Violated w)) }
-        ensures short { IfOk result (λ w. length w.stem + length w.cycle ≤ length self.now.old.items) }
+        ensures short { IfOk result (λ w. letters_in w ≤ length self.now.old.items) }
+        ensures form { IfOk result (λ w. w ≡ least_form (word_with (map (λ n. n.now) self.now.names.now)
+            (take draft.now.stem draft.now.letters.items) (drop draft.now.stem draft.now.letters.items))) }
     {
         let word = self.word(alloc, draft)?;
         word.invariant();
@@ -232,6 +235,117 @@ impl<'p, 'a, F: Operand, A: Allocator> Shrinking<'p, 'a, F, A> {
         'counts: while count > 0 {
             self.leave_out(alloc, draft, count, looks)?;
             count = count / 2;
+        }
+        Ok(())
+    }
+
+    /// Puts the candidate in place of the word, if its least form has at most `most` letters and both automata are found to accept it.
+    fn put_short(
+        &self,
+        alloc: &'a A,
+        draft: &mut Draft<'a, A>,
+        candidate: Draft<'a, A>,
+        most: usize,
+        looks: &mut Steps,
+    ) -> Result<(), AllocError>
+        requires shrunk { IsShrunk (F.automaton_of self.now.first.now) self.now.formula.now.names self.now.ba.now
+            (map (λ n. n.now) self.now.names.now) self.now.old.items draft.old.letters.items draft.old.stem }
+        requires few { looks.old.count ≤ SHRINKING_LIMIT }
+        requires candidate { IsNoMore self.now.old.items candidate.letters.items }
+        requires same { length candidate.letters.items ≡ length draft.old.letters.items }
+        ensures shrunk { OnOk result (IsShrunk (F.automaton_of self.now.first.now) self.now.formula.now.names self.now.ba.now
+            (map (λ n. n.now) self.now.names.now) self.now.old.items draft.new.letters.items draft.new.stem) }
+        ensures most { looks.new.count ≤ SHRINKING_LIMIT }
+        ensures long { OnOk result (length draft.new.letters.items ≡ length draft.old.letters.items) }
+    {
+        if candidate.stem >= candidate.letters.len() {
+            return Ok(());
+        }
+        let word = self.word(alloc, &candidate)?;
+        if word.least(alloc)?.len() > most {
+            return Ok(());
+        }
+        self.put(alloc, draft, candidate, looks)?;
+        Ok(())
+    }
+
+    /// Takes a name out of all letters, if both automata accept the word and its least form has at most `most` letters.
+    fn take_out(
+        &self,
+        alloc: &'a A,
+        draft: &mut Draft<'a, A>,
+        p: usize,
+        most: usize,
+        looks: &mut Steps,
+    ) -> Result<(), AllocError>
+        requires shrunk { IsShrunk (F.automaton_of self.now.first.now) self.now.formula.now.names self.now.ba.now
+            (map (λ n. n.now) self.now.names.now) self.now.old.items draft.old.letters.items draft.old.stem }
+        requires few { looks.old.count ≤ SHRINKING_LIMIT }
+        requires name { p < length self.now.names.now }
+        ensures shrunk { OnOk result (IsShrunk (F.automaton_of self.now.first.now) self.now.formula.now.names self.now.ba.now
+            (map (λ n. n.now) self.now.names.now) self.now.old.items draft.new.letters.items draft.new.stem) }
+        ensures most { looks.new.count ≤ SHRINKING_LIMIT }
+    {
+        if draft.has_name(p) {
+            let candidate = draft.without_name(alloc, p)?;
+            self.put_short(alloc, draft, candidate, most, looks)?;
+        }
+        Ok(())
+    }
+
+    /// Takes each name out of the letter at `at` for which both automata accept the word and its least form has at most `most` letters.
+    fn take_out_at(
+        &self,
+        alloc: &'a A,
+        draft: &mut Draft<'a, A>,
+        at: usize,
+        most: usize,
+        looks: &mut Steps,
+    ) -> Result<(), AllocError>
+        requires shrunk { IsShrunk (F.automaton_of self.now.first.now) self.now.formula.now.names self.now.ba.now
+            (map (λ n. n.now) self.now.names.now) self.now.old.items draft.old.letters.items draft.old.stem }
+        requires few { looks.old.count ≤ SHRINKING_LIMIT }
+        requires inside { at < length draft.old.letters.items }
+        ensures shrunk { OnOk result (IsShrunk (F.automaton_of self.now.first.now) self.now.formula.now.names self.now.ba.now
+            (map (λ n. n.now) self.now.names.now) self.now.old.items draft.new.letters.items draft.new.stem) }
+        ensures most { looks.new.count ≤ SHRINKING_LIMIT }
+        ensures long { OnOk result (length draft.new.letters.items ≡ length draft.old.letters.items) }
+    {
+        for p in 0..self.names.len() {
+            let letter = draft.letters[at];
+            if !letter.holds(p) {
+                continue;
+            }
+            let candidate = draft.with(alloc, at, letter.without(&RowSet::single(p)))?;
+            self.put_short(alloc, draft, candidate, most, looks)?;
+        }
+        Ok(())
+    }
+
+    /// Takes names out of all letters, and then out of single ones, wherever both automata accept the word and its least form has at most `most` letters. A
+    /// word with more than `NAMED_LETTERS` letters, each counted once for each name, stays as it is.
+    pub(crate) fn take_out_all(
+        &self,
+        alloc: &'a A,
+        draft: &mut Draft<'a, A>,
+        most: usize,
+        looks: &mut Steps,
+    ) -> Result<(), AllocError>
+        requires shrunk { IsShrunk (F.automaton_of self.now.first.now) self.now.formula.now.names self.now.ba.now
+            (map (λ n. n.now) self.now.names.now) self.now.old.items draft.old.letters.items draft.old.stem }
+        requires few { looks.old.count ≤ SHRINKING_LIMIT }
+        ensures shrunk { OnOk result (IsShrunk (F.automaton_of self.now.first.now) self.now.formula.now.names self.now.ba.now
+            (map (λ n. n.now) self.now.names.now) self.now.old.items draft.new.letters.items draft.new.stem) }
+        ensures most { looks.new.count ≤ SHRINKING_LIMIT }
+    {
+        if draft.letters.len().saturating_mul(self.names.len()) > NAMED_LETTERS {
+            return Ok(());
+        }
+        for p in 0..self.names.len() {
+            self.take_out(alloc, draft, p, most, looks)?;
+        }
+        for at in 0..draft.letters.len() {
+            self.take_out_at(alloc, draft, at, most, looks)?;
         }
         Ok(())
     }

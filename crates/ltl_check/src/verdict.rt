@@ -19,6 +19,7 @@ pub enum Outcome<'a, A: Allocator> {
 pub struct Verdict<'a, A: Allocator> {
     pub(crate) outcome: Outcome<'a, A>,
     pub(crate) steps: u128,
+    pub(crate) found: usize,
     pub(crate) shortening: u128,
     pub(crate) shrinking: u128,
 }
@@ -45,15 +46,23 @@ impl<'a, A: Allocator> Verdict<'a, A> {
         self.steps
     }
 
-    /// The number of looks at pairs of edges in the search for a shorter word; 0 without a word. If it is less than
-    /// [`SHORTENING_LIMIT`](crate::SHORTENING_LIMIT), no common word has fewer letters along a path and a cycle of the product.
+    /// The number of edges of the path and the cycle that the search found; 0 without a word. The word has no more letters.
+    pub fn found(&self) -> usize
+        ensures { result ≡ self.now.found }
+    {
+        self.found
+    }
+
+    /// The number of looks at pairs of edges in the search for a shorter word; 0 without a word. It is at most
+    /// [`SHORTENING_LIMIT`](crate::SHORTENING_LIMIT) and [`ONE_BASE_LIMIT`](crate::ONE_BASE_LIMIT) together. If it is less than the first of them, no
+    /// common word has fewer letters along a path and a cycle of the product.
     pub fn shortening(&self) -> u128
         ensures { result ≡ self.now.shortening }
     {
         self.shortening
     }
 
-    /// The number of looks at products of an automaton and a word while the word was shrunk; 0 without a word, and at most
+    /// The number of looks at edges of products of an automaton and a word while letters and names were left out; 0 without a word, and at most
     /// [`SHRINKING_LIMIT`](crate::SHRINKING_LIMIT).
     pub fn shrinking(&self) -> u128
         ensures { result ≡ self.now.shrinking }

@@ -39,10 +39,14 @@ fn put_row<A: Allocator, B: Allocator>(
 }
 
 /// For each position of the word the numbers of the automaton's propositions that are true there. A name that the word doesn't have is false.
-pub(crate) fn letters<'a, F: Operand, A: Allocator>(
+///
+/// # Errors
+///
+/// Memory is refused. There is no other error.
+pub fn letters<'a, F: Operand, A: Allocator, B: Allocator>(
     alloc: &'a A,
     automaton: &F,
-    word: &Lasso<'_, A>,
+    word: &Lasso<'_, B>,
 ) -> Result<Vec<PropositionSet, &'a A>, AllocError>
     ensures { IfOk result (λ v. AreLetters (F.automaton_of automaton.now).names word.now v.items) }
 {

@@ -30,11 +30,7 @@ pub struct WordProduct<'p, F: Operand> {
 
 impl<'p, F: Operand> WordProduct<'p, F> {
     /// The product with a word of these letters. Nothing is computed and nothing allocated.
-    pub(crate) fn new(
-        automaton: &'p F,
-        letters: &'p [PropositionSet],
-        stem: usize,
-    ) -> WordProduct<'p, F>
+    pub fn new(automaton: &'p F, letters: &'p [PropositionSet], stem: usize) -> WordProduct<'p, F>
         requires few { length letters.now ≤ stated_limits.product }
         requires turns { stem < length letters.now }
         ensures automaton { result.automaton.now ≡ automaton.now }

@@ -61,7 +61,7 @@ fn negated<'a, A: Allocator, R: ByteSource>(
 }
 
 /// Reads an automaton from the source. `Source::Text` holds no automaton; it counts as a file that couldn't be opened.
-fn read_automaton<'a, A: Allocator, T: ByteSource>(
+pub fn read_automaton<'a, A: Allocator, T: ByteSource>(
     alloc: &'a A,
     source: &mut Source<T>,
 ) -> Result<Marked<'a, A>, Refusal>

@@ -34,7 +34,7 @@ pub mod text_source;
 pub mod translate;
 
 pub use automaton::{automaton_of, generalized_of};
-pub use check::check_over;
+pub use check::{check_over, read_automaton};
 pub use evaluate::evaluate_over;
 pub use files::Files;
 pub use finish::flushed;

@@ -1,43 +1,31 @@
 -- The steps of a comparison, one after the other.
-use Rattle.std.proofs.Common.{◌≡◌, ◌∙◌, ap, sym, subst, refl, ℕ, ◌*◌, ◌+◌, ◌<◌, ◌≤◌, true, false, inl, inr, ◌⊎◌, ◌↔◌, List, [], ◌∷◌, map, length, Option, arith}
+use Rattle.std.proofs.Common.{◌≡◌, ◌∙◌, ap, subst, refl, ℕ, ◌*◌, ◌+◌, ◌<◌, ◌≤◌, true, false, inl, inr, ◌⊎◌, length, Option, arith}
 use Rattle.std.specs.Prelude.{Result, Ok, Err}
 use Rattle.ltl_spec.specs.Formulas.Formula.{Reading}
 use Rattle.ltl_spec.specs.Formulas.Names.{unified}
-use Rattle.ltl_spec.specs.Semantics.Word.{Name, Lasso, next, is_true_at}
-use Rattle.ltl_spec.specs.Automata.Automaton.{Automaton, State, Accepts, AcceptedFrom}
+use Rattle.ltl_spec.specs.Semantics.Word.{Lasso}
+use Rattle.ltl_spec.specs.Automata.Automaton.{Automaton}
 use Rattle.ltl_spec.specs.Hoa.HoaReading.{MarkedAutomaton}
-use Rattle.ltl_spec.specs.Checking.Check.{MarkedAccepts, graph_of, product_size}
+use Rattle.ltl_spec.specs.Checking.Check.{product_size}
 use Rattle.ltl_spec.specs.Checking.Comparison as spec
 use Rattle.ltl_spec.specs.Tools.Limits.{stated_limits}
 use Rattle.ltl_spec.specs.Tools.Refusal as refusal
 use Rattle.ltl_spec.specs.Tools.Comparison.{Compares, FindsEntailment, MakesAutomaton, Separates}
 use Rattle.ltl_spec.proofs.Checking.EntailmentLaws as entailment
-use Rattle.ltl_spec.proofs.Semantics.LeavingEdges.{leaving, leaving_state, leaving_accepts}
 use Rattle.ltl_syntax.specs.FormulaView.{FormulaView}
-use Rattle.ltl_hoa.specs.Printed.{marked_edge, marked_of}
+use Rattle.ltl_hoa.specs.Printed.{marked_of}
 use Rattle.ltl_check.specs.declared.verdict.Outcome.{Outcome}
 use Rattle.ltl_check.specs.declared.verdict.Outcome.TheVariants.{Contained, Violated}
 use Rattle.ltl_check.specs.declared.fault.CheckFault.{CheckFault}
 use Rattle.ltl_check.specs.declared.fault.CheckFault.TheVariants as fault
 use Rattle.ltl_check.specs.VerdictView.{IsVerdictOn, level_pairs, verdict_of}
 use Rattle.ltl_check.proofs.OperandLaws.{edge_sum}
+use Rattle.ltl_check.proofs.WordLaws.{named_alike}
 use Rattle.ltl_compare.specs.declared.fault.CompareFault.{CompareFault}
 use Rattle.ltl_compare.specs.declared.fault.CompareFault.TheVariants.{OutOfMemory}
 use Rattle.ltl_compare.specs.Faults.{of_check}
 use Rattle.ltl_compare.specs.ComparisonView.{HasFewInBoth, HasFewSteps, edge_count, found_word, refusal_of}
 use Rattle.ltl_compare.proofs.AutomatonLaws.{makes_models, makes_violations}
-
--- the sets of a Büchi automaton with names are those of the edges that leave accepting states
-marked_graph : (B : Automaton) (names : List Name) → graph_of (marked_of B names) ≡ leaving B
-marked_graph B names = ap (λ ss. let A : Automaton = record { sets = 1; states = ss } in A) (over B.states)
-  where
-    over : (ss : List State) → map (λ es. let t : State = record { accepting = true; edges = es } in t) (map (λ (s : State). map (marked_edge s.accepting) s.edges) ss) ≡ map leaving_state ss
-    over [] = refl
-    over (s ∷ ss) = ap (λ ts. leaving_state s ∷ ts) (over ss)
-
-alike : (B : Automaton) (names : List Name) → B.sets ≡ 0 → (w : Lasso) → MarkedAccepts (marked_of B names) w ↔ Accepts names B w
-alike B names none w =
-    subst (λ G. AcceptedFrom 0 G (is_true_at names w) (next w) ↔ Accepts names B w) (sym (marked_graph B names)) (leaving_accepts B (is_true_at names w) (next w) none 0)
 
 -- the word of an outcome is that of the verdict
 word_same : {A : Type 0} (o : Outcome A) → entailment.word_in (verdict_of o) ≡ found_word o
@@ -92,7 +80,7 @@ module _ (R S : Reading) where
               subst (λ (M : MarkedAutomaton). length (unified M.names S.names) ≤ stated_limits.propositions) named few,
               subst (λ (M : MarkedAutomaton). product_size M S.names C ≤ stated_limits.product) named fits,
               subst (spec.IsEntailment R S) (word_same o)
-                  (entailment.verdict_entails (marked_of B R.names) R S B C refl (alike B R.names none) (makes_models R B made) (makes_violations S C denied) (verdict_of o)
+                  (entailment.verdict_entails (marked_of B R.names) R S B C refl (named_alike B R.names none) (makes_models R B made) (makes_violations S C denied) (verdict_of o)
                   (subst (λ (M : MarkedAutomaton). IsVerdictOn M S.names C (verdict_of o)) named verdict)),
             )
 

@@ -1,25 +1,17 @@
 -- An accepting run makes the automaton accept the word.
-use Rattle.std.proofs.Common.{◌≡◌, ◌≢◌, refl, subst, sym, ℕ, zero, suc, inl, true, List, [], ◌∷◌, map}
-use Rattle.std.specs.Prelude.{IsTrue, slice_index_or}
+use Rattle.std.proofs.Common.{◌≢◌, refl, subst, sym, ℕ, inl, List, [], ◌∷◌, map}
+use Rattle.std.specs.Prelude.{IsTrue}
 use Rattle.ltl_spec.specs.Collections.Sets.{Has}
 use Rattle.ltl_spec.specs.Semantics.Word.{Lasso, is_true_at, next}
 use Rattle.ltl_spec.specs.Automata.Automaton.{Edge, IsWalk, state_at}
 use Rattle.ltl_spec.specs.Hoa.HoaReading.{MarkedAutomaton}
 use Rattle.ltl_spec.specs.Checking.Check.{MarkedAccepts, graph_of}
-use Rattle.ltl_spec.proofs.Automata.ListedStates.{no_state}
 use Rattle.ltl_spec.proofs.Collections.ListLaws.{Has-at}
 use Rattle.ltl_spec.proofs.Collections.MemberLaws.{Has-map}
+use Rattle.ltl_check.proofs.WordLaws.{all_accept, at_state}
 use Rattle.ltl_pictures.specs.declared.pick.Pick.{Pick}
 use Rattle.ltl_pictures.specs.Edges.{edges_at}
 use Rattle.ltl_pictures.specs.Runs.{IsAcceptingRun, IsRun, edge_of_pick}
-use Rattle.ltl_pictures.proofs.WalkLaws.{at_state}
-
--- each state of a graph is accepting
-all_accept : (ess : List (List Edge)) (s : ℕ) → (slice_index_or (map (λ (es : List Edge). record { accepting = true; edges = es }) ess) s no_state).accepting ≡ true
-all_accept [] zero = refl
-all_accept [] (suc s) = refl
-all_accept (es ∷ ess) zero = refl
-all_accept (es ∷ ess) (suc s) = all_accept ess s
 
 module _ (A : MarkedAutomaton) (w : Lasso) where
   abbrev edges : List Pick → List Edge

@@ -4,13 +4,10 @@ pub mod CutLaws
 pub mod DrawnLaws
 pub mod EdgeLaws
 pub mod FlagLaws
-pub mod LetterLaws
 pub mod LineLaws
 pub mod NameLaws
 pub mod OrderLaws
-pub mod PickLaws
 pub mod PutLaws
 pub mod RunLaws
-pub mod StepLaws
 pub mod TimelineLaws
 pub mod WalkLaws

@@ -1,14 +1,12 @@
 pub mod DotText
 pub mod Drawn
 pub mod Edges
-pub mod Letters
 pub mod NameText
 pub mod NamedAutomaton
 pub mod Picked
 pub mod Picture
+pub mod Picks
 pub mod Pieces
-pub mod PlaceLaws
-pub mod PlaceView
 pub mod RunText
 pub mod Runs
 pub mod Timeline

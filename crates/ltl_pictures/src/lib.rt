@@ -5,9 +5,8 @@
 //! the automaton is in the title. If acceptance is state-based, accepting states have a double line; else each edge has the numbers of its acceptance sets after
 //! its label, as ` {0 1}`. Edges with the same source and target share an arrow, with `||` between their labels.
 //!
-//! `accepting_run` finds an accepting run of an automaton on an ultimately periodic word (a lasso), and `RunDrawing` draws it in red. `letters` finds for
-//! each position of the word which of the automaton's propositions are true there. The product of automaton and word (`places`) is an implicit graph. `find` of
-//! `ltl_check` searches it for a path to a cycle with an edge of every acceptance set. The edges of that lasso are those of an accepting run; if there is none,
+//! `accepting_run` finds an accepting run of an automaton on an ultimately periodic word (a lasso), and `RunDrawing` draws it in red. The product of automaton and word
+//! (`WordProduct` of `ltl_check`) is an implicit graph. `find` searches it for a path to a cycle with an edge of every acceptance set. The edges of that lasso are those of an accepting run; if there is none,
 //! the automaton doesn't accept the word.
 //!
 //! A timeline is a table of characters that shows where propositions and subformulas are true on a word. In the field's words: the truth of all subformulas at
@@ -46,13 +45,11 @@ pub mod fault;
 mod flags;
 mod label;
 pub mod laws;
-mod letters;
 mod lines;
 mod name;
 mod order;
 pub mod pick;
 mod picture;
-pub mod places;
 mod propositions;
 pub mod run;
 pub mod run_drawing;

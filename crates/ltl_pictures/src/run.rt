@@ -1,33 +1,32 @@
 //! Search for an accepting run of an automaton on a word.
 
-ghost use Rattle.std.specs.Prelude.{◌≡◌, ℕ, ◌+◌, ◌*◌, ◌<◌, ◌≤◌, ◌++◌, true, false, List, map, length, option_map, Ok, None, IfOk, IfErr, IfSome, OnOk, IsErrOf};
+ghost use Rattle.std.specs.Prelude.{◌≡◌, ◌+◌, ◌*◌, ◌<◌, ◌≤◌, ◌++◌, true, false, List, length, map, option_map, Ok, None, IfOk, IfErr, IfSome, OnOk, IsErrOf};
 ghost use Rattle.ltl_spec.specs.Tools.Limits.{stated_limits};
 ghost use Rattle.ltl_check.specs.declared.walk.Taken.{Taken};
-ghost use Rattle.ltl_pictures.specs.PlaceView.{IsFoundRun, IsFullRun, pick_of, picks_of, place_count};
+ghost use Rattle.ltl_pictures.specs.Picks.{IsFoundRun, IsFullRun, pick_of, picks_of};
 ghost use Rattle.ltl_pictures.specs.Runs.{IsRunOf, run_size};
 
 use crate::fault::RunFault;
-use crate::letters::letters;
 use crate::pick::Pick;
-use crate::places::{Looks, Places};
-use ltl_check::{PRODUCT_LIMIT, Taken, Walk, find};
+use ltl_check::{PRODUCT_LIMIT, Steps, Taken, Walk, WordProduct, find, letters};
 use ltl_hoa::Marked;
+use ltl_sets::PropositionSet;
 use ltl_word::Lasso;
 use std::alloc::{AllocError, Allocator};
 
-/// Appends the edges of these steps. A word with `positions` positions determines the state of a product number.
+/// Appends the edges of these steps. An automaton with `states` states determines the state of a product number.
 fn push_picks<A: Allocator>(
     steps: &[Taken],
-    positions: usize,
+    states: usize,
     picks: &mut Vec<Pick, &A>,
 ) -> Result<(), AllocError>
-    requires { 0 < positions }
-    ensures { OnOk result (picks.new.items ≡ picks.old.items ++ map (pick_of positions) steps.now) }
+    requires { 0 < states }
+    ensures { OnOk result (picks.new.items ≡ picks.old.items ++ map (pick_of states) steps.now) }
 {
     for k in 0..steps.len() {
         let step = steps[k];
         picks.push(Pick {
-            state: step.state / positions,
+            state: step.state % states,
             place: step.pick,
         })?;
     }
@@ -38,34 +37,40 @@ fn push_picks<A: Allocator>(
 fn picks<'a, A: Allocator>(
     alloc: &'a A,
     walk: &Walk<'_, A>,
-    positions: usize,
+    states: usize,
 ) -> Result<Vec<Pick, &'a A>, AllocError>
-    requires { 0 < positions }
-    ensures { IfOk result (λ v. v.items ≡ picks_of positions walk.now.stem.items walk.now.cycle.items) }
+    requires { 0 < states }
+    ensures { IfOk result (λ v. v.items ≡ picks_of states walk.now.stem.items walk.now.cycle.items) }
 {
     let mut picks = Vec::new(alloc);
-    push_picks(walk.stem.as_slice(), positions, &mut picks)?;
-    push_picks(walk.cycle.as_slice(), positions, &mut picks)?;
+    push_picks(walk.stem.as_slice(), states, &mut picks)?;
+    push_picks(walk.cycle.as_slice(), states, &mut picks)?;
     Ok(picks)
 }
 
-/// The edges of an accepting run, if there is one.
+/// The edges of an accepting run on the word of these letters, of which the first `stem` are its stem, if there is one.
 fn searched<'a, A: Allocator>(
     alloc: &'a A,
-    places: &Places<'_, '_, A>,
+    automaton: &Marked<'_, A>,
+    letters: &[PropositionSet],
+    stem: usize,
 ) -> Result<Option<Vec<Pick, &'a A>>, RunFault>
-    requires { place_count places.now.automaton.now places.now.letters.now places.now.stem * (places.now.automaton.now.sets + 1) ≤ stated_limits.product }
-    ensures found { IfOk result (λ r. IfSome r (λ v. IsFoundRun places.now.automaton.now places.now.letters.now places.now.stem v.items)) }
-    ensures none { result ≡ Ok None → (prefix cycle : List Taken) → IsFullRun places.now.automaton.now places.now.letters.now places.now.stem prefix cycle → ⊥ }
+    requires few { length letters.now ≤ stated_limits.product }
+    requires turns { stem < length letters.now }
+    requires fits { length letters.now * automaton.now.states * (automaton.now.sets + 1) ≤ stated_limits.product }
+    ensures found { IfOk result (λ r. IfSome r (λ v. IsFoundRun automaton.now letters.now stem v.items)) }
+    ensures none { result ≡ Ok None → (prefix cycle : List Taken) → IsFullRun automaton.now letters.now stem prefix cycle → ⊥ }
     ensures memory { IfErr result (λ e. e ≡ RunFault.OutOfMemory) }
 {
-    let mut looks = Looks::new();
-    let found = match find(alloc, places, &mut looks) {
+    automaton.invariant();
+    let product = WordProduct::new(automaton, letters, stem);
+    let mut looks = Steps::new();
+    let found = match find(alloc, &product, &mut looks) {
         Ok(found) => found,
         Err(_) => return Err(RunFault::OutOfMemory),
     };
     match found {
-        Some(walk) => Ok(Some(picks(alloc, &walk, places.letters.len())?)),
+        Some(walk) => Ok(Some(picks(alloc, &walk, automaton.len())?)),
         None => Ok(None),
     }
 }
@@ -101,7 +106,6 @@ pub fn accepting_run<'a, A: Allocator, B: Allocator>(
     if is_too_large(automaton, word.len()) {
         return Err(RunFault::TooLarge);
     }
-    let letters = letters(alloc, word, automaton.names())?;
-    let places = Places::new(automaton, letters.as_slice(), word.stem_len());
-    searched(alloc, &places)
+    let letters = letters(alloc, automaton, word)?;
+    searched(alloc, automaton, letters.as_slice(), word.stem_len())
 }

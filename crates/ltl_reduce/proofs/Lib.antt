@@ -2,3 +2,5 @@ pub mod SimulationLaws
 pub mod CheckLaws
 pub mod BuildLaws
 pub mod ReductionLaws
+pub mod ImportLaws
+pub mod MarkedLaws

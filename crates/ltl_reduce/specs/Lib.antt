@@ -4,3 +4,5 @@ pub mod FreesView
 pub mod RelationView
 pub mod Matching
 pub mod Build
+pub mod Importing
+pub mod Reduced

@@ -3,7 +3,8 @@
 //! In the field's words: removal of states that are unreachable or from which no accepting run starts, marks only in accepting strongly connected components, and
 //! the quotient by direct simulation, without the edges that another one dominates ("little brothers").
 //!
-//! What flows: `reduce` takes a `Gba` and returns a smaller one. Each step makes a new automaton (`build`), and checks that it simulates the old one and is
+//! What flows: `reduce_marked` takes a `Marked`, as the reader of HOA makes it, and brings it into the form of a `Gba` whose state 0 is the start (`importing`).
+//! `reduce` takes a `Gba` and returns a smaller one. Each step makes a new automaton (`build`), and checks that it simulates the old one and is
 //! simulated by it (`checking`). A step whose check fails, or for which the budget of comparisons doesn't last, is left out. So the proof rests on the check
 //! alone: nothing is proved of the searches for components (`components`), for the largest simulation (`simulation`) and for the states and edges to keep
 //! (`trimming`, `folding`), except that they are safe and return.
@@ -14,6 +15,8 @@ mod checking;
 mod components;
 mod folding;
 mod frees;
+mod importing;
+pub mod marked;
 mod matching;
 mod places;
 pub mod reducing;
@@ -21,4 +24,5 @@ mod relation;
 mod simulation;
 mod trimming;
 
+pub use marked::reduce_marked;
 pub use reducing::{SIMULATION_LIMIT, reduce};

@@ -1,10 +1,13 @@
 -- What is read of the text of an automaton is that automaton.
 use Rattle.std.proofs.Common.{◌≡◌, ap, sym, refl, subst, ℕ, ◌<◌, ◌≤◌, ◌↔◌, Bool, true, false, List, [], ◌∷◌, length, map, All}
-use Rattle.std.specs.Prelude.{slice_index_or}
+use Rattle.std.specs.Prelude.{slice_index_or, IsTrue}
+use Rattle.std.specs.List.{list_all}
 use Rattle.ltl_spec.specs.Collections.Sets.{Has}
-use Rattle.ltl_spec.specs.Semantics.Word.{next, is_true_at}
+use Rattle.ltl_spec.specs.Semantics.Word.{Name, next, is_true_at}
 use Rattle.ltl_spec.specs.Semantics.Language.{AcceptsModels}
+use Rattle.ltl_spec.specs.Collections.Lists.{HasNoRepeats}
 use Rattle.ltl_spec.specs.Formulas.Formula.{Reading}
+use Rattle.ltl_spec.specs.Formulas.Names.{is_proposition}
 use Rattle.ltl_spec.specs.NormalForms.Normal.{Normal}
 use Rattle.ltl_spec.specs.NormalForms.NormalForm.{core}
 use Rattle.ltl_spec.specs.Transitions.Cubes.{is_contradictory}
@@ -21,6 +24,7 @@ use Rattle.ltl_spec.proofs.Automata.ListedStates.{any_state}
 use Rattle.ltl_spec.proofs.Checking.BelowLaws.{named_below}
 use Rattle.ltl_spec.proofs.Checking.GeneralizedRead.{marked_accepts}
 use Rattle.ltl_spec.proofs.Collections.ListLaws.{Has-at, All-at_has, All-from_has}
+use Rattle.ltl_spec.proofs.Hoa.GeneralizedBack.{stated_usual}
 use Rattle.ltl_spec.proofs.Hoa.HoaLaws.{one_automaton}
 use Rattle.ltl_spec.proofs.Semantics.LeavingEdges.{leaving, leaving_state, leaving_accepts}
 use Rattle.ltl_syntax.specs.FormulaView.{FormulaView, IsFormula, reading_of}
@@ -30,7 +34,9 @@ use Rattle.ltl_models.specs.Named.{HasNamesOf}
 use Rattle.ltl_hoa.specs.declared.marked.TheConstants.{MOST_SETS}
 use Rattle.ltl_hoa.specs.Printed.{IsPrintedEdge, IsPrinted, marked_edge, marked_of}
 use Rattle.ltl_hoa.proofs.PrintedLaws.{printed_reads, answered_back, generalized_printed, generalized_answered}
-use Rattle.ltl_text.specs.ReadBack.{ReadsAlike, ReadsBack, ReadsModels}
+use Rattle.ltl_text.specs.NamedText.{named_text}
+use Rattle.ltl_text.specs.ReadBack.{ReadsAlike, ReadsAtAnyLength, ReadsBack, ReadsModels}
+use Rattle.ltl_text.proofs.NamedLaws.{named_reads, some_reading}
 
 -- what the edges of all states have, each edge has
 each : (P : Edge → Type 0) (ss : List State) → All (λ s. All P s.edges) ss → (s : State) → Has ss s → (e : Edge) → Has s.edges e → P e
@@ -89,30 +95,35 @@ module _ (B : Automaton) (f : FormulaView) (ba : IsBa B) (formula : IsFormula f.
 
 -- ---- generalized automata
 
-module _ (A : Automaton) (f : FormulaView) (gen : gba.IsAcceptingGba A) (formula : IsFormula f.nodes f.names) (named : HasNamesBelow (length f.names) A) (few : A.sets ≤ MOST_SETS) where
-  gen_printed : generalized.IsPrinted stated_limits MOST_SETS A (reading_of f)
-  gen_printed = record {
+-- an automaton with names that are different propositions, not too many
+module _ (A : Automaton) (R : Reading) (gen : gba.IsAcceptingGba A) (named : HasNamesBelow (length R.names) A) (few : A.sets ≤ MOST_SETS) where
+  pub generalized_fine : length R.names ≤ stated_limits.propositions → IsTrue (list_all is_proposition R.names) → HasNoRepeats R.names → generalized.IsPrinted stated_limits MOST_SETS A R
+  generalized_fine few_names propositions differ = record {
     some = gen.inside.some;
     few_states = gen.inside.few_states;
     few_edges = gen.inside.few_edges;
     few_sets = few;
-    few_names = formula.few;
-    propositions = formula.propositions;
-    differ = formula.distinct;
+    few_names = few_names;
+    propositions = propositions;
+    differ = differ;
     within = λ k d l. let s = slice_index_or A.states k d in
         let h = Has-at A.states k d l in
-        All-from_has (generalized.IsPrintedEdge (length f.names) (length A.states) A.sets) s.edges (λ e m.
+        All-from_has (generalized.IsPrintedEdge (length R.names) (length A.states) A.sets) s.edges (λ e m.
         let n = subst (λ (r : State). Has r.edges e) (any_state A.states k d l) m in
         let edge = each (gba.IsEdgeWithin (length A.states) A.sets) A.states gen.inside.within s h e m in
         record {
           rising = edge.rising.cube;
           consistent = edge.consistent;
-          named = All-from_has (λ j. j.proposition < length f.names) e.cube (named k e n);
+          named = All-from_has (λ j. j.proposition < length R.names) e.cube (named k e n);
           target = edge.target;
           marks = edge.rising.marks;
           inside = edge.marks;
         });
   }
+
+module _ (A : Automaton) (f : FormulaView) (gen : gba.IsAcceptingGba A) (formula : IsFormula f.nodes f.names) (named : HasNamesBelow (length f.names) A) (few : A.sets ≤ MOST_SETS) where
+  gen_printed : generalized.IsPrinted stated_limits MOST_SETS A (reading_of f)
+  gen_printed = generalized_fine A (reading_of f) gen named few formula.few formula.propositions formula.distinct
 
   pub generalized_back : ReadsBack (generalized_text A (reading_of f)) (generalized.marked_of A f.names)
   generalized_back l = (generalized_printed A (reading_of f) gen_printed l, λ answer a. generalized_answered A (reading_of f) answer gen_printed l a)
@@ -127,6 +138,12 @@ module _ (A : Automaton) (f : FormulaView) (gen : gba.IsAcceptingGba A) (formula
 
   pub generalized_models : AcceptsModels A (reading_of f).formula → ReadsModels (generalized_text A (reading_of f)) (reading_of f)
   generalized_models = models_alike (generalized_text A (reading_of f)) (reading_of f) A generalized_alike
+
+-- the text with names alone
+pub named_back : (A : Automaton) (names : List Name) → gba.IsAcceptingGba A → HasNamesBelow (length names) A → A.sets ≤ MOST_SETS → length names ≤ stated_limits.propositions → IsTrue (list_all is_proposition names)
+    → HasNoRepeats names → ReadsAtAnyLength (named_text A names) (generalized.marked_of A names)
+named_back A names gen named few few_names propositions differ =
+    named_reads A names stated_limits MOST_SETS stated_usual (generalized_fine A (some_reading names) gen named few few_names propositions differ)
 
 -- ---- names
 

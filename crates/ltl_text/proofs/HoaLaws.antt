@@ -16,7 +16,8 @@ use Rattle.ltl_spec.specs.Automata.GeneralizedText.{acceptance_name, generalized
 use Rattle.ltl_spec.specs.Automata.ClaimText.{line}
 use Rattle.ltl_sets.specs.declared.literal.Literal as made
 use Rattle.ltl_sets.specs.Literals.{literal_of, cube_of}
-use Rattle.ltl_text.specs.HoaPieces.{condition_text, head_text, lines_text, marked_states_text, quoted_names, set_text, state_end, state_text, states_text}
+use Rattle.ltl_text.specs.HoaPieces.{condition_text, head_text, lines_text, marked_states_text, quoted_names, set_text, state_end, state_text, states_text, unnamed_head}
+use Rattle.ltl_text.specs.NamedText.{named_text}
 use Rattle.ltl_text.proofs.BlockLaws.{range_step}
 use Rattle.ltl_text.proofs.TextLaws.{amid, joined_led, led, onward}
 
@@ -146,6 +147,13 @@ pub names_go_on : (names : List Name) (k : ℕ) → k < length names
 names_go_on names k lt =
     ap quoted_names (drop_more names k [] lt) ∙ ap (λ t. codes " \"" ++ t) (append_assoc (slice_index_or names k []) (codes "\"") (quoted_names (drop (k + 1) names)))
 
+-- the same where a view of something is the name
+pub viewed_go_on : {X : Type 0} (view : X → Name) (xs : List X) (k : ℕ) (d : X) → k < length xs
+    → quoted_names (map view (drop k xs)) ≡ codes " \"" ++ (view (slice_index_or xs k d) ++ (codes "\"" ++ quoted_names (map view (drop (k + 1) xs))))
+viewed_go_on view xs k d lt =
+    ap (λ ys. quoted_names (map view ys)) (drop_more xs k d lt)
+    ∙ ap (λ t. codes " \"" ++ t) (append_assoc (view (slice_index_or xs k d)) (codes "\"") (quoted_names (map view (drop (k + 1) xs))))
+
 -- ---- the whole text
 text_pieces : (R : Reading) (count : ℕ) (name condition kind : List ℕ) (lines : ℕ → List ℕ)
     → text_with R count name condition kind lines
@@ -169,3 +177,15 @@ module _ (A : Automaton) (R : Reading) (n : ℕ) (same : n ≡ length A.states) 
   generalized_pieces sets e =
       text_pieces R (length A.states) (acceptance_name A.sets) (acceptance.acceptance_text A.sets) (codes "trans-acc") (marked_state_lines A)
       ∙ (λ i. head_text (sym same i) R ++ (condition_text (sym e i) ++ (marked_states_text A ++ line (codes "--END--"))))
+
+module _ (A : Automaton) (names : List Name) (n : ℕ) (same : n ≡ length A.states) where
+  pub named_pieces : (sets : ℕ) → sets ≡ A.sets → named_text A names ≡ unnamed_head n names ++ (condition_text sets ++ (marked_states_text A ++ line (codes "--END--")))
+  named_pieces sets e =
+      regroup (line (codes "HOA: v1")) (10 ∷ []) (codes "States: ") (decimal (length A.states)) (line (codes "Start: 0")) (codes "AP: ") (decimal (length names)) (quoted_names names) (codes "acc-name: ")
+      (acceptance_name A.sets) (codes "Acceptance: ") (acceptance.acceptance_text A.sets) (codes "properties: trans-labels explicit-labels ") (codes "trans-acc") (line (codes "--BODY--")) (marked_states_text A) (line (codes "--END--"))
+      ∙ (λ i. unnamed_head (sym same i) names ++ (condition_text (sym e i) ++ (marked_states_text A ++ line (codes "--END--"))))
+    where
+      regroup : (h n s d t a e f x u y v p k b r z : List ℕ)
+          → ((((((((h ++ ((s ++ d) ++ n)) ++ t) ++ (((a ++ e) ++ f) ++ n)) ++ ((x ++ u) ++ n)) ++ ((y ++ v) ++ n)) ++ ((p ++ k) ++ n)) ++ b) ++ r) ++ z
+          ≡ ((h ++ s) ++ (d ++ ((n ++ (t ++ a)) ++ (e ++ f)))) ++ (((n ++ x) ++ (u ++ ((n ++ y) ++ (v ++ ((n ++ p) ++ (k ++ (n ++ b))))))) ++ (r ++ z))
+      regroup h n s d t a e f x u y v p k b r z = simp append_assoc

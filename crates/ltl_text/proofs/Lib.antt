@@ -4,6 +4,8 @@ pub mod EdgeLaws
 pub mod HoaLaws
 pub mod LabelLaws
 pub mod NameLaws
+pub mod NamedLaws
 pub mod OptionLaws
 pub mod PreparedLaws
 pub mod TextLaws
+pub mod UnnamedLaws

@@ -26,6 +26,10 @@ quoted_names names = flat_map (λ n. 32 ∷ quoted n) names
 abbrev pub head_text : ℕ → Reading → List ℕ
 head_text count R = codes "HOA: v1\nname: \"" ++ (canonical_text R ++ (codes "\"\nStates: " ++ (decimal count ++ (codes "\nStart: 0\nAP: " ++ (decimal (length R.names) ++ quoted_names R.names)))))
 
+-- the same for a text without a name
+abbrev pub unnamed_head : ℕ → List Name → List ℕ
+unnamed_head count names = codes "HOA: v1\nStates: " ++ (decimal count ++ (codes "\nStart: 0\nAP: " ++ (decimal (length names) ++ quoted_names names)))
+
 -- from there to the states, with this acceptance and this word for where the sets stand
 abbrev pub lines_text : List ℕ → List ℕ → List ℕ → List ℕ
 lines_text name acceptance kind = codes "\nacc-name: " ++ (name ++ (codes "\nAcceptance: " ++ (acceptance ++ (codes "\nproperties: trans-labels explicit-labels " ++ (kind ++ codes "\n--BODY--\n")))))

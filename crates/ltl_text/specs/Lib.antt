@@ -1,5 +1,6 @@
 pub mod Blocks
 pub mod HoaPieces
+pub mod NamedText
 pub mod Names
 pub mod Options
 pub mod Prepared

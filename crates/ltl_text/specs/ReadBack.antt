@@ -15,6 +15,10 @@ use Rattle.ltl_hoa.specs.Reading.{Answers}
 abbrev pub Reads : List ℕ → MarkedAutomaton → Type 0
 Reads text M = HoaReadsWithin stated_limits stated_form text M
 
+-- so it does within all limits but that on its length
+abbrev pub ReadsAtAnyLength : List ℕ → MarkedAutomaton → Type 0
+ReadsAtAnyLength text M = HoaReadsWithin (record stated_limits { hoa_bytes = length text }) stated_form text M
+
 -- a text within the limit reads as the automaton, and is answered so unless a read failed or memory ran out
 abbrev pub ReadsBack : List ℕ → MarkedAutomaton → Type 0
 ReadsBack text M = length text ≤ stated_limits.hoa_bytes → Reads text M × ((answer : Result MarkedAutomaton HoaFault) → Answers text answer → IsAnswered M answer)

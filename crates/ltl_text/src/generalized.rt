@@ -17,7 +17,10 @@ use std::alloc::Allocator;
 use std::io::Write;
 
 /// Writes all states.
-fn put_states<A: Allocator, S: ByteSink>(automaton: &Gen<'_, A>, output: &mut Printer<'_, S>)
+pub(crate) fn put_states<A: Allocator, S: ByteSink>(
+    automaton: &Gen<'_, A>,
+    output: &mut Printer<'_, S>,
+)
     ensures { Prints S.state output.old output.new (marked_states_text automaton.now) }
 {
     for k in 0..automaton.len() {
@@ -63,7 +66,7 @@ fn put_acceptance<S: ByteSink>(sets: usize, output: &mut Printer<'_, S>)
 }
 
 /// Writes the end of the line `AP:`, and the lines from `acc-name:` to `--BODY--`.
-fn put_condition<S: ByteSink>(sets: usize, output: &mut Printer<'_, S>)
+pub(crate) fn put_condition<S: ByteSink>(sets: usize, output: &mut Printer<'_, S>)
     ensures { Prints S.state output.old output.new (condition_text sets) }
 {
     output.put(b"\nacc-name: ");

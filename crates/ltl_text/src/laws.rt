@@ -1,18 +1,23 @@
 //! Laws of automata and of their printed texts, for callers' proofs. The functions do nothing; their contracts are the laws.
 
-ghost use Rattle.std.specs.Prelude.{◌≡◌, ◌≤◌, Bool, length};
+ghost use Rattle.std.specs.Prelude.{◌≡◌, ◌≤◌, Bool, IsTrue, length, map, string_bytes};
+ghost use Rattle.std.specs.List.{list_all};
 ghost use Rattle.ltl_spec.specs.Automata.Automaton.{Automaton};
 ghost use Rattle.ltl_spec.specs.Automata.GeneralizedText.{generalized_text};
 ghost use Rattle.ltl_spec.specs.Automata.HoaText.{hoa_text};
 ghost use Rattle.ltl_spec.specs.Checking.Bounds.{HasNamesBelow};
+ghost use Rattle.ltl_spec.specs.Collections.Lists.{HasNoRepeats};
+ghost use Rattle.ltl_spec.specs.Formulas.Names.{is_proposition};
 ghost use Rattle.ltl_spec.specs.Hoa.HoaPrinted as generalized;
 ghost use Rattle.ltl_spec.specs.NormalForms.Normal.{Normal};
 ghost use Rattle.ltl_spec.specs.NormalForms.NormalForm.{core};
 ghost use Rattle.ltl_spec.specs.Semantics.Language.{AcceptsModels};
+ghost use Rattle.ltl_spec.specs.Tools.Limits.{stated_limits};
 ghost use Rattle.ltl_syntax.specs.FormulaView.{reading_of};
 ghost use Rattle.ltl_hoa.specs.Printed.{marked_of};
 ghost use Rattle.ltl_models.specs.Named.{HasNamesOf};
-ghost use Rattle.ltl_text.specs.ReadBack.{ReadsAlike, ReadsBack, ReadsModels};
+ghost use Rattle.ltl_text.specs.NamedText.{named_text};
+ghost use Rattle.ltl_text.specs.ReadBack.{ReadsAlike, ReadsAtAnyLength, ReadsBack, ReadsModels};
 
 pub use ltl_hoa::laws::{
     printed_automata_are_read_back, printed_generalized_automata_are_read_back,
@@ -55,6 +60,23 @@ pub fn generalized_text_is_read_back<A: Allocator, B: Allocator>(
 {
     automaton.invariant();
     formula.invariant();
+}
+
+/// The text that `put_named` writes is read as the same automaton with these names, if it isn't too long, and if the names are different propositions and not too
+/// many. As long as it may be, no other limit is passed.
+pub fn named_text_is_read_back<A: Allocator, B: Allocator>(
+    automaton: &Gen<'_, A>,
+    names: &[String<&B>],
+)
+    requires named { HasNamesBelow (length (map string_bytes names.now)) automaton.now }
+    requires few { automaton.now.sets ≤ MOST_SETS }
+    requires few_names { length (map string_bytes names.now) ≤ stated_limits.propositions }
+    requires propositions { IsTrue (list_all is_proposition (map string_bytes names.now)) }
+    requires differ { HasNoRepeats (map string_bytes names.now) }
+    ensures { ReadsAtAnyLength (named_text automaton.now (map string_bytes names.now)) (generalized.marked_of automaton.now (map string_bytes names.now)) }
+{
+    automaton.invariant();
+    let _ = names;
 }
 
 /// In the automaton of a formula or of its negation, every proposition has a name in the formula. The printers and the laws above require this.

@@ -1,8 +1,8 @@
 //! Printers of automata: never claims of Spin, and the Hanoi Omega-Automata format.
 //!
 //! In the field's words: a Büchi automaton is printed as a never claim (`never_to`), or in version 1 of the Hanoi Omega-Automata format (HOA) with
-//! accepting states (`hoa_to`). A generalized automaton is printed in HOA with acceptance sets on edges (`gen_to`). The reader of HOA, `hoa_read` of
-//! `ltl_hoa`, is exported here too, so that users of texts need this crate alone.
+//! accepting states (`hoa_to`). A generalized automaton is printed in HOA with acceptance sets on edges, with its formula (`gen_to`) or with names alone
+//! (`put_named`). The reader of HOA, `hoa_read` of `ltl_hoa`, is exported here too, so that users of texts need this crate alone.
 //!
 //! What flows: a printer takes an automaton and its formula, whose text and names go into the output. It looks up the labels of each edge as it prints
 //! the edge (`Edges` of `ltl_models`). The printer of claims prepares the texts of all literals once, and copies them (`LiteralTexts`). Each printer
@@ -24,6 +24,7 @@ mod hoa;
 mod label;
 pub mod laws;
 mod literal_texts;
+mod named;
 mod options;
 mod states;
 
@@ -32,4 +33,5 @@ pub use digits::Digits;
 pub use generalized::{gen_to, put_generalized};
 pub use hoa::{hoa_to, put_hoa};
 pub use ltl_hoa::{HoaFault, HoaFaultKind, Marked, MarkedEdge, hoa_read};
+pub use named::put_named;
 pub use states::{put_marks, put_number};

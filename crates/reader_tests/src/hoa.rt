@@ -1,46 +1,10 @@
 //! Tests of reading automata over readers of which no contract speaks: those that give a text in pieces, fail, or count what is taken; and of the memory that
 //! this takes. What a text reads as, and which fault it has, is proved. `tests/ltlcheck.json` and `tests/ltldraw.json` have examples.
 
+use crate::readers::{Pieces, Spaces};
 use ltl_hoa::{HoaFault, HoaFaultKind, Marked, hoa_read};
 use refusing::Refusing;
 use std::alloc::Allocator;
-use std::io::{self, Read};
-
-/// A reader that gives a text in pieces of one size, and fails after `left` calls.
-#[derive(Drop)]
-struct Pieces<'t> {
-    rest: &'t [u8],
-    size: usize,
-    left: usize,
-}
-
-impl Read for Pieces<'_> {
-    fn read(&mut self, buf: &mut [u8]) -> io::Result<usize> {
-        if self.left == 0 {
-            return Err(io::Error::from(io::ErrorKind::Other));
-        }
-        self.left -= 1;
-        let n = self.size.min(buf.len()).min(self.rest.len());
-        buf[..n].copy_from_slice(&self.rest[..n]);
-        self.rest = &self.rest[n..];
-        Ok(n)
-    }
-}
-
-/// A reader that gives a number of spaces.
-#[derive(Drop)]
-struct Spaces {
-    left: usize,
-}
-
-impl Read for Spaces {
-    fn read(&mut self, buf: &mut [u8]) -> io::Result<usize> {
-        let n = self.left.min(buf.len());
-        buf[..n].fill(b' ');
-        self.left -= n;
-        Ok(n)
-    }
-}
 
 /// The number of texts without a fault.
 const AUTOMATA: usize = 5;
@@ -142,13 +106,19 @@ fn each_read_fails(rt: HostRuntime) {
 #[test]
 fn spaces_to_the_limit(rt: HostRuntime) {
     let alloc = rt.alloc();
-    let mut within = Spaces { left: 16_777_216 };
+    let mut within = Spaces {
+        text: b"",
+        left: 16_777_216,
+    };
     let read = hoa_read(&alloc, &mut within);
     assert_eq!(rt;
         read.err(),
         Some(HoaFault::AtLine(1, HoaFaultKind::NotHoaVersion1))
     );
-    let mut past = Spaces { left: 16_777_218 };
+    let mut past = Spaces {
+        text: b"",
+        left: 16_777_218,
+    };
     let read = hoa_read(&alloc, &mut past);
     assert_eq!(rt;
         read.err(),
@@ -161,7 +131,13 @@ fn spaces_to_the_limit(rt: HostRuntime) {
 #[test]
 fn spaces_without_memory(rt: HostRuntime) {
     let alloc = Refusing::new(rt.alloc(), 1);
-    let read = hoa_read(&alloc, &mut Spaces { left: 10_000_000 });
+    let read = hoa_read(
+        &alloc,
+        &mut Spaces {
+            text: b"",
+            left: 10_000_000,
+        },
+    );
     assert_eq!(rt;
         read.err(),
         Some(HoaFault::AtLine(1, HoaFaultKind::NotHoaVersion1))

@@ -1,11 +1,13 @@
-//! Tests of readers: automata, their names, also in drawings, and the lines of their faults, words with their least forms and texts, timelines, and the
-//! number of calls on standard readers and writers; and of formulas made of two formulas.
+//! Tests of readers: automata, their names, also in drawings, and the lines of their faults, claims, words with their least forms and texts, timelines, and
+//! the number of calls on standard readers and writers; and of formulas made of two formulas.
 //!
 //! `ltl_tests` says why tests are crates of their own, divided by what they call, and where the others are.
 //!
 //! `rt try --test` in this folder runs them without a proof, `rt test` with one.
 #![tactic(auto)]
 
+#[cfg(test)]
+mod claims;
 #[cfg(test)]
 mod combining;
 #[cfg(test)]
@@ -14,6 +16,8 @@ mod drawn_names;
 mod hoa;
 #[cfg(test)]
 mod names;
+#[cfg(test)]
+mod readers;
 #[cfg(test)]
 mod streams;
 #[cfg(test)]

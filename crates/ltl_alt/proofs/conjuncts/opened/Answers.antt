@@ -1,13 +1,11 @@
-use Rattle.std.proofs.Common.{subst}
-use Rattle.ltl_alt.specs.ConjunctView.{IsConjunct}
-use Rattle.ltl_alt.proofs.ConjunctLaws.{and_opened, release_opened}
+use Rattle.std.specs.Prelude.{slice_index_or}
+use Rattle.ltl_alt.specs.declared.program.Step.TheVariants as step
+use Rattle.ltl_alt.proofs.ConjunctLaws.{both_opened}
+use Rattle.ltl_alt.proofs.NeedsLaws.{same_default}
 use Rattle.ltl_alt.proofs.conjuncts.opened.Goals as goal
 
-pub returns-in-And-clause-conjuncts : goal.returns-in-And-clause-conjuncts
-returns-in-And-clause-conjuncts g c =
-    and_opened c.args.table.now c.args.conjunct c.in-Whole.row c.in-And.left c.in-And.right c.invariant.ensures c.in-Whole.is (subst (IsConjunct c.args.table.now) c.in-Whole.is c.requires) c.in-And.ensures.found c.in-And.ensures.operands
-
-pub returns-then-is_release_open-clause-conjuncts : goal.returns-then-is_release_open-clause-conjuncts
-returns-then-is_release_open-clause-conjuncts g c =
-    release_opened c.args.table.now c.args.conjunct c.in-Whole.row c.in-Release.left c.in-Release.right c.invariant.ensures c.in-Whole.is (subst (IsConjunct c.args.table.now) c.in-Whole.is c.requires) c.in-Release.ensures.found
-    c.in-Release.ensures.operands
+pub returns-then-is_open-clause-conjuncts : goal.returns-then-is_open-clause-conjuncts
+returns-then-is_open-clause-conjuncts c =
+    let ss = c.args.steps.now in
+    let k = c.args.conjunct in
+    both_opened ss k c.in-Both.left c.in-Both.right (slice_index_or ss k step.Always) c.requires.ordered c.requires.within (same_default ss k step.Always _ c.requires.within) c.in-Both.is

@@ -17,15 +17,15 @@ pub returns-clause-most : goal.returns-clause-most
 returns-clause-most g c =
     let counted = rw c.new-product.ensures.first at c.new-product.result.inside.counted in
     let m = rw (c.new-product.ensures.first, c.new-product.ensures.second) at c.search_product.ensures.most in
-    let v = rw (c.new-product.ensures.first, c.new-product.ensures.second) at c.in_ok-outcome.ensures.verdict in (
+    let v = rw (c.new-product.ensures.first, c.new-product.ensures.second) at c.in_ok-verdict.ensures.brief in (
       subst (λ n. n ≤ 2 * level_pairs (g.F.Operand.automaton_of c.args.automaton.now) c.args.ba.now) (sym c.looked.ensures)
           (steps_most (g.F.Operand.automaton_of c.args.automaton.now) c.args.ba.now counted c.new-steps.result.count c.search_product.new.steps.count m.0 c.new-steps.ensures m.1 m.2),
+      v.0,
       v.1,
-      v.2,
     )
 
 pub returns-clause-least : goal.returns-clause-least
 returns-clause-least g c e chosen reached =
-    let l = (rw (c.new-product.ensures.first, c.new-product.ensures.second) at c.in_ok-outcome.ensures.least) e in
+    let l = (rw (c.new-product.ensures.first, c.new-product.ensures.second) at c.in_ok-verdict.ensures.least) e in
     let s = steps_least (chosen_pairs (g.F.Operand.automaton_of c.args.automaton.now) c.args.ba.now chosen (product_size (g.F.Operand.automaton_of c.args.automaton.now) c.args.formula.now.names c.args.ba.now)) c.new-steps.result.count c.search_product.new.steps.count l.0 c.new-steps.ensures l.1 (l.2 chosen reached) in
     rw c.looked.ensures s

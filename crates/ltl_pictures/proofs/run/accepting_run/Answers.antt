@@ -1,13 +1,13 @@
-use Rattle.std.proofs.Common.{arith}
-use Rattle.ltl_pictures.specs.PlaceView.{IsInside}
-use Rattle.ltl_pictures.proofs.WalkLaws.{run_is}
+use Rattle.std.proofs.Common.{ap, length, sym, ◌∙◌, ◌+◌, arith}
+use Rattle.ltl_check.specs.WordView.{IsInside}
+use Rattle.ltl_pictures.proofs.WalkLaws.{run_is, swapped}
 use Rattle.ltl_pictures.proofs.run.accepting_run.Goals as goal
 
 pub returns-clause-run : goal.returns-clause-run
 returns-clause-run g c =
-    let found = rw (c.new-places.ensures.automaton, c.new-places.ensures.letters, c.new-places.ensures.stem, c.as_slice.ensures.value, c.stem_len.ensures.stem) at c.searched.ensures.found in
-    let none = rw (c.new-places.ensures.automaton, c.new-places.ensures.letters, c.new-places.ensures.stem, c.as_slice.ensures.value, c.stem_len.ensures.stem) at c.searched.ensures.none in
-    let are = rw c.names.ensures at c.in_ok-letters.ensures in
+    let found = rw (c.as_slice.ensures.value, c.stem_len.ensures.stem) at c.searched.ensures.found in
+    let none = rw (c.as_slice.ensures.value, c.stem_len.ensures.stem) at c.searched.ensures.none in
+    let are = c.in_ok-letters.ensures in
     let inside : IsInside c.args.automaton.now = record {
       counted = c.invariant.ensures.counted;
       begins = c.invariant.ensures.begins;
@@ -16,3 +16,8 @@ returns-clause-run g c =
       within = c.invariant.ensures.within;
     } in
     run_is c.args.automaton.now c.args.word.now c.in_ok-letters.letters.items inside are (omega (arith, c.stem_len.ensures.cycle, c.stem_len.ensures.stem, are.long)) (λ v. v.items) c.searched.result found none
+
+pub searched-requires-clause-fits : goal.searched-requires-clause-fits
+searched-requires-clause-fits g c =
+    let are = c.in_ok-letters.ensures in
+    swapped c.args.automaton.now.states _ c.len.result (c.args.automaton.now.sets + 1) _ (ap length c.as_slice.ensures.value ∙ are.long ∙ sym c.len.ensures) (c.is_too_large.ensures.fits c.if-is_too_large.false)

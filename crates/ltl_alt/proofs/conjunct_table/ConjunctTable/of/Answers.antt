@@ -14,10 +14,11 @@ rows-init g c =
     let none : length c.new-conjuncts.result.lists.items ≡ 0 = ap length c.new-conjuncts.ensures.lists in
     let few = c.elementary_places-rest.ensures.few in
     record {
-      lists = c.in_ok-lists.ensures c.args.context.now.pruning.rule;
+      lists = c.in_ok-lists.ensures (table_at c.args.context.now.table.now) c.args.context.now.pruning.rule;
       conjuncts = record { linked = c.new-conjuncts.ensures.linked (table_at c.args.context.now.table.now); rows = c.new-conjuncts.ensures.rows (table_at c.args.context.now.table.now) c.args.context.now.pruning.rule };
       room = omega arith;
       new = λ i h k. subst (λ xs. Has xs i) c.new-conjuncts.ensures.made k;
+      inside = c.elementary_places-rest.ensures.inside;
       all = λ i l. inr (c.elementary_places-rest.ensures.all i l);
     }
 
@@ -41,7 +42,7 @@ add-requires-clause-room g c =
     let long = c.len.ensures in
     let room = c.rows.invariant.room in
     let less = fewer_left c.rows.rest c.single.result c.without-rest.result c.in-Some.place c.in-Some.ensures (taken_one c.single.result c.in-Some.place c.single.ensures) c.without-rest.ensures in
-    (c.rows.invariant.new c.in-Some.place c.in-Some.ensures, (all_at (λ x. x < 256) c.rows.rest c.in-Some.place c.invariant-in-Some.ensures.below c.in-Some.ensures, omega arith, omega arith))
+    (c.rows.invariant.new c.in-Some.place c.in-Some.ensures, (c.rows.invariant.inside c.in-Some.place c.in-Some.ensures, omega arith, omega arith))
 
 pub rows-preserved : goal.rows-preserved
 rows-preserved g c =
@@ -57,6 +58,7 @@ rows-preserved g c =
       new = λ i h k.
           let left = still_left c.rows.rest c.single.result c.without-rest.result c.in-Some.place i c.single.ensures c.without-rest.ensures h in
           elim (put_cases nat_cmp c.in-Some.place c.rows.conjuncts.made i (subst (λ xs. Has xs i) c.in_ok-add.ensures.made k)) [ inl e ↦ left.1 e | inr m ↦ c.rows.invariant.new i left.0 m ];
+      inside = λ i h. c.rows.invariant.inside i (still_left c.rows.rest c.single.result c.without-rest.result c.in-Some.place i c.single.ensures c.without-rest.ensures h).0;
       all = λ i l. elim (c.rows.invariant.all i l) [
         | inl m ↦ inl (subst (λ xs. Has xs i) (sym c.in_ok-add.ensures.made) (Has-put nat_linear c.in-Some.place c.rows.conjuncts.made i (inr m)))
         | inr h ↦ elim (same_or_other i c.in-Some.place) [

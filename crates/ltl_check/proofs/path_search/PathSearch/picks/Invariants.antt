@@ -1,0 +1,4 @@
+use Rattle.ltl_check.proofs.path_search.PathSearch.picks.Given as goal
+
+abbrev pub decreases-back : goal.decreases-back
+decreases-back g l = l.at

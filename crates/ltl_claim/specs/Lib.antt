@@ -1,0 +1,13 @@
+pub mod ClaimAnswer
+pub mod ClaimFault
+pub mod ClaimItems
+pub mod ClaimStep
+pub mod ClaimView
+pub mod LexerView
+pub mod ParserView
+pub mod ProgramView
+pub mod Reading
+pub mod ResolveView
+pub mod Soundness
+pub mod SymbolView
+pub mod TokenView

@@ -1,0 +1,3 @@
+pub mod ClaimHoa
+pub mod LabelSigns
+pub mod ClaimReads

@@ -1,0 +1,3 @@
+pub mod MessageLaws
+pub mod PlanLaws
+pub mod RunLaws

@@ -1,0 +1,18 @@
+use Rattle.std.proofs.Common.{ap, subst, sym}
+use Rattle.std.specs.Prelude.{◌+◌}
+use Rattle.ltl_claim.specs.ClaimAnswer.{most_bytes}
+use Rattle.ltl_cli.proofs.InputLaws.{unread}
+use Rattle.ltl_claims.specs.Plans.{requested}
+use Rattle.ltl_claims.specs.Runs.{IsOutcome}
+use Rattle.ltl_claims.proofs.RunLaws.{words_refused}
+use Rattle.ltl_claims.proofs.claims.answered.Goals as goal
+
+pub returns-in-Ok : goal.returns-in-Ok
+returns-in-Ok g c =
+    let (input, s, h) = c.printed.ensures in
+    (input, s, subst (λ r. IsOutcome r input (g.S.ByteSink.state c.args.output.now) (g.S.ByteSink.state c.printed.new.output) c.printed.result) (sym (ap requested c.in-Ok.is)) (h _))
+
+pub returns-in-Err : goal.returns-in-Err
+returns-in-Err g c =
+    let (input, s) = unread (most_bytes + 1) g.R.ByteSource.state c.args.source.now c.requires.source in
+    (input, s, words_refused input _ c.requires.output (requested c.args.plan.now) _ _ (ap requested c.in-Err.is) c.of_words.ensures)

@@ -1,0 +1,7 @@
+use Rattle.ltl_claims.proofs.message.put_text.Goals as goal
+
+pub returns-in-Usage : goal.returns-in-Usage
+returns-in-Usage g c = rw c.in-Usage.is c.put.ensures
+
+pub returns-in-CannotRead : goal.returns-in-CannotRead
+returns-in-CannotRead g c = rw c.in-CannotRead.is c.put-in-CannotRead.ensures

@@ -1,0 +1,4 @@
+pub mod Openings
+pub mod Plans
+pub mod Refusals
+pub mod Runs

@@ -1,0 +1,4 @@
+pub mod Messages
+pub mod Openings
+pub mod Plans
+pub mod Runs

@@ -1,0 +1,18 @@
+//! Plans: the parsed command line.
+
+ghost use Rattle.std.specs.Prelude.{◌≡◌};
+
+/// The automaton that a command line names.
+#[derive(Clone, Copy, Debug)]
+pub struct Plan<'a> {
+    pub(crate) file: Option<&'a str>,
+}
+
+impl<'a> Plan<'a> {
+    /// The name of the automaton's file. Without a name the automaton is in the standard input.
+    pub fn file(&self) -> Option<&'a str>
+        ensures { result ≡ self.now.file }
+    {
+        self.file
+    }
+}
