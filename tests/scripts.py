@@ -656,6 +656,9 @@ def try_package(tree):
         shutil.rmtree(tree.top / f"crates/{name}/out", ignore_errors=True)
     not_built = "package: ltl2ba is not built; ./build --portable proves and builds it\n"
     tree.expect("usage", tree.run("./package", "now", has_rt=False), ("", "usage: ./package\n", 2))
+    descriptions = re.findall(r'^\w+_DESCRIPTION = """\n(.*?)^"""', (TOP / "package").read_text(encoding="utf-8"), re.DOTALL | re.MULTILINE)
+    long = [line for it in descriptions for line in it.splitlines() if len(line) > 79]
+    tree.expect("lines of descriptions, which lintian wants to have 80 characters with the blank before them", (len(descriptions) > 1, long), (True, []))
     tree.expect("not built", tree.run("./package", has_rt=False), ("", not_built, 1))
     for name in "claim", "log", "model.pml", "model.pml.trail", "pan", "pan.c", "docs/tutorial/claim", "docs/tutorial/mutex.pml.trail", "docs/tutorial/pan.t":
         tree.put(name, "what an example leaves")
