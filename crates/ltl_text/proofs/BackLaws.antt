@@ -39,7 +39,7 @@ use Rattle.ltl_text.specs.ReadBack.{ReadsAlike, ReadsAtAnyLength, ReadsBack, Rea
 use Rattle.ltl_text.proofs.NamedLaws.{named_reads, some_reading}
 
 -- what the edges of all states have, each edge has
-each : (P : Edge → Type 0) (ss : List State) → All (λ s. All P s.edges) ss → (s : State) → Has ss s → (e : Edge) → Has s.edges e → P e
+pub each : (P : Edge → Type 0) (ss : List State) → All (λ s. All P s.edges) ss → (s : State) → Has ss s → (e : Edge) → Has s.edges e → P e
 each P ss all s h e m = All-at_has P s.edges (All-at_has (λ (r : State). All P r.edges) ss all s h) e m
 
 -- where what is read accepts the same words as an automaton, it accepts the models that the automaton accepts

@@ -1,5 +1,6 @@
 pub mod BackLaws
 pub mod BlockLaws
+pub mod ClaimLaws
 pub mod EdgeLaws
 pub mod HoaLaws
 pub mod LabelLaws

@@ -1,5 +1,5 @@
 -- The text of an automaton with named propositions reads as that automaton.
-use Rattle.std.proofs.Common.{◌≡◌, ◌∙◌, ℕ, ◌^◌, ◌<◌, ◌≤◌, true, List, [], ◌∷◌, ◌++◌, length, codes, decimal, refl, sym, subst, ap, arith, append_assoc}
+use Rattle.std.proofs.Common.{◌≡◌, ℕ, ◌^◌, ◌<◌, true, List, ◌∷◌, ◌++◌, length, codes, decimal, refl, sym, subst, arith, append_assoc}
 use Rattle.std.specs.Prelude.{flat_map}
 use Rattle.std.specs.List.{range_with_len}
 use Rattle.ltl_spec.specs.Semantics.Word.{Name}
@@ -9,7 +9,7 @@ use Rattle.ltl_spec.specs.Automata.ClaimText.{line}
 use Rattle.ltl_spec.specs.Automata.HoaText.{names_line, quoted}
 use Rattle.ltl_spec.specs.Automata.GeneralizedText.{acceptance_name, acceptance_text, generalized_text, marked_state_lines}
 use Rattle.ltl_spec.specs.Tools.Limits.{Limits}
-use Rattle.ltl_spec.specs.Hoa.HoaToken.{Header, Int, hoa_tokens}
+use Rattle.ltl_spec.specs.Hoa.HoaToken.{Int, hoa_tokens}
 use Rattle.ltl_spec.specs.Hoa.HoaReading.{HoaReadsWithin}
 use Rattle.ltl_spec.specs.Hoa.HoaPrinted.{IsPrinted, marked_of}
 use Rattle.ltl_spec.proofs.Hoa.GeneralizedBack.{AreUsual, generalized_reads}

@@ -1,5 +1,7 @@
 pub mod Blocks
 pub mod HoaPieces
+pub mod NameLists
+pub mod NamedClaim
 pub mod NamedText
 pub mod Names
 pub mod Options

@@ -11,6 +11,7 @@ ghost use Rattle.ltl_text.specs.Blocks.{blocks_text, others_text};
 
 use crate::label::{put_label, skip_state};
 use crate::literal_texts::LiteralTexts;
+use crate::names::Names;
 use crate::options::put_options;
 use ltl_models::Ba;
 use ltl_streams::{ByteSink, Printer, WriteFault, WriterSink};
@@ -80,7 +81,7 @@ fn put_others<A: Allocator, B: Allocator, S: ByteSink>(
 }
 
 /// Writes all states, `accept_all` last.
-fn put_blocks<A: Allocator, B: Allocator, S: ByteSink>(
+pub(crate) fn put_blocks<A: Allocator, B: Allocator, S: ByteSink>(
     automaton: &Ba<'_, A>,
     texts: &LiteralTexts<'_, '_, B>,
     output: &mut Printer<'_, S>,
@@ -111,7 +112,7 @@ pub fn put_claim<A: Allocator, B: Allocator, S: ByteSink>(
     output.put(b"never { /* ");
     output.put(formula.text());
     output.put(b" */\n");
-    let texts = LiteralTexts::new(formula);
+    let texts = LiteralTexts::new(Names::OfFormula(formula));
     put_blocks(automaton, &texts, &mut output);
     output.put(b"}\n");
     output.end()

@@ -6,6 +6,7 @@ ghost use Rattle.ltl_spec.specs.Automata.Automaton.{Automaton};
 ghost use Rattle.ltl_spec.specs.Automata.GeneralizedText.{generalized_text};
 ghost use Rattle.ltl_spec.specs.Automata.HoaText.{hoa_text};
 ghost use Rattle.ltl_spec.specs.Checking.Bounds.{HasNamesBelow};
+ghost use Rattle.ltl_spec.specs.Claims.ClaimTokens.{HasNoPromelaWord};
 ghost use Rattle.ltl_spec.specs.Collections.Lists.{HasNoRepeats};
 ghost use Rattle.ltl_spec.specs.Formulas.Names.{is_proposition};
 ghost use Rattle.ltl_spec.specs.Hoa.HoaPrinted as generalized;
@@ -16,8 +17,9 @@ ghost use Rattle.ltl_spec.specs.Tools.Limits.{stated_limits};
 ghost use Rattle.ltl_syntax.specs.FormulaView.{reading_of};
 ghost use Rattle.ltl_hoa.specs.Printed.{marked_of};
 ghost use Rattle.ltl_models.specs.Named.{HasNamesOf};
+ghost use Rattle.ltl_text.specs.NamedClaim.{named_claim};
 ghost use Rattle.ltl_text.specs.NamedText.{named_text};
-ghost use Rattle.ltl_text.specs.ReadBack.{ReadsAlike, ReadsAtAnyLength, ReadsBack, ReadsModels};
+ghost use Rattle.ltl_text.specs.ReadBack.{IsClaimOf, ReadsAlike, ReadsAtAnyLength, ReadsBack, ReadsModels};
 
 pub use ltl_hoa::laws::{
     printed_automata_are_read_back, printed_generalized_automata_are_read_back,
@@ -74,6 +76,21 @@ pub fn named_text_is_read_back<A: Allocator, B: Allocator>(
     requires propositions { IsTrue (list_all is_proposition (map string_bytes names.now)) }
     requires differ { HasNoRepeats (map string_bytes names.now) }
     ensures { ReadsAtAnyLength (named_text automaton.now (map string_bytes names.now)) (generalized.marked_of automaton.now (map string_bytes names.now)) }
+{
+    automaton.invariant();
+    let _ = names;
+}
+
+/// The text that `put_named_claim` writes is read as a claim that accepts the words of the automaton, if the names are propositions and none of them is a word of
+/// Promela.
+pub fn named_claim_is_read_back<A: Allocator, B: Allocator>(
+    automaton: &Ba<'_, A>,
+    names: &[String<&B>],
+)
+    requires named { HasNamesBelow (length (map string_bytes names.now)) automaton.now }
+    requires propositions { IsTrue (list_all is_proposition (map string_bytes names.now)) }
+    ensures { HasNoPromelaWord (map string_bytes names.now)
+        → IsClaimOf (map string_bytes names.now) automaton.now (named_claim automaton.now (map string_bytes names.now)) }
 {
     automaton.invariant();
     let _ = names;

@@ -2,7 +2,7 @@
 //!
 //! In the field's words: a Büchi automaton is printed as a never claim (`never_to`), or in version 1 of the Hanoi Omega-Automata format (HOA) with
 //! accepting states (`hoa_to`). A generalized automaton is printed in HOA with acceptance sets on edges, with its formula (`gen_to`) or with names alone
-//! (`put_named`). The reader of HOA, `hoa_read` of `ltl_hoa`, is exported here too, so that users of texts need this crate alone.
+//! (`put_named`); a never claim is printed with names alone by `put_named_claim`. The reader of HOA, `hoa_read` of `ltl_hoa`, is exported here too, so that users of texts need this crate alone.
 //!
 //! What flows: a printer takes an automaton and its formula, whose text and names go into the output. It looks up the labels of each edge as it prints
 //! the edge (`Edges` of `ltl_models`). The printer of claims prepares the texts of all literals once, and copies them (`LiteralTexts`). Each printer
@@ -25,6 +25,8 @@ mod label;
 pub mod laws;
 mod literal_texts;
 mod named;
+mod named_claim;
+mod names;
 mod options;
 mod states;
 
@@ -34,4 +36,5 @@ pub use generalized::{gen_to, put_generalized};
 pub use hoa::{hoa_to, put_hoa};
 pub use ltl_hoa::{HoaFault, HoaFaultKind, Marked, MarkedEdge, hoa_read};
 pub use named::put_named;
+pub use named_claim::put_named_claim;
 pub use states::{put_marks, put_number};

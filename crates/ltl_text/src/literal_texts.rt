@@ -1,18 +1,19 @@
 //! The texts of literals, prepared for copying.
 //!
-//! An automaton has many more literals than its formula has propositions. So the text of each literal is put together once, in 16 bytes that are copied
+//! An automaton has many more literals than propositions. So the text of each literal is put together once, in 16 bytes that are copied
 //! at once. A longer text is written from the name.
 
 ghost use Rattle.std.specs.Prelude.{◌≡◌, ◌<◌, if◌then◌else◌, [], ◌++◌, length};
 ghost use Rattle.ltl_spec.specs.Automata.ClaimText.{literal_text};
 ghost use Rattle.ltl_sets.specs.Literals.{literal_of};
 ghost use Rattle.ltl_streams.specs.Printing.{Prints};
+ghost use Rattle.ltl_text.specs.NameLists.{names_in};
 ghost use Rattle.ltl_text.specs.Prepared.{IsPrepared, AreLiterals};
 
+use crate::names::Names;
 use arrayvec::ArrayVec;
 use ltl_sets::{Literal, RowSet};
 use ltl_streams::{ByteSink, Printer};
-use ltl_syntax::Formula;
 use std::alloc::Allocator;
 use std::marker::Model;
 
@@ -50,11 +51,11 @@ struct Signed {
 
 impl Signed {
     /// The texts of the literals of this proposition.
-    fn of<A: Allocator>(formula: &Formula<'_, A>, proposition: usize) -> Signed
-        requires { proposition < length formula.now.names }
-        ensures { AreLiterals formula.now.names proposition result }
+    fn of<A: Allocator>(names: &Names<'_, '_, A>, proposition: usize) -> Signed
+        requires { proposition < length (names_in names.now) }
+        ensures { AreLiterals (names_in names.now) proposition result }
     {
-        let name = formula.name(proposition).as_bytes();
+        let name = names.name(proposition).as_bytes();
         Signed {
             positive: ShortText::of(b"", name),
             negative: ShortText::of(b"!", name),
@@ -89,35 +90,36 @@ impl Default for Signed {
     }
 }
 
-/// The texts of the literals of a formula's propositions. Contracts see it as the names of the propositions.
+/// The texts of the literals of propositions with names. Contracts see it as these names.
 #[derive(Drop)]
 pub struct LiteralTexts<'f, 'a, A: Allocator> {
-    formula: &'f Formula<'a, A>,
+    names: Names<'f, 'a, A>,
     texts: ArrayVec<Signed, 256>,
 }
 
 impl<'f, 'a, A: Allocator> Model for LiteralTexts<'f, 'a, A> {
     ghost use Rattle.std.specs.Prelude.{List};
     ghost use Rattle.ltl_spec.specs.Semantics.Word.{Name};
+    ghost use Rattle.ltl_text.specs.NameLists.{names_in};
     ghost use Rattle.ltl_text.specs.Prepared.{ArePrepared};
 
     ghost Value = { List Name };
 
-    ghost view = { λ t. t.formula.now.names };
+    ghost view = { λ t. names_in t.names };
 
-    ghost invariant = { λ t. ArePrepared t.formula.now.names t.texts.items };
+    ghost invariant = { λ t. ArePrepared (names_in t.names) t.texts.items };
 }
 
 impl<'f, 'a, A: Allocator> LiteralTexts<'f, 'a, A> {
     /// The texts of the literals of these propositions. Of more than 256 propositions, the first 256 are taken, since a cube has no others.
-    pub fn new(formula: &'f Formula<'a, A>) -> LiteralTexts<'f, 'a, A>
-        ensures { result ≡ formula.now.names }
+    pub fn new(names: Names<'f, 'a, A>) -> LiteralTexts<'f, 'a, A>
+        ensures { result ≡ names_in names.entry }
     {
         let mut texts = ArrayVec::new();
-        for i in 0..formula.name_count().min(RowSet::LIMIT) {
-            texts.push(Signed::of(formula, i));
+        for i in 0..names.count().min(RowSet::LIMIT) {
+            texts.push(Signed::of(&names, i));
         }
-        LiteralTexts { formula, texts }
+        LiteralTexts { names, texts }
     }
 
     /// Writes the text of a literal.
@@ -141,7 +143,7 @@ impl<'f, 'a, A: Allocator> LiteralTexts<'f, 'a, A> {
         requires { literal.proposition < length self.now }
         ensures { Prints S.state output.old output.new (literal_text self.now (literal_of literal)) }
     {
-        let name = self.formula.name(literal.proposition).as_bytes();
+        let name = self.names.name(literal.proposition).as_bytes();
         if literal.positive {
             output.put(name);
         } else {
