@@ -4,3 +4,4 @@ pub mod BuildLaws
 pub mod ReductionLaws
 pub mod ImportLaws
 pub mod MarkedLaws
+pub mod BuchiLaws

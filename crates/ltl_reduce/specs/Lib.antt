@@ -6,3 +6,4 @@ pub mod Matching
 pub mod Build
 pub mod Importing
 pub mod Reduced
+pub mod Buchi
