@@ -56,13 +56,18 @@ def evidence(lines, change, functions):
 
 def evidence_of(lines, of, functions):
     """The first line of a check which says that something that this function owes isn't proved."""
-    names = names_of(of)
     is_only = len([it for it in functions[of.file] if (it.owner, it.name) == (of.owner, of.name)]) == 1
     for line in lines:
         owed, proof = OWED.match(line), PROOF.match(line)
-        if owed and owed[1] == of.file and of.start <= int(owed[2]) <= of.last or proof and is_only and proof[1].split("/") == names:
+        if owed and owed[1] == of.file and of.start <= int(owed[2]) <= of.last or proof and is_only and is_proof_of(of, proof[1].split("/")):
             return line
     return None
+
+
+def is_proof_of(function, parts):
+    """Whether a folder of proofs, by its parts, is that of the function. If the type is in another file, the folder is in that of the type's module."""
+    names = names_of(function)
+    return parts == names or function.is_elsewhere and function.owner is not None and parts[-2:] == names[-2:]
 
 
 def texts_of(folder, names):
