@@ -1,9 +1,10 @@
 /* SPDX-License-Identifier: MIT OR Apache-2.0 */
-/* The translator, the checker, the evaluator, the comparer, pictures and the reader of claims as a library: linear temporal logic to Büchi automata.
+/* The translator, the checker, the evaluator, the comparer, pictures, the reader of claims and reductions as a library: linear temporal logic to Büchi
+   automata.
 
-   The calls do the work of the programs ltl2ba, ltlcheck, ltleval, ltlcompare, ltldraw and ltlclaim over texts in memory, and return their exit statuses: see
-   ltl2ba(3), and for the texts ltl2ba(1), ltlcheck(1), ltleval(1), ltlcompare(1), ltldraw(1) and ltlclaim(1). What the library does is proved for every input, on the
-   conditions below. That this header declares it correctly isn't proved: a test compares calls, structures and numbers with the library's sources.
+   The calls do the work of the programs ltl2ba, ltlcheck, ltleval, ltlcompare, ltldraw, ltlclaim and ltlreduce over texts in memory, and return their exit
+   statuses: see ltl2ba(3), and for the texts ltl2ba(1), ltlcheck(1), ltleval(1), ltlcompare(1), ltldraw(1), ltlclaim(1) and ltlreduce(1). What the library does is
+   proved for every input, on the conditions below. That this header declares it correctly isn't proved: a test compares calls, structures and numbers with the library's sources.
 
    No call prints anything, ends the process, or keeps anything between calls: a call frees all its memory before it returns, so the caller has nothing to
    free. Any number of threads may call at the same time, each with buffers of its own.
@@ -190,6 +191,11 @@ uint8_t ltlcompare_verdict(const uint8_t *first, size_t first_length, const uint
 uint8_t ltldraw_dot(const uint8_t *automaton, size_t automaton_length,
                     uint8_t *buffer, size_t buffer_length, size_t *length, struct ltl2ba_refusal *refusal);
 
+/* Writes a smaller automaton that accepts the same words to the buffer, as ltlreduce prints it: a text in the Hanoi Omega-Automata format. It has no more states,
+   edges and acceptance sets than the given one. */
+uint8_t ltlreduce_hoa(const uint8_t *automaton, size_t automaton_length,
+                      uint8_t *buffer, size_t buffer_length, size_t *length, struct ltl2ba_refusal *refusal);
+
 /* Why a claim was refused: with each status from 2 to 5, and else all are 0. */
 struct ltlclaim_refusal {
     uint32_t kind;  /* LTL2BA_NO_REFUSAL, LTL2BA_NO_MEMORY or LTL2BA_BAD_CLAIM */
@@ -224,6 +230,7 @@ uint8_t ltlclaim_message(const struct ltlclaim_refusal *refusal, uint8_t *buffer
 #define LTL2BA_EVALUATOR 2  /* ltleval */
 #define LTL2BA_COMPARER 3   /* ltlcompare, for a refusal of neither formula alone; add the subject of the comparison */
 #define LTL2BA_DRAWER 6     /* ltldraw */
+#define LTL2BA_REDUCER 7    /* ltlreduce */
 
 /* Writes the line that a program prints for a refusal, with its line feed, to the buffer, and its length to *length. It allocates nothing, and 128 bytes are
    enough for each line. The line is empty if there is no program or no refusal with this number. */

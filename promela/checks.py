@@ -27,10 +27,14 @@ def refuse_formula(room, programs, formula):
 
 
 def claim_of(room, programs, prop):
-    """The claim of the negation."""
-    ran = room.run("translating", programs["ltl2ba"], "-f", f"!({prop.formula})", has_limit=True)
-    if ran.status or not ran.text().startswith("never {"):
+    """The claim of the negation's automaton, reduced."""
+    ran = room.run("translating", programs["ltl2ba"], "-H", "-f", f"!({prop.formula})", has_limit=True)
+    if ran.status or not ran.text().startswith("HOA:"):
         raise Refused(ran.text().strip() or f"ltl2ba ended with status {ran.status}")
+    room.put("claim.hoa", ran.text())
+    ran = room.run("reducing", programs["ltlreduce"], "-c", "-A", "claim.hoa", has_limit=True)
+    if ran.status or not ran.text().startswith("never {"):
+        raise Refused(ran.text().strip() or f"ltlreduce ended with status {ran.status}")
     return ran.text()
 
 

@@ -24,7 +24,7 @@ from run import text
 
 TOP = Path(__file__).resolve().parent.parent
 PROGRAMS = "ltl2ba", "ltlcheck", "ltleval", "ltlcompare"
-DRAWER, READER = "ltldraw", "ltlclaim"
+DRAWER, READER, REDUCER = "ltldraw", "ltlclaim", "ltlreduce"
 COMPILER, COMPILER_OF_CPP = os.environ.get("CC", "cc"), os.environ.get("CXX", "c++")
 SECONDS, RANDOM_FORMULAS, RANDOM_PAIRS = 600, 500, 200
 KINDS = {"ltl2ba": "t", "ltlcheck": "c", "ltleval": "e", "ltlcompare": "m"}
@@ -187,16 +187,17 @@ def try_comparisons(tally, driver, folder):
     print(f"{len(pairs)} comparisons")
 
 
-def try_pictures(tally, driver, folder):
-    """Compares the call with `ltldraw`: on the automata of the formulas, and on texts that are refused."""
+def try_automata(tally, driver, folder):
+    """Compares the calls with `ltldraw` and `ltlreduce`: on the automata of the formulas, and on texts that are refused."""
     texts = [subprocess.run([f"{folder}/ltl2ba", layout, "-f", it], capture_output=True, timeout=SECONDS, check=False).stdout for it in FORMULAS for layout in ("-H", "-G")]
     texts += [b"", b"HOA: v2", texts[0][:60], texts[0].replace(b'name: "', b'name: "\\"&<\xc3\xa9'), texts[0].replace(b"State: 0", b'State: 0 "a & b"')]
-    found, status, told = answers([driver], [request("d", it) for it in texts])
-    tally.expect("pictures: the driver ends", (status, told, len(found)), (0, "", len(texts)))
-    for text_, it in zip(texts, found):
-        ran = subprocess.run([f"{folder}/{DRAWER}"], input=text_, capture_output=True, timeout=SECONDS, check=False)
-        tally.expect(f"the picture of {text_[:60]!r}", (it[0], it[1], it[2], it[3][2]), (ran.returncode, ran.stdout, ran.stderr, 0))
-    print(f"{len(texts)} pictures")
+    for kind, tool, what in ("d", DRAWER, "picture"), ("r", REDUCER, "reduction"):
+        found, status, told = answers([driver], [request(kind, it) for it in texts])
+        tally.expect(f"{what}s: the driver ends", (status, told, len(found)), (0, "", len(texts)))
+        for text_, it in zip(texts, found):
+            ran = subprocess.run([f"{folder}/{tool}"], input=text_, capture_output=True, timeout=SECONDS, check=False)
+            tally.expect(f"the {what} of {text_[:60]!r}", (it[0], it[1], it[2], it[3][2]), (ran.returncode, ran.stdout, ran.stderr, 0))
+        print(f"{len(texts)} {what}s")
 
 
 def try_claims(tally, driver, folder):
@@ -436,7 +437,7 @@ def main(words):
         if programs is None:
             programs = f"{folder}/programs"
             os.mkdir(programs)
-            for it in (*PROGRAMS, DRAWER, READER):
+            for it in (*PROGRAMS, DRAWER, READER, REDUCER):
                 os.symlink(TOP / f"crates/{it}/out/{it}", f"{programs}/{it}")
         if not shutil.which(shlex.split(COMPILER)[0]):
             print(f"skipped: all of this, for want of a C compiler ({COMPILER})")
@@ -462,7 +463,7 @@ def try_all(tally, folder, programs, driver, archive):
     try_array_lengths(tally, driver)
     try_comparisons(tally, driver, programs)
     try_comparison_lengths(tally, driver)
-    try_pictures(tally, driver, programs)
+    try_automata(tally, driver, programs)
     try_claims(tally, driver, programs)
     try_growths(tally, driver, FORMULAS)
     sanitized, faults = driver_in(folder, "sanitized", archive, *SANITIZERS)

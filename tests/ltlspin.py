@@ -367,7 +367,7 @@ def try_lies(spin, count):
             count.expect(f"a checker that says {new!r} with status {status}", (shown, bool(told), ended), ("holds\n" if is_whole else "", not is_whole, 0 if is_whole else 3))
     programs = spin.folder / "programs"
     programs.mkdir()
-    for it in "ltl2ba", "ltlcheck":
+    for it in "ltl2ba", "ltlreduce", "ltlcheck":
         (programs / it).symlink_to(Path(spin.programs, it) if spin.programs else TOP / f"crates/{it}/out/{it}")
     put_program(programs / "ltleval", "#!/bin/sh\necho true\n")
     other = Spin(tempfile.mkdtemp(dir=spin.folder), programs)
@@ -380,6 +380,10 @@ def try_lies(spin, count):
     (programs / "ltleval").symlink_to(Path(spin.programs, "ltleval") if spin.programs else TOP / "crates/ltleval/out/ltleval")
     shown, told, status = other.run("m.pml", "[]!x")
     count.expect("ltlcheck says violated", (shown, "ltlcheck doesn't confirm it" in told, status), ("", True, 3))
+    (programs / "ltlreduce").unlink()
+    put_program(programs / "ltlreduce", "#!/bin/sh\necho ltlreduce: out of memory\nexit 4\n")
+    shown, told, status = other.run("m.pml", "[]!x")
+    count.expect("ltlreduce has no memory", (shown, told, status), ("", "ltlspin: ltlreduce: out of memory\n", 3))
 
 
 def main(words):

@@ -207,6 +207,7 @@ def try_mean(count):
             count.expect("without dot", "apt install graphviz" in seen(page.ask("first")))
             os.remove(f"{folder}/ltldraw")
         with Page("-p", folder) as page:
+            count.expect("without ltlreduce", "It isn’t reduced: ltlreduce is not built." in seen(page.ask("first", reduces=True)))
             text = seen(page.ask("first", "second", "{}; cycle {}"))
             count.expect("without ltldraw", ("ltldraw, which draws automata, is not built" in text, "The first formula holds on it." in text), (True, True))
         os.remove(f"{folder}/ltleval")
@@ -294,7 +295,7 @@ def try_page(count, folder):
             with ThreadPoolExecutor() as pool:
                 waiting = pool.submit(try_minutes, page, minutes)
                 has_drawer = (folder / "ltldraw" if folder else TOP / "crates/ltldraw/out/ltldraw").exists()
-                for it in tries.try_formulas, tries.try_spellings, tries.try_truths, tries.try_pairs, tries.try_words, tries.try_words_beside:
+                for it in tries.try_formulas, tries.try_spellings, tries.try_truths, tries.try_pairs, tries.try_words, tries.try_words_beside, tries.try_reductions:
                     it(page, count)
                 for it in try_hostile, try_requests, try_silent, try_browser:
                     it(page, count)

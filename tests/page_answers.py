@@ -212,6 +212,24 @@ def try_words_beside(page, count):
     count.expect("a formula that doesn't hold is no error", sentences(page.ask("p", "", "cycle {}"), "no"), [])
 
 
+def try_reductions(page, count):
+    """With the mark, the reduced automaton is shown, and its size beside that of the formula's own."""
+    for formula, second, word in ("[]<>p -> []<>q", "", ""), ("p U (q U r)", "", "{p}; cycle {r}"), ("[](p -> <>q)", "[]p", ""):
+        plain, text = (page.ask(formula, second, word, reduces=it) for it in (False, True))
+        sizes = r"Its automaton has (\d+) states? and (\d+) edges?"
+        told = [tuple(map(int, it)) for it in re.findall(sizes + r"; reduced, it has (\d+) states? and (\d+) edges?\.", seen(text))]
+        count.expect(f"both sizes of {formula}", [it[:2] for it in told], [tuple(map(int, it)) for it in re.findall(sizes, seen(plain))])
+        count.expect(f"{formula} reduced", [it for it in told if it[2:] > it[:2] or it[3] > it[1]], [])
+        shown = re.findall(r"HOA: v1\nStates: (\d+)\n", seen(text))
+        count.expect(f"the text of {formula} reduced", [int(it) for it in shown], [it[2] for it in told])
+        count.expect(f"the claim of {formula} reduced", len(re.findall(r"never \{\n", seen(text))), len(told))
+        verdicts = [[*sentences(it, "said"), *sentences(it, "yes")] for it in (plain, text)]
+        count.expect(f"the answers beside {formula} reduced", verdicts[1], verdicts[0])
+        inner = [html.unescape(it) for it in re.findall(r'href="(/[^"]*)"', text)]
+        count.expect(f"the links from {formula} reduced", [it for it in inner if not it.endswith("&r=1")], [])
+    count.expect("the mark stays", [' value="1" checked>' in page.request(path_of("p") + it)[2] for it in ("&r=1", "")], [True, False])
+
+
 def try_full_size(page, count):
     """The legend of a picture, and pictures by themselves."""
     text = page.ask("[](p -> <>q)")

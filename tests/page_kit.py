@@ -62,9 +62,9 @@ class Page:
     def status(self, path="/", method="GET", **headers):
         return self.request(path, method, **headers)[0]
 
-    def ask(self, formula, second="", word=""):
+    def ask(self, formula, second="", word="", reduces=False):
         """The part of the answer between the form and the help."""
-        status, _, text = self.request(path_of(formula, second, word))
+        status, _, text = self.request(path_of(formula, second, word) + "&r=1" * reduces)
         return text.partition("</form>")[2].partition("<summary>What can be asked")[0] if status == 200 else f"status {status}"
 
 

@@ -1,6 +1,7 @@
 #!/usr/bin/env python3
 """Runs ltlreduce on random automata, and compares what it prints with what it was given: the propositions, the counts of states, edges and sets, and for each
-short word whether both accept it. The reader of both texts and the search for an accepting cycle are in this file.
+short word whether both accept it. The reader of both texts and the search for an accepting cycle are in this file. What `ltlreduce -c` prints is given to
+ltlclaim, whose automaton has to accept the same words; for n sets the claim has at most n + 1 labels for each state.
 
 Usage: tests/reductions.py [-p FOLDER] [COUNT]; the programs are those of the folder, or those that the gate built. The last line is 'N passed, M failed'."""
 
@@ -124,15 +125,43 @@ def fault(given, text):
     return next((f"{it}" for it in words(a.names) if a.accepts(*it) != b.accepts(*it)), None)
 
 
+def claim_fault(given, claim, text):
+    """What is wrong with the claim that was printed for an automaton, if anything is. The text is that of the claim's automaton."""
+    a, b = Automaton(given), Automaton(text)
+    labels = len(re.findall(r"(?m)^\w+:$", claim))
+    if not set(b.names) <= set(a.names) or labels > a.states * (a.sets + 1):
+        return f"claim: {b.names}, {labels} labels of {a.names}, {a.counts()}"
+    return next((f"claim: {it}" for it in words(a.names) if a.accepts(*it) != b.accepts(*it)), None)
+
+
+def run(program, *options, given):
+    """What a program prints, and what was wrong with its run, if anything was."""
+    ran = subprocess.run([program, *options], input=given, capture_output=True, text=True, timeout=SECONDS, check=False)
+    return ran.stdout, None if (ran.returncode, ran.stderr) == (0, "") else f"{program}: status {ran.returncode}, {ran.stderr}"
+
+
+def judged(place_of, given):
+    """What is wrong with what ltlreduce prints for an automaton, without -c and with it, if anything is."""
+    text, wrong = run(place_of("ltlreduce"), given=given)
+    if wrong or fault(given, text):
+        return wrong or fault(given, text)
+    claim, wrong = run(place_of("ltlreduce"), "-c", given=given)
+    if wrong:
+        return wrong
+    read, wrong = run(place_of("ltlclaim"), given=claim)
+    return wrong or claim_fault(given, claim, read)
+
+
 def main(options):
     folder = options[1] if options[:1] == ["-p"] else None
-    program = os.path.join(folder, "ltlreduce") if folder else TOP / "crates/ltlreduce/out/ltlreduce"
+
+    def place_of(name):
+        return os.path.join(folder, name) if folder else TOP / f"crates/{name}/out/{name}"
+
     count = int(options[-1]) if options and options[-1].isdigit() else COUNT
     random_of, failed = random.Random(SEED), 0
     for number in range(count):
-        given = made(random_of)
-        ran = subprocess.run([program], input=given, capture_output=True, text=True, timeout=SECONDS, check=False)
-        wrong = fault(given, ran.stdout) if (ran.returncode, ran.stderr) == (0, "") else f"status {ran.returncode}, {ran.stderr}"
+        wrong = judged(place_of, made(random_of))
         if wrong:
             failed += 1
             print(f"automaton {number} of seed {SEED}: {wrong}")

@@ -15,21 +15,25 @@ EXAMPLES = [
 
 
 class Formula:
-    """A formula: its file, and its automaton."""
+    """A formula: its file, and its automaton, which is the reduced one if the request asks for it and there is one."""
 
     def __init__(self, room, name, text):
         self.text, self.file = text, room.put(name, text)
         self.ran = room.run("ltl2ba", "-H", "-F", self.file)
         self.has_automaton = self.ran.status == 0
         self.is_formula = self.ran.place() is None and "formula longer" not in self.ran.message
-        self.canonical, self.states, self.edges = text, 0, 0
+        self.canonical, self.shown, self.given, self.unreduced = text, self.ran, "", ""
         # The automaton without its name, which would be a picture's title.
         self.unnamed = room.folder / f"{name}.hoa"
         if self.has_automaton:
             self.read()
+            if room.reduces:
+                self.reduce(room)
 
     def read(self):
-        with open(self.ran.output, encoding="utf-8", errors="replace") as lines, open(self.unnamed, "w", encoding="utf-8") as unnamed:
+        """The sizes of the automaton that is shown."""
+        self.states = self.edges = 0
+        with open(self.shown.output, encoding="utf-8", errors="replace") as lines, open(self.unnamed, "w", encoding="utf-8") as unnamed:
             for line in lines:
                 self.edges += line.startswith("[")
                 self.states += line.startswith("State:")
@@ -37,6 +41,22 @@ class Formula:
                     self.canonical = line[len('name: "') :].rstrip().removesuffix('"')
                 else:
                     unnamed.write(line)
+
+    def reduce(self, room):
+        """Takes the reduced automaton in place of the formula's own, or tells why there is none."""
+        made = room.run("ltlreduce", "-A", str(self.ran.output)) if room.has("ltlreduce") else None
+        if made and made.status == 0:
+            self.given, self.shown = self.sizes(), made
+            self.read()
+        else:
+            self.unreduced = made.fault() if made else "ltlreduce is not built"
+
+    def sizes(self):
+        return f"{number(self.states, 'state', 'states')} and {number(self.edges, 'edge', 'edges')}"
+
+    def claim(self, room):
+        """The never claim of the automaton that is shown."""
+        return room.run("ltlreduce", "-c", "-A", str(self.ran.output)) if self.given else room.run("ltl2ba", "-F", self.file)
 
 
 def fault(ran, text):
@@ -48,13 +68,13 @@ def fault(ran, text):
     return "\n".join([sentence(ran.fault(), "no"), marked(text, place), *([advice(hint)] if hint else [])])
 
 
-def word_fault(ran, word, formulas):
+def word_fault(ran, word, formulas, reduces):
     """Why there is no answer for a word, with the place in it and how words are written."""
     place = ran.place()
     if place is None:
         return sentence(ran.fault(), "no")
     other = respelled(word)
-    ask = link(address(*(it.text for it in formulas), word=other), code(other)) if other else ""
+    ask = link(address(*(it.text for it in formulas), word=other, reduces=reduces), code(other)) if other else ""
     meant = [f"<p>Perhaps this is meant: {ask}</p>"] if other else []
     return "\n".join([sentence(ran.fault(), "no"), marked(word, place), *meant, advice(FORM)])
 
@@ -63,11 +83,12 @@ def automaton(room, formula, title, word, *more):
     """The formula as it was read, and its automaton, with a run on the word if there is one."""
     if not formula.has_automaton:
         return section(title, fault(formula.ran, formula.text))
-    claim = room.run("ltl2ba", "-F", formula.file)
-    texts = [("The never claim, for Spin", claim), ("The automaton in the Hanoi Omega-Automata format", formula.ran)]
+    texts = [("The never claim, for Spin", formula.claim(room)), ("The automaton in the Hanoi Omega-Automata format", formula.shown)]
     details = "".join(folded(it, block(*ran.text()) if ran.status == 0 else sentence(ran.fault(), "no")) for it, ran in texts)
-    size = f"{number(formula.states, 'state', 'states')} and {number(formula.edges, 'edge', 'edges')}"
+    size = f"{formula.given}; reduced, it has {formula.sizes()}" if formula.given else formula.sizes()
     read = f"<p>It is read as {code(formula.canonical)}. Its automaton has {size}.</p>"
+    if formula.unreduced:
+        read += sentence(f"It isn’t reduced: {formula.unreduced}.", "aside")
     apart = list(read_apart(formula.text))[:1]
     note = advice(["A capital within ", apart[0], " is read as an operator: a name has lower-case letters, digits and ", "_", " alone."]) if apart else ""
     return section(title, read, note, *more, picture(room, formula, word), details)
@@ -121,7 +142,7 @@ def shown_by(room, formula, told, word, wanted):
     truth = holds(room, formula, word)[0]
     if truth is not None and truth != wanted:
         return disagrees(word)
-    return f'<p class="said">{shown(told)}{link(address(formula.text, word=word), code(word))}.</p>'
+    return f'<p class="said">{shown(told)}{link(address(formula.text, word=word, reduces=room.reduces), code(word))}.</p>'
 
 
 RELATIONS = {
@@ -157,7 +178,7 @@ def apart(room, first, second, label, word):
     return "\n".join([
         f"<p>On this word the {holding} one holds, and the {failing} one doesn’t: {code(word)}</p>",
         *(f"{sentence(f'The {which} formula on it:', 'aside')}\n{it}" for which, it in zip(("first", "second"), lines) if it),
-        f'<p class="aside">{link(address(first.text, second.text, word), "Ask about this word")}</p>',
+        f'<p class="aside">{link(address(first.text, second.text, word, reduces=room.reduces), "Ask about this word")}</p>',
     ])  # fmt: skip
 
 
@@ -166,14 +187,14 @@ def on_word(room, formulas, word):
     parts, asked = [f"<p>{code(word)}</p>"], [it for _, it in formulas]
     if not any(it.is_formula for it in asked):
         truth, ran = holds(room, Formula(room, "anything", "true"), word)
-        parts += [word_fault(ran, word, asked)] if truth is None else []
+        parts += [word_fault(ran, word, asked, room.reduces)] if truth is None else []
     for which, formula in formulas:
         if not formula.is_formula:
             parts.append(sentence(f"{which} can’t be read, so nothing is known of it on this word."))
             continue
         truth, ran = holds(room, formula, word)
         if truth is None:
-            parts.append(word_fault(ran, word, asked))
+            parts.append(word_fault(ran, word, asked, room.reduces))
             break
         parts.append(f'<p class="{"yes" if truth else "said"}">{which} {"holds" if truth else "doesn’t hold"} on it.</p>')
         parts.append(timeline(room, word, formula.canonical))
@@ -193,14 +214,14 @@ def answers(room, formula, second, word):
         parts.append(on_word(room, formulas, word))
     for title, it in formulas:
         parts.append(automaton(room, it, title, word, "" if second else truths(room, it)))
-    here = link(address(formula, second, word), "a link to it")
+    here = link(address(formula, second, word, reduces=room.reduces), "a link to it")
     return "\n".join([*parts, f'<p class="aside">The address of this page has all that was asked for: {here}.</p>'])
 
 
 def picture_alone(room, formula, word):
     """The picture of a formula's automaton at its full size."""
     one = Formula(room, "formula0", formula)
-    back = f'<p class="aside">{link(address(formula, word=word), "The formula’s page")}</p>'
+    back = f'<p class="aside">{link(address(formula, word=word, reduces=room.reduces), "The formula’s page")}</p>'
     if not one.has_automaton:
         return section("The picture", fault(one.ran, one.text), back)
     about = f"<p>{code(one.canonical)}{f' on {code(word)}' if word else ''}</p>"

@@ -10,8 +10,8 @@ def shown(text):
     return html.escape("".join(chr(0x2400 + ord(it)) if ord(it) < 32 and it not in "\n\t" else it for it in text))
 
 
-def address(formula, second="", word="", path="/"):
-    fields = [("f", formula), ("g", second), ("w", word)]
+def address(formula, second="", word="", path="/", reduces=False):
+    fields = [("f", formula), ("g", second), ("w", word), ("r", "1" if reduces else "")]
     return f"{path}?" + urllib.parse.urlencode([it for it in fields if it[1]])
 
 

@@ -105,7 +105,7 @@ def picture(room, formula, word, at_full_size=False):
         return none(": ltldraw, which draws automata, is not built.")
     if formula.edges > EDGES:
         return none(f": it would have more than {EDGES} edges.")
-    whole = address(formula.text, word=word, path="/picture")
+    whole = address(formula.text, word=word, path="/picture", reduces=room.reduces)
     if formula.edges > EDGES_WITHIN and not at_full_size:
         return f'<p class="aside">The picture has {formula.edges} edges, and is by itself: {link(whole, "the picture")}.</p>'
     drawn = drawing(room, formula, word)

@@ -53,10 +53,10 @@ class Ran:
 
 
 class Room:
-    """A folder for the runs of one request."""
+    """A folder for the runs of one request, and whether it asks for reduced automata."""
 
-    def __init__(self, programs, folder):
-        self.programs, self.folder, self.count = programs, Path(folder), 0
+    def __init__(self, programs, folder, reduces=False):
+        self.programs, self.folder, self.count, self.reduces = programs, Path(folder), 0, reduces
 
     def put(self, name, text):
         (self.folder / name).write_text(text, encoding="utf-8", errors="replace")

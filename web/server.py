@@ -119,7 +119,7 @@ class Handler(http.server.BaseHTTPRequestHandler):
             return
         formula, second, word = (fields.get(it, "").strip("\r\n") for it in "fgw")
         with tempfile.TemporaryDirectory() as folder:
-            room = Room(self.programs, folder)
+            room = Room(self.programs, folder, bool(fields.get("r")))
             page = picture_page(room, formula, word) if path == "/picture" else main_page(room, formula, second, word)
         self.answer(200, page, "text/html")
 
@@ -129,6 +129,7 @@ def main_page(room, formula, second, word):
     is_asked = any((formula, second, word))
     names = dict(zip(("formula", "second", "word"), (shown(it.replace("\n", " ")) for it in (formula, second, word))))
     names.update(title=shown(f"{formula[:60]} – formulas") if formula else "Formulas", examples=examples(), form=advice(FORM))
+    names.update(reduces=" checked" if room.reduces else "")
     names.update(answers=answers(room, formula, second, word) if is_asked else "")
     names.update({"focus": "", "open": ""} if is_asked else {"focus": " autofocus", "open": " open"})
     return filled("page.html", names)

@@ -29,7 +29,7 @@ BAD_CLAIM = 16
 
 CLAIM, HOA, GENERALIZED = range(3)
 TRANSLATOR, CHECKER, EVALUATOR, COMPARER = range(4)
-DRAWER = 6
+DRAWER, REDUCER = 6, 7
 NEITHER_ALONE, FIRST_FORMULA, SECOND_FORMULA = range(3)
 
 
@@ -111,6 +111,7 @@ CALLS = {
     "ltlcompare_verdict": [*_TEXT, *_TEXT, *_TEXT, *_TEXT, POINTER(Compared)],
     "ltldraw_dot": [*_TEXT, *_TEXT, *_END],
     "ltlclaim_hoa": [*_TEXT, *_TEXT, POINTER(c_size_t), POINTER(ClaimRefusal)],
+    "ltlreduce_hoa": [*_TEXT, *_TEXT, *_END],
     "ltlclaim_message": [POINTER(ClaimRefusal), *_TEXT, POINTER(c_size_t)],
     "ltl2ba_message": [c_uint32, POINTER(Refusal), *_TEXT, POINTER(c_size_t)],
 }

@@ -10,7 +10,8 @@
 0 -> 2 if !p
 0 -> 2 if q
 
-What the proved part makes are the texts of `to_hoa` and `to_claim`, and the rows of states and edges. All else is made of these in Python."""
+What the proved part makes are the texts of `to_hoa` and `to_claim`, the rows of states and edges, and the text of a reduced automaton. All else is made of
+these in Python."""
 
 from __future__ import annotations
 
@@ -145,6 +146,16 @@ class Automaton:
         layout = abi.GENERALIZED if self.is_generalized else abi.HOA
         return _calls.text(self._formula, _with_layout(self._options, layout)).decode("ascii")
 
+    def reduced(self) -> "Automaton":
+        """A smaller automaton that accepts the same words, as `ltlreduce` prints it: with acceptance sets of edges, and no more states, edges and sets.
+
+        >>> it = translate("[]<>p -> []<>q")
+        >>> it, it.reduced()
+        (<Automaton of ([]<>p -> []<>q): 7 states, 17 edges>, <Automaton of ([]<>p -> []<>q): 5 states, 12 edges>)"""
+        from ltl2ba.reductions import Reduced
+
+        return Reduced(self)
+
     def to_hoa(self) -> str:
         """The text in the Hanoi Omega-Automata format, as `ltl2ba -H` or `-G` prints it.
 
@@ -227,8 +238,12 @@ class Automaton:
         """The picture in a notebook. That of a large automaton could not be read, and takes long; one with more sets than the library reads has none."""
         return self.to_svg() if len(self.edges) <= 200 and self.sets <= 32 else None
 
+    @property
+    def _edge_count(self) -> int:
+        return len(self._arrays.edges) // abi.EDGE_SIZE
+
     def __repr__(self) -> str:
-        return f"<Automaton of {self.formula}: {len(self.states)} states, {len(self._arrays.edges) // abi.EDGE_SIZE} edges>"
+        return f"<Automaton of {self.formula}: {len(self.states)} states, {self._edge_count} edges>"
 
     def __eq__(self, other: object) -> bool:
         if not isinstance(other, Automaton):

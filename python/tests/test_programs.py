@@ -26,7 +26,7 @@ def hoa_of(it):
 class TestPrograms(unittest.TestCase):
     @classmethod
     def setUpClass(cls):
-        for name in "ltl2ba", "ltlcheck", "ltleval", "ltldraw", "ltlclaim":
+        for name in "ltl2ba", "ltlcheck", "ltleval", "ltldraw", "ltlclaim", "ltlreduce":
             program(name)
         cls.formulas = formulas(COUNT, SEED)
         cls.pool = ThreadPoolExecutor()
@@ -77,6 +77,27 @@ class TestPrograms(unittest.TestCase):
                     seen = "", f"ltldraw: {refusal}\n", 3
                 if drawn != seen:
                     return formula, is_generalized, drawn, seen
+            return None
+
+        self.all_hold(fault, self.formulas)
+
+    def test_reductions(self):
+        def fault(formula):
+            for is_generalized in False, True:
+                try:
+                    given = ltl2ba.translate(formula, generalized=is_generalized)
+                except ltl2ba.TooLarge:
+                    continue
+                made = given.reduced()
+                told, message, status = ran("ltlreduce", given=given.to_hoa())
+                shown = [it for it in told.split("\n") if re.match(r"AP:|State:|\[", it)]
+                untitled = "".join(it for it in made.to_hoa().splitlines(True) if not it.startswith("name:"))
+                if (untitled, "", 0) != (told, message, status) or hoa_of(made) != shown:
+                    return formula, is_generalized, untitled, told, message
+                if made.formula != given.formula or (made.sets, len(made.edges)) > (max(1, given.sets), len(given.edges)):
+                    return formula, is_generalized, made.formula, made.sets, len(made.edges)
+                if not ltl2ba.check(made, formula) or made.to_dot() != ran("ltldraw", given=made.to_hoa())[0]:
+                    return formula, is_generalized, "check or graph"
             return None
 
         self.all_hold(fault, self.formulas)

@@ -1,7 +1,7 @@
 /* Makes the calls of include/ltl2ba.h that its standard input asks for, and writes what they answer.
 
    A request is a line `KIND LAYOUT FLAGS ROOM FIRST SECOND` and then the bytes of two texts of these lengths. KIND is t (text), n (names), e (evaluation),
-   c (check), d (picture), k (claim), a (automaton) or m (comparison), FLAGS has 1, 2 and 4 for no_rewrite, keep_implied and keep_equal. ROOM is the length of the
+   c (check), d (picture), r (reduction), k (claim), a (automaton) or m (comparison), FLAGS has 1, 2 and 4 for no_rewrite, keep_implied and keep_equal. ROOM is the length of the
    buffer; with -1 a call with no room asks for the length, and a second one has exactly that; with -2 that is done with each growth of memory refused in
    turn, until none was left to refuse. Of an automaton it is the length of the array that the second text names, s (states), e (edges) or n (names), and the other two have the
    length that is needed; of a comparison FLAGS is 0 if that is the length of the first buffer, and 1 if it is that of the second one. The answer is a line `STATUS LENGTH MESSAGE COUNTS` and the bytes of the text and of the message; COUNTS are three numbers, and of a
@@ -224,6 +224,9 @@ static struct answer call(const struct request *asked, struct room of)
     case 'd':
         made.status = ltldraw_dot(asked->first, asked->first_length, made.text, room, &made.length, &made.refusal);
         break;
+    case 'r':
+        made.status = ltlreduce_hoa(asked->first, asked->first_length, made.text, room, &made.length, &made.refusal);
+        break;
     case 'k':
         memset(&made.of_claim, 0xa5, sizeof made.of_claim);
         made.status = ltlclaim_hoa(asked->first, asked->first_length, made.text, room, &made.length, &made.of_claim);
@@ -327,6 +330,8 @@ static uint32_t program_of(char kind, const struct answer *made)
         return LTL2BA_COMPARER + made->subject;
     case 'd':
         return LTL2BA_DRAWER;
+    case 'r':
+        return LTL2BA_REDUCER;
     default:
         return LTL2BA_TRANSLATOR;
     }

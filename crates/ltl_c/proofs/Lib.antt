@@ -8,4 +8,5 @@ pub mod HandLaws
 pub mod LineLaws
 pub mod PictureLaws
 pub mod PlaceLaws
+pub mod ReductionLaws
 pub mod StepLaws

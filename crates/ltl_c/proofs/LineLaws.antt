@@ -7,7 +7,8 @@ use Rattle.ltl_spec.specs.Tools.Refusal.{Tool, Checker, Refusal, Usage, CannotOp
 use Rattle.ltl_cli.specs.Messages.{back_text, front_text, number_in, number_text}
 use Rattle.ltl_cli.proofs.MessageLaws.{line_same, parts_are, put_same}
 use Rattle.ltl_draw.specs.Messages.{draw_message, draw_text}
-use Rattle.ltl_c.specs.Lines.{comparer_front_text, draw_front_text}
+use Rattle.ltl_reduction.specs.Messages.{reduce_message, reduce_text}
+use Rattle.ltl_c.specs.Lines.{comparer_front_text, draw_front_text, reduce_front_text}
 
 module _ (tool : Tool) (r : Refusal) (a f : List ℕ) (n : Option ℕ) (b : List ℕ) where
   regrouped : (a ++ f ++ number_text n) ++ b ≡ a ++ (f ++ number_text n ++ b)
@@ -80,3 +81,29 @@ draw_line r a f n b ea ef en eb l m o p q el em eo ep eq =
     ∙ ap (λ x. x ++ 10 ∷ [])
     (ep ∙ ap (λ x. x ++ b) (eo ∙ ap (λ x. x ++ number_text n) (em ∙ ap (λ x. x ++ f) el)) ∙ regrouped Checker r a f n b ∙ ap (λ t. a ++ t) (rw (ef, en, eb) (draw_parts r)))
     ∙ ap (λ x. (x ++ draw_text r) ++ 10 ∷ []) ea
+
+-- the reducer's text of a refusal in parts
+reduce_parts : (r : Refusal) → reduce_front_text r ++ number_text (number_in r) ++ back_text r ≡ reduce_text r
+reduce_parts Usage = append-nil _ ∙ append-nil _
+reduce_parts CannotOpen = parts_are Checker CannotOpen
+reduce_parts CannotRead = parts_are Checker CannotRead
+reduce_parts CannotWrite = parts_are Checker CannotWrite
+reduce_parts OutOfMemory = parts_are Checker OutOfMemory
+reduce_parts LongFormula = parts_are Checker LongFormula
+reduce_parts TooManyPropositions = parts_are Checker TooManyPropositions
+reduce_parts TooManyRows = parts_are Checker TooManyRows
+reduce_parts TooManyElementaryRows = parts_are Checker TooManyElementaryRows
+reduce_parts LargeAutomaton = parts_are Checker LargeAutomaton
+reduce_parts LongWord = parts_are Checker LongWord
+reduce_parts LargeProduct = parts_are Checker LargeProduct
+reduce_parts (BadFormula place kind) = parts_are Checker (BadFormula place kind)
+reduce_parts (BadWord place) = parts_are Checker (BadWord place)
+reduce_parts (BadAutomaton number kind) = parts_are Checker (BadAutomaton number kind)
+
+pub reduce_line : (r : Refusal) (a f : List ℕ) (n : Option ℕ) (b : List ℕ) → a ≡ codes "ltlreduce: " → f ≡ reduce_front_text r → n ≡ number_in r → b ≡ back_text r
+    → (l m o p q : List ℕ) → l ≡ a → m ≡ l ++ f → o ≡ m ++ number_text n → p ≡ o ++ b → q ≡ p ++ 10 ∷ [] → q ≡ reduce_message r
+reduce_line r a f n b ea ef en eb l m o p q el em eo ep eq =
+    eq
+    ∙ ap (λ x. x ++ 10 ∷ [])
+    (ep ∙ ap (λ x. x ++ b) (eo ∙ ap (λ x. x ++ number_text n) (em ∙ ap (λ x. x ++ f) el)) ∙ regrouped Checker r a f n b ∙ ap (λ t. a ++ t) (rw (ef, en, eb) (reduce_parts r)))
+    ∙ ap (λ x. (x ++ reduce_text r) ++ 10 ∷ []) ea

@@ -8,6 +8,7 @@ use Rattle.ltl_spec.specs.Tools.Limits.{stated_limits}
 use Rattle.ltl_spec.specs.Tools.Refusal.{Tool, Translator, Checker, Evaluator, message, Refusal, Usage, CannotOpen, CannotRead, CannotWrite, OutOfMemory, LongFormula, TooManyPropositions, TooManyRows, TooManyElementaryRows, LargeAutomaton, LongWord, LargeProduct, BadFormula, BadWord, BadAutomaton, fault_text}
 use Rattle.ltl_spec.specs.Tools.Comparer.{Subject, First, Second, Other, comparer_message}
 use Rattle.ltl_draw.specs.Messages.{draw_message}
+use Rattle.ltl_reduction.specs.Messages.{reduce_message}
 use Rattle.ltl_c.specs.declared.refusal_code.RefusalCode.{RefusalCode}
 use Rattle.ltl_c.specs.declared.subject.Subject as code
 
@@ -78,16 +79,18 @@ pub data Program : Type 0 where
   Plain : Tool → Program
   Comparer : Subject → Program
   Drawer : Program
+  Reducer : Program
 
 -- the programs by number
 abbrev pub program_numbered : ℕ → Option Program
-program_numbered n = slice_get (Plain Translator ∷ Plain Checker ∷ Plain Evaluator ∷ Comparer Other ∷ Comparer First ∷ Comparer Second ∷ Drawer ∷ []) n
+program_numbered n = slice_get (Plain Translator ∷ Plain Checker ∷ Plain Evaluator ∷ Comparer Other ∷ Comparer First ∷ Comparer Second ∷ Drawer ∷ Reducer ∷ []) n
 
 -- the line that a program prints for a refusal
 abbrev pub program_line : Program → Refusal → List ℕ
 program_line (Plain tool) refusal = message stated_limits tool refusal
 program_line (Comparer subject) refusal = comparer_message stated_limits subject refusal
 program_line Drawer refusal = draw_message refusal
+program_line Reducer refusal = reduce_message refusal
 
 -- the same; empty if there is no program or no refusal
 abbrev pub line_with : Option Program → Option Refusal → List ℕ

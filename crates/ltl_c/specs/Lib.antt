@@ -6,4 +6,5 @@ pub mod Comparisons
 pub mod Lines
 pub mod Names
 pub mod Pictures
+pub mod Reductions
 pub mod Verdicts

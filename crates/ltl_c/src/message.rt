@@ -7,9 +7,10 @@ ghost use Rattle.ltl_spec.specs.Tools.Refusal as spec;
 ghost use Rattle.ltl_cli.specs.Messages.{line_for};
 ghost use Rattle.ltl_cli.specs.Refusals.{refusal_of};
 ghost use Rattle.ltl_draw.specs.Messages.{draw_message};
+ghost use Rattle.ltl_reduction.specs.Messages.{reduce_message};
 ghost use Rattle.ltl_c.specs.Calls.{Delivers};
 ghost use Rattle.ltl_c.specs.Codes.{code_for, line_numbered, program_line, program_numbered, refusal_in, subject_in};
-ghost use Rattle.ltl_c.specs.Lines.{comparer_front_text, draw_front_text, program_in};
+ghost use Rattle.ltl_c.specs.Lines.{comparer_front_text, draw_front_text, program_in, reduce_front_text};
 
 use crate::buffer::deliver;
 use crate::line::{SIZE, put, put_number};
@@ -26,6 +27,7 @@ enum Program {
     Plain(Tool),
     Comparer(Subject),
     Drawer,
+    Reducer,
 }
 
 /// The whole line for a refusal, with a line feed.
@@ -102,6 +104,30 @@ fn draw_line(refusal: Refusal) -> ArrayVec<u8, SIZE>
     line
 }
 
+/// The reducer's text of a refusal up to its number, or all of it if it has no number.
+fn reduce_front(refusal: Refusal) -> &'static [u8]
+    ensures front { result.now ≡ reduce_front_text (refusal_of refusal) }
+    ensures short { length result.now ≤ 64 }
+{
+    match refusal {
+        Refusal::Usage => b"usage: ltlreduce [-c] [-A file]",
+        _ => front(Tool::Checker, refusal),
+    }
+}
+
+/// The whole line of the reducer for a refusal, with a line feed.
+fn reduce_line(refusal: Refusal) -> ArrayVec<u8, SIZE>
+    ensures { result.items ≡ reduce_message (refusal_of refusal) }
+{
+    let mut line = ArrayVec::new();
+    put(&mut line, b"ltlreduce: ");
+    put(&mut line, reduce_front(refusal));
+    put_number(&mut line, number(refusal));
+    put(&mut line, back(refusal));
+    put(&mut line, b"\n");
+    line
+}
+
 /// The whole line of a program for a refusal.
 fn line_of(program: Program, refusal: Refusal) -> ArrayVec<u8, SIZE>
     ensures { result.items ≡ program_line (program_in program) (refusal_of refusal) }
@@ -110,6 +136,7 @@ fn line_of(program: Program, refusal: Refusal) -> ArrayVec<u8, SIZE>
         Program::Plain(tool) => plain_line(tool, refusal),
         Program::Comparer(subject) => comparer_line(subject, refusal),
         Program::Drawer => draw_line(refusal),
+        Program::Reducer => reduce_line(refusal),
     }
 }
 
@@ -125,12 +152,13 @@ fn program_at(number: u32) -> Option<Program>
         4 => Some(Program::Comparer(Subject::First)),
         5 => Some(Program::Comparer(Subject::Second)),
         6 => Some(Program::Drawer),
+        7 => Some(Program::Reducer),
         _ => None,
     }
 }
 
-/// Writes the line that a program prints for a refusal into the buffer. The program is 0 for `ltl2ba`, 1 for `ltlcheck`, 2 for `ltleval`, 6 for `ltldraw`, and
-/// for `ltlcompare` 3 and the `subject` of the comparison added. The text is empty if there is no such program or if the code is that of no refusal. The result
+/// Writes the line that a program prints for a refusal into the buffer. The program is 0 for `ltl2ba`, 1 for `ltlcheck`, 2 for `ltleval`, 6 for `ltldraw`, 7 for
+/// `ltlreduce`, and for `ltlcompare` 3 and the `subject` of the comparison added. The text is empty if there is no such program or if the code is that of no refusal. The result
 /// is 0, or 6 if the buffer is too short; `count` is the length of the line in bytes. It allocates nothing.
 #[unsafe(no_mangle)]
 #[tactic(auto, using(crate::proofs::CodeLaws::code_read))]

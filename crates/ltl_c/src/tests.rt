@@ -10,6 +10,7 @@ use crate::evaluation::ltleval_holds;
 use crate::message::ltl2ba_message;
 use crate::names::ltl2ba_names;
 use crate::picture::ltldraw_dot;
+use crate::reduction::ltlreduce_hoa;
 use crate::refusal_code::{RefusalCode, no_refusal};
 use crate::rows::{Counts, EdgeRow, NameRow, StateRow};
 use crate::text::ltl2ba_text;
@@ -310,6 +311,38 @@ fn picture_of_an_automaton(rt: HostRuntime) {
     assert_eq!(rt; (refused, count), (3, 0));
     assert_eq!(rt; ltl2ba_message(6, &refusal, &mut buffer, &mut count), 0);
     assert!(rt; &buffer[..count] == b"ltldraw: automaton: line 1: not HOA v1\n".as_slice());
+}
+
+const TWICE: &str =
+    "HOA: v1 States: 1 Start: 0 AP: 2 \"p\" \"q\" Acceptance: 1 Inf(0) --BODY-- State: 0 {0} [0] 0 [0&1] 0 [0] 0 --END--";
+
+const ONCE: &str =
+    "HOA: v1\nStates: 1\nStart: 0\nAP: 2 \"p\" \"q\"\nacc-name: generalized-Buchi 1\nAcceptance: 1 Inf(0)\nproperties: trans-labels explicit-labels trans-acc\n--BODY--\nState: 0\n[0] 0 {0}\n--END--\n";
+
+#[test]
+fn reduction_of_an_automaton(rt: HostRuntime) {
+    let mut buffer = [0u8; 1000];
+    let mut count = 0;
+    let mut refusal = no_refusal();
+    let status = ltlreduce_hoa(
+        rt.alloc(),
+        TWICE.as_bytes(),
+        &mut buffer,
+        &mut count,
+        &mut refusal,
+    );
+    assert_eq!(rt; status, 0);
+    assert!(rt; &buffer[..count] == ONCE.as_bytes());
+    let refused = ltlreduce_hoa(
+        rt.alloc(),
+        b"HOA: v2",
+        &mut buffer,
+        &mut count,
+        &mut refusal,
+    );
+    assert_eq!(rt; (refused, count), (3, 0));
+    assert_eq!(rt; ltl2ba_message(7, &refusal, &mut buffer, &mut count), 0);
+    assert!(rt; &buffer[..count] == b"ltlreduce: automaton: line 1: not HOA v1\n".as_slice());
 }
 
 const CLAIM_HOA: &str =

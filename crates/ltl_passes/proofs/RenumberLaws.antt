@@ -5,7 +5,7 @@ use Rattle.std.proofs.lemmas.Bool.Decides.{Decides-eqb}
 use Rattle.std.proofs.lemmas.List.{length-map, get_or_past}
 use Rattle.std.proofs.lemmas.Simd.{map-map}
 use Rattle.std.proofs.lemmas.List.Sums.{sum_by-cons}
-use Rattle.std.proofs.lemmas.List.Elements.{All-map}
+use Rattle.std.proofs.lemmas.List.Elements.{All-map, All-weaker}
 use Rattle.ltl_spec.specs.Collections.Sets.{Has, IsRising, set_of}
 use Rattle.ltl_spec.specs.Collections.Lists.{place_of}
 use Rattle.ltl_spec.specs.Automata.Automaton.{Automaton, State, Edge, edge_cmp, state_at}
@@ -186,6 +186,36 @@ module _ (A : Automaton) where
 -- the numbered automaton has what its type holds
 pub numbered_ba : (A : Automaton) → IsBa A → IsBa (renumbered_automaton A)
 numbered_ba A w = renumbered_ba A (closed_within A w.some w.within) w
+
+-- so has that of one without sets and marks, whose states needn't be reached
+pub numbered_plain : (A : Automaton) → gba.IsGba A → A.sets ≡ 0 → IsPlain A → IsBa (renumbered_automaton A)
+numbered_plain A w none plain = record {
+  no_sets = none;
+  some = r.some;
+  few_states = r.few_states;
+  few_edges = r.few_edges;
+  within = gba_within (renumbered_automaton A) r;
+  plain = renumbered_unmarked A plain;
+  sets = All-weaker within_all (λ (s : State). All IsSetEdge s.edges) (λ s h. All-weaker within_each IsSetEdge (λ e k. k.rising) s.edges h) (renumbered_automaton A).states r.within;
+  consistent = All-weaker within_all (λ (s : State). All is_consistent s.edges) (λ s h. All-weaker within_each is_consistent (λ e k. k.consistent) s.edges h) (renumbered_automaton A).states r.within;
+  rising = renumbered_rising A;
+  reached = listed_reached ◌==◌ Decides-eqb (targets_of (state_net A)) 0 (state_in ◌==◌ true (state_net A)) A.sets (length A.states) (reached_short A closed) (has_edge A closed);
+}
+  where
+    closed : IsClosed A
+    closed = closed_within A w.some (gba_within A w)
+
+    r : gba.IsGba (renumbered_automaton A)
+    r = renumbered_gba A closed w
+
+    within_each : Edge → Type 0
+    within_each = gba.IsEdgeWithin (length (renumbered_automaton A).states) A.sets
+
+    within_all : State → Type 0
+    within_all s = All within_each s.edges
+
+    is_consistent : Edge → Type 0
+    is_consistent e = is_contradictory e.cube ≡ false
 
 pub numbered_gba : (A : Automaton) → gba.IsGba A → All (λ s. s.accepting ≡ true) A.states → gba.IsAcceptingGba (renumbered_automaton A)
 numbered_gba A w a = record { inside = renumbered_gba A (closed_within A w.some (gba_within A w)) w; accepting = renumbered_accepting A a }

@@ -52,4 +52,4 @@ mod worklist;
 pub use degeneralize::levels;
 pub use merging::{merge, merge_ba};
 pub use numbering::renumber;
-pub use passes::{buchi, generalized};
+pub use passes::{buchi, generalized, merged_buchi};

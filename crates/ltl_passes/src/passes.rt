@@ -1,14 +1,16 @@
 //! The passes in a row: from a generalized automaton to the one that is printed.
 
-ghost use Rattle.std.specs.Prelude.{◌≡◌, IfOk, IsErrOf, OnOk};
+ghost use Rattle.std.specs.Prelude.{◌≡◌, false, IfOk, IsErrOf, OnOk};
 ghost use Rattle.ltl_spec.specs.Construction.Levels.{HasTooManyLevelStates};
+ghost use Rattle.ltl_spec.specs.Construction.Merging.{merged_automaton};
 ghost use Rattle.ltl_spec.specs.Construction.Renumbered.{renumbered_automaton};
 ghost use Rattle.ltl_spec.specs.Tools.Limits.{stated_limits};
 ghost use Rattle.ltl_automaton.specs.SharedView.{automaton_of};
 ghost use Rattle.ltl_models.specs.GbaView as gba;
-ghost use Rattle.ltl_models.specs.BaView.{IsBa};
+ghost use Rattle.ltl_models.specs.BaView.{IsBa, IsPlain};
 ghost use Rattle.ltl_automaton.specs.CodedEdges.{tables_of};
 ghost use Rattle.ltl_automaton.specs.Labels.{AreCoded, AreTables, labelled};
+ghost use Rattle.ltl_automaton.specs.LabelTables.{HasLabels, labelled_of};
 ghost use Rattle.ltl_passes.specs.Passes.{buchi_of, merged_of};
 
 use crate::degeneralize::level_states;
@@ -62,6 +64,33 @@ pub fn buchi<'a, A: Allocator>(
     automaton.invariant();
     let CodedStates { table, states } = automaton.into_states();
     let numbered = coded_buchi(alloc, &table.labels(), states, options)?;
+    let made = CodedStates {
+        table,
+        states: numbered,
+    };
+    Ok(Ba::new(alloc, made)?)
+}
+
+/// The Büchi automaton of one without acceptance sets, by the states that accept: merged and renumbered. The only fault is `OutOfMemory`.
+pub fn merged_buchi<'a, A: Allocator>(
+    alloc: &'a A,
+    automaton: CodedStates<'a, A>,
+) -> Result<Ba<'a, A>, BaFault>
+    requires inside { gba.IsGba (labelled_of automaton) }
+    requires none { (labelled_of automaton).sets ≡ 0 }
+    requires plain { IsPlain (labelled_of automaton) }
+    requires labels { HasLabels automaton }
+    ensures states { IfOk result (λ b. b ≡ renumbered_automaton (merged_automaton false false (labelled_of automaton.entry))) }
+    ensures fits { ¬ IsErrOf result BaFault.TooLarge }
+{
+    let CodedStates { table, states } = automaton;
+    let options = Options {
+        keep_implied: false,
+        keep_equal: false,
+    };
+    let small = merged(alloc, &table.labels(), &states, &options)?;
+    drop(states);
+    let numbered = renumbered(alloc, &small)?;
     let made = CodedStates {
         table,
         states: numbered,

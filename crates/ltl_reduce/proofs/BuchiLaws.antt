@@ -1,6 +1,6 @@
 -- The Büchi automaton of a reduction: its words, its states and its propositions.
-use Rattle.std.proofs.Common.{◌≡◌, ◌∙◌, ◌<◌, ◌≤◌, ◌+◌, ◌*◌, ◌/◌, ◌%◌, ◌↔◌, ℕ, suc, Bool, true, false, cond, List, length, map, refl, sym, ap, subst, arith, suc-mul, mul-le-mul_right}
-use Rattle.std.specs.Prelude.{◌==◌, slice_index, IsTrue, All}
+use Rattle.std.proofs.Common.{◌≡◌, ◌∙◌, ◌<◌, ◌≤◌, ◌+◌, ◌*◌, ◌/◌, ◌%◌, ◌↔◌, ℕ, suc, true, false, cond, List, length, map, refl, sym, ap, subst, arith, suc-mul, mul-le-mul_right}
+use Rattle.std.specs.Prelude.{◌==◌, slice_index, All}
 use Rattle.std.specs.Ordering.{nat_cmp}
 use Rattle.std.proofs.Math.Nat.{mul-le-mul}
 use Rattle.std.proofs.lemmas.Nat.{div-mul-add, mod-mul-add}
@@ -13,6 +13,7 @@ use Rattle.ltl_spec.specs.Automata.Net.{targets_of}
 use Rattle.ltl_spec.specs.Checking.Bounds.{HasNamesBelow}
 use Rattle.ltl_spec.specs.Construction.Levels.{LevelEdge, LevelState, level_automaton, level_edge, level_edges, level_net, same_level_state, start_copy}
 use Rattle.ltl_spec.specs.Construction.Merging.{class_names, merged_automaton, retargeted_state, without_implied}
+use Rattle.ltl_spec.specs.Construction.Renumbered.{renumbered_automaton}
 use Rattle.ltl_spec.specs.Construction.Translation.{Options, buchi_automaton}
 use Rattle.ltl_spec.specs.Hoa.HoaPrinted.{marked_of}
 use Rattle.ltl_spec.specs.Hoa.HoaReading.{MarkedAutomaton}
@@ -33,9 +34,12 @@ use Rattle.ltl_spec.proofs.Construction.RoundLaws.{names_length}
 use Rattle.ltl_spec.proofs.Semantics.LanguageLaws.{buchi_run, run_of_buchi}
 use Rattle.ltl_spec.proofs.Semantics.RunLaws.{accepts_by_run}
 use Rattle.ltl_spec.proofs.Semantics.Runs.{IsClosed}
+use Rattle.ltl_automaton.proofs.TableLaws.{states_at}
 use Rattle.ltl_models.specs.GbaView as gba
 use Rattle.ltl_reduce.specs.Buchi.{HasFewStates, HasWordsOf}
 use Rattle.ltl_reduce.specs.Reduced.{IsReduced}
+use Rattle.ltl_reduce.specs.StateBased.{IsBasedBy}
+use Rattle.ltl_reduce.proofs.StateBasedLaws.{accepted_state_based, accepts_merged, state_based_below, state_based_closed, state_based_sets}
 
 -- ---- words
 
@@ -161,3 +165,32 @@ module _ (o : Options) (A : MarkedAutomaton) (given B : Automaton) (good : gba.I
 
   pub below_on : (n : ℕ) → HasNamesBelow n given → HasNamesBelow n B
   below_on n low = subst (HasNamesBelow n) (sym is) (buchi_below n o given low)
+
+-- ---- that of a reduction whose states accept
+
+module _ (A : MarkedAutomaton) (given B C : Automaton) (good : gba.IsAcceptingGba given) (level : ℕ → ℕ) (based : IsBasedBy given level B) (is : C ≡ renumbered_automaton (merged_automaton false false B)) where
+  based_closed : IsClosed B
+  based_closed = state_based_closed given level B based (closed given good)
+
+  pub words_based : IsReduced A (marked_of given A.names) → HasWordsOf A C
+  words_based r = subst (HasWordsOf A) (sym is) (λ w l.
+      let every : (s : ℕ) → (state_at given s).accepting ≡ true = λ s. states_at given (λ (t : State). t.accepting ≡ true) s refl good.accepting in
+      let (to, from) = r.same w l in
+      let (out, back) = marked_accepts given A.names (λ s h. All-at_has (λ (t : State). t.accepting ≡ true) given.states good.accepting s h) w in
+      let (down, up) = accepted_state_based given level B based (is_true_at A.names w) (next w) every in
+      let (on, again) = accepts_merged B based_closed (state_based_sets given level B based (sets given good)) A.names w l in
+      ((λ h. on (down (out (to h)))), λ h. from (back (up (again h)))))
+
+  pub few_based : IsReduced A (marked_of given A.names) → HasFewStates A C
+  few_based r =
+      let a : length (merged_automaton false false B).states ≤ length B.states = merged_few (record { keep_implied = false; keep_equal = false }) B in
+      let b : length (renumbered_automaton (merged_automaton false false B)).states ≤ length (merged_automaton false false B).states = renumbered_few (merged_automaton false false B) (merged_closed B false false based_closed) in
+      let c : length B.states ≡ length given.states = based.long in
+      let d : length given.states ≤ A.states = r.states in
+      let e : A.states * 1 ≤ A.states * (A.sets + 1) = mul-le-mul (omega arith) (omega arith) in
+      subst (HasFewStates A) (sym is) (omega arith)
+
+  pub below_based : (n : ℕ) → HasNamesBelow n given → HasNamesBelow n C
+  below_based n low = subst (HasNamesBelow n) (sym is) (
+      let small = merged_below n (record { keep_implied = false; keep_equal = false }) B (state_based_below given level B based n low) in
+      renumbered_all (λ v. IsBelow n v.cube) (λ f x m. m) (merged_automaton false false B) small)

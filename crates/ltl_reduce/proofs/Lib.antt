@@ -5,3 +5,4 @@ pub mod ReductionLaws
 pub mod ImportLaws
 pub mod MarkedLaws
 pub mod BuchiLaws
+pub mod StateBasedLaws

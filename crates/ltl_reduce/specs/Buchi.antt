@@ -1,5 +1,5 @@
 -- A Büchi automaton with accepting states for an automaton that was read.
-use Rattle.std.specs.Prelude.{ℕ, ◌+◌, ◌*◌, ◌<◌, ◌≤◌, ◌↔◌, false, length}
+use Rattle.std.specs.Prelude.{◌+◌, ◌*◌, ◌<◌, ◌≤◌, ◌↔◌, false, length}
 use Rattle.ltl_spec.specs.Semantics.Word.{Lasso}
 use Rattle.ltl_spec.specs.Automata.Automaton.{Automaton, Accepts}
 use Rattle.ltl_spec.specs.Checking.Check.{MarkedAccepts}

@@ -7,3 +7,4 @@ pub mod Build
 pub mod Importing
 pub mod Reduced
 pub mod Buchi
+pub mod StateBased

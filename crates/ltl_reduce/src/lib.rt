@@ -7,8 +7,8 @@
 //! `reduce` takes a `Gba` and returns a smaller one. Each step makes a new automaton (`build`), and checks that it simulates the old one and is
 //! simulated by it (`checking`). A step whose check fails, or for which the budget of comparisons doesn't last, is left out. So the proof rests on the check
 //! alone: nothing is proved of the searches for components (`components`), for the largest simulation (`simulation`) and for the states and edges to keep
-//! (`trimming`, `folding`), except that they are safe and return. `reduce_to_buchi` makes a Büchi automaton with accepting states of what `reduce` returns, by the
-//! passes of `ltl_passes`.
+//! (`trimming`, `folding`), except that they are safe and return. `reduce_to_buchi` makes a Büchi automaton with accepting states of what `reduce` returns:
+//! of the same states where the edges of each agree (`state_based`), and else of copies of them, by the passes of `ltl_passes`.
 #![tactic(auto)]
 
 pub mod buchi;
@@ -24,6 +24,7 @@ mod places;
 pub mod reducing;
 mod relation;
 mod simulation;
+mod state_based;
 mod trimming;
 
 pub use buchi::reduce_to_buchi;

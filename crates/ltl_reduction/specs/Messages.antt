@@ -5,7 +5,7 @@ use Rattle.ltl_spec.specs.Tools.Limits.{stated_limits}
 use Rattle.ltl_spec.specs.Tools.Refusal.{Checker, Refusal, Usage, refusal_text}
 
 abbrev pub reduce_usage : List ℕ
-reduce_usage = codes "usage: ltlreduce [-A file]"
+reduce_usage = codes "usage: ltlreduce [-c] [-A file]"
 
 abbrev pub reduce_text : Refusal → List ℕ
 reduce_text Usage = reduce_usage

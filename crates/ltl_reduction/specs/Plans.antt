@@ -1,14 +1,15 @@
 -- The command line of `ltlreduce`, as `clap` documents its parsing, and the request that it makes.
-use Rattle.std.specs.Prelude.{◌≡◌, List, [], Option, Some, None, Result, Ok, Err, MatchResult, codes, option_map}
+use Rattle.std.specs.Prelude.{◌≡◌, Bool, List, [], Option, Some, None, Result, Ok, Err, MatchResult, codes, option_map}
 use Rattle.clap.specs.Words.{App, Kinds, Row, Text, fault_of, first_of, found_of, matches_of, new_app, rows_of, with_rule}
 use Rattle.clap.specs.declared.parser.matches.ArgMatches.{ArgMatches}
-use Rattle.ltl_words.specs.Words.{value_rule}
+use Rattle.ltl_words.specs.Words.{flag_rule, has_flag, value_rule}
 use Rattle.ltl_words.specs.declared.request.PlanFault.{PlanFault}
 use Rattle.ltl_words.specs.declared.request.PlanFault.TheVariants.{Usage, OutOfMemory}
 use Rattle.ltl_reduction.specs.declared.request.Plan.{Plan}
 
--- an automaton: in the file with the name, if there is one, and else in the standard input
+-- whether a never claim is asked for, and an automaton: in the file with the name, if there is one, and else in the standard input
 pub record Request : Type 0 where
+  pub claim : Bool
   pub file : Option Text
 
 -- the name of the automaton's file
@@ -16,12 +17,12 @@ abbrev pub automaton_file : Result Request PlanFault → Option Text
 automaton_file (Ok request) = request.file
 automaton_file (Err e) = None
 
--- `-A file`
+-- `-c` and `-A file`
 abbrev pub reduce_app : App
-reduce_app = with_rule (new_app (codes "ltlreduce")) (value_rule (codes "A") 65)
+reduce_app = with_rule (with_rule (new_app (codes "ltlreduce")) (flag_rule (codes "c") 99)) (value_rule (codes "A") 65)
 
 abbrev pub request_of_rows : List Row → Request
-request_of_rows rows = record { file = first_of (codes "A") rows }
+request_of_rows rows = record { claim = has_flag (codes "c") rows; file = first_of (codes "A") rows }
 
 abbrev pub request_if : Kinds → List Row → Option Request
 request_if [] rows = Some (request_of_rows rows)
@@ -55,7 +56,7 @@ Matches words r = MatchResult r (IsMatched words) (RefusesWords words)
 -- ---- plans of the code
 
 abbrev pub request_in : Plan → Request
-request_in p = record { file = option_map (λ s. s.now) p.file }
+request_in p = record { claim = p.claim; file = option_map (λ s. s.now) p.file }
 
 abbrev pub requested : Result Plan PlanFault → Result Request PlanFault
 requested (Ok p) = Ok (request_in p)

@@ -1,9 +1,10 @@
-//! The program `ltlreduce` over byte streams: a smaller automaton that accepts the same words.
+//! The program `ltlreduce` over byte streams: a smaller automaton that accepts the same words, or a never claim that does.
 //!
 //! `reduce_words` is the whole program, from the words of its command line to its exit status, over any files, output and message. `plan` parses a command line
 //! into a `Plan`. `reduce_over` reads the automaton as `ltlcheck` does, reduces it by `reduce_marked` of `ltl_reduce`, and writes the result by `put_named` of
-//! `ltl_text`. Each step returns a value, or a refusal with the exit status that `ltlcheck` has for it. The message of a refusal (`message`) begins with the
-//! program's name. Nothing is written before the reduced automaton is complete in memory.
+//! `ltl_text`. With `-c` it makes a Büchi automaton with accepting states of the reduced one (`reduce_to_buchi`), and writes its claim by `put_named_claim`
+//! (`claim`). Each step returns a value, or a refusal with the exit status that `ltlcheck` or `ltl2ba` has for it. The message of a refusal (`message`) begins with
+//! the program's name. Nothing is written before the automaton is complete in memory.
 //!
 //! ```
 //! let words = ["ltlreduce", "-A", "lock.hoa"];    // opens the file `lock.hoa`; without `-A` the automaton is read from the standard input
@@ -11,6 +12,7 @@
 //! ```
 #![tactic(auto)]
 
+mod claim;
 mod command;
 mod finish;
 mod message;

@@ -14,7 +14,7 @@ fn put_text<M: ByteSink>(refusal: Refusal, out: &mut Printer<'_, M>)
     ensures { Prints M.state out.old out.new (reduce_text (refusal_of refusal)) }
 {
     match refusal {
-        Refusal::Usage => out.put(b"usage: ltlreduce [-A file]"),
+        Refusal::Usage => out.put(b"usage: ltlreduce [-c] [-A file]"),
         _ => print_text(Tool::Checker, refusal, out),
     }
 }

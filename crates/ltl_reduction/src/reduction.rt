@@ -1,6 +1,6 @@
-//! The program over byte streams: from the text of an automaton to that of a reduced one.
+//! The program over byte streams: from the text of an automaton to that of a reduced one, or to a claim.
 
-ghost use Rattle.std.specs.Prelude.{◌≡◌, Ok};
+ghost use Rattle.std.specs.Prelude.{◌≡◌, Ok, false};
 ghost use Rattle.ltl_spec.specs.Tools.Stage.{Open};
 ghost use Rattle.ltl_spec.specs.Tools.Outcome as spec;
 ghost use Rattle.ltl_cli.specs.Inputs.{IsOpen, WasAutomaton};
@@ -8,6 +8,7 @@ ghost use Rattle.ltl_cli.specs.Runs.{Shows, StaysAt};
 ghost use Rattle.ltl_reduction.specs.Plans.{Request, requested};
 ghost use Rattle.ltl_reduction.specs.Runs.{IsMade, IsOutcome, MayReduce};
 
+use crate::claim::claimed;
 use crate::finish::finish;
 use crate::request::Plan;
 use ltl_cli::{Refusal, Source, flushed, read_automaton};
@@ -51,7 +52,7 @@ fn printed<A: Allocator, R: ByteSource, S: ByteSink>(
     requires source { IsOpen R.state source.old }
     requires output { (S.state output.old).stage ≡ Open }
     ensures { (input : spec.Input) × WasAutomaton R.state source.old source.new input
-        × ((request : Request) → IsOutcome (Ok request) input (S.state output.old) (S.state output.new) result) }
+        × ((request : Request) → request.claim ≡ false → IsOutcome (Ok request) input (S.state output.old) (S.state output.new) result) }
 {
     let reduction = reduced_from(alloc, source)?;
     let names = reduction.given.names();
@@ -74,13 +75,19 @@ fn answered<A: Allocator, R: ByteSource, S: ByteSink>(
         × IsOutcome (requested plan.now) input (S.state output.old) (S.state output.new) result }
 {
     match plan {
-        Ok(_) => printed(alloc, source, output),
+        Ok(plan) => {
+            if plan.claim() {
+                claimed(alloc, source, output)
+            } else {
+                printed(alloc, source, output)
+            }
+        }
         Err(fault) => Err(Refusal::of_words(*fault)),
     }
 }
 
 /// Carries out a plan and returns the exit status. It writes an automaton that accepts the words of the one that the source gives, with no more states and edges,
-/// and flushes the output; or it writes the message of a refusal. Only a refusal because of a failed write leaves something in the output. A stream isn't used
+/// or a claim with these words, and flushes the output; or it writes the message of a refusal. Only a refusal because of a failed write leaves something in the output. A stream isn't used
 /// again after one of its calls has failed.
 pub fn reduce_over<A: Allocator, R: ByteSource, S: ByteSink, M: ByteSink>(
     alloc: &A,
