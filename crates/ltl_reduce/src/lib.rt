@@ -11,6 +11,7 @@
 //! of the same states where the edges of each agree (`state_based`), and else of copies of them, by the passes of `ltl_passes`.
 #![tactic(auto)]
 
+mod bit_table;
 pub mod buchi;
 mod build;
 mod checking;
@@ -23,6 +24,7 @@ mod matching;
 mod places;
 pub mod reducing;
 mod relation;
+mod shadow;
 mod simulation;
 mod state_based;
 mod trimming;
