@@ -1,5 +1,5 @@
 #!/usr/bin/env python3
-"""Draws docs/path.svg: what a formula becomes on its way to a claim, and what the other two programs read and answer. Usage: docs/path.py [FILE].
+"""Draws docs/path.svg: what a formula becomes on its way to a claim, and what the other programs read and answer. Usage: docs/path.py [FILE].
 
 A box has a heading, lines of text or a drawing, and the names of the crates that make its content. The picture has colours for light and for dark pages."""
 

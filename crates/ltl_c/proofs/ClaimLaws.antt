@@ -12,7 +12,7 @@ use Rattle.ltl_claims.specs.Runs.{IsTextOf, RefusesInput}
 use Rattle.ltl_claims.proofs.RunLaws.{refusal_shown, text_shown}
 use Rattle.ltl_c.specs.declared.claim_code.ClaimCode.{ClaimCode}
 use Rattle.ltl_c.specs.Calls.{Delivers, run_with}
-use Rattle.ltl_c.specs.Claims.{HandsClaim, MayEndClaim, claim_code_for, claim_refusal_in, claim_told}
+use Rattle.ltl_c.specs.Claims.{HandsClaim, MayEndClaim, claim_code_for, claim_refusal_in}
 
 -- ---- a code tells its refusal
 

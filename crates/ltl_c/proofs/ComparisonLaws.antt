@@ -1,7 +1,7 @@
 -- From what was read and compared to what a call returns.
 use Rattle.std.proofs.Common.{◌≡◌, ◌∙◌, ap, ap₂, sym, subst, refl, ◌⊎◌, inl, inr, ℕ, List, []}
 use Rattle.std.specs.Prelude.{Result, Ok, Err}
-use Rattle.ltl_spec.specs.Checking.Comparison.{Comparison, IsComparison}
+use Rattle.ltl_spec.specs.Checking.Comparison.{Comparison}
 use Rattle.ltl_spec.specs.Formulas.Formula.{Reading}
 use Rattle.ltl_spec.specs.Tools.Comparer.{ComparerAnswers, ComparerNeverShort, Subject, First, Second, Other, comparer_message, comparer_refused, comparison_answer, comparison_text, relation_status}
 use Rattle.ltl_spec.specs.Tools.Comparison.{Compares}

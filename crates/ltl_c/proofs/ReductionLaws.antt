@@ -18,7 +18,7 @@ use Rattle.ltl_c.specs.declared.refusal_code.RefusalCode.{RefusalCode}
 use Rattle.ltl_c.specs.Calls.{Delivers, run_with}
 use Rattle.ltl_c.specs.Codes.{code_for}
 use Rattle.ltl_c.specs.Reductions.{HandsReduction, MayEndReduction, ReducesText}
-use Rattle.ltl_c.proofs.StepLaws.{Refuses, first_refused, second_step}
+use Rattle.ltl_c.proofs.StepLaws.{Refuses, first_refused}
 
 -- the program prints the reduction of the text in its input
 prints : (text : List ℕ) (r : Result (List ℕ) spec.Refusal) → ReducesText text r → Prints false (Ended text) r

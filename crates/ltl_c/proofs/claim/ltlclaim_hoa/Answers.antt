@@ -1,6 +1,4 @@
 use Rattle.std.proofs.Common.{◌∙◌, List, ℕ, subst}
-use Rattle.ltl_spec.specs.Tools.Outcome.{Ended}
-use Rattle.ltl_claims.specs.Runs.{IsTextOf}
 use Rattle.ltl_c.specs.Calls.{Delivers}
 use Rattle.ltl_c.proofs.ClaimLaws.{claim_handed, claim_refused}
 use Rattle.ltl_c.proofs.claim.ltlclaim_hoa.Goals as goal

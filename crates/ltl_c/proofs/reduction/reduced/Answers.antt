@@ -1,5 +1,5 @@
-use Rattle.std.proofs.Common.{◌≤◌, ℕ, List, arith, inl, length, refl, subst, sym}
-use Rattle.std.specs.Prelude.{IsTrue}
+use Rattle.std.proofs.Common.{◌≡◌, ◌≤◌, ℕ, List, arith, inl, length, refl, subst, sym}
+use Rattle.std.specs.Prelude.{IsTrue, MatchResult}
 use Rattle.std.specs.List.{list_all}
 use Rattle.std.proofs.lemmas.Result.{err_from_is_err_and}
 use Rattle.ltl_spec.specs.Checking.Bounds.{HasNamesBelow}
@@ -7,6 +7,8 @@ use Rattle.ltl_spec.specs.Collections.Lists.{HasNoRepeats}
 use Rattle.ltl_spec.specs.Formulas.Names.{is_proposition}
 use Rattle.ltl_spec.specs.Tools.Limits.{stated_limits}
 use Rattle.ltl_hoa.specs.declared.marked.TheConstants.{MOST_SETS}
+use Rattle.ltl_text.specs.NamedText.{named_text}
+use Rattle.ltl_cli.specs.declared.refusal.Refusal.TheVariants.{OutOfMemory}
 use Rattle.ltl_reduction.proofs.RunLaws.{text_made}
 use Rattle.ltl_c.proofs.ReductionLaws.{read_reduced, unread_reduced}
 use Rattle.ltl_c.proofs.reduction.reduced.Goals as goal
@@ -42,4 +44,4 @@ named_text_is_read_back-requires-clause-differ g c = subst (λ (ns : List (List 
 pub returns : goal.returns
 returns g c =
     read_reduced c.args.text.now _ c.in_ok-given.ensures _ (text_made _ _ _ c.names.ensures c.named_text_is_read_back.ensures c.in_ok-made.ensures.reduced) (λ v. v.items) c.text_of.result
-    (subst (λ (ns : List (List ℕ)). _) c.names-2.ensures c.text_of.ensures)
+    (subst (λ (ns : List (List ℕ)). MatchResult c.text_of.result (λ v. v.items ≡ named_text c.in_ok-made.made ns) (λ e. e ≡ OutOfMemory)) c.names-2.ensures c.text_of.ensures)
