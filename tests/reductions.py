@@ -44,7 +44,7 @@ def made(random_of):
 def cubes(label):
     """The least cubes of a label without brackets, as sets of a number and a sign."""
     parts = [[it.strip() for it in part.split("&") if it.strip() != "t"] for part in label.split("|")]
-    found = {frozenset((int(it.lstrip("!")), it[0] != "!") for it in part) for part in parts}
+    found = {frozenset((int(it.lstrip("!")), it[0] != "!") for it in part) for part in parts if "f" not in part}
     found = {it for it in found if not any((number, not sign) in it for number, sign in it)}
     return [it for it in found if not any(other < it for other in found)]
 

@@ -149,9 +149,9 @@ class Automaton:
     def reduced(self) -> "Automaton":
         """A smaller automaton that accepts the same words, as `ltlreduce` prints it: with acceptance sets of edges, and no more states, edges and sets.
 
-        >>> it = translate("[]<>p -> []<>q")
+        >>> it = translate("<>(p && <>q)")
         >>> it, it.reduced()
-        (<Automaton of ([]<>p -> []<>q): 7 states, 17 edges>, <Automaton of ([]<>p -> []<>q): 5 states, 12 edges>)"""
+        (<Automaton of <>(p && <>q): 5 states, 11 edges>, <Automaton of <>(p && <>q): 3 states, 6 edges>)"""
         from ltl2ba.reductions import Reduced
 
         return Reduced(self)

@@ -1,10 +1,10 @@
 """Smaller automata that accept the same words.
 
 >>> from ltl2ba import check, translate
->>> it = translate("[](p -> <>q)")
+>>> it = translate("<>(p && <>q)")
 >>> it, it.reduced()
-(<Automaton of [](p -> <>q): 3 states, 8 edges>, <Automaton of [](p -> <>q): 2 states, 5 edges>)
->>> check(it.reduced(), "[](p -> <>q)")
+(<Automaton of <>(p && <>q): 5 states, 11 edges>, <Automaton of <>(p && <>q): 3 states, 6 edges>)
+>>> check(it.reduced(), "<>(p && <>q)")
 Contained()
 
 The library reduces, as `ltlreduce` does: what is proved is that the same words are accepted, with no more states, edges and acceptance sets. The text that it
