@@ -100,7 +100,7 @@ done >"$3"
 """
 
 # Both libraries in one object, in which only the calls of the header are global.
-CALLS = "ltl2ba_text", "ltl2ba_names", "ltl2ba_automaton", "ltleval_holds", "ltlcheck_verdict", "ltlcompare_verdict", "ltldraw_dot", "ltlclaim_hoa", "ltlreduce_hoa", "ltlclaim_message", "ltl2ba_message"
+CALLS = "ltl2ba_text", "ltl2ba_names", "ltl2ba_automaton", "ltleval_holds", "ltlcheck_verdict", "ltlcompare_verdict", "ltldraw_dot", "ltlreduce_hoa", "ltlclaim_hoa", "ltlclaim_message", "ltl2ba_message"
 ARCHIVE = "".join(f"{it}\n" for it in ("qcs", "-r --whole-archive", "a library", "the allocator", *(f"--keep-global-symbol={it}" for it in CALLS)))
 
 # The shared library, in which these calls alone are seen.

@@ -16,7 +16,7 @@ use std::alloc::{AllocError, Allocator};
 pub const SIMULATION_LIMIT: usize = 4_096;
 
 /// How many times edges are compared at most.
-const COMPARISONS: usize = 400_000_000;
+const COMPARISONS: usize = 300_000_000;
 
 /// How many times an automaton is folded at most.
 const ROUNDS: usize = 16;

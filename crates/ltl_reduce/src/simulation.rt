@@ -146,19 +146,18 @@ impl<'s, 'x, 'a, A: Allocator> Compared<'s, 'x, 'a, A> {
             return false;
         }
         let edge = edges[place];
-        for m in 0..others.len() {
-            if *budget == 0 {
-                return false;
-            }
-            *budget -= 1;
+        let most = others.len().min(*budget);
+        for m in 0..most {
             let other = others[m];
             if other.may_do_for(&edge)
                 && table.holds(edge.target, other.target)
                 && (self.shadows.exact || self.are_covered(i, place, j, m))
             {
+                *budget = budget.saturating_sub(m + 1);
                 return true;
             }
         }
+        *budget = budget.saturating_sub(most);
         false
     }
 
